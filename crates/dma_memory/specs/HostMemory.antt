@@ -1,0 +1,17 @@
+-- A host's memory is a list of bytes, and an address is a place in it (own; the adapter reads and writes it as
+-- bus master, "3.2 Packet Reception" and "3.3 Packet Transmission" of Intel's manual).
+use Rattle.std.specs.Prelude.{◌≤◌, ◌+◌, ◌-◌, ◌++◌, ℕ, List, length, take, drop}
+
+-- The n bytes from an address on.
+abbrev pub bytes_at : List ℕ → ℕ → ℕ → List ℕ
+bytes_at memory address n = take n (drop address memory)
+
+-- The memory with these bytes in place of as many from the address on. With no bytes it is the memory as it was,
+-- whatever the address: all before the address, then all from it on.
+abbrev pub with_bytes : List ℕ → ℕ → List ℕ → List ℕ
+with_bytes memory address bytes = take address memory ++ bytes ++ drop (address + length bytes) memory
+
+-- The memory has n bytes from the address on. A difference of numbers stops at 0, so no bytes lie in it at every
+-- address, and some bytes only where the last of them lies below its size.
+abbrev pub LiesIn : List ℕ → ℕ → ℕ → Type 0
+LiesIn memory address n = n ≤ length memory - address

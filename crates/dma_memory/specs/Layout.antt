@@ -1,0 +1,82 @@
+-- Where the rings and buffers of a driver stand in its host's memory.
+use Rattle.std.specs.Prelude.{◌≡◌, ◌≢◌, ◌≤◌, ◌<◌, ◌+◌, ◌*◌, ◌%◌, ◌⊎◌, ℕ}
+use Rattle.std.specs.Int.{next_multiple_of}
+
+-- How many descriptors the receive ring and the transmit ring have, and how many receive buffers there are.
+pub record Counts : Type 0 where
+  pub rx : ℕ
+  pub tx : ℕ
+  pub buffers : ℕ
+
+-- A ring has a multiple of 8 descriptors, as its length in bytes is a multiple of 128 ("13.4.27 Receive Descriptor
+-- Length"), here from 8 to 256 (own).
+pub record IsRingSize (n : ℕ) : Type 0 where
+  pub eights : n % 8 ≡ 0
+  pub least : 8 ≤ n
+  pub most : n ≤ 256
+
+-- There is a buffer for each receive descriptor at least, and there are 4,096 at most (own).
+pub record IsBufferCount (rx buffers : ℕ) : Type 0 where
+  pub least : rx ≤ buffers
+  pub most : buffers ≤ 4096
+
+-- What a layout has room for (own).
+pub record IsAllowed (counts : Counts) : Type 0 where
+  pub rx : IsRingSize counts.rx
+  pub tx : IsRingSize counts.tx
+  pub buffers : IsBufferCount counts.rx counts.buffers
+
+-- The least multiple of 2,048 at which both rings, of 16 bytes a descriptor, have ended (own).
+abbrev pub buffers_start : Counts → ℕ
+buffers_start counts = next_multiple_of (16 * counts.rx + 16 * counts.tx) 2048
+
+-- What has its place in a layout (own).
+pub data Place : Type 0 where
+  ReceiveRing : Place
+  TransmitRing : Place
+  TransmitBuffer : ℕ → Place
+  ReceiveBuffer : ℕ → Place
+
+-- A layout has both rings, one transmit buffer for each transmit descriptor, and its receive buffers.
+abbrev pub HasPlace : Counts → Place → Type 0
+HasPlace counts ReceiveRing = Unit {0}
+HasPlace counts TransmitRing = Unit {0}
+HasPlace counts (TransmitBuffer slot) = slot < counts.tx
+HasPlace counts (ReceiveBuffer number) = number < counts.buffers
+
+-- The first address of a place: the receive ring, the transmit ring, the transmit buffers, the receive buffers.
+abbrev pub start_of : Counts → Place → ℕ
+start_of counts ReceiveRing = 0
+start_of counts TransmitRing = 16 * counts.rx
+start_of counts (TransmitBuffer slot) = buffers_start counts + 2048 * slot
+start_of counts (ReceiveBuffer number) = buffers_start counts + 2048 * counts.tx + 2048 * number
+
+-- How many bytes stand at a place: 16 for each descriptor of a ring ("3.2.3 Receive Descriptor Format", "3.3.3
+-- Legacy Transmit Descriptor Format"), 2,048 in a buffer ("13.4.22 Receive Control", BSIZE 00b).
+abbrev pub bytes_of : Counts → Place → ℕ
+bytes_of counts ReceiveRing = 16 * counts.rx
+bytes_of counts TransmitRing = 16 * counts.tx
+bytes_of counts (TransmitBuffer slot) = 2048
+bytes_of counts (ReceiveBuffer number) = 2048
+
+-- The memory that a layout needs ends where the last receive buffer ends.
+abbrev pub size_of : Counts → ℕ
+size_of counts = start_of counts (ReceiveBuffer counts.buffers)
+
+-- Of two places one ends at or before the start of the other, so no byte belongs to both.
+abbrev pub AreApart : Counts → Place → Place → Type 0
+AreApart counts a b = (start_of counts a + bytes_of counts a ≤ start_of counts b) ⊎ (start_of counts b + bytes_of counts b ≤ start_of counts a)
+
+-- Any two places of a layout are apart.
+abbrev pub PlacesAreApart : Type 0
+PlacesAreApart = (counts : Counts) (a b : Place) → HasPlace counts a → HasPlace counts b → a ≢ b → AreApart counts a b
+
+-- Each place of a layout ends at or before the end of the memory that the layout needs.
+abbrev pub PlacesLieBelowSize : Type 0
+PlacesLieBelowSize = (counts : Counts) (place : Place) → HasPlace counts place → start_of counts place + bytes_of counts place ≤ size_of counts
+
+-- The buffers begin at the first multiple of 2,048 at which both rings have ended.
+pub record BeginsAtNextMultiple (counts : Counts) : Type 0 where
+  pub multiple : buffers_start counts % 2048 ≡ 0
+  pub behind_rings : 16 * counts.rx + 16 * counts.tx ≤ buffers_start counts
+  pub first : buffers_start counts < 16 * counts.rx + 16 * counts.tx + 2048

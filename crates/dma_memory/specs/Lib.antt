@@ -1,0 +1,5 @@
+pub mod HostMemory
+pub mod Layout
+pub mod Laws
+pub mod LayoutLaws
+pub mod Stores

@@ -1,0 +1,27 @@
+-- What is known of a memory after stores: laws of `bytes_at` and `with_bytes` over all memories.
+use Rattle.std.specs.Prelude.{◌≡◌, ◌≤◌, ◌<◌, ◌+◌, ◌⊎◌, ◌↔◌, ◌++◌, ℕ, List, [], length}
+use Rattle.dma_memory.specs.HostMemory.{bytes_at, with_bytes, LiesIn}
+
+-- So many bytes lie in a memory exactly where the address of each is below its size.
+abbrev pub LieWhereEachLies : Type 0
+LieWhereEachLies = (memory : List ℕ) (address n : ℕ) → LiesIn memory address n ↔ ((i : ℕ) → i < n → address + i < length memory)
+
+-- A store keeps the memory's size.
+abbrev pub StoreKeepsSize : Type 0
+StoreKeepsSize = (memory bytes : List ℕ) (address : ℕ) → LiesIn memory address (length bytes) → length (with_bytes memory address bytes) ≡ length memory
+
+-- What was stored is what stands there.
+abbrev pub StoredIsLoaded : Type 0
+StoredIsLoaded = (memory bytes : List ℕ) (address : ℕ) → LiesIn memory address (length bytes) → bytes_at (with_bytes memory address bytes) address (length bytes) ≡ bytes
+
+-- Bytes that end at or before the address of a store, or begin where it ended, stay.
+abbrev pub OthersStay : Type 0
+OthersStay = (memory bytes : List ℕ) (address i n : ℕ) → LiesIn memory address (length bytes) → ((i + n ≤ address) ⊎ (address + length bytes ≤ i)) → bytes_at (with_bytes memory address bytes) i n ≡ bytes_at memory i n
+
+-- Two stores, the second right behind the first, are one.
+abbrev pub AdjacentStoresAreOne : Type 0
+AdjacentStoresAreOne = (memory first second : List ℕ) (address : ℕ) → LiesIn memory address (length (first ++ second)) → with_bytes (with_bytes memory address first) (address + length first) second ≡ with_bytes memory address (first ++ second)
+
+-- A store of no bytes changes nothing, whatever its address.
+abbrev pub StoreOfNoneStays : Type 0
+StoreOfNoneStays = (memory : List ℕ) (address : ℕ) → with_bytes memory address [] ≡ memory

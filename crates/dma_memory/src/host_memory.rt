@@ -1,0 +1,113 @@
+ghost use Rattle.std.specs.Prelude.{◌≡◌, ◌↔◌, List, ℕ, length, replicate, IfOk, OnOk, OnErr, IsOk, IsTrue};
+ghost use Rattle.dma_memory.specs.HostMemory.{bytes_at, with_bytes, LiesIn};
+
+use std::alloc::{AllocError, Global};
+use std::marker::Model;
+use thiserror::Error;
+
+/// Refusal of a load or a store of bytes that don't all lie below the memory's size. Its text is
+/// `E1 OutOfRange`.
+#[derive(Clone, Copy, Debug, PartialEq, Eq, Error)]
+#[error("E1 OutOfRange")]
+pub struct OutOfRange;
+
+/// The memory of a host: bytes with the addresses from 0 to its size - 1, which the host's driver and
+/// its adapter both load and store.
+///
+/// No bytes lie in it at every address, so a load or a store of none is never refused. Its size
+/// never changes.
+#[derive(Drop)]
+pub struct HostMemory {
+    bytes: Vec<u8>,
+}
+
+impl Model for HostMemory {
+    ghost Value = { List ℕ };
+
+    ghost view = { λ memory. memory.bytes.items };
+}
+
+impl HostMemory {
+    /// A memory of `size` bytes, all of them zero.
+    ///
+    /// # Errors
+    ///
+    /// Want of memory alone.
+    pub fn new(alloc: Global, size: u64) -> Result<HostMemory, AllocError>
+        ensures zeros { IfOk result (λ memory. memory ≡ replicate size 0) }
+    {
+        Ok(HostMemory {
+            bytes: vec![in alloc; 0; size as usize]?,
+        })
+    }
+
+    /// How many bytes the memory has.
+    pub fn size(&self) -> u64
+        ensures { result ≡ length self.now }
+    {
+        self.bytes.len() as u64
+    }
+
+    /// Whether `count` bytes from `address` on lie in the memory.
+    fn has(&self, address: u64, count: usize) -> bool
+        ensures { IsTrue result ↔ LiesIn self.now address count }
+    {
+        count as u64 <= self.size().saturating_sub(address)
+    }
+
+    /// Copies the bytes from `address` on into the whole of `into`.
+    ///
+    /// # Errors
+    ///
+    /// E1 [`OutOfRange`] exactly where one of these bytes doesn't lie below the size; `into` is then
+    /// as it was.
+    pub fn load(&self, address: u64, into: &mut [u8]) -> Result<(), OutOfRange>
+        ensures in_range { IsOk result ↔ LiesIn self.now address (length into.old) }
+        ensures loaded { OnOk result (into.new ≡ bytes_at self.now address (length into.old)) }
+        ensures refused { OnErr result (into.new ≡ into.old) }
+    {
+        let bytes = self.view(address, into.len())?;
+        into.copy_from_slice(bytes);
+        Ok(())
+    }
+
+    /// Puts `bytes` in place of those from `address` on.
+    ///
+    /// # Errors
+    ///
+    /// E1 [`OutOfRange`] exactly where one of these bytes doesn't lie below the size; the memory is
+    /// then as it was.
+    pub fn store(&mut self, address: u64, bytes: &[u8]) -> Result<(), OutOfRange>
+        ensures in_range { IsOk result ↔ LiesIn self.old address (length bytes.now) }
+        ensures stored { OnOk result (self.new ≡ with_bytes self.old address bytes.now) }
+        ensures refused { OnErr result (self.new ≡ self.old) }
+    {
+        if !self.has(address, bytes.len()) {
+            return Err(OutOfRange);
+        }
+        if !bytes.is_empty() {
+            let start = address as usize;
+            self.bytes.as_mut_slice()[start..start + bytes.len()].copy_from_slice(bytes);
+        }
+        Ok(())
+    }
+
+    /// The `count` bytes from `address` on, where they stand.
+    ///
+    /// # Errors
+    ///
+    /// E1 [`OutOfRange`] exactly where one of these bytes doesn't lie below the size.
+    pub fn view(&self, address: u64, count: usize) -> Result<&[u8], OutOfRange>
+        ensures in_range { IsOk result ↔ LiesIn self.now address count }
+        ensures viewed { IfOk result (λ bytes. bytes.now ≡ bytes_at self.now address count) }
+    {
+        if !self.has(address, count) {
+            return Err(OutOfRange);
+        }
+        if count == 0 {
+            return Ok(&[]);
+        }
+        let start = address as usize;
+        Ok(&self.bytes.as_slice()[start..start + count])
+    }
+}

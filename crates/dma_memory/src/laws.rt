@@ -1,0 +1,26 @@
+ghost use Rattle.dma_memory.specs.Layout.{Counts, PlacesAreApart, PlacesLieBelowSize, BeginsAtNextMultiple};
+ghost use Rattle.dma_memory.specs.Stores.{LieWhereEachLies, StoreKeepsSize, StoredIsLoaded, OthersStay, AdjacentStoresAreOne, StoreOfNoneStays};
+
+/// Laws of memory, over all memories, addresses and bytes: bytes lie in it exactly where each of them lies below its
+/// size; a store keeps the size; what was stored is what is loaded; all other bytes stay; two stores side by side are
+/// one; a store of no bytes changes nothing, whatever its address.
+///
+/// It does nothing: its contract is the laws.
+pub fn stores_are_loaded()
+    ensures lies { LieWhereEachLies }
+    ensures size { StoreKeepsSize }
+    ensures stored { StoredIsLoaded }
+    ensures others { OthersStay }
+    ensures adjacent { AdjacentStoresAreOne }
+    ensures none { StoreOfNoneStays }
+{}
+
+/// Laws of layouts: any two of a layout's rings and buffers are apart, each lies below the size that it needs,
+/// and the buffers begin at the first multiple of 2,048 behind the rings.
+///
+/// It does nothing: its contract is the laws.
+pub fn places_are_apart()
+    ensures apart { PlacesAreApart }
+    ensures below_size { PlacesLieBelowSize }
+    ensures next_multiple { (counts : Counts) → BeginsAtNextMultiple counts }
+{}

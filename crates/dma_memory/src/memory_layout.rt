@@ -1,0 +1,177 @@
+ghost use Rattle.std.specs.Prelude.{◌≡◌, ◌+◌, ◌<◌, ◌≤◌, ◌↔◌, Ok, Err, IfOk, IsOk, IsTrue};
+ghost use Rattle.dma_memory.specs.Layout.{Counts, IsRingSize, IsBufferCount, IsAllowed, start_of, size_of, ReceiveRing, TransmitRing, TransmitBuffer, ReceiveBuffer};
+
+use std::marker::Model;
+use thiserror::Error;
+
+/// The bytes of a descriptor (Intel's manual, "3.2.3 Receive Descriptor Format").
+pub const DESCRIPTOR_BYTES: u64 = 16;
+
+/// The bytes of a transmit or receive buffer (Intel's manual, "13.4.22 Receive Control", BSIZE 00b).
+pub const BUFFER_BYTES: u64 = 2048;
+
+/// A ring has a multiple of so many descriptors, and at least so many (Intel's manual, "13.4.27 Receive
+/// Descriptor Length": 128 bytes).
+pub const RING_STEP: u16 = 8;
+
+/// The most descriptors of a ring (own).
+pub const MOST_DESCRIPTORS: u16 = 256;
+
+/// The most receive buffers of a layout (own).
+pub const MOST_BUFFERS: u16 = 4096;
+
+/// The address of the receive ring (own).
+const RECEIVE_RING: u64 = 0;
+
+/// Why [`Layout::of`] refuses.
+#[derive(Clone, Copy, Debug, PartialEq, Eq, Error)]
+pub enum LayoutError {
+    /// A ring's number of descriptors isn't a multiple of 8 from 8 to 256.
+    #[error("E2 RingSize")]
+    RingSize,
+    /// There are fewer receive buffers than receive descriptors, or more than 4,096.
+    #[error("E3 BufferCount")]
+    BufferCount,
+}
+
+/// Where the rings and buffers of one driver stand in its host's memory, by byte addresses.
+///
+/// The receive ring stands at 0, the transmit ring right behind it, 16 bytes a descriptor; then, from the next
+/// multiple of 2,048 on, a transmit buffer for each transmit descriptor, and the receive buffers, 2,048 bytes each.
+#[derive(Clone, Copy, Debug, PartialEq, Eq)]
+pub struct Layout {
+    rx: u16,
+    tx: u16,
+    buffers: u16,
+}
+
+impl Model for Layout {
+    ghost Value = { Counts };
+
+    ghost view = { λ layout. record { rx = layout.rx; tx = layout.tx; buffers = layout.buffers } };
+
+    ghost invariant = { λ layout. IsAllowed (record { rx = layout.rx; tx = layout.tx; buffers = layout.buffers }) };
+
+    ghost inverse = { λ counts. record { rx = counts.rx; tx = counts.tx; buffers = counts.buffers } };
+}
+
+/// Whether a ring may have `n` descriptors.
+fn is_ring_size(n: u16) -> bool
+    ensures { IsTrue result ↔ IsRingSize n }
+{
+    n % RING_STEP == 0 && RING_STEP <= n && n <= MOST_DESCRIPTORS
+}
+
+/// Whether there may be so many buffers for a receive ring of `rx` descriptors.
+fn is_buffer_count(rx: u16, buffers: u16) -> bool
+    ensures { IsTrue result ↔ IsBufferCount rx buffers }
+{
+    rx <= buffers && buffers <= MOST_BUFFERS
+}
+
+impl Layout {
+    /// The layout for a receive ring of `rx` and a transmit ring of `tx` descriptors, with so many
+    /// receive buffers.
+    ///
+    /// # Errors
+    ///
+    /// E2 [`RingSize`](LayoutError::RingSize) exactly where `rx` or `tx` isn't a multiple of 8 from 8 to 256, and
+    /// otherwise E3 [`BufferCount`](LayoutError::BufferCount) exactly where `buffers` is below `rx` or above 4,096.
+    pub fn of(rx: u16, tx: u16, buffers: u16) -> Result<Layout, LayoutError>
+        ensures allowed { IsOk result ↔ IsAllowed (record { rx = rx; tx = tx; buffers = buffers }) }
+        ensures counts { IfOk result (λ layout. layout ≡ record { rx = rx; tx = tx; buffers = buffers }) }
+        ensures ring_size { (result ≡ Err LayoutError.RingSize) ↔ ¬ (IsRingSize rx × IsRingSize tx) }
+        ensures buffer_count { (result ≡ Err LayoutError.BufferCount) ↔ (IsRingSize rx × IsRingSize tx × ¬ IsBufferCount rx buffers) }
+    {
+        if !is_ring_size(rx) || !is_ring_size(tx) {
+            return Err(LayoutError::RingSize);
+        }
+        if !is_buffer_count(rx, buffers) {
+            return Err(LayoutError::BufferCount);
+        }
+        Ok(Layout { rx, tx, buffers })
+    }
+
+    /// How many descriptors the receive ring has.
+    pub fn rx(&self) -> u16
+        ensures count { result ≡ self.now.rx }
+        ensures allowed { IsRingSize result }
+    {
+        self.rx
+    }
+
+    /// How many descriptors the transmit ring has, and how many transmit buffers there are.
+    pub fn tx(&self) -> u16
+        ensures count { result ≡ self.now.tx }
+        ensures allowed { IsRingSize result }
+    {
+        self.tx
+    }
+
+    /// How many receive buffers there are.
+    pub fn buffers(&self) -> u16
+        ensures count { result ≡ self.now.buffers }
+        ensures allowed { IsBufferCount self.now.rx result }
+    {
+        self.buffers
+    }
+
+    /// The address of the receive ring's first descriptor.
+    pub fn receive_ring(&self) -> u64
+        ensures { result ≡ start_of self.now ReceiveRing }
+    {
+        RECEIVE_RING
+    }
+
+    /// The address of the transmit ring's first descriptor.
+    pub fn transmit_ring(&self) -> u64
+        ensures { result ≡ start_of self.now TransmitRing }
+    {
+        self.receive_ring() + DESCRIPTOR_BYTES * u64::from(self.rx)
+    }
+
+    /// The address of the buffer that belongs to the transmit descriptor `slot`.
+    pub fn transmit_buffer(&self, slot: u16) -> u64
+        requires { slot < self.now.tx }
+        ensures start { result ≡ start_of self.now (TransmitBuffer slot) }
+        ensures below_size { result + 2048 ≤ size_of self.now }
+    {
+        self.first_transmit_buffer() + BUFFER_BYTES * u64::from(slot)
+    }
+
+    /// The address of the receive buffer `number`.
+    pub fn receive_buffer(&self, number: u16) -> u64
+        requires { number < self.now.buffers }
+        ensures start { result ≡ start_of self.now (ReceiveBuffer number) }
+        ensures below_size { result + 2048 ≤ size_of self.now }
+    {
+        self.first_receive_buffer() + BUFFER_BYTES * u64::from(number)
+    }
+
+    /// How many bytes of memory the layout needs: from address 0 to the end of the last receive buffer.
+    pub fn size(&self) -> u64
+        ensures end { result ≡ size_of self.now }
+
+        // Rings of 256 and 4,096 receive buffers need the most.
+        ensures most { result ≤ 8921088 }
+    {
+        self.first_receive_buffer() + BUFFER_BYTES * u64::from(self.buffers)
+    }
+
+    /// The address of the first transmit buffer.
+    fn first_transmit_buffer(&self) -> u64
+        ensures start { result ≡ start_of self.now (TransmitBuffer 0) }
+        ensures most { result ≤ 8192 }
+    {
+        let rings_end = self.transmit_ring() + DESCRIPTOR_BYTES * u64::from(self.tx);
+        rings_end.next_multiple_of(BUFFER_BYTES)
+    }
+
+    /// The address of the first receive buffer.
+    fn first_receive_buffer(&self) -> u64
+        ensures start { result ≡ start_of self.now (ReceiveBuffer 0) }
+        ensures most { result ≤ 532480 }
+    {
+        self.first_transmit_buffer() + BUFFER_BYTES * u64::from(self.tx)
+    }
+}

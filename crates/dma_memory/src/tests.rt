@@ -1,0 +1,135 @@
+use crate::{HostMemory, Layout, LayoutError, OutOfRange};
+use std::test::Fail;
+
+/// A memory of 16 bytes, of which those from 4 to 7 are 1 to 4.
+const FILLED: [u8; 16] = [0, 0, 0, 0, 1, 2, 3, 4, 0, 0, 0, 0, 0, 0, 0, 0];
+
+/// A refused allocation is the one failure that is allowed here, so that each can be made to fail in turn.
+#[test]
+fn a_new_memory_is_zeros(rt: HostRuntime) {
+    if let Ok(memory) = HostMemory::new(rt.alloc(), 51_200) {
+        assert_eq!(rt; memory.size(), 51_200);
+        let mut last = [7; 4];
+        assert_eq!(rt; memory.load(51_196, &mut last), Ok(()));
+        assert_eq!(rt; last, [0; 4]);
+    }
+}
+
+#[test]
+fn stored_bytes_are_loaded(rt: HostRuntime) -> Result<(), Fail> {
+    let mut memory = HostMemory::new(rt.alloc(), 16)?;
+    assert_eq!(rt; memory.store(4, &[1, 2, 3, 4]), Ok(()));
+    let mut all = [9; 16];
+    assert_eq!(rt; memory.load(0, &mut all), Ok(()));
+    assert_eq!(rt; all, FILLED);
+    let middle = memory.view(5, 3)?;
+    assert_eq!(rt; middle, [2, 3, 4].as_slice());
+    Ok(())
+}
+
+/// One byte past the end is refused, addresses that would wrap are, and no bytes lie at every address.
+#[test]
+fn out_of_range_changes_nothing(rt: HostRuntime) -> Result<(), Fail> {
+    let mut memory = HostMemory::new(rt.alloc(), 16)?;
+    assert_eq!(rt; memory.store(4, &[1, 2, 3, 4]), Ok(()));
+    for address in [13, 16, 17, u64::MAX - 3, u64::MAX] {
+        assert_eq!(rt;
+            memory.store(address, &[8; 4]),
+            Err(OutOfRange),
+            "store at {address}"
+        );
+        let mut into = [9; 4];
+        assert_eq!(rt;
+            memory.load(address, &mut into),
+            Err(OutOfRange),
+            "load at {address}"
+        );
+        assert_eq!(rt; into, [9; 4]);
+        assert!(rt; memory.view(address, 4).is_err(), "view at {address}");
+        assert_eq!(rt;
+            memory.store(address, &[]),
+            Ok(()),
+            "nothing stored at {address}"
+        );
+        assert_eq!(rt;
+            memory.load(address, &mut []),
+            Ok(()),
+            "nothing loaded at {address}"
+        );
+        assert!(rt;
+            memory.view(address, 0).is_ok(),
+            "nothing viewed at {address}"
+        );
+    }
+    let mut all = [9; 16];
+    assert_eq!(rt; memory.load(0, &mut all), Ok(()));
+    assert_eq!(rt; all, FILLED);
+    Ok(())
+}
+
+#[test]
+fn places_of_the_least_layout(rt: HostRuntime) -> Result<(), Fail> {
+    let layout = Layout::of(8, 8, 16)?;
+    assert_eq!(rt; (layout.rx(), layout.tx(), layout.buffers()), (8, 8, 16));
+    assert_eq!(rt; layout.receive_ring(), 0);
+    assert_eq!(rt; layout.transmit_ring(), 0x80);
+    assert_eq!(rt; layout.size(), 51_200);
+    assert_eq!(rt; layout.transmit_buffer(0), 0x800);
+    assert_eq!(rt; layout.transmit_buffer(7), 0x4000);
+    assert_eq!(rt; layout.receive_buffer(0), 0x4800);
+    assert_eq!(rt; layout.receive_buffer(15), 0xC000);
+    Ok(())
+}
+
+/// Rings that end at a multiple of 2,048 are followed by the buffers at once.
+#[test]
+fn buffers_begin_at_the_next_multiple(rt: HostRuntime) -> Result<(), Fail> {
+    assert_eq!(rt; Layout::of(64, 64, 64)?.transmit_buffer(0), 2048);
+    assert_eq!(rt; Layout::of(64, 72, 64)?.transmit_buffer(0), 4096);
+    assert_eq!(rt; Layout::of(256, 256, 4096)?.size(), 8_921_088);
+    Ok(())
+}
+
+#[test]
+fn refused_layouts(rt: HostRuntime) {
+    for (rx, tx, buffers) in [
+        (0, 8, 16),
+        (8, 0, 16),
+        (12, 8, 16),
+        (8, 12, 16),
+        (264, 8, 300),
+        (8, 264, 16),
+        (0, 8, 5000),
+    ] {
+        assert_eq!(rt;
+            Layout::of(rx, tx, buffers),
+            Err(LayoutError::RingSize),
+            "{rx} {tx} {buffers}"
+        );
+    }
+    for (rx, tx, buffers) in [(8, 8, 7), (16, 8, 8), (8, 8, 4097), (256, 256, 255)] {
+        assert_eq!(rt;
+            Layout::of(rx, tx, buffers),
+            Err(LayoutError::BufferCount),
+            "{rx} {tx} {buffers}"
+        );
+    }
+    assert!(rt; Layout::of(8, 256, 8).is_ok());
+}
+
+#[test]
+fn texts_of_refusals(rt: HostRuntime) -> Result<(), Fail> {
+    assert_eq!(rt;
+        format!(in rt.alloc(); "{OutOfRange}")?.as_str(),
+        "E1 OutOfRange"
+    );
+    assert_eq!(rt;
+        format!(in rt.alloc(); "{}", LayoutError::RingSize)?.as_str(),
+        "E2 RingSize"
+    );
+    assert_eq!(rt;
+        format!(in rt.alloc(); "{}", LayoutError::BufferCount)?.as_str(),
+        "E3 BufferCount"
+    );
+    Ok(())
+}
