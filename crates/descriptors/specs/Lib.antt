@@ -1,0 +1,4 @@
+pub mod RxStatus
+pub mod RxDesc
+pub mod Frames
+pub mod Laws

@@ -1,0 +1,11 @@
+-- The status byte of a receive descriptor as a number ("3.2.3.1 Receive Descriptor Status Field" of Intel's manual).
+use Rattle.std.specs.Prelude.{ℕ}
+use Rattle.descriptors.specs.declared.rx_status.RxStatus.{RxStatus}
+
+-- The eight bits of a status.
+abbrev pub status_bits : RxStatus → ℕ
+status_bits status = status.0
+
+-- The status with these bits, those without a name among them.
+abbrev pub status_of : ℕ → RxStatus
+status_of bits = record { 0 = bits }

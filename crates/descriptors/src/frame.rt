@@ -1,0 +1,117 @@
+ghost use Rattle.std.specs.Prelude.{◌≡◌, ◌==◌, ◌≤◌, ◌↔◌, ⊤, [], length, IsSome, IfSome};
+
+use arrayvec::ArrayVec;
+use std::alloc::AllocError;
+use std::marker::Model;
+
+/// The least bytes of a frame on the wire, without its check sequence (IEEE 802.3, 4.4.2: minFrameSize less 4 bytes).
+pub const SHORTEST_LEGAL: usize = 60;
+
+/// The most bytes of a frame on the wire, without its check sequence (IEEE 802.3, 4.4.2: maxBasicFrameSize of 1,518
+/// bytes less 4, and 4 for a VLAN tag).
+pub const LONGEST_LEGAL: usize = 1518;
+
+/// The least bytes of a frame that can be sent: two addresses and the type (IEEE 802.3, 3.1.1). It is padded to
+/// [`SHORTEST_LEGAL`] bytes.
+pub const SHORTEST_SENDABLE: usize = 14;
+
+/// The most bytes of a frame that can be sent.
+pub const LONGEST_SENDABLE: usize = LONGEST_LEGAL;
+
+/// An Ethernet frame of at most 1,518 bytes: destination address to end of data, without the check sequence.
+///
+/// Its bytes lie in the value itself, so no call takes memory.
+#[derive(Debug, Drop, PartialEq, Eq)]
+pub struct Frame {
+    bytes: ArrayVec<u8, LONGEST_LEGAL>,
+}
+
+impl Model for Frame {
+    ghost use Rattle.std.specs.Prelude.{List, ℕ, ◌≤◌, length};
+
+    ghost Value = { List ℕ };
+
+    ghost view = { λ frame. frame.bytes.items };
+
+    ghost invariant = { λ frame. length frame.bytes.items ≤ 1518 };
+
+    ghost inverse = { λ bytes. record { bytes = record { items = bytes } } };
+}
+
+impl Frame {
+    /// The most bytes of a frame.
+    pub const MAX_LEN: usize = LONGEST_LEGAL;
+
+    /// The frame without a byte.
+    pub fn new() -> Frame
+        ensures { result ≡ [] }
+    {
+        Frame {
+            bytes: ArrayVec::new(),
+        }
+    }
+
+    /// The frame of these bytes, of which there are at most 1,518.
+    pub fn from_slice(bytes: &[u8]) -> Frame
+        requires { length bytes.now ≤ 1518 }
+        ensures { result ≡ bytes.now }
+    {
+        let mut held = ArrayVec::new();
+        let _ = held.try_extend_from_slice(bytes);
+        Frame { bytes: held }
+    }
+
+    /// The frame of these bytes, or `None` exactly where there are more than 1,518.
+    pub fn try_from_slice(bytes: &[u8]) -> Option<Frame>
+        ensures fits { IsSome result ↔ (length bytes.now ≤ 1518) }
+        ensures value { IfSome result (λ frame. frame ≡ bytes.now) }
+    {
+        if bytes.len() > Frame::MAX_LEN {
+            return None;
+        }
+        Some(Frame::from_slice(bytes))
+    }
+
+    /// How many bytes the frame has.
+    pub fn len(&self) -> usize
+        ensures value { result ≡ length self.now }
+        ensures fits { result ≤ 1518 }
+    {
+        self.bytes.len()
+    }
+
+    /// Whether the frame has no byte.
+    pub fn is_empty(&self) -> bool
+        ensures { result ≡ (length self.now == 0) }
+    {
+        self.bytes.is_empty()
+    }
+
+    /// The bytes of the frame.
+    pub fn as_slice(&self) -> &[u8]
+        ensures value { result.now ≡ self.now }
+        ensures fits { length result.now ≤ 1518 }
+    {
+        self.bytes.as_slice()
+    }
+}
+
+/// A clone has the same bytes. It takes no memory, so it never fails.
+impl Clone for Frame {
+    ghost is_clone = { λ frame copy. copy ≡ frame };
+
+    ghost is_infallible = { λ _. ⊤ };
+
+    fn clone(&self) -> Result<Frame, AllocError> {
+        Ok(Frame::from_slice(self.as_slice()))
+    }
+}
+
+/// The frame without a byte.
+impl Default for Frame {
+    ghost is_default = { λ frame. frame ≡ [] };
+
+    fn default() -> Frame {
+        Frame::new()
+    }
+}

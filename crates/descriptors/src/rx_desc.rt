@@ -1,0 +1,60 @@
+ghost use Rattle.std.specs.Prelude.{◌≡◌};
+
+use crate::RxStatus;
+use bitflags::Flags;
+use byteorder::{ByteOrder, LittleEndian};
+
+/// The bytes of a receive descriptor.
+pub const RX_DESC_BYTES: usize = 16;
+
+/// A receive descriptor: where the adapter is to put a frame, and what it says of the frame that it has put there
+/// (Intel's manual, "3.2.3 Receive Descriptor Format").
+#[derive(Clone, Copy, Debug, PartialEq, Eq)]
+pub struct RxDesc {
+    /// The address of the buffer in the host's memory.
+    pub address: u64,
+    /// How many bytes the adapter wrote into the buffer.
+    pub length: u16,
+    /// The packet checksum.
+    pub checksum: u16,
+    /// Whether the adapter is done with the descriptor, and whether the packet ends here.
+    pub status: RxStatus,
+    /// The error bits; 0 where there was no error.
+    pub errors: u8,
+    /// VLAN tag information.
+    pub special: u16,
+}
+
+impl RxDesc {
+    ghost use Rattle.descriptors.specs.RxDesc.{rx_desc_bytes, rx_desc_of};
+
+    /// The descriptor as it stands in memory: its fields in order, each little-endian.
+    #[tactic(auto, unfolding(crate::specs::RxDesc::rx_desc_bytes))]
+    pub fn to_bytes(&self) -> [u8; 16]
+        ensures { result ≡ rx_desc_bytes self.now }
+    {
+        let mut bytes = [0; RX_DESC_BYTES];
+        LittleEndian::write_u64(&mut bytes, self.address);
+        LittleEndian::write_u16(&mut bytes[8..], self.length);
+        LittleEndian::write_u16(&mut bytes[10..], self.checksum);
+        bytes[12] = self.status.bits();
+        bytes[13] = self.errors;
+        LittleEndian::write_u16(&mut bytes[14..], self.special);
+        bytes
+    }
+
+    /// The descriptor that stands in memory as these bytes.
+    #[tactic(auto, unfolding(crate::specs::RxDesc::rx_desc_of))]
+    pub fn from_bytes(bytes: &[u8; 16]) -> RxDesc
+        ensures { result ≡ rx_desc_of bytes.now }
+    {
+        RxDesc {
+            address: LittleEndian::read_u64(bytes),
+            length: LittleEndian::read_u16(&bytes[8..]),
+            checksum: LittleEndian::read_u16(&bytes[10..]),
+            status: RxStatus::from_bits_retain(bytes[12]),
+            errors: bytes[13],
+            special: LittleEndian::read_u16(&bytes[14..]),
+        }
+    }
+}
