@@ -1,0 +1,57 @@
+-- The bits of a register: one bit, a field of several bits, and the bits that are 1 as a set of places.
+-- Places are counted from 0, the lowest bit. (own)
+use Rattle.std.specs.Prelude.{◌≡◌, ◌<◌, ◌-◌, ◌/◌, ◌%◌, ◌^◌, ◌↔◌, ◌⊎◌, ℕ, bit_and, bit_or}
+
+-- the bit at this place is 1
+abbrev pub HasBit : ℕ → ℕ → Type 0
+HasBit value place = value / 2 ^ place % 2 ≡ 1
+
+-- the number that stands in the `width` bits from the place `lowest` on
+abbrev pub field : ℕ → ℕ → ℕ → ℕ
+field value lowest width = value / 2 ^ lowest % 2 ^ width
+
+-- the places of either set
+abbrev pub union : ℕ → ℕ → ℕ
+union a b = bit_or a b
+
+-- the places of both sets
+abbrev pub intersection : ℕ → ℕ → ℕ
+intersection a b = bit_and a b
+
+-- the places of the first set that are not in the second, in a register of 32 bits
+abbrev pub difference : ℕ → ℕ → ℕ
+difference a b = bit_and a (2 ^ 32 - 1 - b)
+
+-- the two sets have a place in common
+abbrev pub Meet : ℕ → ℕ → Type 0
+Meet a b = 0 < bit_and a b
+
+-- each place of the first set is in the second
+abbrev pub IsSubset : ℕ → ℕ → Type 0
+IsSubset a b = bit_and a b ≡ a
+
+-- What these words mean, place by place.
+
+abbrev pub UnionByPlaces : Type 0
+UnionByPlaces = (a b place : ℕ) → HasBit (union a b) place ↔ (HasBit a place ⊎ HasBit b place)
+
+abbrev pub IntersectionByPlaces : Type 0
+IntersectionByPlaces = (a b place : ℕ) → HasBit (intersection a b) place ↔ (HasBit a place × HasBit b place)
+
+abbrev pub DifferenceByPlaces : Type 0
+DifferenceByPlaces =
+    (a b place : ℕ) → a < 2 ^ 32 → b < 2 ^ 32
+    → HasBit (difference a b) place ↔ (HasBit a place × ¬ (HasBit b place))
+
+abbrev pub MeetByPlaces : Type 0
+MeetByPlaces = (a b : ℕ) → a < 2 ^ 32 → Meet a b ↔ ((place : ℕ) × HasBit a place × HasBit b place)
+
+abbrev pub SubsetByPlaces : Type 0
+SubsetByPlaces = (a b : ℕ) → IsSubset a b ↔ ((place : ℕ) → HasBit a place → HasBit b place)
+
+abbrev pub EmptyByPlaces : Type 0
+EmptyByPlaces = (place : ℕ) → ¬ (HasBit 0 place)
+
+-- two registers with the same bits are equal
+abbrev pub SameByPlaces : Type 0
+SameByPlaces = (a b : ℕ) → ((place : ℕ) → HasBit a place ↔ HasBit b place) → a ≡ b

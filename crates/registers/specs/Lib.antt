@@ -1,0 +1,6 @@
+pub mod Bits
+pub mod Counting
+pub mod Interrupts
+pub mod Kept
+pub mod Laws
+pub mod ReceiveControl

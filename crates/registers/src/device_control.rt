@@ -1,0 +1,165 @@
+// CTRL and STATUS.
+
+ghost use Rattle.std.specs.Prelude.{⊤, ◌≡◌, ◌↔◌, [], ◌∷◌, IsTrue, bit_and, codes, if◌then◌else◌};
+ghost use Rattle.registers.specs.Bits.{HasBit, field};
+ghost use Rattle.registers.specs.Kept.{control_mask, written_control_mask, status_of_link_up};
+
+use crate::fields::two_bit_field;
+use bitflags::{Flag, Flags, bitflag_items};
+
+/// Bits of CTRL, the device control register (13.4.1). The field holds the register's 32 bits.
+#[derive(Clone, Copy, PartialEq, Eq, Debug)]
+pub struct Ctrl(pub u32);
+
+bitflag_items! {
+    impl Ctrl: u32 {
+        /// Full duplex.
+        const FD = 1 << 0;
+        /// Automatic speed detection.
+        const ASDE = 1 << 5;
+        /// Set link up.
+        const SLU = 1 << 6;
+        /// Device reset: acts when it is written, and reads 0.
+        const RST = 1 << 26;
+        /// VLAN mode. It is kept and has no effect.
+        const VME = 1 << 30;
+    }
+}
+
+impl Flags for Ctrl {
+    type Bits = u32;
+
+    ghost exact = { ⊤ };
+
+    ghost table = { (codes "FD", 0x1) ∷ (codes "ASDE", 0x20) ∷ (codes "SLU", 0x40) ∷ (codes "RST", 0x4000000)
+        ∷ (codes "VME", 0x40000000) ∷ [] };
+
+    ghost set_of = { λ p. p.0 };
+
+    fn flags<'a>() -> &'a [Flag<Ctrl>] {
+        Ctrl::FLAGS
+    }
+
+    fn bits(&self) -> u32 {
+        self.0
+    }
+
+    fn from_bits_retain(bits: u32) -> Ctrl {
+        Ctrl(bits)
+    }
+}
+
+impl Ctrl {
+    /// The named bits of a word that is written to CTRL, RST among them.
+    pub fn written(value: u32) -> Ctrl
+        ensures { result.0 ≡ bit_and value written_control_mask }
+    {
+        Ctrl::from_bits_truncate(value)
+    }
+
+    /// What a write of this word leaves in CTRL. RST is not kept; where it is set the whole write is a reset
+    /// ([`Ctrl::resets`]).
+    pub fn kept(value: u32) -> Ctrl
+        ensures { result.0 ≡ bit_and value control_mask }
+    {
+        Ctrl::written(value).difference(Ctrl::RST)
+    }
+
+    /// Whether RST is set in what was written.
+    pub fn resets(self) -> bool
+        ensures { IsTrue result ↔ HasBit self.0 26 }
+    {
+        self.contains(Ctrl::RST)
+    }
+
+    /// Whether SLU is set, without which STATUS shows no link.
+    pub fn sets_link_up(self) -> bool
+        ensures { IsTrue result ↔ HasBit self.0 6 }
+    {
+        self.contains(Ctrl::SLU)
+    }
+}
+
+/// Bits of STATUS, the device status register (13.4.2), which is read only. The field holds the register's 32 bits.
+#[derive(Clone, Copy, PartialEq, Eq, Debug)]
+pub struct Status(pub u32);
+
+bitflag_items! {
+    impl Status: u32 {
+        /// Full duplex.
+        const FD = 1 << 0;
+        /// Link up.
+        const LU = 1 << 1;
+        /// Link speed, a field of two bits.
+        const SPEED = 3 << 6;
+    }
+}
+
+impl Flags for Status {
+    type Bits = u32;
+
+    ghost exact = { ⊤ };
+
+    ghost table = { (codes "FD", 0x1) ∷ (codes "LU", 0x2) ∷ (codes "SPEED", 0xC0) ∷ [] };
+
+    ghost set_of = { λ p. p.0 };
+
+    fn flags<'a>() -> &'a [Flag<Status>] {
+        Status::FLAGS
+    }
+
+    fn bits(&self) -> u32 {
+        self.0
+    }
+
+    fn from_bits_retain(bits: u32) -> Status {
+        Status(bits)
+    }
+}
+
+/// Link speed, as STATUS.SPEED tells it.
+#[derive(Clone, Copy, PartialEq, Eq, Debug)]
+pub enum Speed {
+    /// 10 Mb/s.
+    Mbps10,
+    /// 100 Mb/s.
+    Mbps100,
+    /// 1000 Mb/s.
+    Mbps1000,
+}
+
+impl Status {
+    ghost use Rattle.registers.specs.ReceiveControl.{speed_of};
+
+    /// The code of 1000 Mb/s in SPEED.
+    const MBPS_1000: Status = Status(2 << 6);
+
+    /// What STATUS reads: full duplex at 1000 Mb/s while `link_up`, else 0.
+    pub fn of_link(link_up: bool) -> Status
+        ensures { result.0 ≡ (if link_up then status_of_link_up else 0) }
+    {
+        if link_up {
+            Status::FD.union(Status::LU).union(Status::MBPS_1000)
+        } else {
+            Status::empty()
+        }
+    }
+
+    /// Whether LU is set.
+    pub fn is_link_up(self) -> bool
+        ensures { IsTrue result ↔ HasBit self.0 1 }
+    {
+        self.contains(Status::LU)
+    }
+
+    /// The link speed, SPEED (bits 7:6).
+    pub fn speed(self) -> Speed
+        ensures { result ≡ speed_of (field self.0 6 2) }
+    {
+        match two_bit_field(self.0, 6) {
+            0 => Speed::Mbps10,
+            1 => Speed::Mbps100,
+            _ => Speed::Mbps1000,
+        }
+    }
+}

@@ -1,0 +1,167 @@
+// Interrupt causes and their mask: ICR, ICS, IMS and IMC.
+
+ghost use Rattle.std.specs.Prelude.{⊤, ◌≡◌, ◌↔◌, [], ◌∷◌, IsTrue, bit_and, codes};
+ghost use Rattle.registers.specs.Bits.{union, difference, Meet, IsSubset};
+ghost use Rattle.registers.specs.Kept.{all_causes, causes_of};
+
+use bitflags::{Flag, Flags, bitflag_items};
+use std::marker::Model;
+
+/// Interrupt causes, a set by the places that ICR, ICS, IMS and IMC share (13.4.17). The field holds a register's 32
+/// bits.
+#[derive(Clone, Copy, PartialEq, Eq, Debug)]
+pub struct Cause(pub u32);
+
+bitflag_items! {
+    impl Cause: u32 {
+        /// Transmit descriptor written back.
+        const TXDW = 1 << 0;
+        /// Transmit queue empty.
+        const TXQE = 1 << 1;
+        /// Link status change.
+        const LSC = 1 << 2;
+        /// Receive descriptor minimum threshold reached.
+        const RXDMT0 = 1 << 4;
+        /// Receiver overrun.
+        const RXO = 1 << 6;
+        /// Receiver timer: a frame was received.
+        const RXT0 = 1 << 7;
+        /// MDI/O access complete.
+        const MDAC = 1 << 9;
+    }
+}
+
+impl Flags for Cause {
+    type Bits = u32;
+
+    ghost exact = { ⊤ };
+
+    ghost table = { (codes "TXDW", 0x1) ∷ (codes "TXQE", 0x2) ∷ (codes "LSC", 0x4) ∷ (codes "RXDMT0", 0x10)
+        ∷ (codes "RXO", 0x40) ∷ (codes "RXT0", 0x80) ∷ (codes "MDAC", 0x200) ∷ [] };
+
+    ghost set_of = { λ p. p.0 };
+
+    fn flags<'a>() -> &'a [Flag<Cause>] {
+        Cause::FLAGS
+    }
+
+    fn bits(&self) -> u32 {
+        self.0
+    }
+
+    fn from_bits_retain(bits: u32) -> Cause {
+        Cause(bits)
+    }
+}
+
+impl Cause {
+    /// The causes that a written word names; its other bits are ignored.
+    pub fn kept(value: u32) -> Cause
+        ensures { result.0 ≡ causes_of value }
+    {
+        Cause::from_bits_truncate(value)
+    }
+}
+
+/// The recorded interrupt causes and the mask (13.4.17 to 13.4.21). Both are sets of causes.
+#[derive(Clone, Copy, PartialEq, Eq, Debug)]
+pub struct Causes {
+    recorded: Cause,
+    mask: Cause,
+}
+
+impl Model for Causes {
+    ghost use Rattle.registers.specs.Bits.{IsSubset};
+    ghost use Rattle.registers.specs.Kept.{all_causes};
+    ghost use Rattle.registers.specs.Interrupts.{Interrupts};
+
+    ghost Value = { Interrupts };
+
+    ghost view = { λ c. record { recorded = c.recorded.0; mask = c.mask.0 } };
+
+    ghost invariant = { λ c. IsSubset c.recorded.0 all_causes × IsSubset c.mask.0 all_causes };
+
+    ghost inverse = { λ v. record { recorded = record { 0 = v.recorded }; mask = record { 0 = v.mask } } };
+}
+
+#[tactic(auto, using(crate::specs::Laws::subsets))]
+impl Causes {
+    /// No cause is recorded and the mask is empty, as after a reset.
+    pub fn new() -> Causes
+        ensures { result ≡ record { recorded = 0; mask = 0 } }
+    {
+        Causes {
+            recorded: Cause::empty(),
+            mask: Cause::empty(),
+        }
+    }
+
+    /// Records causes that came up in the adapter, masked or not.
+    pub fn raise(&mut self, cause: Cause)
+        ensures { self.new ≡ record self.old { recorded = union self.old.recorded (causes_of cause.0) } }
+    {
+        self.set(cause.bits());
+    }
+
+    /// A read of ICR: answers all recorded causes, and clears them.
+    pub fn read(&mut self) -> u32
+        ensures answer { result ≡ self.old.recorded }
+        ensures cleared { self.new ≡ record self.old { recorded = 0 } }
+        ensures causes_alone { IsSubset result all_causes }
+    {
+        let recorded = self.recorded;
+        self.recorded = Cause::empty();
+        recorded.bits()
+    }
+
+    /// A write of ICR: a 1 clears that cause, a 0 leaves it.
+    pub fn clear_written(&mut self, value: u32)
+        ensures { self.new ≡ record self.old { recorded = difference self.old.recorded (causes_of value) } }
+    {
+        self.recorded = self.recorded.difference(Cause::kept(value));
+    }
+
+    /// A write of ICS: records the causes that the word names, masked or not.
+    pub fn set(&mut self, value: u32)
+        ensures { self.new ≡ record self.old { recorded = union self.old.recorded (causes_of value) } }
+    {
+        self.recorded = self.recorded.union(Cause::kept(value));
+    }
+
+    /// A write of IMS: adds the causes that the word names to the mask.
+    pub fn mask(&mut self, value: u32)
+        ensures { self.new ≡ record self.old { mask = union self.old.mask (causes_of value) } }
+    {
+        self.mask = self.mask.union(Cause::kept(value));
+    }
+
+    /// A write of IMC: takes the causes that the word names out of the mask.
+    pub fn unmask(&mut self, value: u32)
+        ensures { self.new ≡ record self.old { mask = difference self.old.mask (causes_of value) } }
+    {
+        self.mask = self.mask.difference(Cause::kept(value));
+    }
+
+    /// The recorded causes, without clearing them.
+    pub fn recorded(&self) -> u32
+        ensures answer { result ≡ self.now.recorded }
+        ensures causes_alone { IsSubset result all_causes }
+    {
+        self.recorded.bits()
+    }
+
+    /// A read of IMS: answers the mask.
+    pub fn masked(&self) -> u32
+        ensures answer { result ≡ self.now.mask }
+        ensures causes_alone { IsSubset result all_causes }
+    {
+        self.mask.bits()
+    }
+
+    /// Whether the interrupt line is asserted: exactly while a recorded cause is in the mask.
+    pub fn line(&self) -> bool
+        ensures { IsTrue result ↔ Meet self.now.recorded self.now.mask }
+    {
+        self.recorded.intersects(self.mask)
+    }
+}

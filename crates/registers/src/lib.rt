@@ -1,0 +1,22 @@
+//! Register bits of the Intel 82540EM that have behaviour of their own, its interrupt causes and its statistics counters.
+//!
+//! Section numbers are those of Intel's "PCI/PCI-X Family of Gigabit Ethernet Controllers Software Developer's Manual".
+#![tactic(auto)]
+
+mod device_control;
+mod fields;
+mod interrupts;
+mod laws;
+mod receive_control;
+mod statistics;
+mod transmit_control;
+
+pub use device_control::{Ctrl, Speed, Status};
+pub use interrupts::{Cause, Causes};
+pub use laws::sets_of_places;
+pub use receive_control::{GroupOffset, Rctl};
+pub use statistics::Counter;
+pub use transmit_control::Tctl;
+
+#[cfg(test)]
+mod tests;

@@ -1,0 +1,170 @@
+// RCTL.
+
+ghost use Rattle.std.specs.Prelude.{⊤, ◌≡◌, ◌↔◌, [], ◌∷◌, IsTrue, bit_and, codes};
+ghost use Rattle.registers.specs.Bits.{HasBit, field};
+ghost use Rattle.registers.specs.Kept.{receive_control_mask};
+
+use crate::fields::two_bit_field;
+use bitflags::{Flag, Flags, bitflag_items};
+
+/// Bits of RCTL, the receive control register (13.4.22). The field holds the register's 32 bits.
+#[derive(Clone, Copy, PartialEq, Eq, Debug)]
+pub struct Rctl(pub u32);
+
+bitflag_items! {
+    impl Rctl: u32 {
+        /// Receiver enable.
+        const EN = 1 << 1;
+        /// Unicast promiscuous: accept every individual address.
+        const UPE = 1 << 3;
+        /// Multicast promiscuous: accept every group address.
+        const MPE = 1 << 4;
+        /// Long packet reception. It is kept and has no effect.
+        const LPE = 1 << 5;
+        /// Receive descriptor minimum threshold, a field of two bits. Each value acts as 00, half the ring.
+        const RDMTS = 3 << 8;
+        /// Multicast offset, a field of two bits.
+        const MO = 3 << 12;
+        /// Broadcast accept mode.
+        const BAM = 1 << 15;
+        /// Receive buffer size, a field of two bits.
+        const BSIZE = 3 << 16;
+        /// VLAN filter enable.
+        const VFE = 1 << 18;
+        /// Buffer size extension.
+        const BSEX = 1 << 25;
+        /// Strip the check sequence. It is kept and has no effect, as frames here have none.
+        const SECRC = 1 << 26;
+    }
+}
+
+impl Flags for Rctl {
+    type Bits = u32;
+
+    ghost exact = { ⊤ };
+
+    ghost table = { (codes "EN", 0x2) ∷ (codes "UPE", 0x8) ∷ (codes "MPE", 0x10) ∷ (codes "LPE", 0x20)
+        ∷ (codes "RDMTS", 0x300) ∷ (codes "MO", 0x3000) ∷ (codes "BAM", 0x8000) ∷ (codes "BSIZE", 0x30000)
+        ∷ (codes "VFE", 0x40000) ∷ (codes "BSEX", 0x2000000) ∷ (codes "SECRC", 0x4000000) ∷ [] };
+
+    ghost set_of = { λ p. p.0 };
+
+    fn flags<'a>() -> &'a [Flag<Rctl>] {
+        Rctl::FLAGS
+    }
+
+    fn bits(&self) -> u32 {
+        self.0
+    }
+
+    fn from_bits_retain(bits: u32) -> Rctl {
+        Rctl(bits)
+    }
+}
+
+/// Which 12 bits of a group address are its number in the group table, as RCTL.MO names them. An address has the bits
+/// 47:0, its last byte in 47:40.
+#[derive(Clone, Copy, PartialEq, Eq, Debug)]
+pub enum GroupOffset {
+    /// MO 00.
+    Bits47To36,
+    /// MO 01.
+    Bits46To35,
+    /// MO 10.
+    Bits45To34,
+    /// MO 11.
+    Bits43To32,
+}
+
+impl GroupOffset {
+    ghost use Rattle.registers.specs.ReceiveControl.{shift_of};
+
+    /// By how many places the address's bits 47:32 are shifted down for the number to be the low 12 bits.
+    pub fn shift(self) -> u32
+        ensures { result ≡ shift_of self }
+    {
+        match self {
+            GroupOffset::Bits47To36 => 4,
+            GroupOffset::Bits46To35 => 3,
+            GroupOffset::Bits45To34 => 2,
+            GroupOffset::Bits43To32 => 0,
+        }
+    }
+}
+
+impl Rctl {
+    ghost use Rattle.registers.specs.ReceiveControl.{group_offset_of, buffer_size_of};
+
+    /// What a write of this word leaves in RCTL.
+    pub fn kept(value: u32) -> Rctl
+        ensures { result.0 ≡ bit_and value receive_control_mask }
+    {
+        Rctl::from_bits_truncate(value)
+    }
+
+    /// Whether EN is set: frames are received at all.
+    pub fn is_enabled(self) -> bool
+        ensures { IsTrue result ↔ HasBit self.0 1 }
+    {
+        self.contains(Rctl::EN)
+    }
+
+    /// Whether UPE is set: every individual address is accepted.
+    pub fn accepts_all_individuals(self) -> bool
+        ensures { IsTrue result ↔ HasBit self.0 3 }
+    {
+        self.contains(Rctl::UPE)
+    }
+
+    /// Whether MPE is set: every group address is accepted, broadcast among them.
+    pub fn accepts_all_groups(self) -> bool
+        ensures { IsTrue result ↔ HasBit self.0 4 }
+    {
+        self.contains(Rctl::MPE)
+    }
+
+    /// Whether BAM is set: the broadcast address is accepted.
+    pub fn accepts_broadcast(self) -> bool
+        ensures { IsTrue result ↔ HasBit self.0 15 }
+    {
+        self.contains(Rctl::BAM)
+    }
+
+    /// Whether VFE is set: tagged frames are asked for their VLAN.
+    pub fn filters_vlans(self) -> bool
+        ensures { IsTrue result ↔ HasBit self.0 18 }
+    {
+        self.contains(Rctl::VFE)
+    }
+
+    /// Whether BSEX is set, with which BSIZE would name larger buffers.
+    pub fn extends_buffer_size(self) -> bool
+        ensures { IsTrue result ↔ HasBit self.0 25 }
+    {
+        self.contains(Rctl::BSEX)
+    }
+
+    /// Which bits of a group address are its number, MO (bits 13:12).
+    pub fn group_offset(self) -> GroupOffset
+        ensures { result ≡ group_offset_of (field self.0 12 2) }
+    {
+        match two_bit_field(self.0, 12) {
+            0 => GroupOffset::Bits47To36,
+            1 => GroupOffset::Bits46To35,
+            2 => GroupOffset::Bits45To34,
+            _ => GroupOffset::Bits43To32,
+        }
+    }
+
+    /// The size of a receive buffer in bytes that BSIZE (bits 17:16) names while BSEX is clear.
+    pub fn buffer_size(self) -> u16
+        ensures { result ≡ buffer_size_of (field self.0 16 2) }
+    {
+        match two_bit_field(self.0, 16) {
+            0 => 2048,
+            1 => 1024,
+            2 => 512,
+            _ => 256,
+        }
+    }
+}

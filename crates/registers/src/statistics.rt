@@ -1,0 +1,64 @@
+// Statistics counters.
+
+ghost use Rattle.std.specs.Prelude.{◌≡◌, ◌+◌, ◌≤◌, min};
+ghost use Rattle.registers.specs.Counting.{greatest_count};
+
+use std::marker::Model;
+
+/// A statistics counter of 32 bits, as MPC, GPRC, GPTC and RNBC (13.7 "Statistics Registers"): it sticks at 0xFFFF_FFFF,
+/// and a read clears it.
+#[derive(Clone, Copy, PartialEq, Eq, Debug)]
+pub struct Counter {
+    count: u32,
+}
+
+impl Model for Counter {
+    ghost use Rattle.std.specs.Prelude.{ℕ};
+
+    ghost Value = { ℕ };
+
+    ghost view = { λ c. c.count };
+
+    ghost inverse = { λ n. record { count = n } };
+}
+
+impl Counter {
+    /// A counter at 0, as after a reset.
+    pub fn new() -> Counter
+        ensures { result ≡ 0 }
+    {
+        Counter::at(0)
+    }
+
+    /// A counter at this value.
+    pub fn at(count: u32) -> Counter
+        ensures { result ≡ count }
+    {
+        Counter { count }
+    }
+
+    /// Counts one more, up to 0xFFFF_FFFF.
+    pub fn bump(&mut self)
+        ensures { self.new ≡ min (self.old + 1) greatest_count }
+    {
+        *self = Counter::at(self.value().saturating_add(1));
+    }
+
+    /// A read of the register: answers the count, and clears it.
+    pub fn read(&mut self) -> u32
+        ensures answer { result ≡ self.old }
+        ensures cleared { self.new ≡ 0 }
+    {
+        let count = self.value();
+        *self = Counter::new();
+        count
+    }
+
+    /// The count, without clearing it.
+    pub fn value(&self) -> u32
+        ensures answer { result ≡ self.now }
+        ensures fits { self.now ≤ greatest_count }
+    {
+        self.count
+    }
+}
