@@ -1,0 +1,5 @@
+pub mod Addresses
+pub mod Laws
+pub mod Passing
+pub mod Registers
+pub mod Writing

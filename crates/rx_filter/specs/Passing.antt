@@ -1,0 +1,52 @@
+-- The receive filter (3.2.1 "Packet Address Filtering" and chapter 9, "802.1q VLAN Support"), in sets.
+use Rattle.std.specs.Prelude.{◌≡◌, ◌≢◌, ◌⊎◌, ℕ, List}
+use Rattle.rx_filter.specs.Addresses.{destination, IsGroup, IsIndividual, broadcast, group_number, ether_type, vlan_number}
+
+pub record ReceiveFilter : Type 1 where
+  -- the exact addresses, of 6 bytes
+  pub addresses : List ℕ → Type 0
+  -- the group numbers, each below 4,096
+  pub groups : ℕ → Type 0
+  -- by how many bits the last two bytes of an address are shifted for its group number
+  pub shift : ℕ
+  -- no frame is asked for its VLAN: there is no set of VLAN numbers
+  pub every_vlan : Type 0
+  -- else the VLAN numbers, each below 4,096
+  pub vlans : ℕ → Type 0
+  -- bytes 12 and 13 of a tagged frame
+  pub vlan_type : ℕ
+  -- every individual address is accepted
+  pub all_individuals : Type 0
+  -- every group address is accepted, broadcast among them
+  pub all_groups : Type 0
+  -- the broadcast address is accepted
+  pub broadcasts : Type 0
+
+-- an address that the filter accepts. The group table is asked for group addresses alone, the broadcast address among
+-- them (own)
+unfoldable pub AcceptsAddress : ReceiveFilter → List ℕ → Type 0
+AcceptsAddress filter address =
+    filter.addresses address
+    ⊎ ((IsGroup address × filter.groups (group_number filter.shift address))
+    ⊎ ((IsIndividual address × filter.all_individuals)
+    ⊎ ((IsGroup address × filter.all_groups)
+    ⊎ ((address ≡ broadcast) × filter.broadcasts))))
+
+-- what a filter accepts a group address by, other than as one of its exact addresses
+unfoldable pub AcceptsGroup : ReceiveFilter → List ℕ → Type 0
+AcceptsGroup filter address =
+    filter.all_groups
+    ⊎ (((address ≡ broadcast) × filter.broadcasts)
+    ⊎ filter.groups (group_number filter.shift address))
+
+-- a frame whose VLAN is accepted: frames without a tag aren't asked
+unfoldable pub AcceptsVlan : ReceiveFilter → List ℕ → Type 0
+AcceptsVlan filter frame =
+    filter.every_vlan
+    ⊎ ((ether_type frame ≢ filter.vlan_type)
+    ⊎ filter.vlans (vlan_number frame))
+
+-- a frame passes where its destination and its VLAN are accepted
+pub record Passes (filter : ReceiveFilter) (frame : List ℕ) : Type 0 where
+  pub address : AcceptsAddress filter (destination frame)
+  pub vlan : AcceptsVlan filter frame

@@ -1,0 +1,181 @@
+// The filter's registers, and which frames pass.
+
+ghost use Rattle.std.specs.Prelude.{◌≡◌, ◌<◌, ◌≤◌, ◌↔◌, IsTrue, bit_and, length, replicate, slice_index, slice_set};
+ghost use Rattle.rx_filter.specs.Addresses.{destination};
+ghost use Rattle.rx_filter.specs.Passing.{AcceptsAddress, AcceptsGroup, AcceptsVlan, Passes};
+ghost use Rattle.rx_filter.specs.Registers.{filter_of, address_high_mask};
+
+use crate::address::{
+    destination_of, ether_type_of, has_entry, hash_of, is_broadcast, is_group, vlan_number_of,
+};
+use crate::table::has_table_bit;
+use registers::Rctl;
+use std::marker::Model;
+
+/// How many exact addresses the filter has room for: the number of pairs RAL(n), RAH(n).
+pub const EXACT_ADDRESSES: usize = 16;
+
+/// How many words MTA and VFTA each have.
+pub const TABLE_WORDS: usize = 128;
+
+/// The bits of RAH that a write changes and a read shows: address bytes 4 and 5, and AV.
+const ADDRESS_HIGH_BITS: u32 = 0x8000_FFFF;
+
+/// The receive filter: its registers, and the frames that pass. It takes no memory.
+#[derive(Clone, PartialEq, Eq, Debug, Drop)]
+pub struct Filter {
+    ral: [u32; EXACT_ADDRESSES],
+    rah: [u32; EXACT_ADDRESSES],
+    mta: [u32; TABLE_WORDS],
+    vfta: [u32; TABLE_WORDS],
+    rctl: Rctl,
+    vet: u16,
+}
+
+impl Model for Filter {
+    ghost use Rattle.rx_filter.specs.Registers.{FilterRegisters};
+
+    ghost Value = { FilterRegisters };
+
+    ghost view = { λ f. record { ral = f.ral; rah = f.rah; mta = f.mta; vfta = f.vfta; rctl = f.rctl.0; vet = f.vet } };
+
+    ghost inverse = { λ v. record { ral = v.ral; rah = v.rah; mta = v.mta; vfta = v.vfta; rctl = record { 0 = v.rctl }; vet = v.vet } };
+}
+
+impl Filter {
+    /// A filter whose registers are all 0: no frame passes.
+    pub fn new() -> Filter
+        ensures { result ≡ record {
+          ral = replicate EXACT_ADDRESSES 0;
+          rah = replicate EXACT_ADDRESSES 0;
+          mta = replicate TABLE_WORDS 0;
+          vfta = replicate TABLE_WORDS 0;
+          rctl = 0;
+          vet = 0;
+        } }
+    {
+        Filter {
+            ral: [0; EXACT_ADDRESSES],
+            rah: [0; EXACT_ADDRESSES],
+            mta: [0; TABLE_WORDS],
+            vfta: [0; TABLE_WORDS],
+            rctl: Rctl(0),
+            vet: 0,
+        }
+    }
+
+    /// A write of RAL(n), address bytes 0 to 3 of entry `n` (13.5.2). `n` is below 16.
+    pub fn write_ral(&mut self, n: usize, value: u32)
+        requires { n < EXACT_ADDRESSES }
+        ensures { self.new ≡ record self.old { ral = slice_set self.old.ral n value } }
+    {
+        self.ral[n] = value;
+    }
+
+    /// A write of RAH(n), address bytes 4 and 5 of entry `n` in bits 15:0 and AV in bit 31 (13.5.3); the other bits
+    /// aren't kept. `n` is below 16.
+    pub fn write_rah(&mut self, n: usize, value: u32)
+        requires { n < EXACT_ADDRESSES }
+        ensures { self.new ≡ record self.old { rah = slice_set self.old.rah n (bit_and value address_high_mask) } }
+    {
+        self.rah[n] = value & ADDRESS_HIGH_BITS;
+    }
+
+    /// A write of word `i` of MTA, the group table (13.5.1). `i` is below 128.
+    pub fn write_mta(&mut self, i: usize, value: u32)
+        requires { i < TABLE_WORDS }
+        ensures { self.new ≡ record self.old { mta = slice_set self.old.mta i value } }
+    {
+        self.mta[i] = value;
+    }
+
+    /// A write of word `i` of VFTA, the VLAN table (13.5.4). `i` is below 128.
+    pub fn write_vfta(&mut self, i: usize, value: u32)
+        requires { i < TABLE_WORDS }
+        ensures { self.new ≡ record self.old { vfta = slice_set self.old.vfta i value } }
+    {
+        self.vfta[i] = value;
+    }
+
+    /// Tells the filter RCTL and VET as they now are.
+    pub fn mode(&mut self, rctl: u32, vet: u16)
+        ensures { self.new ≡ record self.old { rctl = rctl; vet = vet } }
+    {
+        self.rctl = Rctl(rctl);
+        self.vet = vet;
+    }
+
+    /// A read of RAL(n). `n` is below 16.
+    pub fn ral(&self, n: usize) -> u32
+        requires { n < EXACT_ADDRESSES }
+        ensures { result ≡ slice_index self.now.ral n }
+    {
+        self.ral[n]
+    }
+
+    /// A read of RAH(n). `n` is below 16.
+    pub fn rah(&self, n: usize) -> u32
+        requires { n < EXACT_ADDRESSES }
+        ensures { result ≡ slice_index self.now.rah n }
+    {
+        self.rah[n]
+    }
+
+    /// A read of word `i` of MTA. `i` is below 128.
+    pub fn mta(&self, i: usize) -> u32
+        requires { i < TABLE_WORDS }
+        ensures { result ≡ slice_index self.now.mta i }
+    {
+        self.mta[i]
+    }
+
+    /// A read of word `i` of VFTA. `i` is below 128.
+    pub fn vfta(&self, i: usize) -> u32
+        requires { i < TABLE_WORDS }
+        ensures { result ≡ slice_index self.now.vfta i }
+    {
+        self.vfta[i]
+    }
+
+    /// Whether a frame of at least 16 bytes passes: its destination and its VLAN are accepted (3.2.1 and chapter 9).
+    pub fn passes(&self, frame: &[u8]) -> bool
+        requires { 16 ≤ length frame.now }
+        ensures { IsTrue result ↔ Passes (filter_of self.now) frame.now }
+    {
+        self.accepts_address(&destination_of(frame)) && self.accepts_vlan(frame)
+    }
+
+    /// Whether a destination is accepted.
+    #[tactic(auto, unfolding(crate::specs::Registers::filter_of, crate::specs::Passing::AcceptsAddress, crate::specs::Passing::AcceptsGroup))]
+    fn accepts_address(&self, address: &[u8; 6]) -> bool
+        ensures { IsTrue result ↔ AcceptsAddress (filter_of self.now) address.now }
+    {
+        let accepted = if is_group(address) {
+            self.accepts_group(address)
+        } else {
+            self.rctl.accepts_all_individuals()
+        };
+        accepted || has_entry(&self.ral, &self.rah, address)
+    }
+
+    /// Whether a group address is accepted other than as an exact address.
+    #[tactic(auto, unfolding(crate::specs::Registers::filter_of, crate::specs::Passing::AcceptsGroup))]
+    fn accepts_group(&self, address: &[u8; 6]) -> bool
+        ensures { IsTrue result ↔ AcceptsGroup (filter_of self.now) address.now }
+    {
+        self.rctl.accepts_all_groups()
+            || self.rctl.accepts_broadcast() && is_broadcast(address)
+            || has_table_bit(&self.mta, hash_of(self.rctl.group_offset(), address))
+    }
+
+    /// Whether the VLAN of a frame is accepted.
+    #[tactic(auto, unfolding(crate::specs::Registers::filter_of, crate::specs::Passing::AcceptsVlan))]
+    fn accepts_vlan(&self, frame: &[u8]) -> bool
+        requires { 16 ≤ length frame.now }
+        ensures { IsTrue result ↔ AcceptsVlan (filter_of self.now) frame.now }
+    {
+        !self.rctl.filters_vlans()
+            || ether_type_of(frame) != self.vet
+            || has_table_bit(&self.vfta, vlan_number_of(frame))
+    }
+}

@@ -1,0 +1,16 @@
+//! The receive filter of the Intel 82540EM: exact addresses, the group table, and VLANs.
+//!
+//! Section numbers are those of Intel's "PCI/PCI-X Family of Gigabit Ethernet Controllers Software Developer's Manual".
+#![tactic(auto)]
+
+mod address;
+mod filter;
+mod laws;
+mod table;
+
+pub use address::hash_of;
+pub use filter::{EXACT_ADDRESSES, Filter, TABLE_WORDS};
+pub use laws::sets_of_registers;
+
+#[cfg(test)]
+mod tests;
