@@ -1,0 +1,42 @@
+-- EERD, the EEPROM read register (manual, 13.4.4), one step at a time.
+use Rattle.std.specs.Prelude.{ℕ, ◌+◌, ◌*◌, ◌/◌, ◌%◌, ◌==◌, Bool, true, false, List, if◌then◌else◌}
+use Rattle.eeprom.specs.declared.eerd.ReadState.{ReadState}
+use Rattle.eeprom.specs.declared.eerd.ReadState.TheVariants.{Idle, Pending, Done}
+use Rattle.eeprom.specs.Image.{word_at}
+
+-- START, bit 0 of what is written (13.4.4).
+abbrev pub has_start : ℕ → Bool
+has_start value = value % 2 == 1
+
+-- ADDR, bits 15:8 of what is written (13.4.4).
+abbrev pub addr : ℕ → ℕ
+addr value = value / 256 % 256
+
+-- A write with START begins a read, in place of one that is pending; one without it is ignored (own).
+abbrev pub after_write : ℕ → ReadState → ReadState
+after_write value state = if has_start value then Pending (addr value) else state
+
+-- A tick ends a pending read with the word of the image (own: how long a read takes).
+abbrev pub after_tick : List ℕ → ReadState → ReadState
+after_tick words Idle = Idle
+after_tick words (Pending address) = Done address (word_at words address)
+after_tick words (Done address word) = Done address word
+
+abbrev pub is_pending : ReadState → Bool
+is_pending Idle = false
+is_pending (Pending _) = true
+is_pending (Done _ _) = false
+
+-- While a read is pending the register shows its ADDR alone.
+abbrev pub shown_before : ℕ → ℕ
+shown_before address = address * 256
+
+-- When it has ended, it shows DATA in bits 31:16, ADDR in bits 15:8, and DONE, bit 4 (13.4.4).
+abbrev pub shown_after : ℕ → ℕ → ℕ
+shown_after address word = word * 65536 + address * 256 + 16
+
+-- What the register reads; START reads 0, and a new one reads 0 (own).
+abbrev pub shown : ReadState → ℕ
+shown Idle = 0
+shown (Pending address) = shown_before address
+shown (Done address word) = shown_after address word

@@ -1,0 +1,74 @@
+-- The law of EERD's history, and the lemmas that lead to it, for proofs of the crates above too.
+use Rattle.std.proofs.Common.{◌≡◌, ℕ, Bool, true, false, List, [], ◌∷◌, ◌++◌, refl, ap, ◌∙◌, ◌||◌}
+use Rattle.std.specs.List.{list_any}
+use Rattle.std.proofs.lemmas.Bool.{false≢true, true≢false}
+use Rattle.eeprom.specs.declared.eerd.ReadState.{ReadState}
+use Rattle.eeprom.specs.declared.eerd.ReadState.TheVariants.{Idle, Pending, Done}
+use Rattle.eeprom.specs.Image.{word_at}
+use Rattle.eeprom.specs.Eerd.{has_start, addr, after_write, shown}
+use Rattle.eeprom.specs.History.{Operation, Write, Tick, after_operation, after_all, is_start, NoStart, NoTick, HasTick, AnswersByHistory}
+
+-- one list of operations behind another
+pub after_all-append : (words : List ℕ) (before after : List Operation) (state : ReadState)
+    → after_all words (before ++ after) state ≡ after_all words after (after_all words before state)
+after_all-append words [] after state = refl
+after_all-append words (operation ∷ before) after state = after_all-append words before after (after_operation words operation state)
+
+-- neither of two tests that fail together passes
+both_false : (a b : Bool) → (a || b) ≡ false → (a ≡ false) × (b ≡ false)
+both_false false b fails = (refl, fails)
+both_false true b fails = (fails, absurd (true≢false fails))
+
+-- a write without START leaves the register as it is
+pub after_write-no_start : (value : ℕ) (state : ReadState) → has_start value ≡ false → after_write value state ≡ state
+after_write-no_start value state none = rw none refl
+
+-- a write with START begins a read
+pub after_write-start : (value : ℕ) (state : ReadState) → has_start value ≡ true → after_write value state ≡ Pending (addr value)
+after_write-start value state starts = rw starts refl
+
+-- without a write with START, a register that was not asked stays so
+pub stays_idle : (words : List ℕ) (all : List Operation) → NoStart all → after_all words all Idle ≡ Idle
+stays_idle words [] none = refl
+stays_idle words (Write value ∷ all) none =
+    let parts = both_false (has_start value) (list_any is_start all) none in
+    ap (after_all words all) (after_write-no_start value Idle parts.0) ∙ stays_idle words all parts.1
+stays_idle words (Tick ∷ all) none = stays_idle words all none
+
+-- and one that has read keeps what it read
+pub stays_done : (words : List ℕ) (all : List Operation) (address word : ℕ) → NoStart all → after_all words all (Done address word) ≡ Done address word
+stays_done words [] address word none = refl
+stays_done words (Write value ∷ all) address word none =
+    let parts = both_false (has_start value) (list_any is_start all) none in
+    ap (after_all words all) (after_write-no_start value (Done address word) parts.0) ∙ stays_done words all address word parts.1
+stays_done words (Tick ∷ all) address word none = stays_done words all address word none
+
+-- a read that is pending goes on without a tick
+pub stays_pending : (words : List ℕ) (all : List Operation) (address : ℕ) → NoStart all → NoTick all → after_all words all (Pending address) ≡ Pending address
+stays_pending words [] address none still = refl
+stays_pending words (Write value ∷ all) address none still =
+    let parts = both_false (has_start value) (list_any is_start all) none in
+    ap (after_all words all) (after_write-no_start value (Pending address) parts.0) ∙ stays_pending words all address parts.1 still
+stays_pending words (Tick ∷ all) address none still = absurd (true≢false still)
+
+-- and the first tick ends it
+pub ends_pending : (words : List ℕ) (all : List Operation) (address : ℕ) → NoStart all → HasTick all → after_all words all (Pending address) ≡ Done address (word_at words address)
+ends_pending words [] address none ticks = absurd (false≢true ticks)
+ends_pending words (Write value ∷ all) address none ticks =
+    let parts = both_false (has_start value) (list_any is_start all) none in
+    ap (after_all words all) (after_write-no_start value (Pending address) parts.0) ∙ ends_pending words all address parts.1 ticks
+ends_pending words (Tick ∷ all) address none ticks = stays_done words all address (word_at words address) none
+
+-- the register behind a write with START and what came after it
+pub after_all-start : (words : List ℕ) (before : List Operation) (value : ℕ) (after : List Operation) → has_start value ≡ true
+    → after_all words (before ++ Write value ∷ after) Idle ≡ after_all words after (Pending (addr value))
+after_all-start words before value after starts =
+    after_all-append words before (Write value ∷ after) Idle
+    ∙ ap (after_all words after) (after_write-start value (after_all words before Idle) starts)
+
+pub by_history : AnswersByHistory
+by_history = record {
+  never_asked = λ words all none. ap shown (stays_idle words all none);
+  no_tick_yet = λ words before value after starts none still. ap shown (after_all-start words before value after starts ∙ stays_pending words after (addr value) none still);
+  ticked = λ words before value after starts none ticks. ap shown (after_all-start words before value after starts ∙ ends_pending words after (addr value) none ticks);
+}

@@ -1,0 +1,4 @@
+pub mod Image
+pub mod Eerd
+pub mod History
+pub mod Laws

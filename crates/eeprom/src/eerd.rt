@@ -1,0 +1,109 @@
+ghost use Rattle.std.specs.Prelude.{◌≡◌, false};
+ghost use Rattle.eeprom.specs.declared.eerd.ReadState.TheVariants.{Idle};
+
+use crate::Image;
+use std::marker::Model;
+
+/// START, bit 0: a write with it begins a read.
+const START: u32 = 1 << 0;
+
+/// DONE, bit 4: the read has ended.
+const DONE: u32 = 1 << 4;
+
+/// The lowest bit of ADDR, bits 15:8.
+const ADDR_SHIFT: u32 = 8;
+
+/// The lowest bit of DATA, bits 31:16.
+const DATA_SHIFT: u32 = 16;
+
+/// How far the read stands that EERD was asked for.
+#[derive(Clone, Copy, Debug, PartialEq, Eq)]
+pub enum ReadState {
+    /// None was asked for.
+    Idle,
+    /// The word at this address is being read.
+    Pending(u8),
+    /// The word at this address was read.
+    Done(u8, u16),
+}
+
+/// EERD, the EEPROM read register (manual, 13.4.4).
+///
+/// START is bit 0, DONE bit 4, ADDR bits 15:8 and DATA bits 31:16. A contract sees the register
+/// as its [`ReadState`].
+#[derive(Clone, Copy, Debug, PartialEq, Eq)]
+pub struct Eerd {
+    state: ReadState,
+}
+
+impl Model for Eerd {
+    ghost use Rattle.eeprom.specs.declared.eerd.ReadState.{ReadState};
+
+    ghost Value = { ReadState };
+
+    ghost view = { λ eerd. eerd.state };
+
+    ghost inverse = { λ state. record { state = state } };
+}
+
+impl Eerd {
+    ghost use Rattle.eeprom.specs.declared.eerd.ReadState.TheVariants.{Idle};
+    ghost use Rattle.eeprom.specs.Eerd.{after_tick, after_write, is_pending, shown};
+
+    /// A register that was not asked for anything: it reads 0.
+    pub fn new() -> Self
+        ensures { result ≡ Idle }
+    {
+        Eerd {
+            state: ReadState::Idle,
+        }
+    }
+
+    /// A write with START begins a read of the word at ADDR, in place of one that is pending.
+    /// A write without START is ignored (both own).
+    pub fn write(&mut self, value: u32)
+        ensures { self.new ≡ after_write value self.old }
+    {
+        if value & START != 0 {
+            let [_, address, _, _] = value.to_le_bytes();
+            self.state = ReadState::Pending(address);
+        }
+    }
+
+    /// What the register reads: 0 where nothing was asked for, ADDR alone while a read is
+    /// pending, and DATA, ADDR and DONE once it has ended. START reads 0 (own).
+    #[tactic(auto, using(crate::proofs::Fields::or_fields))]
+    pub fn read(&self) -> u32
+        ensures { result ≡ shown self.now }
+    {
+        match self.state {
+            ReadState::Idle => 0,
+            ReadState::Pending(address) => u32::from(address) << ADDR_SHIFT,
+            ReadState::Done(address, word) => {
+                u32::from(word) << DATA_SHIFT | u32::from(address) << ADDR_SHIFT | DONE
+            }
+        }
+    }
+
+    /// Ends a pending read with its word of the image. Answers whether there was one; if not,
+    /// nothing changes.
+    pub fn tick(&mut self, image: &Image) -> bool
+        ensures state { self.new ≡ after_tick image.now self.old }
+        ensures ended { result ≡ is_pending self.old }
+        ensures nothing { result ≡ false → self.new ≡ self.old }
+    {
+        let ReadState::Pending(address) = self.state else {
+            return false;
+        };
+        self.state = ReadState::Done(address, image.word(address));
+        true
+    }
+}
+
+impl Default for Eerd {
+    ghost is_default = { λ eerd. eerd ≡ Idle };
+
+    fn default() -> Self {
+        Eerd::new()
+    }
+}
