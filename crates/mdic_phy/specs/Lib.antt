@@ -1,0 +1,8 @@
+pub mod Bits
+pub mod Phy
+pub mod Mdic
+pub mod PhyHistory
+pub mod MdicHistory
+pub mod WriteLaws
+pub mod PhyLaws
+pub mod MdicLaws

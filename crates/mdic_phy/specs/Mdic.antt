@@ -1,0 +1,100 @@
+-- MDIC, the MDI control register (manual, 13.4.7), one step at a time.
+use Rattle.std.specs.Prelude.{ℕ, ◌+◌, ◌*◌, ◌/◌, ◌%◌, ◌^◌, ◌==◌, ◌&&◌, ◌||◌, Bool, Option, Some, None, is_some, if◌then◌else◌}
+use Rattle.std.specs.Int.RustNames.{bit_and, bit_or}
+use Rattle.mdic_phy.specs.declared.mdic.Operation.{Operation}
+use Rattle.mdic_phy.specs.declared.mdic.Operation.TheVariants.{Write, Read}
+use Rattle.mdic_phy.specs.declared.mdic.Ticked.{Ticked}
+use Rattle.mdic_phy.specs.Bits.{is_set}
+use Rattle.mdic_phy.specs.Phy.{PhyState}
+use Rattle.mdic_phy.specs.Phy as phy
+
+-- The register's number, and the command that is pending.
+pub record MdicState : Type 0 where
+  pub value : ℕ
+  pub pending : Option Operation
+
+-- A register without a command reads 0 (own).
+abbrev pub new_mdic : MdicState
+new_mdic = record { value = 0; pending = None }
+
+-- The fields of the register: DATA 15:0, REGADD 20:16, PHYADD 25:21, OP 27:26 (13.4.7).
+abbrev pub data_of : ℕ → ℕ
+data_of value = value % 2 ^ 16
+
+abbrev pub regadd : ℕ → ℕ
+regadd value = value / 2 ^ 16 % 2 ^ 5
+
+abbrev pub phyadd : ℕ → ℕ
+phyadd value = value / 2 ^ 21 % 2 ^ 5
+
+abbrev pub op : ℕ → ℕ
+op value = value / 2 ^ 26 % 2 ^ 2
+
+-- OP 01 is a write, 10 a read (13.4.7); 00 and 11 begin no command (own).
+abbrev pub operation_of : ℕ → Option Operation
+operation_of value = if op value == 1 then Some Write else (if op value == 2 then Some Read else None)
+
+-- What a write keeps: all but R (28), E (30) and bit 31.
+abbrev pub kept : ℕ → ℕ
+kept value = bit_and value 0x2FFF_FFFF
+
+-- A write begins the command of its OP; one that was pending is dropped (own).
+abbrev pub after_write : ℕ → MdicState
+after_write value = record { value = kept value; pending = operation_of value }
+
+-- The number with R, bit 28, set.
+abbrev pub with_ready : ℕ → ℕ
+with_ready value = bit_or value 0x1000_0000
+
+-- The number with R and E, bits 28 and 30, set.
+abbrev pub with_error : ℕ → ℕ
+with_error value = bit_or (with_ready value) 0x4000_0000
+
+-- The number with other DATA.
+abbrev pub with_data : ℕ → ℕ → ℕ
+with_data word value = value / 2 ^ 16 * 2 ^ 16 + word
+
+-- The PHY has address 1 (manual, "MDI Control Register").
+abbrev pub reaches_phy : ℕ → Bool
+reaches_phy value = phyadd value == 1
+
+-- The number when a command has ended, at a PHY that stands so. Another PHY doesn't answer: E is set and DATA stays (own).
+abbrev pub ended_value : Operation → PhyState → ℕ → ℕ
+ended_value Write state value = if reaches_phy value then with_ready value else with_error value
+ended_value Read state value = if reaches_phy value then with_ready (with_data (phy.read_value (regadd value) state) value) else with_error value
+
+-- What the command does to the PHY.
+abbrev pub ended_phy : Operation → ℕ → PhyState → PhyState
+ended_phy Write value state = if reaches_phy value then phy.after_write (regadd value) (data_of value) state else state
+ended_phy Read value state = if reaches_phy value then phy.after_read (regadd value) state else state
+
+-- A pending command ends; without one nothing changes. The PHY's own tick comes first.
+abbrev pub ended : Option Operation → ℕ → PhyState → ℕ
+ended None value state = value
+ended (Some operation) value state = ended_value operation state value
+
+abbrev pub phy_ended : Option Operation → ℕ → PhyState → PhyState
+phy_ended None value state = state
+phy_ended (Some operation) value state = ended_phy operation value state
+
+-- The register and the PHY behind a tick: the PHY's count first, then the command.
+abbrev pub mdic_after_tick : MdicState → PhyState → MdicState
+mdic_after_tick mdic state = record { value = ended mdic.pending mdic.value (phy.after_tick state); pending = None }
+
+abbrev pub phy_after_tick : MdicState → PhyState → PhyState
+phy_after_tick mdic state = phy_ended mdic.pending mdic.value (phy.after_tick state)
+
+-- A tick has something to do where a count runs or a command is pending.
+abbrev pub has_work : MdicState → PhyState → Bool
+has_work mdic state = phy.is_counting state || is_some mdic.pending
+
+-- Where the command's I is set, its end is told, as the cause MDAC (13.4.7).
+abbrev pub tells_end : MdicState → Bool
+tells_end mdic = is_some mdic.pending && is_set mdic.value 29
+
+-- What a tick gives the adapter to record: the cause LSC where the link comes up, and the cause MDAC.
+abbrev pub told : MdicState → PhyState → Option Ticked
+told mdic state =
+    if has_work mdic state
+    then Some (record { link_changed = phy.comes_up state; access_complete = tells_end mdic })
+    else None

@@ -1,0 +1,110 @@
+-- What MDIC reads, and what comes to the PHY, said of the list of all writes and ticks since the register was new.
+use Rattle.std.specs.Prelude.{◌≡◌, ◌≢◌, ℕ, Bool, true, false, List, [], ◌∷◌, ◌++◌, Option, Some, None, if◌then◌else◌}
+use Rattle.std.specs.List.{list_any}
+use Rattle.mdic_phy.specs.declared.mdic.Operation.{Operation}
+use Rattle.mdic_phy.specs.declared.mdic.Operation.TheVariants as operation
+use Rattle.mdic_phy.specs.declared.mdic.Ticked.{Ticked}
+use Rattle.mdic_phy.specs.Bits.{is_set}
+use Rattle.mdic_phy.specs.Phy.{PhyState, read_value, comes_up, is_counting}
+use Rattle.mdic_phy.specs.Mdic.{MdicState, new_mdic, after_write, mdic_after_tick, phy_after_tick, kept, with_ready, with_error, with_data, data_of, regadd, phyadd, operation_of, reaches_phy, told}
+use Rattle.mdic_phy.specs.PhyHistory.{PhyEvent, after_events}
+use Rattle.mdic_phy.specs.PhyHistory as phy
+
+-- What may come to the register: a write of a value, or a tick of the PHY. A read changes nothing.
+pub data MdicEvent : Type 0 where
+  Write : ℕ → MdicEvent
+  Tick : MdicEvent
+
+-- The register and its PHY.
+pub record MdicAndPhy : Type 0 where
+  pub mdic : MdicState
+  pub phy : PhyState
+
+abbrev pub after_mdic_event : MdicEvent → MdicAndPhy → MdicAndPhy
+after_mdic_event (Write value) both = record { mdic = after_write value; phy = both.phy }
+after_mdic_event Tick both = record { mdic = mdic_after_tick both.mdic both.phy; phy = phy_after_tick both.mdic both.phy }
+
+-- The two behind a list of events, the oldest first, by the steps of the calls.
+abbrev pub after_mdic_events : List MdicEvent → MdicAndPhy → MdicAndPhy
+after_mdic_events [] both = both
+after_mdic_events (event ∷ later) both = after_mdic_events later (after_mdic_event event both)
+
+-- A register that was new, and a PHY that stood so, behind a list of events.
+abbrev pub both_behind : PhyState → List MdicEvent → MdicAndPhy
+both_behind state events = after_mdic_events events (record { mdic = new_mdic; phy = state })
+
+-- What a command does at the PHY: its read or its write, if it is for address 1 (manual, 13.4.7).
+abbrev pub access_of : Option Operation → ℕ → List PhyEvent
+access_of None value = []
+access_of (Some operation.Write) value = if reaches_phy value then phy.Write (regadd value) (data_of value) ∷ [] else []
+access_of (Some operation.Read) value = if reaches_phy value then phy.Read (regadd value) ∷ [] else []
+
+-- What comes to the PHY: each tick, and behind it the access of the write that stands right before that tick. A
+-- write with another one behind it, or with no tick yet, comes to nothing.
+abbrev pub accesses : List MdicEvent → List PhyEvent
+accesses [] = []
+accesses (Tick ∷ later) = phy.Tick ∷ accesses later
+accesses (Write value ∷ []) = []
+accesses (Write value ∷ Tick ∷ later) = phy.Tick ∷ (access_of (operation_of value) value ++ accesses later)
+accesses (Write value ∷ Write next ∷ later) = accesses (Write next ∷ later)
+
+abbrev pub AccessesByHistory : Type 0
+AccessesByHistory = (state : PhyState) (all : List MdicEvent) → (both_behind state all).phy ≡ after_events (accesses all) state
+
+abbrev pub is_write : MdicEvent → Bool
+is_write (Write value) = true
+is_write Tick = false
+
+-- Among these events there is no write.
+abbrev pub NoWrite : List MdicEvent → Type 0
+NoWrite events = list_any is_write events ≡ false
+
+-- What MDIC reads behind a list of events.
+abbrev pub mdic_reads : PhyState → List MdicEvent → ℕ
+mdic_reads state events = (both_behind state events).mdic.value
+
+-- The PHY behind a list of events of MDIC and one more tick.
+abbrev pub ticked_phy : PhyState → List MdicEvent → PhyState
+ticked_phy state events = after_events (accesses events ++ phy.Tick ∷ []) state
+
+-- What a tick gives the adapter to record, behind a list of events.
+abbrev pub told_behind : PhyState → List MdicEvent → Option Ticked
+told_behind state events = told (both_behind state events).mdic (both_behind state events).phy
+
+-- The PHY behind a list of events of MDIC.
+abbrev pub phy_of : PhyState → List MdicEvent → PhyState
+phy_of state events = after_events (accesses events) state
+
+-- What a tick tells where no command was written right before it: that the link came up, or nothing where no count ran.
+abbrev pub told_of_link : PhyState → Option Ticked
+told_of_link phy = if is_counting phy then Some (record { link_changed = comes_up phy; access_complete = false }) else None
+
+-- A tick tells that the link came up (the cause LSC), and that a command ended whose I is set (the cause MDAC; manual,
+-- 13.4.7): the command of the write right before that tick, and no other.
+pub record ToldByHistory : Type 0 where
+  pub first : (state : PhyState) → told_behind state [] ≡ told_of_link state
+  pub ticked : (state : PhyState) (before : List MdicEvent) → told_behind state (before ++ Tick ∷ []) ≡ told_of_link (phy_of state (before ++ Tick ∷ []))
+  pub no_command : (state : PhyState) (before : List MdicEvent) (value : ℕ) → operation_of value ≡ None
+      → told_behind state (before ++ Write value ∷ []) ≡ told_of_link (phy_of state (before ++ Write value ∷ []))
+  pub command : (state : PhyState) (before : List MdicEvent) (value : ℕ) (asked : Operation) → operation_of value ≡ Some asked
+      → told_behind state (before ++ Write value ∷ []) ≡ Some (record { link_changed = comes_up (phy_of state (before ++ Write value ∷ [])); access_complete = is_set value 29 })
+
+-- What MDIC reads follows from the last write, from whether a tick came behind it, and from what the PHY's register
+-- was at that tick (manual, 13.4.7). Commands of writes before the last have no part in it.
+pub record MdicByHistory : Type 0 where
+  -- Without a write it reads 0.
+  pub never_written : (state : PhyState) (all : List MdicEvent) → NoWrite all → mdic_reads state all ≡ 0
+  -- Until a tick it reads what was last written, without R, E and bit 31;
+  pub no_tick_yet : (state : PhyState) (before : List MdicEvent) (value : ℕ) → mdic_reads state (before ++ Write value ∷ []) ≡ kept value
+  -- and so it stays where OP is 00 or 11.
+  pub no_command : (state : PhyState) (before : List MdicEvent) (value : ℕ) (after : List MdicEvent) → operation_of value ≡ None → NoWrite after
+      → mdic_reads state (before ++ Write value ∷ after) ≡ kept value
+  -- Behind a tick, a write command has R set;
+  pub written : (state : PhyState) (before : List MdicEvent) (value : ℕ) (after : List MdicEvent) → operation_of value ≡ Some operation.Write → phyadd value ≡ 1 → NoWrite after
+      → mdic_reads state (before ++ Write value ∷ Tick ∷ after) ≡ with_ready (kept value)
+  -- a read command also has the register of the PHY in DATA, as it was at that tick;
+  pub read : (state : PhyState) (before : List MdicEvent) (value : ℕ) (after : List MdicEvent) → operation_of value ≡ Some operation.Read → phyadd value ≡ 1 → NoWrite after
+      → mdic_reads state (before ++ Write value ∷ Tick ∷ after) ≡ with_ready (with_data (read_value (regadd value) (ticked_phy state before)) (kept value))
+  -- and a command for another PHY has R and E set, and its DATA.
+  pub not_there : (state : PhyState) (before : List MdicEvent) (value : ℕ) (asked : Operation) (after : List MdicEvent) → operation_of value ≡ Some asked → phyadd value ≢ 1 → NoWrite after
+      → mdic_reads state (before ++ Write value ∷ Tick ∷ after) ≡ with_error (kept value)

@@ -1,0 +1,92 @@
+-- A PHY with the registers of IEEE 802.3, clause 22, as far as link up, one step at a time.
+use Rattle.std.specs.Prelude.{ℕ, ◌-◌, ◌==◌, ◌&&◌, Bool, true, false, nat_le, not, if◌then◌else◌}
+use Rattle.mdic_phy.specs.declared.phy.Link.{Link}
+use Rattle.mdic_phy.specs.declared.phy.Link.TheVariants.{After, Never}
+use Rattle.mdic_phy.specs.declared.phy.Negotiation.{Negotiation}
+use Rattle.mdic_phy.specs.declared.phy.Negotiation.TheVariants.{NotStarted, Running, Complete}
+use Rattle.mdic_phy.specs.Bits.{is_set}
+
+-- What a PHY knows: when its link comes up, whether negotiation is enabled (register 0, bit 12), how far
+-- negotiation stands, and whether the link status (register 1, bit 2) is latched low.
+pub record PhyState : Type 0 where
+  pub link : Link
+  pub negotiation_enabled : Bool
+  pub negotiation : Negotiation
+  pub latched_low : Bool
+
+-- A PHY that is new or reset has no link, its negotiation is enabled but not started, and the link status is
+-- latched low (own: a PHY of clause 22 would begin negotiation by itself).
+abbrev pub new_phy : Link → PhyState
+new_phy link = record { link = link; negotiation_enabled = true; negotiation = NotStarted; latched_low = true }
+
+abbrev pub is_complete : Negotiation → Bool
+is_complete NotStarted = false
+is_complete (Running left) = false
+is_complete Complete = true
+
+-- The link is up exactly where negotiation is complete (own).
+abbrev pub link_is_up : PhyState → Bool
+link_is_up phy = is_complete phy.negotiation
+
+-- A negotiation that is started ends after the ticks of the setting, or never (own).
+abbrev pub negotiation_of : Link → Negotiation
+negotiation_of (After ticks) = Running ticks
+negotiation_of Never = NotStarted
+
+-- Negotiation starts anew: the link goes down, and its status is latched low (22.2.4.1, "Restart Auto-Negotiation"; 22.2.4.2, "Link Status").
+abbrev pub restarted : PhyState → PhyState
+restarted phy = record phy { negotiation = negotiation_of phy.link; latched_low = true }
+
+-- A write of register 0 (22.2.4.1): bit 15 resets the PHY, and nothing else happens (own); else bit 12 is kept,
+-- and with it bit 9 starts negotiation anew; bit 9 without bit 12 does nothing.
+abbrev pub after_control : ℕ → PhyState → PhyState
+after_control value phy =
+    if is_set value 15 then new_phy phy.link else
+    (let kept : PhyState = record phy { negotiation_enabled = is_set value 12 } in
+    if is_set value 12 && is_set value 9 then restarted kept else kept)
+
+-- All registers but 0 ignore a write (own).
+abbrev pub after_write : ℕ → ℕ → PhyState → PhyState
+after_write register value phy = if register == 0 then after_control value phy else phy
+
+-- Register 0 reads its bit 12; the others read 0 (own).
+abbrev pub control_value : PhyState → ℕ
+control_value phy = if phy.negotiation_enabled then 0x1000 else 0
+
+-- Register 1 (22.2.4.2): bit 5 where negotiation is complete, bit 2 where the link is up and its status isn't
+-- latched low; the others read 0 (own).
+abbrev pub status_value : PhyState → ℕ
+status_value phy = if link_is_up phy then (if phy.latched_low then 0x20 else 0x24) else 0
+
+-- What a register reads: control, status, the two identifiers (22.2.4.3), and 0 (own).
+abbrev pub read_value : ℕ → PhyState → ℕ
+read_value register phy =
+    if register == 0 then control_value phy else
+    (if register == 1 then status_value phy else
+    (if register == 2 then 0x0141 else
+    (if register == 3 then 0x0C20 else 0)))
+
+-- A read of register 1 clears the latch, also where the link is down (22.2.4.2, "Link Status").
+abbrev pub after_read : ℕ → PhyState → PhyState
+after_read register phy = if register == 1 then record phy { latched_low = false } else phy
+
+abbrev pub is_running : Negotiation → Bool
+is_running NotStarted = false
+is_running (Running left) = true
+is_running Complete = false
+
+abbrev pub is_counting : PhyState → Bool
+is_counting phy = is_running phy.negotiation
+
+-- A tick lowers a running count; at 0 negotiation is complete (own: how long it takes).
+abbrev pub counted : Negotiation → Negotiation
+counted NotStarted = NotStarted
+counted (Running left) = if nat_le left 1 then Complete else Running (left - 1)
+counted Complete = Complete
+
+abbrev pub after_tick : PhyState → PhyState
+after_tick phy = record phy { negotiation = counted phy.negotiation }
+
+-- A tick brings the link up, where it was down.
+abbrev pub comes_up : PhyState → Bool
+comes_up phy = link_is_up (after_tick phy) && not (link_is_up phy)

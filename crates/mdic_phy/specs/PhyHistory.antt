@@ -1,0 +1,107 @@
+-- What a PHY shows, said of the list of all that came to it since it was new.
+use Rattle.std.specs.Prelude.{◌≡◌, ℕ, ◌≤◌, ◌==◌, ◌&&◌, ◌||◌, Bool, true, false, not, List, [], ◌∷◌, ◌++◌, count_by, nat_le, IsTrue, if◌then◌else◌}
+use Rattle.std.specs.List.{list_any}
+use Rattle.mdic_phy.specs.declared.phy.Link.{Link}
+use Rattle.mdic_phy.specs.declared.phy.Link.TheVariants.{After, Never}
+use Rattle.mdic_phy.specs.Bits.{is_set}
+use Rattle.mdic_phy.specs.Phy.{PhyState, new_phy, after_write, after_read, after_tick, read_value, link_is_up}
+
+-- What may come to a PHY: a tick, a read of a register, a write of a value to a register.
+pub data PhyEvent : Type 0 where
+  Tick : PhyEvent
+  Read : ℕ → PhyEvent
+  Write : ℕ → ℕ → PhyEvent
+
+abbrev pub after_event : PhyEvent → PhyState → PhyState
+after_event Tick phy = after_tick phy
+after_event (Read register) phy = after_read register phy
+after_event (Write register value) phy = after_write register value phy
+
+-- The PHY behind a list of events, the oldest first, by the steps of the calls.
+abbrev pub after_events : List PhyEvent → PhyState → PhyState
+after_events [] phy = phy
+after_events (event ∷ later) phy = after_events later (after_event event phy)
+
+-- A PHY that was new, behind a list of events.
+abbrev pub phy_behind : Link → List PhyEvent → PhyState
+phy_behind link events = after_events events (new_phy link)
+
+abbrev pub is_tick : PhyEvent → Bool
+is_tick Tick = true
+is_tick (Read register) = false
+is_tick (Write register value) = false
+
+abbrev pub is_status_read : PhyEvent → Bool
+is_status_read Tick = false
+is_status_read (Read register) = register == 1
+is_status_read (Write register value) = false
+
+abbrev pub is_control_write : PhyEvent → Bool
+is_control_write Tick = false
+is_control_write (Read register) = false
+is_control_write (Write register value) = register == 0
+
+-- Register 0 is written with bit 15 (IEEE 802.3, 22.2.4.1, "Reset").
+abbrev pub is_reset : PhyEvent → Bool
+is_reset Tick = false
+is_reset (Read register) = false
+is_reset (Write register value) = register == 0 && is_set value 15
+
+-- Register 0 is written with bits 12 and 9, and without bit 15 (22.2.4.1, "Restart Auto-Negotiation").
+abbrev pub is_restart : PhyEvent → Bool
+is_restart Tick = false
+is_restart (Read register) = false
+is_restart (Write register value) = register == 0 && (not (is_set value 15) && (is_set value 12 && is_set value 9))
+
+-- A reset or a restart: whatever takes the link down.
+abbrev pub takes_down : PhyEvent → Bool
+takes_down event = is_reset event || is_restart event
+
+-- No event of the list passes the test.
+abbrev pub HasNo : (PhyEvent → Bool) → List PhyEvent → Type 0
+HasNo test events = list_any test events ≡ false
+
+-- The link is up exactly where at least d ticks came since the write that last started negotiation, with no reset behind it.
+pub record LinkByHistory : Type 0 where
+  -- It is down where negotiation was never started,
+  pub never_started : (link : Link) (all : List PhyEvent) → HasNo is_restart all → link_is_up (phy_behind link all) ≡ false
+  -- and where it wasn't started since a reset;
+  pub reset : (link : Link) (before : List PhyEvent) (event : PhyEvent) (after : List PhyEvent) → IsTrue (is_reset event) → HasNo is_restart after
+      → link_is_up (phy_behind link (before ++ event ∷ after)) ≡ false
+  -- from the last start on, if no reset came behind it, it is up once there were d ticks;
+  pub started : (d : ℕ) (before : List PhyEvent) (event : PhyEvent) (after : List PhyEvent) → 1 ≤ d → IsTrue (is_restart event) → HasNo takes_down after
+      → link_is_up (phy_behind (After d) (before ++ event ∷ after)) ≡ nat_le d (count_by is_tick after)
+  -- and a link that never comes up is down.
+  pub never : (all : List PhyEvent) → link_is_up (phy_behind Never all) ≡ false
+
+-- What the status register reads behind a list of events.
+abbrev pub status_behind : Link → List PhyEvent → ℕ
+status_behind link events = read_value 1 (phy_behind link events)
+
+-- The value where the link is up, and 0 where it is down.
+abbrev pub where_up : Link → List PhyEvent → ℕ → ℕ
+where_up link events value = if link_is_up (phy_behind link events) then value else 0
+
+-- A read of the status register has bit 2 exactly where the link is up and hasn't been taken down since the read before it
+-- (22.2.4.2, "Link Status": latched low until read); and bit 5 exactly where the link is up.
+pub record LatchByHistory : Type 0 where
+  -- The first read has no bit 2.
+  pub never_read : (link : Link) (all : List PhyEvent) → HasNo is_status_read all → status_behind link all ≡ where_up link all 0x20
+  -- A read has no bit 2 where a reset or a restart came and no read behind it.
+  pub taken_down : (link : Link) (before : List PhyEvent) (event : PhyEvent) (after : List PhyEvent) → IsTrue (takes_down event) → HasNo is_status_read after
+      → status_behind link (before ++ event ∷ after) ≡ where_up link (before ++ event ∷ after) 0x20
+  -- A read has bit 2, where the link is up, if a read came before it and neither a reset nor a restart behind that.
+  pub stayed : (link : Link) (before : List PhyEvent) (event : PhyEvent) (after : List PhyEvent) → IsTrue (is_status_read event) → HasNo takes_down after
+      → status_behind link (before ++ event ∷ after) ≡ where_up link (before ++ event ∷ after) 0x24
+
+-- What the control register reads behind a list of events.
+abbrev pub control_behind : Link → List PhyEvent → ℕ
+control_behind link events = read_value 0 (phy_behind link events)
+
+-- The control register reads bit 12 of what was last written to it, or 1000h where that was a reset or nothing.
+pub record ControlByHistory : Type 0 where
+  pub never_written : (link : Link) (all : List PhyEvent) → HasNo is_control_write all → control_behind link all ≡ 0x1000
+  pub reset : (link : Link) (before : List PhyEvent) (value : ℕ) (after : List PhyEvent) → is_set value 15 ≡ true → HasNo is_control_write after
+      → control_behind link (before ++ Write 0 value ∷ after) ≡ 0x1000
+  pub kept : (link : Link) (before : List PhyEvent) (value : ℕ) (after : List PhyEvent) → is_set value 15 ≡ false → HasNo is_control_write after
+      → control_behind link (before ++ Write 0 value ∷ after) ≡ (if is_set value 12 then 0x1000 else 0)

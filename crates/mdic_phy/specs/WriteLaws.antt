@@ -1,0 +1,103 @@
+-- One write of the PHY, by the four tests that it depends on.
+use Rattle.std.proofs.Common.{◌≡◌, ℕ, ◌==◌, ◌&&◌, ◌||◌, Bool, true, false, not, cond, refl, ap}
+use Rattle.std.proofs.lemmas.Bool.{false≢true, true≢false}
+use Rattle.mdic_phy.specs.declared.phy.Link.TheVariants.{Never}
+use Rattle.mdic_phy.specs.declared.phy.Negotiation.TheVariants.{NotStarted}
+use Rattle.mdic_phy.specs.Bits.{is_set}
+use Rattle.mdic_phy.specs.Phy.{PhyState, new_phy, restarted, negotiation_of, after_write}
+
+-- A write, where it is known whether it is of register 0, and whether it has bits 15, 12 and 9.
+abbrev pub by_tests : Bool → Bool → Bool → Bool → PhyState → PhyState
+by_tests control reset enable again phy =
+    cond control (cond reset (new_phy phy.link) (let kept : PhyState = record phy { negotiation_enabled = enable } in cond (enable && again) (restarted kept) kept)) phy
+
+pub after_write-by_tests : (register value : ℕ) (phy : PhyState) → after_write register value phy ≡ by_tests (register == 0) (is_set value 15) (is_set value 12) (is_set value 9) phy
+after_write-by_tests register value phy = refl
+
+-- whether it resets, and whether it starts negotiation anew
+abbrev pub resets : Bool → Bool → Bool
+resets control reset = control && reset
+
+abbrev pub restarts : Bool → Bool → Bool → Bool → Bool
+restarts control reset enable again = control && (not reset && (enable && again))
+
+-- the setting of the link stays
+pub link-by_tests : (c r e a : Bool) (phy : PhyState) → (by_tests c r e a phy).link ≡ phy.link
+link-by_tests false r e a phy = refl
+link-by_tests true true e a phy = refl
+link-by_tests true false true true phy = refl
+link-by_tests true false true false phy = refl
+link-by_tests true false false a phy = refl
+
+-- without a restart, negotiation that was not started stays so
+pub not_started-by_tests : (c r e a : Bool) (phy : PhyState) → restarts c r e a ≡ false → phy.negotiation ≡ NotStarted → (by_tests c r e a phy).negotiation ≡ NotStarted
+not_started-by_tests false r e a phy none idle = idle
+not_started-by_tests true true e a phy none idle = refl
+not_started-by_tests true false true true phy none idle = absurd (true≢false none)
+not_started-by_tests true false true false phy none idle = idle
+not_started-by_tests true false false a phy none idle = idle
+
+-- a reset ends negotiation
+pub reset-by_tests : (c r e a : Bool) (phy : PhyState) → resets c r ≡ true → (by_tests c r e a phy).negotiation ≡ NotStarted
+reset-by_tests false r e a phy is = absurd (false≢true is)
+reset-by_tests true true e a phy is = refl
+reset-by_tests true false e a phy is = absurd (false≢true is)
+
+-- a restart starts it
+pub restart-by_tests : (c r e a : Bool) (phy : PhyState) → restarts c r e a ≡ true → (by_tests c r e a phy).negotiation ≡ negotiation_of phy.link
+restart-by_tests false r e a phy is = absurd (false≢true is)
+restart-by_tests true true e a phy is = absurd (false≢true is)
+restart-by_tests true false true true phy is = refl
+restart-by_tests true false true false phy is = absurd (false≢true is)
+restart-by_tests true false false a phy is = absurd (false≢true is)
+
+-- a write that does neither leaves negotiation as it is
+pub negotiation-by_tests : (c r e a : Bool) (phy : PhyState) → (resets c r || restarts c r e a) ≡ false → (by_tests c r e a phy).negotiation ≡ phy.negotiation
+negotiation-by_tests false r e a phy none = refl
+negotiation-by_tests true true e a phy none = absurd (true≢false none)
+negotiation-by_tests true false true true phy none = absurd (true≢false none)
+negotiation-by_tests true false true false phy none = refl
+negotiation-by_tests true false false a phy none = refl
+
+-- and the latch
+pub latch-by_tests : (c r e a : Bool) (phy : PhyState) → (resets c r || restarts c r e a) ≡ false → (by_tests c r e a phy).latched_low ≡ phy.latched_low
+latch-by_tests false r e a phy none = refl
+latch-by_tests true true e a phy none = absurd (true≢false none)
+latch-by_tests true false true true phy none = absurd (true≢false none)
+latch-by_tests true false true false phy none = refl
+latch-by_tests true false false a phy none = refl
+
+-- a write that does one of them latches the link low
+pub latched-by_tests : (c r e a : Bool) (phy : PhyState) → (resets c r || restarts c r e a) ≡ true → (by_tests c r e a phy).latched_low ≡ true
+latched-by_tests false r e a phy is = absurd (false≢true is)
+latched-by_tests true true e a phy is = refl
+latched-by_tests true false true true phy is = refl
+latched-by_tests true false true false phy is = absurd (false≢true is)
+latched-by_tests true false false a phy is = absurd (false≢true is)
+
+-- and none unlatches it
+pub still_latched-by_tests : (c r e a : Bool) (phy : PhyState) → phy.latched_low ≡ true → (by_tests c r e a phy).latched_low ≡ true
+still_latched-by_tests false r e a phy was = was
+still_latched-by_tests true true e a phy was = refl
+still_latched-by_tests true false true true phy was = refl
+still_latched-by_tests true false true false phy was = was
+still_latched-by_tests true false false a phy was = was
+
+-- a link that never comes up
+pub never-by_tests : (c r e a : Bool) (phy : PhyState) → phy.link ≡ Never → phy.negotiation ≡ NotStarted → (by_tests c r e a phy).negotiation ≡ NotStarted
+never-by_tests false r e a phy never idle = idle
+never-by_tests true true e a phy never idle = refl
+never-by_tests true false true true phy never idle = ap negotiation_of never
+never-by_tests true false true false phy never idle = idle
+never-by_tests true false false a phy never idle = idle
+
+-- what the write leaves of bit 12
+pub enabled-by_tests : (r e a : Bool) (phy : PhyState) → (by_tests true r e a phy).negotiation_enabled ≡ cond r true e
+enabled-by_tests true e a phy = refl
+enabled-by_tests false true true phy = refl
+enabled-by_tests false true false phy = refl
+enabled-by_tests false false a phy = refl
+
+pub enabled_stays-by_tests : (c r e a : Bool) (phy : PhyState) → c ≡ false → (by_tests c r e a phy).negotiation_enabled ≡ phy.negotiation_enabled
+enabled_stays-by_tests false r e a phy none = refl
+enabled_stays-by_tests true r e a phy none = absurd (true≢false none)

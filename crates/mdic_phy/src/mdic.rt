@@ -1,0 +1,179 @@
+ghost use Rattle.std.specs.Prelude.{◌≡◌};
+ghost use Rattle.mdic_phy.specs.Mdic.{ended_phy, ended_value, with_data};
+
+use crate::Phy;
+use std::marker::Model;
+
+/// DATA, bits 15:0.
+const DATA: u32 = 0xFFFF;
+
+/// The lowest bit of REGADD, bits 20:16.
+const REGADD_SHIFT: u32 = 16;
+
+/// The lowest bit of PHYADD, bits 25:21.
+const PHYADD_SHIFT: u32 = 21;
+
+/// The bits of an address, in REGADD and in PHYADD.
+const ADDRESS: u32 = 0x1F;
+
+/// The lowest bit of OP, bits 27:26.
+const OP_SHIFT: u32 = 26;
+
+/// The bits of OP, and what they say.
+const OP: u32 = 0b11;
+
+const OP_WRITE: u32 = 0b01;
+
+const OP_READ: u32 = 0b10;
+
+/// R, bit 28: the command has ended.
+const READY: u32 = 1 << 28;
+
+/// I, bit 29: the end of the command is to be told.
+const INTERRUPT: u32 = 1 << 29;
+
+/// E, bit 30: the command has failed.
+const ERROR: u32 = 1 << 30;
+
+/// The bits that a write keeps: all but R, E and bit 31.
+const KEPT: u32 = 0x2FFF_FFFF;
+
+/// The address of the PHY.
+const PHY_ADDRESS: u32 = 1;
+
+/// What a command asks of the PHY.
+#[derive(Clone, Copy, Debug, PartialEq, Eq)]
+pub enum Operation {
+    /// OP 01: DATA goes into the register.
+    Write,
+    /// OP 10: the register goes into DATA.
+    Read,
+}
+
+/// What a tick of the PHY gives the adapter to record.
+#[derive(Clone, Copy, Debug, PartialEq, Eq)]
+pub struct Ticked {
+    /// The link came up: the cause LSC.
+    pub link_changed: bool,
+    /// A command ended whose I was set: the cause MDAC.
+    pub access_complete: bool,
+}
+
+/// MDIC, the MDI control register (manual, 13.4.7).
+///
+/// DATA is bits 15:0, REGADD 20:16, PHYADD 25:21, OP 27:26, R 28, I 29 and E 30.
+#[derive(Clone, Copy, Debug, PartialEq, Eq)]
+pub struct Mdic {
+    value: u32,
+    pending: Option<Operation>,
+}
+
+impl Model for Mdic {
+    ghost use Rattle.mdic_phy.specs.Mdic.{MdicState};
+
+    ghost Value = { MdicState };
+
+    ghost view = { λ mdic. record { value = mdic.value; pending = mdic.pending } };
+
+    ghost inverse = { λ state. record { value = state.value; pending = state.pending } };
+}
+
+impl Mdic {
+    ghost use Rattle.mdic_phy.specs.Mdic.{after_write, mdic_after_tick, new_mdic, phy_after_tick, told};
+
+    /// A register without a command: it reads 0.
+    pub fn new() -> Self
+        ensures { result ≡ new_mdic }
+    {
+        Mdic {
+            value: 0,
+            pending: None,
+        }
+    }
+
+    /// A write begins the command of its OP; one that was pending is dropped (own). R, E and
+    /// bit 31 are not kept.
+    pub fn write(&mut self, value: u32)
+        ensures { self.new ≡ after_write value }
+    {
+        self.value = value & KEPT;
+        self.pending = match value >> OP_SHIFT & OP {
+            OP_WRITE => Some(Operation::Write),
+            OP_READ => Some(Operation::Read),
+            _ => None,
+        };
+    }
+
+    /// What the register reads: what was written, and where the command has ended also R, the
+    /// DATA that was read, or E.
+    pub fn read(&self) -> u32
+        ensures { result ≡ self.now.value }
+    {
+        self.value
+    }
+
+    /// A moment passes: the PHY's count is lowered, and then a pending command ends. Answers
+    /// what the adapter has to record, or `None` where no count ran and no command was pending:
+    /// then nothing changes.
+    pub fn tick(&mut self, phy: &mut Phy) -> Option<Ticked>
+        ensures mdic { self.new ≡ mdic_after_tick self.old phy.old }
+        ensures phy { phy.new ≡ phy_after_tick self.old phy.old }
+        ensures told { result ≡ told self.old phy.old }
+        ensures mdic_stays { result ≡ None → self.new ≡ self.old }
+        ensures phy_stays { result ≡ None → phy.new ≡ phy.old }
+    {
+        if !phy.is_counting() && self.pending.is_none() {
+            return None;
+        }
+        let link_changed = phy.tick();
+        let access_complete = match self.pending.take() {
+            Some(operation) => {
+                let is_told = self.value & INTERRUPT == INTERRUPT;
+                self.value = end(operation, self.value, phy);
+                is_told
+            }
+            None => false,
+        };
+        Some(Ticked {
+            link_changed,
+            access_complete,
+        })
+    }
+}
+
+impl Default for Mdic {
+    ghost use Rattle.mdic_phy.specs.Mdic.{new_mdic};
+
+    ghost is_default = { λ mdic. mdic ≡ new_mdic };
+
+    fn default() -> Self {
+        Mdic::new()
+    }
+}
+
+/// Ends a command at the PHY. Answers what the register then reads: with R, and with the register
+/// of the PHY in DATA or with E.
+fn end(operation: Operation, value: u32, phy: &mut Phy) -> u32
+    ensures value { result ≡ ended_value operation phy.old value }
+    ensures phy { phy.new ≡ ended_phy operation value phy.old }
+{
+    if value >> PHYADD_SHIFT & ADDRESS != PHY_ADDRESS {
+        return value | READY | ERROR;
+    }
+    let register = (value >> REGADD_SHIFT & ADDRESS) as u8;
+    match operation {
+        Operation::Write => {
+            phy.write(register, (value & DATA) as u16);
+            value | READY
+        }
+        Operation::Read => with_data(value, phy.read(register)) | READY,
+    }
+}
+
+/// The register with other DATA.
+#[tactic(auto, using(crate::proofs::Fields::other_data))]
+fn with_data(value: u32, word: u16) -> u32
+    ensures { result ≡ with_data word value }
+{
+    value & !DATA | u32::from(word)
+}

@@ -1,0 +1,191 @@
+ghost use Rattle.std.specs.Prelude.{◌≡◌, true, false};
+
+use crate::bits::{Control, Status};
+use bitflags::Flags;
+use std::marker::Model;
+
+/// The place of the control register (IEEE 802.3, 22.2.4.1).
+const CONTROL: u8 = 0;
+
+/// The place of the status register (IEEE 802.3, 22.2.4.2).
+const STATUS: u8 = 1;
+
+/// The places of the two identifier registers (IEEE 802.3, 22.2.4.3.1).
+const IDENTIFIER_HIGH: u8 = 2;
+
+const IDENTIFIER_LOW: u8 = 3;
+
+/// What the identifier registers read.
+const IDENTIFIERS: [u16; 2] = [0x0141, 0x0C20];
+
+/// When the link of a PHY comes up, once negotiation was started.
+#[derive(Clone, Copy, Debug, PartialEq, Eq)]
+pub enum Link {
+    /// After so many ticks of the PHY, 1 to 65,535. (0 acts as 1.)
+    After(u16),
+    /// Never.
+    Never,
+}
+
+/// How far negotiation stands. The link is up exactly where it is complete (own).
+#[derive(Clone, Copy, Debug, PartialEq, Eq)]
+pub enum Negotiation {
+    /// It was not started since the PHY was new or reset, or it never ends.
+    NotStarted,
+    /// It ends after so many ticks.
+    Running(u16),
+    /// It has ended, and the link is up.
+    Complete,
+}
+
+/// A PHY with the registers of IEEE 802.3, clause 22.
+///
+/// Register 0 is control, register 1 status, registers 2 and 3 identify the PHY, and the others
+/// read 0. Only register 0 takes a write.
+#[derive(Clone, Copy, Debug, PartialEq, Eq)]
+pub struct Phy {
+    link: Link,
+    negotiation_enabled: bool,
+    negotiation: Negotiation,
+    latched_low: bool,
+}
+
+impl Model for Phy {
+    ghost use Rattle.mdic_phy.specs.Phy.{PhyState};
+
+    ghost Value = { PhyState };
+
+    ghost view = { λ phy. record { link = phy.link; negotiation_enabled = phy.negotiation_enabled; negotiation = phy.negotiation; latched_low = phy.latched_low } };
+
+    ghost inverse = { λ state. record { link = state.link; negotiation_enabled = state.negotiation_enabled; negotiation = state.negotiation; latched_low = state.latched_low } };
+}
+
+impl Phy {
+    ghost use Rattle.mdic_phy.specs.Phy.{new_phy, after_write, after_read, after_tick, read_value, link_is_up, comes_up, is_counting};
+
+    /// A PHY without link, whose negotiation was not started. Its link comes up as `link` says.
+    pub fn new(link: Link) -> Self
+        ensures { result ≡ new_phy link }
+    {
+        Phy {
+            link,
+            negotiation_enabled: true,
+            negotiation: Negotiation::NotStarted,
+            latched_low: true,
+        }
+    }
+
+    /// Whether the link is up.
+    pub fn link_is_up(&self) -> bool
+        ensures { result ≡ link_is_up self.now }
+    {
+        self.negotiation == Negotiation::Complete
+    }
+
+    /// Whether negotiation is running, so that a tick would change the PHY.
+    pub fn is_counting(&self) -> bool
+        ensures { result ≡ is_counting self.now }
+    {
+        matches!(self.negotiation, Negotiation::Running(_))
+    }
+
+    /// Reads a register. A read of the status register also clears the latch of its link bit.
+    pub fn read(&mut self, register: u8) -> u16
+        ensures value { result ≡ read_value register self.old }
+        ensures state { self.new ≡ after_read register self.old }
+    {
+        match register {
+            CONTROL => self.control().bits(),
+            STATUS => {
+                let status = self.status();
+                self.latched_low = false;
+                status.bits()
+            }
+            IDENTIFIER_HIGH => IDENTIFIERS[0],
+            IDENTIFIER_LOW => IDENTIFIERS[1],
+            _ => 0,
+        }
+    }
+
+    /// Writes a register. All but control ignore it.
+    pub fn write(&mut self, register: u8, value: u16)
+        ensures { self.new ≡ after_write register value self.old }
+    {
+        if register == CONTROL {
+            self.write_control(Control::from_bits_retain(value));
+        }
+    }
+
+    /// A moment passes: a running count is lowered, and at 0 the link is up. Answers whether the
+    /// link came up.
+    pub fn tick(&mut self) -> bool
+        ensures state { self.new ≡ after_tick self.old }
+        ensures came_up { result ≡ comes_up self.old }
+    {
+        let Negotiation::Running(left) = self.negotiation else {
+            return false;
+        };
+        if left > 1 {
+            self.negotiation = Negotiation::Running(left - 1);
+            return false;
+        }
+        self.negotiation = Negotiation::Complete;
+        true
+    }
+}
+
+/// What stands behind the registers.
+impl Phy {
+    ghost use Rattle.mdic_phy.specs.Phy.{after_control, control_value, restarted, status_value};
+
+    /// What the control register reads: the bits that clear themselves read 0.
+    fn control(&self) -> Control
+        ensures { result.0 ≡ control_value self.now }
+    {
+        if self.negotiation_enabled {
+            Control::ENABLE
+        } else {
+            Control::empty()
+        }
+    }
+
+    /// What the status register reads now.
+    fn status(&self) -> Status
+        ensures { result.0 ≡ status_value self.now }
+    {
+        let mut status = Status::empty();
+        if self.link_is_up() {
+            status.insert(Status::NEGOTIATED);
+            if !self.latched_low {
+                status.insert(Status::LINK);
+            }
+        }
+        status
+    }
+
+    /// A write of the control register resets the PHY, or sets whether negotiation is enabled
+    /// and, where it is, may start it anew.
+    fn write_control(&mut self, control: Control)
+        ensures { self.new ≡ after_control control.0 self.old }
+    {
+        if control.contains(Control::RESET) {
+            *self = Phy::new(self.link);
+            return;
+        }
+        self.negotiation_enabled = control.contains(Control::ENABLE);
+        if self.negotiation_enabled && control.contains(Control::RESTART) {
+            self.restart();
+        }
+    }
+
+    /// Takes the link down, and begins the count after which it is up.
+    fn restart(&mut self)
+        ensures { self.new ≡ restarted self.old }
+    {
+        self.latched_low = true;
+        self.negotiation = match self.link {
+            Link::After(ticks) => Negotiation::Running(ticks),
+            Link::Never => Negotiation::NotStarted,
+        };
+    }
+}
