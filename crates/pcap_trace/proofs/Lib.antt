@@ -1,0 +1,11 @@
+mod Answering
+mod Blocks
+mod Bodies
+mod Cuts
+mod FileHeaders
+mod FirstOf
+mod Going
+pub mod Packets
+pub mod Sent
+mod Unique
+mod WrittenLaw

@@ -1,0 +1,80 @@
+-- What is written is a trace of exactly these frames.
+use Rattle.std.proofs.Common.{◌≡◌, ◌<◌, ◌^◌, ℕ, List, [], ◌∷◌, ◌++◌, Bool, true, false, length, drop, map, refl, sym, ap, ◌∙◌, append-nil, arith}
+use Rattle.std.specs.List.{flat_map, AllByRecursion}
+use Rattle.std.proofs.lemmas.List.{length-append}
+use Rattle.std.proofs.lemmas.List.Concat.{flat_map-cons}
+use Rattle.std.proofs.lemmas.Bool.{le-ltb}
+use Rattle.byteorder.specs.Endian.{little_number, little_bytes}
+use Rattle.byteorder.specs.Numbers.{little_number-reads_back}
+use Rattle.pcap_trace.specs.Format.{Packet, Timed, complete, captured_length, original_length, packet_bytes, IsPacket, is_partial, frames_of, skipped_of, ending_of, file_header, packet_header, packet_of, written, frame_of, IsShort, WrittenIsTrace, WrittenIsNoOther}
+use Rattle.pcap_trace.proofs.Answering.{little_first}
+use Rattle.pcap_trace.proofs.Unique.{body_unique}
+
+-- the packet that a frame is written as
+abbrev written_packet : Timed → Packet
+written_packet t = record { header = packet_header t.time (length t.frame); captured = t.frame }
+
+packets-written : (ts : List Timed) → flat_map packet_bytes (map written_packet ts) ≡ flat_map packet_of ts
+packets-written [] = refl
+packets-written (t ∷ ts) = flat_map-cons packet_bytes (written_packet t) (map written_packet ts) ∙ ap (λ (x : List ℕ). packet_of t ++ x) (packets-written ts) ∙ sym (flat_map-cons packet_of t ts)
+
+captured_length-written : (time len : ℕ) → len < 2 ^ 32 → captured_length little_number (packet_header time len) ≡ len
+unfolding packet_header
+captured_length-written time len fits = little_number-reads_back 4 len (little_bytes 4 len) fits
+
+original_length-written : (time len : ℕ) → len < 2 ^ 32 → original_length little_number (packet_header time len) ≡ len
+unfolding packet_header
+original_length-written time len fits = little_number-reads_back 4 len [] fits
+
+packet-whole : (t : Timed) → IsShort t → IsPacket little_number (written_packet t)
+unfolding packet_header
+packet-whole t short = record { header_length = refl; captured_is = sym (captured_length-written t.time (length t.frame) (omega arith)); short_enough = short }
+
+packets-whole : (ts : List Timed) → AllByRecursion IsShort ts → AllByRecursion (IsPacket little_number) (map written_packet ts)
+packets-whole [] short = tt
+packets-whole (t ∷ ts) short = (packet-whole t short.0, packets-whole ts short.1)
+
+packet-kept : (t : Timed) → IsShort t → is_partial little_number (written_packet t) ≡ false
+packet-kept t short =
+    let a = captured_length-written t.time (length t.frame) (omega arith) in
+    let b = original_length-written t.time (length t.frame) (omega arith) in
+    le-ltb _ _ (omega (arith, a, b))
+
+frames_of-written : (ts : List Timed) → AllByRecursion IsShort ts → map frame_of ts ≡ frames_of little_number (map written_packet ts)
+frames_of-written [] short = refl
+frames_of-written (t ∷ ts) short = rw (packet-kept t short.0) (ap (λ (fs : List (List ℕ)). t.frame ∷ fs) (frames_of-written ts short.1))
+
+skipped_of-written : (ts : List Timed) → AllByRecursion IsShort ts → 0 ≡ skipped_of little_number (map written_packet ts)
+skipped_of-written [] short = refl
+skipped_of-written (t ∷ ts) short = rw (packet-kept t short.0) (skipped_of-written ts short.1)
+
+pub found : WrittenIsTrace
+unfolding file_header
+found ts short = (
+  record {
+    long_enough = omega (arith, length-append file_header (flat_map packet_of ts));
+    magic_is = refl;
+    major_is = refl;
+    minor_is = refl;
+    link_type_is = refl;
+  },
+  record {
+    packets = map written_packet ts;
+    rest = [];
+    parts = sym (append-nil (flat_map packet_bytes (map written_packet ts)) ∙ packets-written ts);
+    whole = packets-whole ts short;
+    frames_are = frames_of-written ts short;
+    skipped_are = skipped_of-written ts short;
+    ends = refl;
+  },
+)
+
+complete_uncut : (cut : Bool) → ending_of cut ≡ complete → cut ≡ false
+complete_uncut true e = absurd cc
+complete_uncut false e = refl
+
+pub no_other : WrittenIsNoOther
+unfolding file_header
+no_other ts frames skipped cut short t =
+    let same = body_unique little_number little_first (drop 24 (written ts)) frames (map frame_of ts) skipped 0 (ending_of cut) complete t.1 (found ts short).1 in
+    (same.0, same.1, complete_uncut cut same.2)

@@ -1,0 +1,139 @@
+-- The trace files of libpcap, version 2.4 (pcap-savefile): a file header, packets, and perhaps the beginning of one more packet.
+use Rattle.std.specs.Prelude.{◌≡◌, ◌<◌, ◌≤◌, ◌+◌, ◌/◌, ◌%◌, ◌^◌, ◌⊎◌, ◌++◌, ℕ, suc, List, [], ◌∷◌, length, drop, Bool, true, false, nat_lt, if◌then◌else◌, map}
+use Rattle.std.specs.List.{flat_map, AllByRecursion}
+use Rattle.byteorder.specs.Endian.{little_number, little_bytes}
+
+-- A byte order: the number in the first n bytes of a list.
+abbrev pub Order : Type 0
+Order = ℕ → List ℕ → ℕ
+
+-- ---- the file header (pcap-savefile, "File Header")
+
+-- times in seconds and microseconds
+abbrev pub magic : ℕ
+magic = 0xA1B2_C3D4
+
+-- 24 bytes: the magic number, version 2.4, two words and the snapshot length, which are ignored, and the link type, 1 for Ethernet
+pub record IsFileHeader (number : Order) (bytes : List ℕ) : Type 0 where
+  pub long_enough : 24 ≤ length bytes
+  pub magic_is : number 4 bytes ≡ magic
+  pub major_is : number 2 (drop 4 bytes) ≡ 2
+  pub minor_is : number 2 (drop 6 bytes) ≡ 4
+  pub link_type_is : number 4 (drop 20 bytes) ≡ 1
+
+-- ---- packets (pcap-savefile, "Packet Header")
+
+-- a packet header of 16 bytes, and the bytes that were captured
+pub record Packet : Type 0 where
+  pub header : List ℕ
+  pub captured : List ℕ
+
+-- behind seconds and fraction stand the captured length and the original one
+abbrev pub captured_length : Order → List ℕ → ℕ
+captured_length number header = number 4 (drop 8 header)
+
+abbrev pub original_length : Order → List ℕ → ℕ
+original_length number header = number 4 (drop 12 header)
+
+-- The most bytes of a packet. (libpcap's own limit on a snapshot)
+abbrev pub most_captured : ℕ
+most_captured = 262144
+
+pub record IsPacket (number : Order) (p : Packet) : Type 0 where
+  pub header_length : length p.header ≡ 16
+  pub captured_is : length p.captured ≡ captured_length number p.header
+  pub short_enough : length p.captured ≤ most_captured
+
+abbrev pub packet_bytes : Packet → List ℕ
+packet_bytes p = p.header ++ p.captured
+
+-- A packet that was captured in part is skipped. One with more bytes than the original is taken whole. (own)
+abbrev pub is_partial : Order → Packet → Bool
+is_partial number p = nat_lt (captured_length number p.header) (original_length number p.header)
+
+-- the frames: the bytes of the packets that were captured whole, in order
+abbrev pub frames_of : Order → List Packet → List (List ℕ)
+frames_of number [] = []
+frames_of number (p ∷ ps) = if is_partial number p then frames_of number ps else p.captured ∷ frames_of number ps
+
+-- how many packets were skipped
+abbrev pub skipped_of : Order → List Packet → ℕ
+skipped_of number [] = 0
+skipped_of number (p ∷ ps) = if is_partial number p then suc (skipped_of number ps) else skipped_of number ps
+
+-- ---- the end of a file
+
+-- Behind the last whole packet stands nothing, the beginning of a packet, or a packet header that asks for more than the most. (own)
+pub data Ending : Type 0 where
+  complete : Ending
+  cut_off : Ending
+  oversized : Ending
+
+abbrev pub IsRest : Order → List ℕ → Ending → Type 0
+IsRest number rest complete = rest ≡ []
+IsRest number rest cut_off =
+    ((0 < length rest) × (length rest < 16))
+    ⊎ ((16 ≤ length rest) × (captured_length number rest ≤ most_captured) × (length rest < 16 + captured_length number rest))
+IsRest number rest oversized = (16 ≤ length rest) × (most_captured < captured_length number rest)
+
+-- Whole packets, and a rest: these are the frames, so many packets were skipped, and so it ends.
+pub record IsBody (number : Order) (bytes : List ℕ) (frames : List (List ℕ)) (skipped : ℕ) (ending : Ending) : Type 0 where
+  pub packets : List Packet
+  pub rest : List ℕ
+  pub parts : bytes ≡ flat_map packet_bytes packets ++ rest
+  pub whole : AllByRecursion (IsPacket number) packets
+  pub frames_are : frames ≡ frames_of number packets
+  pub skipped_are : skipped ≡ skipped_of number packets
+  pub ends : IsRest number rest ending
+
+-- ---- a trace
+
+abbrev pub ending_of : Bool → Ending
+ending_of true = cut_off
+ending_of false = complete
+
+-- These bytes are a trace of these frames; so many packets were skipped, and the last one may be cut off.
+abbrev pub IsTrace : List ℕ → List (List ℕ) → ℕ → Bool → Type 0
+IsTrace bytes frames skipped cut = IsFileHeader little_number bytes × IsBody little_number (drop 24 bytes) frames skipped (ending_of cut)
+
+-- ---- the written form
+
+-- a frame with its time, a number of microseconds
+pub record Timed : Type 0 where
+  pub time : ℕ
+  pub frame : List ℕ
+
+abbrev pub frame_of : Timed → List ℕ
+frame_of t = t.frame
+
+-- a pair of the program
+abbrev pub timed : ℕ × List ℕ → Timed
+timed p = record { time = p.0; frame = p.1 }
+
+-- little-endian, microseconds, version 2.4, snapshot length 65,535, Ethernet
+unfoldable pub file_header : List ℕ
+file_header = little_bytes 4 magic ++ little_bytes 2 2 ++ little_bytes 2 4 ++ little_bytes 4 0 ++ little_bytes 4 0 ++ little_bytes 4 65535 ++ little_bytes 4 1
+
+-- seconds (their low 32 bits), microseconds, and the length twice
+unfoldable pub packet_header : ℕ → ℕ → List ℕ
+packet_header time len = little_bytes 4 (time / 1000000 % 2 ^ 32) ++ little_bytes 4 (time % 1000000) ++ little_bytes 4 len ++ little_bytes 4 len
+
+abbrev pub packet_of : Timed → List ℕ
+packet_of t = packet_header t.time (length t.frame) ++ t.frame
+
+-- the written form of frames with their times
+abbrev pub written : List Timed → List ℕ
+written ts = file_header ++ flat_map packet_of ts
+
+abbrev pub IsShort : Timed → Type 0
+IsShort t = length t.frame ≤ most_captured
+
+-- What is written is a trace of exactly these frames: none skipped, not cut.
+abbrev pub WrittenIsTrace : Type 0
+WrittenIsTrace = (ts : List Timed) → AllByRecursion IsShort ts → IsTrace (written ts) (map frame_of ts) 0 false
+
+-- And it is a trace of no others.
+abbrev pub WrittenIsNoOther : Type 0
+WrittenIsNoOther =
+    (ts : List Timed) (frames : List (List ℕ)) (skipped : ℕ) (cut : Bool)
+    → AllByRecursion IsShort ts → IsTrace (written ts) frames skipped cut → (frames ≡ map frame_of ts) × (skipped ≡ 0) × (cut ≡ false)

@@ -1,0 +1,5 @@
+pub mod Devices
+pub mod Faults
+pub mod Frames
+pub mod Format
+pub mod Reading

@@ -1,0 +1,50 @@
+-- What may be answered to the bytes of a trace file.
+use Rattle.std.specs.Prelude.{◌≡◌, ◌+◌, ◌==◌, ◌&&◌, ℕ, List, length, drop, Bool, true, false, not, nat_lt, if◌then◌else◌, Option, Some, None, Result, Ok, Err, ⊤}
+use Rattle.byteorder.specs.Endian.{little_number}
+use Rattle.pcap_trace.specs.declared.fault.ReadError.{ReadError}
+use Rattle.pcap_trace.specs.declared.fault.ReadError.TheVariants as errors
+use Rattle.pcap_trace.specs.declared.trace.Trace.{Trace}
+use Rattle.pcap_trace.specs.Format.{Order, magic, oversized, IsFileHeader, IsBody, IsTrace}
+
+-- The fault of a file header: the first that applies. (pcap-savefile, "File Header"; the order is own)
+abbrev pub header_fault : Order → List ℕ → Option ReadError
+header_fault number bytes =
+    if nat_lt (length bytes) 24 then Some errors.Header
+    else (if not (number 4 bytes == magic) then Some errors.Magic
+    else (if not ((number 2 (drop 4 bytes) == 2) && (number 2 (drop 6 bytes) == 4)) then Some errors.Version
+    else (if not (number 4 (drop 20 bytes) == 1) then Some errors.LinkType
+    else None)))
+
+-- Behind whole packets a whole packet header asks for more than the most. (own)
+abbrev pub HasOversized : Order → List ℕ → Type 0
+HasOversized number bytes = (frames : List (List ℕ)) × (skipped : ℕ) × IsBody number bytes frames skipped oversized
+
+-- The answer fits the bytes. Want of memory and a failed device say nothing of them. (own)
+abbrev pub IsAnswer : List ℕ → Result Trace ReadError → Type 0
+IsAnswer bytes (Ok t) = IsTrace bytes t.frames t.skipped t.cut
+IsAnswer bytes (Err errors.Record) = IsFileHeader little_number bytes × HasOversized little_number (drop 24 bytes)
+IsAnswer bytes (Err errors.Memory) = ⊤
+IsAnswer bytes (Err errors.Read) = ⊤
+IsAnswer bytes (Err e) = header_fault little_number bytes ≡ Some e
+
+-- whether an answer speaks of the bytes
+abbrev pub is_of_bytes : Result Trace ReadError → Bool
+is_of_bytes (Err errors.Memory) = false
+is_of_bytes (Err errors.Read) = false
+is_of_bytes _ = true
+
+-- No other answer that speaks of the bytes fits them. (own)
+abbrev pub IsOnlyAnswer : List ℕ → Result Trace ReadError → Type 0
+IsOnlyAnswer bytes r = is_of_bytes r ≡ true → (s : Result Trace ReadError) → is_of_bytes s ≡ true → IsAnswer bytes s → s ≡ r
+
+-- A failed read of the source is told, and nothing else counts as one. (own)
+abbrev pub TellsFailure : {T : Type 0} → Result T ReadError → ℕ → ℕ → Type 0
+TellsFailure (Err errors.Read) old new = new ≡ old + 1
+TellsFailure _ old new = new ≡ old
+
+-- what a body may be refused for
+abbrev pub IsBodyFault : Order → List ℕ → ReadError → Type 0
+IsBodyFault number bytes errors.Record = HasOversized number bytes
+IsBodyFault number bytes errors.Memory = ⊤
+IsBodyFault number bytes errors.Read = ⊤
+IsBodyFault number bytes _ = ⊥

@@ -1,0 +1,117 @@
+//! A block of the bytes of a source, from which packets are read.
+ghost use Rattle.std.specs.Prelude.{◌≡◌, ◌<◌, ◌≤◌, ◌+◌, ◌++◌, ◌⊎◌, ◌↔◌, [], List, ℕ, length, take, drop, slice_range, IsTrue, IfOk, OnOk, OnErr, MatchResult};
+ghost use Rattle.std.specs.Io.KnownBytes.{Consumes, IsAtEnd, Keeps, prepend_known};
+ghost use Rattle.pcap_trace.specs.Devices.{CountsFaults, Receives};
+
+use crate::device::{DeviceError, Source};
+use std::alloc::{AllocError, Global};
+use std::marker::Model;
+
+/// The most bytes that are asked of a source at once.
+const CHUNK: usize = 65_536;
+
+/// Room for a chunk and one longest packet with its header.
+const ROOM: usize = 327_696;
+
+/// Bytes that were read from a source and not used yet. A contract sees it as the list of these bytes.
+#[derive(Drop)]
+pub struct Block {
+    bytes: Vec<u8>,
+    start: usize,
+    end: usize,
+}
+
+impl Model for Block {
+    ghost use Rattle.std.specs.Prelude.{◌≡◌, ◌≤◌, List, ℕ, length, slice_range};
+
+    ghost Value = { List ℕ };
+
+    ghost view = { λ b. slice_range b.bytes.items b.start b.end };
+
+    ghost invariant = { λ b. (b.start ≤ b.end) × (b.end ≤ length b.bytes.items) × (length b.bytes.items ≡ 327696) };
+}
+
+/// Reads once into a slice behind its first `end` bytes, which stay, and answers how many bytes came.
+fn read_behind<S: Source>(
+    source: &mut S,
+    bytes: &mut [u8],
+    end: usize,
+) -> Result<usize, DeviceError>
+    requires sound { S.faults source.old < u64.MAX }
+    requires room { end < length bytes.old }
+    ensures front { take end bytes.new ≡ take end bytes.old }
+    ensures fits { IfOk result (λ n. end + n ≤ length bytes.old) }
+    ensures read { IfOk result (λ n. Consumes (S.left source.old) (S.left source.new) (slice_range bytes.new end (end + n))) }
+    ensures at_end { IfOk result (λ n. n ≡ 0 → IsAtEnd (S.left source.new)) }
+    ensures limit { IfOk result (λ n. S.most source.new + n ≤ S.most source.old) }
+    ensures faults { CountsFaults result (S.faults source.old) (S.faults source.new) }
+{
+    let room = CHUNK.min(bytes.len() - end);
+    let into = &mut bytes[end..end + room];
+    source.read(into)
+}
+
+impl Block {
+    /// A block that holds nothing. It takes 320 KiB.
+    pub fn new(alloc: Global) -> Result<Block, AllocError>
+        ensures { IfOk result (λ b. b ≡ []) }
+    {
+        let bytes = vec![in alloc; 0; ROOM]?;
+        Ok(Block {
+            bytes,
+            start: 0,
+            end: 0,
+        })
+    }
+
+    /// The bytes that it holds.
+    pub fn held(&self) -> &[u8]
+        ensures { result.now ≡ self.now }
+    {
+        &self.bytes.as_slice()[self.start..self.end]
+    }
+
+    /// Drops bytes from the front.
+    pub fn skip(&mut self, count: usize)
+        requires { count ≤ length self.old }
+        ensures { self.new ≡ drop count self.old }
+    {
+        self.start += count;
+    }
+
+    /// Moves what it holds to the front of its memory, and reads once from a source behind it. There has to be room for a byte.
+    fn read_more<S: Source>(&mut self, source: &mut S) -> Result<usize, DeviceError>
+        requires sound { S.faults source.old < u64.MAX }
+        requires room { length self.old < ROOM }
+        ensures received { OnOk result (Receives self.old self.new (S.left source.old) (S.left source.new)) }
+        ensures more { IfOk result (λ n. length self.new ≡ length self.old + n) }
+        ensures at_end { IfOk result (λ n. n ≡ 0 → IsAtEnd (S.left source.new)) }
+        ensures limit { IfOk result (λ n. S.most source.new + n ≤ S.most source.old) }
+        ensures faults { CountsFaults result (S.faults source.old) (S.faults source.new) }
+    {
+        self.bytes.copy_within(self.start..self.end, 0);
+        let end = self.end - self.start;
+        self.start = 0;
+        self.end = end;
+        let count = read_behind(source, self.bytes.as_mut_slice(), end)?;
+        self.end = end + count;
+        Ok(count)
+    }
+
+    /// Reads from a source until so many bytes are held, at most 327,696, or the source is at its end.
+    pub fn fill<S: Source>(&mut self, source: &mut S, want: usize) -> Result<(), DeviceError>
+        requires sound { S.faults source.old < u64.MAX }
+        requires room { want ≤ ROOM }
+        ensures received { OnOk result (Receives self.old self.new (S.left source.old) (S.left source.new)) }
+        ensures filled { OnOk result ((want ≤ length self.new) ⊎ IsAtEnd (S.left source.new)) }
+        ensures limit { OnOk result (length self.new + S.most source.new ≤ length self.old + S.most source.old) }
+        ensures faults { CountsFaults result (S.faults source.old) (S.faults source.new) }
+    {
+        while self.held().len() < want {
+            if self.read_more(source)? == 0 {
+                break;
+            }
+        }
+        Ok(())
+    }
+}

@@ -1,0 +1,66 @@
+//! What bytes come from and go to: a file, or memory.
+ghost use Rattle.std.specs.Prelude.{◌≡◌, ◌<◌, ◌≤◌, ◌+◌, List, ℕ, Option, length, MatchResult, IfOk};
+ghost use Rattle.std.specs.Io.KnownBytes.{ReadConsumes, WriteAppends};
+ghost use Rattle.pcap_trace.specs.Devices.{CountsFaults};
+
+use thiserror::Error;
+
+/// A device failed to read or to write. It doesn't say why; the device has counted it.
+#[derive(Clone, Copy, Debug, PartialEq, Eq, Error)]
+#[error("the device failed")]
+pub struct DeviceError;
+
+/// What bytes are read from, as a file or a slice.
+///
+/// A call that is handed a source asks that it has failed fewer than 2^64 - 1 times, as its count could not grow otherwise.
+pub trait Source {
+    /// The bytes that are left to read, where the source tells them.
+    ghost left: { Self → Option (List ℕ) };
+
+    /// The most bytes that it can still give.
+    ghost most: { Self → ℕ };
+
+    /// How often it has failed.
+    ghost faults: { Self → ℕ };
+
+    /// Reads bytes into the front of a slice, and answers how many. None, where the slice isn't empty, is the end. An `Err` uses up
+    /// none, and adds 1 to the failures.
+    fn read(&mut self, into: &mut [u8]) -> Result<usize, DeviceError>
+        requires { faults self.old < u64.MAX }
+        ensures count { IfOk result (λ n. n ≤ length into.old) }
+        ensures limit { MatchResult result (λ n. most self.new + n ≤ most self.old) (λ _. most self.new ≤ most self.old) }
+        ensures bytes { ReadConsumes (left self.old) (left self.new) result into.new }
+        ensures faults { CountsFaults result (faults self.old) (faults self.new) };
+
+    /// The most bytes that it can still give; a read lowers it by at least what it gave.
+    fn limit(&self) -> u64
+        ensures { result ≡ most self.now };
+
+    /// How often it has failed.
+    fn failures(&self) -> u64
+        ensures { result ≡ faults self.now };
+}
+
+/// What bytes are written to, as a file or a vector.
+///
+/// A call that is handed a sink asks that it has failed fewer than 2^64 - 1 times, as its count could not grow otherwise.
+pub trait Sink {
+    /// The bytes that it has taken, where the sink tells them.
+    ghost taken: { Self → Option (List ℕ) };
+
+    /// How often it has failed.
+    ghost faults: { Self → ℕ };
+
+    /// Takes bytes from the front of a slice, and answers how many: at least one where there is one. An `Err` takes none, and adds 1 to
+    /// the failures.
+    fn write(&mut self, bytes: &[u8]) -> Result<usize, DeviceError>
+        requires { faults self.old < u64.MAX }
+        ensures count { IfOk result (λ n. n ≤ length bytes.now) }
+        ensures some { IfOk result (λ n. 0 < length bytes.now → 0 < n) }
+        ensures bytes { WriteAppends (taken self.old) (taken self.new) result bytes.now }
+        ensures faults { CountsFaults result (faults self.old) (faults self.new) };
+
+    /// How often it has failed.
+    fn failures(&self) -> u64
+        ensures { result ≡ faults self.now };
+}

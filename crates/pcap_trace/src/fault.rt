@@ -1,0 +1,109 @@
+//! Why a trace was not read or written.
+ghost use Rattle.std.specs.Prelude.{◌≡◌};
+ghost use Rattle.pcap_trace.specs.declared.device.DeviceError.{DeviceError};
+ghost use Rattle.pcap_trace.specs.declared.fault.ReadError.TheVariants.{Memory, Read};
+ghost use Rattle.pcap_trace.specs.declared.fault.WriteError.TheVariants.{Write};
+ghost use Rattle.pcap_trace.specs.Faults.{read_status, write_status};
+
+use crate::device::DeviceError;
+use std::alloc::AllocError;
+use thiserror::Error;
+
+/// The exit status of a program whose input is refused.
+const REFUSED: u8 = 1;
+
+/// The exit status of a program of which a device failed.
+const DEVICE_FAILED: u8 = 3;
+
+/// The exit status of a program that got no memory.
+const NO_MEMORY: u8 = 4;
+
+/// Why a trace was not read. A refused read gives no part of the trace.
+///
+/// The first four are faults of the file header (libpcap, "pcap-savefile", File Header), looked for in this order; of several the
+/// first one is answered. The text of each is what a program prints behind its name.
+#[derive(Clone, Copy, Debug, PartialEq, Eq, Error)]
+pub enum ReadError {
+    /// E60: the source has fewer than the 24 bytes of a file header.
+    #[error("E60 Header")]
+    Header,
+    /// E61: the first four bytes aren't `d4c3b2a1`, the magic number of a little-endian trace with times in microseconds.
+    #[error("E61 Magic")]
+    Magic,
+    /// E62: the version isn't 2.4.
+    #[error("E62 Version")]
+    Version,
+    /// E63: the link type isn't that of Ethernet, 1.
+    #[error("E63 LinkType")]
+    LinkType,
+    /// E64: behind whole packets, a whole packet header tells a captured length above 262,144 bytes.
+    #[error("E64 Record")]
+    Record,
+    /// E65: memory was refused.
+    #[error("E65 Memory")]
+    Memory,
+    /// E66: the source failed during the call.
+    #[error("E66 Read")]
+    Read,
+}
+
+impl ReadError {
+    /// The exit status of a program that ends for this fault: 1 where the trace is refused, 3 where the source failed, 4 for want of
+    /// memory.
+    pub fn status(&self) -> u8
+        ensures { result ≡ read_status self.now }
+    {
+        match self {
+            ReadError::Header
+            | ReadError::Magic
+            | ReadError::Version
+            | ReadError::LinkType
+            | ReadError::Record => REFUSED,
+            ReadError::Memory => NO_MEMORY,
+            ReadError::Read => DEVICE_FAILED,
+        }
+    }
+}
+
+impl From<AllocError> for ReadError {
+    ghost from_gives = { λ _ e. e ≡ Memory };
+
+    fn from(_error: AllocError) -> ReadError {
+        ReadError::Memory
+    }
+}
+
+impl From<DeviceError> for ReadError {
+    ghost from_gives = { λ _ e. e ≡ Read };
+
+    fn from(_error: DeviceError) -> ReadError {
+        ReadError::Read
+    }
+}
+
+/// Why a trace was not written. The text is what a program prints behind its name.
+#[derive(Clone, Copy, Debug, PartialEq, Eq, Error)]
+pub enum WriteError {
+    /// E67: the sink failed during the call; a beginning of the bytes that were to be written went out.
+    #[error("E67 Write")]
+    Write,
+}
+
+impl WriteError {
+    /// The exit status of a program that ends for this fault: 3, as the sink failed.
+    pub fn status(&self) -> u8
+        ensures { result ≡ write_status self.now }
+    {
+        match self {
+            WriteError::Write => DEVICE_FAILED,
+        }
+    }
+}
+
+impl From<DeviceError> for WriteError {
+    ghost from_gives = { λ _ e. e ≡ Write };
+
+    fn from(_error: DeviceError) -> WriteError {
+        WriteError::Write
+    }
+}

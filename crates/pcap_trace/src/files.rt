@@ -1,0 +1,101 @@
+//! Sources and sinks over the readers and writers of the system.
+ghost use Rattle.std.specs.Prelude.{◌≡◌};
+ghost use Rattle.pcap_trace.specs.Devices.{first_of};
+
+use crate::device::{DeviceError, Sink, Source};
+use std::io::{Read, Write};
+
+/// The first bytes of a reader as a source. With the length that a file had when it was opened, what it grows by later isn't read.
+#[derive(Drop)]
+pub struct ReaderSource<R> {
+    reader: R,
+    limit: u64,
+    failures: u64,
+}
+
+impl<R: Read> ReaderSource<R> {
+    /// The first `limit` bytes of a reader, or all where it has fewer.
+    pub fn new(reader: R, limit: u64) -> Self
+        ensures left { ⟦<ReaderSource<R> as Source>⟧.left result ≡ first_of limit (R.remaining reader) }
+        ensures most { ⟦<ReaderSource<R> as Source>⟧.most result ≡ limit }
+        ensures faults { ⟦<ReaderSource<R> as Source>⟧.faults result ≡ 0 }
+    {
+        ReaderSource {
+            reader,
+            limit,
+            failures: 0,
+        }
+    }
+}
+
+impl<R: Read> Source for ReaderSource<R> {
+    ghost left = { λ s. first_of s.limit (R.remaining s.reader) };
+
+    ghost most = { λ s. s.limit };
+
+    ghost faults = { λ s. s.failures };
+
+    fn read(&mut self, into: &mut [u8]) -> Result<usize, DeviceError> {
+        let room = into.len().min(self.limit as usize);
+        match self.reader.read(&mut into[..room]) {
+            Ok(count) => {
+                self.limit -= count as u64;
+                Ok(count)
+            }
+            Err(_) => {
+                self.failures += 1;
+                Err(DeviceError)
+            }
+        }
+    }
+
+    fn limit(&self) -> u64 {
+        self.limit
+    }
+
+    fn failures(&self) -> u64 {
+        self.failures
+    }
+}
+
+/// A writer as a sink. A writer that takes none of some bytes has failed.
+///
+/// It never flushes the writer: one that keeps bytes back, as a buffered one, has to be flushed by its owner.
+#[derive(Drop)]
+pub struct WriterSink<W> {
+    writer: W,
+    failures: u64,
+}
+
+impl<W: Write> WriterSink<W> {
+    /// A sink over a writer, which has not failed yet.
+    pub fn new(writer: W) -> Self
+        ensures taken { ⟦<WriterSink<W> as Sink>⟧.taken result ≡ W.contents writer }
+        ensures faults { ⟦<WriterSink<W> as Sink>⟧.faults result ≡ 0 }
+    {
+        WriterSink {
+            writer,
+            failures: 0,
+        }
+    }
+}
+
+impl<W: Write> Sink for WriterSink<W> {
+    ghost taken = { λ s. W.contents s.writer };
+
+    ghost faults = { λ s. s.failures };
+
+    fn write(&mut self, bytes: &[u8]) -> Result<usize, DeviceError> {
+        match self.writer.write(bytes) {
+            Ok(count) if 0 < count || bytes.is_empty() => Ok(count),
+            _ => {
+                self.failures += 1;
+                Err(DeviceError)
+            }
+        }
+    }
+
+    fn failures(&self) -> u64 {
+        self.failures
+    }
+}

@@ -1,0 +1,104 @@
+//! Frames that lie one behind the other in one buffer.
+ghost use Rattle.std.specs.Prelude.{◌≡◌, ◌<◌, ◌≤◌, ◌^◌, ◌++◌, ◌∷◌, ◌↔◌, [], List, ℕ, length, sum, IsTrue, OnOk, OnErr};
+ghost use Rattle.std.specs.Iterator.{at_most, YieldsFirstRef};
+ghost use Rattle.pcap_trace.specs.Frames.{cut};
+
+use std::alloc::{AllocError, Global};
+use std::marker::Model;
+
+/// A list of frames, each of any number of bytes below 2^32. A contract sees it as the list of their bytes.
+///
+/// The frames lie one behind the other in one piece of memory, with four bytes beside it for the length of each.
+#[derive(Drop)]
+pub struct Frames {
+    bytes: Vec<u8>,
+    lengths: Vec<u32>,
+}
+
+impl Model for Frames {
+    ghost Value = { List (List ℕ) };
+
+    ghost view = { λ f. cut f.lengths.items f.bytes.items };
+
+    ghost invariant = { λ f. sum f.lengths.items ≡ length f.bytes.items };
+}
+
+impl Frames {
+    /// No frames. It takes no memory.
+    pub fn new(alloc: Global) -> Self
+        ensures { result ≡ [] }
+    {
+        Frames {
+            bytes: Vec::new(alloc),
+            lengths: Vec::new(alloc),
+        }
+    }
+
+    /// How many frames there are.
+    pub fn len(&self) -> usize
+        ensures { result ≡ length self.now }
+    {
+        self.lengths.len()
+    }
+
+    /// Whether there are none.
+    pub fn is_empty(&self) -> bool
+        ensures { IsTrue result ↔ (self.now ≡ []) }
+    {
+        self.len() == 0
+    }
+
+    /// Appends a frame. Where memory is refused, the frames stay as they were.
+    pub fn push(&mut self, frame: &[u8]) -> Result<(), AllocError>
+        requires { length frame.now < 2 ^ 32 }
+        ensures ok { OnOk result (self.new ≡ self.old ++ frame.now ∷ []) }
+        ensures err { OnErr result (self.new ≡ self.old) }
+    {
+        self.lengths.reserve(1)?;
+        self.bytes.extend_from_slice(frame)?;
+        self.lengths.push_reserved(frame.len() as u32);
+        Ok(())
+    }
+
+    /// The frames from the first on.
+    pub fn iter(&self) -> Iter<'_>
+        ensures { result ≡ self.now }
+    {
+        Iter {
+            bytes: self.bytes.as_slice(),
+            lengths: self.lengths.as_slice(),
+        }
+    }
+}
+
+/// The frames that are left of a [`Frames`], from its first one on. A contract sees it as the list of them; at its end it stays there.
+#[derive(Drop)]
+pub struct Iter<'a> {
+    bytes: &'a [u8],
+    lengths: &'a [u32],
+}
+
+impl<'a> Model for Iter<'a> {
+    ghost Value = { List (List ℕ) };
+
+    ghost view = { λ i. cut i.lengths.now i.bytes.now };
+
+    ghost invariant = { λ i. sum i.lengths.now ≡ length i.bytes.now };
+}
+
+impl<'a> Iterator for Iter<'a> {
+    type Item = &'a [u8];
+
+    ghost next_gives = { YieldsFirstRef (λ s. s) };
+
+    ghost remaining = { λ s. at_most (length s) };
+
+    /// The next frame, whole, or `None` where none is left.
+    fn next(&mut self) -> Option<&'a [u8]> {
+        let (length, rest) = self.lengths.split_first()?;
+        let (frame, after) = self.bytes.split_at(*length as usize);
+        self.lengths = rest;
+        self.bytes = after;
+        Some(frame)
+    }
+}

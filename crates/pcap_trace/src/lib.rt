@@ -1,0 +1,30 @@
+//! Packet traces of libpcap (its manual page "pcap-savefile", version 2.4): frames read from a [`Source`], and written to a [`Sink`].
+//!
+//! [`Trace::read`] reads a whole trace, [`Trace::write`] writes one, and [`RecordWriter`] writes one packet by packet in large blocks.
+//! Every failure of a device is told, as E66 or E67.
+#![tactic(auto)]
+
+mod block;
+mod device;
+mod fault;
+mod files;
+mod frames;
+mod law;
+mod memory;
+mod packet;
+mod reading;
+#[cfg(test)]
+mod tests;
+mod trace;
+mod writer;
+mod writing;
+
+pub use device::{DeviceError, Sink, Source};
+pub use fault::{ReadError, WriteError};
+pub use files::{ReaderSource, WriterSink};
+pub use frames::{Frames, Iter};
+pub use law::written_is_trace;
+pub use memory::{SliceSource, VecSink};
+pub use trace::Trace;
+pub use writer::RecordWriter;
+pub use writing::write_all;

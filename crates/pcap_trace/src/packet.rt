@@ -1,0 +1,56 @@
+//! The headers of a trace file and of its packets, as they are written (libpcap, "pcap-savefile", File Header and Packet Header).
+ghost use Rattle.std.specs.Prelude.{◌≡◌};
+ghost use Rattle.pcap_trace.specs.Format.{file_header, packet_header};
+
+use byteorder::{ByteOrder, LittleEndian};
+
+/// Bytes of a file header.
+pub const FILE_HEADER: usize = 24;
+
+/// Bytes of a packet header.
+pub const PACKET_HEADER: usize = 16;
+
+/// The first word of a trace with times in microseconds.
+pub const MAGIC: u32 = 0xA1B2_C3D4;
+
+/// The major number of version 2.4.
+pub const MAJOR: u16 = 2;
+
+/// The minor number of version 2.4.
+pub const MINOR: u16 = 4;
+
+/// The most bytes that a packet of a written trace is said to have.
+const SNAPSHOT_LENGTH: u32 = 65_535;
+
+/// The link type of Ethernet (libpcap, "pcap-linktype", LINKTYPE_ETHERNET).
+pub const ETHERNET: u32 = 1;
+
+/// Microseconds of a second.
+const MICROSECONDS: u64 = 1_000_000;
+
+/// The file header that traces are written with.
+#[tactic(auto, unfolding(crate::specs::Format::file_header))]
+pub fn file_header() -> [u8; FILE_HEADER]
+    ensures { result ≡ file_header }
+{
+    let mut header = [0; FILE_HEADER];
+    LittleEndian::write_u32(&mut header, MAGIC);
+    LittleEndian::write_u16(&mut header[4..], MAJOR);
+    LittleEndian::write_u16(&mut header[6..], MINOR);
+    LittleEndian::write_u32(&mut header[16..], SNAPSHOT_LENGTH);
+    LittleEndian::write_u32(&mut header[20..], ETHERNET);
+    header
+}
+
+/// The packet header of a frame of so many bytes, at a time in microseconds.
+#[tactic(auto, unfolding(crate::specs::Format::packet_header))]
+pub fn packet_header(time: u64, length: u32) -> [u8; PACKET_HEADER]
+    ensures { result ≡ packet_header time length }
+{
+    let mut header = [0; PACKET_HEADER];
+    LittleEndian::write_u32(&mut header, (time / MICROSECONDS % (1 << 32)) as u32);
+    LittleEndian::write_u32(&mut header[4..], (time % MICROSECONDS) as u32);
+    LittleEndian::write_u32(&mut header[8..], length);
+    LittleEndian::write_u32(&mut header[12..], length);
+    header
+}

@@ -1,0 +1,6 @@
+//! Worked examples: what is read and written, and devices that fail.
+
+mod devices;
+mod fixtures;
+mod reading;
+mod writing;

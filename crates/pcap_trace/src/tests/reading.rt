@@ -1,0 +1,204 @@
+//! Traces that are read from memory.
+
+use super::fixtures::{FIRST, HEADER, SECOND, SMALL, counts, two_frames};
+use crate::{DeviceError, Frames, ReadError, SliceSource, Source, Trace, WriteError};
+use std::alloc::Global;
+use std::test::Fail;
+
+/// What is read of these bytes: how many frames, how many skipped packets, and whether they are cut.
+fn read(alloc: Global, bytes: &[u8]) -> Result<(usize, u64, bool), ReadError> {
+    counts(alloc, &mut SliceSource::new(bytes))
+}
+
+/// Want of memory is the one other answer that is allowed here, so that each allocation can be made to fail in turn.
+#[test]
+fn a_skipped_packet_and_a_cut_one(rt: HostRuntime) {
+    let mut source = SliceSource::new(&SMALL);
+    match Trace::read(rt.alloc(), &mut source) {
+        Ok(trace) => {
+            assert_eq!(rt; trace.frames.len(), 1);
+            assert!(rt; !trace.frames.is_empty());
+            let mut frames = trace.frames.iter();
+            assert_eq!(rt; frames.next(), Some(&SMALL[40..54]));
+            assert!(rt; frames.next().is_none());
+            assert_eq!(rt; trace.skipped, 1);
+            assert!(rt; trace.cut);
+            assert_eq!(rt; source.limit(), 0);
+        }
+        Err(error) => assert_eq!(rt; error, ReadError::Memory),
+    }
+    assert_eq!(rt; source.failures(), 0);
+}
+
+/// Frames that were pushed are there in their order. Want of memory leaves those that were there before.
+#[test]
+fn frames_are_kept_in_order(rt: HostRuntime) {
+    let mut frames = Frames::new(rt.alloc());
+    assert!(rt; frames.is_empty());
+    let given = [&FIRST[..], &[], &SECOND[..1]];
+    for (count, frame) in given.iter().enumerate() {
+        assert_eq!(rt; frames.len(), count);
+        if frames.push(frame).is_err() {
+            assert_eq!(rt; frames.len(), count);
+            break;
+        }
+    }
+    for (found, frame) in frames.iter().zip(given) {
+        assert_eq!(rt; found, frame);
+    }
+}
+
+#[test]
+fn a_bare_header_and_an_empty_file(rt: HostRuntime) {
+    assert_eq!(rt; read(rt.alloc(), &HEADER), Ok((0, 0, false)));
+    assert_eq!(rt; read(rt.alloc(), &[]), Err(ReadError::Header));
+}
+
+/// A trace of two frames that was cut behind each of its bytes.
+#[test]
+fn each_beginning_of_a_trace(rt: HostRuntime) -> Result<(), Fail> {
+    let bytes = two_frames(rt.alloc())?;
+    assert_eq!(rt; bytes.len(), 176);
+    for length in 0..=176 {
+        let want = match length {
+            0..24 => Err(ReadError::Header),
+            24 => Ok((0, 0, false)),
+            25..100 => Ok((0, 0, true)),
+            100 => Ok((1, 0, false)),
+            101..176 => Ok((1, 0, true)),
+            _ => Ok((2, 0, false)),
+        };
+        assert_eq!(rt;
+            read(rt.alloc(), &bytes[..length]),
+            want,
+            "of {length} bytes"
+        );
+    }
+    Ok(())
+}
+
+/// The file header with other bytes from a place on.
+fn header_with(place: usize, bytes: &[u8]) -> [u8; 24] {
+    let mut header = HEADER;
+    for (to, from) in header.iter_mut().skip(place).zip(bytes) {
+        *to = *from;
+    }
+    header
+}
+
+/// Of two faults of a file header the one that is looked for first is answered.
+#[test]
+fn faults_of_the_file_header(rt: HostRuntime) -> Result<(), Fail> {
+    for (place, bytes, want) in [
+        (0, &[0xa1, 0xb2, 0xc3, 0xd4][..], ReadError::Magic), // big-endian
+        (0, &[0x4d, 0x3c, 0xb2, 0xa1], ReadError::Magic), // nanoseconds
+        (0, &[0xd4, 0xc3, 0xb2, 0xa0], ReadError::Magic),
+        (0, &[0xd4, 0xc3, 0xb2, 0xa0, 3], ReadError::Magic),
+        (4, &[3], ReadError::Version),
+        (4, &[2, 1], ReadError::Version),
+        (6, &[3], ReadError::Version),
+        (6, &[4, 1], ReadError::Version),
+        (
+            6,
+            &[3, 0, 0, 0, 0, 0, 0, 0, 0, 0, 0, 0, 0, 0, 2],
+            ReadError::Version,
+        ),
+        (20, &[0], ReadError::LinkType),
+        (20, &[101], ReadError::LinkType),
+        (20, &[1, 0, 0, 4], ReadError::LinkType),
+    ] {
+        let header = header_with(place, bytes);
+        assert_eq!(rt;
+            read(rt.alloc(), &header),
+            Err(want),
+            "{bytes:?} at {place}"
+        );
+        assert_eq!(rt;
+            read(rt.alloc(), header.get(..23).ok_or("23 bytes")?),
+            Err(ReadError::Header)
+        );
+    }
+    // Two words and the snapshot length are ignored.
+    let ignored = header_with(8, &[9; 12]);
+    assert_eq!(rt; read(rt.alloc(), &ignored), Ok((0, 0, false)));
+    Ok(())
+}
+
+/// A packet header that tells a captured and an original length, behind a file header with a link type.
+fn with_lengths(link_type: u8, captured: u32, original: u32) -> [u8; 40] {
+    let mut bytes = [0; 40];
+    bytes[..24].copy_from_slice(&HEADER);
+    bytes[20] = link_type;
+    bytes[32..36].copy_from_slice(&captured.to_le_bytes());
+    bytes[36..].copy_from_slice(&original.to_le_bytes());
+    bytes
+}
+
+/// 262,144 bytes are the most, whatever stands behind the packet header.
+#[test]
+fn longest_packets(rt: HostRuntime) -> Result<(), Fail> {
+    let oversized = with_lengths(1, 262_145, 262_145);
+    assert_eq!(rt; read(rt.alloc(), &oversized), Err(ReadError::Record));
+    assert_eq!(rt;
+        read(rt.alloc(), oversized.get(..39).ok_or("39 bytes")?),
+        Ok((0, 0, true))
+    );
+    let in_part = with_lengths(1, u32::MAX, 0);
+    assert_eq!(rt; read(rt.alloc(), &in_part), Err(ReadError::Record));
+    let other_link = with_lengths(2, 262_145, 262_145);
+    assert_eq!(rt; read(rt.alloc(), &other_link), Err(ReadError::LinkType));
+
+    let mut longest = with_lengths(1, 262_144, 262_144).to_vec(rt.alloc())?;
+    assert_eq!(rt; read(rt.alloc(), &longest), Ok((0, 0, true)));
+    longest.extend_from_slice(vec![in rt.alloc(); 7; 262_144]?.as_slice())?;
+    let mut source = SliceSource::new(&longest);
+    let trace = Trace::read(rt.alloc(), &mut source)?;
+    let frame = trace.frames.iter().next().ok_or("a frame")?;
+    assert_eq!(rt; frame.len(), 262_144);
+    assert!(rt; frame.iter().all(|byte| *byte == 7));
+
+    // The whole packet, and then an oversized one, gives nothing but the refusal.
+    longest.extend_from_slice(oversized.get(24..).ok_or("a packet header")?)?;
+    assert_eq!(rt; read(rt.alloc(), &longest), Err(ReadError::Record));
+    Ok(())
+}
+
+/// Of 20 captured bytes of a frame of 14 all belong to the frame; 13 of 14 are a part.
+#[test]
+fn captured_and_original_lengths(rt: HostRuntime) -> Result<(), Fail> {
+    for (captured, want) in [(20, (1, 0, false)), (13, (0, 1, false))] {
+        let mut bytes = with_lengths(1, captured, 14).to_vec(rt.alloc())?;
+        bytes.extend_from_slice(vec![in rt.alloc(); 3; captured as usize]?.as_slice())?;
+        assert_eq!(rt; read(rt.alloc(), &bytes), Ok(want), "{captured} bytes");
+    }
+    let mut bytes = with_lengths(1, 20, 14).to_vec(rt.alloc())?;
+    bytes.extend_from_slice(&[3; 20])?;
+    let mut source = SliceSource::new(&bytes);
+    let trace = Trace::read(rt.alloc(), &mut source)?;
+    assert_eq!(rt; trace.frames.iter().next(), Some([3; 20].as_slice()));
+    Ok(())
+}
+
+#[test]
+fn texts_and_statuses(rt: HostRuntime) -> Result<(), Fail> {
+    for (error, text, status) in [
+        (ReadError::Header, "E60 Header", 1),
+        (ReadError::Magic, "E61 Magic", 1),
+        (ReadError::Version, "E62 Version", 1),
+        (ReadError::LinkType, "E63 LinkType", 1),
+        (ReadError::Record, "E64 Record", 1),
+        (ReadError::Memory, "E65 Memory", 4),
+        (ReadError::Read, "E66 Read", 3),
+    ] {
+        assert_eq!(rt; format!(in rt.alloc(); "{error}")?.as_str(), text);
+        assert_eq!(rt; error.status(), status, "{text}");
+    }
+    let error = WriteError::Write;
+    assert_eq!(rt; format!(in rt.alloc(); "{error}")?.as_str(), "E67 Write");
+    assert_eq!(rt; error.status(), 3);
+    assert_eq!(rt;
+        format!(in rt.alloc(); "{DeviceError}")?.as_str(),
+        "the device failed"
+    );
+    Ok(())
+}
