@@ -1,0 +1,186 @@
+-- What holds of the program's command line where clap takes the words: the subcommand is `pass`, and has its files.
+use Rattle.std.specs.List.{find, list_all, slice_index_or}
+use Rattle.std.specs.Option.{option_map, option_map_or}
+use Rattle.std.specs.Prelude.{Result, Ok, Err, IfErr, IsErrAnd, codes, is_some, unwrap_or}
+use Rattle.std.specs.Str.{bytes_eq}
+use Rattle.std.proofs.lemmas.Slice.Eq.{bytes_eq-Decides}
+use Rattle.std.proofs.Common.{◌≡◌, ◌∙◌, ◌||◌, Bool, cond, true, false, not, refl, sym, subst, ap, ap₂, List, [], ◌∷◌, Option, Some, None, inl, inr, true≢false}
+use Rattle.clap.proofs.OnLiterals.{clap_on_literals}
+use Rattle.clap.specs.Faults.{check_fault, entered_fault, level_fault}
+use Rattle.clap.specs.Kinds.{HasKind, IsAmong, Kinds, check_kinds}
+use Rattle.clap.specs.Simple.{App, Shape, argument_words, built, entered, is_simple, label_of, names_of, new_shape, rows_at}
+use Rattle.clap.specs.Faults.{fault_of, is_simple_and_free}
+use Rattle.clap.specs.Simple.{subcommand_of, subcommand_rows_of}
+use Rattle.clap.specs.Values.{kind_of}
+use Rattle.clap.specs.declared.error.Error.{Error}
+use Rattle.command_line.specs.Errors.{IsMadeOf, IsRefusedBy}
+use Rattle.command_line.specs.declared.error.LineError.{LineError}
+use Rattle.command_line.specs.declared.error.LineError.TheVariants.{Memory, Value, Words}
+use Rattle.clap.specs.Takes.{is_given}
+use Rattle.clap.specs.Walk.{Row, Text, answers_to, nothing_held, rows_after, rows_of, walk}
+use Rattle.clap.specs.Matches.{found_of, subcommand_name_of}
+use Rattle.clap.specs.declared.parser.matches.ArgMatches.{ArgMatches}
+use Rattle.clap.specs.declared.parser.matches.ArgMatches.TheViews.{out-ArgMatches, out-SubCommand}
+use Rattle.std.specs.Borrow.{Bor}
+use Rattle.std.specs.Box.{box_value}
+use Rattle.command_line.specs.Jobs.{HasFiles}
+use Rattle.command_line.specs.Shape.{found_in, pass_app, program_app, refusals}
+use Rattle.command_line.proofs.Uses.{EachHasValue, gives, given_has_first, nothing_missing}
+use Rattle.command_line.proofs.Walks.{StopsAtOther, level_below, level_checks, level_rows, level_walk}
+
+pub simple : is_simple program_app ≡ true
+unfolding clap_on_literals program_app pass_app
+simple = refl
+
+pub simple_and_free : is_simple_and_free program_app ≡ true
+unfolding clap_on_literals program_app pass_app
+simple_and_free = refl
+
+-- ---- the program as clap builds it, with its subcommands `pass` and `help`
+
+unfoldable built_pass : Shape
+built_pass = slice_index_or (built program_app).subs 0 (new_shape [])
+
+unfoldable built_help : Shape
+built_help = slice_index_or (built program_app).subs 1 (new_shape [])
+
+top_gives : list_all gives (built program_app).top.rules ≡ true
+unfolding clap_on_literals program_app pass_app
+top_gives = refl
+
+pass_gives : list_all gives built_pass.rules ≡ true
+unfolding clap_on_literals program_app pass_app built_pass
+pass_gives = refl
+
+has_help : (built program_app).top.disable_help_subcommand ≡ false
+unfolding clap_on_literals program_app pass_app
+has_help = refl
+
+two_subcommands : (built program_app).subs ≡ built_pass ∷ built_help ∷ []
+unfolding clap_on_literals program_app pass_app built_pass built_help
+two_subcommands = refl
+
+pass_answers : (word : Text) → answers_to word (label_of built_pass) ≡ (bytes_eq (codes "pass") word || false)
+unfolding clap_on_literals program_app pass_app built_pass
+pass_answers word = refl
+
+help_answers : (word : Text) → answers_to word (label_of built_help) ≡ (bytes_eq (codes "help") word || false)
+unfolding clap_on_literals program_app pass_app built_help
+help_answers word = refl
+
+pass_is_named : built_pass.name ≡ codes "pass"
+unfolding clap_on_literals program_app pass_app built_pass
+pass_is_named = refl
+
+pass_wants : (rows : List Row) → check_fault built_pass rows false ≡ check_kinds false false (not (is_given (codes "IN") rows) || (not (is_given (codes "OUT") rows) || false))
+unfolding clap_on_literals program_app pass_app built_pass
+pass_wants rows = refl
+
+-- ---- the subcommand that was met
+
+not_second : (text word : Text) → bytes_eq word text ≡ false → (bytes_eq text word || false) ≡ false
+not_second text word e = go (bytes_eq text word) refl
+  where
+    go : (b : Bool) → bytes_eq text word ≡ b → (b || false) ≡ false
+    go false same = refl
+    go true same =
+        let back : bytes_eq word text ≡ true = (bytes_eq-Decides word text).1 (sym ((bytes_eq-Decides text word).0 same)) in
+        absurd (true≢false (sym back ∙ e))
+
+some_is : {X : Type 0} (x y : X) → Some x ≡ Some y → x ≡ y
+some_is x y e = ap (λ o. unwrap_or o x) e
+
+first_of_two : (first second : Shape) (is_first is_second : Bool) (words : List Text) (name : Text) (rows : List Row) → is_second ≡ false
+    → option_map_or (λ s. level_fault s [] nothing_held words false []) (cond is_first (Some first) (cond is_second (Some second) None)) [] ≡ []
+    → option_map (λ s. rows_at s words) (cond is_first (Some first) (cond is_second (Some second) None)) ≡ Some (name, rows)
+    → (level_fault first [] nothing_held words false [] ≡ []) × (name ≡ first.name) × (rows ≡ rows_after first.rules [] words)
+first_of_two first second true is_second words name rows e f found =
+    let same : (name, rows) ≡ rows_at first words = sym (some_is (rows_at first words) (name, rows) found) in
+    (f, ap (λ (p : Text × List Row). p.0) same, ap (λ (p : Text × List Row). p.1) same)
+first_of_two first second false true words name rows e f found = absurd (true≢false e)
+first_of_two first second false false words name rows e f found = absurd (cc)
+
+entered_pass : (a : App) (disabled : Bool) (stop : Option (Text × List Text)) (name : Text) (rows : List Row) → a.subs ≡ built_pass ∷ built_help ∷ []
+    → disabled ≡ false → StopsAtOther disabled stop → entered_fault a stop ≡ [] → entered a stop ≡ Some (name, rows)
+    → (words : List Text) × (level_fault built_pass [] nothing_held words false [] ≡ []) × (name ≡ built_pass.name) × (rows ≡ rows_after built_pass.rules [] words)
+entered_pass a disabled None name rows subs enabled other f found = absurd (cc)
+entered_pass a disabled (Some p) name rows subs enabled other f found =
+    let answers : Shape → Bool = λ s. answers_to p.0 (label_of s) in
+    let fault = subst (λ (l : List Shape). option_map_or (λ s. level_fault s [] nothing_held p.1 false []) (find answers l) [] ≡ []) subs f in
+    let met = subst (λ (l : List Shape). option_map (λ s. rows_at s p.1) (find answers l) ≡ Some (name, rows)) subs found in
+    let is_second : answers built_help ≡ false = help_answers p.0 ∙ not_second (codes "help") p.0 (other enabled) in
+    let it = first_of_two built_pass built_help (answers built_pass) (answers built_help) p.1 name rows is_second fault met in
+    (p.1, it.0, it.1, it.2)
+
+both_given : (input output : Bool) → (not input || (not output || false)) ≡ false → (input ≡ true) × (output ≡ true)
+both_given true true e = (refl, refl)
+both_given true false e = absurd (true≢false e)
+both_given false output e = absurd (true≢false e)
+
+files_there : (rows : List Row) → EachHasValue rows → check_fault built_pass rows false ≡ [] → HasFiles rows
+files_there rows has f =
+    let given = both_given (is_given (codes "IN") rows) (is_given (codes "OUT") rows) (nothing_missing false false _ (sym (pass_wants rows) ∙ f)) in
+    (given_has_first (codes "IN") rows has given.0, given_has_first (codes "OUT") rows has given.1)
+
+-- where clap takes the words, the subcommand is `pass`, with both files
+pub taken : (words : List Text) (name : Text) (rows : List Row) → refusals words ≡ [] → found_in words ≡ Some (name, rows)
+    → (name ≡ codes "pass") × HasFiles rows
+unfolding refusals found_in
+taken words name rows f found =
+    let a = built program_app in
+    let rest = argument_words program_app words in
+    let stop = (walk a.top.rules (names_of a) nothing_held rest).stopped in
+    let below = level_below a.top top_gives (names_of a) rest (is_some (entered a stop)) (entered_fault a stop) f in
+    let good = level_walk a.top top_gives (names_of a) rest (is_some (entered a stop)) (entered_fault a stop) f in
+    let it = entered_pass a a.top.disable_help_subcommand stop name rows two_subcommands has_help good.1 below found in
+    let each = level_rows built_pass pass_gives [] it.0 false [] it.1 in
+    let files = files_there (rows_after built_pass.rules [] it.0) each (level_checks built_pass pass_gives [] it.0 false [] it.1) in
+    (it.2 ∙ pass_is_named, subst HasFiles (sym it.3) files)
+
+-- ---- what clap's contracts say of the program
+
+pub needs_subcommand : program_app.top.subcommand_required ≡ true
+unfolding program_app
+needs_subcommand = refl
+
+pub refusals_are : (a : App) (words : List Text) → a ≡ program_app → fault_of a words ≡ refusals words
+unfolding refusals
+refusals_are a words e = ap (λ (x : App). fault_of x words) e
+
+pub found_is : (a : App) (words : List Text) → a ≡ program_app → subcommand_of a words ≡ found_in words
+unfolding found_in
+found_is a words e = ap (λ (x : App). subcommand_of x words) e
+
+-- what clap's error becomes tells of the words what clap's error does
+pub refused_by : (kinds : Kinds) (error : Error) (made : LineError) → HasKind kinds error → IsMadeOf error made → IsRefusedBy kinds made
+refused_by kinds error Memory h m = tt
+refused_by kinds error (Value value) h m = absurd m
+refused_by kinds error (Words same) h m =
+    elim h [
+      | inl memory ↦ absurd (m.1 memory)
+      | inr among ↦ subst (λ (x : Error). IsAmong (kind_of x) kinds) (sym m.0) among
+    ]
+
+pub refused_result : {T : Type 0} (kinds : Kinds) (error : Error) (r : Result T LineError) → HasKind kinds error → IsErrAnd r (IsMadeOf error)
+    → IfErr r (IsRefusedBy kinds)
+refused_result kinds error (Ok x) h m = tt
+refused_result kinds error (Err made) h m = refused_by kinds error made h m
+
+pair_met : {X : Type 0} (o : Option X) (h : X → Text × List Row) (name : Text) (rows : List Row) → option_map (λ x. (h x).0) o ≡ Some name
+    → option_map (λ p. p.1) (option_map h o) ≡ Some rows → option_map h o ≡ Some (name, rows)
+pair_met None h name rows e f = absurd (cc)
+pair_met (Some x) h name rows e f =
+    let first : (h x).0 ≡ name = some_is (h x).0 name e in
+    let second : (h x).1 ≡ rows = some_is (h x).1 rows f in
+    ap₂ (λ (u : Text) (v : List Row). Some (u, v)) first second
+
+-- the name and the rows that the getter gives are those of the subcommand that was entered
+pub subcommand_got : (words : List Text) (m : ArgMatches) (got : Option (Bor Text × Bor ArgMatches)) (met : Bor Text × Bor ArgMatches) → got ≡ Some met
+    → option_map (λ p. p.0.now) got ≡ subcommand_name_of m → option_map (λ p. rows_of (found_of p.1.now)) got ≡ option_map (λ p. p.1) (subcommand_rows_of m)
+    → subcommand_rows_of m ≡ found_in words → found_in words ≡ Some (met.0.now, rows_of (found_of met.1.now))
+subcommand_got words m got met is name rows found =
+    let named : subcommand_name_of m ≡ Some met.0.now = sym name ∙ ap (λ (o : Option (Bor Text × Bor ArgMatches)). option_map (λ p. p.0.now) o) is in
+    let rowed : option_map (λ p. p.1) (subcommand_rows_of m) ≡ Some (rows_of (found_of met.1.now)) =
+    sym rows ∙ ap (λ (o : Option (Bor Text × Bor ArgMatches)). option_map (λ p. rows_of (found_of p.1.now)) o) is in
+    sym found ∙ pair_met (out-ArgMatches m).subcommand (λ b. ((out-SubCommand (box_value b)).name.now, rows_of (found_of (out-SubCommand (box_value b)).matches)))
+    met.0.now (rows_of (found_of met.1.now)) named rowed

@@ -1,0 +1,4 @@
+pub mod Commands
+pub mod Uses
+pub mod Values
+pub mod Walks

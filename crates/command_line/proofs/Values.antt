@@ -1,0 +1,46 @@
+-- From what clap's getters give to what its matches hold.
+use Rattle.std.specs.Borrow.{Bor}
+use Rattle.std.specs.Prelude.{Option, Some, None, option_map, IfSome, IsSome}
+use Rattle.std.proofs.Common.{◌≡◌, ◌∙◌, ap, subst, sym}
+use Rattle.clap.proofs.WalkLemmas.{first_value-rows}
+use Rattle.clap.specs.Words.{Text, first_of, first_value, rows_of}
+use Rattle.clap.specs.declared.parser.matches.Found.{Found}
+use Rattle.command_line.specs.Jobs.{IsValueOf}
+
+-- a getter's answer is the text of the rows
+text_of : (found : Found) (id : Text) (got : Option (Bor Text)) → option_map (λ s. s.now) got ≡ first_value found id
+    → first_of id (rows_of found) ≡ option_map (λ s. s.now) got
+text_of found id got e = sym (first_value-rows found id) ∙ sym e
+
+pub some_text : (found : Found) (id : Text) (got : Option (Bor Text)) (text : Bor Text) → option_map (λ s. s.now) got ≡ first_value found id
+    → got ≡ Some text → first_of id (rows_of found) ≡ Some text.now
+some_text found id got text e is = text_of found id got e ∙ ap (λ (o : Option (Bor Text)). option_map (λ s. s.now) o) is
+
+pub no_text : (found : Found) (id : Text) (got : Option (Bor Text)) → option_map (λ s. s.now) got ≡ first_value found id
+    → got ≡ None → first_of id (rows_of found) ≡ None
+no_text found id got e is = text_of found id got e ∙ ap (λ (o : Option (Bor Text)). option_map (λ s. s.now) o) is
+
+is_some_mapped : (got : Option (Bor Text)) → IsSome (option_map (λ s. s.now) got) → IsSome got
+is_some_mapped None h = h
+is_some_mapped (Some x) h = h
+
+-- a text that the rows have is one that the getter gives
+pub is_got : (found : Found) (id : Text) (got : Option (Bor Text)) → option_map (λ s. s.now) got ≡ first_value found id
+    → IsSome (first_of id (rows_of found)) → IsSome got
+is_got found id got e has = is_some_mapped got (subst (λ (o : Option Text). IsSome o) (text_of found id got e) has)
+
+-- an option that isn't there has no value, and one that is has the value of its text
+pub no_value : {V : Type 0} (spells : Text → V → Type 0) (first : Option Text) → first ≡ None → IsValueOf spells first None
+no_value spells first e = subst (λ (o : Option Text). IsValueOf spells o None) (sym e) tt
+
+pub a_value : {V : Type 0} (spells : Text → V → Type 0) (first : Option Text) (text : Text) (value : V) → first ≡ Some text → spells text value
+    → IsValueOf spells first (Some value)
+a_value spells first text value e h = subst (λ (o : Option Text). IsValueOf spells o (Some value)) (sym e) h
+
+-- what holds of each value that a text spells holds of the value that was read
+pub of_value : {V : Type 0} (spells : Text → V → Type 0) (P : V → Type 0) → ((text : Text) (value : V) → spells text value → P value)
+    → (first : Option Text) (value : Option V) → IsValueOf spells first value → IfSome value P
+of_value spells P each None None h = tt
+of_value spells P each (Some text) (Some value) h = each text value h
+of_value spells P each None (Some value) h = absurd h
+of_value spells P each (Some text) None h = tt

@@ -1,0 +1,67 @@
+-- What clap holds for the words, as a job or as the value that it is refused for (own).
+use Rattle.std.specs.Prelude.{◌≡◌, ◌≤◌, IfSome, ℕ, List, [], IsSomeAnd, Option, Some, None, ⊤, IsSome, codes}
+use Rattle.clap.specs.Words.{Row, Text, first_of}
+use Rattle.command_line.specs.Shape.{found_in, refusals}
+use Rattle.command_line.specs.Spelling.{IsGroup, SpellsAddress, SpellsGroup, SpellsVlan}
+use Rattle.command_line.specs.declared.error.InvalidValue.{InvalidValue}
+use Rattle.command_line.specs.declared.job.Job.{Job}
+use Rattle.command_line.specs.declared.job.Job.TheVariants.{Pass}
+use Rattle.command_line.specs.declared.job.PassFilter.{PassFilter}
+use Rattle.command_line.specs.declared.job.PassJob.{PassJob}
+use Rattle.command_line.specs.declared.job.PassOption.{PassOption}
+use Rattle.command_line.specs.declared.job.PassOption.TheVariants.{Address, Group, Vlan}
+
+-- the value that an option's text spells, and none exactly where the option isn't there
+abbrev pub IsValueOf : {V : Type 0} → (Text → V → Type 0) → Option Text → Option V → Type 0
+IsValueOf spells None None = ⊤
+IsValueOf spells (Some text) (Some value) = spells text value
+IsValueOf spells _ _ = ⊥
+
+pub record IsPassFilterOf (rows : List Row) (filter : PassFilter) : Type 0 where
+  pub address : IsValueOf SpellsAddress (first_of (codes "address") rows) filter.address
+  pub group : IsValueOf SpellsGroup (first_of (codes "group") rows) filter.group
+  pub vlan : IsValueOf SpellsVlan (first_of (codes "vlan") rows) filter.vlan
+
+pub record IsPassJobOf (rows : List Row) (job : PassJob) : Type 0 where
+  pub filter : IsPassFilterOf rows job.filter
+  pub input : first_of (codes "IN") rows ≡ Some job.input.now
+  pub output : first_of (codes "OUT") rows ≡ Some job.output.now
+
+-- the job is that of the subcommand with these matches
+abbrev pub IsJobOf : Text × List Row → Job → Type 0
+IsJobOf found (Pass job) = (found.0 ≡ codes "pass") × IsPassJobOf found.1 job
+
+-- what a caller may count on without the words: a group has its group bit, and a VLAN identifier 12 bits
+abbrev pub IsWithinBounds : PassFilter → Type 0
+IsWithinBounds filter = IfSome filter.group IsGroup × IfSome filter.vlan (λ n. n ≤ 4095)
+
+abbrev pub HasBounds : Job → Type 0
+HasBounds (Pass job) = IsWithinBounds job.filter
+
+-- both files of a `pass` are there
+abbrev pub HasFiles : List Row → Type 0
+HasFiles rows = IsSome (first_of (codes "IN") rows) × IsSome (first_of (codes "OUT") rows)
+
+abbrev pub name_of : PassOption → Text
+name_of Address = codes "address"
+name_of Group = codes "group"
+name_of Vlan = codes "vlan"
+
+-- the text is of the option's form
+abbrev pub IsSpelled : PassOption → Text → Type 0
+IsSpelled Address text = (address : List ℕ) × SpellsAddress text address
+IsSpelled Group text = (address : List ℕ) × SpellsGroup text address
+IsSpelled Vlan text = (n : ℕ) × SpellsVlan text n
+
+-- the matches have this text for the option, and it isn't of the option's form
+pub record IsInvalidIn (rows : List Row) (value : InvalidValue) : Type 0 where
+  pub given : first_of (name_of value.option) rows ≡ Some value.text.now
+  pub unspelled : ¬ IsSpelled value.option value.text.now
+
+-- clap takes the words, and the job is that of the subcommand that it finds in them
+abbrev pub IsAskedBy : List Text → Job → Type 0
+IsAskedBy words job = (refusals words ≡ []) × IsSomeAnd (found_in words) (λ found. IsJobOf found job)
+
+-- clap takes the words, and the value is one that it finds in them, of another form than its option's
+abbrev pub IsRefusedIn : List Text → InvalidValue → Type 0
+IsRefusedIn words value = (refusals words ≡ []) × IsSomeAnd (found_in words) (λ found. IsInvalidIn found.1 value)

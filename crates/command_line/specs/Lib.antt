@@ -1,0 +1,4 @@
+pub mod Errors
+pub mod Jobs
+pub mod Shape
+pub mod Spelling

@@ -1,0 +1,36 @@
+-- The program's command line, as clap's contracts see it (own). Help texts are no part of it.
+use Rattle.std.specs.Prelude.{List, Option, Some, codes, true}
+use Rattle.clap.specs.Words.{App, Row, Rule, Text, fault_of, new_app, new_rule, subcommand_of, with_rule, with_subcommand}
+use Rattle.clap.specs.Kinds.{Kinds}
+use Rattle.clap.specs.Simple.{on_top}
+use Rattle.clap.specs.declared.builder.ArgAction.TheVariants as action
+
+-- an option with one value, which help calls by one name, and which may stand once
+abbrev pub option_rule : Text → Rule
+option_rule name = record (new_rule name) { long = Some name; action = Some action.Set; value_names = 1 }
+
+-- a file, which must be there
+abbrev pub file_rule : Text → Rule
+file_rule name = record (new_rule name) { required = true; action = Some action.Set }
+
+-- `pass [--address A] [--group G] [--vlan N] IN OUT`
+unfoldable pub pass_app : App
+pass_app =
+    with_rule (with_rule (with_rule (with_rule (with_rule (new_app (codes "pass"))
+    (option_rule (codes "address"))) (option_rule (codes "group"))) (option_rule (codes "vlan")))
+    (file_rule (codes "IN"))) (file_rule (codes "OUT"))
+
+-- the program, which has to be told what to do
+unfoldable pub program_app : App
+unfolding pass_app
+program_app =
+    with_subcommand (on_top (λ s. record s { subcommand_required = true; arg_required_else_help = true })
+    (new_app (codes "nicbench"))) pass_app.top
+
+-- the kinds of error that clap answers the words with, none where it takes them
+unfoldable pub refusals : List Text → Kinds
+refusals words = fault_of program_app words
+
+-- the subcommand that clap finds in the words, with what it holds for each of its options and files
+unfoldable pub found_in : List Text → Option (Text × List Row)
+found_in words = subcommand_of program_app words

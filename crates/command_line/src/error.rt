@@ -1,0 +1,107 @@
+//! Why words were refused, with the text for the user.
+ghost use Rattle.std.specs.Prelude.{◌≡◌};
+ghost use Rattle.command_line.specs.Errors.{IsMadeOf, status_of};
+ghost use Rattle.command_line.specs.declared.error.LineError.TheVariants.{Memory, Value};
+
+use crate::PassOption;
+use clap::error::ErrorKind;
+use std::alloc::AllocError;
+use std::{error, fmt};
+
+/// Why words were refused.
+///
+/// The `Display` of `Words` and `Value` is the whole text for standard error, its last line feed
+/// included. That of `Memory` is the code and name that follow `nicbench: ` there.
+#[derive(Debug, Drop)]
+pub enum LineError<'a> {
+    /// clap refused the words, or was asked for help: its text is clap's.
+    Words(clap::Error),
+    /// clap took the words, and the value of an option isn't of its form.
+    Value(InvalidValue<'a>),
+    /// E57: memory was refused.
+    Memory,
+}
+
+/// A value that isn't of its option's form.
+#[derive(Clone, Copy, Debug, PartialEq, Eq)]
+pub struct InvalidValue<'a> {
+    /// The option that it was given for.
+    pub option: PassOption,
+    /// The value as it was given.
+    pub text: &'a str,
+}
+
+const REFUSED_WORDS: u8 = 2;
+
+const REFUSED_MEMORY: u8 = 4;
+
+impl LineError<'_> {
+    /// The exit status of the program: 2 for words and values, 4 for memory.
+    pub fn status(&self) -> u8
+        ensures { result ≡ status_of self.now }
+    {
+        match self {
+            LineError::Words(_) | LineError::Value(_) => REFUSED_WORDS,
+            LineError::Memory => REFUSED_MEMORY,
+        }
+    }
+}
+
+impl<'a> From<clap::Error> for LineError<'a> {
+    ghost from_gives = { IsMadeOf };
+
+    fn from(error: clap::Error) -> LineError<'a> {
+        match error.kind() {
+            ErrorKind::OutOfMemory => LineError::Memory,
+            _ => LineError::Words(error),
+        }
+    }
+}
+
+impl<'a> From<AllocError> for LineError<'a> {
+    ghost from_gives = { λ _ error. error ≡ Memory };
+
+    fn from(_error: AllocError) -> LineError<'a> {
+        LineError::Memory
+    }
+}
+
+impl<'a> From<InvalidValue<'a>> for LineError<'a> {
+    ghost from_gives = { λ value error. error ≡ Value value };
+
+    fn from(value: InvalidValue<'a>) -> LineError<'a> {
+        LineError::Value(value)
+    }
+}
+
+impl fmt::Display for LineError<'_> {
+    fn fmt<W: fmt::Write>(&self, f: &mut fmt::Formatter<W>) -> fmt::Result {
+        match self {
+            LineError::Words(error) => write!(f, "{error}"),
+            LineError::Value(value) => write!(f, "{value}"),
+            LineError::Memory => write!(f, "E57 Memory"),
+        }
+    }
+}
+
+impl fmt::Display for InvalidValue<'_> {
+    fn fmt<W: fmt::Write>(&self, f: &mut fmt::Formatter<W>) -> fmt::Result {
+        let (option, form) = match self.option {
+            PassOption::Address => ("--address <A>", ADDRESS_FORM),
+            PassOption::Group => ("--group <G>", GROUP_FORM),
+            PassOption::Vlan => ("--vlan <N>", VLAN_FORM),
+        };
+        let text = self.text;
+        write!(f, "error: invalid value '{text}' for '{option}': {form}\n")?;
+        write!(f, "\nFor more information, try '--help'.\n")
+    }
+}
+
+const ADDRESS_FORM: &str =
+    "an address is six pairs of hexadecimal digits joined by colons, as 02:00:00:00:00:01";
+
+const GROUP_FORM: &str = "a group is an address whose first byte is odd, as 01:00:5e:00:00:01";
+
+const VLAN_FORM: &str = "a VLAN is a decimal number from 0 to 4095, as 5";
+
+impl error::Error for LineError<'_> {}

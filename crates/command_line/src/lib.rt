@@ -1,0 +1,19 @@
+//! The words of the program `nicbench`: what they ask for, read with clap.
+//!
+//! [`line`] is the one entry: it answers a [`Job`], with the values of its options, or a
+//! [`LineError`], with the text for the user and the exit status.
+#![tactic(auto)]
+
+mod command;
+mod error;
+mod job;
+mod pass;
+mod reader;
+pub mod spelling;
+
+pub use error::{InvalidValue, LineError};
+pub use job::{Job, PassFilter, PassJob, PassOption};
+pub use reader::line;
+
+#[cfg(test)]
+mod tests;

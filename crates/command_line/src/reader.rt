@@ -1,0 +1,55 @@
+//! The reading of the program's words.
+ghost use Rattle.std.specs.Prelude.{◌≡◌, IfErr, IfOk, OnOk, [], codes, true};
+ghost use Rattle.clap.specs.Walk.{texts};
+ghost use Rattle.clap.specs.Words.{found_of, has_subcommand, rows_of, subcommand_rows_of};
+ghost use Rattle.command_line.specs.Errors.{IfValue, IfWords, IsRefusalOf, IsRefusedBy};
+ghost use Rattle.command_line.specs.Jobs.{HasBounds, HasFiles, IsAskedBy, IsInvalidIn, IsJobOf};
+ghost use Rattle.command_line.specs.Jobs.{IsRefusedIn};
+ghost use Rattle.command_line.specs.Shape.{found_in, refusals};
+
+use crate::command::program;
+use crate::pass::pass_job;
+use crate::{InvalidValue, Job, LineError};
+use clap::ArgMatches;
+use std::alloc::Global;
+
+/// The job of a command with these matches.
+fn job_of<'a>(name: &str, matches: &ArgMatches<'a>) -> Result<Job<'a>, InvalidValue<'a>>
+    requires named { name.now ≡ codes "pass" }
+    requires files { HasFiles (rows_of (found_of matches.now)) }
+    ensures bounds { IfOk result HasBounds }
+    ensures job { IfOk result (IsJobOf (name.now, rows_of (found_of matches.now))) }
+    ensures refused { IfErr result (IsInvalidIn (rows_of (found_of matches.now))) }
+{
+    match name {
+        "pass" => Ok(Job::Pass(pass_job(matches)?)),
+        _ => unreachable!(),
+    }
+}
+
+/// What clap finds in the words, a subcommand among it.
+fn matches_of<'a>(alloc: Global, words: &'a [&'a str]) -> Result<ArgMatches<'a>, LineError<'a>>
+    ensures taken { OnOk result (refusals (texts words.entry.now) ≡ []) }
+    ensures found { IfOk result (λ matches. has_subcommand matches ≡ true
+        × (subcommand_rows_of matches ≡ found_in (texts words.entry.now))) }
+    ensures refused { IfErr result (IsRefusedBy (refusals (texts words.entry.now))) }
+{
+    let command = program(alloc)?;
+    let matches = command.try_get_matches_from(words)?;
+    Ok(matches)
+}
+
+/// Reads the program's words, of which the first is the program's name.
+pub fn line<'a>(alloc: Global, words: &'a [&'a str]) -> Result<Job<'a>, LineError<'a>>
+    ensures job { IfOk result (IsAskedBy (texts words.entry.now)) }
+    ensures bounds { IfOk result HasBounds }
+    ensures words { IfErr result (λ error. IfWords error (IsRefusalOf (texts words.entry.now))) }
+    ensures value { IfErr result (λ error. IfValue error (IsRefusedIn (texts words.entry.now))) }
+{
+    let matches = matches_of(alloc, words)?;
+    let (name, found) = matches.subcommand().unwrap();
+    match job_of(name, found) {
+        Ok(job) => Ok(job),
+        Err(value) => Err(LineError::Value(value)),
+    }
+}

@@ -1,0 +1,368 @@
+use crate::{InvalidValue, Job, LineError, PassFilter, PassJob, PassOption, line};
+use std::alloc::{AllocError, Global};
+use std::test::Fail;
+
+const ADDRESS: [u8; 6] = [0x02, 0x0a, 0xbc, 0xde, 0xf0, 0x01];
+
+const GROUP: [u8; 6] = [0x01, 0x00, 0x5e, 0x00, 0x00, 0xfb];
+
+const NOTHING: PassFilter = PassFilter {
+    address: None,
+    group: None,
+    vlan: None,
+};
+
+fn is_pass(words: &[&str], filter: PassFilter, alloc: Global) -> bool {
+    let expected = PassJob {
+        filter,
+        input: "in.pcap",
+        output: "out.pcap",
+    };
+    match line(alloc, words) {
+        Ok(job) => job == Job::Pass(expected),
+        Err(_) => false,
+    }
+}
+
+#[test]
+fn options_have_the_values_of_their_texts(rt: HostRuntime) {
+    let address = PassFilter {
+        address: Some(ADDRESS),
+        ..NOTHING
+    };
+    let group = PassFilter {
+        group: Some(GROUP),
+        ..NOTHING
+    };
+    let all = PassFilter {
+        address: Some(ADDRESS),
+        group: Some(GROUP),
+        vlan: Some(5),
+    };
+    let table = [
+        (
+            ["nicbench", "pass", "in.pcap", "out.pcap"].as_slice(),
+            NOTHING,
+        ),
+        (
+            [
+                "nicbench",
+                "pass",
+                "--address",
+                "02:0a:bc:de:f0:01",
+                "in.pcap",
+                "out.pcap",
+            ]
+            .as_slice(),
+            address,
+        ),
+        (
+            [
+                "nicbench",
+                "pass",
+                "--address=02:0A:BC:DE:F0:01",
+                "in.pcap",
+                "out.pcap",
+            ]
+            .as_slice(),
+            address,
+        ),
+        (
+            [
+                "nicbench",
+                "pass",
+                "--group",
+                "01:00:5e:00:00:fb",
+                "in.pcap",
+                "out.pcap",
+            ]
+            .as_slice(),
+            group,
+        ),
+        (
+            [
+                "nicbench",
+                "pass",
+                "--group=01:00:5E:00:00:Fb",
+                "in.pcap",
+                "out.pcap",
+            ]
+            .as_slice(),
+            group,
+        ),
+        (
+            [
+                "nicbench",
+                "pass",
+                "in.pcap",
+                "--vlan=5",
+                "out.pcap",
+                "--group",
+                "01:00:5e:00:00:fb",
+                "--address",
+                "02:0a:bc:de:f0:01",
+            ]
+            .as_slice(),
+            all,
+        ),
+    ];
+    for (words, filter) in table {
+        assert!(rt; is_pass(words, filter, rt.alloc()), "{words:?}");
+    }
+}
+
+#[test]
+fn a_vlan_is_a_decimal_number(rt: HostRuntime) {
+    for (text, vlan) in [
+        ("0", 0),
+        ("5", 5),
+        ("0005", 5),
+        ("000000000000004095", 4095),
+    ] {
+        let words = ["nicbench", "pass", "in.pcap", "out.pcap", "--vlan", text];
+        let filter = PassFilter {
+            vlan: Some(vlan),
+            ..NOTHING
+        };
+        assert!(rt; is_pass(words.as_slice(), filter, rt.alloc()), "{text}");
+    }
+}
+
+#[test]
+fn values_of_another_form_are_refused(rt: HostRuntime) {
+    let table = [
+        ("--address", PassOption::Address, ""),
+        ("--address", PassOption::Address, "02:00:00:00:00"),
+        ("--address", PassOption::Address, "02:00:00:00:00:1"),
+        ("--address", PassOption::Address, "02:00:00:00:00:011"),
+        ("--address", PassOption::Address, "02:00:00:00:00:01:02"),
+        ("--address", PassOption::Address, "02-00-00-00-00-01"),
+        ("--address", PassOption::Address, "0200:00:00:00:001"),
+        ("--address", PassOption::Address, "02:00:00:00:00:0g"),
+        ("--address", PassOption::Address, "02:00:00:00:00:+1"),
+        ("--address", PassOption::Address, "02:00:00:00:00:é"),
+        ("--group", PassOption::Group, ""),
+        ("--group", PassOption::Group, "02:00:5e:00:00:01"),
+        ("--group", PassOption::Group, "01:00:5e:00:00"),
+        ("--group", PassOption::Group, "01:00:5e:00:00:0x"),
+        ("--vlan", PassOption::Vlan, ""),
+        ("--vlan", PassOption::Vlan, "+8"),
+        ("--vlan", PassOption::Vlan, "4096"),
+        ("--vlan", PassOption::Vlan, "70000"),
+        ("--vlan", PassOption::Vlan, "99999999999999999999999"),
+        ("--vlan", PassOption::Vlan, "0x5"),
+        ("--vlan", PassOption::Vlan, "5 "),
+    ];
+    for (name, option, text) in table {
+        let words = ["nicbench", "pass", name, text, "in.pcap", "out.pcap"];
+        let is_named = match line(rt.alloc(), words.as_slice()) {
+            Err(LineError::Value(value)) => value == InvalidValue { option, text },
+            _ => false,
+        };
+        assert!(rt; is_named, "{name} {text}");
+    }
+}
+
+// The status, and the whole text for the user.
+fn refusal(alloc: Global, words: &[&str]) -> Result<String, AllocError> {
+    match line(alloc, words) {
+        Ok(job) => format!(in alloc; "{job:?}"),
+        Err(error) => format!(in alloc; "{} {error}", error.status()),
+    }
+}
+
+#[test]
+fn an_invalid_value_is_explained(rt: HostRuntime) -> Result<(), Fail> {
+    let table = [
+        (
+            "--address=xx",
+            "2 error: invalid value 'xx' for '--address <A>': an address is six pairs of \
+             hexadecimal digits joined by colons, as 02:00:00:00:00:01\n\
+             \nFor more information, try '--help'.\n",
+        ),
+        (
+            "--group=02:00:00:00:00:01",
+            "2 error: invalid value '02:00:00:00:00:01' for '--group <G>': a group is an address \
+             whose first byte is odd, as 01:00:5e:00:00:01\n\
+             \nFor more information, try '--help'.\n",
+        ),
+        (
+            "--vlan=4096",
+            "2 error: invalid value '4096' for '--vlan <N>': a VLAN is a decimal number from 0 to \
+             4095, as 5\n\
+             \nFor more information, try '--help'.\n",
+        ),
+    ];
+    for (word, expected) in table {
+        let text = refusal(rt.alloc(), ["nicbench", "pass", word, "a", "b"].as_slice())?;
+        assert!(rt; text.as_str() == expected, "{text}");
+    }
+    Ok(())
+}
+
+const PROGRAM_HELP: &str = "2 A bench for a driver of the Intel 82540EM and a model of that adapter
+
+Usage: nicbench <COMMAND>
+
+Commands:
+  pass  Send the frames of a trace through a receive filter and a ring
+  help  Print this message or the help of the given subcommand(s)
+
+Options:
+  -h, --help  Print help
+";
+
+const PASS_HELP: &str = "2 Send the frames of a trace through a receive filter and a ring
+
+Usage: nicbench pass [OPTIONS] <IN> <OUT>
+
+Arguments:
+  <IN>   The trace to read, a pcap file
+  <OUT>  The trace to write, a pcap file
+
+Options:
+      --address <A>  Let frames for this address pass, as 02:00:00:00:00:01
+      --group <G>    Let frames for this group pass, as 01:00:5e:00:00:01
+      --vlan <N>     Of tagged frames, let those of this VLAN alone pass, 0 to 4095, as 5
+  -h, --help         Print help
+
+Frames for the broadcast address pass too. Without --address and --group, frames for every address do.
+";
+
+#[test]
+fn help_is_claps_text(rt: HostRuntime) -> Result<(), Fail> {
+    let table = [
+        ([].as_slice(), PROGRAM_HELP),
+        (["nicbench"].as_slice(), PROGRAM_HELP),
+        (["nicbench", "help"].as_slice(), PROGRAM_HELP),
+        (["nicbench", "-h"].as_slice(), PROGRAM_HELP),
+        (["nicbench", "--help"].as_slice(), PROGRAM_HELP),
+        (["nicbench", "help", "pass"].as_slice(), PASS_HELP),
+        (["nicbench", "pass", "-h"].as_slice(), PASS_HELP),
+        (["nicbench", "pass", "a", "--help"].as_slice(), PASS_HELP),
+    ];
+    for (words, expected) in table {
+        let text = refusal(rt.alloc(), words)?;
+        assert!(rt; text.as_str() == expected, "{words:?}\n{text}");
+    }
+    Ok(())
+}
+
+#[test]
+fn other_words_are_refused_by_clap(rt: HostRuntime) -> Result<(), Fail> {
+    let table = [
+        (
+            ["nicbench", "fly"].as_slice(),
+            "2 error: unrecognized subcommand 'fly'\n",
+        ),
+        (
+            ["nicbench", "--fly"].as_slice(),
+            "2 error: unexpected argument '--fly' found\n",
+        ),
+        (
+            ["nicbench", "help", "fly"].as_slice(),
+            "2 error: unrecognized subcommand 'fly'\n",
+        ),
+        (
+            ["nicbench", "pass"].as_slice(),
+            "2 error: the following required arguments were not provided:\n  <IN>\n  <OUT>\n",
+        ),
+        (
+            ["nicbench", "pass", "a"].as_slice(),
+            "2 error: the following required arguments were not provided:\n  <OUT>\n",
+        ),
+        (
+            ["nicbench", "pass", "a", "b", "c"].as_slice(),
+            "2 error: unexpected argument 'c' found\n",
+        ),
+        (
+            ["nicbench", "pass", "a", "b", "--ring", "8"].as_slice(),
+            "2 error: unexpected argument '--ring' found\n",
+        ),
+        (
+            ["nicbench", "pass", "a", "b", "--vlan"].as_slice(),
+            "2 error: a value is required for '--vlan <N>' but none was supplied\n",
+        ),
+        (
+            ["nicbench", "pass", "--vlan", "5", "a", "b", "--vlan=5"].as_slice(),
+            "2 error: the argument '--vlan <N>' cannot be used multiple times\n",
+        ),
+        (
+            [
+                "nicbench",
+                "pass",
+                "--group=01:00:5e:00:00:01",
+                "--group=xx",
+                "a",
+                "b",
+            ]
+            .as_slice(),
+            "2 error: the argument '--group <G>' cannot be used multiple times\n",
+        ),
+        (
+            [
+                "nicbench",
+                "pass",
+                "a",
+                "b",
+                "--address",
+                "xx",
+                "--address",
+                "xx",
+            ]
+            .as_slice(),
+            "2 error: the argument '--address <A>' cannot be used multiple times\n",
+        ),
+    ];
+    for (words, expected) in table {
+        let text = refusal(rt.alloc(), words)?;
+        assert!(rt; text.as_str().starts_with(expected), "{words:?}\n{text}");
+    }
+    Ok(())
+}
+
+// With one allocation refused the answer is the same, or it is `Memory`.
+#[test]
+fn a_refused_allocation_is_memory(rt: HostRuntime) {
+    let table = [
+        (
+            ["nicbench", "pass", "in.pcap", "out.pcap", "--vlan", "5"].as_slice(),
+            "0 Pass",
+        ),
+        (
+            ["nicbench", "pass", "in.pcap", "out.pcap", "--vlan", "x"].as_slice(),
+            "2 error: invalid value 'x' for '--vlan <N>': a VLAN is a decimal number from 0 to \
+             4095, as 5\n\
+             \nFor more information, try '--help'.\n",
+        ),
+        (["nicbench", "pass", "--help"].as_slice(), PASS_HELP),
+        (
+            ["nicbench", "pass", "in.pcap", "out.pcap", "--vlan"].as_slice(),
+            "2 error: a value is required for '--vlan <N>' but none was supplied\n\
+             \nFor more information, try '--help'.\n",
+        ),
+    ];
+    for (words, expected) in table {
+        let text = match line(rt.alloc(), words) {
+            Ok(_) => format!(in rt.alloc(); "0 Pass"),
+            Err(error) => match error {
+                LineError::Memory => {
+                    assert!(rt; error.status() == 4);
+                    format!(in rt.alloc(); "{expected}")
+                }
+                _ => format!(in rt.alloc(); "{} {error}", error.status()),
+            },
+        };
+        // The text itself may be what memory is refused for.
+        if let Ok(text) = text {
+            assert!(rt; text.as_str() == expected, "{words:?}\n{text}");
+        }
+    }
+}
+
+#[test]
+fn memory_is_named(rt: HostRuntime) -> Result<(), Fail> {
+    let text = format!(in rt.alloc(); "{}", LineError::Memory)?;
+    assert!(rt; text.as_str() == "E57 Memory" && LineError::Memory.status() == 4);
+    Ok(())
+}
