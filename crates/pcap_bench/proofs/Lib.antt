@@ -1,0 +1,3 @@
+mod Choices
+mod Passes
+mod Rings

@@ -1,0 +1,208 @@
+-- Frames that pass, one after the other.
+use Rattle.std.proofs.Common.{◌≡◌, ◌≤◌, ◌<◌, ◌+◌, ◌-◌, ℕ, suc, List, [], ◌∷◌, ◌++◌, true, false, cond, length, take, drop, Bool, Option, Some, None, refl, sym, ap, subst, ◌∙◌, append_assoc, append-nil, take-append-drop, arith}
+use Rattle.std.specs.Prelude.{count_by}
+use Rattle.std.specs.List.{flat_map}
+use Rattle.std.specs.Io.KnownBytes.{Appends, append_known}
+use Rattle.std.proofs.KnownBytes.{Appends-nil, Appends-trans}
+use Rattle.std.proofs.lemmas.List.{length-append, take_at}
+use Rattle.std.proofs.lemmas.List.Sums.{sum_by_push}
+use Rattle.descriptors.specs.Frames.{padded, is_sendable}
+use Rattle.pcap_trace.specs.Devices.{AppendsFront, Grows}
+use Rattle.pcap_trace.specs.Format.{Timed, packet_of, written, file_header}
+use Rattle.pcap_trace.proofs.Sent.{take-past}
+use Rattle.pcap_trace.proofs.Packets.{written-push}
+use Rattle.pcap_bench.specs.declared.counts.PassCounts.{PassCounts}
+use Rattle.pcap_bench.specs.Passing.{Filter, Fate, illegal, filtered, kept, IsFate, HaveFates, is_illegal, is_filtered, is_kept, kept_from, WritesKept, StopsAmong}
+
+-- ---- one more frame
+
+HaveFates-push : (keeps : Filter) (fs : List (List ℕ)) (ts : List Fate) (f : List ℕ) (t : Fate) → HaveFates keeps fs ts → IsFate keeps f t → HaveFates keeps (fs ++ f ∷ []) (ts ++ t ∷ [])
+HaveFates-push keeps [] [] f t right is = (is, tt)
+HaveFates-push keeps [] (u ∷ us) f t right is = absurd right
+HaveFates-push keeps (g ∷ gs) [] f t right is = absurd right
+HaveFates-push keeps (g ∷ gs) (u ∷ us) f t right is = (right.0, HaveFates-push keeps gs us f t right.1 is)
+
+-- what is kept of one frame
+abbrev kept_of : ℕ → List ℕ → Fate → List Timed
+kept_of n f t = kept_from n (f ∷ []) (t ∷ [])
+
+kept_from-push : (keeps : Filter) (n : ℕ) (fs : List (List ℕ)) (ts : List Fate) (f : List ℕ) (t : Fate) → HaveFates keeps fs ts → kept_from n (fs ++ f ∷ []) (ts ++ t ∷ []) ≡ kept_from n fs ts ++ kept_of (n + length fs) f t
+kept_from-push keeps n [] [] f t right = ap (λ (k : ℕ). kept_of k f t) (omega arith)
+kept_from-push keeps n [] (u ∷ us) f t right = absurd right
+kept_from-push keeps n (g ∷ gs) [] f t right = absurd right
+kept_from-push keeps n (g ∷ gs) (illegal ∷ us) f t right =
+    kept_from-push keeps (n + 1) gs us f t right.1 ∙ ap (λ (k : ℕ). kept_from (n + 1) gs us ++ kept_of k f t) (omega arith)
+kept_from-push keeps n (g ∷ gs) (filtered ∷ us) f t right =
+    kept_from-push keeps (n + 1) gs us f t right.1 ∙ ap (λ (k : ℕ). kept_from (n + 1) gs us ++ kept_of k f t) (omega arith)
+kept_from-push keeps n (g ∷ gs) (kept ∷ us) f t right =
+    ap (λ (x : List Timed). record { time = n; frame = padded g } ∷ x) (kept_from-push keeps (n + 1) gs us f t right.1 ∙ ap (λ (k : ℕ). kept_from (n + 1) gs us ++ kept_of k f t) (omega arith))
+
+count_by-push : (p : Fate → Bool) (ts : List Fate) (t : Fate) → count_by p (ts ++ t ∷ []) ≡ count_by p ts + cond (p t) 1 0
+count_by-push p ts t = sum_by_push (λ x. cond (p x) 1 0) ts t
+
+-- ---- what waits goes out
+
+at_known : (mid : List ℕ) (waiting all xs : List ℕ) → mid ++ waiting ≡ xs ++ all → (out : List ℕ) → out ≡ mid ++ waiting → out ≡ xs ++ all
+at_known mid waiting all xs is out went = went ∙ is
+
+flushed : (before mid after : Option (List ℕ)) (waiting all : List ℕ) → Appends before (append_known mid waiting) all → Appends mid after waiting → Appends before after all
+flushed None mid after waiting all h k = tt
+flushed (Some xs) None after waiting all h k = absurd h
+flushed (Some xs) (Some ys) None waiting all h k = absurd k
+flushed (Some xs) (Some ys) (Some zs) waiting all h k = k ∙ h
+
+-- a front of what waits, behind what went before it, is a front of all
+front_of : (n : ℕ) (xs ys waiting all : List ℕ) → ys ++ waiting ≡ xs ++ all → length xs ≤ length ys → (m : ℕ) × (ys ++ take n waiting ≡ xs ++ take m all)
+front_of n xs ys waiting all is longer =
+    let w = take n waiting in
+    let m = length (ys ++ w) - length xs in
+    let split : waiting ≡ w ++ drop n waiting = sym (take-append-drop n waiting) in
+    let whole : xs ++ all ≡ (ys ++ w) ++ drop n waiting = sym is ∙ ap (λ (t : List ℕ). ys ++ t) split ∙ sym (append_assoc ys w (drop n waiting)) in
+    let len : length (ys ++ w) ≡ length xs + m = omega (arith, length-append ys w) in
+    let left : take (length (ys ++ w)) (xs ++ all) ≡ ys ++ w = ap (take (length (ys ++ w))) whole ∙ take_at (ys ++ w) (drop n waiting) (length (ys ++ w)) refl in
+    let right : take (length xs + m) (xs ++ all) ≡ xs ++ take m all = take-past m xs all in
+    (m, sym left ∙ ap (λ (k : ℕ). take k (xs ++ all)) len ∙ right)
+
+flushed_front : (before mid after : Option (List ℕ)) (waiting all : List ℕ) → Grows before mid → Appends before (append_known mid waiting) all → AppendsFront mid after waiting → AppendsFront before after all
+flushed_front None mid after waiting all grown h k = (0, tt)
+flushed_front (Some xs) None after waiting all grown h k = absurd h
+flushed_front (Some xs) (Some ys) None waiting all grown h k = absurd k.1
+flushed_front (Some xs) (Some ys) (Some zs) waiting all grown h k =
+    let longer : length xs ≤ length ys = omega (arith, ap length grown.1, length-append xs grown.0) in
+    let f = front_of k.0 xs ys waiting all h longer in
+    (f.0, k.1 ∙ f.1)
+
+waits : (a : Option (List ℕ)) (more : List ℕ) → Appends a (append_known a more) (more ++ [])
+waits None more = tt
+waits (Some xs) more = ap (λ (t : List ℕ). xs ++ t) (sym (append-nil more))
+
+-- ---- the loop of a call
+
+-- These frames are done, and the others are left; what was written, and what waits, is what is kept of the first.
+pub record SoFar (keeps : Filter) (frames rest : List (List ℕ)) (next dropped turned_away out : ℕ) (before after : Option (List ℕ)) : Type 0 where
+  pub done : List (List ℕ)
+  pub parts : frames ≡ done ++ rest
+  pub fates : List Fate
+  pub right : HaveFates keeps done fates
+  pub went : Appends before after (written (kept_from 0 done fates))
+  pub next_is : next ≡ length done
+  pub illegal_is : dropped ≡ count_by is_illegal fates
+  pub filtered_is : turned_away ≡ count_by is_filtered fates
+  pub written_is : out ≡ count_by is_kept fates
+  pub sum : dropped + turned_away + out ≡ next
+
+pub SoFar-start : (keeps : Filter) (frames rest : List (List ℕ)) (dropped turned_away out : ℕ) (before after : Option (List ℕ)) → rest ≡ frames → dropped ≡ 0 → turned_away ≡ 0 → out ≡ 0 → Appends before after (written [])
+    → SoFar keeps frames rest 0 dropped turned_away out before after
+SoFar-start keeps frames rest dropped turned_away out before after all d t o went = record {
+  done = [];
+  parts = sym all;
+  fates = [];
+  right = tt;
+  went = went;
+  next_is = refl;
+  illegal_is = d;
+  filtered_is = t;
+  written_is = o;
+  sum = omega arith;
+}
+
+-- the done frames and one more
+more_parts : (frames done rest : List (List ℕ)) (f : List ℕ) → frames ≡ done ++ f ∷ rest → frames ≡ (done ++ f ∷ []) ++ rest
+more_parts frames done rest f parts = parts ∙ sym (append_assoc done (f ∷ []) rest)
+
+pub SoFar-illegal : (keeps : Filter) (frames rest : List (List ℕ)) (f : List ℕ) (next dropped turned_away out : ℕ) (before after : Option (List ℕ)) → is_sendable f ≡ false
+    → SoFar keeps frames (f ∷ rest) next dropped turned_away out before after → SoFar keeps frames rest (next + 1) (dropped + 1) turned_away out before after
+SoFar-illegal keeps frames rest f next dropped turned_away out before after bad s = record {
+  done = s.done ++ f ∷ [];
+  parts = more_parts frames s.done rest f s.parts;
+  fates = s.fates ++ illegal ∷ [];
+  right = HaveFates-push keeps s.done s.fates f illegal s.right bad;
+  went = subst (λ (x : List Timed). Appends before after (written x)) (sym (kept_from-push keeps 0 s.done s.fates f illegal s.right ∙ append-nil (kept_from 0 s.done s.fates))) s.went;
+  next_is = omega (arith, s.next_is, length-append s.done (f ∷ []));
+  illegal_is = omega (arith, s.illegal_is, count_by-push is_illegal s.fates illegal);
+  filtered_is = omega (arith, s.filtered_is, count_by-push is_filtered s.fates illegal);
+  written_is = omega (arith, s.written_is, count_by-push is_kept s.fates illegal);
+  sum = omega (arith, s.sum);
+}
+
+pub SoFar-filtered : (keeps : Filter) (frames rest : List (List ℕ)) (f : List ℕ) (next dropped turned_away out : ℕ) (before after : Option (List ℕ)) → is_sendable f ≡ true → (keeps (padded f) → ⊥)
+    → SoFar keeps frames (f ∷ rest) next dropped turned_away out before after → SoFar keeps frames rest (next + 1) dropped (turned_away + 1) out before after
+SoFar-filtered keeps frames rest f next dropped turned_away out before after good away s = record {
+  done = s.done ++ f ∷ [];
+  parts = more_parts frames s.done rest f s.parts;
+  fates = s.fates ++ filtered ∷ [];
+  right = HaveFates-push keeps s.done s.fates f filtered s.right (good, away);
+  went = subst (λ (x : List Timed). Appends before after (written x)) (sym (kept_from-push keeps 0 s.done s.fates f filtered s.right ∙ append-nil (kept_from 0 s.done s.fates))) s.went;
+  next_is = omega (arith, s.next_is, length-append s.done (f ∷ []));
+  illegal_is = omega (arith, s.illegal_is, count_by-push is_illegal s.fates filtered);
+  filtered_is = omega (arith, s.filtered_is, count_by-push is_filtered s.fates filtered);
+  written_is = omega (arith, s.written_is, count_by-push is_kept s.fates filtered);
+  sum = omega (arith, s.sum);
+}
+
+pub SoFar-kept : (keeps : Filter) (frames rest : List (List ℕ)) (f : List ℕ) (next dropped turned_away out : ℕ) (before mid after : Option (List ℕ)) → is_sendable f ≡ true → keeps (padded f)
+    → SoFar keeps frames (f ∷ rest) next dropped turned_away out before mid → Appends mid after (packet_of (record { time = next; frame = padded f })) → SoFar keeps frames rest (next + 1) dropped turned_away (out + 1) before after
+SoFar-kept keeps frames rest f next dropped turned_away out before mid after good keep s went =
+    let ts = kept_from 0 s.done s.fates in
+    let t : Timed = record { time = next; frame = padded f } in
+    let now : kept_of (0 + length s.done) f kept ≡ t ∷ [] = ap (λ (k : ℕ). kept_of k f kept) (omega (arith, s.next_is)) in
+    let all : kept_from 0 (s.done ++ f ∷ []) (s.fates ++ kept ∷ []) ≡ ts ++ t ∷ [] = kept_from-push keeps 0 s.done s.fates f kept s.right ∙ ap (λ (x : List Timed). ts ++ x) now in
+    record {
+      done = s.done ++ f ∷ [];
+      parts = more_parts frames s.done rest f s.parts;
+      fates = s.fates ++ kept ∷ [];
+      right = HaveFates-push keeps s.done s.fates f kept s.right (good, keep);
+      went = subst (Appends before after) (sym (ap written all ∙ written-push ts t)) (Appends-trans before mid after (written ts) (packet_of t) s.went went);
+      next_is = omega (arith, s.next_is, length-append s.done (f ∷ []));
+      illegal_is = omega (arith, s.illegal_is, count_by-push is_illegal s.fates kept);
+      filtered_is = omega (arith, s.filtered_is, count_by-push is_filtered s.fates kept);
+      written_is = omega (arith, s.written_is, count_by-push is_kept s.fates kept);
+      sum = omega (arith, s.sum);
+    }
+
+-- how many are done
+pub SoFar-bound : (keeps : Filter) (frames rest : List (List ℕ)) (next dropped turned_away out : ℕ) (before after : Option (List ℕ)) → SoFar keeps frames rest next dropped turned_away out before after → next + length rest ≡ length frames
+SoFar-bound keeps frames rest next dropped turned_away out before after s = omega (arith, s.next_is, ap length s.parts, length-append s.done rest)
+
+-- ---- the end
+
+-- all frames are done, and nothing waits
+pub SoFar-ends : (keeps : Filter) (frames : List (List ℕ)) (counts : PassCounts) (next : ℕ) (before mid after : Option (List ℕ)) (waiting : List ℕ) → counts.read ≡ length frames
+    → SoFar keeps frames [] next counts.illegal counts.filtered counts.written before (append_known mid waiting) → Appends mid after waiting → WritesKept keeps frames counts before after
+SoFar-ends keeps frames counts next before mid after waiting read s went =
+    let all : s.done ≡ frames = sym (s.parts ∙ append-nil s.done) in
+    record {
+      fates = s.fates;
+      right = subst (λ (x : List (List ℕ)). HaveFates keeps x s.fates) all s.right;
+      went = subst (λ (x : List (List ℕ)). Appends before after (written (kept_from 0 x s.fates))) all (flushed before mid after waiting (written (kept_from 0 s.done s.fates)) s.went went);
+      read_is = read;
+      illegal_is = s.illegal_is;
+      filtered_is = s.filtered_is;
+      written_is = s.written_is;
+    }
+
+-- a front of what waits went out
+pub SoFar-stops : (keeps : Filter) (frames rest : List (List ℕ)) (next dropped turned_away out : ℕ) (before mid after : Option (List ℕ)) (waiting : List ℕ)
+    → Grows before mid → SoFar keeps frames rest next dropped turned_away out before (append_known mid waiting) → AppendsFront mid after waiting → StopsAmong keeps frames before after
+SoFar-stops keeps frames rest next dropped turned_away out before mid after waiting grown s went =
+    let first : take (length s.done) frames ≡ s.done = ap (take (length s.done)) s.parts ∙ take_at s.done rest (length s.done) refl in
+    record {
+      count = length s.done;
+      fates = s.fates;
+      right = subst (λ (x : List (List ℕ)). HaveFates keeps x s.fates) (sym first) s.right;
+      went = subst (λ (x : List (List ℕ)). AppendsFront before after (written (kept_from 0 x s.fates))) (sym first) (flushed_front before mid after waiting (written (kept_from 0 s.done s.fates)) grown s.went went);
+    }
+
+-- nothing was written
+pub StopsAmong-start : (keeps : Filter) (frames : List (List ℕ)) (before : Option (List ℕ)) → StopsAmong keeps frames before before
+StopsAmong-start keeps frames before = record { count = 0; fates = []; right = tt; went = (0, Appends-nil before) }
+
+pub Grows-none : (a : Option (List ℕ)) → Grows a a
+Grows-none a = ([], Appends-nil a)
+
+pub Grows-more : (a b c : Option (List ℕ)) → Grows a b → Grows b c → Grows a c
+Grows-more a b c g h = (g.0 ++ h.0, Appends-trans a b c g.0 h.0 g.1 h.1)
+
+-- the file header waits
+pub header_waits : (a : Option (List ℕ)) (waiting : List ℕ) → waiting ≡ file_header → Appends a (append_known a waiting) (written [])
+header_waits a waiting is = subst (λ (w : List ℕ). Appends a (append_known a w) (written [])) (sym is) (waits a file_header)

@@ -1,0 +1,5 @@
+pub mod Faults
+pub mod Options
+pub mod Passing
+pub mod Printing
+pub mod Ring

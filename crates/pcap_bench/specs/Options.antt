@@ -1,0 +1,43 @@
+-- The receive filter that the options of a pass ask for. (own)
+use Rattle.std.specs.Prelude.{◌≡◌, ◌≤◌, ◌&&◌, ℕ, List, Bool, true, false, Option, Some, None, IfSome, is_none, is_some}
+use Rattle.descriptors.specs.Frames.{padded}
+use Rattle.rx_filter.specs.Addresses.{group_number}
+use Rattle.rx_filter.specs.Passing.{ReceiveFilter, Passes}
+use Rattle.command_line.specs.declared.job.PassFilter.{PassFilter}
+
+-- neither an address nor a group is given
+abbrev pub IsOpen : PassFilter → Type 0
+IsOpen options = (options.address ≡ None) × (options.group ≡ None)
+
+-- The address is the one exact address, the group's number (of bits 47 to 36 of the address) the one number of the group table, the VLAN
+-- the one VLAN; broadcast is accepted, and everything where neither an address nor a group is given.
+abbrev pub filter_for : PassFilter → ReceiveFilter
+filter_for options = record {
+  addresses = λ address. options.address ≡ Some address;
+  groups = λ number. (group : List ℕ) × (options.group ≡ Some group) × (number ≡ group_number 4 group);
+  shift = 4;
+  every_vlan = options.vlan ≡ None;
+  vlans = λ number. options.vlan ≡ Some number;
+  vlan_type = 0x8100;
+  all_individuals = IsOpen options;
+  all_groups = IsOpen options;
+  broadcasts = Unit {0};
+}
+
+-- a padded frame that this filter passes
+abbrev pub KeptBy : PassFilter → List ℕ → Type 0
+KeptBy options frame = Passes (filter_for options) frame
+
+-- VLAN numbers have 12 bits.
+abbrev pub HasVlanNumber : PassFilter → Type 0
+HasVlanNumber options = IfSome options.vlan (λ n. n ≤ 4095)
+
+-- RCTL: BAM, with UPE and MPE where all is accepted, and VFE where a VLAN is asked for
+abbrev pub mode_bits : Bool → Bool → ℕ
+mode_bits true false = 0x8018
+mode_bits true true = 0x48018
+mode_bits false false = 0x8000
+mode_bits false true = 0x48000
+
+abbrev pub mode_for : PassFilter → ℕ
+mode_for options = mode_bits (is_none options.address && is_none options.group) (is_some options.vlan)

@@ -1,0 +1,80 @@
+-- What becomes of the frames of a trace that pass a filter on their way through a ring. (own)
+use Rattle.std.specs.Prelude.{◌≡◌, ◌+◌, ℕ, List, [], ◌∷◌, length, take, Bool, true, false, Option, count_by}
+use Rattle.std.specs.Io.KnownBytes.{Appends}
+use Rattle.descriptors.specs.Frames.{padded, is_sendable}
+use Rattle.pcap_trace.specs.Devices.{AppendsFront}
+use Rattle.pcap_trace.specs.Format.{Timed, written}
+use Rattle.pcap_bench.specs.declared.counts.PassCounts.{PassCounts}
+use Rattle.pcap_bench.specs.declared.fault.BenchError.{BenchError}
+use Rattle.pcap_bench.specs.declared.fault.BenchError.TheVariants.{Memory, Write}
+
+-- which padded frames a filter keeps
+abbrev pub Filter : Type 1
+Filter = List ℕ → Type 0
+
+-- ---- the fate of each frame
+
+pub data Fate : Type 0 where
+  illegal : Fate
+  filtered : Fate
+  kept : Fate
+
+-- A frame below 14 or above 1,518 bytes is illegal; another is kept or filtered as it is padded to 60 bytes.
+abbrev pub IsFate : Filter → List ℕ → Fate → Type 0
+IsFate keeps frame illegal = is_sendable frame ≡ false
+IsFate keeps frame filtered = (is_sendable frame ≡ true) × (keeps (padded frame) → ⊥)
+IsFate keeps frame kept = (is_sendable frame ≡ true) × keeps (padded frame)
+
+-- Each frame has its fate.
+abbrev pub HaveFates : Filter → List (List ℕ) → List Fate → Type 0
+HaveFates keeps [] [] = Unit {0}
+HaveFates keeps [] (t ∷ ts) = ⊥
+HaveFates keeps (f ∷ fs) [] = ⊥
+HaveFates keeps (f ∷ fs) (t ∷ ts) = IsFate keeps f t × HaveFates keeps fs ts
+
+abbrev pub is_illegal : Fate → Bool
+is_illegal illegal = true
+is_illegal filtered = false
+is_illegal kept = false
+
+abbrev pub is_filtered : Fate → Bool
+is_filtered illegal = false
+is_filtered filtered = true
+is_filtered kept = false
+
+abbrev pub is_kept : Fate → Bool
+is_kept illegal = false
+is_kept filtered = false
+is_kept kept = true
+
+-- the frames that are kept, padded, each with its place in the trace, from n on, as its time
+abbrev pub kept_from : ℕ → List (List ℕ) → List Fate → List Timed
+kept_from n [] ts = []
+kept_from n (f ∷ fs) [] = []
+kept_from n (f ∷ fs) (illegal ∷ ts) = kept_from (n + 1) fs ts
+kept_from n (f ∷ fs) (filtered ∷ ts) = kept_from (n + 1) fs ts
+kept_from n (f ∷ fs) (kept ∷ ts) = record { time = n; frame = padded f } ∷ kept_from (n + 1) fs ts
+
+-- ---- the call
+
+-- What was written is the written form of the frames that are kept, and each fate is counted.
+pub record WritesKept (keeps : Filter) (frames : List (List ℕ)) (counts : PassCounts) (before after : Option (List ℕ)) : Type 0 where
+  pub fates : List Fate
+  pub right : HaveFates keeps frames fates
+  pub went : Appends before after (written (kept_from 0 frames fates))
+  pub read_is : counts.read ≡ length frames
+  pub illegal_is : counts.illegal ≡ count_by is_illegal fates
+  pub filtered_is : counts.filtered ≡ count_by is_filtered fates
+  pub written_is : counts.written ≡ count_by is_kept fates
+
+-- What was written is a beginning of the written form of those that are kept among the first frames.
+pub record StopsAmong (keeps : Filter) (frames : List (List ℕ)) (before after : Option (List ℕ)) : Type 0 where
+  pub count : ℕ
+  pub fates : List Fate
+  pub right : HaveFates keeps (take count frames) fates
+  pub went : AppendsFront before after (written (kept_from 0 (take count frames) fates))
+
+-- Want of memory comes before anything is written; a failed write is counted by the sink.
+abbrev pub StopsBy : BenchError → Option (List ℕ) → Option (List ℕ) → ℕ → ℕ → Type 0
+StopsBy Memory before after old new = (after ≡ before) × (new ≡ old)
+StopsBy Write before after old new = new ≡ old + 1

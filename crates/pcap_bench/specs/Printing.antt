@@ -1,0 +1,17 @@
+-- The line that the program prints of a pass. (own)
+use Rattle.std.specs.Prelude.{◌++◌, ℕ, List, Bool, true, false, codes, decimal}
+use Rattle.pcap_trace.specs.declared.trace.Trace.{Trace}
+use Rattle.pcap_bench.specs.declared.counts.PassCounts.{PassCounts}
+
+-- a label and a number
+abbrev pub field : List ℕ → ℕ → List ℕ
+field label number = label ++ decimal number
+
+abbrev pub cut_word : Bool → List ℕ
+cut_word true = codes " cut yes\n"
+cut_word false = codes " cut no\n"
+
+abbrev pub pass_line : Trace → PassCounts → List ℕ
+pass_line trace counts =
+    field (codes "read ") counts.read ++ field (codes " skipped ") trace.skipped ++ field (codes " illegal ") counts.illegal ++ field (codes " filtered ") counts.filtered
+    ++ field (codes " written ") counts.written ++ cut_word trace.cut

@@ -1,0 +1,21 @@
+//! Traces of packets through an adapter's rings.
+#![tactic(auto)]
+
+mod choosing;
+mod counts;
+mod fault;
+mod passing;
+mod printing;
+mod ring;
+#[cfg(test)]
+mod tests;
+
+pub use command_line::PassFilter;
+pub use counts::PassCounts;
+pub use fault::{BenchError, Fault};
+pub use passing::pass;
+pub use pcap_trace::{
+    DeviceError, Frames, Iter, ReadError, ReaderSource, Sink, SliceSource, Source, Trace, VecSink,
+    WriteError, WriterSink,
+};
+pub use printing::print_pass;

@@ -1,0 +1,132 @@
+//! The frames of a trace, through a ring.
+ghost use Rattle.std.specs.Prelude.{◌≡◌, ◌<◌, ◌≤◌, length, IfOk, IfErr, OnOk, OnErr};
+ghost use Rattle.std.specs.Io.KnownBytes.{Appends, append_known};
+ghost use Rattle.descriptors.specs.Frames.{padded, is_sendable};
+ghost use Rattle.pcap_trace.specs.Devices.{AppendsFront, CountsFaults, Grows};
+ghost use Rattle.pcap_trace.specs.Format.{packet_of};
+ghost use Rattle.pcap_bench.specs.Options.{HasVlanNumber, KeptBy};
+ghost use Rattle.pcap_bench.specs.Passing.{WritesKept, StopsAmong, StopsBy};
+ghost use Rattle.pcap_bench.specs.Ring.{head_bytes, IsFinished};
+
+use crate::choosing::{filter_of_options, keeps};
+use crate::counts::PassCounts;
+use crate::fault::BenchError;
+use crate::ring::Ring;
+use command_line::PassFilter;
+use descriptors::{LONGEST_SENDABLE, SHORTEST_SENDABLE};
+use pcap_trace::{RecordWriter, Sink, Trace, WriteError};
+use std::alloc::Global;
+
+/// Whether a frame can be sent: whether it has 14 to 1,518 bytes.
+fn is_sendable(frame: &[u8]) -> bool
+    ensures { result ≡ is_sendable frame.now }
+{
+    SHORTEST_SENDABLE <= frame.len() && frame.len() <= LONGEST_SENDABLE
+}
+
+/// Who looks on while a frame stands finished in the ring, before it is read: a test does, the program doesn't.
+pub trait Watch {
+    /// The frame at the head of the ring is about to be read.
+    fn look(&mut self, ring: &Ring)
+        requires { IsFinished ring.now (head_bytes ring.now) };
+}
+
+/// Nobody.
+#[derive(Drop)]
+pub struct Unwatched;
+
+impl Watch for Unwatched {
+    fn look(&mut self, _ring: &Ring) {}
+}
+
+/// Takes a frame through the ring, and writes what the driver finds in memory.
+fn pass_frame<W: Sink, L: Watch>(
+    watch: &mut L,
+    ring: &mut Ring,
+    writer: &mut RecordWriter,
+    sink: &mut W,
+    number: u64,
+    frame: &[u8],
+) -> Result<(), WriteError>
+    requires sound { W.faults sink.old < u64.MAX }
+    requires short { length frame.now ≤ 1518 }
+    ensures ok { OnOk result (Appends (append_known (W.taken sink.old) writer.old) (append_known (W.taken sink.new) writer.new) (packet_of (record { time = number; frame = padded frame.now }))) }
+    ensures grows { OnOk result (Grows (W.taken sink.old) (W.taken sink.new)) }
+    ensures err { OnErr result (AppendsFront (W.taken sink.old) (W.taken sink.new) writer.old) }
+    ensures faults { CountsFaults result (W.faults sink.old) (W.faults sink.new) }
+{
+    ring.deliver(frame);
+    watch.look(ring);
+    writer.write(sink, number, ring.received())?;
+    ring.offer();
+    Ok(())
+}
+
+/// The same as [`pass`], with somebody who looks on.
+pub fn pass_watched<W: Sink, L: Watch>(
+    watch: &mut L,
+    alloc: Global,
+    trace: &Trace,
+    filter: &PassFilter,
+    sink: &mut W,
+) -> Result<PassCounts, BenchError>
+    requires sound { W.faults sink.old < u64.MAX }
+    requires vlan { HasVlanNumber filter.now }
+    ensures ok { IfOk result (λ counts. WritesKept (KeptBy filter.now) trace.now.frames counts (W.taken sink.old) (W.taken sink.new)) }
+    ensures quiet { OnOk result (W.faults sink.new ≡ W.faults sink.old) }
+    ensures err { OnErr result (StopsAmong (KeptBy filter.now) trace.now.frames (W.taken sink.old) (W.taken sink.new)) }
+    ensures fault { IfErr result (λ e. StopsBy e (W.taken sink.old) (W.taken sink.new) (W.faults sink.old) (W.faults sink.new)) }
+{
+    let chosen = filter_of_options(filter);
+    let mut ring = Ring::new(alloc)?;
+    let mut writer = RecordWriter::new(alloc)?;
+    let mut counts = PassCounts {
+        read: trace.frames.len() as u64,
+        ..PassCounts::default()
+    };
+    let mut next = 0;
+    for frame in trace.frames.iter() {
+        let number = next;
+        next += 1;
+        if !is_sendable(frame) {
+            counts.illegal += 1;
+            continue;
+        }
+        if !keeps(&chosen, frame) {
+            counts.filtered += 1;
+            continue;
+        }
+        pass_frame(watch, &mut ring, &mut writer, sink, number, frame)?;
+        counts.written += 1;
+    }
+    writer.flush(sink)?;
+    Ok(counts)
+}
+
+/// Takes each frame of a trace that can be sent and that a receive filter passes through a receive ring of 8 descriptors in a host's
+/// memory, and writes it, padded to 60 bytes by zeros, with its place in the trace (from 0) as its time in microseconds.
+///
+/// Frames below 14 or above 1,518 bytes are counted as illegal; of the others, the filter is asked of the padded frame. It has the
+/// options' address as its one exact address, the number of the options' group (RCTL.MO 00) as the one number of its group table, and
+/// the options' VLAN, of 12 bits, as its one VLAN, where they are given, with the VLAN type 0x8100; it passes every address where
+/// neither an address nor a group is given (UPE, MPE), and broadcast always (BAM).
+///
+/// # Errors
+///
+/// E57 [`Memory`](BenchError::Memory) where memory is refused, before anything is written; E67 [`Write`](BenchError::Write) where the
+/// sink fails during the call, and then a beginning of the text went out.
+pub fn pass<W: Sink>(
+    alloc: Global,
+    trace: &Trace,
+    filter: &PassFilter,
+    sink: &mut W,
+) -> Result<PassCounts, BenchError>
+    requires sound { W.faults sink.old < u64.MAX }
+    requires vlan { HasVlanNumber filter.now }
+    ensures ok { IfOk result (λ counts. WritesKept (KeptBy filter.now) trace.now.frames counts (W.taken sink.old) (W.taken sink.new)) }
+    ensures quiet { OnOk result (W.faults sink.new ≡ W.faults sink.old) }
+    ensures err { OnErr result (StopsAmong (KeptBy filter.now) trace.now.frames (W.taken sink.old) (W.taken sink.new)) }
+    ensures fault { IfErr result (λ e. StopsBy e (W.taken sink.old) (W.taken sink.new) (W.faults sink.old) (W.faults sink.new)) }
+{
+    pass_watched(&mut Unwatched, alloc, trace, filter, sink)
+}

@@ -1,0 +1,55 @@
+//! The lines that the program prints.
+ghost use Rattle.std.specs.Prelude.{◌≡◌, ◌<◌, ◌≤◌, ◌+◌, ◌++◌, length, OnOk, OnErr};
+ghost use Rattle.std.specs.Io.KnownBytes.{Appends};
+ghost use Rattle.pcap_trace.specs.Devices.{AppendsFront, CountsFaults};
+ghost use Rattle.pcap_bench.specs.Printing.{field, pass_line};
+
+use crate::counts::PassCounts;
+use arrayvec::ArrayVec;
+use itoa::Buffer;
+use pcap_trace::{Sink, Trace, WriteError, write_all};
+
+/// Room for the longest line: five labels and numbers, of at most 60 bytes each, and the word of the cut.
+const LONGEST_LINE: usize = 320;
+
+type Line = ArrayVec<u8, LONGEST_LINE>;
+
+/// Appends a label and a number.
+fn push_field(line: &mut Line, label: &[u8], number: u64)
+    requires label { length label.now ≤ 20 }
+    requires room { length line.old.items + 60 ≤ 320 }
+    ensures text { line.new.items ≡ line.old.items ++ field label.now number }
+    ensures short { length line.new.items ≤ length line.old.items + 60 }
+{
+    let mut buffer = Buffer::new();
+    let digits = buffer.format(number).as_bytes();
+    line.try_extend_from_slice(label).unwrap();
+    line.try_extend_from_slice(digits).unwrap();
+}
+
+/// Writes the program's line of a pass to a sink: `read R skipped K illegal I filtered F written W cut no` (or `cut yes`), ended by a
+/// line feed. It takes no memory. After an error a beginning of the line went out.
+pub fn print_pass<W: Sink>(
+    trace: &Trace,
+    counts: &PassCounts,
+    sink: &mut W,
+) -> Result<(), WriteError>
+    requires { W.faults sink.old < u64.MAX }
+    ensures ok { OnOk result (Appends (W.taken sink.old) (W.taken sink.new) (pass_line trace.now counts.now)) }
+    ensures err { OnErr result (AppendsFront (W.taken sink.old) (W.taken sink.new) (pass_line trace.now counts.now)) }
+    ensures faults { CountsFaults result (W.faults sink.old) (W.faults sink.new) }
+{
+    let mut line = Line::new();
+    push_field(&mut line, b"read ", counts.read);
+    push_field(&mut line, b" skipped ", trace.skipped);
+    push_field(&mut line, b" illegal ", counts.illegal);
+    push_field(&mut line, b" filtered ", counts.filtered);
+    push_field(&mut line, b" written ", counts.written);
+    let cut: &[u8] = if trace.cut {
+        b" cut yes\n"
+    } else {
+        b" cut no\n"
+    };
+    line.try_extend_from_slice(cut).unwrap();
+    write_all(sink, line.as_slice())
+}
