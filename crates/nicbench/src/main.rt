@@ -1,0 +1,128 @@
+//! `nicbench`: takes the frames of a trace file through the modelled adapter's receive filter and a receive ring.
+#![tactic(auto)]
+
+ghost use Rattle.std.specs.Prelude.{◌≡◌, IfOk};
+ghost use Rattle.pcap_bench.specs.Options.{HasVlanNumber};
+
+use command_line::{Job, LineError, PassFilter, line};
+use pcap_bench::{
+    BenchError, Fault, PassCounts, ReaderSource, Sink, Source, Trace, WriterSink, pass, print_pass,
+};
+use std::alloc::Global;
+use std::fs::{self, OpenFile};
+use std::process::ExitCode;
+use std::rt::{Env, Files};
+use std::{env, io};
+
+/// A file as a source of the bytes that it has now.
+fn open<R: Files>(rt: &R, path: &str) -> Result<ReaderSource<R::File>, Fault>
+    ensures { IfOk result (λ source. ⟦<ReaderSource<R::File> as Source>⟧.faults source ≡ 0) }
+{
+    let Ok(file) = fs::open(rt, path) else {
+        return Err(Fault::Open);
+    };
+    let Ok(metadata) = file.metadata() else {
+        return Err(Fault::Open);
+    };
+    Ok(ReaderSource::new(file, metadata.len()))
+}
+
+/// A new file as a sink. One that is there already loses its bytes.
+fn create<R: Files>(rt: &R, path: &str) -> Result<WriterSink<R::File>, Fault>
+    ensures { IfOk result (λ sink. ⟦<WriterSink<R::File> as Sink>⟧.faults sink ≡ 0) }
+{
+    match fs::create(rt, path) {
+        Ok(file) => Ok(WriterSink::new(file)),
+        Err(_) => Err(Fault::Open),
+    }
+}
+
+/// Reads a trace file, and writes what passes to another.
+fn pass_file<R: Files + AllocGlobal>(
+    rt: &R,
+    filter: &PassFilter,
+    input: &str,
+    output: &str,
+) -> Result<(Trace, PassCounts), Fault>
+    requires { HasVlanNumber filter.now }
+{
+    let mut source = open(rt, input)?;
+    let trace = Trace::read(rt.alloc(), &mut source)?;
+    let mut sink = create(rt, output)?;
+    let counts = pass(rt.alloc(), &trace, filter, &mut sink)?;
+    Ok((trace, counts))
+}
+
+/// The command `pass`: its line goes to standard output.
+fn run_pass<R: Files + Print + AllocGlobal>(
+    rt: &R,
+    filter: &PassFilter,
+    input: &str,
+    output: &str,
+) -> Result<(), Fault>
+    requires { HasVlanNumber filter.now }
+{
+    let (trace, counts) = pass_file(rt, filter, input, output)?;
+    print_pass(&trace, &counts, &mut WriterSink::new(io::writer(rt)))?;
+    Ok(())
+}
+
+/// The words that the program was called with.
+fn words<R: Env + AllocGlobal>(rt: &R) -> Result<Vec<String>, Fault> {
+    let mut words = Vec::new(rt.alloc());
+    let Ok(args) = env::args(rt) else {
+        return Err(Fault::Bench(BenchError::Memory));
+    };
+    for word in args {
+        if words.push(word).is_err() {
+            return Err(Fault::Bench(BenchError::Memory));
+        }
+    }
+    Ok(words)
+}
+
+/// The same words, borrowed.
+fn borrowed<'a>(alloc: Global, words: &'a [String]) -> Result<Vec<&'a str>, Fault> {
+    let mut texts = Vec::new(alloc);
+    for word in words {
+        if texts.push(word.as_str()).is_err() {
+            return Err(Fault::Bench(BenchError::Memory));
+        }
+    }
+    Ok(texts)
+}
+
+/// Tells a fault on standard error.
+fn tell<R: Eprint>(rt: &R, fault: &Fault) -> io::Result<ExitCode> {
+    eprintln!(rt; "nicbench: {fault}")?;
+    Ok(ExitCode::from(fault.status()))
+}
+
+/// Tells why the words were refused: the text for words is whole, that for memory is a fault's.
+fn tell_line<R: Eprint>(rt: &R, error: &LineError<'_>) -> io::Result<ExitCode> {
+    match error {
+        LineError::Memory => eprintln!(rt; "nicbench: {error}")?,
+        LineError::Words(_) | LineError::Value(_) => eprint!(rt; "{error}")?,
+    }
+    Ok(ExitCode::from(error.status()))
+}
+
+fn main(rt: HostRuntime) -> io::Result<ExitCode> {
+    let words = match words(&rt) {
+        Ok(words) => words,
+        Err(fault) => return tell(&rt, &fault),
+    };
+    let texts = match borrowed(rt.alloc(), &words) {
+        Ok(texts) => texts,
+        Err(fault) => return tell(&rt, &fault),
+    };
+    let job = match line(rt.alloc(), texts.as_slice()) {
+        Ok(job) => job,
+        Err(error) => return tell_line(&rt, &error),
+    };
+    let Job::Pass(job) = job;
+    match run_pass(&rt, &job.filter, job.input, job.output) {
+        Ok(()) => Ok(ExitCode::SUCCESS),
+        Err(fault) => tell(&rt, &fault),
+    }
+}
