@@ -1,0 +1,33 @@
+/* Loaded before the C library, refuses one allocation of a program: the one whose number, from 1 on, stands in the environment's
+   variable REFUSE. */
+#define _GNU_SOURCE
+#include <dlfcn.h>
+#include <stddef.h>
+#include <stdlib.h>
+
+static long left = -1;
+
+static int refused(void)
+{
+    if (left < 0) {
+        const char *number = getenv("REFUSE");
+        left = number ? atol(number) : 0;
+    }
+    return left > 0 && --left == 0;
+}
+
+void *malloc(size_t size)
+{
+    static void *(*next)(size_t);
+    if (!next)
+        next = dlsym(RTLD_NEXT, "malloc");
+    return refused() ? NULL : next(size);
+}
+
+void *realloc(void *old, size_t size)
+{
+    static void *(*next)(void *, size_t);
+    if (!next)
+        next = dlsym(RTLD_NEXT, "realloc");
+    return refused() ? NULL : next(old, size);
+}
