@@ -42,9 +42,8 @@ fn load_desc(memory: &HostMemory, slot: u16) -> RxDesc
     requires size { length memory.now ≡ 34816 }
     ensures { result ≡ desc_at memory.now slot }
 {
-    let mut bytes = [0; RX_DESC_BYTES];
-    memory.load(desc_address(slot), &mut bytes).unwrap();
-    RxDesc::from_bytes(&bytes)
+    let bytes = memory.view(desc_address(slot), RX_DESC_BYTES).unwrap();
+    RxDesc::from_bytes(bytes.first_chunk().unwrap())
 }
 
 /// Writes the descriptor of a slot.
