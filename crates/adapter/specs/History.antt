@@ -1,0 +1,67 @@
+-- What a register reads, said of the list of all that came to an adapter since power-on.
+use Rattle.std.specs.Prelude.{◌≡◌, ◌==◌, ◌&&◌, ◌||◌, ℕ, Bool, true, false, List, [], ◌∷◌, ◌++◌, Some, bit_and}
+use Rattle.std.specs.List.{list_any}
+use Rattle.mdic_phy.specs.declared.phy.Link.{Link}
+use Rattle.adapter.specs.declared.register.Register.{Register}
+use Rattle.adapter.specs.declared.register.Register.TheVariants.{Ctrl}
+use Rattle.adapter.specs.declared.step.StepKind.{StepKind}
+use Rattle.adapter.specs.Registers.{answer_at, after_read, after_write, is_reset, new_adapter}
+use Rattle.adapter.specs.State.{AdapterState}
+use Rattle.adapter.specs.Steps.{after_step}
+use Rattle.adapter.specs.Table.{IsInTable, row_of}
+
+-- What may come to an adapter: a read at an offset, a write of a word at an offset, and a step of its own.
+pub data Event : Type 0 where
+  Read : ℕ → Event
+  Write : ℕ → ℕ → Event
+  Step : StepKind → Event
+
+abbrev pub after_event : Event → AdapterState → AdapterState
+after_event (Read offset) state = after_read offset state
+after_event (Write offset value) state = after_write offset value state
+after_event (Step kind) state = after_step kind state
+
+-- The adapter behind a list of events, the oldest first, by the steps of the calls.
+abbrev pub after_events : List Event → AdapterState → AdapterState
+after_events [] state = state
+after_events (event ∷ later) state = after_events later (after_event event state)
+
+-- CTRL is written with RST.
+abbrev pub is_reset_event : Event → Bool
+is_reset_event (Read offset) = false
+is_reset_event (Write offset value) = offset == (row_of Ctrl).offset && is_reset Ctrl value
+is_reset_event (Step kind) = false
+
+-- The register at this offset is written, or all are reset.
+abbrev pub sets_register : ℕ → Event → Bool
+sets_register place (Read offset) = false
+sets_register place (Write offset value) = offset == place || is_reset_event (Write offset value)
+sets_register place (Step kind) = false
+
+-- No event of the list sets the register at this offset.
+abbrev pub NoneSets : ℕ → List Event → Type 0
+NoneSets place events = list_any (sets_register place) events ≡ false
+
+-- What a read at an offset answers behind a list of events since power-on.
+abbrev pub reads : List ℕ → Link → List Event → ℕ → ℕ
+reads words link events offset = answer_at offset (after_events events (new_adapter words link))
+
+-- A register whose kept bits are its rule follows from the last write to it and the last reset, whatever else was read and
+-- written, at any offset, and whatever steps came between.
+pub record ReadsByHistory (register : Register) (kept : ℕ) (words : List ℕ) (link : Link) : Type 0 where
+  -- It reads its reset value where it wasn't written;
+  pub never_written : (all : List Event) → NoneSets (row_of register).offset all
+      → reads words link all (row_of register).offset ≡ (row_of register).reset words
+  -- behind the last write, with no reset behind it, the kept bits of what was written;
+  pub written : (before : List Event) (value : ℕ) (after : List Event)
+      → is_reset_event (Write (row_of register).offset value) ≡ false → NoneSets (row_of register).offset after
+      → reads words link (before ++ Write (row_of register).offset value ∷ after) (row_of register).offset ≡ bit_and value kept
+  -- and behind the last reset, with no write behind it, its reset value again.
+  pub reset : (before : List Event) (event : Event) (after : List Event)
+      → is_reset_event event ≡ true → NoneSets (row_of register).offset after
+      → reads words link (before ++ event ∷ after) (row_of register).offset ≡ (row_of register).reset words
+
+abbrev pub PlainByHistory : Type 0
+PlainByHistory =
+    (register : Register) (kept : ℕ) (words : List ℕ) (link : Link)
+    → IsInTable register → (row_of register).kept ≡ Some kept → ReadsByHistory register kept words link

@@ -1,0 +1,14 @@
+pub mod Rings
+pub mod PacketBuffer
+pub mod State
+pub mod Table
+pub mod Registers
+pub mod Steps
+pub mod View
+pub mod AccessLaws
+pub mod TableLaws
+pub mod RegisterLaws
+pub mod History
+pub mod HistoryLaws
+pub mod Parts
+pub mod PartsLaws

@@ -1,0 +1,65 @@
+-- What comes to EERD, and to MDIC and the PHY behind it, of all that comes to an adapter. So the laws of `eeprom` and `mdic_phy` over all lists
+-- of writes and ticks hold of the adapter's registers.
+use Rattle.std.specs.Prelude.{◌≡◌, ℕ, false, true, List, [], ◌∷◌, ◌++◌, Option, Some, if◌then◌else◌}
+use Rattle.std.specs.List.{list_any}
+use Rattle.eeprom.specs.History as eerd
+use Rattle.mdic_phy.specs.declared.phy.Link.{Link}
+use Rattle.mdic_phy.specs.MdicHistory.{MdicEvent, mdic_reads, phy_of}
+use Rattle.mdic_phy.specs.MdicHistory as mdic
+use Rattle.mdic_phy.specs.Phy.{new_phy}
+use Rattle.adapter.specs.declared.register.Register.{Register}
+use Rattle.adapter.specs.declared.register.Register.TheVariants.{Ctrl, Eerd, Mdic}
+use Rattle.adapter.specs.declared.step.StepKind.TheVariants.{EepromTick, PhyTick}
+use Rattle.adapter.specs.History.{Event, Read, Write, Step, after_events, is_reset_event, reads}
+use Rattle.adapter.specs.Registers.{is_reset, new_adapter}
+use Rattle.adapter.specs.Table.{register_at, row_of}
+
+-- A write to EERD comes to it.
+abbrev pub eerd_written : Option Register → ℕ → List eerd.Operation
+eerd_written (Some Eerd) value = eerd.Write value ∷ []
+eerd_written found value = []
+
+-- What comes to EERD of an event, a reset apart.
+abbrev pub eerd_operation : Event → List eerd.Operation
+eerd_operation (Read offset) = []
+eerd_operation (Write offset value) = eerd_written (register_at offset) value
+eerd_operation (Step EepromTick) = eerd.Tick ∷ []
+eerd_operation (Step PhyTick) = []
+
+abbrev pub eerd_operations : List Event → List eerd.Operation
+eerd_operations [] = []
+eerd_operations (event ∷ later) = eerd_operation event ++ eerd_operations later
+
+-- A write to MDIC comes to it; a reset of the adapter is to MDIC a word without a command, and nothing to the PHY.
+abbrev pub mdic_written : Option Register → ℕ → List MdicEvent
+mdic_written (Some Mdic) value = mdic.Write value ∷ []
+mdic_written (Some Ctrl) value = if is_reset Ctrl value then mdic.Write 0 ∷ [] else []
+mdic_written found value = []
+
+-- What comes to MDIC of an event.
+abbrev pub mdic_event : Event → List MdicEvent
+mdic_event (Read offset) = []
+mdic_event (Write offset value) = mdic_written (register_at offset) value
+mdic_event (Step EepromTick) = []
+mdic_event (Step PhyTick) = mdic.Tick ∷ []
+
+abbrev pub mdic_events : List Event → List MdicEvent
+mdic_events [] = []
+mdic_events (event ∷ later) = mdic_event event ++ mdic_events later
+
+-- Among these events there is no reset.
+abbrev pub NoReset : List Event → Type 0
+NoReset events = list_any is_reset_event events ≡ false
+
+-- EERD reads what the law of its history says of what came to it since power-on or the last reset;
+-- MDIC reads what the law of its history says of what came to it since power-on, and so stands the PHY.
+pub record PartsByHistory (words : List ℕ) (link : Link) : Type 0 where
+  pub eerd_since_power_on : (all : List Event) → NoReset all
+      → reads words link all (row_of Eerd).offset ≡ eerd.reads_after words (eerd_operations all)
+  pub eerd_since_reset : (before : List Event) (event : Event) (after : List Event) → is_reset_event event ≡ true → NoReset after
+      → reads words link (before ++ event ∷ after) (row_of Eerd).offset ≡ eerd.reads_after words (eerd_operations after)
+  pub mdic : (all : List Event) → reads words link all (row_of Mdic).offset ≡ mdic_reads (new_phy link) (mdic_events all)
+  pub phy : (all : List Event) → (after_events all (new_adapter words link)).phy ≡ phy_of (new_phy link) (mdic_events all)
+
+abbrev pub PartsHaveTheirLaws : Type 0
+PartsHaveTheirLaws = (words : List ℕ) (link : Link) → PartsByHistory words link

@@ -1,0 +1,180 @@
+-- What comes to EERD, MDIC and the PHY, proved.
+use Rattle.std.proofs.Common.{◌≡◌, ℕ, Bool, true, false, List, [], ◌∷◌, ◌++◌, Option, Some, None, refl, sym, ◌∙◌, ap, if◌then◌else◌}
+use Rattle.std.specs.List.{list_any}
+use Rattle.std.specs.Option.{is_some}
+use Rattle.std.proofs.lemmas.Bool.{or_parts, true≢false}
+use Rattle.eeprom.specs.Eerd.{shown}
+use Rattle.eeprom.specs.History as eerd
+use Rattle.eeprom.specs.Laws.{after_all-append}
+use Rattle.mdic_phy.specs.declared.mdic.Operation.{Operation}
+use Rattle.mdic_phy.specs.declared.mdic.Ticked.{Ticked}
+use Rattle.mdic_phy.specs.declared.phy.Negotiation.{Negotiation}
+use Rattle.mdic_phy.specs.declared.phy.Negotiation.TheVariants.{NotStarted, Running, Complete}
+use Rattle.mdic_phy.specs.Mdic.{MdicState, mdic_after_tick, new_mdic, phy_after_tick, told, ended, phy_ended}
+use Rattle.mdic_phy.specs.Mdic as mdi
+use Rattle.mdic_phy.specs.MdicHistory.{MdicAndPhy, MdicEvent, after_mdic_events, both_behind}
+use Rattle.mdic_phy.specs.MdicLaws.{accesses_by_history}
+use Rattle.mdic_phy.specs.Phy.{PhyState, counted, is_counting, is_running, new_phy}
+use Rattle.mdic_phy.specs.Phy as phy
+use Rattle.adapter.specs.declared.register.Register.{Register}
+use Rattle.adapter.specs.declared.register.Register.TheVariants.{Ctrl, Eerd, Mdic, Icr}
+use Rattle.adapter.specs.declared.step.StepKind.TheVariants.{EepromTick, PhyTick}
+use Rattle.adapter.specs.History.{Event, Read, Write, Step, after_event, after_events, is_reset_event}
+use Rattle.adapter.specs.HistoryLaws.{after_events-append, image-after_event, image-after_events, no_reset, reset-event}
+use Rattle.adapter.specs.Parts.{NoReset, PartsHaveTheirLaws, eerd_operation, eerd_operations, eerd_written, mdic_event, mdic_events, mdic_written}
+use Rattle.adapter.specs.Registers.{after_reset, answer_of, by_row, is_reset, left_by_read, left_by_write, new_adapter, read_of, write_of}
+use Rattle.adapter.specs.State.{AdapterState}
+use Rattle.adapter.specs.Steps.{after_phy_told}
+use Rattle.adapter.specs.Table.{StandsAt, register_at, row_of}
+use Rattle.adapter.specs.TableLaws.{register_at-only, register_at-there}
+
+-- MDIC and the PHY of an adapter.
+abbrev both_of : AdapterState → MdicAndPhy
+both_of state = record { mdic = state.mdic; phy = state.phy }
+
+-- A tick with no command pending leaves MDIC,
+mdic-idle : (pending : Option Operation) (value : ℕ) (state : PhyState) → is_some pending ≡ false
+    → mdic_after_tick (record { value = value; pending = pending }) state ≡ record { value = value; pending = pending }
+mdic-idle (Some operation) value state none = absurd (true≢false none)
+mdic-idle None value state none = refl
+
+-- and with no count running the PHY.
+negotiation-still : (negotiation : Negotiation) → is_running negotiation ≡ false → counted negotiation ≡ negotiation
+negotiation-still NotStarted still = refl
+negotiation-still (Running left) still = absurd (true≢false still)
+negotiation-still Complete still = refl
+
+phy-idle : (pending : Option Operation) (value : ℕ) (state : PhyState) → is_some pending ≡ false → is_counting state ≡ false
+    → phy_ended pending value (phy.after_tick state) ≡ state
+phy-idle (Some operation) value state none still = absurd (true≢false none)
+phy-idle None value state none still =
+    ap (λ (negotiation : Negotiation). record state { negotiation = negotiation }) (negotiation-still state.negotiation still)
+
+-- a tick of the adapter is one of MDIC, also where it has nothing to do
+both-ticked : (state : AdapterState) → both_of (after_event (Step PhyTick) state) ≡ after_mdic_events (mdic_event (Step PhyTick)) (both_of state)
+both-ticked state = by_test (mdi.has_work state.mdic state.phy) (λ none. none)
+  where
+    what : Ticked
+    what = record { link_changed = phy.comes_up state.phy; access_complete = mdi.tells_end state.mdic }
+
+    by_test : (test : Bool) → (test ≡ false → mdi.has_work state.mdic state.phy ≡ false)
+        → both_of (after_phy_told (if test then Some what else None) state) ≡ record { mdic = mdic_after_tick state.mdic state.phy; phy = phy_after_tick state.mdic state.phy }
+    by_test true none = refl
+    by_test false none =
+        let parts = or_parts (is_counting state.phy) (is_some state.mdic.pending) (none refl) in
+        let mdic = mdic-idle state.mdic.pending state.mdic.value state.phy parts.1 in
+        let phy = phy-idle state.mdic.pending state.mdic.value state.phy parts.1 parts.0 in
+        ap (λ (m : MdicState). both m state.phy) (sym mdic) ∙ ap (λ (p : PhyState). both (mdic_after_tick state.mdic state.phy) p) (sym phy)
+      where
+        both : MdicState → PhyState → MdicAndPhy
+        both m p = record { mdic = m; phy = p }
+
+both-written : (register : Register) (value : ℕ) (state : AdapterState)
+    → both_of (write_of register value state) ≡ after_mdic_events (mdic_written (Some register) value) (both_of state)
+both-written Mdic value state = refl
+both-written Ctrl value state = by_test (is_reset Ctrl value)
+  where
+    by_test : (test : Bool)
+        → both_of (if test then after_reset state else by_row (row_of Ctrl).kept Ctrl value state)
+        ≡ after_mdic_events (if test then Rattle.mdic_phy.specs.MdicHistory.Write 0 ∷ [] else []) (both_of state)
+    by_test true = refl
+    by_test false = refl
+both-written _ value state = refl
+
+both-read : (register : Register) (state : AdapterState) → both_of (read_of register state) ≡ both_of state
+both-read Icr state = refl
+both-read _ state = refl
+
+both-event : (event : Event) (state : AdapterState) → both_of (after_event event state) ≡ after_mdic_events (mdic_event event) (both_of state)
+both-event (Read offset) state = by_case (register_at offset)
+  where
+    by_case : (found : Option Register) → both_of (left_by_read found state) ≡ both_of state
+    by_case (Some register) = both-read register state
+    by_case None = refl
+both-event (Write offset value) state = by_case (register_at offset)
+  where
+    by_case : (found : Option Register) → both_of (left_by_write found value state) ≡ after_mdic_events (mdic_written found value) (both_of state)
+    by_case (Some register) = both-written register value state
+    by_case None = refl
+both-event (Step EepromTick) state = refl
+both-event (Step PhyTick) state = both-ticked state
+
+-- one list of events of MDIC behind another
+after_mdic_events-append : (before after : List MdicEvent) (both : MdicAndPhy)
+    → after_mdic_events (before ++ after) both ≡ after_mdic_events after (after_mdic_events before both)
+after_mdic_events-append [] after both = refl
+after_mdic_events-append (event ∷ before) after both = after_mdic_events-append before after (Rattle.mdic_phy.specs.MdicHistory.after_mdic_event event both)
+
+pub both-events : (events : List Event) (state : AdapterState) → both_of (after_events events state) ≡ after_mdic_events (mdic_events events) (both_of state)
+both-events [] state = refl
+both-events (event ∷ later) state =
+    both-events later (after_event event state)
+    ∙ ap (after_mdic_events (mdic_events later)) (both-event event state)
+    ∙ sym (after_mdic_events-append (mdic_event event) (mdic_events later) (both_of state))
+
+-- EERD.
+
+eerd-by_row : (register : Register) (value : ℕ) (state : AdapterState)
+    → (by_row (row_of register).kept register value state).eerd ≡ eerd.after_all state.image (eerd_written (Some register) value) state.eerd
+eerd-by_row Eerd value state = refl
+eerd-by_row _ value state = refl
+
+eerd-read : (register : Register) (state : AdapterState) → (read_of register state).eerd ≡ state.eerd
+eerd-read Icr state = refl
+eerd-read _ state = refl
+
+eerd-told : (what : Option Ticked) (state : AdapterState) → (after_phy_told what state).eerd ≡ state.eerd
+eerd-told (Some ticked) state = refl
+eerd-told None state = refl
+
+eerd-event : (event : Event) (state : AdapterState) → is_reset_event event ≡ false
+    → (after_event event state).eerd ≡ eerd.after_all state.image (eerd_operation event) state.eerd
+eerd-event (Read offset) state none = by_case (register_at offset)
+  where
+    by_case : (found : Option Register) → (left_by_read found state).eerd ≡ state.eerd
+    by_case (Some register) = eerd-read register state
+    by_case None = refl
+eerd-event (Write offset value) state none = by_case (register_at offset) (λ register found. register_at-only offset register found)
+  where
+    by_case : (found : Option Register) → ((register : Register) → found ≡ Some register → StandsAt offset register)
+        → (left_by_write found value state).eerd ≡ eerd.after_all state.image (eerd_written found value) state.eerd
+    by_case (Some register) stands =
+        ap (λ (test : Bool). (if test then after_reset state else by_row (row_of register).kept register value state).eerd)
+        (no_reset offset value register (stands register refl).there none)
+        ∙ eerd-by_row register value state
+    by_case None stands = refl
+eerd-event (Step EepromTick) state none = refl
+eerd-event (Step PhyTick) state none = eerd-told (told state.mdic state.phy) state
+
+pub eerd-events : (events : List Event) (state : AdapterState) → NoReset events
+    → (after_events events state).eerd ≡ eerd.after_all state.image (eerd_operations events) state.eerd
+eerd-events [] state none = refl
+eerd-events (event ∷ later) state none =
+    let parts = or_parts (is_reset_event event) (list_any is_reset_event later) none in
+    eerd-events later (after_event event state) parts.1
+    ∙ ap (λ (words : List ℕ). eerd.after_all words (eerd_operations later) (after_event event state).eerd) (image-after_event event state)
+    ∙ ap (eerd.after_all state.image (eerd_operations later)) (eerd-event event state parts.0)
+    ∙ sym (after_all-append state.image (eerd_operation event) (eerd_operations later) state.eerd)
+
+pub parts_have_their_laws : PartsHaveTheirLaws
+parts_have_their_laws words link = record {
+  eerd_since_power_on = λ all none.
+      ap (λ (found : Option Register). answer_of found (after_events all start)) (register_at-there Eerd tt)
+      ∙ ap shown (eerd-events all start none);
+  eerd_since_reset = λ before event after resets none.
+      let here = after_events before start in
+      ap (λ (found : Option Register). answer_of found (after_events (before ++ event ∷ after) start)) (register_at-there Eerd tt)
+      ∙ ap (λ (state : AdapterState). shown state.eerd) (after_events-append before (event ∷ after) start)
+      ∙ ap (λ (state : AdapterState). shown (after_events after state).eerd) (reset-event event here resets)
+      ∙ ap shown (eerd-events after (after_reset here) none)
+      ∙ ap (λ (image : List ℕ). eerd.reads_after image (eerd_operations after)) (image-after_events before start);
+  mdic = λ all.
+      ap (λ (found : Option Register). answer_of found (after_events all start)) (register_at-there Mdic tt)
+      ∙ ap (λ (both : MdicAndPhy). both.mdic.value) (both-events all start);
+  phy = λ all.
+      ap (λ (both : MdicAndPhy). both.phy) (both-events all start)
+      ∙ accesses_by_history (new_phy link) (mdic_events all);
+}
+  where
+    start : AdapterState
+    start = new_adapter words link

@@ -1,0 +1,165 @@
+-- What a read of a register answers and leaves, what a write leaves, and what a reset leaves.
+use Rattle.std.specs.Prelude.{◌/◌, ◌%◌, ◌^◌, ◌==◌, ◌&&◌, ℕ, Bool, false, List, ◌∷◌, Option, Some, None, bit_and, replicate, slice_index, slice_set, if◌then◌else◌}
+use Rattle.eeprom.specs.declared.eerd.ReadState.TheVariants.{Idle}
+use Rattle.eeprom.specs.Eerd as eeprom
+use Rattle.mdic_phy.specs.declared.phy.Link.{Link}
+use Rattle.mdic_phy.specs.Mdic as mdi
+use Rattle.mdic_phy.specs.Phy.{PhyState, link_is_up, new_phy}
+use Rattle.registers.specs.Bits.{union, difference}
+use Rattle.registers.specs.Kept.{causes_of, status_of_link_up}
+use Rattle.rx_filter.specs.Registers.{FilterRegisters}
+use Rattle.adapter.specs.declared.register.Register.{Register}
+use Rattle.adapter.specs.declared.register.Register.TheVariants.{Ctrl, Status, Eerd, Mdic, Vet, Icr, Ics, Ims, Imc, Rctl, Tctl, Pba, Receive, Transmit, Mpc, Gprc, Gptc, Rnbc, Mta, Ral, Rah, Vfta}
+use Rattle.adapter.specs.PacketBuffer.{allocation_shown, allocation_written}
+use Rattle.adapter.specs.Rings.{new_ring, ring_answer, with_ring}
+use Rattle.adapter.specs.State.{AdapterState}
+use Rattle.adapter.specs.Table.{row_of, register_at, address_low_at_reset, address_high_at_reset}
+
+-- After power-on and after a reset.
+
+-- the filter: the first of the 16 receive addresses comes from the EEPROM
+abbrev pub filter_at_reset : List ℕ → FilterRegisters
+filter_at_reset words = record {
+  ral = address_low_at_reset 0 words ∷ replicate 15 0;
+  rah = address_high_at_reset 0 words ∷ replicate 15 0;
+  mta = replicate 128 0;
+  vfta = replicate 128 0;
+  rctl = 0;
+  vet = 0x8100;
+}
+
+-- an adapter after a reset, by the words of its EEPROM, its PHY and its PBA
+abbrev pub adapter_at_reset : List ℕ → PhyState → ℕ → AdapterState
+adapter_at_reset words phy kilobytes = record {
+  image = words;
+  phy = phy;
+  receive_kilobytes = kilobytes;
+  device_control = 0;
+  eerd = Idle;
+  mdic = mdi.new_mdic;
+  causes = record { recorded = 0; mask = 0 };
+  filter = filter_at_reset words;
+  transmit_control = 0;
+  receive_ring = new_ring;
+  transmit_ring = new_ring;
+  missed_packets = 0;
+  received_packets = 0;
+  transmitted_packets = 0;
+  no_receive_buffers = 0;
+}
+
+-- an adapter after power-on: its PHY is new, and its packet buffer has 48 kilobytes for frames that are received
+abbrev pub new_adapter : List ℕ → Link → AdapterState
+new_adapter words link = adapter_at_reset words (new_phy link) 48
+
+-- CTRL.RST leaves the PHY and PBA as they are, and gives every other register its value after a reset (own)
+abbrev pub after_reset : AdapterState → AdapterState
+after_reset state = adapter_at_reset state.image state.phy state.receive_kilobytes
+
+-- Reads.
+
+-- STATUS shows the link of the PHY while CTRL.SLU, bit 6, is set (own)
+abbrev pub shows_link : AdapterState → Bool
+shows_link state = link_is_up state.phy && state.device_control / 2 ^ 6 % 2 == 1
+
+-- what a read of a register answers
+abbrev pub answer : Register → AdapterState → ℕ
+answer Ctrl state = state.device_control
+answer Status state = if shows_link state then status_of_link_up else 0
+answer Eerd state = eeprom.shown state.eerd
+answer Mdic state = state.mdic.value
+answer Vet state = state.filter.vet
+answer Icr state = state.causes.recorded
+answer Ics state = 0
+answer Ims state = state.causes.mask
+answer Imc state = 0
+answer Rctl state = state.filter.rctl
+answer Tctl state = state.transmit_control
+answer Pba state = allocation_shown state.receive_kilobytes
+answer (Receive part) state = ring_answer part state.receive_ring
+answer (Transmit part) state = ring_answer part state.transmit_ring
+answer Mpc state = state.missed_packets
+answer Gprc state = state.received_packets
+answer Gptc state = state.transmitted_packets
+answer Rnbc state = state.no_receive_buffers
+answer (Mta word) state = slice_index state.filter.mta word
+answer (Ral entry) state = slice_index state.filter.ral entry
+answer (Rah entry) state = slice_index state.filter.rah entry
+answer (Vfta word) state = slice_index state.filter.vfta word
+
+-- what a read leaves: ICR and the counters are cleared by it, and nothing else changes
+abbrev pub read_of : Register → AdapterState → AdapterState
+read_of Icr state = record state { causes = record state.causes { recorded = 0 } }
+read_of Mpc state = record state { missed_packets = 0 }
+read_of Gprc state = record state { received_packets = 0 }
+read_of Gptc state = record state { transmitted_packets = 0 }
+read_of Rnbc state = record state { no_receive_buffers = 0 }
+read_of register state = state
+
+-- Writes.
+
+-- the state with this number in a register whose kept bits are its rule
+abbrev pub with_register : Register → ℕ → AdapterState → AdapterState
+with_register Ctrl number state = record state { device_control = number }
+with_register Vet number state = record state { filter = record state.filter { vet = number } }
+with_register Rctl number state = record state { filter = record state.filter { rctl = number } }
+with_register Tctl number state = record state { transmit_control = number }
+with_register (Receive part) number state = record state { receive_ring = with_ring part number state.receive_ring }
+with_register (Transmit part) number state = record state { transmit_ring = with_ring part number state.transmit_ring }
+with_register (Mta word) number state = record state { filter = record state.filter { mta = slice_set state.filter.mta word number } }
+with_register (Ral entry) number state = record state { filter = record state.filter { ral = slice_set state.filter.ral entry number } }
+with_register (Rah entry) number state = record state { filter = record state.filter { rah = slice_set state.filter.rah entry number } }
+with_register (Vfta word) number state = record state { filter = record state.filter { vfta = slice_set state.filter.vfta word number } }
+with_register register number state = state
+
+-- what a write leaves by the rules of their own; STATUS and the counters ignore it
+abbrev pub by_rule : Register → ℕ → AdapterState → AdapterState
+by_rule Eerd value state = record state { eerd = eeprom.after_write value state.eerd }
+by_rule Mdic value state = record state { mdic = mdi.after_write value }
+by_rule Icr value state = record state { causes = record state.causes { recorded = difference state.causes.recorded (causes_of value) } }
+by_rule Ics value state = record state { causes = record state.causes { recorded = union state.causes.recorded (causes_of value) } }
+by_rule Ims value state = record state { causes = record state.causes { mask = union state.causes.mask (causes_of value) } }
+by_rule Imc value state = record state { causes = record state.causes { mask = difference state.causes.mask (causes_of value) } }
+by_rule Pba value state = record state { receive_kilobytes = allocation_written value state.receive_kilobytes }
+by_rule register value state = state
+
+-- a write of CTRL with RST, bit 26, resets, and the rest of it is ignored (own)
+abbrev pub is_reset : Register → ℕ → Bool
+is_reset Ctrl value = value / 2 ^ 26 % 2 == 1
+is_reset register value = false
+
+-- by the kept bits of the table's row, or by the register's own rule
+abbrev pub by_row : Option ℕ → Register → ℕ → AdapterState → AdapterState
+by_row (Some kept) register value state = with_register register (bit_and value kept) state
+by_row None register value state = by_rule register value state
+
+-- what a write of a register leaves
+abbrev pub write_of : Register → ℕ → AdapterState → AdapterState
+write_of register value state =
+    if is_reset register value then after_reset state else by_row (row_of register).kept register value state
+
+-- By offsets: where there is no register, a read answers 0, and neither a read nor a write changes anything (own).
+
+abbrev pub answer_of : Option Register → AdapterState → ℕ
+answer_of (Some register) state = answer register state
+answer_of None state = 0
+
+abbrev pub left_by_read : Option Register → AdapterState → AdapterState
+left_by_read (Some register) state = read_of register state
+left_by_read None state = state
+
+abbrev pub left_by_write : Option Register → ℕ → AdapterState → AdapterState
+left_by_write (Some register) value state = write_of register value state
+left_by_write None value state = state
+
+-- what a read at an offset answers
+abbrev pub answer_at : ℕ → AdapterState → ℕ
+answer_at offset state = answer_of (register_at offset) state
+
+-- what a read at an offset leaves
+abbrev pub after_read : ℕ → AdapterState → AdapterState
+after_read offset state = left_by_read (register_at offset) state
+
+-- what a write at an offset leaves
+abbrev pub after_write : ℕ → ℕ → AdapterState → AdapterState
+after_write offset value state = left_by_write (register_at offset) value state

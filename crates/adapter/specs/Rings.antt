@@ -1,0 +1,46 @@
+-- The five registers of a descriptor ring (3.2.6 "Receive Descriptor Queue Structure" and 3.4 "Transmit Descriptor Ring
+-- Structure"). That the other bits read 0 is own.
+use Rattle.std.specs.Prelude.{ℕ, bit_and}
+use Rattle.adapter.specs.declared.register.RingRegister.{RingRegister}
+use Rattle.adapter.specs.declared.register.RingRegister.TheVariants.{BaseLow, BaseHigh, Length, Head, Tail}
+use Rattle.adapter.specs.declared.ring.RingRegisters.{RingRegisters}
+
+-- how far behind RDBAL or TDBAL the register stands
+abbrev pub ring_distance : RingRegister → ℕ
+ring_distance BaseLow = 0x00
+ring_distance BaseHigh = 0x04
+ring_distance Length = 0x08
+ring_distance Head = 0x10
+ring_distance Tail = 0x18
+
+-- the bits that a write changes and a read shows
+abbrev pub ring_kept : RingRegister → ℕ
+ring_kept BaseLow = 0xFFFFFFF0
+ring_kept BaseHigh = 0xFFFFFFFF
+ring_kept Length = 0x000FFF80
+ring_kept Head = 0x0000FFFF
+ring_kept Tail = 0x0000FFFF
+
+-- a ring after a reset
+abbrev pub new_ring : RingRegisters
+new_ring = record { base_low = 0; base_high = 0; length_bytes = 0; head = 0; tail = 0 }
+
+-- what a register reads
+abbrev pub ring_answer : RingRegister → RingRegisters → ℕ
+ring_answer BaseLow ring = ring.base_low
+ring_answer BaseHigh ring = ring.base_high
+ring_answer Length ring = ring.length_bytes
+ring_answer Head ring = ring.head
+ring_answer Tail ring = ring.tail
+
+-- the ring with this number in a register
+abbrev pub with_ring : RingRegister → ℕ → RingRegisters → RingRegisters
+with_ring BaseLow number ring = record ring { base_low = number }
+with_ring BaseHigh number ring = record ring { base_high = number }
+with_ring Length number ring = record ring { length_bytes = number }
+with_ring Head number ring = record ring { head = number }
+with_ring Tail number ring = record ring { tail = number }
+
+-- what a write of a word leaves
+abbrev pub ring_written : RingRegister → ℕ → RingRegisters → RingRegisters
+ring_written register value ring = with_ring register (bit_and value (ring_kept register)) ring

@@ -1,0 +1,67 @@
+-- What an adapter is, as plain data.
+use Rattle.std.specs.Prelude.{◌≡◌, ◌≤◌, ℕ, List, length}
+use Rattle.eeprom.specs.declared.eerd.ReadState.{ReadState}
+use Rattle.mdic_phy.specs.Mdic.{MdicState}
+use Rattle.mdic_phy.specs.Phy.{PhyState}
+use Rattle.registers.specs.Bits.{IsSubset}
+use Rattle.registers.specs.Kept.{all_causes}
+use Rattle.registers.specs.Counting.{greatest_count}
+use Rattle.registers.specs.Interrupts.{Interrupts}
+use Rattle.rx_filter.specs.Registers.{FilterRegisters}
+use Rattle.adapter.specs.declared.ring.RingRegisters.{RingRegisters}
+use Rattle.adapter.specs.PacketBuffer.{IsAllocation}
+
+pub record AdapterState : Type 0 where
+  -- the 64 words of the EEPROM, which nothing changes
+  pub image : List ℕ
+  pub phy : PhyState
+  -- PBA: the kilobytes of the packet buffer's receive part, RXA
+  pub receive_kilobytes : ℕ
+  -- CTRL
+  pub device_control : ℕ
+  pub eerd : ReadState
+  pub mdic : MdicState
+  -- ICR and IMS
+  pub causes : Interrupts
+  -- RAL, RAH, MTA and VFTA, and with them RCTL and VET
+  pub filter : FilterRegisters
+  -- TCTL
+  pub transmit_control : ℕ
+  -- RDBAL, RDBAH, RDLEN, RDH, RDT
+  pub receive_ring : RingRegisters
+  -- TDBAL, TDBAH, TDLEN, TDH, TDT
+  pub transmit_ring : RingRegisters
+  -- MPC
+  pub missed_packets : ℕ
+  -- GPRC
+  pub received_packets : ℕ
+  -- GPTC
+  pub transmitted_packets : ℕ
+  -- RNBC
+  pub no_receive_buffers : ℕ
+
+-- the sizes of the filter's tables
+pub record HasTables (ral rah mta vfta : List ℕ) : Type 0 where
+  pub ral_entries : length ral ≡ 16
+  pub rah_entries : length rah ≡ 16
+  pub mta_words : length mta ≡ 128
+  pub vfta_words : length vfta ≡ 128
+
+-- no counter is above the greatest value of one
+pub record CountersFit (mpc gprc gptc rnbc : ℕ) : Type 0 where
+  pub missed : mpc ≤ greatest_count
+  pub received : gprc ≤ greatest_count
+  pub transmitted : gptc ≤ greatest_count
+  pub no_buffers : rnbc ≤ greatest_count
+
+-- causes alone are recorded, and in the mask
+pub record CausesAlone (recorded mask : ℕ) : Type 0 where
+  pub recorded_causes : IsSubset recorded all_causes
+  pub masked_causes : IsSubset mask all_causes
+
+-- What holds of every adapter.
+pub record IsAdapter (state : AdapterState) : Type 0 where
+  pub tables : HasTables state.filter.ral state.filter.rah state.filter.mta state.filter.vfta
+  pub allocation : IsAllocation state.receive_kilobytes
+  pub causes : CausesAlone state.causes.recorded state.causes.mask
+  pub counters : CountersFit state.missed_packets state.received_packets state.transmitted_packets state.no_receive_buffers

@@ -1,0 +1,101 @@
+-- The table of registers (chapter 13 "Register Descriptions"): where each stands, what a write keeps, and what it reads after a reset.
+-- PBA's reset value is the manual's. The other reset values, and the kept bits where the manual has more, are own.
+use Rattle.std.specs.Prelude.{◌≡◌, ◌+◌, ◌-◌, ◌*◌, ◌/◌, ◌%◌, ◌<◌, ◌==◌, ◌&&◌, ℕ, List, [], ◌∷◌, Option, Some, None, find, nat_lt, nat_le, slice_index, if◌then◌else◌}
+use Rattle.adapter.specs.declared.register.RingRegister.TheVariants.{BaseLow, BaseHigh, Length, Head, Tail}
+use Rattle.adapter.specs.declared.register.Register.{Register}
+use Rattle.adapter.specs.declared.register.Register.TheVariants.{Ctrl, Status, Eerd, Mdic, Vet, Icr, Ics, Ims, Imc, Rctl, Tctl, Pba, Receive, Transmit, Mpc, Gprc, Gptc, Rnbc, Mta, Ral, Rah, Vfta}
+use Rattle.adapter.specs.Rings.{ring_distance, ring_kept}
+
+-- A line of the table.
+pub record Row : Type 0 where
+  -- the offset in bytes
+  pub offset : ℕ
+  -- the bits that a write changes and a read shows, where these alone are the rule; else the register has a rule of its own
+  pub kept : Option ℕ
+  -- what it reads after a reset, by the words of the EEPROM
+  pub reset : List ℕ → ℕ
+
+-- a register whose kept bits are its rule
+abbrev pub plain : ℕ → ℕ → ℕ → Row
+plain offset kept reset = record { offset = offset; kept = Some kept; reset = λ words. reset }
+
+-- a register with a rule of its own
+abbrev pub ruled : ℕ → ℕ → Row
+ruled offset reset = record { offset = offset; kept = None; reset = λ words. reset }
+
+-- RAL(0) is words 0 and 1 of the EEPROM, the earlier in the low half; the other entries are 0 (own)
+abbrev pub address_low_at_reset : ℕ → List ℕ → ℕ
+address_low_at_reset entry words = if entry == 0 then slice_index words 1 * 65536 + slice_index words 0 else 0
+
+-- RAH(0) is word 2 of the EEPROM with AV, bit 31; the other entries are 0 (own)
+abbrev pub address_high_at_reset : ℕ → List ℕ → ℕ
+address_high_at_reset entry words = if entry == 0 then 0x80000000 + slice_index words 2 else 0
+
+abbrev pub row_of : Register → Row
+row_of Ctrl = plain 0x0000 0x40000061 0
+row_of Status = ruled 0x0008 0
+row_of Eerd = ruled 0x0014 0
+row_of Mdic = ruled 0x0020 0
+row_of Vet = plain 0x0038 0x0000FFFF 0x8100
+row_of Icr = ruled 0x00C0 0
+row_of Ics = ruled 0x00C8 0
+row_of Ims = ruled 0x00D0 0
+row_of Imc = ruled 0x00D8 0
+row_of Rctl = plain 0x0100 0x0607B33A 0
+row_of Tctl = plain 0x0400 0x003FFFFA 0
+row_of Pba = ruled 0x1000 0x00100030
+row_of (Receive part) = plain (0x2800 + ring_distance part) (ring_kept part) 0
+row_of (Transmit part) = plain (0x3800 + ring_distance part) (ring_kept part) 0
+row_of Mpc = ruled 0x4010 0
+row_of Gprc = ruled 0x4074 0
+row_of Gptc = ruled 0x4080 0
+row_of Rnbc = ruled 0x40A0 0
+row_of (Mta word) = plain (0x5200 + 4 * word) 0xFFFFFFFF 0
+row_of (Ral entry) = record { offset = 0x5400 + 8 * entry; kept = Some 0xFFFFFFFF; reset = address_low_at_reset entry }
+row_of (Rah entry) = record { offset = 0x5404 + 8 * entry; kept = Some 0x8000FFFF; reset = address_high_at_reset entry }
+row_of (Vfta word) = plain (0x5600 + 4 * word) 0xFFFFFFFF 0
+
+-- which numbers the arrays have
+abbrev pub IsInTable : Register → Type 0
+IsInTable (Mta word) = word < 128
+IsInTable (Ral entry) = entry < 16
+IsInTable (Rah entry) = entry < 16
+IsInTable (Vfta word) = word < 128
+IsInTable register = Unit {0}
+
+-- the register stands at this offset
+pub record StandsAt (offset : ℕ) (register : Register) : Type 0 where
+  pub in_table : IsInTable register
+  pub there : (row_of register).offset ≡ offset
+
+-- the registers that are no part of an array
+abbrev pub single_registers : List Register
+single_registers =
+    Ctrl ∷ Status ∷ Eerd ∷ Mdic ∷ Vet ∷ Icr ∷ Ics ∷ Ims ∷ Imc ∷ Rctl ∷ Tctl ∷ Pba
+    ∷ Receive BaseLow ∷ Receive BaseHigh ∷ Receive Length ∷ Receive Head ∷ Receive Tail
+    ∷ Transmit BaseLow ∷ Transmit BaseHigh ∷ Transmit Length ∷ Transmit Head ∷ Transmit Tail
+    ∷ Mpc ∷ Gprc ∷ Gptc ∷ Rnbc ∷ []
+
+-- the register of an array of `count` words, `step` bytes from one to the next
+abbrev pub array_register : ℕ → ℕ → ℕ → (ℕ → Register) → ℕ → Option Register
+array_register first count step register offset =
+    if nat_le first offset && ((offset - first) % step == 0 && nat_lt ((offset - first) / step) count)
+    then Some (register ((offset - first) / step))
+    else None
+
+-- the first that is there
+abbrev pub or_else : Option Register → Option Register → Option Register
+or_else (Some register) other = Some register
+or_else None other = other
+
+-- the register of an array at an offset
+unfoldable pub array_register_at : ℕ → Option Register
+array_register_at offset =
+    or_else (array_register 0x5200 128 4 Mta offset)
+    (or_else (array_register 0x5400 16 8 Ral offset)
+    (or_else (array_register 0x5404 16 8 Rah offset)
+    (array_register 0x5600 128 4 Vfta offset)))
+
+-- the register at an offset, if there is one
+unfoldable pub register_at : ℕ → Option Register
+register_at offset = or_else (find (λ register. (row_of register).offset == offset) single_registers) (array_register_at offset)

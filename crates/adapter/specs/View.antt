@@ -1,0 +1,57 @@
+-- How the fields of an adapter are the plain data of its contracts.
+use Rattle.std.specs.Prelude.{◌≡◌, ℕ, List}
+use Rattle.adapter.specs.declared.adapter.Adapter.TheInside.{Inside}
+use Rattle.adapter.specs.declared.register_file.RegisterFile.{RegisterFile}
+use Rattle.eeprom.specs.declared.eerd.ReadState.TheVariants.{Idle}
+use Rattle.mdic_phy.specs.Mdic.{new_mdic}
+use Rattle.adapter.specs.Registers.{filter_at_reset}
+use Rattle.adapter.specs.Rings.{new_ring}
+use Rattle.adapter.specs.State.{AdapterState, IsAdapter}
+
+-- the data that the fields are
+abbrev pub state_of : Inside → AdapterState
+state_of inside = record {
+  image = inside.image;
+  phy = inside.phy;
+  receive_kilobytes = inside.packet_buffer;
+  device_control = inside.file.ctrl.0;
+  eerd = inside.file.eerd;
+  mdic = inside.file.mdic;
+  causes = inside.file.causes;
+  filter = inside.file.filter;
+  transmit_control = inside.file.tctl.0;
+  receive_ring = inside.file.receive_ring;
+  transmit_ring = inside.file.transmit_ring;
+  missed_packets = inside.file.mpc;
+  received_packets = inside.file.gprc;
+  transmitted_packets = inside.file.gptc;
+  no_receive_buffers = inside.file.rnbc;
+}
+
+-- the filter was told RCTL and VET as they are
+pub record IsTold (file : RegisterFile) : Type 0 where
+  pub rctl : file.filter.rctl ≡ file.rctl.0
+  pub vet : file.filter.vet ≡ file.vet
+
+pub record IsConsistent (inside : Inside) : Type 0 where
+  pub adapter : IsAdapter (state_of inside)
+  pub told : IsTold inside.file
+
+-- the registers after a reset
+abbrev pub registers_at_reset : List ℕ → RegisterFile
+registers_at_reset words = record {
+  ctrl = record { 0 = 0 };
+  eerd = Idle;
+  mdic = new_mdic;
+  vet = 0x8100;
+  causes = record { recorded = 0; mask = 0 };
+  rctl = record { 0 = 0 };
+  tctl = record { 0 = 0 };
+  receive_ring = new_ring;
+  transmit_ring = new_ring;
+  mpc = 0;
+  gprc = 0;
+  gptc = 0;
+  rnbc = 0;
+  filter = filter_at_reset words;
+}

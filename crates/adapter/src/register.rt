@@ -1,0 +1,130 @@
+// Which register stands at an offset.
+
+ghost use Rattle.std.specs.Prelude.{◌≡◌, ◌≢◌, ◌<◌, ◌/◌, ◌%◌, IfSome};
+
+use crate::offsets::*;
+
+/// A register of one of the two descriptor rings.
+#[derive(Clone, Copy, Debug, PartialEq, Eq)]
+pub enum RingRegister {
+    /// RDBAL, TDBAL: the low word of the ring's address.
+    BaseLow,
+    /// RDBAH, TDBAH: the high word of the ring's address.
+    BaseHigh,
+    /// RDLEN, TDLEN: the ring's length in bytes.
+    Length,
+    /// RDH, TDH: the first descriptor that is the adapter's.
+    Head,
+    /// RDT, TDT: the first descriptor behind the adapter's.
+    Tail,
+}
+
+/// A register of the adapter (chapter 13).
+#[derive(Clone, Copy, Debug, PartialEq, Eq)]
+pub enum Register {
+    /// Device control.
+    Ctrl,
+    /// Device status.
+    Status,
+    /// EEPROM read.
+    Eerd,
+    /// MDI control.
+    Mdic,
+    /// VLAN type.
+    Vet,
+    /// Interrupt cause read.
+    Icr,
+    /// Interrupt cause set.
+    Ics,
+    /// Interrupt mask set and read.
+    Ims,
+    /// Interrupt mask clear.
+    Imc,
+    /// Receive control.
+    Rctl,
+    /// Transmit control.
+    Tctl,
+    /// Packet buffer allocation.
+    Pba,
+    /// A register of the receive descriptor ring.
+    Receive(RingRegister),
+    /// A register of the transmit descriptor ring.
+    Transmit(RingRegister),
+    /// Missed packets count.
+    Mpc,
+    /// Good packets received count.
+    Gprc,
+    /// Good packets transmitted count.
+    Gptc,
+    /// Receive no buffers count.
+    Rnbc,
+    /// A word of the multicast table array, 0 to 127.
+    Mta(u8),
+    /// Receive address low of an entry, 0 to 15.
+    Ral(u8),
+    /// Receive address high of an entry, 0 to 15.
+    Rah(u8),
+    /// A word of the VLAN filter table array, 0 to 127.
+    Vfta(u8),
+}
+
+impl Register {
+    ghost use Rattle.adapter.specs.Table.{IsInTable, register_at};
+
+    /// The register at an offset in bytes, or `None` where there is none.
+    #[tactic(auto, unfolding(crate::specs::Table::register_at, crate::specs::Table::array_register_at))]
+    pub fn at(offset: u32) -> Option<Register>
+        ensures register { result ≡ register_at offset }
+        ensures in_table { IfSome result IsInTable }
+    {
+        if offset % REGISTER_BYTES != 0 {
+            return None;
+        }
+        Some(match offset {
+            CTRL => Register::Ctrl,
+            STATUS => Register::Status,
+            EERD => Register::Eerd,
+            MDIC => Register::Mdic,
+            VET => Register::Vet,
+            ICR => Register::Icr,
+            ICS => Register::Ics,
+            IMS => Register::Ims,
+            IMC => Register::Imc,
+            RCTL => Register::Rctl,
+            TCTL => Register::Tctl,
+            PBA => Register::Pba,
+            RDBAL => Register::Receive(RingRegister::BaseLow),
+            RDBAH => Register::Receive(RingRegister::BaseHigh),
+            RDLEN => Register::Receive(RingRegister::Length),
+            RDH => Register::Receive(RingRegister::Head),
+            RDT => Register::Receive(RingRegister::Tail),
+            TDBAL => Register::Transmit(RingRegister::BaseLow),
+            TDBAH => Register::Transmit(RingRegister::BaseHigh),
+            TDLEN => Register::Transmit(RingRegister::Length),
+            TDH => Register::Transmit(RingRegister::Head),
+            TDT => Register::Transmit(RingRegister::Tail),
+            MPC => Register::Mpc,
+            GPRC => Register::Gprc,
+            GPTC => Register::Gptc,
+            RNBC => Register::Rnbc,
+            MTA..=MTA_LAST => Register::Mta(((offset - MTA) / REGISTER_BYTES) as u8),
+            RAL..=RAH_LAST => address_register(offset - RAL),
+            VFTA..=VFTA_LAST => Register::Vfta(((offset - VFTA) / REGISTER_BYTES) as u8),
+            _ => return None,
+        })
+    }
+}
+
+/// The register at so many bytes behind RAL(0), which is below RAH(15) or there.
+fn address_register(distance: u32) -> Register
+    requires { distance < 128 }
+    ensures even { distance % 8 ≡ 0 → result ≡ Register.Ral (distance / 8) }
+    ensures odd { distance % 8 ≢ 0 → result ≡ Register.Rah (distance / 8) }
+{
+    let entry = (distance / ADDRESS_PAIR_BYTES) as u8;
+    if distance % ADDRESS_PAIR_BYTES == 0 {
+        Register::Ral(entry)
+    } else {
+        Register::Rah(entry)
+    }
+}

@@ -1,0 +1,97 @@
+// The registers that a reset sets.
+
+ghost use Rattle.std.specs.Prelude.{◌≡◌, ◌<◌, slice_index};
+ghost use Rattle.adapter.specs.Registers.{filter_at_reset};
+ghost use Rattle.adapter.specs.Table.{address_high_at_reset, address_low_at_reset};
+
+use crate::ring::RingRegisters;
+use eeprom::{Eerd, Image};
+use mdic_phy::Mdic;
+use registers::{Causes, Counter, Ctrl, Rctl, Tctl};
+use rx_filter::Filter;
+
+/// VET after a reset: the VLAN type of IEEE 802.1Q (own).
+const VLAN_TYPE: u16 = 0x8100;
+
+/// The bits of a word of the EEPROM.
+const WORD_BITS: u32 = 16;
+
+/// AV, bit 31 of RAH: the address is valid.
+const ADDRESS_VALID: u32 = 1 << 31;
+
+/// The registers that a reset sets, all but PBA and those of the PHY. RCTL and VET are told to the
+/// filter, too.
+#[derive(Debug, Drop)]
+pub(crate) struct RegisterFile {
+    pub(crate) ctrl: Ctrl,
+    pub(crate) eerd: Eerd,
+    pub(crate) mdic: Mdic,
+    pub(crate) vet: u16,
+    pub(crate) causes: Causes,
+    pub(crate) rctl: Rctl,
+    pub(crate) tctl: Tctl,
+    pub(crate) receive_ring: RingRegisters,
+    pub(crate) transmit_ring: RingRegisters,
+    pub(crate) mpc: Counter,
+    pub(crate) gprc: Counter,
+    pub(crate) gptc: Counter,
+    pub(crate) rnbc: Counter,
+    pub(crate) filter: Filter,
+}
+
+impl RegisterFile {
+    ghost use Rattle.adapter.specs.View.{registers_at_reset};
+
+    /// The registers after power-on and after a reset, with the address of the EEPROM in the first
+    /// pair of RAL and RAH.
+    pub(crate) fn at_reset(image: &Image) -> Self
+        ensures { result ≡ registers_at_reset image.now }
+    {
+        RegisterFile {
+            ctrl: Ctrl(0),
+            eerd: Eerd::new(),
+            mdic: Mdic::new(),
+            vet: VLAN_TYPE,
+            causes: Causes::new(),
+            rctl: Rctl(0),
+            tctl: Tctl(0),
+            receive_ring: RingRegisters::new(),
+            transmit_ring: RingRegisters::new(),
+            mpc: Counter::new(),
+            gprc: Counter::new(),
+            gptc: Counter::new(),
+            rnbc: Counter::new(),
+            filter: filter_at_reset(image),
+        }
+    }
+}
+
+/// The filter after a reset: the address of the EEPROM is the first of the exact addresses, and VET
+/// is that of IEEE 802.1Q.
+#[tactic(auto, using(crate::proofs::Words::and_address_high))]
+fn filter_at_reset(image: &Image) -> Filter
+    ensures { result ≡ filter_at_reset image.now }
+{
+    let mut filter = Filter::new();
+    filter.write_ral(0, address_low(image));
+    filter.write_rah(0, address_high(image));
+    filter.mode(0, VLAN_TYPE);
+    filter
+}
+
+/// RAL(0) after a reset: the first two words of the EEPROM, the earlier in the low half.
+#[tactic(auto, using(crate::proofs::Words::or_words))]
+fn address_low(image: &Image) -> u32
+    ensures { result ≡ address_low_at_reset 0 image.now }
+{
+    u32::from(image.word(1)) << WORD_BITS | u32::from(image.word(0))
+}
+
+/// RAH(0) after a reset: the third word of the EEPROM, and AV.
+#[tactic(auto, using(crate::proofs::Words::or_valid))]
+fn address_high(image: &Image) -> u32
+    ensures high { result ≡ address_high_at_reset 0 image.now }
+    ensures word { slice_index image.now 2 < 65536 }
+{
+    ADDRESS_VALID | u32::from(image.word(2))
+}

@@ -1,0 +1,73 @@
+// The registers of a descriptor ring.
+
+ghost use Rattle.std.specs.Prelude.{◌≡◌};
+ghost use Rattle.adapter.specs.Rings.{new_ring, ring_answer, ring_written};
+
+use crate::register::RingRegister;
+
+/// The bits of RDBAL and TDBAL: a ring's address is a multiple of 16.
+const BASE_LOW_BITS: u32 = 0xFFFF_FFF0;
+
+/// The bits of RDLEN and TDLEN: a ring's length in bytes is a multiple of 128.
+const LENGTH_BITS: u32 = 0x000F_FF80;
+
+/// The bits of a descriptor's number in RDH, RDT, TDH and TDT.
+const INDEX_BITS: u32 = 0xFFFF;
+
+/// The registers of a descriptor ring, as they read.
+///
+/// The adapter owns the descriptors from the head up to, not including, the tail.
+#[derive(Clone, Copy, Debug, PartialEq, Eq)]
+pub struct RingRegisters {
+    /// The low word of the ring's address, a multiple of 16.
+    pub base_low: u32,
+    /// The high word of the ring's address.
+    pub base_high: u32,
+    /// The ring's length in bytes, a multiple of 128.
+    pub length_bytes: u32,
+    /// The first descriptor that is the adapter's.
+    pub head: u16,
+    /// The first descriptor behind the adapter's.
+    pub tail: u16,
+}
+
+impl RingRegisters {
+    /// Registers that are all 0, as after a reset: a ring without descriptors.
+    pub(crate) fn new() -> Self
+        ensures { result ≡ new_ring }
+    {
+        RingRegisters {
+            base_low: 0,
+            base_high: 0,
+            length_bytes: 0,
+            head: 0,
+            tail: 0,
+        }
+    }
+
+    /// What a register reads.
+    pub(crate) fn read(&self, register: RingRegister) -> u32
+        ensures { result ≡ ring_answer register self.now }
+    {
+        match register {
+            RingRegister::BaseLow => self.base_low,
+            RingRegister::BaseHigh => self.base_high,
+            RingRegister::Length => self.length_bytes,
+            RingRegister::Head => u32::from(self.head),
+            RingRegister::Tail => u32::from(self.tail),
+        }
+    }
+
+    /// Writes a register, which keeps its bits of the word.
+    pub(crate) fn write(&mut self, register: RingRegister, value: u32)
+        ensures { self.new ≡ ring_written register value self.old }
+    {
+        match register {
+            RingRegister::BaseLow => self.base_low = value & BASE_LOW_BITS,
+            RingRegister::BaseHigh => self.base_high = value,
+            RingRegister::Length => self.length_bytes = value & LENGTH_BITS,
+            RingRegister::Head => self.head = (value & INDEX_BITS) as u16,
+            RingRegister::Tail => self.tail = (value & INDEX_BITS) as u16,
+        }
+    }
+}
