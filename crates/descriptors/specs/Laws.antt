@@ -8,6 +8,8 @@ use Rattle.byteorder.specs.Endian.{little_number, little_bytes, little_from}
 use Rattle.byteorder.specs.Numbers.{little_from-cons, little_number-reads_back}
 use Rattle.descriptors.specs.declared.rx_desc.RxDesc.{RxDesc}
 use Rattle.descriptors.specs.RxDesc.{rx_desc_bytes, rx_desc_of, AreBytes, DescriptorsComeBack, BytesComeBack}
+use Rattle.descriptors.specs.declared.tx_desc.TxDesc.{TxDesc}
+use Rattle.descriptors.specs.TxDesc.{tx_desc_bytes, tx_desc_of, TxDescriptorsComeBack, TxBytesComeBack}
 use Rattle.descriptors.specs.Frames.{IsLegal, is_sendable, padded}
 
 -- A descriptor has sixteen bytes.
@@ -85,6 +87,31 @@ rx_desc_bytes-rx_desc_of bytes are size =
     let flags = sym (take-two 12 bytes (omega arith)) in
     let special = little_bytes-drop 2 14 bytes are (omega arith) in
     join-same _ _ _ _ _ _ _ _ _ _ address length checksum flags special ∙ in_pieces bytes size
+
+-- A transmit descriptor has sixteen bytes.
+pub length-tx_desc_bytes : (desc : TxDesc) → length (tx_desc_bytes desc) ≡ 16
+unfolding tx_desc_bytes
+length-tx_desc_bytes desc = refl
+
+-- From the bytes of a transmit descriptor the descriptor comes back.
+pub tx_desc_of-tx_desc_bytes : TxDescriptorsComeBack
+unfolding tx_desc_bytes tx_desc_of
+tx_desc_of-tx_desc_bytes desc fits =
+    let address = little_number-reads_back 8 desc.address [] fits.address in
+    let length = little_number-reads_back 2 desc.length [] fits.length in
+    let special = little_number-reads_back 2 desc.special [] fits.special in
+    rw (address, length, special) refl
+
+-- From the transmit descriptor of sixteen bytes the bytes come back.
+pub tx_desc_bytes-tx_desc_of : TxBytesComeBack
+unfolding tx_desc_bytes tx_desc_of
+tx_desc_bytes-tx_desc_of bytes are size =
+    let address = little_bytes-little_number 8 bytes are (omega arith) in
+    let length = little_bytes-drop 2 8 bytes are (omega arith) in
+    let command = sym (take-two 10 bytes (omega arith)) in
+    let status = sym (take-two 12 bytes (omega arith)) in
+    let special = little_bytes-drop 2 14 bytes are (omega arith) in
+    join-same _ _ _ _ _ _ _ _ _ _ address length command status special ∙ in_pieces bytes size
 
 -- A frame is sendable exactly where it has 14 to 1,518 bytes.
 pub is_sendable-bounds : (frame : List ℕ) → IsTrue (is_sendable frame) → (14 ≤ length frame) × (length frame ≤ 1518)

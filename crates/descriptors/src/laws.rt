@@ -1,4 +1,6 @@
 ghost use Rattle.descriptors.specs.RxDesc.{DescriptorsComeBack, BytesComeBack};
+ghost use Rattle.descriptors.specs.TxDesc.{TxDescriptorsComeBack, TxBytesComeBack};
+ghost use Rattle.descriptors.specs.Ring.{OwnedBeginsAtHead, OwnedIsEmpty, OwnedIsDistance, OwnedGrowsAtTail};
 ghost use Rattle.descriptors.specs.Frames.{SendablePaddedIsLegal, PaddedBeginsWithFrame, LongFramesStay};
 
 /// Laws of receive descriptors: from the bytes of a descriptor the descriptor comes back, and from the descriptor of any
@@ -8,6 +10,27 @@ ghost use Rattle.descriptors.specs.Frames.{SendablePaddedIsLegal, PaddedBeginsWi
 pub fn descriptors_come_back()
     ensures descriptors { DescriptorsComeBack }
     ensures bytes { BytesComeBack }
+{}
+
+/// Laws of transmit descriptors: from the bytes of a descriptor the descriptor comes back, and from the descriptor of any
+/// sixteen bytes the bytes.
+///
+/// It does nothing: its contract is the laws.
+pub fn transmit_descriptors_come_back()
+    ensures descriptors { TxDescriptorsComeBack }
+    ensures bytes { TxBytesComeBack }
+{}
+
+/// Laws of rings whose head and tail are slots: the slots that the adapter owns begin at the head, and are those behind it
+/// once head moves on; there are none where head equals tail, and else as many as it is from head to tail; moving tail on
+/// gives the slot at the old tail to the adapter, as the last one.
+///
+/// It does nothing: its contract is the laws.
+pub fn owned_slots_go_from_head_to_tail()
+    ensures begins { OwnedBeginsAtHead }
+    ensures empty { OwnedIsEmpty }
+    ensures length { OwnedIsDistance }
+    ensures grows { OwnedGrowsAtTail }
 {}
 
 /// Laws of padding: a frame that can be sent is legal once it is padded, a padded frame begins with the frame, and a frame

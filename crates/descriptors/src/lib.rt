@@ -6,13 +6,24 @@
 
 mod frame;
 mod laws;
+mod ring;
 mod rx_desc;
 mod rx_status;
+mod tx_command;
+mod tx_desc;
+mod tx_status;
 
 pub use frame::{Frame, LONGEST_LEGAL, LONGEST_SENDABLE, SHORTEST_LEGAL, SHORTEST_SENDABLE};
-pub use laws::{descriptors_come_back, sendable_frames_are_padded_to_legal};
+pub use laws::{
+    descriptors_come_back, owned_slots_go_from_head_to_tail, sendable_frames_are_padded_to_legal,
+    transmit_descriptors_come_back,
+};
+pub use ring::Ring;
 pub use rx_desc::{RX_DESC_BYTES, RxDesc};
 pub use rx_status::RxStatus;
+pub use tx_command::TxCommand;
+pub use tx_desc::{TX_DESC_BYTES, TxDesc};
+pub use tx_status::TxStatus;
 
 #[cfg(test)]
 mod tests;

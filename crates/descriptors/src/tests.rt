@@ -1,5 +1,6 @@
 use crate::{
-    Frame, LONGEST_LEGAL, LONGEST_SENDABLE, RxDesc, RxStatus, SHORTEST_LEGAL, SHORTEST_SENDABLE,
+    Frame, LONGEST_LEGAL, LONGEST_SENDABLE, Ring, RxDesc, RxStatus, SHORTEST_LEGAL,
+    SHORTEST_SENDABLE, TxCommand, TxDesc, TxStatus,
 };
 use bitflags::Flags;
 use std::test::Fail;
@@ -39,6 +40,95 @@ fn every_byte_has_its_place(rt: HostRuntime) {
     assert!(rt; !desc.status.contains(RxStatus::DD));
     assert!(rt; !desc.status.contains(RxStatus::EOP));
     assert_eq!(rt; desc.to_bytes(), bytes);
+}
+
+/// The descriptor of a frame of 14 bytes in the buffer at 0x800, to be reported: 00080000000000000e00000b00000000.
+const TO_BE_SENT: [u8; 16] = [0x00, 0x08, 0, 0, 0, 0, 0, 0, 0x0E, 0, 0, 0x0B, 0, 0, 0, 0];
+
+fn to_be_sent() -> TxDesc {
+    TxDesc {
+        address: 0x800,
+        length: 14,
+        cso: 0,
+        command: TxCommand::EOP.union(TxCommand::IFCS).union(TxCommand::RS),
+        status: TxStatus::from_bits_retain(0),
+        css: 0,
+        special: 0,
+    }
+}
+
+#[test]
+fn a_descriptor_to_be_sent(rt: HostRuntime) {
+    assert_eq!(rt; to_be_sent().to_bytes(), TO_BE_SENT);
+    assert_eq!(rt; TxDesc::from_bytes(&TO_BE_SENT), to_be_sent());
+    assert!(rt; !to_be_sent().command.contains(TxCommand::DEXT));
+    assert!(rt; !to_be_sent().status.contains(TxStatus::DD));
+}
+
+/// Each byte of a transmit descriptor has its own place, and bits without a name stay.
+#[test]
+fn every_byte_of_a_transmit_descriptor_has_its_place(rt: HostRuntime) {
+    let bytes = [1, 2, 3, 4, 5, 6, 7, 8, 9, 10, 11, 0xD4, 0xFE, 14, 15, 16];
+    let desc = TxDesc::from_bytes(&bytes);
+    assert_eq!(rt; desc.address, 0x0807_0605_0403_0201);
+    assert_eq!(rt; (desc.length, desc.special), (0x0A09, 0x100F));
+    assert_eq!(rt; (desc.cso, desc.css), (11, 14));
+    assert_eq!(rt; (desc.command.bits(), desc.status.bits()), (0xD4, 0xFE));
+    assert_eq!(rt; desc.to_bytes(), bytes);
+}
+
+fn ring_of_eight(head: u16, tail: u16) -> Ring {
+    Ring {
+        base: 0x80,
+        bytes: 128,
+        head,
+        tail,
+    }
+}
+
+#[test]
+fn a_ring_of_eight(rt: HostRuntime) {
+    let ring = ring_of_eight(6, 1);
+    assert_eq!(rt; ring.count(), 8);
+    assert!(rt; ring.is_sound());
+    assert!(rt; !ring_of_eight(8, 1).is_sound());
+    assert!(rt; !ring_of_eight(1, 8).is_sound());
+    assert_eq!(rt; ring.descriptor(2), Some(0xA0));
+}
+
+/// Indices wrap behind the last slot; addresses don't wrap.
+#[test]
+fn indices_wrap_and_addresses_do_not(rt: HostRuntime) {
+    let ring = Ring {
+        base: u64::MAX - 31,
+        bytes: 128,
+        head: 0,
+        tail: 7,
+    };
+    assert_eq!(rt; (ring.next(6), ring.next(7)), (7, 0));
+    assert_eq!(rt;
+        (
+            ring.distance(6, 1),
+            ring.distance(1, 6),
+            ring.distance(3, 3)
+        ),
+        (3, 5, 0)
+    );
+    assert_eq!(rt; ring.descriptor(1), Some(u64::MAX - 15));
+    assert_eq!(rt; ring.descriptor(2), None);
+}
+
+/// A length below sixteen bytes is a ring without a slot.
+#[test]
+fn a_ring_of_no_descriptors(rt: HostRuntime) {
+    let ring = Ring {
+        base: 0,
+        bytes: 15,
+        head: 0,
+        tail: 0,
+    };
+    assert_eq!(rt; ring.count(), 0);
+    assert!(rt; !ring.is_sound());
 }
 
 #[test]

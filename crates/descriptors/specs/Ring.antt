@@ -1,0 +1,57 @@
+-- A ring of descriptors as its registers tell it ("13.4.25 Receive Descriptor Base Address Low" and its neighbours up to
+-- "13.4.29 Receive Descriptor Tail", "13.4.35 Transmit Descriptor Base Address Low" up to "13.4.39 Transmit Descriptor
+-- Tail" of Intel's manual). Slots are numbered from 0.
+use Rattle.std.specs.Prelude.{◌≡◌, ◌<◌, ◌+◌, ◌-◌, ◌*◌, ◌/◌, ◌%◌, ℕ, zero, suc, min, List, [], ◌∷◌, ◌++◌, length}
+use Rattle.descriptors.specs.declared.ring.Ring.{Ring}
+
+-- How many descriptors the ring has: sixteen bytes each. Indices have 16 bits, so they reach 65,536 at most; the length
+-- registers, of 20 bits, name fewer.
+abbrev pub count_of : Ring → ℕ
+count_of ring = min (ring.bytes / 16) 65536
+
+-- Head and tail are slots of the ring; a ring of no descriptors has none.
+pub record IsSound (ring : Ring) : Type 0 where
+  pub head : ring.head < count_of ring
+  pub tail : ring.tail < count_of ring
+
+-- The slot behind an index; behind the last one stands the first.
+abbrev pub next_of : Ring → ℕ → ℕ
+next_of ring index = (index + 1) % count_of ring
+
+-- How many slots it is from one index on to another.
+abbrev pub distance_of : Ring → ℕ → ℕ → ℕ
+distance_of ring from to = (to + count_of ring - from) % count_of ring
+
+-- Where the descriptor of a slot stands in memory.
+abbrev pub address_of : Ring → ℕ → ℕ
+address_of ring index = ring.base + 16 * index
+
+-- So many slots of a ring of n, from an index on.
+abbrev pub slots_from : ℕ → ℕ → ℕ → List ℕ
+slots_from n index zero = []
+slots_from n index (suc k) = index ∷ slots_from n ((index + 1) % n) k
+
+-- The slots that the adapter owns: from head up to, not including, tail, wrapping ("3.2.6 Receive Descriptor Queue
+-- Structure", "3.4 Transmit Descriptor Ring Structure"). Head equal to tail means that it owns none.
+unfoldable pub owned : Ring → List ℕ
+owned ring = slots_from (count_of ring) ring.head (distance_of ring ring.head ring.tail)
+
+-- Laws of rings whose head and tail are slots.
+
+-- Where head differs from tail, the slot at the head comes first, and then those behind it.
+abbrev pub OwnedBeginsAtHead : Type 0
+OwnedBeginsAtHead = (ring : Ring) → IsSound ring → ¬ (ring.head ≡ ring.tail) → owned ring ≡ ring.head ∷ owned (record ring { head = next_of ring ring.head })
+
+-- Where head equals tail, the adapter owns none.
+abbrev pub OwnedIsEmpty : Type 0
+OwnedIsEmpty = (ring : Ring) → IsSound ring → ring.head ≡ ring.tail → owned ring ≡ []
+
+-- The adapter owns as many slots as it is from head to tail, fewer than the ring has.
+abbrev pub OwnedIsDistance : Type 0
+OwnedIsDistance = (ring : Ring) → length (owned ring) ≡ distance_of ring ring.head ring.tail
+
+-- Where the slot behind tail isn't the head, moving tail on by one gives the slot at the old tail to the adapter, as the
+-- last one.
+abbrev pub OwnedGrowsAtTail : Type 0
+OwnedGrowsAtTail =
+    (ring : Ring) → IsSound ring → ¬ (next_of ring ring.tail ≡ ring.head) → owned (record ring { tail = next_of ring ring.tail }) ≡ owned ring ++ ring.tail ∷ []

@@ -1,0 +1,149 @@
+-- What stands in the places of a queue, after a frame is written behind the others and after the first is dropped.
+use Rattle.std.proofs.Common.{◌≡◌, ◌≤◌, ◌<◌, ◌+◌, ◌-◌, ◌*◌, ◌⊎◌, inl, inr, ◌++◌, ◌∷◌, [], ℕ, suc, List, length, drop, All, refl, sym, ap, ◌∙◌, arith}
+use Rattle.std.proofs.lemmas.Bool.{cond_below, cond_above}
+use Rattle.std.proofs.lemmas.Bool.Decides.{leb_tells, nat_tests}
+use Rattle.std.specs.Prelude.{slice_get, Some, None, is_some, true, false, Bool, IsTrue, ◌==◌, ◌↔◌}
+use Rattle.std.proofs.lemmas.List.{length-append}
+use Rattle.circular_buffer.specs.Buffer.{keep_last}
+use Rattle.dma_memory.specs.HostMemory.{bytes_at, with_bytes, LiesIn}
+use Rattle.dma_memory.specs.Laws.{bytes_at-elsewhere, bytes_at-stored}
+use Rattle.frame_queue.specs.Places.{frames_from}
+use Rattle.frame_queue.specs.Wrapping.{wrapped}
+
+-- A number is below another or not.
+below_or_past : (p c : ℕ) → (p < c) ⊎ (c ≤ p)
+below_or_past p c = elim (leb_tells (suc p) c) [ inl t ↦ inl t.1 | inr t ↦ inr (omega (arith, t.1)) ]
+
+pub wrapped-below : (c p : ℕ) → p < c → wrapped c p ≡ p
+wrapped-below c p below = sym (cond_below p c p (p - c) below)
+
+pub wrapped-past : (c p : ℕ) → c ≤ p → wrapped c p ≡ p - c
+wrapped-past c p past = sym (cond_above p c p (p - c) (p - c) past refl)
+
+-- A place counted on at most once round is one of the places.
+pub wrapped-within : (c p : ℕ) → p < c + c → wrapped c p < c
+wrapped-within c p once = elim (below_or_past p c) [ inl below ↦ omega (arith, below, wrapped-below c p below) | inr past ↦ omega (arith, past, wrapped-past c p past) ]
+
+-- Two places that are less than once round from each other are two.
+wrapped-apart : (c p q : ℕ) → p < q → q < p + c → q < c + c → (wrapped c p < wrapped c q) ⊎ (wrapped c q < wrapped c p)
+wrapped-apart c p q before near once =
+    elim (below_or_past q c) [
+      | inl below ↦ inl (omega (arith, wrapped-below c q below, wrapped-below c p (omega arith)))
+      | inr past ↦ elim (below_or_past p c) [
+        | inl low ↦ inr (omega (arith, past, low, wrapped-past c q past, wrapped-below c p low))
+        | inr high ↦ inl (omega (arith, high, wrapped-past c q past, wrapped-past c p high))
+      ]
+    ]
+
+-- There are as many frames as lengths.
+pub length-frames_from : (bytes : List ℕ) (c p : ℕ) (ns : List ℕ) → length (frames_from bytes c p ns) ≡ length ns
+unfolding frames_from
+length-frames_from bytes c p [] = refl
+length-frames_from bytes c p (n ∷ ns) = ap (λ (k : ℕ). suc k) (length-frames_from bytes c (p + 1) ns)
+
+-- One more length is one more frame, behind the others.
+pub frames_from-append : (bytes : List ℕ) (c p n : ℕ) (ns : List ℕ) → frames_from bytes c p (ns ++ n ∷ []) ≡ frames_from bytes c p ns ++ bytes_at bytes (wrapped c (p + length ns) * 1518) n ∷ []
+unfolding frames_from
+frames_from-append bytes c p n [] =
+    let here : p ≡ p + 0 = omega arith in
+    ap (λ (q : ℕ). bytes_at bytes (wrapped c q * 1518) n ∷ []) here
+frames_from-append bytes c p n (m ∷ ns) =
+    let here : p + 1 + length ns ≡ p + length (m ∷ ns) = omega arith in
+    ap (λ (fs : List (List ℕ)). bytes_at bytes (wrapped c p * 1518) m ∷ fs)
+    (frames_from-append bytes c (p + 1) n ns ∙ ap (λ (q : ℕ). frames_from bytes c (p + 1) ns ++ bytes_at bytes (wrapped c q * 1518) n ∷ []) here)
+
+-- Once round the frames are those from the first place on.
+pub frames_from-round : (bytes : List ℕ) (c p i : ℕ) (ns : List ℕ) → p ≡ c + i → i + length ns ≤ c → frames_from bytes c p ns ≡ frames_from bytes c i ns
+unfolding frames_from
+frames_from-round bytes c p i [] round fits = refl
+frames_from-round bytes c p i (n ∷ ns) round fits =
+    let here : wrapped c p ≡ wrapped c i = wrapped-past c p (omega arith) ∙ (let e : p - c ≡ i = omega arith in e) ∙ sym (wrapped-below c i (omega arith)) in
+    let rest = frames_from-round bytes c (p + 1) (i + 1) ns (omega arith) (omega arith) in
+    rw (here, rest) refl
+
+-- Bytes written at a place leave what stands at another one.
+bytes_at-other_place : (bytes written : List ℕ) (place n other : ℕ) → LiesIn bytes (place * 1518) (length written) → length written ≤ 1518 → n ≤ 1518 → (other < place) ⊎ (place < other) → bytes_at (with_bytes bytes (place * 1518) written) (other * 1518) n ≡ bytes_at bytes (other * 1518) n
+bytes_at-other_place bytes written place n other lies short fits (inl before) = bytes_at-elsewhere bytes written (place * 1518) (other * 1518) n lies (inl (omega arith))
+bytes_at-other_place bytes written place n other lies short fits (inr after) = bytes_at-elsewhere bytes written (place * 1518) (other * 1518) n lies (inr (omega arith))
+
+-- Bytes written at the place behind the frames leave them.
+pub frames_from-kept : (bytes written ns : List ℕ) (c p q : ℕ) → LiesIn bytes (wrapped c q * 1518) (length written) → length written ≤ 1518 → All (λ (n : ℕ). n ≤ 1518) ns → p + length ns ≡ q → q < p + c → q < c + c → frames_from (with_bytes bytes (wrapped c q * 1518) written) c p ns ≡ frames_from bytes c p ns
+unfolding frames_from
+frames_from-kept bytes written [] c p q lies short fits end near once = refl
+frames_from-kept bytes written (n ∷ ns) c p q lies short fits end near once =
+    let here = bytes_at-other_place bytes written (wrapped c q) n (wrapped c p) lies short (fits 0 0 (omega arith)) (wrapped-apart c p q (omega arith) near once) in
+    let rest = frames_from-kept bytes written ns c (p + 1) q lies short (λ k d below. fits (suc k) d (omega arith)) (omega arith) (omega arith) once in
+    rw (here, rest) refl
+
+-- The oldest frame stands in the first place.
+pub slice_get-frames_from : (bytes : List ℕ) (c p n : ℕ) (ns : List ℕ) → p < c → slice_get ns 0 ≡ Some n → slice_get (frames_from bytes c p ns) 0 ≡ Some (bytes_at bytes (p * 1518) n)
+unfolding frames_from
+slice_get-frames_from bytes c p n [] below is = absurd (cc)
+slice_get-frames_from bytes c p n (m ∷ ns) below is =
+    let same : m ≡ n = cc in
+    rw (wrapped-below c p below, same) refl
+
+-- Without the first length the frames are those behind the first.
+pub frames_from-drop : (bytes : List ℕ) (c p : ℕ) (ns : List ℕ) → p < c → length ns ≤ c → frames_from bytes c (wrapped c (p + 1)) (drop 1 ns) ≡ drop 1 (frames_from bytes c p ns)
+unfolding frames_from
+frames_from-drop bytes c p [] below fits = refl
+frames_from-drop bytes c p (n ∷ ns) below fits =
+    elim (below_or_past (p + 1) c) [
+      | inl low ↦ ap (λ (q : ℕ). frames_from bytes c q ns) (wrapped-below c (p + 1) low)
+      | inr high ↦
+          let first : wrapped c (p + 1) ≡ 0 = omega (arith, high, wrapped-past c (p + 1) high) in
+          ap (λ (q : ℕ). frames_from bytes c q ns) first ∙ sym (frames_from-round bytes c (p + 1) 0 ns (omega arith) (omega arith))
+    ]
+
+-- A list is empty exactly where its length is 0.
+pub empty_from_length : (frames : List (List ℕ)) (n : ℕ) (b : Bool) → length frames ≡ n → b ≡ (n == 0) → IsTrue b ↔ (frames ≡ [])
+empty_from_length [] n b count is = ((λ _. refl), (λ _. let none : n ≡ 0 = omega arith in rw (is, none) refl))
+empty_from_length (f ∷ fs) n b count is = (
+  (λ yes. absurd (let t : IsTrue (n == 0) = rw (← is) yes in let none : n ≡ 0 = grind (arith, nat_tests) in omega (arith, none))),
+  (λ e. absurd (cc)),
+)
+
+pub full_from_length : (m n capacity : ℕ) (b : Bool) → m ≡ n → b ≡ (n == capacity) → IsTrue b ↔ (m ≡ capacity)
+full_from_length m n capacity b count is = (
+  (λ yes. let t : IsTrue (n == capacity) = rw (← is) yes in let same : n ≡ capacity = grind (arith, nat_tests) in omega arith),
+  (λ e. let same : n ≡ capacity = omega arith in rw (is) (grind (arith, nat_tests))),
+)
+
+-- Without lengths there are no frames, and with one there is one.
+pub frames_from-none : (bytes : List ℕ) (c p : ℕ) (ns : List ℕ) → slice_get ns 0 ≡ None → frames_from bytes c p ns ≡ []
+unfolding frames_from
+frames_from-none bytes c p [] none = refl
+frames_from-none bytes c p (n ∷ ns) none = absurd (cc)
+
+pub frames_from-some : (bytes : List ℕ) (c p n : ℕ) (ns : List ℕ) → slice_get ns 0 ≡ Some n → frames_from bytes c p ns ≡ [] → ⊥
+unfolding frames_from
+frames_from-some bytes c p n [] some none = absurd (cc)
+frames_from-some bytes c p n (m ∷ ns) some none = absurd (cc)
+
+-- A frame written at the place behind the others is behind the others.
+pub frames_from-pushed : (bytes written ns : List ℕ) (c p n : ℕ) → length bytes ≡ c * 1518 → p < c → length ns < c → All (λ (m : ℕ). m ≤ 1518) ns → length written ≡ n → n ≤ 1518 → frames_from (with_bytes bytes (wrapped c (p + length ns) * 1518) written) c p (ns ++ n ∷ []) ≡ frames_from bytes c p ns ++ written ∷ []
+frames_from-pushed bytes written ns c p n size first room fits count short =
+    let q = p + length ns in
+    let within = wrapped-within c q (omega arith) in
+    let lies : LiesIn bytes (wrapped c q * 1518) (length written) = omega (arith, within, size, count, short) in
+    let stored : bytes_at (with_bytes bytes (wrapped c q * 1518) written) (wrapped c q * 1518) n ≡ written =
+    ap (bytes_at (with_bytes bytes (wrapped c q * 1518) written) (wrapped c q * 1518)) (sym count) ∙ bytes_at-stored bytes written (wrapped c q * 1518) lies in
+    let kept = frames_from-kept bytes written ns c p q lies (omega (arith, count, short)) fits refl (omega arith) (omega arith) in
+    frames_from-append (with_bytes bytes (wrapped c q * 1518) written) c p n ns ∙ rw (kept, stored) refl
+
+-- The lengths with one more, where there is room, are all kept.
+pub keep_last-room : (ns : List ℕ) (c n : ℕ) → length ns < c → keep_last c (ns ++ n ∷ []) ≡ ns ++ n ∷ []
+keep_last-room ns c n room =
+    let none : length (ns ++ n ∷ []) - c ≡ 0 = omega (arith, length-append ns (n ∷ [])) in
+    ap (λ (k : ℕ). drop k (ns ++ n ∷ [])) none
+
+-- Where there is a first length, there is one.
+pub some_below : (ns : List ℕ) → is_some (slice_get ns 0) ≡ true → 0 < length ns
+some_below [] some = absurd (cc)
+some_below (n ∷ ns) some = omega arith
+
+-- Where there is none, nothing is dropped.
+pub drop-none : (bytes : List ℕ) (c p : ℕ) (ns : List ℕ) → is_some (slice_get ns 0) ≡ false → frames_from bytes c p (drop 1 ns) ≡ drop 1 (frames_from bytes c p ns)
+unfolding frames_from
+drop-none bytes c p [] none = refl
+drop-none bytes c p (n ∷ ns) none = absurd (cc)

@@ -1,0 +1,25 @@
+-- Where the frames of a queue stand in its bytes (own): in places of 1,518 bytes, one behind the other from the first on, and
+-- at the front again behind the last place.
+use Rattle.std.specs.Prelude.{◌≡◌, ◌+◌, ◌*◌, ◌<◌, ◌≤◌, ℕ, List, [], ◌∷◌, All, length}
+use Rattle.dma_memory.specs.HostMemory.{bytes_at}
+use Rattle.frame_queue.specs.Frames.{Frames}
+use Rattle.frame_queue.specs.Wrapping.{wrapped}
+use Rattle.frame_queue.specs.declared.queue.FrameQueue.TheInside.{Inside}
+
+-- the frames of these lengths, from a place on
+unfoldable pub frames_from : List ℕ → ℕ → ℕ → List ℕ → List (List ℕ)
+frames_from bytes capacity place [] = []
+frames_from bytes capacity place (n ∷ ns) = bytes_at bytes (wrapped capacity place * 1518) n ∷ frames_from bytes capacity (place + 1) ns
+
+abbrev pub frames_of : Inside → Frames
+frames_of queue = record {
+  capacity = queue.lengths.capacity;
+  frames = frames_from queue.bytes.items queue.lengths.capacity queue.first queue.lengths.items;
+}
+
+pub record IsSound (queue : Inside) : Type 0 where
+  pub size : length queue.bytes.items ≡ queue.lengths.capacity * 1518
+  pub first : 0 < queue.lengths.capacity → queue.first < queue.lengths.capacity
+  pub count : length queue.lengths.items ≤ queue.lengths.capacity
+  pub most : queue.lengths.capacity < 256
+  pub fits : All (λ n. n ≤ 1518) queue.lengths.items

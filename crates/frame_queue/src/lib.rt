@@ -1,0 +1,11 @@
+//! Queues of Ethernet frames, with their memory taken once.
+//!
+//! A [`FrameQueue`] is what a packet buffer of a network adapter is: at most so many frames, first in, first out.
+#![tactic(auto)]
+
+mod queue;
+
+pub use queue::{FrameQueue, PLACE_BYTES};
+
+#[cfg(test)]
+mod tests;

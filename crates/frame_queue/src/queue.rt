@@ -1,0 +1,157 @@
+ghost use Rattle.dma_memory.specs.HostMemory.{with_bytes};
+ghost use Rattle.frame_queue.specs.Wrapping.{wrapped};
+ghost use Rattle.std.specs.Prelude.{◌≡◌, ◌+◌, ◌-◌, ◌<◌, ◌≤◌, ◌↔◌, [], ◌∷◌, ◌++◌, drop, length, replicate, slice_get, IsTrue, IsNone, IfSome, IfOk};
+
+use circular_buffer::HeapCircularBuffer;
+use std::alloc::{AllocError, Global};
+use std::marker::Model;
+
+/// The room for one frame in bytes, the most that a legal frame has (IEEE 802.3, 4.4.2, with a VLAN tag and without
+/// the check sequence).
+pub const PLACE_BYTES: usize = 1518;
+
+/// At most so many frames of at most 1,518 bytes each, first in, first out.
+///
+/// Its memory is taken when it is made. A frame is copied once, when it is pushed, and can be looked at where it stands.
+#[derive(Debug, Drop)]
+pub struct FrameQueue {
+    bytes: Vec<u8>,
+    lengths: HeapCircularBuffer<u16>,
+    first: u8,
+}
+
+impl Model for FrameQueue {
+    ghost use Rattle.frame_queue.specs.Frames.{Frames};
+
+    ghost Value = { Frames };
+
+    ghost use Rattle.frame_queue.specs.Places.{frames_of, IsSound};
+
+    ghost view = { frames_of };
+
+    ghost invariant = { IsSound };
+}
+
+impl FrameQueue {
+    /// An empty queue for at most `capacity` frames.
+    ///
+    /// # Errors
+    ///
+    /// Want of memory alone.
+    #[tactic(auto, unfolding(crate::specs::Places::frames_from))]
+    pub fn new(alloc: Global, capacity: u8) -> Result<FrameQueue, AllocError>
+        ensures empty { IfOk result (λ queue. queue ≡ record { capacity = capacity; frames = [] }) }
+    {
+        let places = usize::from(capacity);
+        Ok(FrameQueue {
+            bytes: vec![in alloc; 0; places * PLACE_BYTES]?,
+            lengths: HeapCircularBuffer::with_capacity(alloc, places)?,
+            first: 0,
+        })
+    }
+
+    /// The most frames that the queue can hold, which never changes.
+    pub fn capacity(&self) -> u8
+        ensures { result ≡ self.now.capacity }
+    {
+        self.lengths.capacity() as u8
+    }
+
+    /// How many frames the queue holds.
+    pub fn len(&self) -> u8
+        ensures count { result ≡ length self.now.frames }
+        ensures fits { result ≤ self.now.capacity }
+    {
+        self.lengths.len() as u8
+    }
+
+    /// Whether the queue holds no frame.
+    pub fn is_empty(&self) -> bool
+        ensures { IsTrue result ↔ (self.now.frames ≡ []) }
+    {
+        self.lengths.is_empty()
+    }
+
+    /// Whether the queue holds as many frames as it can.
+    pub fn is_full(&self) -> bool
+        ensures { IsTrue result ↔ (length self.now.frames ≡ self.now.capacity) }
+    {
+        self.lengths.is_full()
+    }
+
+    /// The oldest frame, where it stands; `None` exactly where the queue is empty.
+    pub fn front(&self) -> Option<&[u8]>
+        ensures none { IsNone result ↔ (self.now.frames ≡ []) }
+        ensures oldest { IfSome result (λ frame. slice_get self.now.frames 0 ≡ Some frame.now) }
+        ensures fits { IfSome result (λ frame. length frame.now ≤ PLACE_BYTES) }
+    {
+        let length = usize::from(*self.lengths.front()?);
+        let start = usize::from(self.first) * PLACE_BYTES;
+        Some(&self.bytes.as_slice()[start..start + length])
+    }
+
+    /// Puts a frame behind the others. The queue isn't full, and the frame has at most 1,518 bytes.
+    pub fn push(&mut self, frame: &[u8])
+        requires room { length self.old.frames < self.old.capacity }
+        requires fits { length frame.now ≤ PLACE_BYTES }
+        ensures { self.new ≡ record self.old { frames = self.old.frames ++ frame.now ∷ [] } }
+    {
+        self.push_padded(frame, 0);
+    }
+
+    /// Puts a frame behind the others, followed by zeros where it has less than `least` bytes, up to that length. The
+    /// queue isn't full, and neither the frame nor `least` is above 1,518 bytes.
+    pub fn push_padded(&mut self, frame: &[u8], least: usize)
+        requires room { length self.old.frames < self.old.capacity }
+        requires fits { length frame.now ≤ PLACE_BYTES }
+        requires least_fits { least ≤ PLACE_BYTES }
+        ensures { self.new ≡ record self.old {
+          frames = self.old.frames ++ (frame.now ++ replicate (least - length frame.now) 0) ∷ [];
+        } }
+    {
+        let length = frame.len().max(least);
+        let behind = usize::from(self.first) + self.lengths.len();
+        let start = wrap(behind, self.lengths.capacity()) * PLACE_BYTES;
+        write_padded(self.bytes.as_mut_slice(), start, frame, length);
+        let _ = self.lengths.push_back(length as u16);
+    }
+
+    /// Drops the oldest frame, if there is one.
+    pub fn pop(&mut self)
+        ensures { self.new ≡ record self.old { frames = drop 1 self.old.frames } }
+    {
+        if self.lengths.pop_front().is_some() {
+            self.first = wrap(usize::from(self.first) + 1, self.lengths.capacity()) as u8;
+        }
+    }
+
+    /// Drops all frames.
+    #[tactic(auto, unfolding(crate::specs::Places::frames_from))]
+    pub fn clear(&mut self)
+        ensures { self.new ≡ record self.old { frames = [] } }
+    {
+        self.lengths.clear();
+    }
+}
+
+/// The place that is meant by a number of places counted on past the last one, at most once round.
+fn wrap(place: usize, capacity: usize) -> usize
+    ensures { result ≡ wrapped capacity place }
+{
+    if place < capacity {
+        place
+    } else {
+        place - capacity
+    }
+}
+
+/// Writes a frame, followed by zeros up to `length` bytes, at `start`.
+fn write_padded(bytes: &mut [u8], start: usize, frame: &[u8], total: usize)
+    requires lies { start + total ≤ length bytes.old }
+    requires fits { length frame.now ≤ total }
+    ensures { bytes.new ≡ with_bytes bytes.old start (frame.now ++ replicate (total - length frame.now) 0) }
+{
+    let place = &mut bytes[start..start + total];
+    place[..frame.len()].copy_from_slice(frame);
+    place[frame.len()..].fill(0);
+}
