@@ -1,0 +1,19 @@
+-- How the engine keeps its packet buffer (own): the frames in one queue, and what their descriptors ask for in another.
+use Rattle.std.specs.Prelude.{◌≡◌, ℕ, List, [], ◌∷◌, length, not}
+use Rattle.tx_engine.specs.Transmitter.{Queued, Transmitter}
+use Rattle.tx_engine.specs.declared.report.Report.{Report}
+use Rattle.tx_engine.specs.declared.engine.TxEngine.TheInside.{Inside}
+
+-- Frames and what their descriptors ask for, side by side.
+abbrev pub side_by_side : List (List ℕ) → List Report → List Queued
+side_by_side [] reports = []
+side_by_side (frame ∷ frames) [] = []
+side_by_side (frame ∷ frames) (report ∷ reports) = record { frame = frame; descriptor = report.descriptor; report = report.wanted } ∷ side_by_side frames reports
+
+abbrev pub transmitter_of : Inside → Transmitter
+transmitter_of engine = record { buffer = side_by_side engine.frames.frames engine.reports.items; stopped = not engine.running }
+
+pub record IsWhole (engine : Inside) : Type 0 where
+  pub frames : engine.frames.capacity ≡ 4
+  pub reports : engine.reports.capacity ≡ 4
+  pub same : length engine.frames.frames ≡ length engine.reports.items

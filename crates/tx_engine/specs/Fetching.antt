@@ -1,0 +1,63 @@
+-- What the transmit engine reads ("3.3 Packet Transmission" of Intel's manual), and when it reads at all.
+use Rattle.std.specs.Prelude.{◌≡◌, ◌==◌, ◌<◌, ◌≤◌, ◌/◌, ◌%◌, ◌^◌, ◌⊎◌, if◌then◌else◌, Bool, IsTrue, ℕ, List, length}
+use Rattle.dma_memory.specs.HostMemory.{bytes_at, LiesIn}
+use Rattle.registers.specs.Bits.{HasBit}
+use Rattle.descriptors.specs.declared.ring.Ring.{Ring}
+use Rattle.descriptors.specs.declared.tx_desc.TxDesc.{TxDesc}
+use Rattle.descriptors.specs.Frames.{padded}
+use Rattle.descriptors.specs.Ring.{IsSound, address_of}
+use Rattle.descriptors.specs.TxDesc.{tx_desc_of}
+use Rattle.descriptors.specs.TxFields.{command_bits}
+use Rattle.tx_engine.specs.Transmitter.{Queued, Transmitter}
+
+-- Whether the bit at this place is 1.
+abbrev pub is_set : ℕ → ℕ → Bool
+is_set value place = value / 2 ^ place % 2 == 1
+
+-- Whether a transmit control register pads short packets: PSP ("13.4.33 Transmit Control Register").
+abbrev pub pads : ℕ → Bool
+pads control = is_set control 3
+
+-- The descriptor that stands at an address.
+abbrev pub descriptor_at : List ℕ → ℕ → TxDesc
+descriptor_at memory address = tx_desc_of (bytes_at memory address 16)
+
+-- The bytes that a descriptor names.
+abbrev pub named_by : List ℕ → TxDesc → List ℕ
+named_by memory desc = bytes_at memory desc.address desc.length
+
+-- A frame as it goes onto the wire: with padding, followed by zeros up to 60 bytes.
+abbrev pub as_sent : Bool → List ℕ → List ℕ
+as_sent pad frame = if pad then padded frame else frame
+
+-- The frame that the descriptor at an address names, as it goes onto the wire.
+abbrev pub frame_at : Bool → List ℕ → ℕ → List ℕ
+frame_at pad memory address = as_sent pad (named_by memory (descriptor_at memory address))
+
+-- What the engine makes of the descriptor at an address. RS is bit 3 of its command.
+abbrev pub fetched : Bool → List ℕ → ℕ → Queued
+fetched pad memory address = record {
+  frame = frame_at pad memory address;
+  descriptor = address;
+  report = is_set (command_bits (descriptor_at memory address).command) 3;
+}
+
+-- The engine has nothing to take: TCTL.EN is 0, it is stopped, its buffer holds four frames (own), or head equals tail.
+abbrev pub IsIdle : ℕ → Transmitter → Ring → Type 0
+IsIdle control engine ring = (¬ (HasBit control 1)) ⊎ (IsTrue engine.stopped ⊎ ((length engine.buffer ≡ 4) ⊎ (ring.head ≡ ring.tail)))
+
+-- A descriptor that this adapter can transmit (own; by the manual a packet may span several descriptors): it holds the end
+-- of its packet, it has the legacy format, and it names 1 to 1,518 bytes of memory.
+pub record IsTransmittable (memory : List ℕ) (desc : TxDesc) : Type 0 where
+  pub ends : HasBit (command_bits desc.command) 0
+  pub legacy : ¬ (HasBit (command_bits desc.command) 5)
+  pub least : 0 < desc.length
+  pub most : desc.length ≤ 1518
+  pub lies : LiesIn memory desc.address desc.length
+
+-- The engine can take the descriptor at the head: the ring is sound, its descriptor lies in memory at an address that
+-- doesn't wrap, and it can be transmitted.
+pub record IsFetchable (memory : List ℕ) (ring : Ring) : Type 0 where
+  pub sound : IsSound ring
+  pub lies : LiesIn memory (address_of ring ring.head) 16
+  pub transmittable : IsTransmittable memory (descriptor_at memory (address_of ring ring.head))

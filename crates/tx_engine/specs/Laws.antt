@@ -1,0 +1,70 @@
+-- The frames to be sent, step by step.
+use Rattle.std.proofs.Common.{◌≡◌, ◌-◌, replicate, ◌^◌, ◌==◌, ◌++◌, ◌∷◌, [], Bool, true, false, ℕ, List, length, map, drop, refl, sym, ap, ◌∙◌, append_assoc, arith, IsTrue, ◌↔◌, bit_and, cond}
+use Rattle.std.proofs.lemmas.Bool.{eqb-true, eq-eqb}
+use Rattle.std.proofs.lemmas.Bool.Decides.{same_from_decides}
+use Rattle.std.proofs.lemmas.List.{append-nil, map-append}
+use Rattle.registers.specs.Bits.{HasBit}
+use Rattle.registers.specs.Laws.{contains_bit}
+use Rattle.descriptors.specs.declared.ring.Ring.{Ring}
+use Rattle.descriptors.specs.Ring.{next_of, address_of, owned}
+use Rattle.descriptors.specs.RingLaws.{owned-head, owned-tail}
+use Rattle.tx_engine.specs.Transmitter.{Queued}
+use Rattle.tx_engine.specs.Fetching.{is_set, descriptor_at, named_by, frame_at, fetched, as_sent}
+use Rattle.tx_engine.specs.Steps.{IfFront}
+use Rattle.tx_engine.specs.ToSend.{to_send, TakingMovesFrames, PuttingTakesFront, OfferingAddsFrames}
+
+-- To contain a flag of one bit is to have that bit set.
+pub contains-is_set : (value place : ℕ) → (bit_and value (2 ^ place) == 2 ^ place) ≡ is_set value place
+contains-is_set value place = same_from_decides {P = HasBit value place} _ _ (contains_bit value place) (eqb-true _ _, eq-eqb _ _)
+
+-- Where a test says whether a bit is set, it is that bit.
+pub same-is_set : (test : Bool) (value place : ℕ) → IsTrue test ↔ HasBit value place → test ≡ is_set value place
+same-is_set test value place decides = same_from_decides {P = HasBit value place} _ _ decides (eqb-true _ _, eq-eqb _ _)
+
+-- Taking moves the frame of the slot at the head from the ring's part to the buffer's end.
+pub to_send-take : TakingMovesFrames
+unfolding to_send
+to_send-take memory ring pad buffer sound apart =
+    let frames = λ (slot : ℕ). frame_at pad memory (address_of ring slot) in
+    let rest = owned (record ring { head = next_of ring ring.head }) in
+    let last = fetched pad memory (address_of ring ring.head) in
+    let whole : map frames (owned ring) ≡ frames ring.head ∷ map frames rest = ap (map frames) (owned-head ring sound apart) in
+    ap (λ (front : List (List ℕ)). front ++ map frames rest) (map-append (λ (queued : Queued). queued.frame) buffer (last ∷ []))
+    ∙ append_assoc (map (λ (queued : Queued). queued.frame) buffer) (last.frame ∷ []) (map frames rest)
+    ∙ ap (λ (behind : List (List ℕ)). map (λ (queued : Queued). queued.frame) buffer ++ behind) (sym whole)
+
+-- Putting takes the front.
+pub to_send-put : PuttingTakesFront
+unfolding to_send
+to_send-put memory ring pad queued buffer = refl
+
+-- A driver that moves tail on adds the frame of the slot at the old tail.
+pub to_send-offer : OfferingAddsFrames
+unfolding to_send
+to_send-offer memory ring pad buffer sound apart =
+    let frames = λ (slot : ℕ). frame_at pad memory (address_of ring slot) in
+    let front = map (λ (queued : Queued). queued.frame) buffer in
+    ap (λ (slots : List ℕ). front ++ map frames slots) (owned-tail ring sound apart)
+    ∙ ap (λ (behind : List (List ℕ)). front ++ behind) (map-append frames (owned ring) (ring.tail ∷ []))
+    ∙ sym (append_assoc front (map frames (owned ring)) (frames ring.tail ∷ []))
+
+-- The front of the frames to be sent is the oldest of the buffer.
+pub to_send-front : (memory : List ℕ) (buffer : List Queued) → IfFront buffer (λ queued. (ring : Ring) (pad : Bool) → to_send memory ring pad buffer ≡ queued.frame ∷ to_send memory ring pad (drop 1 buffer))
+unfolding to_send
+to_send-front memory [] = tt
+to_send-front memory (queued ∷ buffer) = λ ring pad. refl
+
+-- A frame followed by zeros up to 60 bytes, or up to none, is the frame as it is sent.
+zeros-as_sent : (pad : Bool) (frame : List ℕ) (least : ℕ) → least ≡ cond pad 60 0 → frame ++ replicate (least - length frame) 0 ≡ as_sent pad frame
+zeros-as_sent true frame least same = ap (λ (n : ℕ). frame ++ replicate (n - length frame) 0) same
+zeros-as_sent false frame least same =
+    let none : least - length frame ≡ 0 = omega arith in
+    ap (λ (n : ℕ). frame ++ replicate n 0) none ∙ append-nil frame
+
+-- What is pushed of a descriptor, with padding or without, is what the engine makes of it.
+pub pushed-fetched : (pad : Bool) (memory bytes : List ℕ) (address descriptor least : ℕ) (reports : Bool) → bytes ≡ named_by memory (descriptor_at memory address) → descriptor ≡ address → reports ≡ (fetched pad memory address).report → least ≡ cond pad 60 0 → record { frame = bytes ++ replicate (least - length bytes) 0; descriptor = descriptor; report = reports } ≡ fetched pad memory address
+pushed-fetched pad memory bytes address descriptor least reports same_bytes same_address same_reports same_least =
+    let same_frame : bytes ++ replicate (least - length bytes) 0 ≡ frame_at pad memory address = zeros-as_sent pad bytes least same_least ∙ ap (as_sent pad) same_bytes in
+    ap (λ (frame : List ℕ). let queued : Queued = record { frame = frame; descriptor = descriptor; report = reports } in queued) same_frame
+    ∙ ap (λ (place : ℕ). let queued : Queued = record { frame = frame_at pad memory address; descriptor = place; report = reports } in queued) same_address
+    ∙ ap (λ (asks : Bool). let queued : Queued = record { frame = frame_at pad memory address; descriptor = address; report = asks } in queued) same_reports

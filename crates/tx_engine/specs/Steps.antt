@@ -1,0 +1,48 @@
+-- What the two steps of the transmit engine leave ("3.3 Packet Transmission" of Intel's manual; that the report waits until
+-- the frame is on the wire is own).
+use Rattle.std.specs.Prelude.{◌≡◌, ◌+◌, ◌++◌, ◌∷◌, [], ◌&&◌, if◌then◌else◌, nat_lt, Bool, ℕ, List, length, slice_index}
+use Rattle.dma_memory.specs.HostMemory.{with_bytes}
+use Rattle.descriptors.specs.declared.ring.Ring.{Ring}
+use Rattle.descriptors.specs.Ring.{next_of, address_of}
+use Rattle.tx_engine.specs.Transmitter.{Queued, Transmitter}
+use Rattle.tx_engine.specs.Fetching.{pads, fetched}
+use Rattle.tx_engine.specs.declared.answers.Take.{Take}
+use Rattle.tx_engine.specs.declared.answers.Take.TheVariants as takes
+use Rattle.tx_engine.specs.declared.answers.Put.{Put}
+use Rattle.tx_engine.specs.declared.answers.Put.TheVariants as puts
+
+-- The fact holds where the answer is that a frame was taken.
+abbrev pub IfTook : Take → (Bool → Type 0) → Type 0
+IfTook (takes.Took emptied) P = P emptied
+IfTook takes.Nothing P = Unit {0}
+IfTook takes.Fault P = Unit {0}
+
+-- The fact holds where the answer is that a frame was put.
+abbrev pub IfPut : Put → (Bool → Type 0) → Type 0
+IfPut (puts.Put reported) P = P reported
+IfPut puts.Nothing P = Unit {0}
+IfPut puts.WireFull P = Unit {0}
+
+-- The fact holds of the oldest frame of a buffer, if there is one.
+abbrev pub IfFront : List Queued → (Queued → Type 0) → Type 0
+IfFront [] P = Unit {0}
+IfFront (queued ∷ buffer) P = P queued
+
+-- A frame was taken: it stands at the buffer's end, with the address of its descriptor; head has moved on.
+pub record Takes (control : ℕ) (memory : List ℕ) (ring moved : Ring) (engine grown : Transmitter) : Type 0 where
+  pub buffer : grown ≡ record engine { buffer = engine.buffer ++ fetched (pads control) memory (address_of ring ring.head) ∷ [] }
+  pub head : moved ≡ record ring { head = next_of ring ring.head }
+
+-- Where the status byte of a frame's descriptor stands: byte 12 of the descriptor that was read.
+abbrev pub status_place : Queued → ℕ
+status_place queued = queued.descriptor + 12
+
+-- Memory once a frame has gone out: where its descriptor asks for a report, the status byte is 1 (DD). In a memory that
+-- ends before that byte nothing is written.
+abbrev pub written_back : List ℕ → Queued → List ℕ
+written_back memory queued = if queued.report && nat_lt (status_place queued) (length memory) then with_bytes memory (status_place queued) (1 ∷ []) else memory
+
+-- At most the byte at this place differs.
+pub record DiffersAtMostAt (place : ℕ) (memory changed : List ℕ) : Type 0 where
+  pub size : length changed ≡ length memory
+  pub others : (i : ℕ) → ¬ (i ≡ place) → slice_index changed i ≡ slice_index memory i

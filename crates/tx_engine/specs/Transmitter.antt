@@ -1,0 +1,21 @@
+-- What the transmit engine of an adapter is to its callers (own).
+use Rattle.std.specs.Prelude.{ℕ, Bool, false, List, []}
+
+-- A frame in the transmit packet buffer.
+pub record Queued : Type 0 where
+  -- its bytes, as they go onto the wire
+  pub frame : List ℕ
+  -- the address at which its descriptor was read
+  pub descriptor : ℕ
+  -- whether the descriptor asks for a report (RS)
+  pub report : Bool
+
+pub record Transmitter : Type 0 where
+  -- the transmit packet buffer, the oldest frame first
+  pub buffer : List Queued
+  -- whether a fault has stopped the engine
+  pub stopped : Bool
+
+-- An engine with nothing to put, which isn't stopped.
+abbrev pub idle : Transmitter
+idle = record { buffer = []; stopped = false }

@@ -1,0 +1,142 @@
+ghost use Rattle.std.specs.Prelude.{◌≡◌, ◌+◌, ◌-◌, ◌<◌, ◌≤◌, ◌^◌, ◌↔◌, ◌++◌, ◌∷◌, [], drop, length, map, replicate, slice_get, true, false, IsTrue, IsNone, IfSome, IfOk};
+ghost use Rattle.tx_engine.specs.Transmitter.{Queued, idle};
+ghost use Rattle.tx_engine.specs.Steps.{IfFront};
+
+use crate::fetching::Named;
+use crate::report::Report;
+use circular_buffer::HeapCircularBuffer;
+use frame_queue::FrameQueue;
+use std::alloc::{AllocError, Global};
+use std::marker::Model;
+
+/// How many frames the transmit packet buffer holds.
+pub const PACKET_BUFFER_FRAMES: u8 = 4;
+
+/// The transmit engine of an adapter: the transmit packet buffer, which holds at most four frames, and whether a fault has
+/// stopped the engine.
+///
+/// In contracts it is the list of the frames in the buffer, the oldest first, each with the address of its descriptor and
+/// whether that asks for a report, and the flag. Its memory is taken when it is made.
+#[derive(Drop)]
+pub struct TxEngine {
+    frames: FrameQueue,
+    reports: HeapCircularBuffer<Report>,
+    running: bool,
+}
+
+impl Model for TxEngine {
+    ghost use Rattle.tx_engine.specs.Transmitter.{Transmitter};
+
+    ghost Value = { Transmitter };
+
+    ghost use Rattle.tx_engine.specs.Buffer.{transmitter_of, IsWhole};
+
+    ghost view = { transmitter_of };
+
+    ghost invariant = { IsWhole };
+}
+
+impl TxEngine {
+    /// An engine with an empty buffer that isn't stopped.
+    ///
+    /// # Errors
+    ///
+    /// Want of memory alone.
+    pub fn new(alloc: Global) -> Result<TxEngine, AllocError>
+        ensures { IfOk result (λ engine. engine ≡ idle) }
+    {
+        Ok(TxEngine {
+            frames: FrameQueue::new(alloc, PACKET_BUFFER_FRAMES)?,
+            reports: HeapCircularBuffer::with_capacity(alloc, usize::from(PACKET_BUFFER_FRAMES))?,
+            running: true,
+        })
+    }
+
+    /// A reset: empties the buffer and restarts a stopped engine.
+    pub fn reset(&mut self)
+        ensures { self.new ≡ idle }
+    {
+        self.frames.clear();
+        self.reports.clear();
+        self.running = true;
+    }
+
+    /// How many frames the buffer holds.
+    pub fn len(&self) -> u8
+        ensures count { result ≡ length self.now.buffer }
+        ensures fits { result ≤ 4 }
+    {
+        self.frames.len()
+    }
+
+    /// Whether the buffer holds no frame.
+    pub fn is_empty(&self) -> bool
+        ensures { IsTrue result ↔ (self.now.buffer ≡ []) }
+    {
+        self.frames.is_empty()
+    }
+
+    /// Whether the buffer holds as many frames as it can.
+    pub fn is_full(&self) -> bool
+        ensures full { IsTrue result ↔ (length self.now.buffer ≡ 4) }
+        ensures fits { length self.now.buffer ≤ 4 }
+    {
+        self.len() == PACKET_BUFFER_FRAMES
+    }
+
+    /// Whether a fault has stopped the engine.
+    pub fn is_stopped(&self) -> bool
+        ensures { result ≡ self.now.stopped }
+    {
+        !self.running
+    }
+
+    /// The oldest frame of the buffer as it goes onto the wire, where it stands; `None` exactly where the buffer is empty.
+    /// It has 1,518 bytes at most.
+    pub fn front(&self) -> Option<&[u8]>
+        ensures none { IsNone result ↔ (self.now.buffer ≡ []) }
+        ensures oldest { IfSome result (λ frame. IfFront self.now.buffer (λ queued. queued.frame ≡ frame.now)) }
+        ensures fits { IfSome result (λ frame. length frame.now ≤ 1518) }
+    {
+        self.frames.front()
+    }
+
+    /// Stops the engine until a reset.
+    pub(crate) fn stop(&mut self)
+        ensures { self.new ≡ record self.old { stopped = true } }
+    {
+        self.running = false;
+    }
+
+    /// Puts a frame behind the others, followed by zeros up to `least` bytes. The buffer isn't full.
+    pub(crate) fn push(&mut self, named: Named<'_>, least: usize)
+        requires room { length self.old.buffer < 4 }
+        requires fits { length named.bytes.now ≤ 1518 }
+        requires least_fits { least ≤ 1518 }
+        requires status_fits { named.descriptor + 12 < 2 ^ 64 }
+        ensures { self.new ≡ record self.old {
+          buffer = self.old.buffer ++ record {
+            frame = named.entry.bytes.now ++ replicate (least - length named.entry.bytes.now) 0;
+            descriptor = named.entry.descriptor;
+            report = named.entry.reports;
+          } ∷ [];
+        } }
+    {
+        self.frames.push_padded(named.bytes, least);
+        let _ = self.reports.push_back(Report {
+            descriptor: named.descriptor,
+            wanted: named.reports,
+        });
+    }
+
+    /// Drops the oldest frame and answers what is to be done of it; `None` exactly where the buffer is empty.
+    pub(crate) fn pop(&mut self) -> Option<Report>
+        ensures none { IsNone result ↔ (self.old.buffer ≡ []) }
+        ensures rest { self.new ≡ record self.old { buffer = drop 1 self.old.buffer } }
+        ensures descriptor { IfSome result (λ report. IfFront self.old.buffer (λ queued. queued.descriptor ≡ report.descriptor)) }
+        ensures wanted { IfSome result (λ report. IfFront self.old.buffer (λ queued. queued.report ≡ report.wanted)) }
+    {
+        self.frames.pop();
+        self.reports.pop_front()
+    }
+}

@@ -1,0 +1,95 @@
+ghost use Rattle.std.specs.Prelude.{◌≡◌, ◌+◌, ◌<◌, ◌≤◌, ◌^◌, ◌↔◌, IsTrue, IsSome, IfSome, length};
+ghost use Rattle.registers.specs.Bits.{HasBit};
+ghost use Rattle.dma_memory.specs.HostMemory.{LiesIn};
+ghost use Rattle.descriptors.specs.Ring.{address_of};
+ghost use Rattle.descriptors.specs.TxFields.{command_bits};
+ghost use Rattle.tx_engine.specs.Fetching.{IsTransmittable, IsFetchable, descriptor_at, named_by, is_set};
+
+use bitflags::Flags;
+use descriptors::{LONGEST_SENDABLE, Ring, TX_DESC_BYTES, TxCommand, TxDesc};
+use dma_memory::HostMemory;
+
+/// A frame that a descriptor names, where it stands in the host's memory.
+#[derive(Clone, Copy)]
+pub struct Named<'a> {
+    /// The bytes of the frame.
+    pub bytes: &'a [u8],
+    /// The address at which the descriptor was read.
+    pub descriptor: u64,
+    /// Whether the descriptor asks for a report.
+    pub reports: bool,
+}
+
+/// Whether a descriptor holds the end of its packet: EOP is set.
+fn ends_packet(command: TxCommand) -> bool
+    ensures { IsTrue result ↔ HasBit (command_bits command) 0 }
+{
+    command.contains(TxCommand::EOP)
+}
+
+/// Whether a descriptor has one of the extended formats: DEXT is set.
+fn is_extended(command: TxCommand) -> bool
+    ensures { IsTrue result ↔ HasBit (command_bits command) 5 }
+{
+    command.contains(TxCommand::DEXT)
+}
+
+/// Whether a descriptor asks for a report: RS is set.
+fn asks_report(command: TxCommand) -> bool
+    ensures { result ≡ is_set (command_bits command) 3 }
+{
+    command.contains(TxCommand::RS)
+}
+
+/// The descriptor at the head, with its address; `None` exactly where it doesn't lie in memory.
+fn descriptor_at_head(ring: &Ring, memory: &HostMemory) -> Option<(u64, TxDesc)>
+    ensures lies { IsSome result ↔ LiesIn memory.now (address_of ring.now ring.now.head) 16 }
+    ensures address { IfSome result (λ found. found.0 ≡ address_of ring.now ring.now.head) }
+    ensures fits { IfSome result (λ found. found.0 + 12 < 2 ^ 64) }
+    ensures value { IfSome result (λ found. found.1 ≡ descriptor_at memory.now (address_of ring.now ring.now.head)) }
+{
+    let size = memory.size();
+    let address = ring.descriptor(ring.head)?;
+    if address >= size {
+        return None;
+    }
+    let mut bytes = [0; TX_DESC_BYTES];
+    memory.load(address, &mut bytes).ok()?;
+    Some((address, TxDesc::from_bytes(&bytes)))
+}
+
+/// The bytes that a descriptor names, or `None` exactly where it can't be transmitted.
+fn bytes_of<'a>(desc: &TxDesc, memory: &'a HostMemory) -> Option<&'a [u8]>
+    ensures transmittable { IsSome result ↔ IsTransmittable memory.now desc.now }
+    ensures value { IfSome result (λ bytes. bytes.now ≡ named_by memory.now desc.now) }
+{
+    let length = desc.length as usize;
+    if !ends_packet(desc.command) || is_extended(desc.command) {
+        return None;
+    }
+    if length == 0 || length > LONGEST_SENDABLE {
+        return None;
+    }
+    memory.view(desc.address, length).ok()
+}
+
+/// The frame that the descriptor at the head names, or `None` exactly where that descriptor can't be taken.
+pub fn fetch<'a>(ring: &Ring, memory: &'a HostMemory) -> Option<Named<'a>>
+    ensures fetchable { IsSome result ↔ IsFetchable memory.now ring.now }
+    ensures bytes { IfSome result (λ named. named.bytes.now ≡ named_by memory.now (descriptor_at memory.now (address_of ring.now ring.now.head))) }
+    ensures descriptor { IfSome result (λ named. named.descriptor ≡ address_of ring.now ring.now.head) }
+    ensures fits { IfSome result (λ named. named.descriptor + 12 < 2 ^ 64) }
+    ensures length { IfSome result (λ named. length named.bytes.now ≤ 1518) }
+    ensures reports { IfSome result (λ named. named.reports ≡ is_set (command_bits (descriptor_at memory.now (address_of ring.now ring.now.head)).command) 3) }
+{
+    if !ring.is_sound() {
+        return None;
+    }
+    let (descriptor, desc) = descriptor_at_head(ring, memory)?;
+    let bytes = bytes_of(&desc, memory)?;
+    Some(Named {
+        bytes,
+        descriptor,
+        reports: asks_report(desc.command),
+    })
+}

@@ -1,0 +1,22 @@
+//! The transmit engine of the Intel 82540EM, in two small steps: [`take`] moves a frame from the transmit ring into the
+//! transmit packet buffer, and [`put`] moves the oldest frame of that buffer onto the wire.
+//!
+//! Section numbers are those of Intel's "PCI/PCI-X Family of Gigabit Ethernet Controllers Software Developer's Manual".
+#![tactic(auto)]
+
+mod answers;
+mod engine;
+mod fetching;
+mod laws;
+mod putting;
+mod report;
+mod taking;
+
+pub use answers::{Put, Take};
+pub use engine::{PACKET_BUFFER_FRAMES, TxEngine};
+pub use laws::frames_to_be_sent;
+pub use putting::put;
+pub use taking::take;
+
+#[cfg(test)]
+mod tests;

@@ -1,0 +1,56 @@
+ghost use Rattle.std.specs.Prelude.{◌≡◌, ◌↔◌, ◌∷◌, [], Bool, false, IsTrue, drop};
+ghost use Rattle.descriptors.specs.declared.ring.Ring.{Ring};
+ghost use Rattle.tx_engine.specs.Steps.{IfPut, IfFront, DiffersAtMostAt, status_place, written_back};
+ghost use Rattle.tx_engine.specs.ToSend.{to_send};
+
+use crate::Put;
+use crate::engine::TxEngine;
+use bitflags::Flags;
+use descriptors::TxStatus;
+use dma_memory::HostMemory;
+
+/// The place of the status byte in a transmit descriptor.
+const STATUS_PLACE: u64 = 12;
+
+/// One step of transmission: puts the oldest frame of the packet buffer onto the wire. The caller finds its bytes in
+/// [`TxEngine::front`] before the step.
+///
+/// - `Nothing` exactly where the buffer is empty.
+/// - Otherwise `WireFull` exactly where the wire isn't free.
+/// - Otherwise `Put`: the frame has left the buffer. Where its descriptor asks for a report (RS), the status byte of that
+///   descriptor, at the address where it was read, becomes 1 (DD); in a memory that ends before that byte nothing is
+///   written. `reported` tells whether it asks.
+///
+/// The caller hands a memory of the same size as to [`take`](crate::take), where that byte always lies.
+pub fn put(engine: &mut TxEngine, memory: &mut HostMemory, wire_free: bool) -> Put
+    ensures nothing { (result ≡ Put.Nothing) ↔ (engine.old.buffer ≡ []) }
+    ensures wire_full { (result ≡ Put.WireFull) ↔ ((¬ (engine.old.buffer ≡ [])) × (wire_free ≡ false)) }
+
+    ensures untouched { (result ≡ Put.Nothing) → (engine.new ≡ engine.old) × (memory.new ≡ memory.old) }
+    ensures waits { (result ≡ Put.WireFull) → (engine.new ≡ engine.old) × (memory.new ≡ memory.old) }
+    ensures gone { IfPut result (λ _. engine.new ≡ record engine.old { buffer = drop 1 engine.old.buffer }) }
+    ensures reported { IfPut result (λ reported. IfFront engine.old.buffer (λ queued. reported ≡ queued.report)) }
+    ensures written { IfPut result (λ _. IfFront engine.old.buffer (λ queued. memory.new ≡ written_back memory.old queued)) }
+    ensures one_byte { IfFront engine.old.buffer (λ queued. DiffersAtMostAt (status_place queued) memory.old memory.new) }
+
+    // The front of the frames to be sent has gone out.
+    ensures to_send { IfPut result (λ _. IfFront engine.old.buffer (λ queued.
+        (ring : Ring) (pad : Bool) → to_send memory.old ring pad engine.old.buffer ≡ queued.frame ∷ to_send memory.old ring pad engine.new.buffer)) }
+{
+    if !wire_free {
+        return if engine.is_empty() {
+            Put::Nothing
+        } else {
+            Put::WireFull
+        };
+    }
+    let Some(report) = engine.pop() else {
+        return Put::Nothing;
+    };
+    if report.wanted {
+        let _ = memory.store(report.descriptor + STATUS_PLACE, &[TxStatus::DD.bits()]);
+    }
+    Put::Put {
+        reported: report.wanted,
+    }
+}

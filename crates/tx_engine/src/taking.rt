@@ -1,0 +1,64 @@
+ghost use Rattle.std.specs.Prelude.{◌≡◌, ◌<◌, ◌↔◌, false, true, IsTrue, if◌then◌else◌, length};
+ghost use Rattle.descriptors.specs.Ring.{next_of};
+ghost use Rattle.tx_engine.specs.Fetching.{IsIdle, IsFetchable, pads};
+ghost use Rattle.tx_engine.specs.Steps.{IfTook, Takes};
+ghost use Rattle.tx_engine.specs.ToSend.{to_send};
+
+use crate::Take;
+use crate::engine::TxEngine;
+use crate::fetching::fetch;
+use descriptors::{Ring, SHORTEST_LEGAL};
+use dma_memory::HostMemory;
+use registers::Tctl;
+
+/// Whether there is nothing to take.
+fn is_idle(engine: &TxEngine, ring: &Ring, control: Tctl) -> bool
+    ensures idle { IsTrue result ↔ IsIdle control.0 engine.now ring.now }
+    ensures room { (result ≡ false) → length engine.now.buffer < 4 }
+{
+    !control.is_enabled() || engine.is_stopped() || engine.is_full() || ring.head == ring.tail
+}
+
+/// One step of transmission: takes the frame that the descriptor at the head of the ring names into the packet buffer.
+///
+/// - `Nothing` exactly where TCTL.EN is 0, the engine is stopped, its buffer holds four frames, or head equals tail.
+/// - Otherwise `Fault` exactly where the ring has no descriptors or head or tail isn't one of its slots, the descriptor or
+///   the bytes that it names don't lie in memory (addresses don't wrap), EOP is clear, DEXT is set, or the length is 0 or
+///   above 1,518. It leaves ring and buffer, and stops the engine until a reset.
+/// - Otherwise `Took`: the frame is in the buffer, with TCTL.PSP followed by zeros up to 60 bytes, and head has moved on.
+pub fn take(engine: &mut TxEngine, ring: &mut Ring, control: Tctl, memory: &HostMemory) -> Take
+    ensures nothing { (result ≡ Take.Nothing) ↔ IsIdle control.0 engine.old ring.old }
+    ensures fault { (result ≡ Take.Fault) ↔ ((¬ (IsIdle control.0 engine.old ring.old)) × (¬ (IsFetchable memory.now ring.old))) }
+
+    ensures untouched { (result ≡ Take.Nothing) → (engine.new ≡ engine.old) × (ring.new ≡ ring.old) }
+    ensures stopped { (result ≡ Take.Fault) → (engine.new ≡ record engine.old { stopped = true }) × (ring.new ≡ ring.old) }
+    ensures took { IfTook result (λ _. Takes control.0 memory.now ring.old ring.new engine.old engine.new) }
+    ensures emptied { IfTook result (λ emptied. IsTrue emptied ↔ (ring.new.head ≡ ring.new.tail)) }
+
+    // Whatever the answer, the frames to be sent are the same.
+    ensures to_send { to_send memory.now ring.new (pads control.0) engine.new.buffer ≡ to_send memory.now ring.old (pads control.0) engine.old.buffer }
+{
+    if is_idle(engine, ring, control) {
+        return Take::Nothing;
+    }
+    let Some(named) = fetch(ring, memory) else {
+        engine.stop();
+        return Take::Fault;
+    };
+    engine.push(named, least_of(control));
+    ring.head = ring.next(ring.head);
+    Take::Took {
+        emptied: ring.head == ring.tail,
+    }
+}
+
+/// The least bytes of a frame as it goes onto the wire.
+fn least_of(control: Tctl) -> usize
+    ensures { result ≡ (if pads control.0 then 60 else 0) }
+{
+    if control.pads_short_packets() {
+        SHORTEST_LEGAL
+    } else {
+        0
+    }
+}
