@@ -1,0 +1,42 @@
+-- The done step of the receive engine ("3.2.3 Receive Descriptor Format").
+use Rattle.std.specs.Prelude.{◌≡◌, ◌+◌, ◌++◌, ℕ, List, [], ◌∷◌, length, Option, None, Some}
+use Rattle.std.specs.Option.{ForSome}
+use Rattle.byteorder.specs.Endian.{little_bytes}
+use Rattle.registers.specs.Bits.{HasBit}
+use Rattle.dma_memory.specs.HostMemory.{bytes_at, with_bytes, LiesIn}
+use Rattle.descriptors.specs.RxStatus.{status_bits}
+use Rattle.rx_engine.specs.Descriptors.{descriptor_at, named_address, AreApart}
+use Rattle.rx_engine.specs.Engine.{Engine}
+use Rattle.rx_engine.specs.declared.engine.Work.{Work}
+
+-- the descriptor of the frame in work lies in memory
+abbrev pub WorkLiesIn : List ℕ → Engine → Type 0
+WorkLiesIn memory engine = ForSome engine.work (λ work. LiesIn memory work.descriptor 16)
+
+-- bytes 8 to 15 of a finished descriptor: the length, checksum 0, status 0x03 (DD and EOP), errors 0, special 0
+abbrev pub finished_bytes : ℕ → List ℕ
+finished_bytes n = little_bytes 2 n ++ 0 ∷ 0 ∷ 3 ∷ 0 ∷ 0 ∷ 0 ∷ []
+
+-- the engine after a done step: no frame is in work
+abbrev pub engine_after_done : Engine → Engine
+engine_after_done engine = record engine { work = None }
+
+-- memory after a done step: bytes 8 to 15 of the descriptor in work are written
+abbrev pub memory_after_done : Option Work → List ℕ → List ℕ
+memory_after_done None memory = memory
+memory_after_done (Some work) memory = with_bytes memory (work.descriptor + 8) (finished_bytes work.length)
+
+-- so many bytes at the address that a descriptor names lie in memory, apart from that descriptor
+pub record StandsApart (memory : List ℕ) (descriptor n : ℕ) : Type 0 where
+  pub place : LiesIn memory (named_address memory descriptor) n
+  pub apart : AreApart descriptor (named_address memory descriptor) n
+
+-- the descriptor at an address is finished with a frame: it is done, holds the end of its packet and had no error, and its
+-- address and length name the frame
+pub record IsFinished (memory : List ℕ) (descriptor : ℕ) (frame : List ℕ) : Type 0 where
+  -- DD and EOP (3.2.3.1)
+  pub done : HasBit (status_bits (descriptor_at memory descriptor).status) 0
+  pub ended : HasBit (status_bits (descriptor_at memory descriptor).status) 1
+  pub unharmed : (descriptor_at memory descriptor).errors ≡ 0
+  pub length : (descriptor_at memory descriptor).length ≡ length frame
+  pub bytes : bytes_at memory (named_address memory descriptor) (descriptor_at memory descriptor).length ≡ frame

@@ -1,0 +1,130 @@
+// The data step: a frame goes into a host's memory.
+
+ghost use Rattle.std.specs.Prelude.{◌≡◌, ◌≤◌, ◌*◌, ◌↔◌, length, IsTrue, IsSome, IfSome};
+ghost use Rattle.registers.specs.Bits.{HasBit, field};
+ghost use Rattle.registers.specs.ReceiveControl.{buffer_size_of};
+ghost use Rattle.descriptors.specs.Ring.{IsSound, address_of, count_of, distance_of};
+ghost use Rattle.dma_memory.specs.HostMemory.{LiesIn};
+ghost use Rattle.rx_engine.specs.Descriptors.{named_address, ChangesOnly};
+ghost use Rattle.rx_engine.specs.Engine.{oldest, IsEngine};
+ghost use Rattle.rx_engine.specs.Finishing.{WorkLiesIn};
+ghost use Rattle.rx_engine.specs.Moving.{HasFrameToMove, CanMove, engine_after_data, ring_after_data, memory_after_data, IsMoved, IfMoved, IsHalfFree};
+
+use crate::storing::store_within;
+use crate::{RxEngine, Work};
+use descriptors::{RX_DESC_BYTES, Ring, RxDesc};
+use dma_memory::HostMemory;
+use registers::Rctl;
+
+/// What a data step did.
+#[derive(Clone, Copy, Debug, PartialEq, Eq)]
+pub enum Data {
+    /// There is nothing to do, and nothing changed.
+    Nothing,
+    /// The oldest frame stands in memory and is in work.
+    Moved {
+        /// The free descriptors have become half the ring ("13.4.17 Interrupt Cause Read Register", RXDMT0).
+        low: bool,
+    },
+    /// The engine stopped in place of moving a frame (own).
+    Fault,
+}
+
+/// Where the oldest frame goes.
+#[derive(Clone, Copy)]
+struct Target {
+    /// The address of the descriptor at the head.
+    descriptor: u64,
+    /// The address of the buffer that it names.
+    buffer: u64,
+}
+
+/// Writes the oldest frame of the packet buffer to the buffer that the descriptor at the head names; the frame is then in
+/// work, and head moves on ("3.2.6 Receive Descriptor Queue Structure").
+///
+/// Nothing where RCTL.EN is 0, a fault has stopped the engine, a frame is in work, the packet buffer is empty, or head equals
+/// tail. Else a fault where head or tail isn't a slot of the ring, the descriptor or the frame's place isn't in memory,
+/// RCTL.BSEX is set, or the frame is longer than the buffer size of RCTL.BSIZE; a fault leaves memory, ring and packet buffer,
+/// and stops the engine until a reset (own).
+pub fn rx_data(
+    engine: &mut RxEngine,
+    ring: &mut Ring,
+    control: Rctl,
+    memory: &mut HostMemory,
+) -> Data
+    ensures nothing { (result ≡ Data.Nothing) ↔ (¬ (HasFrameToMove control.0 ring.old engine.old)) }
+    ensures fault { (result ≡ Data.Fault)
+        ↔ (HasFrameToMove control.0 ring.old engine.old
+        × (¬ (CanMove control.0 ring.old memory.old (length (oldest engine.old.buffer))))) }
+    ensures moved { IsMoved result
+        ↔ (HasFrameToMove control.0 ring.old engine.old
+        × CanMove control.0 ring.old memory.old (length (oldest engine.old.buffer))) }
+    ensures low { IfMoved result (λ low. IsTrue low ↔ IsHalfFree ring.new) }
+    ensures engine { engine.new ≡ engine_after_data result ring.old engine.old }
+    ensures ring { ring.new ≡ ring_after_data result ring.old }
+    ensures memory { memory.new ≡ memory_after_data result ring.old engine.old memory.old }
+    ensures only { ChangesOnly memory.old memory.new
+        (named_address memory.old (address_of ring.old ring.old.head)) (length (oldest engine.old.buffer)) }
+    ensures work { WorkLiesIn memory.old engine.old → WorkLiesIn memory.new engine.new }
+    ensures before { IsEngine engine.old }
+    ensures after { IsEngine engine.new }
+{
+    let Some(frame) = engine.next_frame() else {
+        return Data::Nothing;
+    };
+    if !control.is_enabled() || ring.head == ring.tail {
+        return Data::Nothing;
+    }
+    let length = frame.len() as u16;
+    let Some(target) = target_of(ring, control, memory, length) else {
+        engine.stop();
+        return Data::Fault;
+    };
+    store_within(memory, target.buffer, frame);
+    engine.begin(Work {
+        descriptor: target.descriptor,
+        length,
+    });
+    ring.head = ring.next(ring.head);
+    Data::Moved {
+        low: is_half_free(ring),
+    }
+}
+
+/// Where a frame of this length goes, or `None` exactly where the step is a fault.
+fn target_of(ring: &Ring, control: Rctl, memory: &HostMemory, length: u16) -> Option<Target>
+    ensures can { IsSome result ↔ CanMove control.0 ring.now memory.now length }
+    ensures descriptor { IfSome result (λ target. target.descriptor ≡ address_of ring.now ring.now.head) }
+    ensures buffer { IfSome result (λ target.
+        target.buffer ≡ named_address memory.now (address_of ring.now ring.now.head)) }
+{
+    if !ring.is_sound() || control.extends_buffer_size() || length > control.buffer_size() {
+        return None;
+    }
+    let size = memory.size();
+    let descriptor = ring.descriptor(ring.head)?;
+    if descriptor >= size {
+        return None;
+    }
+    let buffer = buffer_named_at(memory, descriptor)?;
+    memory.view(buffer, usize::from(length)).ok()?;
+    Some(Target { descriptor, buffer })
+}
+
+/// The address that the descriptor at an address names, or `None` exactly where that descriptor isn't in memory.
+fn buffer_named_at(memory: &HostMemory, descriptor: u64) -> Option<u64>
+    ensures lies { IsSome result ↔ LiesIn memory.now descriptor 16 }
+    ensures value { IfSome result (λ address. address ≡ named_address memory.now descriptor) }
+{
+    let mut bytes = [0; RX_DESC_BYTES];
+    memory.load(descriptor, &mut bytes).ok()?;
+    Some(RxDesc::from_bytes(&bytes).address)
+}
+
+/// Whether the free descriptors, those from head to tail, are half the ring.
+fn is_half_free(ring: &Ring) -> bool
+    requires { IsSound ring.now }
+    ensures { IsTrue result ↔ IsHalfFree ring.now }
+{
+    2 * ring.distance(ring.head, ring.tail) == ring.count()
+}

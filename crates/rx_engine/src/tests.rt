@@ -1,0 +1,191 @@
+use crate::{Data, Done, Fate, RxEngine, arrive, rx_data, rx_done};
+use descriptors::Ring;
+use dma_memory::{HostMemory, Layout};
+use registers::Rctl;
+use rx_filter::Filter;
+use std::test::Fail;
+
+/// RCTL with EN and BAM: broadcast frames are received, into buffers of 2,048 bytes.
+const CONTROL: Rctl = Rctl(0x0000_8002);
+
+/// The descriptor of the buffer at 0x4800, finished with a frame of 60 bytes.
+const FINISHED: [u8; 16] = [0x00, 0x48, 0, 0, 0, 0, 0, 0, 0x3C, 0, 0, 0, 0x03, 0, 0, 0];
+
+/// The ring of eight slots at address 0, of which seven are offered.
+const OFFERED: Ring = Ring {
+    base: 0,
+    bytes: 128,
+    head: 0,
+    tail: 7,
+};
+
+fn broadcast_filter() -> Filter {
+    let mut filter = Filter::new();
+    filter.mode(CONTROL.0, 0x8100);
+    filter
+}
+
+/// A memory in which the first seven slots name the first seven receive buffers.
+fn offered_memory(rt: &HostRuntime) -> Result<HostMemory, Fail> {
+    let layout = Layout::of(8, 8, 16)?;
+    let mut memory = HostMemory::new(rt.alloc(), layout.size())?;
+    for slot in 0..7 {
+        let buffer = layout.receive_buffer(slot);
+        memory.store(16 * u64::from(slot), &buffer.to_le_bytes())?;
+    }
+    Ok(memory)
+}
+
+/// Room for one frame, as 2 kilobytes of packet buffer have it.
+#[test]
+fn frames_without_room_are_missed(rt: HostRuntime) -> Result<(), Fail> {
+    let mut engine = RxEngine::new(rt.alloc())?;
+    let filter = broadcast_filter();
+    for fate in [Fate::Stored, Fate::Missed, Fate::Missed] {
+        assert_eq!(rt; arrive(&mut engine, CONTROL, &filter, 1, &[0xFF; 60]), fate);
+    }
+    assert_eq!(rt; engine.buffered(), 1);
+    Ok(())
+}
+
+#[test]
+fn the_first_fate_that_applies(rt: HostRuntime) -> Result<(), Fail> {
+    let mut engine = RxEngine::new(rt.alloc())?;
+    let filter = broadcast_filter();
+    let bytes = [0xFF; 1519];
+    for (control, length, fate) in [
+        (Rctl(0), 59, Fate::Off),
+        (CONTROL, 59, Fate::Illegal),
+        (CONTROL, 60, Fate::Stored),
+        (CONTROL, 1518, Fate::Stored),
+        (CONTROL, 1519, Fate::Illegal),
+    ] {
+        assert_eq!(rt;
+            arrive(&mut engine, control, &filter, 24, &bytes[..length]),
+            fate,
+            "{length} bytes"
+        );
+    }
+    assert_eq!(rt;
+        arrive(&mut engine, CONTROL, &filter, 24, &[2; 60]),
+        Fate::Filtered
+    );
+    assert_eq!(rt; engine.buffered(), 2);
+    Ok(())
+}
+
+/// The free descriptors of a ring of eight become half at the third of three frames.
+#[test]
+fn three_frames_reach_memory(rt: HostRuntime) -> Result<(), Fail> {
+    let mut engine = RxEngine::new(rt.alloc())?;
+    let filter = broadcast_filter();
+    let mut memory = offered_memory(&rt)?;
+    let mut ring = OFFERED;
+    for last in [1, 2, 3] {
+        let mut frame = [0xFF; 60];
+        frame[59] = last;
+        assert_eq!(rt;
+            arrive(&mut engine, CONTROL, &filter, 24, &frame),
+            Fate::Stored
+        );
+    }
+    let mut bytes = [0; 16];
+    for (low, head) in [(false, 1), (false, 2), (true, 3)] {
+        let moved = rx_data(&mut engine, &mut ring, CONTROL, &mut memory);
+        assert_eq!(rt; moved, Data::Moved { low });
+        assert_eq!(rt; ring.head, head);
+        let again = rx_data(&mut engine, &mut ring, CONTROL, &mut memory);
+        assert_eq!(rt; again, Data::Nothing, "a frame is in work");
+        let descriptor = engine.work().ok_or("a frame is in work")?.descriptor;
+        assert_eq!(rt; descriptor, 16 * u64::from(head - 1));
+        assert_eq!(rt; rx_done(&mut engine, &mut memory), Done::Done);
+        assert_eq!(rt; rx_done(&mut engine, &mut memory), Done::Nothing);
+    }
+    memory.load(0, &mut bytes)?;
+    assert_eq!(rt; bytes, FINISHED);
+    for (address, last) in [(0x4800, 1), (0x5000, 2), (0x5800, 3)] {
+        let frame = memory.view(address, 60)?;
+        assert_eq!(rt; frame.first(), Some(&0xFF));
+        assert_eq!(rt; frame.last(), Some(&last));
+    }
+    Ok(())
+}
+
+/// A ring without slots: the step is a fault, and nothing more happens until a reset.
+#[test]
+fn a_fault_stops_the_engine(rt: HostRuntime) -> Result<(), Fail> {
+    let mut engine = RxEngine::new(rt.alloc())?;
+    let mut memory = offered_memory(&rt)?;
+    let mut ring = Ring {
+        base: 0,
+        bytes: 0,
+        head: 0,
+        tail: 1,
+    };
+    let filter = broadcast_filter();
+    assert_eq!(rt;
+        arrive(&mut engine, CONTROL, &filter, 24, &[0xFF; 60]),
+        Fate::Stored
+    );
+    for data in [Data::Fault, Data::Nothing] {
+        assert_eq!(rt; rx_data(&mut engine, &mut ring, CONTROL, &mut memory), data);
+        assert_eq!(rt; (ring.head, ring.tail, engine.buffered()), (0, 1, 1));
+    }
+    assert!(rt; engine.work().is_none());
+    engine.reset();
+    assert_eq!(rt; engine.buffered(), 0);
+    assert_eq!(rt;
+        arrive(&mut engine, CONTROL, &filter, 24, &[0xFF; 60]),
+        Fate::Stored
+    );
+    ring = OFFERED;
+    assert_eq!(rt;
+        rx_data(&mut engine, &mut ring, CONTROL, &mut memory),
+        Data::Moved { low: false }
+    );
+    Ok(())
+}
+
+/// The data step of an engine that holds this frame.
+fn data_step(
+    rt: &HostRuntime,
+    memory: &mut HostMemory,
+    ring: Ring,
+    control: Rctl,
+    frame: &[u8],
+) -> Result<Data, Fail> {
+    let mut ring = ring;
+    let mut engine = RxEngine::new(rt.alloc())?;
+    let _ = arrive(&mut engine, CONTROL, &broadcast_filter(), 24, frame);
+    Ok(rx_data(&mut engine, &mut ring, control, memory))
+}
+
+/// A frame waits where no descriptor is offered, and where it has no place it is a fault.
+#[test]
+fn no_place_for_a_frame(rt: HostRuntime) -> Result<(), Fail> {
+    let mut memory = offered_memory(&rt)?;
+    let none_offered = Ring { head: 7, ..OFFERED };
+    let past_memory = Ring {
+        base: u64::MAX - 15,
+        head: 1,
+        ..OFFERED
+    };
+    for (ring, control, data) in [
+        (none_offered, CONTROL, Data::Nothing),
+        (OFFERED, Rctl(0x0000_8000), Data::Nothing),
+        (past_memory, CONTROL, Data::Fault),
+        (Ring { head: 8, ..OFFERED }, CONTROL, Data::Fault),
+        (OFFERED, Rctl(0x0200_8002), Data::Fault),
+    ] {
+        assert_eq!(rt;
+            data_step(&rt, &mut memory, ring, control, &[0xFF; 60])?,
+            data
+        );
+    }
+    let small_buffers = Rctl(0x0003_8002);
+    let moved = data_step(&rt, &mut memory, OFFERED, small_buffers, &[0xFF; 256])?;
+    assert_eq!(rt; moved, Data::Moved { low: false });
+    let fault = data_step(&rt, &mut memory, OFFERED, small_buffers, &[0xFF; 257])?;
+    assert_eq!(rt; fault, Data::Fault);
+    Ok(())
+}
