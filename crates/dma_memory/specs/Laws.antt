@@ -1,6 +1,6 @@
 -- What stands in a memory after a store.
-use Rattle.std.proofs.Common.{◌≡◌, ◌≤◌, ◌<◌, ◌+◌, ◌-◌, ◌⊎◌, inl, inr, ◌++◌, ◌∷◌, [], ℕ, zero, suc, List, length, take, drop, replicate, refl, sym, ap, ◌∙◌, append_assoc, arith}
-use Rattle.std.proofs.lemmas.List.{length-append, length-take-le, length-drop, length-replicate, take-append-drop, take-append-le, drop-append-le, take_at, drop_at, drop-drop, take-replicate, drop-replicate, drop-take, take-take}
+use Rattle.std.proofs.Common.{◌≡◌, ◌≤◌, ◌<◌, ◌+◌, ◌-◌, ◌⊎◌, inl, inr, ◌++◌, ◌∷◌, [], ℕ, zero, suc, List, length, take, drop, refl, sym, ap, ◌∙◌, append_assoc, arith}
+use Rattle.std.proofs.lemmas.List.{length-append, length-take-le, length-drop, take-append-drop, take-append-le, drop-append-le, take_at, drop_at, drop-drop}
 use Rattle.std.proofs.Math.Seq.{take-add}
 use Rattle.dma_memory.specs.HostMemory.{bytes_at, with_bytes, LiesIn}
 
@@ -38,14 +38,6 @@ bytes_at-stored memory (x ∷ xs) address fits =
     ∙ ap (take (length bytes)) (drop_at (take address memory) (bytes ++ drop (address + length bytes) memory) address (length-take-le address memory (omega arith)))
     ∙ take_at bytes (drop (address + length bytes) memory) (length bytes) refl
 
--- A part of bytes is so many from the part's start on.
-pub bytes_at-bytes_at : (memory : List ℕ) (address n i k : ℕ) → i + k ≤ n → bytes_at (bytes_at memory address n) i k ≡ bytes_at memory (address + i) k
-bytes_at-bytes_at memory address n i k fits =
-    let whole : n ≡ i + (n - i) = omega arith in
-    ap (λ (j : ℕ). take k (drop i (take j (drop address memory)))) whole
-    ∙ ap (take k) (drop-take i (n - i) (drop address memory) ∙ ap (take (n - i)) (drop-drop i address memory))
-    ∙ take-take k (n - i) (drop (address + i) memory) (omega arith)
-
 -- The bytes before what was stored stay.
 pub bytes_at-before : (memory bytes : List ℕ) (address i n : ℕ) → LiesIn memory address (length bytes) → i + n ≤ address → bytes_at (with_bytes memory address bytes) i n ≡ bytes_at memory i n
 bytes_at-before memory [] address i n fits before = ap (λ (m : List ℕ). bytes_at m i n) (with_bytes-none memory address)
@@ -72,12 +64,6 @@ bytes_at-after memory (x ∷ xs) address i n fits after =
 pub bytes_at-elsewhere : (memory bytes : List ℕ) (address i n : ℕ) → LiesIn memory address (length bytes) → ((i + n ≤ address) ⊎ (address + length bytes ≤ i)) → bytes_at (with_bytes memory address bytes) i n ≡ bytes_at memory i n
 bytes_at-elsewhere memory bytes address i n fits (inl before) = bytes_at-before memory bytes address i n fits before
 bytes_at-elsewhere memory bytes address i n fits (inr after) = bytes_at-after memory bytes address i n fits after
-
--- A part of what was stored stands at its place.
-pub bytes_at-within : (memory bytes : List ℕ) (address i n : ℕ) → LiesIn memory address (length bytes) → i + n ≤ length bytes → bytes_at (with_bytes memory address bytes) (address + i) n ≡ bytes_at bytes i n
-bytes_at-within memory bytes address i n fits within =
-    sym (bytes_at-bytes_at (with_bytes memory address bytes) address (length bytes) i n within)
-    ∙ ap (λ (stored : List ℕ). bytes_at stored i n) (bytes_at-stored memory bytes address fits)
 
 -- The same where the first store begins in the memory.
 adjacent : (memory first second : List ℕ) (address : ℕ) → address ≤ length memory → with_bytes (with_bytes memory address first) (address + length first) second ≡ with_bytes memory address (first ++ second)
@@ -106,11 +92,6 @@ length-bytes_at memory address n fits = length-take-le n (drop address memory) (
 -- Bytes are the first of them and then the others.
 pub bytes_at-parts : (memory : List ℕ) (address n k : ℕ) → bytes_at memory address (n + k) ≡ bytes_at memory address n ++ bytes_at memory (address + n) k
 bytes_at-parts memory address n k = take-add n k (drop address memory) ∙ ap (λ (xs : List ℕ). bytes_at memory address n ++ take k xs) (drop-drop n address memory)
-
--- In a memory of zeros all bytes are zero.
-pub bytes_at-zeros : (size address n : ℕ) → LiesIn (replicate size 0) address n → bytes_at (replicate size 0) address n ≡ replicate n 0
-bytes_at-zeros size address n fits =
-    ap (take n) (drop-replicate address size 0) ∙ take-replicate n (size - address) 0 (omega (arith, length-replicate {A = ℕ} size 0))
 
 -- So many bytes lie in a memory exactly where each of them does.
 pub LiesIn-each : (memory : List ℕ) (address n : ℕ) → LiesIn memory address n → (i : ℕ) → i < n → address + i < length memory

@@ -2,4 +2,9 @@ pub mod HostMemory
 pub mod Layout
 pub mod Laws
 pub mod LayoutLaws
+pub mod Numbers
+pub mod Owners
+pub mod OwnersLaws
+pub mod OwnersPlaces
+pub mod Pool
 pub mod Stores

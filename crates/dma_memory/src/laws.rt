@@ -1,4 +1,5 @@
 ghost use Rattle.dma_memory.specs.Layout.{Counts, PlacesAreApart, PlacesLieBelowSize, BeginsAtNextMultiple};
+ghost use Rattle.dma_memory.specs.Owners.{CountsArePlaces, OwnersAddUp, MovesKeepOneOwner, OwnedIsNowhereElse, OneOwnerCounts, NoSecondOwnerBounds, MissingLeavesRoom};
 ghost use Rattle.dma_memory.specs.Stores.{LieWhereEachLies, StoreKeepsSize, StoredIsLoaded, OthersStay, AdjacentStoresAreOne, StoreOfNoneStays};
 
 /// Laws of memory, over all memories, addresses and bytes: bytes lie in it exactly where each of them lies below its
@@ -23,4 +24,19 @@ pub fn places_are_apart()
     ensures apart { PlacesAreApart }
     ensures below_size { PlacesLieBelowSize }
     ensures next_multiple { (counts : Counts) → BeginsAtNextMultiple counts }
+{}
+
+/// Laws of owners, over all lists of numbers: one owner by counts is one owner by places; what two owners have adds up;
+/// a number that is handed on still has one owner; what one owner has, no other has; with one owner for each of n
+/// numbers the list is n long; with no second owner it is at most n long, and shorter where a number is missing.
+///
+/// It does nothing: its contract is the laws.
+pub fn numbers_have_one_owner()
+    ensures places { CountsArePlaces }
+    ensures sums { OwnersAddUp }
+    ensures moves { MovesKeepOneOwner }
+    ensures elsewhere { OwnedIsNowhereElse }
+    ensures length { OneOwnerCounts }
+    ensures most { NoSecondOwnerBounds }
+    ensures room { MissingLeavesRoom }
 {}

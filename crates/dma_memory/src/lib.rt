@@ -1,20 +1,23 @@
-//! The memory that a host shares with its network adapter, and where the rings and buffers of a
-//! driver stand in it.
+//! The memory that a host shares with its network adapter, where the rings and buffers of a driver
+//! stand in it, and who has which receive buffer.
 //!
 //! A [`HostMemory`] is so many bytes, which host and adapter load and store by their addresses. A
 //! [`Layout`] places the descriptor rings and the packet buffers of one driver in such a memory,
-//! apart from one another.
+//! apart from one another. A [`Pool`] has the numbers of the receive buffers, and hands each to one
+//! owner at a time.
 #![tactic(auto)]
 
 mod host_memory;
 mod laws;
 mod memory_layout;
+mod pool;
 
 pub use host_memory::{HostMemory, OutOfRange};
-pub use laws::{places_are_apart, stores_are_loaded};
+pub use laws::{numbers_have_one_owner, places_are_apart, stores_are_loaded};
 pub use memory_layout::{
     BUFFER_BYTES, DESCRIPTOR_BYTES, Layout, LayoutError, MOST_BUFFERS, MOST_DESCRIPTORS, RING_STEP,
 };
+pub use pool::{BufId, Pool};
 
 #[cfg(test)]
 mod tests;

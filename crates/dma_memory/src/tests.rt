@@ -1,4 +1,4 @@
-use crate::{HostMemory, Layout, LayoutError, OutOfRange};
+use crate::{HostMemory, Layout, LayoutError, OutOfRange, Pool};
 use std::test::Fail;
 
 /// A memory of 16 bytes, of which those from 4 to 7 are 1 to 4.
@@ -115,6 +115,52 @@ fn refused_layouts(rt: HostRuntime) {
         );
     }
     assert!(rt; Layout::of(8, 256, 8).is_ok());
+}
+
+/// A refused allocation is the one failure that is allowed here, too.
+#[test]
+fn a_new_pool_has_all_numbers(rt: HostRuntime) {
+    if let Ok(pool) = Pool::new(rt.alloc(), u16::MAX) {
+        assert_eq!(rt; pool.len(), u16::MAX);
+        assert!(rt; !pool.is_empty());
+    }
+}
+
+#[test]
+fn each_number_is_given_once(rt: HostRuntime) -> Result<(), Fail> {
+    let mut pool = Pool::new(rt.alloc(), 3)?;
+    let first = pool.take().expect(&rt, "of three numbers");
+    let second = pool.take().expect(&rt, "of two numbers");
+    let third = pool.take().expect(&rt, "of one number");
+    let mut numbers = [first.number(), second.number(), third.number()];
+    numbers.sort_unstable();
+    assert_eq!(rt; numbers, [0, 1, 2]);
+    assert!(rt; pool.take().is_none());
+    assert!(rt; pool.is_empty());
+    Ok(())
+}
+
+#[test]
+fn a_number_that_is_given_back_is_taken_again(rt: HostRuntime) -> Result<(), Fail> {
+    let mut pool = Pool::new(rt.alloc(), 3)?;
+    let _first = pool.take();
+    let _second = pool.take();
+    let third = pool.take().expect(&rt, "of one number");
+    let number = third.number();
+    pool.give(third);
+    assert_eq!(rt; pool.len(), 1);
+    let again = pool.take().expect(&rt, "of one number");
+    assert_eq!(rt; again.number(), number);
+    assert_eq!(rt; pool.len(), 0);
+    Ok(())
+}
+
+#[test]
+fn a_pool_without_numbers(rt: HostRuntime) -> Result<(), Fail> {
+    let mut pool = Pool::new(rt.alloc(), 0)?;
+    assert!(rt; pool.is_empty());
+    assert!(rt; pool.take().is_none());
+    Ok(())
 }
 
 #[test]

@@ -1,0 +1,107 @@
+ghost use Rattle.std.specs.Prelude.{◌≡◌, ◌<◌, ◌≤◌, ◌↔◌, [], ◌∷◌, length, IsTrue, IsNone, IfSome, IfNone, IfOk};
+ghost use Rattle.dma_memory.specs.Owners.{copies, HasOneOwner, HaveSameNumbers};
+
+use std::alloc::{AllocError, Global};
+use std::marker::Model;
+
+/// The number of a receive buffer, in the hands of its one owner.
+///
+/// It can't be copied, and a [`Pool`] alone makes one. To let it go is to lose the number.
+#[derive(Drop)]
+pub struct BufId {
+    number: u16,
+}
+
+impl Model for BufId {
+    ghost use Rattle.std.specs.Prelude.{ℕ};
+
+    ghost Value = { ℕ };
+
+    ghost view = { λ id. id.number };
+}
+
+impl BufId {
+    /// The number itself, which names the place of the buffer in a [`Layout`](crate::Layout).
+    pub fn number(&self) -> u16
+        ensures { result ≡ self.now }
+    {
+        self.number
+    }
+}
+
+/// The receive buffers that nobody else owns, by their numbers.
+///
+/// It is made with all numbers below a count. Each is in it or out, at the one owner to whom it was given.
+#[derive(Drop)]
+pub struct Pool {
+    free: Vec<BufId>,
+    buffers: u16,
+}
+
+impl Model for Pool {
+    ghost use Rattle.dma_memory.specs.Numbers.{Numbers};
+
+    ghost Value = { Numbers };
+
+    ghost use Rattle.dma_memory.specs.Pool.{numbers_of, IsSound};
+
+    ghost view = { numbers_of };
+
+    ghost invariant = { IsSound };
+}
+
+impl Pool {
+    /// A pool with all numbers below `buffers` in it.
+    ///
+    /// # Errors
+    ///
+    /// Want of memory alone.
+    pub fn new(alloc: Global, buffers: u16) -> Result<Pool, AllocError>
+        ensures buffers { IfOk result (λ pool. pool.buffers ≡ buffers) }
+        ensures all_in { IfOk result (λ pool. HasOneOwner buffers pool.free) }
+    {
+        let mut free = Vec::with_capacity(alloc, usize::from(buffers))?;
+        for number in 0..buffers {
+            free.push(BufId { number })?;
+        }
+        Ok(Pool { free, buffers })
+    }
+
+    /// How many numbers are in the pool.
+    pub fn len(&self) -> u16
+        ensures count { result ≡ length self.now.free }
+        ensures most { result ≤ self.now.buffers }
+    {
+        self.free.len() as u16
+    }
+
+    /// Whether no number is in the pool.
+    pub fn is_empty(&self) -> bool
+        ensures { IsTrue result ↔ (self.now.free ≡ []) }
+    {
+        self.free.is_empty()
+    }
+
+    /// Takes a number out of the pool; `None` exactly where the pool is empty. Which of its numbers that is, is left
+    /// open.
+    pub fn take(&mut self) -> Option<BufId>
+        ensures none { IsNone result ↔ (self.old.free ≡ []) }
+        ensures taken { IfSome result (λ number. HaveSameNumbers self.old.free (number ∷ self.new.free)) }
+        ensures known { IfSome result (λ number. number < self.old.buffers) }
+        ensures out { IfSome result (λ number. copies number self.new.free ≡ 0) }
+        ensures stays { IfNone result (self.new ≡ self.old) }
+        ensures buffers { self.new.buffers ≡ self.old.buffers }
+    {
+        self.free.pop()
+    }
+
+    /// Puts a number of this pool that is out back into it. It takes no memory and never fails.
+    pub fn give(&mut self, buffer: BufId)
+        requires known { buffer < self.old.buffers }
+        requires out { copies buffer self.old.free ≡ 0 }
+        ensures given { HaveSameNumbers (buffer ∷ self.old.free) self.new.free }
+        ensures buffers { self.new.buffers ≡ self.old.buffers }
+    {
+        self.free.push(buffer).unwrap();
+    }
+}
