@@ -1,5 +1,5 @@
 /* Loaded before the C library, refuses one allocation of a program: the one whose number, from 1 on, stands in the environment's
-   variable REFUSE. */
+   variable REFUSE. The program's allocator calls malloc and realloc alone; tests/run looks that it names no other such function. */
 #define _GNU_SOURCE
 #include <dlfcn.h>
 #include <stddef.h>

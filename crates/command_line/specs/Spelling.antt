@@ -1,5 +1,5 @@
--- Which texts spell an address, a group, a number and a VLAN. All of it is own, and the same as in scenario files, but for the
--- meaning of the group bit and the width of a VLAN identifier.
+-- Which texts spell an address, a group, a number and a VLAN. All of it is own, but for the meaning of the group bit and the
+-- width of a VLAN identifier.
 use Rattle.std.specs.Prelude.{◌≡◌, ◌<◌, ◌≤◌, ◌+◌, ◌*◌, ℕ, List, length, slice_index, IsBitSet}
 use Rattle.std.specs.Char.{digit_value}
 use Rattle.std.specs.Str.Parse.{IsNumeral, digits_value}

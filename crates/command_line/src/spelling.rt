@@ -1,4 +1,4 @@
-//! The texts of addresses, groups and VLANs, as options and scenario files write them.
+//! The texts of addresses, groups and VLANs, as options write them.
 ghost use Rattle.std.specs.Prelude.{◌≡◌, ◌≤◌, ◌+◌, ◌*◌, ℕ, List, IfSome, IfNone};
 ghost use Rattle.std.specs.Option.{SomeIff};
 ghost use Rattle.command_line.specs.Spelling.{IsHexadecimalDigit, SpellsAddress, SpellsByte};

@@ -58,7 +58,7 @@ control_value phy = if phy.negotiation_enabled then 0x1000 else 0
 abbrev pub status_value : PhyState → ℕ
 status_value phy = if link_is_up phy then (if phy.latched_low then 0x20 else 0x24) else 0
 
--- What a register reads: control, status, the two identifiers (22.2.4.3), and 0 (own).
+-- What a register reads: control, status, the two identifiers (22.2.4.3.1), and 0 (own).
 abbrev pub read_value : ℕ → PhyState → ℕ
 read_value register phy =
     if register == 0 then control_value phy else

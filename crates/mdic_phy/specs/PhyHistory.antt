@@ -82,8 +82,8 @@ status_behind link events = read_value 1 (phy_behind link events)
 abbrev pub where_up : Link → List PhyEvent → ℕ → ℕ
 where_up link events value = if link_is_up (phy_behind link events) then value else 0
 
--- A read of the status register has bit 2 exactly where the link is up and hasn't been taken down since the read before it
--- (22.2.4.2, "Link Status": latched low until read); and bit 5 exactly where the link is up.
+-- A read of the status register has bit 2 exactly where the link is up, the register was read before, and neither a reset nor a
+-- restart came since that read (22.2.4.2, "Link Status": latched low until read); and bit 5 exactly where the link is up.
 pub record LatchByHistory : Type 0 where
   -- The first read has no bit 2.
   pub never_read : (link : Link) (all : List PhyEvent) → HasNo is_status_read all → status_behind link all ≡ where_up link all 0x20

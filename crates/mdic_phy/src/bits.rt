@@ -47,7 +47,8 @@ pub(crate) struct Status(u16);
 
 bitflag_items! {
     impl Status: u16 {
-        /// The link is up, and was not lost since the register was last read.
+        /// The link is up, the register was read before, and neither a reset nor a restart came
+        /// since that read.
         const LINK = 1 << 2;
         /// Autonegotiation is complete.
         const NEGOTIATED = 1 << 5;

@@ -9,8 +9,9 @@ pub fn link_by_history()
     ensures { LinkByHistory }
 {}
 
-/// What the status register reads, by the history alone: bit 2 exactly where the link is up and
-/// was not taken down since the read of the register before.
+/// What the status register reads, by the history alone: bit 2 exactly where the link is up, the
+/// register was read before, and neither a reset nor a restart came since that read; and bit 5
+/// exactly where the link is up.
 pub fn latch_by_history()
     ensures { LatchByHistory }
 {}

@@ -92,22 +92,22 @@ fn borrowed<'a>(alloc: Global, words: &'a [String]) -> Result<Vec<&'a str>, Faul
     Ok(texts)
 }
 
-/// Tells a fault on standard error.
-fn tell<R: Eprint>(rt: &R, fault: &Fault) -> io::Result<ExitCode> {
-    eprintln!(rt; "nicbench: {fault}")?;
-    Ok(ExitCode::from(fault.status()))
+/// Tells a fault on standard error. The status is the fault's also where standard error takes nothing.
+fn tell<R: Eprint>(rt: &R, fault: &Fault) -> ExitCode {
+    let _ = eprintln!(rt; "nicbench: {fault}");
+    ExitCode::from(fault.status())
 }
 
 /// Tells why the words were refused: the text for words is whole, that for memory is a fault's.
-fn tell_line<R: Eprint>(rt: &R, error: &LineError<'_>) -> io::Result<ExitCode> {
-    match error {
-        LineError::Memory => eprintln!(rt; "nicbench: {error}")?,
-        LineError::Words(_) | LineError::Value(_) => eprint!(rt; "{error}")?,
-    }
-    Ok(ExitCode::from(error.status()))
+fn tell_line<R: Eprint>(rt: &R, error: &LineError<'_>) -> ExitCode {
+    let _ = match error {
+        LineError::Memory => eprintln!(rt; "nicbench: {error}"),
+        LineError::Words(_) | LineError::Value(_) => eprint!(rt; "{error}"),
+    };
+    ExitCode::from(error.status())
 }
 
-fn main(rt: HostRuntime) -> io::Result<ExitCode> {
+fn main(rt: HostRuntime) -> ExitCode {
     let words = match words(&rt) {
         Ok(words) => words,
         Err(fault) => return tell(&rt, &fault),
@@ -122,7 +122,7 @@ fn main(rt: HostRuntime) -> io::Result<ExitCode> {
     };
     let Job::Pass(job) = job;
     match run_pass(&rt, &job.filter, job.input, job.output) {
-        Ok(()) => Ok(ExitCode::SUCCESS),
+        Ok(()) => ExitCode::SUCCESS,
         Err(fault) => tell(&rt, &fault),
     }
 }

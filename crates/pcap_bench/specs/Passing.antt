@@ -47,7 +47,7 @@ is_kept illegal = false
 is_kept filtered = false
 is_kept kept = true
 
--- the frames that are kept, padded, each with its place in the trace, from n on, as its time
+-- the frames that are kept, padded, each with its number among all frames, from n on, as its time
 abbrev pub kept_from : ℕ → List (List ℕ) → List Fate → List Timed
 kept_from n [] ts = []
 kept_from n (f ∷ fs) [] = []

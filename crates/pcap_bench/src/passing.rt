@@ -104,7 +104,8 @@ pub fn pass_watched<W: Sink, L: Watch>(
 }
 
 /// Takes each frame of a trace that can be sent and that a receive filter passes through a receive ring of 8 descriptors in a host's
-/// memory, and writes it, padded to 60 bytes by zeros, with its place in the trace (from 0) as its time in microseconds.
+/// memory, and writes it, padded to 60 bytes by zeros, with its number among the trace's frames (from 0; packets that were captured in
+/// part don't count) as its time in microseconds.
 ///
 /// Frames below 14 or above 1,518 bytes are counted as illegal; of the others, the filter is asked of the padded frame. It has the
 /// options' address as its one exact address, the number of the options' group (RCTL.MO 00) as the one number of its group table, and

@@ -126,8 +126,8 @@ impl Ring {
         Ok(Ring { memory, head: 0 })
     }
 
-    /// The adapter's part: writes a frame of 14 to 1,518 bytes, padded, to the buffer that the descriptor at the head names, and the
-    /// descriptor back.
+    /// The adapter's part: writes a frame of at most 1,518 bytes, padded to 60, to the buffer that the descriptor at the head names, and
+    /// the descriptor back.
     pub fn deliver(&mut self, frame: &[u8])
         requires { length frame.now ≤ 1518 }
         ensures { IsFinished self.new (padded frame.now) }

@@ -269,7 +269,7 @@ fn a_skipped_and_a_cut_packet_are_told(rt: HostRuntime) -> Result<(), Fail> {
     Ok(())
 }
 
-/// A sink whose writes fail once so many bytes have gone.
+/// A sink that takes so many writes, and fails at each further one.
 #[derive(Drop)]
 struct FailingSink {
     taken: VecSink,

@@ -13,9 +13,9 @@ pub struct Ctrl(pub u32);
 
 bitflag_items! {
     impl Ctrl: u32 {
-        /// Full duplex.
+        /// Full duplex. It is kept and has no effect.
         const FD = 1 << 0;
-        /// Automatic speed detection.
+        /// Automatic speed detection. It is kept and has no effect.
         const ASDE = 1 << 5;
         /// Set link up.
         const SLU = 1 << 6;

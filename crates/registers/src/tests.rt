@@ -1,4 +1,4 @@
-// Rows worked out apart, and each public call once.
+// Worked examples, and each public call once.
 
 use crate::{Cause, Causes, Counter, Ctrl, GroupOffset, Rctl, Speed, Status, Tctl, sets_of_places};
 use bitflags::Flags;

@@ -1,9 +1,9 @@
-// Rows worked out apart, and each public call once.
+// Worked examples, and each public call once.
 
 use crate::{Filter, hash_of, sets_of_registers};
 use registers::GroupOffset;
 
-/// The bits of RCTL that the rows set.
+/// The bits of RCTL that the examples set.
 const UPE: u32 = 1 << 3;
 
 const MPE: u32 = 1 << 4;
