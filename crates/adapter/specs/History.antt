@@ -2,24 +2,33 @@
 use Rattle.std.specs.Prelude.{◌≡◌, ◌==◌, ◌&&◌, ◌||◌, ℕ, Bool, true, false, List, [], ◌∷◌, ◌++◌, Some, bit_and}
 use Rattle.std.specs.List.{list_any}
 use Rattle.mdic_phy.specs.declared.phy.Link.{Link}
+use Rattle.rx_engine.specs.declared.arrival.Fate.{Fate}
 use Rattle.adapter.specs.declared.register.Register.{Register}
-use Rattle.adapter.specs.declared.register.Register.TheVariants.{Ctrl}
+use Rattle.adapter.specs.declared.register.Register.TheVariants.{Ctrl, Receive, Transmit}
+use Rattle.adapter.specs.declared.register.RingRegister.TheVariants.{Head}
 use Rattle.adapter.specs.declared.step.StepKind.{StepKind}
+use Rattle.adapter.specs.declared.step.StepKind.TheVariants.{TxTake, RxData}
+use Rattle.adapter.specs.declared.step.Stepped.{Stepped}
+use Rattle.adapter.specs.declared.step.Stepped.TheVariants.{Took, Moved}
+use Rattle.adapter.specs.Receiving.{after_arrive}
 use Rattle.adapter.specs.Registers.{answer_at, after_read, after_write, is_reset, new_adapter}
 use Rattle.adapter.specs.State.{AdapterState}
 use Rattle.adapter.specs.Steps.{after_step}
 use Rattle.adapter.specs.Table.{IsInTable, row_of}
 
--- What may come to an adapter: a read at an offset, a write of a word at an offset, and a step of its own.
+-- What may come to an adapter: a read at an offset, a write of a word at an offset, a step of its own, with its answer and the memory that it
+-- was given, and a frame from the wire, with its fate.
 pub data Event : Type 0 where
   Read : ℕ → Event
   Write : ℕ → ℕ → Event
-  Step : StepKind → Event
+  Step : StepKind → Stepped → List ℕ → Event
+  Arrive : Fate → List ℕ → Event
 
 abbrev pub after_event : Event → AdapterState → AdapterState
 after_event (Read offset) state = after_read offset state
 after_event (Write offset value) state = after_write offset value state
-after_event (Step kind) state = after_step kind state
+after_event (Step kind answer memory) state = after_step kind answer memory state
+after_event (Arrive fate frame) state = after_arrive fate frame state
 
 -- The adapter behind a list of events, the oldest first, by the steps of the calls.
 abbrev pub after_events : List Event → AdapterState → AdapterState
@@ -30,13 +39,21 @@ after_events (event ∷ later) state = after_events later (after_event event sta
 abbrev pub is_reset_event : Event → Bool
 is_reset_event (Read offset) = false
 is_reset_event (Write offset value) = offset == (row_of Ctrl).offset && is_reset Ctrl value
-is_reset_event (Step kind) = false
+is_reset_event (Step kind answer memory) = false
+is_reset_event (Arrive fate frame) = false
 
--- The register at this offset is written, or all are reset.
+-- A step of this kind with this answer moves the head of a ring on, which stands at this offset.
+abbrev pub moves_head : ℕ → StepKind → Stepped → Bool
+moves_head place TxTake Took = place == (row_of (Transmit Head)).offset
+moves_head place RxData Moved = place == (row_of (Receive Head)).offset
+moves_head place kind answer = false
+
+-- The register at this offset is written, moved on by a step, or reset.
 abbrev pub sets_register : ℕ → Event → Bool
 sets_register place (Read offset) = false
 sets_register place (Write offset value) = offset == place || is_reset_event (Write offset value)
-sets_register place (Step kind) = false
+sets_register place (Step kind answer memory) = moves_head place kind answer
+sets_register place (Arrive fate frame) = false
 
 -- No event of the list sets the register at this offset.
 abbrev pub NoneSets : ℕ → List Event → Type 0

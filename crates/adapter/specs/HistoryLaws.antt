@@ -1,284 +1,30 @@
--- The law of a register's history, proved, and that every event leaves an adapter.
-use Rattle.std.proofs.Common.{◌≡◌, ◌≢◌, ◌%◌, ◌==◌, ◌&&◌, ℕ, Bool, true, false, List, [], ◌∷◌, ◌++◌, Option, Some, None, refl, sym, ◌∙◌, ap, subst, if◌then◌else◌, arith, length-set}
+-- The law of a register's history, proved.
+use Rattle.std.proofs.Common.{◌≡◌, ◌≢◌, ◌==◌, ◌&&◌, ℕ, Bool, true, false, List, [], ◌∷◌, ◌++◌, Option, Some, None, refl, sym, ◌∙◌, ap, subst, if◌then◌else◌}
 use Rattle.std.specs.List.{list_any}
-use Rattle.std.proofs.lemmas.Bool.{and_parts, eq-eqb, eqb-true, false≢true, leb-true, or_parts}
+use Rattle.std.proofs.lemmas.Bool.{and_parts, eq-eqb, eqb-true, false≢true, or_parts}
 use Rattle.mdic_phy.specs.declared.mdic.Ticked.{Ticked}
-use Rattle.mdic_phy.specs.declared.phy.Link.{Link}
 use Rattle.mdic_phy.specs.Mdic as mdi
 use Rattle.mdic_phy.specs.Phy.{new_phy}
-use Rattle.registers.specs.Bits.{IsSubset, union}
-use Rattle.registers.specs.Kept.{all_causes}
-use Rattle.registers.specs.Laws.{IsSubset-intersection, IsSubset-masked, IsSubset-union}
+use Rattle.rx_engine.specs.declared.arrival.Fate.{Fate}
+use Rattle.rx_engine.specs.declared.arrival.Fate.TheVariants.{Missed, Stored}
 use Rattle.adapter.specs.declared.register.Register.{Register}
-use Rattle.adapter.specs.declared.register.Register.TheVariants.{Ctrl, Status, Eerd, Mdic, Icr, Ics, Ims, Imc, Pba, Mpc, Gprc, Gptc, Rnbc, Mta, Ral, Rah, Vfta}
+use Rattle.adapter.specs.declared.register.Register.TheVariants.{Ctrl, Status, Eerd, Mdic, Icr, Pba, Receive, Transmit, Mpc, Gprc, Gptc, Rnbc}
 use Rattle.adapter.specs.declared.step.StepKind.{StepKind}
-use Rattle.adapter.specs.declared.step.StepKind.TheVariants.{EepromTick, PhyTick}
+use Rattle.adapter.specs.declared.register.RingRegister.TheVariants.{BaseLow, BaseHigh, Length, Head, Tail}
+use Rattle.adapter.specs.declared.step.StepKind.TheVariants.{TxTake, TxPut, RxData, RxDone, EepromTick, PhyTick}
+use Rattle.adapter.specs.declared.step.Stepped.{Stepped}
+use Rattle.adapter.specs.declared.step.Stepped.TheVariants.{Took, Put, Moved, Done, Fault}
 use Rattle.adapter.specs.AccessLaws.{Touches, link_shown, causes_set, mask_cleared}
-use Rattle.adapter.specs.History.{Event, Read, Write, Step, after_event, after_events, is_reset_event, sets_register, NoneSets, PlainByHistory}
-use Rattle.adapter.specs.PacketBuffer.{IsAllocation, allocation_written, is_allocation}
+use Rattle.adapter.specs.AdapterLaws.{IsAdapter-after_events, IsAdapter-new}
+use Rattle.adapter.specs.History.{Event, Read, Write, Step, Arrive, after_event, after_events, is_reset_event, moves_head, sets_register, NoneSets, PlainByHistory}
 use Rattle.adapter.specs.Registers.{after_reset, after_write, answer, answer_at, answer_of, by_row, is_reset, left_by_read, left_by_write, new_adapter, read_of, write_of}
 use Rattle.adapter.specs.RegisterLaws.{answer-at_reset, others_stay_at_write, plain_reads_back}
-use Rattle.adapter.specs.State.{AdapterState, CausesAlone, CountersFit, IsAdapter}
-use Rattle.adapter.specs.Steps.{after_phy_told, causes_told, after_step}
+use Rattle.adapter.specs.State.{AdapterState}
+use Rattle.adapter.specs.Receiving.{after_arrive, after_data, after_done}
+use Rattle.adapter.specs.Steps.{after_eeprom_tick, after_phy_told, after_step}
+use Rattle.adapter.specs.Transmitting.{after_put, after_take}
 use Rattle.adapter.specs.Table.{StandsAt, register_at, row_of}
 use Rattle.adapter.specs.TableLaws.{register_at-only, register_at-there}
-
--- Every event leaves an adapter.
-
-IsAllocation-written : (value kilobytes : ℕ) → IsAllocation kilobytes → IsAllocation (allocation_written value kilobytes)
-IsAllocation-written value kilobytes allocation =
-    by_test (is_allocation (value % 65536)) (λ passes. passes)
-  where
-    by_test : (test : Bool) → (test ≡ true → is_allocation (value % 65536) ≡ true) → IsAllocation (if test then value % 65536 else kilobytes)
-    by_test true passes =
-        let least = and_parts _ _ (passes refl) in
-        let most = and_parts _ _ least.1 in
-        record { least = leb-true 2 _ least.0; most = leb-true _ 48 most.0; even = eqb-true _ 0 most.1 }
-    by_test false passes = allocation
-
-no_counts : CountersFit 0 0 0 0
-no_counts = record { missed = omega arith; received = omega arith; transmitted = omega arith; no_buffers = omega arith }
-
-no_causes : CausesAlone 0 0
-no_causes = record { recorded_causes = refl; masked_causes = refl }
-
-pub IsAdapter-at_reset : (state : AdapterState) → IsAdapter state → IsAdapter (after_reset state)
-IsAdapter-at_reset state adapter =
-    record {
-      tables = record { ral_entries = refl; rah_entries = refl; mta_words = refl; vfta_words = refl };
-      allocation = adapter.allocation;
-      causes = no_causes;
-      counters = no_counts;
-    }
-
-pub IsAdapter-new : (words : List ℕ) (link : Link) → IsAdapter (new_adapter words link)
-IsAdapter-new words link =
-    record {
-      tables = record { ral_entries = refl; rah_entries = refl; mta_words = refl; vfta_words = refl };
-      allocation = record { least = omega arith; most = omega arith; even = refl };
-      causes = no_causes;
-      counters = no_counts;
-    }
-
-IsAdapter-by_row : (register : Register) (value : ℕ) (state : AdapterState) → IsAdapter state → IsAdapter (by_row (row_of register).kept register value state)
-IsAdapter-by_row Pba value state adapter =
-    record {
-      tables = adapter.tables;
-      allocation = IsAllocation-written value state.receive_kilobytes adapter.allocation;
-      causes = adapter.causes;
-      counters = adapter.counters;
-    }
-IsAdapter-by_row (Mta word) value state adapter =
-    let tables = adapter.tables in
-    record {
-      tables = record {
-        ral_entries = tables.ral_entries;
-        rah_entries = tables.rah_entries;
-        mta_words = length-set state.filter.mta word _ ∙ tables.mta_words;
-        vfta_words = tables.vfta_words;
-      };
-      allocation = adapter.allocation;
-      causes = adapter.causes;
-      counters = adapter.counters;
-    }
-IsAdapter-by_row (Ral entry) value state adapter =
-    let tables = adapter.tables in
-    record {
-      tables = record {
-        ral_entries = length-set state.filter.ral entry _ ∙ tables.ral_entries;
-        rah_entries = tables.rah_entries;
-        mta_words = tables.mta_words;
-        vfta_words = tables.vfta_words;
-      };
-      allocation = adapter.allocation;
-      causes = adapter.causes;
-      counters = adapter.counters;
-    }
-IsAdapter-by_row (Rah entry) value state adapter =
-    let tables = adapter.tables in
-    record {
-      tables = record {
-        ral_entries = tables.ral_entries;
-        rah_entries = length-set state.filter.rah entry _ ∙ tables.rah_entries;
-        mta_words = tables.mta_words;
-        vfta_words = tables.vfta_words;
-      };
-      allocation = adapter.allocation;
-      causes = adapter.causes;
-      counters = adapter.counters;
-    }
-IsAdapter-by_row (Vfta word) value state adapter =
-    let tables = adapter.tables in
-    record {
-      tables = record {
-        ral_entries = tables.ral_entries;
-        rah_entries = tables.rah_entries;
-        mta_words = tables.mta_words;
-        vfta_words = length-set state.filter.vfta word _ ∙ tables.vfta_words;
-      };
-      allocation = adapter.allocation;
-      causes = adapter.causes;
-      counters = adapter.counters;
-    }
-IsAdapter-by_row Icr value state adapter =
-    record {
-      tables = adapter.tables;
-      allocation = adapter.allocation;
-      causes = record {
-        recorded_causes = IsSubset-intersection state.causes.recorded _ all_causes adapter.causes.recorded_causes;
-        masked_causes = adapter.causes.masked_causes;
-      };
-      counters = adapter.counters;
-    }
-IsAdapter-by_row Ics value state adapter =
-    record {
-      tables = adapter.tables;
-      allocation = adapter.allocation;
-      causes = record {
-        recorded_causes = IsSubset-union state.causes.recorded _ all_causes adapter.causes.recorded_causes (IsSubset-masked value all_causes);
-        masked_causes = adapter.causes.masked_causes;
-      };
-      counters = adapter.counters;
-    }
-IsAdapter-by_row Ims value state adapter =
-    record {
-      tables = adapter.tables;
-      allocation = adapter.allocation;
-      causes = record {
-        recorded_causes = adapter.causes.recorded_causes;
-        masked_causes = IsSubset-union state.causes.mask _ all_causes adapter.causes.masked_causes (IsSubset-masked value all_causes);
-      };
-      counters = adapter.counters;
-    }
-IsAdapter-by_row Imc value state adapter =
-    record {
-      tables = adapter.tables;
-      allocation = adapter.allocation;
-      causes = record {
-        recorded_causes = adapter.causes.recorded_causes;
-        masked_causes = IsSubset-intersection state.causes.mask _ all_causes adapter.causes.masked_causes;
-      };
-      counters = adapter.counters;
-    }
-IsAdapter-by_row _ value state adapter =
-    record { tables = adapter.tables; allocation = adapter.allocation; causes = adapter.causes; counters = adapter.counters }
-
-pub IsAdapter-written : (register : Register) (value : ℕ) (state : AdapterState) → IsAdapter state → IsAdapter (write_of register value state)
-IsAdapter-written register value state adapter =
-    by_test (is_reset register value)
-  where
-    by_test : (test : Bool) → IsAdapter (if test then after_reset state else by_row (row_of register).kept register value state)
-    by_test true = IsAdapter-at_reset state adapter
-    by_test false = IsAdapter-by_row register value state adapter
-
-pub IsAdapter-read : (register : Register) (state : AdapterState) → IsAdapter state → IsAdapter (read_of register state)
-IsAdapter-read Icr state adapter =
-    record {
-      tables = adapter.tables;
-      allocation = adapter.allocation;
-      causes = record { recorded_causes = refl; masked_causes = adapter.causes.masked_causes };
-      counters = adapter.counters;
-    }
-IsAdapter-read Mpc state adapter =
-    let counters = adapter.counters in
-    record {
-      tables = adapter.tables;
-      allocation = adapter.allocation;
-      causes = adapter.causes;
-      counters = record {
-        missed = omega arith;
-        received = counters.received;
-        transmitted = counters.transmitted;
-        no_buffers = counters.no_buffers;
-      };
-    }
-IsAdapter-read Gprc state adapter =
-    let counters = adapter.counters in
-    record {
-      tables = adapter.tables;
-      allocation = adapter.allocation;
-      causes = adapter.causes;
-      counters = record {
-        missed = counters.missed;
-        received = omega arith;
-        transmitted = counters.transmitted;
-        no_buffers = counters.no_buffers;
-      };
-    }
-IsAdapter-read Gptc state adapter =
-    let counters = adapter.counters in
-    record {
-      tables = adapter.tables;
-      allocation = adapter.allocation;
-      causes = adapter.causes;
-      counters = record {
-        missed = counters.missed;
-        received = counters.received;
-        transmitted = omega arith;
-        no_buffers = counters.no_buffers;
-      };
-    }
-IsAdapter-read Rnbc state adapter =
-    let counters = adapter.counters in
-    record {
-      tables = adapter.tables;
-      allocation = adapter.allocation;
-      causes = adapter.causes;
-      counters = record {
-        missed = counters.missed;
-        received = counters.received;
-        transmitted = counters.transmitted;
-        no_buffers = omega arith;
-      };
-    }
-IsAdapter-read _ state adapter =
-    record { tables = adapter.tables; allocation = adapter.allocation; causes = adapter.causes; counters = adapter.counters }
-
--- what a tick tells are causes
-causes_told-alone : (ticked : Ticked) → IsSubset (causes_told ticked) all_causes
-causes_told-alone ticked = by_tests ticked.link_changed ticked.access_complete
-  where
-    by_tests : (changed complete : Bool) → IsSubset (union (if changed then 0x4 else 0) (if complete then 0x200 else 0)) all_causes
-    by_tests true true = refl
-    by_tests true false = refl
-    by_tests false true = refl
-    by_tests false false = refl
-
-IsAdapter-told : (told : Option Ticked) (state : AdapterState) → IsAdapter state → IsAdapter (after_phy_told told state)
-IsAdapter-told (Some ticked) state adapter =
-    record {
-      tables = adapter.tables;
-      allocation = adapter.allocation;
-      causes = record {
-        recorded_causes = IsSubset-union state.causes.recorded (causes_told ticked) all_causes adapter.causes.recorded_causes (causes_told-alone ticked);
-        masked_causes = adapter.causes.masked_causes;
-      };
-      counters = adapter.counters;
-    }
-IsAdapter-told None state adapter = adapter
-
-pub IsAdapter-stepped : (kind : StepKind) (state : AdapterState) → IsAdapter state → IsAdapter (after_step kind state)
-IsAdapter-stepped EepromTick state adapter =
-    record { tables = adapter.tables; allocation = adapter.allocation; causes = adapter.causes; counters = adapter.counters }
-IsAdapter-stepped PhyTick state adapter = IsAdapter-told (mdi.told state.mdic state.phy) state adapter
-
-pub IsAdapter-after_event : (event : Event) (state : AdapterState) → IsAdapter state → IsAdapter (after_event event state)
-IsAdapter-after_event (Read offset) state adapter = by_case (register_at offset)
-  where
-    by_case : (found : Option Register) → IsAdapter (left_by_read found state)
-    by_case (Some register) = IsAdapter-read register state adapter
-    by_case None = adapter
-IsAdapter-after_event (Write offset value) state adapter = by_case (register_at offset)
-  where
-    by_case : (found : Option Register) → IsAdapter (left_by_write found value state)
-    by_case (Some register) = IsAdapter-written register value state adapter
-    by_case None = adapter
-IsAdapter-after_event (Step kind) state adapter = IsAdapter-stepped kind state adapter
-
-pub IsAdapter-after_events : (events : List Event) (state : AdapterState) → IsAdapter state → IsAdapter (after_events events state)
-IsAdapter-after_events [] state adapter = adapter
-IsAdapter-after_events (event ∷ later) state adapter =
-    IsAdapter-after_events later (after_event event state) (IsAdapter-after_event event state adapter)
 
 -- The EEPROM's words stay.
 
@@ -301,6 +47,47 @@ image-told : (told : Option Ticked) (state : AdapterState) → (after_phy_told t
 image-told (Some ticked) state = refl
 image-told None state = refl
 
+-- What the engines leave: EEPROM, EERD, MDIC and the PHY.
+pub record LeavesParts (before after : AdapterState) : Type 0 where
+  pub image : after.image ≡ before.image
+  pub eerd : after.eerd ≡ before.eerd
+  pub mdic : after.mdic ≡ before.mdic
+  pub phy : after.phy ≡ before.phy
+
+leaves_all : (state : AdapterState) → LeavesParts state state
+leaves_all state = record { image = refl; eerd = refl; mdic = refl; phy = refl }
+
+pub parts-took : (answer : Stepped) (memory : List ℕ) (state : AdapterState) → LeavesParts state (after_take answer memory state)
+parts-took Took memory state = record { image = refl; eerd = refl; mdic = refl; phy = refl }
+parts-took Fault memory state = record { image = refl; eerd = refl; mdic = refl; phy = refl }
+parts-took _ memory state = leaves_all state
+
+pub parts-put : (answer : Stepped) (state : AdapterState) → LeavesParts state (after_put answer state)
+parts-put (Put frame) state = record { image = refl; eerd = refl; mdic = refl; phy = refl }
+parts-put _ state = leaves_all state
+
+pub parts-moved : (answer : Stepped) (state : AdapterState) → LeavesParts state (after_data answer state)
+parts-moved Moved state = record { image = refl; eerd = refl; mdic = refl; phy = refl }
+parts-moved Fault state = record { image = refl; eerd = refl; mdic = refl; phy = refl }
+parts-moved _ state = leaves_all state
+
+pub parts-done : (answer : Stepped) (state : AdapterState) → LeavesParts state (after_done answer state)
+parts-done Done state = record { image = refl; eerd = refl; mdic = refl; phy = refl }
+parts-done _ state = leaves_all state
+
+pub parts-arrived : (fate : Fate) (frame : List ℕ) (state : AdapterState) → LeavesParts state (after_arrive fate frame state)
+parts-arrived Missed frame state = record { image = refl; eerd = refl; mdic = refl; phy = refl }
+parts-arrived Stored frame state = record { image = refl; eerd = refl; mdic = refl; phy = refl }
+parts-arrived _ frame state = leaves_all state
+
+image-stepped : (kind : StepKind) (answer : Stepped) (memory : List ℕ) (state : AdapterState) → (after_step kind answer memory state).image ≡ state.image
+image-stepped TxTake answer memory state = (parts-took answer memory state).image
+image-stepped TxPut answer memory state = (parts-put answer state).image
+image-stepped RxData answer memory state = (parts-moved answer state).image
+image-stepped RxDone answer memory state = (parts-done answer state).image
+image-stepped EepromTick answer memory state = refl
+image-stepped PhyTick answer memory state = image-told (mdi.told state.mdic state.phy) state
+
 pub image-after_event : (event : Event) (state : AdapterState) → (after_event event state).image ≡ state.image
 image-after_event (Read offset) state = by_case (register_at offset)
   where
@@ -312,8 +99,8 @@ image-after_event (Write offset value) state = by_case (register_at offset)
     by_case : (found : Option Register) → (left_by_write found value state).image ≡ state.image
     by_case (Some register) = image-written register value state
     by_case None = refl
-image-after_event (Step EepromTick) state = refl
-image-after_event (Step PhyTick) state = image-told (mdi.told state.mdic state.phy) state
+image-after_event (Step kind answer memory) state = image-stepped kind answer memory state
+image-after_event (Arrive fate frame) state = (parts-arrived fate frame state).image
 
 pub image-after_events : (events : List Event) (state : AdapterState) → (after_events events state).image ≡ state.image
 image-after_events [] state = refl
@@ -344,9 +131,73 @@ plain-told Icr (Some ticked) kept state plain = cc
 plain-told _ (Some ticked) kept state plain = refl
 
 plain-eeprom : (register : Register) (kept : ℕ) (state : AdapterState) → (row_of register).kept ≡ Some kept
-    → answer register (after_step EepromTick state) ≡ answer register state
+    → answer register (after_eeprom_tick state) ≡ answer register state
 plain-eeprom Eerd kept state plain = cc
 plain-eeprom _ kept state plain = refl
+
+-- A place that isn't one's own.
+elsewhere : (place : ℕ) → ¬ ((place == place) ≡ false)
+elsewhere place none = false≢true (sym none ∙ eq-eqb place place refl)
+
+plain-took : (register : Register) (answered : Stepped) (memory : List ℕ) (kept : ℕ) (state : AdapterState) → (row_of register).kept ≡ Some kept
+    → moves_head (row_of register).offset TxTake answered ≡ false
+    → answer register (after_take answered memory state) ≡ answer register state
+plain-took (Transmit Head) Took memory kept state plain none = absurd (elsewhere 0x3810 none)
+plain-took (Transmit BaseLow) Took memory kept state plain none = refl
+plain-took (Transmit BaseHigh) Took memory kept state plain none = refl
+plain-took (Transmit Length) Took memory kept state plain none = refl
+plain-took (Transmit Tail) Took memory kept state plain none = refl
+plain-took Icr Took memory kept state plain none = cc
+plain-took _ Took memory kept state plain none = refl
+plain-took _ Fault memory kept state plain none = refl
+plain-took _ _ memory kept state plain none = refl
+
+plain-put : (register : Register) (answered : Stepped) (kept : ℕ) (state : AdapterState) → (row_of register).kept ≡ Some kept
+    → answer register (after_put answered state) ≡ answer register state
+plain-put Icr (Put frame) kept state plain = cc
+plain-put Gptc (Put frame) kept state plain = cc
+plain-put _ (Put frame) kept state plain = refl
+plain-put _ _ kept state plain = refl
+
+plain-moved : (register : Register) (answered : Stepped) (kept : ℕ) (state : AdapterState) → (row_of register).kept ≡ Some kept
+    → moves_head (row_of register).offset RxData answered ≡ false
+    → answer register (after_data answered state) ≡ answer register state
+plain-moved (Receive Head) Moved kept state plain none = absurd (elsewhere 0x2810 none)
+plain-moved (Receive BaseLow) Moved kept state plain none = refl
+plain-moved (Receive BaseHigh) Moved kept state plain none = refl
+plain-moved (Receive Length) Moved kept state plain none = refl
+plain-moved (Receive Tail) Moved kept state plain none = refl
+plain-moved Icr Moved kept state plain none = cc
+plain-moved _ Moved kept state plain none = refl
+plain-moved _ Fault kept state plain none = refl
+plain-moved _ _ kept state plain none = refl
+
+plain-done : (register : Register) (answered : Stepped) (kept : ℕ) (state : AdapterState) → (row_of register).kept ≡ Some kept
+    → answer register (after_done answered state) ≡ answer register state
+plain-done Icr Done kept state plain = cc
+plain-done Gprc Done kept state plain = cc
+plain-done _ Done kept state plain = refl
+plain-done _ _ kept state plain = refl
+
+plain-arrived : (register : Register) (fate : Fate) (frame : List ℕ) (kept : ℕ) (state : AdapterState) → (row_of register).kept ≡ Some kept
+    → answer register (after_arrive fate frame state) ≡ answer register state
+plain-arrived Icr Missed frame kept state plain = cc
+plain-arrived Mpc Missed frame kept state plain = cc
+plain-arrived Rnbc Missed frame kept state plain = cc
+plain-arrived _ Missed frame kept state plain = refl
+plain-arrived Rnbc Stored frame kept state plain = cc
+plain-arrived _ Stored frame kept state plain = refl
+plain-arrived _ _ frame kept state plain = refl
+
+plain-stepped : (register : Register) (kind : StepKind) (answered : Stepped) (memory : List ℕ) (kept : ℕ) (state : AdapterState)
+    → (row_of register).kept ≡ Some kept → moves_head (row_of register).offset kind answered ≡ false
+    → answer register (after_step kind answered memory state) ≡ answer register state
+plain-stepped register TxTake answered memory kept state plain none = plain-took register answered memory kept state plain none
+plain-stepped register TxPut answered memory kept state plain none = plain-put register answered kept state plain
+plain-stepped register RxData answered memory kept state plain none = plain-moved register answered kept state plain none
+plain-stepped register RxDone answered memory kept state plain none = plain-done register answered kept state plain
+plain-stepped register EepromTick answered memory kept state plain none = plain-eeprom register kept state plain
+plain-stepped register PhyTick answered memory kept state plain none = plain-told register (mdi.told state.mdic state.phy) kept state plain
 
 -- a register that stands elsewhere than CTRL, or a word without RST, is no reset
 pub no_reset : (offset value : ℕ) (register : Register) → (row_of register).offset ≡ offset → is_reset_event (Write offset value) ≡ false
@@ -382,8 +233,8 @@ plain-event (Read offset) register kept state plain none = by_case (register_at 
     by_case (Some read) = plain-read read register kept state plain
     by_case None = refl
 plain-event (Write offset value) register kept state plain none = plain-written offset value register kept state plain none
-plain-event (Step EepromTick) register kept state plain none = plain-eeprom register kept state plain
-plain-event (Step PhyTick) register kept state plain none = plain-told register (mdi.told state.mdic state.phy) kept state plain
+plain-event (Step kind answered memory) register kept state plain none = plain-stepped register kind answered memory kept state plain none
+plain-event (Arrive fate frame) register kept state plain none = plain-arrived register fate frame kept state plain
 
 -- and so does a list of them
 pub plain-events : (events : List Event) (register : Register) (kept : ℕ) (state : AdapterState) → (row_of register).kept ≡ Some kept
@@ -409,7 +260,8 @@ plain-not_pba register kept plain same =
 -- what a reset event leaves
 pub reset-event : (event : Event) (state : AdapterState) → is_reset_event event ≡ true → after_event event state ≡ after_reset state
 reset-event (Read offset) state resets = absurd (false≢true resets)
-reset-event (Step kind) state resets = absurd (false≢true resets)
+reset-event (Step kind answer memory) state resets = absurd (false≢true resets)
+reset-event (Arrive fate frame) state resets = absurd (false≢true resets)
 reset-event (Write offset value) state resets =
     let parts = and_parts (offset == 0) (is_reset Ctrl value) resets in
     let there : offset ≡ 0 = eqb-true offset 0 parts.0 in

@@ -10,7 +10,7 @@ use Rattle.mdic_phy.specs.Phy.{new_phy}
 use Rattle.adapter.specs.declared.register.Register.{Register}
 use Rattle.adapter.specs.declared.register.Register.TheVariants.{Ctrl, Eerd, Mdic}
 use Rattle.adapter.specs.declared.step.StepKind.TheVariants.{EepromTick, PhyTick}
-use Rattle.adapter.specs.History.{Event, Read, Write, Step, after_events, is_reset_event, reads}
+use Rattle.adapter.specs.History.{Event, Read, Write, Step, Arrive, after_events, is_reset_event, reads}
 use Rattle.adapter.specs.Registers.{is_reset, new_adapter}
 use Rattle.adapter.specs.Table.{register_at, row_of}
 
@@ -23,8 +23,9 @@ eerd_written found value = []
 abbrev pub eerd_operation : Event → List eerd.Operation
 eerd_operation (Read offset) = []
 eerd_operation (Write offset value) = eerd_written (register_at offset) value
-eerd_operation (Step EepromTick) = eerd.Tick ∷ []
-eerd_operation (Step PhyTick) = []
+eerd_operation (Step EepromTick answer memory) = eerd.Tick ∷ []
+eerd_operation (Step kind answer memory) = []
+eerd_operation (Arrive fate frame) = []
 
 abbrev pub eerd_operations : List Event → List eerd.Operation
 eerd_operations [] = []
@@ -40,8 +41,9 @@ mdic_written found value = []
 abbrev pub mdic_event : Event → List MdicEvent
 mdic_event (Read offset) = []
 mdic_event (Write offset value) = mdic_written (register_at offset) value
-mdic_event (Step EepromTick) = []
-mdic_event (Step PhyTick) = mdic.Tick ∷ []
+mdic_event (Step PhyTick answer memory) = mdic.Tick ∷ []
+mdic_event (Step kind answer memory) = []
+mdic_event (Arrive fate frame) = []
 
 abbrev pub mdic_events : List Event → List MdicEvent
 mdic_events [] = []

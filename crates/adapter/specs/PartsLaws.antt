@@ -18,13 +18,13 @@ use Rattle.mdic_phy.specs.Phy.{PhyState, counted, is_counting, is_running, new_p
 use Rattle.mdic_phy.specs.Phy as phy
 use Rattle.adapter.specs.declared.register.Register.{Register}
 use Rattle.adapter.specs.declared.register.Register.TheVariants.{Ctrl, Eerd, Mdic, Icr}
-use Rattle.adapter.specs.declared.step.StepKind.TheVariants.{EepromTick, PhyTick}
-use Rattle.adapter.specs.History.{Event, Read, Write, Step, after_event, after_events, is_reset_event}
-use Rattle.adapter.specs.HistoryLaws.{after_events-append, image-after_event, image-after_events, no_reset, reset-event}
+use Rattle.adapter.specs.declared.step.StepKind.TheVariants.{TxTake, TxPut, RxData, RxDone, EepromTick, PhyTick}
+use Rattle.adapter.specs.History.{Event, Read, Write, Step, Arrive, after_event, after_events, is_reset_event}
+use Rattle.adapter.specs.HistoryLaws.{LeavesParts, after_events-append, parts-arrived, parts-done, parts-moved, parts-put, parts-took, image-after_event, image-after_events, no_reset, reset-event}
 use Rattle.adapter.specs.Parts.{NoReset, PartsHaveTheirLaws, eerd_operation, eerd_operations, eerd_written, mdic_event, mdic_events, mdic_written}
 use Rattle.adapter.specs.Registers.{after_reset, answer_of, by_row, is_reset, left_by_read, left_by_write, new_adapter, read_of, write_of}
 use Rattle.adapter.specs.State.{AdapterState}
-use Rattle.adapter.specs.Steps.{after_phy_told}
+use Rattle.adapter.specs.Steps.{after_phy_told, after_phy_tick}
 use Rattle.adapter.specs.Table.{StandsAt, register_at, row_of}
 use Rattle.adapter.specs.TableLaws.{register_at-only, register_at-there}
 
@@ -51,7 +51,7 @@ phy-idle None value state none still =
     ap (λ (negotiation : Negotiation). record state { negotiation = negotiation }) (negotiation-still state.negotiation still)
 
 -- a tick of the adapter is one of MDIC, also where it has nothing to do
-both-ticked : (state : AdapterState) → both_of (after_event (Step PhyTick) state) ≡ after_mdic_events (mdic_event (Step PhyTick)) (both_of state)
+both-ticked : (state : AdapterState) → both_of (after_phy_tick state) ≡ after_mdic_events (Rattle.mdic_phy.specs.MdicHistory.Tick ∷ []) (both_of state)
 both-ticked state = by_test (mdi.has_work state.mdic state.phy) (λ none. none)
   where
     what : Ticked
@@ -85,6 +85,10 @@ both-read : (register : Register) (state : AdapterState) → both_of (read_of re
 both-read Icr state = refl
 both-read _ state = refl
 
+-- the engines leave both
+both-left : (before after : AdapterState) → LeavesParts before after → both_of after ≡ both_of before
+both-left before after left = rw (left.mdic, left.phy) refl
+
 both-event : (event : Event) (state : AdapterState) → both_of (after_event event state) ≡ after_mdic_events (mdic_event event) (both_of state)
 both-event (Read offset) state = by_case (register_at offset)
   where
@@ -96,8 +100,13 @@ both-event (Write offset value) state = by_case (register_at offset)
     by_case : (found : Option Register) → both_of (left_by_write found value state) ≡ after_mdic_events (mdic_written found value) (both_of state)
     by_case (Some register) = both-written register value state
     by_case None = refl
-both-event (Step EepromTick) state = refl
-both-event (Step PhyTick) state = both-ticked state
+both-event (Step TxTake answer memory) state = both-left state _ (parts-took answer memory state)
+both-event (Step TxPut answer memory) state = both-left state _ (parts-put answer state)
+both-event (Step RxData answer memory) state = both-left state _ (parts-moved answer state)
+both-event (Step RxDone answer memory) state = both-left state _ (parts-done answer state)
+both-event (Step EepromTick answer memory) state = refl
+both-event (Step PhyTick answer memory) state = both-ticked state
+both-event (Arrive fate frame) state = both-left state _ (parts-arrived fate frame state)
 
 -- one list of events of MDIC behind another
 after_mdic_events-append : (before after : List MdicEvent) (both : MdicAndPhy)
@@ -143,8 +152,13 @@ eerd-event (Write offset value) state none = by_case (register_at offset) (λ re
         (no_reset offset value register (stands register refl).there none)
         ∙ eerd-by_row register value state
     by_case None stands = refl
-eerd-event (Step EepromTick) state none = refl
-eerd-event (Step PhyTick) state none = eerd-told (told state.mdic state.phy) state
+eerd-event (Step TxTake answer memory) state none = (parts-took answer memory state).eerd
+eerd-event (Step TxPut answer memory) state none = (parts-put answer state).eerd
+eerd-event (Step RxData answer memory) state none = (parts-moved answer state).eerd
+eerd-event (Step RxDone answer memory) state none = (parts-done answer state).eerd
+eerd-event (Step EepromTick answer memory) state none = refl
+eerd-event (Step PhyTick answer memory) state none = eerd-told (told state.mdic state.phy) state
+eerd-event (Arrive fate frame) state none = (parts-arrived fate frame state).eerd
 
 pub eerd-events : (events : List Event) (state : AdapterState) → NoReset events
     → (after_events events state).eerd ≡ eerd.after_all state.image (eerd_operations events) state.eerd

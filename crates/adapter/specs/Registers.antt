@@ -8,6 +8,8 @@ use Rattle.mdic_phy.specs.Phy.{PhyState, link_is_up, new_phy}
 use Rattle.registers.specs.Bits.{union, difference}
 use Rattle.registers.specs.Kept.{causes_of, status_of_link_up}
 use Rattle.rx_filter.specs.Registers.{FilterRegisters}
+use Rattle.rx_engine.specs.Engine.{idle_engine}
+use Rattle.tx_engine.specs.Transmitter.{idle}
 use Rattle.adapter.specs.declared.register.Register.{Register}
 use Rattle.adapter.specs.declared.register.Register.TheVariants.{Ctrl, Status, Eerd, Mdic, Vet, Icr, Ics, Ims, Imc, Rctl, Tctl, Pba, Receive, Transmit, Mpc, Gprc, Gptc, Rnbc, Mta, Ral, Rah, Vfta}
 use Rattle.adapter.specs.PacketBuffer.{allocation_shown, allocation_written}
@@ -46,13 +48,16 @@ adapter_at_reset words phy kilobytes = record {
   received_packets = 0;
   transmitted_packets = 0;
   no_receive_buffers = 0;
+  receiver = idle_engine;
+  transmitter = idle;
 }
 
 -- an adapter after power-on: its PHY is new, and its packet buffer has 48 kilobytes for frames that are received
 abbrev pub new_adapter : List ℕ → Link → AdapterState
 new_adapter words link = adapter_at_reset words (new_phy link) 48
 
--- CTRL.RST leaves the PHY and PBA as they are, and gives every other register its value after a reset (own)
+-- CTRL.RST leaves the PHY and PBA as they are, gives every other register its value after a reset, empties both packet buffers, drops the
+-- frame in work and starts stopped engines again (own)
 abbrev pub after_reset : AdapterState → AdapterState
 after_reset state = adapter_at_reset state.image state.phy state.receive_kilobytes
 

@@ -1,6 +1,7 @@
 -- The five registers of a descriptor ring (3.2.6 "Receive Descriptor Queue Structure" and 3.4 "Transmit Descriptor Ring
 -- Structure"). That the other bits read 0 is own.
-use Rattle.std.specs.Prelude.{ℕ, bit_and}
+use Rattle.std.specs.Prelude.{◌+◌, ◌*◌, ◌^◌, ℕ, bit_and}
+use Rattle.descriptors.specs.declared.ring.Ring.{Ring}
 use Rattle.adapter.specs.declared.register.RingRegister.{RingRegister}
 use Rattle.adapter.specs.declared.register.RingRegister.TheVariants.{BaseLow, BaseHigh, Length, Head, Tail}
 use Rattle.adapter.specs.declared.ring.RingRegisters.{RingRegisters}
@@ -44,3 +45,12 @@ with_ring Tail number ring = record ring { tail = number }
 -- what a write of a word leaves
 abbrev pub ring_written : RingRegister → ℕ → RingRegisters → RingRegisters
 ring_written register value ring = with_ring register (bit_and value (ring_kept register)) ring
+
+-- the ring that these registers tell; the halves of its address are the high word and the low word
+abbrev pub ring_of : RingRegisters → Ring
+ring_of registers = record {
+  base = registers.base_high * 2 ^ 32 + registers.base_low;
+  bytes = registers.length_bytes;
+  head = registers.head;
+  tail = registers.tail;
+}

@@ -8,6 +8,8 @@ use Rattle.registers.specs.Kept.{all_causes}
 use Rattle.registers.specs.Counting.{greatest_count}
 use Rattle.registers.specs.Interrupts.{Interrupts}
 use Rattle.rx_filter.specs.Registers.{FilterRegisters}
+use Rattle.rx_engine.specs.Engine.{Engine}
+use Rattle.tx_engine.specs.Transmitter.{Transmitter}
 use Rattle.adapter.specs.declared.ring.RingRegisters.{RingRegisters}
 use Rattle.adapter.specs.PacketBuffer.{IsAllocation}
 
@@ -39,6 +41,10 @@ pub record AdapterState : Type 0 where
   pub transmitted_packets : ℕ
   -- RNBC
   pub no_receive_buffers : ℕ
+  -- the receive packet buffer, the frame in work, and whether a fault has stopped the engine
+  pub receiver : Engine
+  -- the transmit packet buffer, and whether a fault has stopped the engine
+  pub transmitter : Transmitter
 
 -- the sizes of the filter's tables
 pub record HasTables (ral rah mta vfta : List ℕ) : Type 0 where
@@ -59,7 +65,7 @@ pub record CausesAlone (recorded mask : ℕ) : Type 0 where
   pub recorded_causes : IsSubset recorded all_causes
   pub masked_causes : IsSubset mask all_causes
 
--- What holds of every adapter.
+-- What holds of the registers of every adapter.
 pub record IsAdapter (state : AdapterState) : Type 0 where
   pub tables : HasTables state.filter.ral state.filter.rah state.filter.mta state.filter.vfta
   pub allocation : IsAllocation state.receive_kilobytes

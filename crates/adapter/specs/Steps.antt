@@ -1,27 +1,28 @@
 -- The steps that an adapter takes by itself.
-use Rattle.std.specs.Prelude.{ℕ, Bool, Option, Some, None, if◌then◌else◌}
+use Rattle.std.specs.Prelude.{◌≡◌, ℕ, List, Bool, Option, Some, None, if◌then◌else◌}
 use Rattle.eeprom.specs.Eerd as eeprom
 use Rattle.mdic_phy.specs.declared.mdic.Ticked.{Ticked}
 use Rattle.mdic_phy.specs.Mdic as mdi
 use Rattle.registers.specs.Bits.{union}
 use Rattle.adapter.specs.declared.step.StepKind.{StepKind}
-use Rattle.adapter.specs.declared.step.StepKind.TheVariants.{EepromTick, PhyTick}
+use Rattle.adapter.specs.declared.step.StepKind.TheVariants.{TxTake, TxPut, RxData, RxDone, EepromTick, PhyTick}
 use Rattle.adapter.specs.declared.step.Stepped.{Stepped}
 use Rattle.adapter.specs.declared.step.Stepped.TheVariants.{Ticked as DidTick, Nothing}
+use Rattle.adapter.specs.Receiving.{DataAnswers, DataChangesOnly, DoneAnswers, DoneChangesOnly, after_data, after_done, memory_after_data_step, memory_after_done_step}
+use Rattle.adapter.specs.Recording.{with_causes}
 use Rattle.adapter.specs.State.{AdapterState}
+use Rattle.adapter.specs.Transmitting.{PutAnswers, PutChangesOnly, TakeAnswers, after_put, after_take, memory_after_put}
+
+-- Ticks.
 
 -- a read of the EEPROM that is pending ends with its word (13.4.4 "EEPROM Read Register")
 abbrev pub after_eeprom_tick : AdapterState → AdapterState
 after_eeprom_tick state = record state { eerd = eeprom.after_tick state.image state.eerd }
 
--- the causes that a tick of the PHY records, masked or not: LSC, bit 2, where the link came up, and MDAC, bit 9, where a
--- command has ended whose end is told (13.4.17 "Interrupt Cause Read Register")
+-- the causes that a tick of the PHY records: LSC, bit 2, where the link came up, and MDAC, bit 9, where a command has ended whose end is
+-- told (13.4.17 "Interrupt Cause Read Register")
 abbrev pub causes_told : Ticked → ℕ
 causes_told ticked = union (if ticked.link_changed then 0x4 else 0) (if ticked.access_complete then 0x200 else 0)
-
--- the state with these causes recorded, too
-abbrev pub with_causes : ℕ → AdapterState → AdapterState
-with_causes causes state = record state { causes = record state.causes { recorded = union state.causes.recorded causes } }
 
 -- a tick of the PHY that tells this
 abbrev pub after_phy_told : Option Ticked → AdapterState → AdapterState
@@ -33,15 +34,44 @@ after_phy_told None state = state
 abbrev pub after_phy_tick : AdapterState → AdapterState
 after_phy_tick state = after_phy_told (mdi.told state.mdic state.phy) state
 
-abbrev pub after_step : StepKind → AdapterState → AdapterState
-after_step EepromTick state = after_eeprom_tick state
-after_step PhyTick state = after_phy_tick state
+-- a tick answers whether there was something to do
+abbrev pub ticked : Bool → Stepped
+ticked has_work = if has_work then DidTick else Nothing
 
--- whether a step has something to do
-abbrev pub has_work : StepKind → AdapterState → Bool
-has_work EepromTick state = eeprom.is_pending state.eerd
-has_work PhyTick state = mdi.has_work state.mdic state.phy
+-- Each kind of step.
 
--- what a step answers
-abbrev pub stepped : StepKind → AdapterState → Stepped
-stepped kind state = if has_work kind state then DidTick else Nothing
+-- what the answer of a step says of the adapter and the memory before it
+abbrev pub Answers : StepKind → Bool → List ℕ → AdapterState → Stepped → Type 0
+Answers TxTake wire_free memory state answer = TakeAnswers memory state answer
+Answers TxPut wire_free memory state answer = PutAnswers wire_free state answer
+Answers RxData wire_free memory state answer = DataAnswers memory state answer
+Answers RxDone wire_free memory state answer = DoneAnswers state answer
+Answers EepromTick wire_free memory state answer = answer ≡ ticked (eeprom.is_pending state.eerd)
+Answers PhyTick wire_free memory state answer = answer ≡ ticked (mdi.has_work state.mdic state.phy)
+
+-- the adapter after a step with this answer on this memory
+abbrev pub after_step : StepKind → Stepped → List ℕ → AdapterState → AdapterState
+after_step TxTake answer memory state = after_take answer memory state
+after_step TxPut answer memory state = after_put answer state
+after_step RxData answer memory state = after_data answer state
+after_step RxDone answer memory state = after_done answer state
+after_step EepromTick answer memory state = after_eeprom_tick state
+after_step PhyTick answer memory state = after_phy_tick state
+
+-- the memory after a step with this answer
+abbrev pub memory_after_step : StepKind → Stepped → List ℕ → AdapterState → List ℕ
+memory_after_step TxTake answer memory state = memory
+memory_after_step TxPut answer memory state = memory_after_put answer memory state
+memory_after_step RxData answer memory state = memory_after_data_step answer memory state
+memory_after_step RxDone answer memory state = memory_after_done_step memory state
+memory_after_step EepromTick answer memory state = memory
+memory_after_step PhyTick answer memory state = memory
+
+-- Of memory a step changes at most this.
+abbrev pub ChangesAtMost : StepKind → AdapterState → List ℕ → List ℕ → Type 0
+ChangesAtMost TxTake state memory memory' = memory' ≡ memory
+ChangesAtMost TxPut state memory memory' = PutChangesOnly state memory memory'
+ChangesAtMost RxData state memory memory' = DataChangesOnly state memory memory'
+ChangesAtMost RxDone state memory memory' = DoneChangesOnly state memory memory'
+ChangesAtMost EepromTick state memory memory' = memory' ≡ memory
+ChangesAtMost PhyTick state memory memory' = memory' ≡ memory

@@ -4,6 +4,7 @@ use Rattle.adapter.specs.declared.adapter.Adapter.TheInside.{Inside}
 use Rattle.adapter.specs.declared.register_file.RegisterFile.{RegisterFile}
 use Rattle.eeprom.specs.declared.eerd.ReadState.TheVariants.{Idle}
 use Rattle.mdic_phy.specs.Mdic.{new_mdic}
+use Rattle.rx_engine.specs.Engine.{IsEngine}
 use Rattle.adapter.specs.Registers.{filter_at_reset}
 use Rattle.adapter.specs.Rings.{new_ring}
 use Rattle.adapter.specs.State.{AdapterState, IsAdapter}
@@ -26,6 +27,8 @@ state_of inside = record {
   received_packets = inside.file.gprc;
   transmitted_packets = inside.file.gptc;
   no_receive_buffers = inside.file.rnbc;
+  receiver = inside.receiver;
+  transmitter = inside.transmitter;
 }
 
 -- the filter was told RCTL and VET as they are
@@ -36,6 +39,7 @@ pub record IsTold (file : RegisterFile) : Type 0 where
 pub record IsConsistent (inside : Inside) : Type 0 where
   pub adapter : IsAdapter (state_of inside)
   pub told : IsTold inside.file
+  pub receiver : IsEngine inside.receiver
 
 -- the registers after a reset
 abbrev pub registers_at_reset : List ℕ → RegisterFile

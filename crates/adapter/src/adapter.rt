@@ -1,6 +1,6 @@
 // The adapter: its registers joined.
 
-ghost use Rattle.std.specs.Prelude.{◌≡◌, ◌↔◌, IsTrue};
+ghost use Rattle.std.specs.Prelude.{◌≡◌, ◌↔◌, ◌≤◌, IsTrue, IfOk, length};
 ghost use Rattle.registers.specs.Bits.{Meet};
 ghost use Rattle.adapter.specs.Registers.{is_reset};
 ghost use Rattle.adapter.specs.Steps.{causes_told};
@@ -14,23 +14,29 @@ use dma_memory::HostMemory;
 use eeprom::Image;
 use mdic_phy::{Link, Phy, Ticked};
 use registers::{Cause, Ctrl, Rctl, Status, Tctl};
+use rx_engine::{MOST_FRAMES, RxEngine};
 use std::alloc::{AllocError, Global};
 use std::marker::Model;
+use tx_engine::TxEngine;
 
 /// The bits of VET that a write changes and a read shows.
 const VLAN_TYPE_BITS: u32 = 0xFFFF;
 
-/// An 82540EM: its registers, its EEPROM and its PHY.
+/// An 82540EM: its registers, its EEPROM and PHY, and the two engines that move frames between its
+/// wire and a host's memory.
 ///
 /// A contract sees it as an `AdapterState`, plain data that `specs/State.antt` lists. Whatever a
 /// driver reads and writes, in whatever order, the answers are those of the table in
-/// [`offsets`](crate::offsets).
-#[derive(Debug, Drop)]
+/// [`offsets`](crate::offsets). What the adapter does by itself it does in steps, when
+/// [`step`](Adapter::step) is called.
+#[derive(Drop)]
 pub struct Adapter {
     image: Image,
     phy: Phy,
     packet_buffer: PacketBufferAllocation,
-    file: RegisterFile,
+    pub(crate) file: RegisterFile,
+    pub(crate) receiver: RxEngine,
+    pub(crate) transmitter: TxEngine,
 }
 
 impl Model for Adapter {
@@ -46,24 +52,29 @@ impl Model for Adapter {
 }
 
 impl Adapter {
+    ghost use Rattle.rx_engine.specs.Engine.{IsEngine};
+    ghost use Rattle.adapter.specs.Receiving.{room};
     ghost use Rattle.adapter.specs.Registers.{after_read, after_write, answer_at, new_adapter};
     ghost use Rattle.adapter.specs.State.{IsAdapter};
-    ghost use Rattle.adapter.specs.Steps.{after_step, stepped};
-    ghost use Rattle.adapter.specs.declared.step.Stepped.TheVariants.{Nothing};
+    ghost use Rattle.adapter.specs.Steps.{Answers, ChangesAtMost, after_step, memory_after_step};
+    ghost use Rattle.adapter.specs.declared.step.Stepped.TheVariants.{Fault, Nothing};
 
-    /// An adapter after power-on, with this EEPROM and a PHY whose link comes up as `link` says.
+    /// An adapter after power-on, with this EEPROM and a PHY whose link comes up as `link` says. Both
+    /// packet buffers are empty; their memory is taken here, and no later call takes any.
     ///
     /// # Errors
     ///
-    /// None today; want of memory, once the adapter holds packets.
-    pub fn new(_alloc: Global, image: &Image, link: Link) -> Result<Adapter, AllocError>
-        ensures { result ≡ Ok (new_adapter image.now link) }
+    /// Want of memory alone.
+    pub fn new(alloc: Global, image: &Image, link: Link) -> Result<Adapter, AllocError>
+        ensures { IfOk result (λ adapter. adapter ≡ new_adapter image.now link) }
     {
         Ok(Adapter {
             image: *image,
             phy: Phy::new(link),
             packet_buffer: PacketBufferAllocation::new(),
             file: RegisterFile::at_reset(image),
+            receiver: RxEngine::new(alloc)?,
+            transmitter: TxEngine::new(alloc)?,
         })
     }
 
@@ -104,16 +115,42 @@ impl Adapter {
         self.file.causes.line()
     }
 
-    /// A step that the adapter takes by itself. A tick touches neither the memory nor the wire, on
-    /// which `wire_free` says whether there is room for a frame.
+    /// How many frames the receive packet buffer has room for, by PBA: 24 at most.
+    pub(crate) fn room(&self) -> u8
+        ensures room { result ≡ room self.now }
+        ensures fits { result ≤ MOST_FRAMES }
+    {
+        self.packet_buffer.frames()
+    }
+
+    /// A step that the adapter takes by itself, on its host's memory; `wire_free` says whether the wire
+    /// has room for a frame. `Nothing` changes nothing. A fault stops the engine until a reset, and
+    /// leaves memory and the indices of the rings (own).
+    ///
+    /// Of memory a step changes at most the buffer that the receive descriptor at RDH names
+    /// ([`RxData`](StepKind::RxData)), bytes 8 to 15 of the descriptor in work
+    /// ([`RxDone`](StepKind::RxDone)), and byte 12 of the descriptor of the frame put
+    /// ([`TxPut`](StepKind::TxPut)).
+    ///
+    /// An adapter is stepped with memories of one size: so the descriptor of a frame in work, or put,
+    /// lies in memory, as it did when it was read. Where it doesn't, nothing is written.
     pub fn step(&mut self, kind: StepKind, memory: &mut HostMemory, wire_free: bool) -> Stepped
-        ensures state { self.new ≡ after_step kind self.old }
-        ensures outcome { result ≡ stepped kind self.old }
-        ensures nothing { result ≡ Nothing → self.new ≡ self.old }
-        ensures memory { memory.new ≡ memory.old }
+        ensures answer { Answers kind wire_free memory.old self.old result }
+        ensures state { self.new ≡ after_step kind result memory.old self.old }
+        ensures memory { memory.new ≡ memory_after_step kind result memory.old self.old }
+        ensures nothing { result ≡ Nothing → (self.new ≡ self.old) × (memory.new ≡ memory.old) }
+        ensures fault { result ≡ Fault → (memory.new ≡ memory.old)
+            × (self.new.receive_ring ≡ self.old.receive_ring) × (self.new.transmit_ring ≡ self.old.transmit_ring) }
+        ensures only { ChangesAtMost kind self.old memory.old memory.new }
+        ensures size { length memory.new ≡ length memory.old }
         ensures adapter { IsAdapter self.old }
+        ensures receiver { IsEngine self.old.receiver }
     {
         match kind {
+            StepKind::TxTake => self.take_frame(memory),
+            StepKind::TxPut => self.put_frame(memory, wire_free),
+            StepKind::RxData => self.move_frame(memory),
+            StepKind::RxDone => self.finish_frame(memory),
             StepKind::EepromTick => self.tick_eeprom(),
             StepKind::PhyTick => self.tick_phy(),
         }
@@ -125,9 +162,12 @@ impl Adapter {
 impl Adapter {
     ghost use Rattle.adapter.specs.Registers.{answer, read_of, write_of};
     ghost use Rattle.adapter.specs.State.{IsAdapter};
-    ghost use Rattle.adapter.specs.Steps.{after_step, stepped};
+    ghost use Rattle.adapter.specs.declared.step.Stepped.TheVariants.{Nothing};
+    ghost use Rattle.eeprom.specs.Eerd.{is_pending};
+    ghost use Rattle.rx_engine.specs.Engine.{IsEngine};
+    ghost use Rattle.mdic_phy.specs.Mdic.{has_work};
+    ghost use Rattle.adapter.specs.Steps.{after_eeprom_tick, after_phy_tick, ticked};
     ghost use Rattle.adapter.specs.Table.{IsInTable};
-    ghost use Rattle.adapter.specs.declared.step.StepKind.TheVariants.{EepromTick, PhyTick};
 
     /// Reads a register.
     fn read_register(&mut self, register: Register) -> u32
@@ -198,13 +238,15 @@ impl Adapter {
         }
     }
 
-    /// A write of CTRL with RST resets and the rest of it is ignored (own); PBA and the PHY stay.
-    /// Any other write keeps its bits.
+    /// A write of CTRL with RST resets, the packet buffers and engines too, and the rest of it is ignored
+    /// (own); PBA and the PHY stay. Any other write keeps its bits.
     fn write_ctrl(&mut self, value: u32)
         ensures state { self.new ≡ write_of Register.Ctrl value self.old }
     {
         if asks_for_reset(value) {
             self.file = RegisterFile::at_reset(&self.image);
+            self.receiver.reset();
+            self.transmitter.reset();
         } else {
             self.file.ctrl = Ctrl::kept(value);
         }
@@ -219,8 +261,10 @@ impl Adapter {
 
     /// A pending read of the EEPROM ends.
     fn tick_eeprom(&mut self) -> Stepped
-        ensures state { self.new ≡ after_step EepromTick self.old }
-        ensures outcome { result ≡ stepped EepromTick self.old }
+        ensures state { self.new ≡ after_eeprom_tick self.old }
+        ensures receiver { IsEngine self.old.receiver }
+        ensures answer { result ≡ ticked (is_pending self.old.eerd) }
+        ensures nothing { result ≡ Nothing → self.new ≡ self.old }
         ensures adapter { IsAdapter self.old }
     {
         if self.file.eerd.tick(&self.image) {
@@ -232,8 +276,10 @@ impl Adapter {
 
     /// A moment of the PHY passes, and the causes that it tells are recorded.
     fn tick_phy(&mut self) -> Stepped
-        ensures state { self.new ≡ after_step PhyTick self.old }
-        ensures outcome { result ≡ stepped PhyTick self.old }
+        ensures state { self.new ≡ after_phy_tick self.old }
+        ensures receiver { IsEngine self.old.receiver }
+        ensures answer { result ≡ ticked (has_work self.old.mdic self.old.phy) }
+        ensures nothing { result ≡ Nothing → self.new ≡ self.old }
         ensures adapter { IsAdapter self.old }
     {
         let Some(ticked) = self.file.mdic.tick(&mut self.phy) else {

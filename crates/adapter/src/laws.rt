@@ -1,6 +1,7 @@
 //! What reads and writes do to one another, as laws with nothing to run.
 
 ghost use Rattle.adapter.specs.AccessLaws.{AccessesByOffset, OffsetsByTable, OthersStayAtRead, OthersStayAtWrite, OutsideIsIgnored, PlainReadsBack, PowerOnByTable, ResetByTable, TouchedByWrites};
+ghost use Rattle.adapter.specs.Frames.{ArrivalGrowsFrames, DataLeavesFrames, DoneFinishesDescriptor, DoneTakesFirstFrame, PuttingTakesFirst, TakingLeavesFrames};
 ghost use Rattle.adapter.specs.History.{PlainByHistory};
 ghost use Rattle.adapter.specs.Parts.{PartsHaveTheirLaws};
 
@@ -45,4 +46,22 @@ pub fn plain_by_history()
 /// command. The registers read what the laws of the crates `eeprom` and `mdic_phy` say of that.
 pub fn parts_have_their_laws()
     ensures { PartsHaveTheirLaws }
+{}
+
+/// What steps and arrivals do to the frames that an adapter holds.
+/// - The frames to be sent are those in the transmit packet buffer, then those that the descriptors
+///   from TDH to TDT name. A step that takes leaves them; one that puts takes the first.
+/// - The frames held are the one in work, as it stands in memory, then those in the receive packet
+///   buffer. A frame that is stored is behind them, a data step leaves them, a done step takes the
+///   first, and its descriptor is then finished with it.
+///
+/// Where a step writes to memory, the bytes written are apart from the descriptors and frames that
+/// are still to be read: the conditions are in the laws.
+pub fn frames_by_steps()
+    ensures taking { TakingLeavesFrames }
+    ensures putting { PuttingTakesFirst }
+    ensures arrival { ArrivalGrowsFrames }
+    ensures data { DataLeavesFrames }
+    ensures done { DoneTakesFirstFrame }
+    ensures finished { DoneFinishesDescriptor }
 {}

@@ -1,4 +1,5 @@
-//! A model of the Intel 82540EM as its driver sees it: its registers, EEPROM and PHY.
+//! A model of the Intel 82540EM: its registers, EEPROM and PHY, and the engines that move frames between its wire and
+//! a host's memory.
 //!
 //! Section numbers are those of Intel's "PCI/PCI-X Family of Gigabit Ethernet Controllers Software
 //! Developer's Manual".
@@ -8,18 +9,24 @@ mod adapter;
 mod laws;
 pub mod offsets;
 mod packet_buffer;
+mod receive;
 mod register;
 mod register_file;
 mod ring;
 mod step;
+mod transmit;
 
 pub use adapter::Adapter;
 pub use laws::{
-    accesses_by_table, offsets_by_table, parts_have_their_laws, plain_by_history, resets_by_table,
+    accesses_by_table, frames_by_steps, offsets_by_table, parts_have_their_laws, plain_by_history,
+    resets_by_table,
 };
 pub use register::{Register, RingRegister};
 pub use ring::RingRegisters;
+pub use rx_engine::Fate;
 pub use step::{StepKind, Stepped};
 
+#[cfg(test)]
+mod frame_tests;
 #[cfg(test)]
 mod tests;

@@ -1,6 +1,7 @@
 // The registers that a reset sets.
 
-ghost use Rattle.std.specs.Prelude.{◌≡◌, ◌<◌, slice_index};
+ghost use Rattle.std.specs.Prelude.{◌≡◌, ◌<◌, ◌==◌, if◌then◌else◌, slice_index};
+ghost use Rattle.adapter.specs.Recording.{one_more};
 ghost use Rattle.adapter.specs.Registers.{filter_at_reset};
 ghost use Rattle.adapter.specs.Table.{address_high_at_reset, address_low_at_reset};
 
@@ -62,6 +63,16 @@ impl RegisterFile {
             gptc: Counter::new(),
             rnbc: Counter::new(),
             filter: filter_at_reset(image),
+        }
+    }
+
+    /// A frame that gets as far as the packet buffer is counted by RNBC where there is no receive
+    /// descriptor for it.
+    pub(crate) fn count_no_buffers(&mut self)
+        ensures { self.new ≡ record self.old { rnbc = (if self.old.receive_ring.head == self.old.receive_ring.tail then one_more self.old.rnbc else self.old.rnbc) } }
+    {
+        if self.receive_ring.head == self.receive_ring.tail {
+            self.rnbc.bump();
         }
     }
 }

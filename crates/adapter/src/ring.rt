@@ -1,9 +1,10 @@
 // The registers of a descriptor ring.
 
 ghost use Rattle.std.specs.Prelude.{◌≡◌};
-ghost use Rattle.adapter.specs.Rings.{new_ring, ring_answer, ring_written};
+ghost use Rattle.adapter.specs.Rings.{new_ring, ring_answer, ring_of, ring_written};
 
 use crate::register::RingRegister;
+use descriptors::Ring;
 
 /// The bits of RDBAL and TDBAL: a ring's address is a multiple of 16.
 const BASE_LOW_BITS: u32 = 0xFFFF_FFF0;
@@ -68,6 +69,18 @@ impl RingRegisters {
             RingRegister::Length => self.length_bytes = value & LENGTH_BITS,
             RingRegister::Head => self.head = (value & INDEX_BITS) as u16,
             RingRegister::Tail => self.tail = (value & INDEX_BITS) as u16,
+        }
+    }
+
+    /// The ring that the registers tell.
+    pub(crate) fn ring(&self) -> Ring
+        ensures { result ≡ ring_of self.now }
+    {
+        Ring {
+            base: (u64::from(self.base_high) << 32) + u64::from(self.base_low),
+            bytes: self.length_bytes,
+            head: self.head,
+            tail: self.tail,
         }
     }
 }

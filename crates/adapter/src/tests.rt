@@ -2,8 +2,8 @@
 
 use crate::offsets::*;
 use crate::{
-    Adapter, Register, RingRegister, StepKind, Stepped, accesses_by_table, offsets_by_table,
-    parts_have_their_laws, plain_by_history, resets_by_table,
+    Adapter, Register, RingRegister, StepKind, Stepped, accesses_by_table, frames_by_steps,
+    offsets_by_table, parts_have_their_laws, plain_by_history, resets_by_table,
 };
 use dma_memory::HostMemory;
 use eeprom::Image;
@@ -396,4 +396,5 @@ fn laws_are_called() {
     resets_by_table();
     plain_by_history();
     parts_have_their_laws();
+    frames_by_steps();
 }

@@ -1,6 +1,5 @@
 -- The done step of the receive engine ("3.2.3 Receive Descriptor Format").
-use Rattle.std.specs.Prelude.{◌≡◌, ◌+◌, ◌++◌, ℕ, List, [], ◌∷◌, length, Option, None, Some}
-use Rattle.std.specs.Option.{ForSome}
+use Rattle.std.specs.Prelude.{◌≡◌, ◌+◌, ◌++◌, ℕ, List, [], ◌∷◌, length, nat_le, Option, None, Some, if◌then◌else◌}
 use Rattle.byteorder.specs.Endian.{little_bytes}
 use Rattle.registers.specs.Bits.{HasBit}
 use Rattle.dma_memory.specs.HostMemory.{bytes_at, with_bytes, LiesIn}
@@ -8,10 +7,6 @@ use Rattle.descriptors.specs.RxStatus.{status_bits}
 use Rattle.rx_engine.specs.Descriptors.{descriptor_at, named_address, AreApart}
 use Rattle.rx_engine.specs.Engine.{Engine}
 use Rattle.rx_engine.specs.declared.engine.Work.{Work}
-
--- the descriptor of the frame in work lies in memory
-abbrev pub WorkLiesIn : List ℕ → Engine → Type 0
-WorkLiesIn memory engine = ForSome engine.work (λ work. LiesIn memory work.descriptor 16)
 
 -- bytes 8 to 15 of a finished descriptor: the length, checksum 0, status 0x03 (DD and EOP), errors 0, special 0
 abbrev pub finished_bytes : ℕ → List ℕ
@@ -21,10 +16,12 @@ finished_bytes n = little_bytes 2 n ++ 0 ∷ 0 ∷ 3 ∷ 0 ∷ 0 ∷ 0 ∷ []
 abbrev pub engine_after_done : Engine → Engine
 engine_after_done engine = record engine { work = None }
 
--- memory after a done step: bytes 8 to 15 of the descriptor in work are written
+-- Memory after a done step: bytes 8 to 15 of the descriptor in work are written. In a memory that ends before the descriptor's end
+-- nothing is written.
 abbrev pub memory_after_done : Option Work → List ℕ → List ℕ
 memory_after_done None memory = memory
-memory_after_done (Some work) memory = with_bytes memory (work.descriptor + 8) (finished_bytes work.length)
+memory_after_done (Some work) memory =
+    if nat_le (work.descriptor + 16) (length memory) then with_bytes memory (work.descriptor + 8) (finished_bytes work.length) else memory
 
 -- so many bytes at the address that a descriptor names lie in memory, apart from that descriptor
 pub record StandsApart (memory : List ℕ) (descriptor n : ℕ) : Type 0 where

@@ -1,5 +1,5 @@
 -- The data step of the receive engine ("3.2.6 Receive Descriptor Queue Structure"; that it can fault is own).
-use Rattle.std.specs.Prelude.{◌≡◌, ◌≢◌, ◌≤◌, ◌*◌, ⊤, ℕ, List, length, drop, Bool, true, Some}
+use Rattle.std.specs.Prelude.{◌≡◌, ◌≢◌, ◌==◌, ◌≤◌, ◌*◌, ⊤, ℕ, List, length, drop, Bool, true, Some}
 use Rattle.registers.specs.Bits.{HasBit, field}
 use Rattle.registers.specs.ReceiveControl.{buffer_size_of}
 use Rattle.dma_memory.specs.HostMemory.{with_bytes, LiesIn}
@@ -28,8 +28,8 @@ pub record CanMove (control : ℕ) (ring : Ring) (memory : List ℕ) (n : ℕ) :
   pub size : n ≤ buffer_size_of (field control 16 2)
 
 -- the free descriptors, those from head to tail, are half the ring (13.4.22, RDMTS 00)
-abbrev pub IsHalfFree : Ring → Type 0
-IsHalfFree ring = 2 * distance_of ring ring.head ring.tail ≡ count_of ring
+abbrev pub is_half_free : Ring → Bool
+is_half_free ring = 2 * distance_of ring ring.head ring.tail == count_of ring
 
 -- the step moved a frame
 abbrev pub IsMoved : Data → Type 0

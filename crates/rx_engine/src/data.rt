@@ -7,8 +7,7 @@ ghost use Rattle.descriptors.specs.Ring.{IsSound, address_of, count_of, distance
 ghost use Rattle.dma_memory.specs.HostMemory.{LiesIn};
 ghost use Rattle.rx_engine.specs.Descriptors.{named_address, ChangesOnly};
 ghost use Rattle.rx_engine.specs.Engine.{oldest, IsEngine};
-ghost use Rattle.rx_engine.specs.Finishing.{WorkLiesIn};
-ghost use Rattle.rx_engine.specs.Moving.{HasFrameToMove, CanMove, engine_after_data, ring_after_data, memory_after_data, IsMoved, IfMoved, IsHalfFree};
+ghost use Rattle.rx_engine.specs.Moving.{HasFrameToMove, CanMove, engine_after_data, ring_after_data, memory_after_data, IsMoved, IfMoved, is_half_free};
 
 use crate::storing::store_within;
 use crate::{RxEngine, Work};
@@ -59,13 +58,12 @@ pub fn rx_data(
     ensures moved { IsMoved result
         ↔ (HasFrameToMove control.0 ring.old engine.old
         × CanMove control.0 ring.old memory.old (length (oldest engine.old.buffer))) }
-    ensures low { IfMoved result (λ low. IsTrue low ↔ IsHalfFree ring.new) }
+    ensures low { IfMoved result (λ low. low ≡ is_half_free ring.new) }
     ensures engine { engine.new ≡ engine_after_data result ring.old engine.old }
     ensures ring { ring.new ≡ ring_after_data result ring.old }
     ensures memory { memory.new ≡ memory_after_data result ring.old engine.old memory.old }
     ensures only { ChangesOnly memory.old memory.new
         (named_address memory.old (address_of ring.old ring.old.head)) (length (oldest engine.old.buffer)) }
-    ensures work { WorkLiesIn memory.old engine.old → WorkLiesIn memory.new engine.new }
     ensures before { IsEngine engine.old }
     ensures after { IsEngine engine.new }
 {
@@ -124,7 +122,7 @@ fn buffer_named_at(memory: &HostMemory, descriptor: u64) -> Option<u64>
 /// Whether the free descriptors, those from head to tail, are half the ring.
 fn is_half_free(ring: &Ring) -> bool
     requires { IsSound ring.now }
-    ensures { IsTrue result ↔ IsHalfFree ring.now }
+    ensures { result ≡ is_half_free ring.now }
 {
     2 * ring.distance(ring.head, ring.tail) == ring.count()
 }

@@ -4,7 +4,7 @@ ghost use Rattle.std.specs.Prelude.{◌≡◌, ◌+◌, ◌↔◌, None, IfSome}
 ghost use Rattle.dma_memory.specs.HostMemory.{LiesIn, bytes_at, with_bytes};
 ghost use Rattle.rx_engine.specs.Descriptors.{named_address, ChangesOnly};
 ghost use Rattle.rx_engine.specs.Engine.{IsEngine};
-ghost use Rattle.rx_engine.specs.Finishing.{WorkLiesIn, engine_after_done, finished_bytes, memory_after_done, StandsApart, IsFinished};
+ghost use Rattle.rx_engine.specs.Finishing.{engine_after_done, finished_bytes, memory_after_done, StandsApart, IsFinished};
 
 use crate::RxEngine;
 use crate::storing::store_within;
@@ -27,13 +27,14 @@ pub enum Done {
 /// Writes the descriptor of the frame in work back ("3.2.3 Receive Descriptor Format"): its length, and that it is done,
 /// holds the end of its packet and had no error. Nothing where no frame is in work.
 ///
-/// The descriptor lies in memory, as it did when it was read: the steps of one engine are given memories of one size.
+/// The caller hands a memory of the same size as to [`rx_data`](crate::rx_data), where that descriptor always lies. In a
+/// memory that ends before its end nothing is written.
 pub fn rx_done(engine: &mut RxEngine, memory: &mut HostMemory) -> Done
-    requires { WorkLiesIn memory.old engine.old }
     ensures nothing { (result ≡ Done.Nothing) ↔ (engine.old.work ≡ None) }
     ensures engine { engine.new ≡ engine_after_done engine.old }
     ensures memory { memory.new ≡ memory_after_done engine.old.work memory.old }
-    ensures finished { IfSome engine.old.work (λ work. StandsApart memory.old work.descriptor work.length
+    ensures finished { IfSome engine.old.work (λ work. LiesIn memory.old work.descriptor 16
+        → StandsApart memory.old work.descriptor work.length
         → IsFinished memory.new work.descriptor
         (bytes_at memory.old (named_address memory.old work.descriptor) work.length)) }
     ensures only { IfSome engine.old.work (λ work. ChangesOnly memory.old memory.new (work.descriptor + 8) 8) }
@@ -43,7 +44,9 @@ pub fn rx_done(engine: &mut RxEngine, memory: &mut HostMemory) -> Done
     let Some(&work) = engine.work() else {
         return Done::Nothing;
     };
-    write_back(memory, work.descriptor, work.length);
+    if memory.view(work.descriptor, RX_DESC_BYTES).is_ok() {
+        write_back(memory, work.descriptor, work.length);
+    }
     engine.end();
     Done::Done
 }

@@ -1,4 +1,4 @@
-ghost use Rattle.std.specs.Prelude.{◌≡◌, ◌<◌, ◌↔◌, false, true, IsTrue, if◌then◌else◌, length};
+ghost use Rattle.std.specs.Prelude.{◌≡◌, ◌==◌, ◌<◌, ◌↔◌, false, true, IsTrue, if◌then◌else◌, length};
 ghost use Rattle.descriptors.specs.Ring.{next_of};
 ghost use Rattle.tx_engine.specs.Fetching.{IsIdle, IsFetchable, pads};
 ghost use Rattle.tx_engine.specs.Steps.{IfTook, Takes};
@@ -33,7 +33,8 @@ pub fn take(engine: &mut TxEngine, ring: &mut Ring, control: Tctl, memory: &Host
     ensures untouched { (result ≡ Take.Nothing) → (engine.new ≡ engine.old) × (ring.new ≡ ring.old) }
     ensures stopped { (result ≡ Take.Fault) → (engine.new ≡ record engine.old { stopped = true }) × (ring.new ≡ ring.old) }
     ensures took { IfTook result (λ _. Takes control.0 memory.now ring.old ring.new engine.old engine.new) }
-    ensures emptied { IfTook result (λ emptied. IsTrue emptied ↔ (ring.new.head ≡ ring.new.tail)) }
+    ensures fetchable { IfTook result (λ _. IsFetchable memory.now ring.old) }
+    ensures emptied { IfTook result (λ emptied. emptied ≡ (ring.new.head == ring.new.tail)) }
 
     // Whatever the answer, the frames to be sent are the same.
     ensures to_send { to_send memory.now ring.new (pads control.0) engine.new.buffer ≡ to_send memory.now ring.old (pads control.0) engine.old.buffer }

@@ -1,0 +1,394 @@
+-- Every access, step and arrival leaves an adapter's registers as those of an adapter.
+use Rattle.std.proofs.Common.{◌≡◌, ◌%◌, ◌==◌, ◌≤◌, ℕ, Bool, true, false, List, [], ◌∷◌, Option, Some, None, refl, ◌∙◌, if◌then◌else◌, arith, length-set}
+use Rattle.std.proofs.lemmas.Bool.{and_parts, eqb-true, leb-true}
+use Rattle.mdic_phy.specs.declared.mdic.Ticked.{Ticked}
+use Rattle.mdic_phy.specs.declared.phy.Link.{Link}
+use Rattle.mdic_phy.specs.Mdic as mdi
+use Rattle.registers.specs.Bits.{IsSubset, union}
+use Rattle.rx_engine.specs.declared.arrival.Fate.{Fate}
+use Rattle.rx_engine.specs.declared.arrival.Fate.TheVariants.{Missed, Stored}
+use Rattle.tx_engine.specs.Transmitter.{Queued}
+use Rattle.registers.specs.Counting.{greatest_count}
+use Rattle.registers.specs.Kept.{all_causes}
+use Rattle.registers.specs.Laws.{IsSubset-intersection, IsSubset-masked, IsSubset-union}
+use Rattle.adapter.specs.declared.register.Register.{Register}
+use Rattle.adapter.specs.declared.register.Register.TheVariants.{Icr, Ics, Ims, Imc, Pba, Mpc, Gprc, Gptc, Rnbc, Mta, Ral, Rah, Vfta}
+use Rattle.adapter.specs.declared.step.StepKind.{StepKind}
+use Rattle.adapter.specs.declared.step.StepKind.TheVariants.{TxTake, TxPut, RxData, RxDone, EepromTick, PhyTick}
+use Rattle.adapter.specs.declared.step.Stepped.{Stepped}
+use Rattle.adapter.specs.declared.step.Stepped.TheVariants.{Took, Put, Moved, Done, Fault}
+use Rattle.adapter.specs.History.{Event, Read, Write, Step, Arrive, after_event, after_events}
+use Rattle.adapter.specs.PacketBuffer.{IsAllocation, allocation_written, is_allocation}
+use Rattle.adapter.specs.Registers.{after_reset, answer, by_row, is_reset, left_by_read, left_by_write, new_adapter, read_of, write_of}
+use Rattle.adapter.specs.State.{AdapterState, CausesAlone, CountersFit, IsAdapter}
+use Rattle.adapter.specs.Receiving.{after_arrive, after_data, after_done, causes_of_moving, no_buffers_counted}
+use Rattle.adapter.specs.Recording.{one_more, with_causes}
+use Rattle.adapter.specs.Steps.{after_phy_told, causes_told, after_step}
+use Rattle.adapter.specs.Transmitting.{after_put, after_take, causes_of_putting, causes_of_taking}
+use Rattle.adapter.specs.Table.{register_at, row_of}
+
+IsAllocation-written : (value kilobytes : ℕ) → IsAllocation kilobytes → IsAllocation (allocation_written value kilobytes)
+IsAllocation-written value kilobytes allocation =
+    by_test (is_allocation (value % 65536)) (λ passes. passes)
+  where
+    by_test : (test : Bool) → (test ≡ true → is_allocation (value % 65536) ≡ true) → IsAllocation (if test then value % 65536 else kilobytes)
+    by_test true passes =
+        let least = and_parts _ _ (passes refl) in
+        let most = and_parts _ _ least.1 in
+        record { least = leb-true 2 _ least.0; most = leb-true _ 48 most.0; even = eqb-true _ 0 most.1 }
+    by_test false passes = allocation
+
+no_counts : CountersFit 0 0 0 0
+no_counts = record { missed = omega arith; received = omega arith; transmitted = omega arith; no_buffers = omega arith }
+
+no_causes : CausesAlone 0 0
+no_causes = record { recorded_causes = refl; masked_causes = refl }
+
+pub IsAdapter-at_reset : (state : AdapterState) → IsAdapter state → IsAdapter (after_reset state)
+IsAdapter-at_reset state adapter =
+    record {
+      tables = record { ral_entries = refl; rah_entries = refl; mta_words = refl; vfta_words = refl };
+      allocation = adapter.allocation;
+      causes = no_causes;
+      counters = no_counts;
+    }
+
+pub IsAdapter-new : (words : List ℕ) (link : Link) → IsAdapter (new_adapter words link)
+IsAdapter-new words link =
+    record {
+      tables = record { ral_entries = refl; rah_entries = refl; mta_words = refl; vfta_words = refl };
+      allocation = record { least = omega arith; most = omega arith; even = refl };
+      causes = no_causes;
+      counters = no_counts;
+    }
+
+IsAdapter-by_row : (register : Register) (value : ℕ) (state : AdapterState) → IsAdapter state → IsAdapter (by_row (row_of register).kept register value state)
+IsAdapter-by_row Pba value state adapter =
+    record {
+      tables = adapter.tables;
+      allocation = IsAllocation-written value state.receive_kilobytes adapter.allocation;
+      causes = adapter.causes;
+      counters = adapter.counters;
+    }
+IsAdapter-by_row (Mta word) value state adapter =
+    let tables = adapter.tables in
+    record {
+      tables = record {
+        ral_entries = tables.ral_entries;
+        rah_entries = tables.rah_entries;
+        mta_words = length-set state.filter.mta word _ ∙ tables.mta_words;
+        vfta_words = tables.vfta_words;
+      };
+      allocation = adapter.allocation;
+      causes = adapter.causes;
+      counters = adapter.counters;
+    }
+IsAdapter-by_row (Ral entry) value state adapter =
+    let tables = adapter.tables in
+    record {
+      tables = record {
+        ral_entries = length-set state.filter.ral entry _ ∙ tables.ral_entries;
+        rah_entries = tables.rah_entries;
+        mta_words = tables.mta_words;
+        vfta_words = tables.vfta_words;
+      };
+      allocation = adapter.allocation;
+      causes = adapter.causes;
+      counters = adapter.counters;
+    }
+IsAdapter-by_row (Rah entry) value state adapter =
+    let tables = adapter.tables in
+    record {
+      tables = record {
+        ral_entries = tables.ral_entries;
+        rah_entries = length-set state.filter.rah entry _ ∙ tables.rah_entries;
+        mta_words = tables.mta_words;
+        vfta_words = tables.vfta_words;
+      };
+      allocation = adapter.allocation;
+      causes = adapter.causes;
+      counters = adapter.counters;
+    }
+IsAdapter-by_row (Vfta word) value state adapter =
+    let tables = adapter.tables in
+    record {
+      tables = record {
+        ral_entries = tables.ral_entries;
+        rah_entries = tables.rah_entries;
+        mta_words = tables.mta_words;
+        vfta_words = length-set state.filter.vfta word _ ∙ tables.vfta_words;
+      };
+      allocation = adapter.allocation;
+      causes = adapter.causes;
+      counters = adapter.counters;
+    }
+IsAdapter-by_row Icr value state adapter =
+    record {
+      tables = adapter.tables;
+      allocation = adapter.allocation;
+      causes = record {
+        recorded_causes = IsSubset-intersection state.causes.recorded _ all_causes adapter.causes.recorded_causes;
+        masked_causes = adapter.causes.masked_causes;
+      };
+      counters = adapter.counters;
+    }
+IsAdapter-by_row Ics value state adapter =
+    record {
+      tables = adapter.tables;
+      allocation = adapter.allocation;
+      causes = record {
+        recorded_causes = IsSubset-union state.causes.recorded _ all_causes adapter.causes.recorded_causes (IsSubset-masked value all_causes);
+        masked_causes = adapter.causes.masked_causes;
+      };
+      counters = adapter.counters;
+    }
+IsAdapter-by_row Ims value state adapter =
+    record {
+      tables = adapter.tables;
+      allocation = adapter.allocation;
+      causes = record {
+        recorded_causes = adapter.causes.recorded_causes;
+        masked_causes = IsSubset-union state.causes.mask _ all_causes adapter.causes.masked_causes (IsSubset-masked value all_causes);
+      };
+      counters = adapter.counters;
+    }
+IsAdapter-by_row Imc value state adapter =
+    record {
+      tables = adapter.tables;
+      allocation = adapter.allocation;
+      causes = record {
+        recorded_causes = adapter.causes.recorded_causes;
+        masked_causes = IsSubset-intersection state.causes.mask _ all_causes adapter.causes.masked_causes;
+      };
+      counters = adapter.counters;
+    }
+IsAdapter-by_row _ value state adapter =
+    record { tables = adapter.tables; allocation = adapter.allocation; causes = adapter.causes; counters = adapter.counters }
+
+pub IsAdapter-written : (register : Register) (value : ℕ) (state : AdapterState) → IsAdapter state → IsAdapter (write_of register value state)
+IsAdapter-written register value state adapter =
+    by_test (is_reset register value)
+  where
+    by_test : (test : Bool) → IsAdapter (if test then after_reset state else by_row (row_of register).kept register value state)
+    by_test true = IsAdapter-at_reset state adapter
+    by_test false = IsAdapter-by_row register value state adapter
+
+pub IsAdapter-read : (register : Register) (state : AdapterState) → IsAdapter state → IsAdapter (read_of register state)
+IsAdapter-read Icr state adapter =
+    record {
+      tables = adapter.tables;
+      allocation = adapter.allocation;
+      causes = record { recorded_causes = refl; masked_causes = adapter.causes.masked_causes };
+      counters = adapter.counters;
+    }
+IsAdapter-read Mpc state adapter =
+    let counters = adapter.counters in
+    record {
+      tables = adapter.tables;
+      allocation = adapter.allocation;
+      causes = adapter.causes;
+      counters = record {
+        missed = omega arith;
+        received = counters.received;
+        transmitted = counters.transmitted;
+        no_buffers = counters.no_buffers;
+      };
+    }
+IsAdapter-read Gprc state adapter =
+    let counters = adapter.counters in
+    record {
+      tables = adapter.tables;
+      allocation = adapter.allocation;
+      causes = adapter.causes;
+      counters = record {
+        missed = counters.missed;
+        received = omega arith;
+        transmitted = counters.transmitted;
+        no_buffers = counters.no_buffers;
+      };
+    }
+IsAdapter-read Gptc state adapter =
+    let counters = adapter.counters in
+    record {
+      tables = adapter.tables;
+      allocation = adapter.allocation;
+      causes = adapter.causes;
+      counters = record {
+        missed = counters.missed;
+        received = counters.received;
+        transmitted = omega arith;
+        no_buffers = counters.no_buffers;
+      };
+    }
+IsAdapter-read Rnbc state adapter =
+    let counters = adapter.counters in
+    record {
+      tables = adapter.tables;
+      allocation = adapter.allocation;
+      causes = adapter.causes;
+      counters = record {
+        missed = counters.missed;
+        received = counters.received;
+        transmitted = counters.transmitted;
+        no_buffers = omega arith;
+      };
+    }
+IsAdapter-read _ state adapter =
+    record { tables = adapter.tables; allocation = adapter.allocation; causes = adapter.causes; counters = adapter.counters }
+
+-- what a tick tells are causes
+causes_told-alone : (ticked : Ticked) → IsSubset (causes_told ticked) all_causes
+causes_told-alone ticked = by_tests ticked.link_changed ticked.access_complete
+  where
+    by_tests : (changed complete : Bool) → IsSubset (union (if changed then 0x4 else 0) (if complete then 0x200 else 0)) all_causes
+    by_tests true true = refl
+    by_tests true false = refl
+    by_tests false true = refl
+    by_tests false false = refl
+
+-- More causes recorded leave an adapter.
+IsAdapter-with_causes : (causes : ℕ) (state : AdapterState) → IsSubset causes all_causes → IsAdapter state → IsAdapter (with_causes causes state)
+IsAdapter-with_causes causes state alone adapter =
+    record {
+      tables = adapter.tables;
+      allocation = adapter.allocation;
+      causes = record {
+        recorded_causes = IsSubset-union state.causes.recorded causes all_causes adapter.causes.recorded_causes alone;
+        masked_causes = adapter.causes.masked_causes;
+      };
+      counters = adapter.counters;
+    }
+
+IsAdapter-told : (told : Option Ticked) (state : AdapterState) → IsAdapter state → IsAdapter (after_phy_told told state)
+IsAdapter-told (Some ticked) state adapter =
+    IsAdapter-with_causes (causes_told ticked) _ (causes_told-alone ticked)
+    (record { tables = adapter.tables; allocation = adapter.allocation; causes = adapter.causes; counters = adapter.counters })
+IsAdapter-told None state adapter = adapter
+
+-- a cause of a test, among all causes
+cause-alone : (test : Bool) (cause : ℕ) → IsSubset cause all_causes → IsSubset (if test then cause else 0) all_causes
+cause-alone true cause alone = alone
+cause-alone false cause alone = refl
+
+one_more-fits : (count : ℕ) → one_more count ≤ greatest_count
+one_more-fits count = omega arith
+
+no_buffers-fit : (state : AdapterState) → IsAdapter state → no_buffers_counted state ≤ greatest_count
+no_buffers-fit state adapter = by_test (state.receive_ring.head == state.receive_ring.tail)
+  where
+    by_test : (test : Bool) → (if test then one_more state.no_receive_buffers else state.no_receive_buffers) ≤ greatest_count
+    by_test true = one_more-fits state.no_receive_buffers
+    by_test false = adapter.counters.no_buffers
+
+IsAdapter-took : (answer : Stepped) (memory : List ℕ) (state : AdapterState) → IsAdapter state → IsAdapter (after_take answer memory state)
+IsAdapter-took Took memory state adapter =
+    IsAdapter-with_causes (causes_of_taking state.transmit_ring) _ (cause-alone _ 0x2 refl)
+    (record { tables = adapter.tables; allocation = adapter.allocation; causes = adapter.causes; counters = adapter.counters })
+IsAdapter-took Fault memory state adapter =
+    record { tables = adapter.tables; allocation = adapter.allocation; causes = adapter.causes; counters = adapter.counters }
+IsAdapter-took _ memory state adapter = adapter
+
+putting-alone : (buffer : List Queued) → IsSubset (causes_of_putting buffer) all_causes
+putting-alone [] = refl
+putting-alone (queued ∷ later) = cause-alone queued.report 0x1 refl
+
+IsAdapter-put : (answer : Stepped) (state : AdapterState) → IsAdapter state → IsAdapter (after_put answer state)
+IsAdapter-put (Put frame) state adapter =
+    let counters = adapter.counters in
+    IsAdapter-with_causes (causes_of_putting state.transmitter.buffer) _ (putting-alone state.transmitter.buffer)
+    (record {
+      tables = adapter.tables;
+      allocation = adapter.allocation;
+      causes = adapter.causes;
+      counters = record {
+        missed = counters.missed;
+        received = counters.received;
+        transmitted = one_more-fits state.transmitted_packets;
+        no_buffers = counters.no_buffers;
+      };
+    })
+IsAdapter-put _ state adapter = adapter
+
+IsAdapter-moved : (answer : Stepped) (state : AdapterState) → IsAdapter state → IsAdapter (after_data answer state)
+IsAdapter-moved Moved state adapter =
+    IsAdapter-with_causes (causes_of_moving state.receive_ring) _ (cause-alone _ 0x10 refl)
+    (record { tables = adapter.tables; allocation = adapter.allocation; causes = adapter.causes; counters = adapter.counters })
+IsAdapter-moved Fault state adapter =
+    record { tables = adapter.tables; allocation = adapter.allocation; causes = adapter.causes; counters = adapter.counters }
+IsAdapter-moved _ state adapter = adapter
+
+IsAdapter-done : (answer : Stepped) (state : AdapterState) → IsAdapter state → IsAdapter (after_done answer state)
+IsAdapter-done Done state adapter =
+    let counters = adapter.counters in
+    IsAdapter-with_causes 0x80 _ refl
+    (record {
+      tables = adapter.tables;
+      allocation = adapter.allocation;
+      causes = adapter.causes;
+      counters = record {
+        missed = counters.missed;
+        received = one_more-fits state.received_packets;
+        transmitted = counters.transmitted;
+        no_buffers = counters.no_buffers;
+      };
+    })
+IsAdapter-done _ state adapter = adapter
+
+pub IsAdapter-arrived : (fate : Fate) (frame : List ℕ) (state : AdapterState) → IsAdapter state → IsAdapter (after_arrive fate frame state)
+IsAdapter-arrived Missed frame state adapter =
+    let counters = adapter.counters in
+    IsAdapter-with_causes 0x40 _ refl
+    (record {
+      tables = adapter.tables;
+      allocation = adapter.allocation;
+      causes = adapter.causes;
+      counters = record {
+        missed = one_more-fits state.missed_packets;
+        received = counters.received;
+        transmitted = counters.transmitted;
+        no_buffers = no_buffers-fit state adapter;
+      };
+    })
+IsAdapter-arrived Stored frame state adapter =
+    let counters = adapter.counters in
+    record {
+      tables = adapter.tables;
+      allocation = adapter.allocation;
+      causes = adapter.causes;
+      counters = record {
+        missed = counters.missed;
+        received = counters.received;
+        transmitted = counters.transmitted;
+        no_buffers = no_buffers-fit state adapter;
+      };
+    }
+IsAdapter-arrived _ frame state adapter = adapter
+
+pub IsAdapter-stepped : (kind : StepKind) (answer : Stepped) (memory : List ℕ) (state : AdapterState) → IsAdapter state
+    → IsAdapter (after_step kind answer memory state)
+IsAdapter-stepped TxTake answer memory state adapter = IsAdapter-took answer memory state adapter
+IsAdapter-stepped TxPut answer memory state adapter = IsAdapter-put answer state adapter
+IsAdapter-stepped RxData answer memory state adapter = IsAdapter-moved answer state adapter
+IsAdapter-stepped RxDone answer memory state adapter = IsAdapter-done answer state adapter
+IsAdapter-stepped EepromTick answer memory state adapter =
+    record { tables = adapter.tables; allocation = adapter.allocation; causes = adapter.causes; counters = adapter.counters }
+IsAdapter-stepped PhyTick answer memory state adapter = IsAdapter-told (mdi.told state.mdic state.phy) state adapter
+
+pub IsAdapter-after_event : (event : Event) (state : AdapterState) → IsAdapter state → IsAdapter (after_event event state)
+IsAdapter-after_event (Read offset) state adapter = by_case (register_at offset)
+  where
+    by_case : (found : Option Register) → IsAdapter (left_by_read found state)
+    by_case (Some register) = IsAdapter-read register state adapter
+    by_case None = adapter
+IsAdapter-after_event (Write offset value) state adapter = by_case (register_at offset)
+  where
+    by_case : (found : Option Register) → IsAdapter (left_by_write found value state)
+    by_case (Some register) = IsAdapter-written register value state adapter
+    by_case None = adapter
+IsAdapter-after_event (Step kind answer memory) state adapter = IsAdapter-stepped kind answer memory state adapter
+IsAdapter-after_event (Arrive fate frame) state adapter = IsAdapter-arrived fate frame state adapter
+
+pub IsAdapter-after_events : (events : List Event) (state : AdapterState) → IsAdapter state → IsAdapter (after_events events state)
+IsAdapter-after_events [] state adapter = adapter
+IsAdapter-after_events (event ∷ later) state adapter =
+    IsAdapter-after_events later (after_event event state) (IsAdapter-after_event event state adapter)

@@ -1,0 +1,112 @@
+-- What steps and arrivals do to the frames of an adapter, proved.
+use Rattle.std.proofs.Common.{◌≡◌, ◌≤◌, ◌<◌, ◌++◌, ◌∷◌, [], ◌&&◌, ◌+◌, ℕ, List, All, Bool, true, false, length, Option, None, drop, refl, sym, ap, ◌∙◌, subst, append_assoc, inr, nat_lt, nat_le, if◌then◌else◌, arith}
+use Rattle.std.proofs.lemmas.Bool.{and_parts, false≢true, le-leb, ltb-true}
+use Rattle.std.proofs.lemmas.List.{append-nil}
+use Rattle.dma_memory.specs.HostMemory.{with_bytes}
+use Rattle.descriptors.specs.declared.ring.Ring.{Ring}
+use Rattle.descriptors.specs.Ring.{address_of, owned}
+use Rattle.rx_engine.specs.Engine.{Engine}
+use Rattle.rx_engine.specs.Finishing.{IsFinished, finished_bytes, memory_after_done}
+use Rattle.rx_engine.specs.Held.{frame_of_work, held, in_work}
+use Rattle.rx_engine.specs.Laws.{held-after_data, written_back-finished}
+use Rattle.rx_engine.specs.Moving.{is_half_free}
+use Rattle.rx_engine.specs.declared.arrival.Fate.TheVariants.{Stored}
+use Rattle.rx_engine.specs.declared.data.Data.TheVariants as answers
+use Rattle.rx_engine.specs.declared.engine.Work.{Work}
+use Rattle.tx_engine.specs.Fetching.{pads}
+use Rattle.tx_engine.specs.Laws.{to_send-put, to_send-take}
+use Rattle.tx_engine.specs.StatusLaws.{to_send-away}
+use Rattle.tx_engine.specs.Steps.{IfFront, status_place, written_back}
+use Rattle.tx_engine.specs.ToSend.{IsAwayFrom, to_send}
+use Rattle.tx_engine.specs.Transmitter.{Queued}
+use Rattle.adapter.specs.declared.step.Stepped.TheVariants.{Took, Put, WireFull, Moved, Done, Ticked, Nothing, Fault}
+use Rattle.adapter.specs.Frames.{ArrivalGrowsFrames, DataLeavesFrames, DoneFinishesDescriptor, DoneTakesFirstFrame, PuttingTakesFirst, TakingLeavesFrames}
+use Rattle.adapter.specs.Receiving.{memory_after_done_step}
+use Rattle.adapter.specs.Rings.{ring_of}
+use Rattle.adapter.specs.Transmitting.{IsOldest, moved_on, reported}
+
+pub taking_leaves_frames : TakingLeavesFrames
+taking_leaves_frames memory state Took told =
+    to_send-take memory (ring_of state.transmit_ring) (pads state.transmit_control) state.transmitter.buffer told.1.sound
+    (λ same. told.0 (inr (inr (inr same))))
+taking_leaves_frames memory state Fault told = refl
+taking_leaves_frames memory state Nothing told = refl
+taking_leaves_frames memory state (Put frame) told = refl
+taking_leaves_frames memory state WireFull told = refl
+taking_leaves_frames memory state Moved told = refl
+taking_leaves_frames memory state Done told = refl
+taking_leaves_frames memory state Ticked told = refl
+
+-- what a report leaves of the frames to be sent
+reported-leaves : (memory : List ℕ) (ring : Ring) (pad : Bool) (queued : Queued) (later : List Queued)
+    → All (λ slot. IsAwayFrom memory (status_place queued) (address_of ring slot)) (owned ring)
+    → to_send (written_back memory queued) ring pad later ≡ to_send memory ring pad later
+reported-leaves memory ring pad queued later apart =
+    by_test (queued.report && nat_lt (status_place queued) (length memory)) (λ passes. passes)
+  where
+    by_test : (test : Bool) → (test ≡ true → (queued.report && nat_lt (status_place queued) (length memory)) ≡ true)
+        → to_send (if test then with_bytes memory (status_place queued) (1 ∷ []) else memory) ring pad later ≡ to_send memory ring pad later
+    by_test true passes =
+        let within : status_place queued < length memory = ltb-true _ _ (and_parts _ _ (passes refl)).1 in
+        to_send-away memory ring pad later (status_place queued) 1 (omega arith) apart
+    by_test false passes = refl
+
+pub putting_takes_first : PuttingTakesFirst
+putting_takes_first wire_free memory state frame told apart = by_buffer state.transmitter.buffer told.1 apart
+  where
+    ring : Ring
+    ring = ring_of state.transmit_ring
+
+    by_buffer : (buffer : List Queued)
+        → IsOldest buffer frame
+        → IfFront buffer (λ queued. All (λ slot. IsAwayFrom memory (status_place queued) (address_of ring slot)) (owned ring))
+        → to_send memory ring (pads state.transmit_control) buffer
+        ≡ frame ∷ to_send (reported buffer memory) ring (pads state.transmit_control) (drop 1 buffer)
+    by_buffer [] none apart = absurd none
+    by_buffer (queued ∷ later) same apart =
+        to_send-put memory ring (pads state.transmit_control) queued later
+        ∙ ap (λ (f : List ℕ). f ∷ to_send memory ring (pads state.transmit_control) later) same
+        ∙ ap (λ (fs : List (List ℕ)). frame ∷ fs) (sym (reported-leaves memory ring (pads state.transmit_control) queued later apart))
+
+pub data_leaves_frames : DataLeavesFrames
+data_leaves_frames memory state Moved told apart =
+    held-after_data state.filter.rctl (ring_of state.receive_ring) state.receiver memory (answers.Moved (is_half_free (ring_of (moved_on state.receive_ring))))
+    (λ moved. record { has = told.0; can = told.1; apart = apart })
+data_leaves_frames memory state Fault told apart = refl
+data_leaves_frames memory state Nothing told apart = refl
+data_leaves_frames memory state (Put frame) told apart = refl
+data_leaves_frames memory state WireFull told apart = refl
+data_leaves_frames memory state Took told apart = refl
+data_leaves_frames memory state Done told apart = refl
+data_leaves_frames memory state Ticked told apart = refl
+
+-- the frames held, behind the one in work
+behind_work : (memory memory' : List ℕ) (engine : Engine) → held memory engine ≡ in_work memory engine.work ++ held memory' (record engine { work = None })
+behind_work memory memory' engine = refl
+
+pub done_takes_first_frame : DoneTakesFirstFrame
+done_takes_first_frame memory state Done told = behind_work memory (memory_after_done_step memory state) state.receiver
+done_takes_first_frame memory state Nothing told = rw (told) refl
+done_takes_first_frame memory state Fault told = absurd told
+done_takes_first_frame memory state (Put frame) told = absurd told
+done_takes_first_frame memory state WireFull told = absurd told
+done_takes_first_frame memory state Took told = absurd told
+done_takes_first_frame memory state Moved told = absurd told
+done_takes_first_frame memory state Ticked told = absurd told
+
+pub done_finishes_descriptor : DoneFinishesDescriptor
+done_finishes_descriptor memory state work engine is lies apart =
+    subst (λ (place : Option Work). IsFinished (memory_after_done place memory) work.descriptor (frame_of_work memory work)) (sym is)
+    (by_test (nat_le (work.descriptor + 16) (length memory)) (λ fails. fails))
+  where
+    short : work.length ≤ 1518
+    short = engine.most work is
+
+    by_test : (test : Bool) → (test ≡ false → nat_le (work.descriptor + 16) (length memory) ≡ false)
+        → IsFinished (if test then with_bytes memory (work.descriptor + 8) (finished_bytes work.length) else memory) work.descriptor (frame_of_work memory work)
+    by_test true fails = written_back-finished memory work.descriptor work.length (omega arith) lies apart
+    by_test false fails = absurd (false≢true (sym (fails refl) ∙ le-leb (work.descriptor + 16) (length memory) (omega arith)))
+
+pub arrival_grows_frames : ArrivalGrowsFrames
+arrival_grows_frames memory frame state Stored = sym (append_assoc (in_work memory state.receiver.work) state.receiver.buffer (frame ∷ []))
+arrival_grows_frames memory frame state _ = sym (append-nil (held memory state.receiver))

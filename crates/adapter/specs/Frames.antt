@@ -1,0 +1,77 @@
+-- The frames that an adapter holds, and what its steps and arrivals do to them (own): what the engines' laws are of an adapter.
+use Rattle.std.specs.Prelude.{◌≡◌, ◌++◌, ◌∷◌, ℕ, List, All, Bool, length, Some}
+use Rattle.dma_memory.specs.HostMemory.{LiesIn}
+use Rattle.descriptors.specs.Ring.{address_of, owned}
+use Rattle.rx_engine.specs.Arriving.{kept}
+use Rattle.rx_engine.specs.Descriptors.{AreApart, named_address}
+use Rattle.rx_engine.specs.Engine.{IsEngine, oldest}
+use Rattle.rx_engine.specs.Finishing.{IsFinished, StandsApart}
+use Rattle.rx_engine.specs.Held.{frame_of_work, held, in_work}
+use Rattle.rx_engine.specs.declared.arrival.Fate.{Fate}
+use Rattle.rx_engine.specs.declared.engine.Work.{Work}
+use Rattle.tx_engine.specs.Fetching.{pads}
+use Rattle.tx_engine.specs.Steps.{IfFront, status_place}
+use Rattle.tx_engine.specs.ToSend.{IsAwayFrom, to_send}
+use Rattle.adapter.specs.declared.step.Stepped.{Stepped}
+use Rattle.adapter.specs.declared.step.Stepped.TheVariants.{Put}
+use Rattle.adapter.specs.Receiving.{DataAnswers, DoneAnswers, after_arrive, after_data, after_done, memory_after_data_step, memory_after_done_step}
+use Rattle.adapter.specs.Rings.{ring_of}
+use Rattle.adapter.specs.State.{AdapterState}
+use Rattle.adapter.specs.Transmitting.{PutAnswers, TakeAnswers, after_put, after_take, memory_after_put}
+
+-- the frames still to be sent: those in the transmit packet buffer, then those that the descriptors from TDH to TDT name, as they go onto the wire
+abbrev pub frames_to_send : List ℕ → AdapterState → List (List ℕ)
+frames_to_send memory state = to_send memory (ring_of state.transmit_ring) (pads state.transmit_control) state.transmitter.buffer
+
+-- the frames on their way into a finished descriptor: the one in work, as it stands in memory, then those in the receive packet buffer
+abbrev pub frames_held : List ℕ → AdapterState → List (List ℕ)
+frames_held memory state = held memory state.receiver
+
+-- A step that takes leaves the frames to be sent, whatever it answers.
+abbrev pub TakingLeavesFrames : Type 0
+TakingLeavesFrames =
+    (memory : List ℕ) (state : AdapterState) (answer : Stepped) → TakeAnswers memory state answer
+    → frames_to_send memory (after_take answer memory state) ≡ frames_to_send memory state
+
+-- Byte 12 of the descriptor of the oldest frame is apart from the descriptors that are still to be taken, and from their frames.
+abbrev pub ReportStandsApart : List ℕ → AdapterState → Type 0
+ReportStandsApart memory state =
+    IfFront state.transmitter.buffer (λ queued.
+    All (λ slot. IsAwayFrom memory (status_place queued) (address_of (ring_of state.transmit_ring) slot)) (owned (ring_of state.transmit_ring)))
+
+-- A step that puts a frame takes the front of the frames to be sent.
+abbrev pub PuttingTakesFirst : Type 0
+PuttingTakesFirst =
+    (wire_free : Bool) (memory : List ℕ) (state : AdapterState) (frame : List ℕ) → PutAnswers wire_free state (Put frame) → ReportStandsApart memory state
+    → frames_to_send memory state ≡ frame ∷ frames_to_send (memory_after_put (Put frame) memory state) (after_put (Put frame) state)
+
+-- The bytes that the oldest frame goes to are apart from the descriptor at RDH, which names them.
+abbrev pub PlaceStandsApart : List ℕ → AdapterState → Type 0
+PlaceStandsApart memory state =
+    let descriptor = address_of (ring_of state.receive_ring) state.receive_ring.head in
+    AreApart descriptor (named_address memory descriptor) (length (oldest state.receiver.buffer))
+
+-- A data step leaves the frames held, whatever it answers: the oldest of the packet buffer becomes the one in work.
+abbrev pub DataLeavesFrames : Type 0
+DataLeavesFrames =
+    (memory : List ℕ) (state : AdapterState) (answer : Stepped) → DataAnswers memory state answer → PlaceStandsApart memory state
+    → frames_held (memory_after_data_step answer memory state) (after_data answer state) ≡ frames_held memory state
+
+-- A done step takes the frame in work, which is the first of the frames held.
+abbrev pub DoneTakesFirstFrame : Type 0
+DoneTakesFirstFrame =
+    (memory : List ℕ) (state : AdapterState) (answer : Stepped) → DoneAnswers state answer
+    → frames_held memory state ≡ in_work memory state.receiver.work ++ frames_held (memory_after_done_step memory state) (after_done answer state)
+
+-- Its descriptor is then finished with that frame, where the frame stands apart from it.
+abbrev pub DoneFinishesDescriptor : Type 0
+DoneFinishesDescriptor =
+    (memory : List ℕ) (state : AdapterState) (work : Work) → IsEngine state.receiver → state.receiver.work ≡ Some work
+    → LiesIn memory work.descriptor 16 → StandsApart memory work.descriptor work.length
+    → IsFinished (memory_after_done_step memory state) work.descriptor (frame_of_work memory work)
+
+-- A frame that is stored is behind the frames held; any other fate leaves them.
+abbrev pub ArrivalGrowsFrames : Type 0
+ArrivalGrowsFrames =
+    (memory frame : List ℕ) (state : AdapterState) (fate : Fate)
+    → frames_held memory (after_arrive fate frame state) ≡ frames_held memory state ++ kept fate frame

@@ -1,0 +1,119 @@
+-- The ways of a frame from the wire into memory ("3.2 Packet Reception"): it arrives, a data step moves it to memory, and a done step
+-- writes its descriptor back.
+use Rattle.std.specs.Prelude.{◌≡◌, ◌≤◌, ◌<◌, ◌+◌, ◌/◌, ◌==◌, ℕ, List, IfSome, None, length, if◌then◌else◌}
+use Rattle.registers.specs.Bits.{HasBit}
+use Rattle.descriptors.specs.Frames.{IsLegal}
+use Rattle.descriptors.specs.Ring.{address_of}
+use Rattle.rx_engine.specs.Arriving.{IsAccepted, after_arrival}
+use Rattle.rx_engine.specs.Descriptors.{named_address, ChangesOnly}
+use Rattle.rx_engine.specs.Engine.{oldest}
+use Rattle.rx_engine.specs.Finishing.{engine_after_done, memory_after_done}
+use Rattle.rx_engine.specs.Moving.{HasFrameToMove, CanMove, engine_after_data, is_half_free, memory_after_data}
+use Rattle.rx_engine.specs.declared.arrival.Fate.{Fate}
+use Rattle.rx_engine.specs.declared.arrival.Fate.TheVariants.{Off, Illegal, Filtered, Missed, Stored}
+use Rattle.rx_engine.specs.declared.data.Data.TheVariants as answers
+use Rattle.rx_filter.specs.Passing.{Passes}
+use Rattle.rx_filter.specs.Registers.{filter_of}
+use Rattle.adapter.specs.declared.ring.RingRegisters.{RingRegisters}
+use Rattle.adapter.specs.declared.step.Stepped.{Stepped}
+use Rattle.adapter.specs.declared.step.Stepped.TheVariants.{Moved, Done, Nothing, Fault}
+use Rattle.adapter.specs.Recording.{one_more, with_causes}
+use Rattle.adapter.specs.Rings.{ring_of}
+use Rattle.adapter.specs.State.{AdapterState}
+use Rattle.adapter.specs.Transmitting.{moved_on}
+
+-- Arrivals.
+
+-- how many frames the receive packet buffer has room for: each takes 2,048 bytes of its kilobytes (own)
+abbrev pub room : AdapterState → ℕ
+room state = state.receive_kilobytes / 2
+
+-- a frame gets as far as the packet buffer
+abbrev pub GetsIn : AdapterState → List ℕ → Type 0
+GetsIn state frame = IsAccepted state.filter.rctl state.filter frame
+
+-- what each fate of a frame says of the adapter before it: the first that applies
+abbrev pub IsFate : AdapterState → List ℕ → Fate → Type 0
+IsFate state frame Off = ¬ (HasBit state.filter.rctl 1)
+IsFate state frame Illegal = HasBit state.filter.rctl 1 × (¬ (IsLegal frame))
+IsFate state frame Filtered = HasBit state.filter.rctl 1 × IsLegal frame × (¬ (Passes (filter_of state.filter) frame))
+IsFate state frame Missed = GetsIn state frame × (room state ≤ length state.receiver.buffer)
+IsFate state frame Stored = GetsIn state frame × (length state.receiver.buffer < room state)
+
+-- a frame that gets as far as the packet buffer while RDH equals RDT is counted by RNBC (own)
+abbrev pub no_buffers_counted : AdapterState → ℕ
+no_buffers_counted state = if state.receive_ring.head == state.receive_ring.tail then one_more state.no_receive_buffers else state.no_receive_buffers
+
+-- A frame that is stored is behind the others in the packet buffer; one that is missed is counted by MPC, and RXO, bit 6, is recorded.
+abbrev pub after_arrive : Fate → List ℕ → AdapterState → AdapterState
+after_arrive Off frame state = state
+after_arrive Illegal frame state = state
+after_arrive Filtered frame state = state
+after_arrive Missed frame state =
+    with_causes 0x40 (record state { missed_packets = one_more state.missed_packets; no_receive_buffers = no_buffers_counted state })
+after_arrive Stored frame state =
+    record state { receiver = after_arrival Stored frame state.receiver; no_receive_buffers = no_buffers_counted state }
+
+-- Data steps.
+
+-- there is a frame to move, and a descriptor for it
+abbrev pub HasFrameAndDescriptor : AdapterState → Type 0
+HasFrameAndDescriptor state = HasFrameToMove state.filter.rctl (ring_of state.receive_ring) state.receiver
+
+-- the oldest frame of the packet buffer can be moved to where the descriptor at RDH says
+abbrev pub CanMoveFrame : List ℕ → AdapterState → Type 0
+CanMoveFrame memory state = CanMove state.filter.rctl (ring_of state.receive_ring) memory (length (oldest state.receiver.buffer))
+
+-- what each answer of a data step says of the adapter and the memory before it
+abbrev pub DataAnswers : List ℕ → AdapterState → Stepped → Type 0
+DataAnswers memory state Nothing = ¬ (HasFrameAndDescriptor state)
+DataAnswers memory state Fault = HasFrameAndDescriptor state × (¬ (CanMoveFrame memory state))
+DataAnswers memory state Moved = HasFrameAndDescriptor state × CanMoveFrame memory state
+DataAnswers memory state _ = ⊥
+
+-- RXDMT0, bit 4, where the free descriptors become half the ring (13.4.17; 13.4.22, RDMTS 00)
+abbrev pub causes_of_moving : RingRegisters → ℕ
+causes_of_moving ring = if is_half_free (ring_of (moved_on ring)) then 0x10 else 0
+
+-- The oldest frame has left the packet buffer and is in work, and RDH has moved on. A fault stops the engine.
+abbrev pub after_data : Stepped → AdapterState → AdapterState
+after_data Moved state =
+    with_causes (causes_of_moving state.receive_ring) (record state {
+      receiver = engine_after_data (answers.Moved (is_half_free (ring_of (moved_on state.receive_ring)))) (ring_of state.receive_ring) state.receiver;
+      receive_ring = moved_on state.receive_ring;
+    })
+after_data Fault state = record state { receiver = engine_after_data answers.Fault (ring_of state.receive_ring) state.receiver }
+after_data _ state = state
+
+-- The oldest frame stands in the buffer that the descriptor at RDH names.
+abbrev pub memory_after_data_step : Stepped → List ℕ → AdapterState → List ℕ
+memory_after_data_step Moved memory state =
+    memory_after_data (answers.Moved (is_half_free (ring_of (moved_on state.receive_ring)))) (ring_of state.receive_ring) state.receiver memory
+memory_after_data_step _ memory state = memory
+
+-- A data step changes at most so many bytes of the buffer that the descriptor at RDH names as the oldest frame has.
+abbrev pub DataChangesOnly : AdapterState → List ℕ → List ℕ → Type 0
+DataChangesOnly state memory memory' =
+    ChangesOnly memory memory' (named_address memory (address_of (ring_of state.receive_ring) state.receive_ring.head)) (length (oldest state.receiver.buffer))
+
+-- Done steps.
+
+-- what each answer of a done step says
+abbrev pub DoneAnswers : AdapterState → Stepped → Type 0
+DoneAnswers state Nothing = state.receiver.work ≡ None
+DoneAnswers state Done = ¬ (state.receiver.work ≡ None)
+DoneAnswers state _ = ⊥
+
+-- No frame is in work; RXT0, bit 7, is recorded, and the frame is counted by GPRC (its place of counting is own).
+abbrev pub after_done : Stepped → AdapterState → AdapterState
+after_done Done state =
+    with_causes 0x80 (record state { receiver = engine_after_done state.receiver; received_packets = one_more state.received_packets })
+after_done _ state = state
+
+-- Bytes 8 to 15 of the descriptor in work are written, where it lies in memory.
+abbrev pub memory_after_done_step : List ℕ → AdapterState → List ℕ
+memory_after_done_step memory state = memory_after_done state.receiver.work memory
+
+-- A done step changes at most bytes 8 to 15 of the descriptor in work.
+abbrev pub DoneChangesOnly : AdapterState → List ℕ → List ℕ → Type 0
+DoneChangesOnly state memory memory' = IfSome state.receiver.work (λ work. ChangesOnly memory memory' (work.descriptor + 8) 8)

@@ -1,0 +1,92 @@
+-- The two steps of transmission ("3.3 Packet Transmission"): a frame is taken from the ring, and a frame is put onto the wire.
+use Rattle.std.specs.Prelude.{◌≡◌, ◌≢◌, ◌==◌, ◌++◌, ◌∷◌, [], ℕ, List, Bool, true, false, drop, if◌then◌else◌}
+use Rattle.descriptors.specs.Ring.{address_of, next_of}
+use Rattle.tx_engine.specs.Fetching.{IsIdle, IsFetchable, fetched, pads}
+use Rattle.tx_engine.specs.Steps.{DiffersAtMostAt, IfFront, status_place, written_back}
+use Rattle.tx_engine.specs.Transmitter.{Queued}
+use Rattle.adapter.specs.declared.ring.RingRegisters.{RingRegisters}
+use Rattle.adapter.specs.declared.step.Stepped.{Stepped}
+use Rattle.adapter.specs.declared.step.Stepped.TheVariants.{Took, Put, WireFull, Nothing, Fault}
+use Rattle.adapter.specs.Recording.{one_more, with_causes}
+use Rattle.adapter.specs.Rings.{ring_of}
+use Rattle.adapter.specs.State.{AdapterState}
+
+-- Taking.
+
+-- there is nothing to take: TCTL.EN is 0, a fault has stopped the engine, the packet buffer holds four frames, or TDH equals TDT
+abbrev pub HasNothingToTake : AdapterState → Type 0
+HasNothingToTake state = IsIdle state.transmit_control state.transmitter (ring_of state.transmit_ring)
+
+-- the descriptor at TDH can be taken
+abbrev pub CanTake : List ℕ → AdapterState → Type 0
+CanTake memory state = IsFetchable memory (ring_of state.transmit_ring)
+
+-- what each answer of a step that takes says of the adapter and the memory before it
+abbrev pub TakeAnswers : List ℕ → AdapterState → Stepped → Type 0
+TakeAnswers memory state Nothing = HasNothingToTake state
+TakeAnswers memory state Fault = (¬ (HasNothingToTake state)) × (¬ (CanTake memory state))
+TakeAnswers memory state Took = (¬ (HasNothingToTake state)) × CanTake memory state
+TakeAnswers memory state _ = ⊥
+
+-- the ring's registers with the head moved on
+abbrev pub moved_on : RingRegisters → RingRegisters
+moved_on ring = record ring { head = next_of (ring_of ring) ring.head }
+
+-- TXQE, bit 1, where head has become tail (13.4.17)
+abbrev pub causes_of_taking : RingRegisters → ℕ
+causes_of_taking ring = if (moved_on ring).head == ring.tail then 0x2 else 0
+
+-- The frame is behind the others in the packet buffer, and TDH has moved on. A fault stops the engine.
+abbrev pub after_take : Stepped → List ℕ → AdapterState → AdapterState
+after_take Took memory state =
+    with_causes (causes_of_taking state.transmit_ring) (record state {
+      transmitter = record state.transmitter {
+        buffer = state.transmitter.buffer
+            ++ fetched (pads state.transmit_control) memory (address_of (ring_of state.transmit_ring) state.transmit_ring.head) ∷ [];
+      };
+      transmit_ring = moved_on state.transmit_ring;
+    })
+after_take Fault memory state = record state { transmitter = record state.transmitter { stopped = true } }
+after_take _ memory state = state
+
+-- Putting.
+
+-- this is the oldest frame of a packet buffer
+abbrev pub IsOldest : List Queued → List ℕ → Type 0
+IsOldest [] frame = ⊥
+IsOldest (queued ∷ later) frame = queued.frame ≡ frame
+
+-- what each answer of a step that puts says
+abbrev pub PutAnswers : Bool → AdapterState → Stepped → Type 0
+PutAnswers wire_free state Nothing = state.transmitter.buffer ≡ []
+PutAnswers wire_free state WireFull = (state.transmitter.buffer ≢ []) × (wire_free ≡ false)
+PutAnswers wire_free state (Put frame) = (wire_free ≡ true) × IsOldest state.transmitter.buffer frame
+PutAnswers wire_free state _ = ⊥
+
+-- TXDW, bit 0, where the descriptor of the oldest frame asks for a report (13.4.17; that it waits until the frame is on the wire is own)
+abbrev pub causes_of_putting : List Queued → ℕ
+causes_of_putting [] = 0
+causes_of_putting (queued ∷ later) = if queued.report then 0x1 else 0
+
+-- The oldest frame has left the packet buffer, and is counted by GPTC.
+abbrev pub after_put : Stepped → AdapterState → AdapterState
+after_put (Put frame) state =
+    with_causes (causes_of_putting state.transmitter.buffer) (record state {
+      transmitter = record state.transmitter { buffer = drop 1 state.transmitter.buffer };
+      transmitted_packets = one_more state.transmitted_packets;
+    })
+after_put _ state = state
+
+-- memory, once the oldest frame of a packet buffer is on the wire
+abbrev pub reported : List Queued → List ℕ → List ℕ
+reported [] memory = memory
+reported (queued ∷ later) memory = written_back memory queued
+
+-- Byte 12 of the descriptor of the frame put becomes 0x01 where it asks for a report.
+abbrev pub memory_after_put : Stepped → List ℕ → AdapterState → List ℕ
+memory_after_put (Put frame) memory state = reported state.transmitter.buffer memory
+memory_after_put _ memory state = memory
+
+-- A step that puts changes at most byte 12 of the descriptor of the oldest frame.
+abbrev pub PutChangesOnly : AdapterState → List ℕ → List ℕ → Type 0
+PutChangesOnly state memory memory' = IfFront state.transmitter.buffer (λ queued. DiffersAtMostAt (status_place queued) memory memory')

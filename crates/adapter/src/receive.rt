@@ -1,0 +1,95 @@
+// Arrivals and steps of reception.
+
+ghost use Rattle.std.specs.Prelude.{◌≡◌, length, if◌then◌else◌};
+ghost use Rattle.registers.specs.Bits.{IsSubset};
+ghost use Rattle.registers.specs.Kept.{all_causes};
+ghost use Rattle.rx_engine.specs.Engine.{IsEngine};
+ghost use Rattle.adapter.specs.State.{IsAdapter};
+ghost use Rattle.adapter.specs.Receiving.{DataAnswers, DataChangesOnly, DoneAnswers, DoneChangesOnly, IsFate, after_arrive, after_data, after_done, memory_after_data_step, memory_after_done_step, no_buffers_counted};
+
+use crate::Adapter;
+use crate::step::Stepped;
+use bitflags::Flags;
+use dma_memory::HostMemory;
+use registers::Cause;
+use rx_engine::{Data, Done, Fate, arrive, rx_data, rx_done};
+
+#[tactic(auto, using(registers::specs::Laws::subsets))]
+impl Adapter {
+    /// A frame comes from the wire. Its fate is the first of [`Fate`] that applies, by RCTL, the receive
+    /// filter and the room that PBA gives the packet buffer.
+    ///
+    /// A frame that is missed is counted by MPC and records RXO. One that is stored or missed while RDH
+    /// equals RDT is counted by RNBC (own).
+    pub fn arrive(&mut self, frame: &[u8]) -> Fate
+        ensures fate { IsFate self.old frame.now result }
+        ensures state { self.new ≡ after_arrive result frame.now self.old }
+        ensures adapter { IsAdapter self.old }
+        ensures receiver { IsEngine self.old.receiver }
+    {
+        let room = self.room();
+        let file = &mut self.file;
+        let fate = arrive(&mut self.receiver, file.rctl, &file.filter, room, frame);
+        match fate {
+            Fate::Off | Fate::Illegal | Fate::Filtered => {}
+            Fate::Missed => {
+                file.mpc.bump();
+                file.causes.raise(Cause::RXO);
+                file.count_no_buffers();
+            }
+            Fate::Stored => file.count_no_buffers(),
+        }
+        fate
+    }
+
+    /// Writes the oldest frame of the packet buffer to memory.
+    pub(crate) fn move_frame(&mut self, memory: &mut HostMemory) -> Stepped
+        ensures answer { DataAnswers memory.old self.old result }
+        ensures state { self.new ≡ after_data result self.old }
+        ensures memory { memory.new ≡ memory_after_data_step result memory.old self.old }
+        ensures only { DataChangesOnly self.old memory.old memory.new }
+        ensures size { length memory.new ≡ length memory.old }
+        ensures adapter { IsAdapter self.old }
+        ensures receiver { IsEngine self.old.receiver }
+    {
+        let file = &mut self.file;
+        let mut ring = file.receive_ring.ring();
+        match rx_data(&mut self.receiver, &mut ring, file.rctl, memory) {
+            Data::Nothing => Stepped::Nothing,
+            Data::Fault => Stepped::Fault,
+            Data::Moved { low } => {
+                file.receive_ring.head = ring.head;
+                file.causes.raise(causes_of_moving(low));
+                Stepped::Moved
+            }
+        }
+    }
+
+    /// Writes the descriptor of the frame in work back.
+    pub(crate) fn finish_frame(&mut self, memory: &mut HostMemory) -> Stepped
+        ensures answer { DoneAnswers self.old result }
+        ensures state { self.new ≡ after_done result self.old }
+        ensures memory { memory.new ≡ memory_after_done_step memory.old self.old }
+        ensures only { DoneChangesOnly self.old memory.old memory.new }
+        ensures size { length memory.new ≡ length memory.old }
+        ensures adapter { IsAdapter self.old }
+        ensures receiver { IsEngine self.old.receiver }
+    {
+        match rx_done(&mut self.receiver, memory) {
+            Done::Nothing => Stepped::Nothing,
+            Done::Done => {
+                self.file.causes.raise(Cause::RXT0);
+                self.file.gprc.bump();
+                Stepped::Done
+            }
+        }
+    }
+}
+
+/// The causes that a moved frame records: RXDMT0 where the free descriptors have become half the ring.
+fn causes_of_moving(low: bool) -> Cause
+    ensures causes { result.0 ≡ (if low then 0x10 else 0) }
+    ensures alone { IsSubset result.0 all_causes }
+{
+    if low { Cause::RXDMT0 } else { Cause::empty() }
+}
