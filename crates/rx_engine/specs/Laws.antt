@@ -1,6 +1,8 @@
 -- What the engine's steps do to the frames that it holds, and to descriptors.
-use Rattle.std.proofs.Common.{◌≡◌, ◌≤◌, ◌<◌, ◌+◌, ◌/◌, ◌%◌, ◌^◌, ◌⊎◌, inl, inr, ◌++◌, ◌∷◌, [], ℕ, List, length, drop, slice_index, refl, sym, ap, ◌∙◌, arith}
+use Rattle.std.proofs.Common.{◌≡◌, ◌≤◌, ◌<◌, ◌+◌, ◌/◌, ◌%◌, ◌^◌, ◌⊎◌, ⊎_elim, inl, inr, Option, None, Some, ◌++◌, ◌∷◌, [], ℕ, List, length, drop, slice_index, refl, sym, ap, ◌∙◌, Bool, if◌then◌else◌, arith}
+use Rattle.std.proofs.lemmas.Bool.{le-leb}
 use Rattle.std.proofs.lemmas.List.{drop_at, drop-drop, get_or-append_right}
+use Rattle.std.specs.Option.{ForSome}
 use Rattle.byteorder.specs.Endian.{little_number}
 use Rattle.byteorder.specs.Numbers.{little_from-append, little_from-take, little_number-reads_back}
 use Rattle.dma_memory.specs.HostMemory.{bytes_at, with_bytes, LiesIn}
@@ -10,9 +12,10 @@ use Rattle.descriptors.specs.RxDesc.{rx_desc_of}
 use Rattle.descriptors.specs.RxStatus.{status_bits, status_of}
 use Rattle.rx_engine.specs.Descriptors.{descriptor_at, named_address, AreApart, ChangesOnly}
 use Rattle.rx_engine.specs.Engine.{oldest}
-use Rattle.rx_engine.specs.Finishing.{finished_bytes, StandsApart, IsFinished}
-use Rattle.rx_engine.specs.Held.{frame_of_work, DataKeepsHeld}
+use Rattle.rx_engine.specs.Finishing.{finished_bytes, memory_after_done, StandsApart, IsFinished}
+use Rattle.rx_engine.specs.Held.{frame_of_work, in_work, AreAwayFromWork, DataKeepsHeld, DoneTakesFirst, OtherBytesLeaveHeld}
 use Rattle.rx_engine.specs.declared.data.Data.TheVariants.{Nothing, Moved, Fault}
+use Rattle.rx_engine.specs.declared.engine.Work.{Work}
 
 -- Where the bytes of a descriptor stay, it stays.
 pub descriptor_at-kept : (memory memory' : List ℕ) (at : ℕ) → bytes_at memory' at 16 ≡ bytes_at memory at 16 → descriptor_at memory' at ≡ descriptor_at memory at
@@ -100,6 +103,39 @@ written_back-finished memory at n short lies stands =
       length = ap (λ (d : RxDesc). d.length) desc ∙ sym count;
       bytes = ap (λ (d : RxDesc). bytes_at memory' d.address d.length) desc ∙ kept;
     }
+
+-- Where the descriptor in work lies in memory, a done step writes bytes 8 to 15 of it.
+pub memory_after_done-lies : (memory : List ℕ) (work : Work) → LiesIn memory work.descriptor 16 → memory_after_done (Some work) memory ≡ with_bytes memory (work.descriptor + 8) (finished_bytes work.length)
+memory_after_done-lies memory work lies =
+    ap (λ (test : Bool). if test then with_bytes memory (work.descriptor + 8) (finished_bytes work.length) else memory)
+    (le-leb (work.descriptor + 16) (length memory) (omega arith))
+
+-- A done step takes the first of the frames that the engine holds, which then stands finished.
+pub held-after_done : DoneTakesFirst
+held-after_done engine memory sound work is lies stands =
+    let most : work.length ≤ 1518 = sound.most work is in
+    let short : work.length < 2 ^ 16 = omega arith in
+    rw (is, memory_after_done-lies memory work lies) (record {
+      frame = frame_of_work memory work;
+      first = refl;
+      finished = written_back-finished memory work.descriptor work.length short lies stands;
+    })
+
+-- Bytes away from the frame in work and its descriptor leave the frame as it stands in memory.
+frame_of_work-away : (memory bytes : List ℕ) (place : ℕ) (work : Work) → LiesIn memory place (length bytes) → AreAwayFromWork memory place (length bytes) work → frame_of_work (with_bytes memory place bytes) work ≡ frame_of_work memory work
+frame_of_work-away memory bytes place work lies away =
+    let at = named_address memory work.descriptor in
+    let same : named_address (with_bytes memory place bytes) work.descriptor ≡ at = ap (λ (desc : RxDesc). desc.address) (descriptor_at-apart memory bytes work.descriptor place lies away.descriptor) in
+    ap (λ (address : ℕ). bytes_at (with_bytes memory place bytes) address work.length) same
+    ∙ bytes_at-elsewhere memory bytes place at work.length lies (⊎_elim inr inl away.frame)
+
+in_work-away : (memory bytes : List ℕ) (place : ℕ) (work : Option Work) → LiesIn memory place (length bytes) → ForSome work (AreAwayFromWork memory place (length bytes)) → in_work (with_bytes memory place bytes) work ≡ in_work memory work
+in_work-away memory bytes place None lies away = refl
+in_work-away memory bytes place (Some work) lies away = ap (λ (frame : List ℕ). frame ∷ []) (frame_of_work-away memory bytes place work lies (away work refl))
+
+-- and so the frames that the engine holds.
+pub held-elsewhere : OtherBytesLeaveHeld
+held-elsewhere memory engine place bytes lies away = ap (λ (frames : List (List ℕ)). frames ++ engine.buffer) (in_work-away memory bytes place engine.work lies away)
 
 -- A store changes at most its bytes.
 pub changes_only_stored : (memory memory' bytes : List ℕ) (address : ℕ) → memory' ≡ with_bytes memory address bytes → LiesIn memory address (length bytes) → ChangesOnly memory memory' address (length bytes)

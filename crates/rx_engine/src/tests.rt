@@ -74,39 +74,51 @@ fn the_first_fate_that_applies(rt: HostRuntime) -> Result<(), Fail> {
     Ok(())
 }
 
-/// The free descriptors of a ring of eight become half at the third of three frames.
+/// A frame goes to memory, and its descriptor is finished.
 #[test]
-fn three_frames_reach_memory(rt: HostRuntime) -> Result<(), Fail> {
+fn a_frame_reaches_memory(rt: HostRuntime) -> Result<(), Fail> {
+    let mut engine = RxEngine::new(rt.alloc())?;
+    let mut memory = offered_memory(&rt)?;
+    let mut ring = OFFERED;
+    let fate = arrive(&mut engine, CONTROL, &broadcast_filter(), 24, &[0xFF; 60]);
+    assert_eq!(rt; fate, Fate::Stored);
+    let moved = rx_data(&mut engine, &mut ring, CONTROL, &mut memory);
+    assert_eq!(rt; (moved, ring.head), (Data::Moved { low: false }, 1));
+    assert_eq!(rt; rx_done(&mut engine, &mut memory), Done::Done);
+    let mut descriptor = [0; 16];
+    memory.load(0, &mut descriptor)?;
+    assert_eq!(rt; descriptor, FINISHED);
+    assert_eq!(rt; memory.view(0x4800, 60)?, [0xFF; 60].as_slice());
+    Ok(())
+}
+
+/// While a frame is in work, the next one waits.
+#[test]
+fn one_frame_is_in_work(rt: HostRuntime) -> Result<(), Fail> {
     let mut engine = RxEngine::new(rt.alloc())?;
     let filter = broadcast_filter();
     let mut memory = offered_memory(&rt)?;
     let mut ring = OFFERED;
-    for last in [1, 2, 3] {
-        let mut frame = [0xFF; 60];
-        frame[59] = last;
-        assert_eq!(rt;
-            arrive(&mut engine, CONTROL, &filter, 24, &frame),
-            Fate::Stored
-        );
+    for _ in 0..2 {
+        let fate = arrive(&mut engine, CONTROL, &filter, 24, &[0xFF; 60]);
+        assert_eq!(rt; fate, Fate::Stored);
     }
-    let mut bytes = [0; 16];
-    for (low, head) in [(false, 1), (false, 2), (true, 3)] {
-        let moved = rx_data(&mut engine, &mut ring, CONTROL, &mut memory);
-        assert_eq!(rt; moved, Data::Moved { low });
-        assert_eq!(rt; ring.head, head);
-        let again = rx_data(&mut engine, &mut ring, CONTROL, &mut memory);
-        assert_eq!(rt; again, Data::Nothing, "a frame is in work");
-        let descriptor = engine.work().ok_or("a frame is in work")?.descriptor;
-        assert_eq!(rt; descriptor, 16 * u64::from(head - 1));
-        assert_eq!(rt; rx_done(&mut engine, &mut memory), Done::Done);
-        assert_eq!(rt; rx_done(&mut engine, &mut memory), Done::Nothing);
+    for data in [Data::Moved { low: false }, Data::Nothing] {
+        let went = rx_data(&mut engine, &mut ring, CONTROL, &mut memory);
+        assert_eq!(rt; went, data);
     }
-    memory.load(0, &mut bytes)?;
-    assert_eq!(rt; bytes, FINISHED);
-    for (address, last) in [(0x4800, 1), (0x5000, 2), (0x5800, 3)] {
-        let frame = memory.view(address, 60)?;
-        assert_eq!(rt; frame.first(), Some(&0xFF));
-        assert_eq!(rt; frame.last(), Some(&last));
+    assert_eq!(rt; engine.buffered(), 1);
+    Ok(())
+}
+
+/// The free descriptors of a ring of eight become half where four are left.
+#[test]
+fn half_of_the_descriptors_are_free(rt: HostRuntime) -> Result<(), Fail> {
+    let mut memory = offered_memory(&rt)?;
+    for (tail, low) in [(6, false), (5, true), (4, false)] {
+        let ring = Ring { tail, ..OFFERED };
+        let went = data_step(&rt, &mut memory, ring, CONTROL, &[0xFF; 60])?;
+        assert_eq!(rt; went, (Fate::Stored, Data::Moved { low }));
     }
     Ok(())
 }
@@ -146,18 +158,18 @@ fn a_fault_stops_the_engine(rt: HostRuntime) -> Result<(), Fail> {
     Ok(())
 }
 
-/// The data step of an engine that holds this frame.
+/// A frame comes to a new engine, and a data step follows.
 fn data_step(
     rt: &HostRuntime,
     memory: &mut HostMemory,
     ring: Ring,
     control: Rctl,
     frame: &[u8],
-) -> Result<Data, Fail> {
+) -> Result<(Fate, Data), Fail> {
     let mut ring = ring;
     let mut engine = RxEngine::new(rt.alloc())?;
-    let _ = arrive(&mut engine, CONTROL, &broadcast_filter(), 24, frame);
-    Ok(rx_data(&mut engine, &mut ring, control, memory))
+    let fate = arrive(&mut engine, CONTROL, &broadcast_filter(), 24, frame);
+    Ok((fate, rx_data(&mut engine, &mut ring, control, memory)))
 }
 
 /// A frame waits where no descriptor is offered, and where it has no place it is a fault.
@@ -179,13 +191,13 @@ fn no_place_for_a_frame(rt: HostRuntime) -> Result<(), Fail> {
     ] {
         assert_eq!(rt;
             data_step(&rt, &mut memory, ring, control, &[0xFF; 60])?,
-            data
+            (Fate::Stored, data)
         );
     }
     let small_buffers = Rctl(0x0003_8002);
-    let moved = data_step(&rt, &mut memory, OFFERED, small_buffers, &[0xFF; 256])?;
-    assert_eq!(rt; moved, Data::Moved { low: false });
-    let fault = data_step(&rt, &mut memory, OFFERED, small_buffers, &[0xFF; 257])?;
-    assert_eq!(rt; fault, Data::Fault);
+    let went = data_step(&rt, &mut memory, OFFERED, small_buffers, &[0xFF; 256])?;
+    assert_eq!(rt; went, (Fate::Stored, Data::Moved { low: false }));
+    let went = data_step(&rt, &mut memory, OFFERED, small_buffers, &[0xFF; 257])?;
+    assert_eq!(rt; went, (Fate::Stored, Data::Fault));
     Ok(())
 }

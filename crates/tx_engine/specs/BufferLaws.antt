@@ -25,12 +25,6 @@ side_by_side-push (first ∷ frames) (other ∷ reports) frame report same =
     let q : Queued = record { frame = first; descriptor = other.descriptor; report = other.wanted } in
     ap (λ (rest : List Queued). q ∷ rest) (side_by_side-push frames reports frame report (omega arith))
 
--- Without the oldest frame.
-pub side_by_side-drop : (frames : List (List ℕ)) (reports : List Report) → length frames ≡ length reports → side_by_side (drop 1 frames) (drop 1 reports) ≡ drop 1 (side_by_side frames reports)
-side_by_side-drop [] reports same = refl
-side_by_side-drop (frame ∷ frames) [] same = absurd (omega arith)
-side_by_side-drop (frame ∷ frames) (report ∷ reports) same = refl
-
 -- There are none exactly where there is no frame.
 pub side_by_side-none : (frames : List (List ℕ)) (reports : List Report) → length frames ≡ length reports → (frames ≡ []) ↔ (side_by_side frames reports ≡ [])
 side_by_side-none [] reports same = (λ none. refl, λ none. refl)

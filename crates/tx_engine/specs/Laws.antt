@@ -1,25 +1,19 @@
 -- The frames to be sent, step by step.
-use Rattle.std.proofs.Common.{◌≡◌, ◌-◌, replicate, ◌^◌, ◌==◌, ◌++◌, ◌∷◌, [], Bool, true, false, ℕ, List, length, map, drop, refl, sym, ap, ◌∙◌, append_assoc, arith, IsTrue, ◌↔◌, bit_and, cond}
+use Rattle.std.proofs.Common.{◌≡◌, ◌-◌, replicate, ◌^◌, ◌==◌, ◌++◌, ◌∷◌, [], Bool, true, false, ℕ, List, length, map, refl, sym, ap, ◌∙◌, append_assoc, arith, bit_and, cond}
 use Rattle.std.proofs.lemmas.Bool.{eqb-true, eq-eqb}
 use Rattle.std.proofs.lemmas.Bool.Decides.{same_from_decides}
 use Rattle.std.proofs.lemmas.List.{append-nil, map-append}
 use Rattle.registers.specs.Bits.{HasBit}
 use Rattle.registers.specs.Laws.{contains_bit}
-use Rattle.descriptors.specs.declared.ring.Ring.{Ring}
 use Rattle.descriptors.specs.Ring.{next_of, address_of, owned}
 use Rattle.descriptors.specs.RingLaws.{owned-head, owned-tail}
 use Rattle.tx_engine.specs.Transmitter.{Queued}
 use Rattle.tx_engine.specs.Fetching.{is_set, descriptor_at, named_by, frame_at, fetched, as_sent}
-use Rattle.tx_engine.specs.Steps.{IfFront}
 use Rattle.tx_engine.specs.ToSend.{to_send, TakingMovesFrames, PuttingTakesFront, OfferingAddsFrames}
 
 -- To contain a flag of one bit is to have that bit set.
 pub contains-is_set : (value place : ℕ) → (bit_and value (2 ^ place) == 2 ^ place) ≡ is_set value place
 contains-is_set value place = same_from_decides {P = HasBit value place} _ _ (contains_bit value place) (eqb-true _ _, eq-eqb _ _)
-
--- Where a test says whether a bit is set, it is that bit.
-pub same-is_set : (test : Bool) (value place : ℕ) → IsTrue test ↔ HasBit value place → test ≡ is_set value place
-same-is_set test value place decides = same_from_decides {P = HasBit value place} _ _ decides (eqb-true _ _, eq-eqb _ _)
 
 -- Taking moves the frame of the slot at the head from the ring's part to the buffer's end.
 pub to_send-take : TakingMovesFrames
@@ -47,12 +41,6 @@ to_send-offer memory ring pad buffer sound apart =
     ap (λ (slots : List ℕ). front ++ map frames slots) (owned-tail ring sound apart)
     ∙ ap (λ (behind : List (List ℕ)). front ++ behind) (map-append frames (owned ring) (ring.tail ∷ []))
     ∙ sym (append_assoc front (map frames (owned ring)) (frames ring.tail ∷ []))
-
--- The front of the frames to be sent is the oldest of the buffer.
-pub to_send-front : (memory : List ℕ) (buffer : List Queued) → IfFront buffer (λ queued. (ring : Ring) (pad : Bool) → to_send memory ring pad buffer ≡ queued.frame ∷ to_send memory ring pad (drop 1 buffer))
-unfolding to_send
-to_send-front memory [] = tt
-to_send-front memory (queued ∷ buffer) = λ ring pad. refl
 
 -- A frame followed by zeros up to 60 bytes, or up to none, is the frame as it is sent.
 zeros-as_sent : (pad : Bool) (frame : List ℕ) (least : ℕ) → least ≡ cond pad 60 0 → frame ++ replicate (least - length frame) 0 ≡ as_sent pad frame

@@ -1,7 +1,8 @@
--- What one byte written leaves: the other bytes, and the frames that are named elsewhere.
-use Rattle.std.proofs.Common.{◌≡◌, inl, inr, ⊎_elim, ◌≤◌, ◌<◌, ◌+◌, ◌++◌, ◌∷◌, [], Bool, ℕ, zero, suc, List, map, take, drop, slice_index, refl, sym, ap, ◌∙◌, arith, lit≤}
-use Rattle.std.proofs.lemmas.Bool.{cases_lt}
+-- What bytes that are written leave: the other bytes, and the frames that are named elsewhere.
+use Rattle.std.proofs.Common.{◌≡◌, inl, inr, ◌<◌, ◌+◌, ◌++◌, ◌∷◌, [], Bool, true, false, ◌&&◌, if◌then◌else◌, ℕ, zero, suc, List, length, map, drop, slice_index, refl, sym, ap, ◌∙◌, arith, lit≤}
+use Rattle.std.proofs.lemmas.Bool.{and_parts, ltb-true}
 use Rattle.std.proofs.lemmas.List.{get_or-drop}
+use Rattle.std.specs.Prelude.{nat_lt}
 use Rattle.std.specs.List.{All}
 use Rattle.byteorder.specs.Endian.{little_from, little_number}
 use Rattle.byteorder.specs.Numbers.{little_from-take}
@@ -12,27 +13,14 @@ use Rattle.descriptors.specs.Ring.{address_of, owned}
 use Rattle.descriptors.specs.TxDesc.{tx_desc_of}
 use Rattle.tx_engine.specs.Transmitter.{Queued}
 use Rattle.tx_engine.specs.Fetching.{descriptor_at, as_sent, frame_at}
-use Rattle.tx_engine.specs.ToSend.{to_send, IsApartFrom, IsAwayFrom, OtherBytesLeaveFrames}
+use Rattle.tx_engine.specs.Laws.{to_send-put}
+use Rattle.tx_engine.specs.Steps.{IfFront, status_place, written_back}
+use Rattle.tx_engine.specs.ToSend.{to_send, AreAwayFrom, IsApartFrom, IsAwayFrom, OtherBytesLeaveFrames}
 
--- Bytes apart from the byte that is written stay.
-bytes_at-apart : (memory : List ℕ) (place byte address n : ℕ) → LiesIn memory place 1 → IsApartFrom place address n → bytes_at (with_bytes memory place (byte ∷ [])) address n ≡ bytes_at memory address n
-bytes_at-apart memory place byte address n lies (inl before) = bytes_at-elsewhere memory (byte ∷ []) place address n lies (inr (omega arith))
-bytes_at-apart memory place byte address n lies (inr behind) = bytes_at-elsewhere memory (byte ∷ []) place address n lies (inl behind)
-
--- A byte is the first of those from its place on.
-slice_index-first : (bytes : List ℕ) (i : ℕ) → slice_index bytes i ≡ slice_index (take 1 (drop i bytes)) 0
-slice_index-first bytes i =
-    let at : i + 0 ≡ i = omega arith in
-    let first : (ys : List ℕ) → slice_index ys 0 ≡ slice_index (take 1 ys) 0 = λ ys. elim ys as (λ zs. slice_index zs 0 ≡ slice_index (take 1 zs) 0) [ [] ↦ refl | y ∷ rest ↦ refl ] in
-    ap (slice_index bytes) (sym at) ∙ sym (get_or-drop i bytes 0 0) ∙ first (drop i bytes)
-
--- The other bytes stay.
-pub slice_index-other : (memory : List ℕ) (place byte i : ℕ) → LiesIn memory place 1 → ¬ (i ≡ place) → slice_index (with_bytes memory place (byte ∷ [])) i ≡ slice_index memory i
-slice_index-other memory place byte i lies other =
-    let apart : IsApartFrom place i 1 = ⊎_elim (λ (before : place < i). inl before) (λ (behind : i ≤ place). inr (omega arith)) (cases_lt place i) in
-    slice_index-first (with_bytes memory place (byte ∷ [])) i
-    ∙ ap (λ (bytes : List ℕ). slice_index bytes 0) (bytes_at-apart memory place byte i 1 lies apart)
-    ∙ sym (slice_index-first memory i)
+-- Bytes apart from those that are written stay.
+bytes_at-apart : (memory bytes : List ℕ) (place address n : ℕ) → LiesIn memory place (length bytes) → IsApartFrom place (length bytes) address n → bytes_at (with_bytes memory place bytes) address n ≡ bytes_at memory address n
+bytes_at-apart memory bytes place address n lies (inl before) = bytes_at-elsewhere memory bytes place address n lies (inr before)
+bytes_at-apart memory bytes place address n lies (inr behind) = bytes_at-elsewhere memory bytes place address n lies (inl behind)
 
 -- A number behind a place is the number from that place on.
 little_from-drop : (j n i : ℕ) (bytes : List ℕ) → little_from j n (drop i bytes) ≡ little_from (i + j) n bytes
@@ -62,29 +50,54 @@ same-length : (memory changed : List ℕ) (address : ℕ) → bytes_at changed a
 unfolding tx_desc_of
 same-length memory changed address same = length-first_ten changed address ∙ ap (little_from 8 2) same ∙ sym (length-first_ten memory address)
 
--- A byte away from a descriptor and its frame leaves the frame.
-frame_at-away : (memory : List ℕ) (pad : Bool) (place byte address : ℕ) → LiesIn memory place 1 → IsAwayFrom memory place address → frame_at pad (with_bytes memory place (byte ∷ [])) address ≡ frame_at pad memory address
-frame_at-away memory pad place byte address lies away =
-    let changed = with_bytes memory place (byte ∷ []) in
+-- Bytes away from a descriptor and its frame leave the frame.
+frame_at-away : (memory bytes : List ℕ) (pad : Bool) (place address : ℕ) → LiesIn memory place (length bytes) → AreAwayFrom memory place (length bytes) address → frame_at pad (with_bytes memory place bytes) address ≡ frame_at pad memory address
+frame_at-away memory bytes pad place address lies away =
+    let changed = with_bytes memory place bytes in
     let old = descriptor_at memory address in
-    let ten = bytes_at-apart memory place byte address 10 lies away.fields in
+    let ten = bytes_at-apart memory bytes place address 10 lies away.fields in
     let at = same-address memory changed address ten in
     let size = same-length memory changed address ten in
     ap (as_sent pad)
     (ap (λ (a : ℕ). bytes_at changed a (descriptor_at changed address).length) at
     ∙ ap (λ (n : ℕ). bytes_at changed old.address n) size
-    ∙ bytes_at-apart memory place byte old.address old.length lies away.frame)
+    ∙ bytes_at-apart memory bytes place old.address old.length lies away.frame)
 
-frames-away : (memory : List ℕ) (ring : Ring) (pad : Bool) (place byte : ℕ) (slots : List ℕ) → LiesIn memory place 1 → All (λ slot. IsAwayFrom memory place (address_of ring slot)) slots → map (λ (slot : ℕ). frame_at pad (with_bytes memory place (byte ∷ [])) (address_of ring slot)) slots ≡ map (λ (slot : ℕ). frame_at pad memory (address_of ring slot)) slots
-frames-away memory ring pad place byte [] lies away = refl
-frames-away memory ring pad place byte (slot ∷ slots) lies away =
-    let first : frame_at pad (with_bytes memory place (byte ∷ [])) (address_of ring slot) ≡ frame_at pad memory (address_of ring slot) = frame_at-away memory pad place byte (address_of ring slot) lies (away 0 0 (omega arith)) in
-    let rest = frames-away memory ring pad place byte slots lies (λ k d below. away (suc k) d (omega arith)) in
-    ap (λ (frame : List ℕ). frame ∷ map (λ (slot : ℕ). frame_at pad (with_bytes memory place (byte ∷ [])) (address_of ring slot)) slots) first
+frames-away : (memory bytes : List ℕ) (ring : Ring) (pad : Bool) (place : ℕ) (slots : List ℕ) → LiesIn memory place (length bytes) → All (λ slot. AreAwayFrom memory place (length bytes) (address_of ring slot)) slots → map (λ (slot : ℕ). frame_at pad (with_bytes memory place bytes) (address_of ring slot)) slots ≡ map (λ (slot : ℕ). frame_at pad memory (address_of ring slot)) slots
+frames-away memory bytes ring pad place [] lies away = refl
+frames-away memory bytes ring pad place (slot ∷ slots) lies away =
+    let first : frame_at pad (with_bytes memory place bytes) (address_of ring slot) ≡ frame_at pad memory (address_of ring slot) = frame_at-away memory bytes pad place (address_of ring slot) lies (away 0 0 (omega arith)) in
+    let rest = frames-away memory bytes ring pad place slots lies (λ k d below. away (suc k) d (omega arith)) in
+    ap (λ (frame : List ℕ). frame ∷ map (λ (slot : ℕ). frame_at pad (with_bytes memory place bytes) (address_of ring slot)) slots) first
     ∙ ap (λ (frames : List (List ℕ)). frame_at pad memory (address_of ring slot) ∷ frames) rest
 
--- A byte away from the descriptors that the adapter owns and their frames leaves the frames to be sent.
-pub to_send-away : OtherBytesLeaveFrames
+-- Bytes away from the descriptors that the adapter owns and their frames leave the frames to be sent.
+pub to_send-elsewhere : OtherBytesLeaveFrames
 unfolding to_send
-to_send-away memory ring pad buffer place byte lies away =
-    ap (λ (frames : List (List ℕ)). map (λ (queued : Queued). queued.frame) buffer ++ frames) (frames-away memory ring pad place byte (owned ring) lies away)
+to_send-elsewhere memory ring pad buffer place bytes lies away =
+    ap (λ (frames : List (List ℕ)). map (λ (queued : Queued). queued.frame) buffer ++ frames) (frames-away memory bytes ring pad place (owned ring) lies away)
+
+-- So does one byte.
+pub to_send-away : (memory : List ℕ) (ring : Ring) (pad : Bool) (buffer : List Queued) (place byte : ℕ) → LiesIn memory place 1 → All (λ slot. IsAwayFrom memory place (address_of ring slot)) (owned ring) → to_send (with_bytes memory place (byte ∷ [])) ring pad buffer ≡ to_send memory ring pad buffer
+to_send-away memory ring pad buffer place byte lies away = to_send-elsewhere memory ring pad buffer place (byte ∷ []) lies away
+
+-- Of two memories with the same frames to be sent, either has them.
+to_send-either : (test : Bool) (memory changed : List ℕ) (ring : Ring) (pad : Bool) (buffer : List Queued) → (test ≡ true → to_send changed ring pad buffer ≡ to_send memory ring pad buffer) → to_send (if test then changed else memory) ring pad buffer ≡ to_send memory ring pad buffer
+to_send-either true memory changed ring pad buffer same = same refl
+to_send-either false memory changed ring pad buffer same = refl
+
+-- The status byte of a frame that has gone out, away from them, leaves the frames to be sent, whether it is written or not.
+pub to_send-written_back : (memory : List ℕ) (ring : Ring) (pad : Bool) (buffer : List Queued) (queued : Queued) → All (λ slot. IsAwayFrom memory (status_place queued) (address_of ring slot)) (owned ring) → to_send (written_back memory queued) ring pad buffer ≡ to_send memory ring pad buffer
+to_send-written_back memory ring pad buffer queued away =
+    let lies_there = nat_lt (status_place queued) (length memory) in
+    to_send-either (queued.report && lies_there) memory (with_bytes memory (status_place queued) (1 ∷ [])) ring pad buffer
+    (λ written.
+    let below : status_place queued < length memory = ltb-true (status_place queued) (length memory) (and_parts queued.report lies_there written).1 in
+    to_send-away memory ring pad buffer (status_place queued) 1 (omega arith) away)
+
+-- Once the oldest frame of the buffer has gone out, it was the front of the frames to be sent, and the others are left.
+pub to_send-gone : (memory changed : List ℕ) (buffer : List Queued) → IfFront buffer (λ queued. changed ≡ written_back memory queued) → IfFront buffer (λ queued. (ring : Ring) (pad : Bool) → All (λ slot. IsAwayFrom memory (status_place queued) (address_of ring slot)) (owned ring) → to_send memory ring pad buffer ≡ queued.frame ∷ to_send changed ring pad (drop 1 buffer))
+to_send-gone memory changed [] written = tt
+to_send-gone memory changed (queued ∷ rest) written = λ ring pad away.
+    let left : to_send changed ring pad rest ≡ to_send memory ring pad rest = ap (λ (m : List ℕ). to_send m ring pad rest) written ∙ to_send-written_back memory ring pad rest queued away in
+    to_send-put memory ring pad queued rest ∙ ap (λ (frames : List (List ℕ)). queued.frame ∷ frames) (sym left)

@@ -1,7 +1,8 @@
-ghost use Rattle.std.specs.Prelude.{◌≡◌, ◌↔◌, ◌∷◌, [], Bool, false, IsTrue, drop};
+ghost use Rattle.std.specs.Prelude.{◌≡◌, ◌↔◌, ◌∷◌, [], All, Bool, false, IsTrue, drop};
 ghost use Rattle.descriptors.specs.declared.ring.Ring.{Ring};
+ghost use Rattle.descriptors.specs.Ring.{address_of, owned};
 ghost use Rattle.tx_engine.specs.Steps.{IfPut, IfFront, DiffersAtMostAt, status_place, written_back};
-ghost use Rattle.tx_engine.specs.ToSend.{to_send};
+ghost use Rattle.tx_engine.specs.ToSend.{to_send, IsAwayFrom};
 
 use crate::Put;
 use crate::engine::TxEngine;
@@ -33,9 +34,10 @@ pub fn put(engine: &mut TxEngine, memory: &mut HostMemory, wire_free: bool) -> P
     ensures written { IfPut result (λ _. IfFront engine.old.buffer (λ queued. memory.new ≡ written_back memory.old queued)) }
     ensures one_byte { IfFront engine.old.buffer (λ queued. DiffersAtMostAt (status_place queued) memory.old memory.new) }
 
-    // The front of the frames to be sent has gone out.
+    // The front of the frames to be sent has gone out, and the others are left, where the status byte is away from them.
     ensures to_send { IfPut result (λ _. IfFront engine.old.buffer (λ queued.
-        (ring : Ring) (pad : Bool) → to_send memory.old ring pad engine.old.buffer ≡ queued.frame ∷ to_send memory.old ring pad engine.new.buffer)) }
+        (ring : Ring) (pad : Bool) → All (λ slot. IsAwayFrom memory.old (status_place queued) (address_of ring slot)) (owned ring)
+        → to_send memory.old ring pad engine.old.buffer ≡ queued.frame ∷ to_send memory.new ring pad engine.new.buffer)) }
 {
     if !wire_free {
         return if engine.is_empty() {

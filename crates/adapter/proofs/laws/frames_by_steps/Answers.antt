@@ -1,4 +1,4 @@
-use Rattle.adapter.specs.FrameLaws.{arrival_grows_frames, data_leaves_frames, done_finishes_descriptor, done_takes_first_frame, putting_takes_first, taking_leaves_frames}
+use Rattle.adapter.specs.FrameLaws.{arrival_grows_frames, data_leaves_frames, done_takes_first_frame, putting_takes_first, taking_leaves_frames}
 use Rattle.adapter.proofs.laws.frames_by_steps.Goals as goal
 
 pub returns-clause-taking : goal.returns-clause-taking
@@ -15,6 +15,3 @@ returns-clause-data c = data_leaves_frames
 
 pub returns-clause-done : goal.returns-clause-done
 returns-clause-done c = done_takes_first_frame
-
-pub returns-clause-finished : goal.returns-clause-finished
-returns-clause-finished c = done_finishes_descriptor
