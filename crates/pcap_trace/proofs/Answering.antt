@@ -3,20 +3,16 @@ use Rattle.std.proofs.Common.{◌≡◌, ◌≤◌, ◌⊎◌, ℕ, List, [], �
 use Rattle.std.specs.Prelude.{IfSome, IfOk, IfErr}
 use Rattle.std.specs.Io.KnownBytes.{IsAtEnd, prepend_known}
 use Rattle.std.proofs.lemmas.List.{drop-append-le}
-use Rattle.byteorder.specs.Endian.{little_number}
-use Rattle.byteorder.specs.Numbers.{little_from-append}
 use Rattle.pcap_trace.specs.declared.fault.ReadError.{ReadError}
 use Rattle.pcap_trace.specs.declared.fault.ReadError.TheVariants as errors
+use Rattle.pcap_trace.specs.declared.header.Endianness.{Endianness}
 use Rattle.pcap_trace.specs.declared.trace.Trace.{Trace}
 use Rattle.pcap_trace.specs.Devices.{Receives}
-use Rattle.pcap_trace.specs.Format.{oversized, ending_of, IsFileHeader, IsBody, IsTrace}
-use Rattle.pcap_trace.specs.Reading.{header_fault, HasOversized, IsAnswer, IsOnlyAnswer, IsBodyFault, is_of_bytes}
-use Rattle.pcap_trace.proofs.Bodies.{ReadsFirst}
+use Rattle.pcap_trace.specs.Format.{Order, number_in, oversized, ending_of, IsFileHeader, IsBody, IsTraceIn, IsTrace}
+use Rattle.pcap_trace.specs.Reading.{header_fault, IsHeaderFault, HasOversized, IsAnswer, IsOnlyAnswer, IsBodyFault, is_of_bytes}
 use Rattle.pcap_trace.proofs.Unique.{body_unique}
-use Rattle.pcap_trace.proofs.FileHeaders.{header_fault-record, header_fault-none, header_fault-known, IsFileHeader-from_none}
-
-pub little_first : ReadsFirst little_number
-little_first n xs ys long = little_from-append n xs ys long
+use Rattle.pcap_trace.proofs.Orders.{number_first, one_order}
+use Rattle.pcap_trace.proofs.FileHeaders.{header_fault-record, header_fault-none, header_fault-known, told_fault, told_fault-in, told_fault-magic, IsFileHeader-from_none}
 
 -- ---- no other answer fits
 
@@ -32,13 +28,23 @@ never_oversized false e = cc
 
 trace_unique : (bytes : List ℕ) (t u : Trace) → IsTrace bytes t.frames t.skipped t.cut → IsTrace bytes u.frames u.skipped u.cut → u ≡ t
 trace_unique bytes t u p q =
-    let same = body_unique little_number little_first (drop 24 bytes) u.frames t.frames u.skipped t.skipped (ending_of u.cut) (ending_of t.cut) q.1 p.1 in
+    let one : q.0 ≡ p.0 = one_order bytes q.0 p.0 q.1.0.magic_is p.1.0.magic_is in
+    let moved : IsTraceIn (number_in p.0) bytes u.frames u.skipped u.cut = subst (λ (o : Endianness). IsTraceIn (number_in o) bytes u.frames u.skipped u.cut) one q.1 in
+    let same = body_unique (number_in p.0) (number_first p.0) (drop 24 bytes) u.frames t.frames u.skipped t.skipped (ending_of u.cut) (ending_of t.cut) moved.1 p.1.1 in
     ap (λ (x : List (List ℕ)). record { frames = x; skipped = u.skipped; cut = u.cut }) same.0
     ∙ ap (λ (x : ℕ). record { frames = t.frames; skipped = x; cut = u.cut }) same.1
     ∙ ap (λ (x : Bool). record { frames = t.frames; skipped = t.skipped; cut = x }) (ending_cut u.cut t.cut same.2)
 
-not_both : (bytes : List ℕ) (t : Trace) → IsTrace bytes t.frames t.skipped t.cut → HasOversized little_number (drop 24 bytes) → ⊥
-not_both bytes t p q = never_oversized t.cut (body_unique little_number little_first (drop 24 bytes) t.frames q.0 t.skipped q.1 (ending_of t.cut) oversized p.1 q.2).2
+-- a body that ends with an oversized packet, behind a file header
+abbrev IsOversized : Endianness → List ℕ → Type 0
+IsOversized order bytes = IsFileHeader (number_in order) bytes × HasOversized (number_in order) (drop 24 bytes)
+
+not_both : (bytes : List ℕ) (t : Trace) → IsTrace bytes t.frames t.skipped t.cut → IsAnswer bytes (Err errors.Record) → ⊥
+not_both bytes t p q =
+    let one : q.0 ≡ p.0 = one_order bytes q.0 p.0 q.1.magic_is p.1.0.magic_is in
+    let moved : IsOversized p.0 bytes = subst (λ (o : Endianness). IsOversized o bytes) one (q.1, q.2) in
+    let big = moved.1 in
+    never_oversized t.cut (body_unique (number_in p.0) (number_first p.0) (drop 24 bytes) t.frames big.0 t.skipped big.1 (ending_of t.cut) oversized p.1.1 big.2).2
 
 -- what the header's fault is where an answer fits
 abbrev fault_of : Result Trace ReadError → Option ReadError
@@ -46,15 +52,15 @@ fault_of (Ok t) = None
 fault_of (Err errors.Record) = None
 fault_of (Err e) = Some e
 
-fault_of-answer : (bytes : List ℕ) (r : Result Trace ReadError) → is_of_bytes r ≡ true → IsAnswer bytes r → header_fault little_number bytes ≡ fault_of r
-fault_of-answer bytes (Ok t) speaks fits = header_fault-none little_number bytes fits.0
-fault_of-answer bytes (Err errors.Record) speaks fits = header_fault-none little_number bytes fits.0
+fault_of-answer : (bytes : List ℕ) (r : Result Trace ReadError) → is_of_bytes r ≡ true → IsAnswer bytes r → told_fault bytes ≡ fault_of r
+fault_of-answer bytes (Ok t) speaks fits = told_fault-in fits.0 bytes None (header_fault-none (number_in fits.0) bytes fits.1.0) (λ h. cc)
+fault_of-answer bytes (Err errors.Record) speaks fits = told_fault-in fits.0 bytes None (header_fault-none (number_in fits.0) bytes fits.1) (λ h. cc)
 fault_of-answer bytes (Err errors.Memory) speaks fits = absurd cc
 fault_of-answer bytes (Err errors.Read) speaks fits = absurd cc
-fault_of-answer bytes (Err errors.Header) speaks fits = fits
-fault_of-answer bytes (Err errors.Magic) speaks fits = fits
-fault_of-answer bytes (Err errors.Version) speaks fits = fits
-fault_of-answer bytes (Err errors.LinkType) speaks fits = fits
+fault_of-answer bytes (Err errors.Magic) speaks fits = told_fault-magic bytes fits
+fault_of-answer bytes (Err errors.Header) speaks fits = told_fault-in fits.0 bytes (Some errors.Header) fits.1 (λ h. cc)
+fault_of-answer bytes (Err errors.Version) speaks fits = told_fault-in fits.0 bytes (Some errors.Version) fits.1 (λ h. cc)
+fault_of-answer bytes (Err errors.LinkType) speaks fits = told_fault-in fits.0 bytes (Some errors.LinkType) fits.1 (λ h. cc)
 
 same_error : (e f : ReadError) → fault_of (Err e) ≡ fault_of (Err f) → is_of_bytes (Err e) ≡ true → is_of_bytes (Err f) ≡ true → f ≡ e
 same_error errors.Header errors.Header same speaks_e speaks_f = refl
@@ -75,8 +81,8 @@ at_record bytes e is fits = subst (λ (x : ReadError). IsAnswer bytes (Err x)) i
 
 same_answer : (bytes : List ℕ) (r s : Result Trace ReadError) → fault_of r ≡ fault_of s → is_of_bytes r ≡ true → is_of_bytes s ≡ true → IsAnswer bytes r → IsAnswer bytes s → s ≡ r
 same_answer bytes (Ok t) (Ok u) same speaks_r speaks_s p q = ap Ok (trace_unique bytes t u p q)
-same_answer bytes (Ok t) (Err e) same speaks_r speaks_s p q = absurd (not_both bytes t p (at_record bytes e (no_fault e same speaks_s) q).1)
-same_answer bytes (Err e) (Ok u) same speaks_r speaks_s p q = absurd (not_both bytes u q (at_record bytes e (no_fault e (sym same) speaks_r) p).1)
+same_answer bytes (Ok t) (Err e) same speaks_r speaks_s p q = absurd (not_both bytes t p (at_record bytes e (no_fault e same speaks_s) q))
+same_answer bytes (Err e) (Ok u) same speaks_r speaks_s p q = absurd (not_both bytes u q (at_record bytes e (no_fault e (sym same) speaks_r) p))
 same_answer bytes (Err e) (Err f) same speaks_r speaks_s p q = ap Err (same_error e f same speaks_r speaks_s)
 
 only_answer : (bytes : List ℕ) (r : Result Trace ReadError) → IsAnswer bytes r → IsOnlyAnswer bytes r
@@ -89,12 +95,12 @@ only_from_fits (Some bytes) r fits = only_answer bytes r fits
 
 -- ---- the answer of a reader, of whose bytes a block holds the front
 
-fault_fits : (bytes : List ℕ) (e : ReadError) → header_fault little_number bytes ≡ Some e → IsAnswer bytes (Err e)
+fault_fits : (bytes : List ℕ) (e : ReadError) → IsHeaderFault bytes e → IsAnswer bytes (Err e)
 fault_fits bytes errors.Header h = h
 fault_fits bytes errors.Magic h = h
 fault_fits bytes errors.Version h = h
 fault_fits bytes errors.LinkType h = h
-fault_fits bytes errors.Record h = absurd (header_fault-record little_number bytes h)
+fault_fits bytes errors.Record h = absurd (header_fault-record (number_in h.0) bytes h.1)
 fault_fits bytes errors.Memory h = tt
 fault_fits bytes errors.Read h = tt
 
@@ -102,37 +108,46 @@ fault_fits bytes errors.Read h = tt
 known_parts : (held bytes rest : List ℕ) → (r : Receives [] held (Some bytes) (Some rest)) → bytes ≡ held ++ rest
 known_parts held bytes rest r = r.2 ∙ ap (λ (t : List ℕ). t ++ rest) (sym r.1)
 
-pub fits_fault : (before left : Option (List ℕ)) (held : List ℕ) (e : ReadError) → Receives [] held before left → (24 ≤ length held) ⊎ IsAtEnd left → header_fault little_number held ≡ Some e
+-- the header's fault is that of the front
+fault_known : (order : Endianness) (held bytes rest : List ℕ) → Receives [] held (Some bytes) (Some rest) → (24 ≤ length held) ⊎ IsAtEnd (Some rest) → header_fault (number_in order) bytes ≡ header_fault (number_in order) held
+fault_known order held bytes rest r filled =
+    ap (header_fault (number_in order)) (known_parts held bytes rest r) ∙ header_fault-known (number_in order) (number_first order) held rest filled
+
+any_fault_known : (held bytes rest : List ℕ) (e : ReadError) → Receives [] held (Some bytes) (Some rest) → (24 ≤ length held) ⊎ IsAtEnd (Some rest) → IsHeaderFault held e → IsHeaderFault bytes e
+any_fault_known held bytes rest errors.Magic r filled h = λ order. fault_known order held bytes rest r filled ∙ h order
+any_fault_known held bytes rest e r filled h = (h.0, fault_known h.0 held bytes rest r filled ∙ h.1)
+
+pub fits_fault : (before left : Option (List ℕ)) (held : List ℕ) (e : ReadError) → Receives [] held before left → (24 ≤ length held) ⊎ IsAtEnd left → IsHeaderFault held e
     → IfSome before (λ bytes. IsAnswer bytes (Err e))
 fits_fault None left held e r filled fault = tt
 fits_fault (Some bytes) None held e r filled fault = absurd r.2
-fits_fault (Some bytes) (Some rest) held e r filled fault =
-    let is = known_parts held bytes rest r in
-    fault_fits bytes e (ap (header_fault little_number) is ∙ header_fault-known little_number little_first held rest filled ∙ fault)
+fits_fault (Some bytes) (Some rest) held e r filled fault = fault_fits bytes e (any_fault_known held bytes rest e r filled fault)
 
-body_fits : (bytes : List ℕ) (r : Result Trace ReadError) → IsFileHeader little_number bytes → IfOk r (λ t. IsBody little_number (drop 24 bytes) t.frames t.skipped (ending_of t.cut))
-    → IfErr r (λ e. IsBodyFault little_number (drop 24 bytes) e) → IsAnswer bytes r
-body_fits bytes (Ok t) header ok fault = (header, ok)
-body_fits bytes (Err errors.Record) header ok fault = (header, fault)
-body_fits bytes (Err errors.Memory) header ok fault = tt
-body_fits bytes (Err errors.Read) header ok fault = tt
-body_fits bytes (Err errors.Header) header ok fault = absurd fault
-body_fits bytes (Err errors.Magic) header ok fault = absurd fault
-body_fits bytes (Err errors.Version) header ok fault = absurd fault
-body_fits bytes (Err errors.LinkType) header ok fault = absurd fault
+body_fits : (order : Endianness) (bytes : List ℕ) (r : Result Trace ReadError) → IsFileHeader (number_in order) bytes
+    → IfOk r (λ t. IsBody (number_in order) (drop 24 bytes) t.frames t.skipped (ending_of t.cut))
+    → IfErr r (λ e. IsBodyFault (number_in order) (drop 24 bytes) e) → IsAnswer bytes r
+body_fits order bytes (Ok t) header ok fault = (order, (header, ok))
+body_fits order bytes (Err errors.Record) header ok fault = (order, header, fault)
+body_fits order bytes (Err errors.Memory) header ok fault = tt
+body_fits order bytes (Err errors.Read) header ok fault = tt
+body_fits order bytes (Err errors.Header) header ok fault = absurd fault
+body_fits order bytes (Err errors.Magic) header ok fault = absurd fault
+body_fits order bytes (Err errors.Version) header ok fault = absurd fault
+body_fits order bytes (Err errors.LinkType) header ok fault = absurd fault
 
-told_ok : (r : Result Trace ReadError) (b c : List ℕ) → b ≡ c → IfOk r (λ t. IsBody little_number b t.frames t.skipped (ending_of t.cut)) → IfOk r (λ t. IsBody little_number c t.frames t.skipped (ending_of t.cut))
-told_ok r b c is ok = subst (λ (x : List ℕ). IfOk r (λ t. IsBody little_number x t.frames t.skipped (ending_of t.cut))) is ok
+told_ok : (number : Order) (r : Result Trace ReadError) (b c : List ℕ) → b ≡ c → IfOk r (λ t. IsBody number b t.frames t.skipped (ending_of t.cut)) → IfOk r (λ t. IsBody number c t.frames t.skipped (ending_of t.cut))
+told_ok number r b c is ok = subst (λ (x : List ℕ). IfOk r (λ t. IsBody number x t.frames t.skipped (ending_of t.cut))) is ok
 
-pub fits_body : (before left : Option (List ℕ)) (held : List ℕ) (r : Result Trace ReadError) → Receives [] held before left → (24 ≤ length held) ⊎ IsAtEnd left → header_fault little_number held ≡ None
-    → IfOk r (λ t. IfSome (prepend_known (drop 24 held) left) (λ bytes. IsBody little_number bytes t.frames t.skipped (ending_of t.cut)))
-    → IfErr r (λ e. IfSome (prepend_known (drop 24 held) left) (λ bytes. IsBodyFault little_number bytes e))
+pub fits_body : (order : Endianness) (before left : Option (List ℕ)) (held : List ℕ) (r : Result Trace ReadError) → Receives [] held before left → (24 ≤ length held) ⊎ IsAtEnd left
+    → header_fault (number_in order) held ≡ None
+    → IfOk r (λ t. IfSome (prepend_known (drop 24 held) left) (λ bytes. IsBody (number_in order) bytes t.frames t.skipped (ending_of t.cut)))
+    → IfErr r (λ e. IfSome (prepend_known (drop 24 held) left) (λ bytes. IsBodyFault (number_in order) bytes e))
     → IfSome before (λ bytes. IsAnswer bytes r)
-fits_body None left held r got filled header ok fault = tt
-fits_body (Some bytes) None held r got filled header ok fault = absurd got.2
-fits_body (Some bytes) (Some rest) held r got filled header ok fault =
-    let is = known_parts held bytes rest got in
-    let held_header = IsFileHeader-from_none little_number held header in
-    let whole = IsFileHeader-from_none little_number bytes (ap (header_fault little_number) is ∙ header_fault-known little_number little_first held rest filled ∙ header) in
-    let behind : drop 24 held ++ rest ≡ drop 24 bytes = sym (ap (drop 24) is ∙ drop-append-le 24 held rest held_header.long_enough) in
-    body_fits bytes r whole (told_ok r (drop 24 held ++ rest) (drop 24 bytes) behind ok) (subst (λ (x : List ℕ). IfErr r (λ e. IsBodyFault little_number x e)) behind fault)
+fits_body order None left held r got filled header ok fault = tt
+fits_body order (Some bytes) None held r got filled header ok fault = absurd got.2
+fits_body order (Some bytes) (Some rest) held r got filled header ok fault =
+    let number = number_in order in
+    let held_header = IsFileHeader-from_none number held header in
+    let whole = IsFileHeader-from_none number bytes (fault_known order held bytes rest got filled ∙ header) in
+    let behind : drop 24 held ++ rest ≡ drop 24 bytes = sym (ap (drop 24) (known_parts held bytes rest got) ∙ drop-append-le 24 held rest held_header.long_enough) in
+    body_fits order bytes r whole (told_ok number r (drop 24 held ++ rest) (drop 24 bytes) behind ok) (subst (λ (x : List ℕ). IfErr r (λ e. IsBodyFault number x e)) behind fault)

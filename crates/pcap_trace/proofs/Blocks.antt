@@ -1,9 +1,8 @@
 -- The part of a block's memory that it holds, and what a read adds to it.
-use Rattle.std.proofs.Common.{◌≡◌, ◌≤◌, ◌+◌, ◌-◌, ℕ, List, [], ◌++◌, length, take, drop, Option, sym, ap, ◌∙◌, append_assoc, append-nil, arith}
+use Rattle.std.proofs.Common.{◌≡◌, ◌≤◌, ◌+◌, ◌-◌, ℕ, List, ◌++◌, length, take, drop, Option, sym, ap, ◌∙◌, arith}
 use Rattle.std.specs.Prelude.{slice_range}
 use Rattle.std.specs.List.{copy_within}
 use Rattle.std.specs.Io.KnownBytes.{Consumes}
-use Rattle.std.proofs.KnownBytes.{Consumes-nil, Consumes-trans}
 use Rattle.pcap_trace.specs.Devices.{Receives}
 use Rattle.std.proofs.lemmas.Slice.{between_is, between_from_start}
 use Rattle.std.proofs.lemmas.List.{drop-drop, take_at, length-take-le, length-drop}
@@ -33,15 +32,3 @@ read_more old moved new after start end count a b order within moved_is front to
     let whole : slice_range after 0 (k + count) ≡ held ++ slice_range new k (k + count) =
     ap (λ (t : List ℕ). slice_range t 0 (k + count)) after_is ∙ between_from_start new (k + count) ∙ take-add k count new ∙ ap (λ (t : List ℕ). t ++ take count (drop k new)) first ∙ ap (λ (t : List ℕ). held ++ t) (sym more) in
     (slice_range new k (k + count), whole, took)
-
--- ---- one read after another
-
-pub Receives-none : (held : List ℕ) (a : Option (List ℕ)) → Receives held held a a
-Receives-none held a = ([], sym (append-nil held), Consumes-nil a)
-
-pub Receives-more : (old mid new : List ℕ) (a b c : Option (List ℕ)) → Receives old mid a b → Receives mid new b c → Receives old new a c
-Receives-more old mid new a b c r s = (
-  r.0 ++ s.0,
-  s.1 ∙ ap (λ (t : List ℕ). t ++ s.0) r.1 ∙ append_assoc old r.0 s.0,
-  Consumes-trans a b c r.0 s.0 r.2 s.2,
-)

@@ -77,9 +77,6 @@ abbrev pub GoesOn : Order → List ℕ → List ℕ → List (List ℕ) → ℕ 
 GoesOn number bytes rest frames skipped =
     (more : List (List ℕ)) (others : ℕ) (e : Ending) → IsBody number rest more others e → IsBody number bytes (frames ++ more) (skipped + others) e
 
-pub GoesOn-start : (number : Order) (bytes : List ℕ) → GoesOn number bytes bytes [] 0
-GoesOn-start number bytes more others e b = subst (λ (n : ℕ). IsBody number bytes more n e) (omega arith) b
-
 pub GoesOn-kept : (number : Order) → ReadsFirst number → (bytes rest : List ℕ) (frames : List (List ℕ)) (skipped n : ℕ) → n ≡ captured_length number rest → n ≤ most_captured → 16 + n ≤ length rest
     → original_length number rest ≤ n → GoesOn number bytes rest frames skipped → GoesOn number bytes (drop n (drop 16 rest)) (frames ++ take n (drop 16 rest) ∷ []) skipped
 GoesOn-kept number first bytes rest frames skipped n told short long all so_far more others e b =

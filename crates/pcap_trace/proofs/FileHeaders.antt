@@ -1,13 +1,17 @@
 -- A file header, and the first of its faults.
-use Rattle.std.proofs.Common.{◌≡◌, ◌≤◌, ◌+◌, ◌⊎◌, inl, inr, ℕ, List, [], ◌++◌, length, drop, Bool, true, false, not, ◌&&◌, Option, Some, None, refl, ap, ◌∙◌, append-nil, arith}
+use Rattle.std.proofs.Common.{◌≡◌, ◌≤◌, ◌+◌, ◌⊎◌, inl, inr, ℕ, List, [], ◌++◌, length, drop, Bool, true, false, not, ◌&&◌, Option, Some, None, refl, sym, ap, ◌∙◌, append-nil, arith}
 use Rattle.std.specs.Prelude.{◌==◌, nat_lt, if◌then◌else◌}
 use Rattle.std.proofs.lemmas.List.{length-append, length-drop, drop-append-le}
 use Rattle.std.proofs.lemmas.Bool.{le-ltb, eqb-true, ltb-false}
 use Rattle.pcap_trace.specs.declared.fault.ReadError.{ReadError}
 use Rattle.pcap_trace.specs.declared.fault.ReadError.TheVariants as errors
-use Rattle.pcap_trace.specs.Format.{Order, magic, IsFileHeader}
-use Rattle.pcap_trace.specs.Reading.{header_fault}
+use Rattle.byteorder.specs.Endian.{big_number, little_number}
+use Rattle.pcap_trace.specs.declared.header.Endianness.{Endianness}
+use Rattle.pcap_trace.specs.declared.header.Endianness.TheVariants.{Big, Little}
+use Rattle.pcap_trace.specs.Format.{Order, number_in, is_magic, IsFileHeader}
+use Rattle.pcap_trace.specs.Reading.{header_fault, IsHeaderFault}
 use Rattle.pcap_trace.proofs.Bodies.{ReadsFirst}
+use Rattle.pcap_trace.proofs.Orders.{both_orders}
 
 -- the tests in their order
 abbrev first_fault : Bool → Bool → Bool → Bool → Bool → Option ReadError
@@ -34,16 +38,55 @@ never_record false true true false e h = cc
 never_record false true true true false h = cc
 never_record false true true true true h = cc
 
+-- the same in two byte orders, of which the first is looked at where its first word is a magic number
+abbrev told : Bool → Bool → Bool → Bool → Bool → Bool → Bool → Bool → Bool → Option ReadError
+told short a b c d e f g h = if a then first_fault short a b c d else first_fault short e f g h
+
+told_first : (short a b c d e f g h : Bool) (x : Option ReadError) → first_fault short a b c d ≡ x → (x ≡ Some errors.Magic → ⊥) → told short a b c d e f g h ≡ x
+told_first short true b c d e f g h x is other = is
+told_first true false b c d e f g h x is other = is
+told_first false false b c d e f g h x is other = absurd (other (sym is))
+
+told_second : (short a b c d e f g h : Bool) (x : Option ReadError) → (a ≡ true → e ≡ true → ⊥) → first_fault short e f g h ≡ x → (x ≡ Some errors.Magic → ⊥) → told short a b c d e f g h ≡ x
+told_second short false b c d e f g h x apart is other = is
+told_second true true b c d e f g h x apart is other = is
+told_second false true b c d true f g h x apart is other = absurd (apart refl refl)
+told_second false true b c d false f g h x apart is other = absurd (other (sym is))
+
+told_same : (a : Bool) (x y z : Option ReadError) → x ≡ z → y ≡ z → (if a then x else y) ≡ z
+told_same true x y z p q = p
+told_same false x y z p q = q
+
+-- the fault in the byte order in which the first word is a magic number, if there is one
+abbrev pub told_fault : List ℕ → Option ReadError
+told_fault bytes = if is_magic (little_number 4 bytes) then header_fault little_number bytes else header_fault big_number bytes
+
+pub told_fault-magic : (bytes : List ℕ) → ((order : Endianness) → header_fault (number_in order) bytes ≡ Some errors.Magic) → told_fault bytes ≡ Some errors.Magic
+told_fault-magic bytes h = told_same (is_magic (little_number 4 bytes)) (header_fault little_number bytes) (header_fault big_number bytes) (Some errors.Magic) (h Little) (h Big)
+
+pub told_fault-in : (order : Endianness) (bytes : List ℕ) (x : Option ReadError) → header_fault (number_in order) bytes ≡ x → (x ≡ Some errors.Magic → ⊥) → told_fault bytes ≡ x
+told_fault-in Little bytes x is other =
+    told_first (nat_lt (length bytes) 24) (is_magic (little_number 4 bytes)) (little_number 2 (drop 4 bytes) == 2) (little_number 2 (drop 6 bytes) == 4) (little_number 4 (drop 20 bytes) == 1)
+    (is_magic (big_number 4 bytes)) (big_number 2 (drop 4 bytes) == 2) (big_number 2 (drop 6 bytes) == 4) (big_number 4 (drop 20 bytes) == 1) x is other
+told_fault-in Big bytes x is other =
+    told_second (nat_lt (length bytes) 24) (is_magic (little_number 4 bytes)) (little_number 2 (drop 4 bytes) == 2) (little_number 2 (drop 6 bytes) == 4) (little_number 4 (drop 20 bytes) == 1)
+    (is_magic (big_number 4 bytes)) (big_number 2 (drop 4 bytes) == 2) (big_number 2 (drop 6 bytes) == 4) (big_number 4 (drop 20 bytes) == 1) x (both_orders bytes) is other
+
+-- another fault than the magic number's, in one of the byte orders
+pub header_fault-in : (order : Endianness) (bytes : List ℕ) (e : ReadError) → (e ≡ errors.Magic → ⊥) → header_fault (number_in order) bytes ≡ Some e → IsHeaderFault bytes e
+header_fault-in order bytes errors.Magic other is = absurd (other refl)
+header_fault-in order bytes e other is = (order, is)
+
 pub header_fault-record : (number : Order) (bytes : List ℕ) → header_fault number bytes ≡ Some errors.Record → ⊥
 header_fault-record number bytes h =
-    never_record (nat_lt (length bytes) 24) (number 4 bytes == magic) (number 2 (drop 4 bytes) == 2) (number 2 (drop 6 bytes) == 4) (number 4 (drop 20 bytes) == 1) h
+    never_record (nat_lt (length bytes) 24) (is_magic (number 4 bytes)) (number 2 (drop 4 bytes) == 2) (number 2 (drop 6 bytes) == 4) (number 4 (drop 20 bytes) == 1) h
 
 pub IsFileHeader-from_none : (number : Order) (bytes : List ℕ) → header_fault number bytes ≡ None → IsFileHeader number bytes
 IsFileHeader-from_none number bytes h =
-    let pass = all_pass (nat_lt (length bytes) 24) (number 4 bytes == magic) (number 2 (drop 4 bytes) == 2) (number 2 (drop 6 bytes) == 4) (number 4 (drop 20 bytes) == 1) h in
+    let pass = all_pass (nat_lt (length bytes) 24) (is_magic (number 4 bytes)) (number 2 (drop 4 bytes) == 2) (number 2 (drop 6 bytes) == 4) (number 4 (drop 20 bytes) == 1) h in
     record {
       long_enough = ltb-false _ _ pass.0;
-      magic_is = eqb-true _ _ pass.1;
+      magic_is = pass.1;
       major_is = eqb-true _ _ pass.2;
       minor_is = eqb-true _ _ pass.3;
       link_type_is = eqb-true _ _ pass.4;

@@ -7,17 +7,13 @@ use Rattle.std.proofs.lemmas.List.{nil_from_length, length-append, take-append-l
 use Rattle.std.proofs.lemmas.Bool.{eqb-true, eqb-false}
 use Rattle.pcap_trace.specs.Format.{Order, Ending, oversized, ending_of, captured_length, original_length, most_captured, IsRest, IsBody}
 use Rattle.pcap_trace.specs.Reading.{HasOversized}
-use Rattle.pcap_trace.proofs.Bodies.{ReadsFirst, word-append, GoesOn, GoesOn-start, GoesOn-kept, GoesOn-skipped, GoesOn-ends}
+use Rattle.pcap_trace.proofs.Bodies.{ReadsFirst, word-append, GoesOn, GoesOn-kept, GoesOn-skipped, GoesOn-ends}
 
 -- the same of bytes that may not be known
 abbrev pub GoesOnKnown : Order → Option (List ℕ) → Option (List ℕ) → List (List ℕ) → ℕ → Type 0
 GoesOnKnown number None rest frames skipped = Unit {0}
 GoesOnKnown number (Some bytes) None frames skipped = ⊥
 GoesOnKnown number (Some bytes) (Some rest) frames skipped = GoesOn number bytes rest frames skipped
-
-pub GoesOnKnown-start : (number : Order) (a : Option (List ℕ)) → GoesOnKnown number a a [] 0
-GoesOnKnown-start number None = tt
-GoesOnKnown-start number (Some bytes) = GoesOn-start number bytes
 
 -- a read moves bytes from the source to the block
 pub GoesOnKnown-read : (number : Order) (a before after : Option (List ℕ)) (old new : List ℕ) (frames : List (List ℕ)) (skipped : ℕ) → Receives old new before after
@@ -70,10 +66,6 @@ GoesOnKnown-skipped number first (Some bytes) (Some left) held frames skipped n 
     subst (λ (x : List ℕ). GoesOn number bytes x frames (skipped + 1)) (rest_behind n held left long) next
 
 -- ---- the end
-
--- the code's test of a cut: whether the block holds anything
-abbrev pub cut_of : List ℕ → Bool
-cut_of held = not (eqb (length held) 0)
 
 -- less than a header is left
 rest_short : (number : Order) (held : List ℕ) (empty : Bool) → empty ≡ eqb (length held) 0 → length held < 16 → IsRest number held (ending_of (not empty))

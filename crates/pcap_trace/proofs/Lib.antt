@@ -5,6 +5,7 @@ mod Cuts
 mod FileHeaders
 mod FirstOf
 mod Going
+mod Orders
 pub mod Packets
 pub mod Sent
 mod Unique

@@ -1,8 +1,8 @@
 -- What went to a sink, in pieces.
-use Rattle.std.proofs.Common.{◌≡◌, ◌+◌, ℕ, List, [], ◌∷◌, ◌++◌, length, take, drop, Option, refl, sym, ap, ◌∙◌, append_assoc, append-nil, take-append-drop, zero-add, suc-add}
+use Rattle.std.proofs.Common.{◌≡◌, ◌+◌, ℕ, List, [], ◌∷◌, ◌++◌, length, take, drop, Option, refl, sym, ap, ◌∙◌, append_assoc, take-append-drop, zero-add, suc-add}
 use Rattle.std.proofs.lemmas.List.{take_at}
 use Rattle.std.specs.Io.KnownBytes.{Appends, Keeps}
-use Rattle.std.proofs.KnownBytes.{Appends-nil, Appends-trans, Appends-kept}
+use Rattle.std.proofs.KnownBytes.{Appends-trans, Appends-kept}
 use Rattle.pcap_trace.specs.Devices.{AppendsFront}
 
 -- ---- beginnings
@@ -33,18 +33,12 @@ AppendsFront-longer a b x y went = (length (take went.0 x), rw (← take-longer 
 abbrev pub SentUpTo : Option (List ℕ) → Option (List ℕ) → List ℕ → List ℕ → Type 0
 SentUpTo a b bytes rest = (front : List ℕ) × (bytes ≡ front ++ rest) × Appends a b front
 
-pub SentUpTo-start : (a : Option (List ℕ)) (bytes : List ℕ) → SentUpTo a a bytes bytes
-SentUpTo-start a bytes = ([], refl, Appends-nil a)
-
 pub SentUpTo-more : (a b c : Option (List ℕ)) (bytes rest : List ℕ) (n : ℕ) → SentUpTo a b bytes rest → Appends b c (take n rest) → SentUpTo a c bytes (drop n rest)
 SentUpTo-more a b c bytes rest n sent more = (
   sent.0 ++ take n rest,
   sent.1 ∙ ap (λ (t : List ℕ). sent.0 ++ t) (sym (take-append-drop n rest)) ∙ sym (append_assoc sent.0 (take n rest) (drop n rest)),
   Appends-trans a b c sent.0 (take n rest) sent.2 more,
 )
-
-pub SentUpTo-all : (a b : Option (List ℕ)) (bytes rest : List ℕ) → rest ≡ [] → SentUpTo a b bytes rest → Appends a b bytes
-SentUpTo-all a b bytes rest none sent = rw (sent.1 ∙ ap (λ (t : List ℕ). sent.0 ++ t) none ∙ append-nil sent.0) sent.2
 
 pub SentUpTo-front : (a b c : Option (List ℕ)) (bytes rest : List ℕ) → Keeps b c → SentUpTo a b bytes rest → AppendsFront a c bytes
 SentUpTo-front a b c bytes rest kept sent = rw sent.1 (AppendsFront-whole a c sent.0 rest (Appends-kept a b c sent.0 sent.2 kept))

@@ -1,13 +1,15 @@
 -- What is written is a trace of exactly these frames.
-use Rattle.std.proofs.Common.{◌≡◌, ◌<◌, ◌^◌, ℕ, List, [], ◌∷◌, ◌++◌, Bool, true, false, length, drop, map, refl, sym, ap, ◌∙◌, append-nil, arith}
+use Rattle.std.proofs.Common.{◌≡◌, ◌<◌, ◌^◌, ℕ, List, [], ◌∷◌, ◌++◌, Bool, true, false, length, drop, map, refl, sym, ap, subst, ◌∙◌, append-nil, arith}
 use Rattle.std.specs.List.{flat_map, AllByRecursion}
 use Rattle.std.proofs.lemmas.List.{length-append}
 use Rattle.std.proofs.lemmas.List.Concat.{flat_map-cons}
 use Rattle.std.proofs.lemmas.Bool.{le-ltb}
 use Rattle.byteorder.specs.Endian.{little_number, little_bytes}
 use Rattle.byteorder.specs.Numbers.{little_number-reads_back}
-use Rattle.pcap_trace.specs.Format.{Packet, Timed, complete, captured_length, original_length, packet_bytes, IsPacket, is_partial, frames_of, skipped_of, ending_of, file_header, packet_header, packet_of, written, frame_of, IsShort, WrittenIsTrace, WrittenIsNoOther}
-use Rattle.pcap_trace.proofs.Answering.{little_first}
+use Rattle.pcap_trace.specs.declared.header.Endianness.{Endianness}
+use Rattle.pcap_trace.specs.declared.header.Endianness.TheVariants.{Little}
+use Rattle.pcap_trace.specs.Format.{number_in, Packet, Timed, complete, captured_length, original_length, packet_bytes, IsPacket, is_partial, frames_of, skipped_of, ending_of, IsTraceIn, file_header, packet_header, packet_of, written, frame_of, IsShort, WrittenIsTrace, WrittenIsNoOther}
+use Rattle.pcap_trace.proofs.Orders.{number_first, one_order}
 use Rattle.pcap_trace.proofs.Unique.{body_unique}
 
 -- the packet that a frame is written as
@@ -51,22 +53,25 @@ skipped_of-written (t ∷ ts) short = rw (packet-kept t short.0) (skipped_of-wri
 pub found : WrittenIsTrace
 unfolding file_header
 found ts short = (
-  record {
-    long_enough = omega (arith, length-append file_header (flat_map packet_of ts));
-    magic_is = refl;
-    major_is = refl;
-    minor_is = refl;
-    link_type_is = refl;
-  },
-  record {
-    packets = map written_packet ts;
-    rest = [];
-    parts = sym (append-nil (flat_map packet_bytes (map written_packet ts)) ∙ packets-written ts);
-    whole = packets-whole ts short;
-    frames_are = frames_of-written ts short;
-    skipped_are = skipped_of-written ts short;
-    ends = refl;
-  },
+  Little,
+  (
+    record {
+      long_enough = omega (arith, length-append file_header (flat_map packet_of ts));
+      magic_is = refl;
+      major_is = refl;
+      minor_is = refl;
+      link_type_is = refl;
+    },
+    record {
+      packets = map written_packet ts;
+      rest = [];
+      parts = sym (append-nil (flat_map packet_bytes (map written_packet ts)) ∙ packets-written ts);
+      whole = packets-whole ts short;
+      frames_are = frames_of-written ts short;
+      skipped_are = skipped_of-written ts short;
+      ends = refl;
+    },
+  ),
 )
 
 complete_uncut : (cut : Bool) → ending_of cut ≡ complete → cut ≡ false
@@ -74,7 +79,9 @@ complete_uncut true e = absurd cc
 complete_uncut false e = refl
 
 pub no_other : WrittenIsNoOther
-unfolding file_header
+unfolding file_header found
 no_other ts frames skipped cut short t =
-    let same = body_unique little_number little_first (drop 24 (written ts)) frames (map frame_of ts) skipped 0 (ending_of cut) complete t.1 (found ts short).1 in
+    let is_little : t.0 ≡ Little = one_order (written ts) t.0 Little t.1.0.magic_is refl in
+    let moved : IsTraceIn little_number (written ts) frames skipped cut = subst (λ (o : Endianness). IsTraceIn (number_in o) (written ts) frames skipped cut) is_little t.1 in
+    let same = body_unique little_number (number_first Little) (drop 24 (written ts)) frames (map frame_of ts) skipped 0 (ending_of cut) complete moved.1 (found ts short).1.1 in
     (same.0, same.1, complete_uncut cut same.2)

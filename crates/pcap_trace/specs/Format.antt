@@ -1,22 +1,36 @@
 -- The trace files of libpcap, version 2.4 (pcap-savefile): a file header, packets, and perhaps the beginning of one more packet.
-use Rattle.std.specs.Prelude.{◌≡◌, ◌<◌, ◌≤◌, ◌+◌, ◌/◌, ◌%◌, ◌^◌, ◌⊎◌, ◌++◌, ℕ, suc, List, [], ◌∷◌, length, drop, Bool, true, false, nat_lt, if◌then◌else◌, map}
+use Rattle.std.specs.Prelude.{◌≡◌, ◌==◌, ◌||◌, ◌<◌, ◌≤◌, ◌+◌, ◌/◌, ◌%◌, ◌^◌, ◌⊎◌, ◌++◌, ℕ, suc, List, [], ◌∷◌, length, drop, Bool, true, false, IsTrue, nat_lt, if◌then◌else◌, map}
 use Rattle.std.specs.List.{flat_map, AllByRecursion}
-use Rattle.byteorder.specs.Endian.{little_number, little_bytes}
+use Rattle.byteorder.specs.Endian.{big_number, little_number, little_bytes}
+use Rattle.pcap_trace.specs.declared.header.Endianness.{Endianness}
+use Rattle.pcap_trace.specs.declared.header.Endianness.TheVariants.{Big, Little}
 
 -- A byte order: the number in the first n bytes of a list.
 abbrev pub Order : Type 0
 Order = ℕ → List ℕ → ℕ
 
+-- The numbers of a trace are in the byte order of the machine that wrote it: the highest byte comes first, or the lowest.
+abbrev pub number_in : Endianness → Order
+number_in Big = big_number
+number_in Little = little_number
+
 -- ---- the file header (pcap-savefile, "File Header")
 
 -- times in seconds and microseconds
-abbrev pub magic : ℕ
-magic = 0xA1B2_C3D4
+abbrev pub microseconds_magic : ℕ
+microseconds_magic = 0xA1B2_C3D4
 
--- 24 bytes: the magic number, version 2.4, two words and the snapshot length, which are ignored, and the link type, 1 for Ethernet
+-- times in seconds and nanoseconds
+abbrev pub nanoseconds_magic : ℕ
+nanoseconds_magic = 0xA1B2_3C4D
+
+abbrev pub is_magic : ℕ → Bool
+is_magic n = (n == microseconds_magic) || (n == nanoseconds_magic)
+
+-- 24 bytes: a magic number, version 2.4, two words and the snapshot length, which are ignored, and the link type, 1 for Ethernet
 pub record IsFileHeader (number : Order) (bytes : List ℕ) : Type 0 where
   pub long_enough : 24 ≤ length bytes
-  pub magic_is : number 4 bytes ≡ magic
+  pub magic_is : IsTrue (is_magic (number 4 bytes))
   pub major_is : number 2 (drop 4 bytes) ≡ 2
   pub minor_is : number 2 (drop 6 bytes) ≡ 4
   pub link_type_is : number 4 (drop 20 bytes) ≡ 1
@@ -92,9 +106,13 @@ abbrev pub ending_of : Bool → Ending
 ending_of true = cut_off
 ending_of false = complete
 
--- These bytes are a trace of these frames; so many packets were skipped, and the last one may be cut off.
+-- These bytes are a trace of these frames, its numbers in this byte order; so many packets were skipped, and the last one may be cut off.
+abbrev pub IsTraceIn : Order → List ℕ → List (List ℕ) → ℕ → Bool → Type 0
+IsTraceIn number bytes frames skipped cut = IsFileHeader number bytes × IsBody number (drop 24 bytes) frames skipped (ending_of cut)
+
+-- in one of the two byte orders
 abbrev pub IsTrace : List ℕ → List (List ℕ) → ℕ → Bool → Type 0
-IsTrace bytes frames skipped cut = IsFileHeader little_number bytes × IsBody little_number (drop 24 bytes) frames skipped (ending_of cut)
+IsTrace bytes frames skipped cut = (order : Endianness) × IsTraceIn (number_in order) bytes frames skipped cut
 
 -- ---- the written form
 
@@ -112,7 +130,7 @@ timed p = record { time = p.0; frame = p.1 }
 
 -- little-endian, microseconds, version 2.4, snapshot length 65,535, Ethernet
 unfoldable pub file_header : List ℕ
-file_header = little_bytes 4 magic ++ little_bytes 2 2 ++ little_bytes 2 4 ++ little_bytes 4 0 ++ little_bytes 4 0 ++ little_bytes 4 65535 ++ little_bytes 4 1
+file_header = little_bytes 4 microseconds_magic ++ little_bytes 2 2 ++ little_bytes 2 4 ++ little_bytes 4 0 ++ little_bytes 4 0 ++ little_bytes 4 65535 ++ little_bytes 4 1
 
 -- seconds (their low 32 bits), microseconds, and the length twice
 unfoldable pub packet_header : ℕ → ℕ → List ℕ

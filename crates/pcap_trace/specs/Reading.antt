@@ -1,19 +1,24 @@
 -- What may be answered to the bytes of a trace file.
 use Rattle.std.specs.Prelude.{◌≡◌, ◌+◌, ◌==◌, ◌&&◌, ℕ, List, length, drop, Bool, true, false, not, nat_lt, if◌then◌else◌, Option, Some, None, Result, Ok, Err, ⊤}
-use Rattle.byteorder.specs.Endian.{little_number}
 use Rattle.pcap_trace.specs.declared.fault.ReadError.{ReadError}
 use Rattle.pcap_trace.specs.declared.fault.ReadError.TheVariants as errors
+use Rattle.pcap_trace.specs.declared.header.Endianness.{Endianness}
 use Rattle.pcap_trace.specs.declared.trace.Trace.{Trace}
-use Rattle.pcap_trace.specs.Format.{Order, magic, oversized, IsFileHeader, IsBody, IsTrace}
+use Rattle.pcap_trace.specs.Format.{Order, number_in, is_magic, oversized, IsFileHeader, IsBody, IsTrace}
 
--- The fault of a file header: the first that applies. (pcap-savefile, "File Header"; the order is own)
+-- The fault of a file header whose numbers are in this byte order: the first that applies. (pcap-savefile, "File Header"; the order is own)
 abbrev pub header_fault : Order → List ℕ → Option ReadError
 header_fault number bytes =
     if nat_lt (length bytes) 24 then Some errors.Header
-    else (if not (number 4 bytes == magic) then Some errors.Magic
+    else (if not (is_magic (number 4 bytes)) then Some errors.Magic
     else (if not ((number 2 (drop 4 bytes) == 2) && (number 2 (drop 6 bytes) == 4)) then Some errors.Version
     else (if not (number 4 (drop 20 bytes) == 1) then Some errors.LinkType
     else None)))
+
+-- The fault in either byte order: no magic number in both of them, or another fault in one. (own)
+abbrev pub IsHeaderFault : List ℕ → ReadError → Type 0
+IsHeaderFault bytes errors.Magic = (order : Endianness) → header_fault (number_in order) bytes ≡ Some errors.Magic
+IsHeaderFault bytes e = (order : Endianness) × (header_fault (number_in order) bytes ≡ Some e)
 
 -- Behind whole packets a whole packet header asks for more than the most. (own)
 abbrev pub HasOversized : Order → List ℕ → Type 0
@@ -22,10 +27,10 @@ HasOversized number bytes = (frames : List (List ℕ)) × (skipped : ℕ) × IsB
 -- The answer fits the bytes. Want of memory and a failed device say nothing of them. (own)
 abbrev pub IsAnswer : List ℕ → Result Trace ReadError → Type 0
 IsAnswer bytes (Ok t) = IsTrace bytes t.frames t.skipped t.cut
-IsAnswer bytes (Err errors.Record) = IsFileHeader little_number bytes × HasOversized little_number (drop 24 bytes)
+IsAnswer bytes (Err errors.Record) = (order : Endianness) × IsFileHeader (number_in order) bytes × HasOversized (number_in order) (drop 24 bytes)
 IsAnswer bytes (Err errors.Memory) = ⊤
 IsAnswer bytes (Err errors.Read) = ⊤
-IsAnswer bytes (Err e) = header_fault little_number bytes ≡ Some e
+IsAnswer bytes (Err e) = IsHeaderFault bytes e
 
 -- whether an answer speaks of the bytes
 abbrev pub is_of_bytes : Result Trace ReadError → Bool

@@ -27,7 +27,7 @@ pub enum ReadError {
     /// E60: the source has fewer than the 24 bytes of a file header.
     #[error("E60 Header")]
     Header,
-    /// E61: the first four bytes aren't `d4c3b2a1`, the magic number of a little-endian trace with times in microseconds.
+    /// E61: the first four bytes are neither 0xA1B2C3D4 (times in microseconds) nor 0xA1B23C4D (nanoseconds), in either byte order.
     #[error("E61 Magic")]
     Magic,
     /// E62: the version isn't 2.4.

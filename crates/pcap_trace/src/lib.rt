@@ -9,6 +9,7 @@ mod device;
 mod fault;
 mod files;
 mod frames;
+mod header;
 mod law;
 mod memory;
 mod packet;

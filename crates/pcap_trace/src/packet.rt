@@ -10,8 +10,11 @@ pub const FILE_HEADER: usize = 24;
 /// Bytes of a packet header.
 pub const PACKET_HEADER: usize = 16;
 
-/// The first word of a trace with times in microseconds.
-pub const MAGIC: u32 = 0xA1B2_C3D4;
+/// The first word of a trace with times in seconds and microseconds.
+pub const MICROSECONDS_MAGIC: u32 = 0xA1B2_C3D4;
+
+/// The first word of a trace with times in seconds and nanoseconds.
+pub const NANOSECONDS_MAGIC: u32 = 0xA1B2_3C4D;
 
 /// The major number of version 2.4.
 pub const MAJOR: u16 = 2;
@@ -34,7 +37,7 @@ pub fn file_header() -> [u8; FILE_HEADER]
     ensures { result ≡ file_header }
 {
     let mut header = [0; FILE_HEADER];
-    LittleEndian::write_u32(&mut header, MAGIC);
+    LittleEndian::write_u32(&mut header, MICROSECONDS_MAGIC);
     LittleEndian::write_u16(&mut header[4..], MAJOR);
     LittleEndian::write_u16(&mut header[6..], MINOR);
     LittleEndian::write_u32(&mut header[16..], SNAPSHOT_LENGTH);

@@ -1,16 +1,17 @@
 //! Traces read from a source.
-ghost use Rattle.std.specs.Prelude.{◌≡◌, ◌<◌, ◌≤◌, ◌+◌, length, IfOk, IfErr, IfSome, IfNone, OnOk, OnSome, MatchResult, Some, None};
+ghost use Rattle.std.specs.Prelude.{◌≡◌, ◌<◌, ◌≤◌, ◌+◌, length, IfOk, IfErr, IfSome, IfNone, OnOk, OnSome};
 ghost use Rattle.std.specs.Io.KnownBytes.{IsAtEnd, prepend_known};
 ghost use Rattle.pcap_trace.specs.Format.{IsBody, ending_of, captured_length, original_length};
-ghost use Rattle.pcap_trace.specs.Reading.{header_fault, IsAnswer, IsOnlyAnswer, IsBodyFault, TellsFailure};
+ghost use Rattle.pcap_trace.specs.Reading.{IsAnswer, IsOnlyAnswer, IsBodyFault, TellsFailure};
 
 use crate::block::Block;
 use crate::device::Source;
 use crate::fault::ReadError;
 use crate::frames::Frames;
-use crate::packet::{ETHERNET, FILE_HEADER, MAGIC, MAJOR, MINOR, PACKET_HEADER};
+use crate::header::{Endianness, byte_order};
+use crate::packet::{FILE_HEADER, PACKET_HEADER};
 use crate::trace::Trace;
-use byteorder::{ByteOrder, LittleEndian};
+use byteorder::{BigEndian, ByteOrder, LittleEndian};
 use std::alloc::Global;
 
 /// The most bytes that a packet may have: the most that libpcap lets be captured of one.
@@ -39,26 +40,8 @@ fn packet_lengths<T: ByteOrder>(bytes: &[u8]) -> Option<Lengths>
     })
 }
 
-/// Tests the file header at the front.
-fn check_header<T: ByteOrder>(bytes: &[u8]) -> Result<(), ReadError>
-    ensures { MatchResult result (λ _. header_fault T.number_of bytes.now ≡ None) (λ e. header_fault T.number_of bytes.now ≡ Some e) }
-{
-    if bytes.len() < FILE_HEADER {
-        return Err(ReadError::Header);
-    }
-    if T::read_u32(bytes) != MAGIC {
-        return Err(ReadError::Magic);
-    }
-    if T::read_u16(&bytes[4..]) != MAJOR || T::read_u16(&bytes[6..]) != MINOR {
-        return Err(ReadError::Version);
-    }
-    if T::read_u32(&bytes[20..]) != ETHERNET {
-        return Err(ReadError::LinkType);
-    }
-    Ok(())
-}
-
-/// Reads what stands behind the file header.
+/// Reads what stands behind the file header. Each byte order has a function of its own, whose loop stays short.
+#[inline(never)]
 fn read_body<T: ByteOrder, S: Source>(
     alloc: Global,
     block: &mut Block,
@@ -104,8 +87,8 @@ fn read_body<T: ByteOrder, S: Source>(
 
 impl Trace {
     /// Reads the trace that a source has left, up to its end: a trace file of libpcap version 2.4 (its manual page "pcap-savefile"),
-    /// little-endian with times in microseconds, of link type Ethernet. The snapshot length, the two words before it and all times
-    /// are ignored. It takes memory for a block of 320 KiB, given back at the end, and for the frames.
+    /// big-endian or little-endian, with times in microseconds or nanoseconds, of link type Ethernet. The snapshot length, the two
+    /// words before it and all times are ignored. It takes memory for a block of 320 KiB, given back at the end, and for the frames.
     ///
     /// The faults of the file header, E60 to E63, are looked for in this order, and before any packet. E64 comes where, behind
     /// whole packets, a whole packet header tells more than 262,144 captured bytes, whatever stands behind it. E65 is want of
@@ -123,8 +106,11 @@ impl Trace {
     {
         let mut block = Block::new(alloc)?;
         block.fill(source, FILE_HEADER)?;
-        check_header::<LittleEndian>(block.held())?;
+        let order = byte_order(block.held())?;
         block.skip(FILE_HEADER);
-        read_body::<LittleEndian, S>(alloc, &mut block, source)
+        match order {
+            Endianness::Big => read_body::<BigEndian, S>(alloc, &mut block, source),
+            Endianness::Little => read_body::<LittleEndian, S>(alloc, &mut block, source),
+        }
     }
 }

@@ -13,6 +13,16 @@ pub const HEADER: [u8; 24] = [
     0xd4, 0xc3, 0xb2, 0xa1, 2, 0, 4, 0, 0, 0, 0, 0, 0, 0, 0, 0, 0xff, 0xff, 0, 0, 1, 0, 0, 0,
 ];
 
+/// The same, big-endian.
+pub const BIG_HEADER: [u8; 24] = [
+    0xa1, 0xb2, 0xc3, 0xd4, 0, 2, 0, 4, 0, 0, 0, 0, 0, 0, 0, 0, 0, 0, 0xff, 0xff, 0, 0, 0, 1,
+];
+
+/// The magic numbers of traces with times in nanoseconds.
+pub const NANOSECONDS: [u8; 4] = [0x4d, 0x3c, 0xb2, 0xa1];
+
+pub const BIG_NANOSECONDS: [u8; 4] = [0xa1, 0xb2, 0x3c, 0x4d];
+
 /// A frame of 14 bytes, captured whole; one of 100 bytes, of which 14 were captured; and 7 bytes of a third packet header.
 pub const SMALL: [u8; 91] = [
     0xd4, 0xc3, 0xb2, 0xa1, 2, 0, 4, 0, 0, 0, 0, 0, 0, 0, 0, 0, 0xff, 0xff, 0, 0, 1, 0, 0, 0, // file
@@ -21,6 +31,16 @@ pub const SMALL: [u8; 91] = [
     5, 0, 0, 0, 7, 0, 0, 0, 14, 0, 0, 0, 100, 0, 0, 0, // in part
     21, 22, 23, 24, 25, 26, 27, 28, 29, 30, 31, 32, 33, 34, //
     5, 0, 0, 0, 8, 0, 0, // cut
+];
+
+/// The same, big-endian.
+pub const BIG_SMALL: [u8; 91] = [
+    0xa1, 0xb2, 0xc3, 0xd4, 0, 2, 0, 4, 0, 0, 0, 0, 0, 0, 0, 0, 0, 0, 0xff, 0xff, 0, 0, 0, 1, // file
+    0, 0, 0, 5, 0, 0, 0, 6, 0, 0, 0, 14, 0, 0, 0, 14, // whole
+    1, 2, 3, 4, 5, 6, 7, 8, 9, 10, 11, 12, 13, 14, //
+    0, 0, 0, 5, 0, 0, 0, 7, 0, 0, 0, 14, 0, 0, 0, 100, // in part
+    21, 22, 23, 24, 25, 26, 27, 28, 29, 30, 31, 32, 33, 34, //
+    0, 0, 0, 5, 0, 0, 0, // cut
 ];
 
 /// The packet header of number 0, of a frame of 60 bytes.
@@ -36,6 +56,15 @@ pub const SECOND: [u8; 60] = [0x5A; 60];
 
 /// The numbers of the two frames.
 pub const TIMES: [u64; 2] = [0, 1_000_001];
+
+/// The bytes with others from a place on.
+pub fn with<const N: usize>(bytes: &[u8; N], place: usize, others: &[u8]) -> [u8; N] {
+    let mut changed = *bytes;
+    for (to, from) in changed.iter_mut().skip(place).zip(others) {
+        *to = *from;
+    }
+    changed
+}
 
 /// A trace of two frames of 60 bytes: 176 bytes.
 pub fn two_frames(alloc: Global) -> Result<Vec<u8>, AllocError> {

@@ -1,6 +1,9 @@
 //! Traces that are read from memory.
 
-use super::fixtures::{FIRST, HEADER, SECOND, SMALL, counts, two_frames};
+use super::fixtures::{
+    BIG_HEADER, BIG_NANOSECONDS, BIG_SMALL, FIRST, HEADER, NANOSECONDS, SECOND, SMALL, counts,
+    two_frames, with,
+};
 use crate::{DeviceError, Frames, ReadError, SliceSource, Source, Trace, WriteError};
 use std::alloc::Global;
 use std::test::Fail;
@@ -10,24 +13,32 @@ fn read(alloc: Global, bytes: &[u8]) -> Result<(usize, u64, bool), ReadError> {
     counts(alloc, &mut SliceSource::new(bytes))
 }
 
-/// Want of memory is the one other answer that is allowed here, so that each allocation can be made to fail in turn.
+/// The same packets in each byte order and with each magic number. Want of memory is the one other answer that is allowed here, so
+/// that each allocation can be made to fail in turn.
 #[test]
 fn a_skipped_packet_and_a_cut_one(rt: HostRuntime) {
-    let mut source = SliceSource::new(&SMALL);
-    match Trace::read(rt.alloc(), &mut source) {
-        Ok(trace) => {
-            assert_eq!(rt; trace.frames.len(), 1);
-            assert!(rt; !trace.frames.is_empty());
-            let mut frames = trace.frames.iter();
-            assert_eq!(rt; frames.next(), Some(&SMALL[40..54]));
-            assert!(rt; frames.next().is_none());
-            assert_eq!(rt; trace.skipped, 1);
-            assert!(rt; trace.cut);
-            assert_eq!(rt; source.limit(), 0);
+    for bytes in [
+        SMALL,
+        BIG_SMALL,
+        with(&SMALL, 0, &NANOSECONDS),
+        with(&BIG_SMALL, 0, &BIG_NANOSECONDS),
+    ] {
+        let mut source = SliceSource::new(&bytes);
+        match Trace::read(rt.alloc(), &mut source) {
+            Ok(trace) => {
+                assert_eq!(rt; trace.frames.len(), 1);
+                assert!(rt; !trace.frames.is_empty());
+                let mut frames = trace.frames.iter();
+                assert_eq!(rt; frames.next(), Some(&SMALL[40..54]));
+                assert!(rt; frames.next().is_none());
+                assert_eq!(rt; trace.skipped, 1);
+                assert!(rt; trace.cut);
+                assert_eq!(rt; source.limit(), 0);
+            }
+            Err(error) => assert_eq!(rt; error, ReadError::Memory),
         }
-        Err(error) => assert_eq!(rt; error, ReadError::Memory),
+        assert_eq!(rt; source.failures(), 0);
     }
-    assert_eq!(rt; source.failures(), 0);
 }
 
 /// Frames that were pushed are there in their order. Want of memory leaves those that were there before.
@@ -51,6 +62,7 @@ fn frames_are_kept_in_order(rt: HostRuntime) {
 #[test]
 fn a_bare_header_and_an_empty_file(rt: HostRuntime) {
     assert_eq!(rt; read(rt.alloc(), &HEADER), Ok((0, 0, false)));
+    assert_eq!(rt; read(rt.alloc(), &BIG_HEADER), Ok((0, 0, false)));
     assert_eq!(rt; read(rt.alloc(), &[]), Err(ReadError::Header));
 }
 
@@ -77,37 +89,40 @@ fn each_beginning_of_a_trace(rt: HostRuntime) -> Result<(), Fail> {
     Ok(())
 }
 
-/// The file header with other bytes from a place on.
-fn header_with(place: usize, bytes: &[u8]) -> [u8; 24] {
-    let mut header = HEADER;
-    for (to, from) in header.iter_mut().skip(place).zip(bytes) {
-        *to = *from;
-    }
-    header
-}
-
 /// Of two faults of a file header the one that is looked for first is answered.
 #[test]
 fn faults_of_the_file_header(rt: HostRuntime) -> Result<(), Fail> {
-    for (place, bytes, want) in [
-        (0, &[0xa1, 0xb2, 0xc3, 0xd4][..], ReadError::Magic), // big-endian
-        (0, &[0x4d, 0x3c, 0xb2, 0xa1], ReadError::Magic), // nanoseconds
-        (0, &[0xd4, 0xc3, 0xb2, 0xa0], ReadError::Magic),
-        (0, &[0xd4, 0xc3, 0xb2, 0xa0, 3], ReadError::Magic),
-        (4, &[3], ReadError::Version),
-        (4, &[2, 1], ReadError::Version),
-        (6, &[3], ReadError::Version),
-        (6, &[4, 1], ReadError::Version),
+    for (from, place, bytes, want) in [
+        (HEADER, 0, &[0xd4, 0xc3, 0xb2, 0xa0][..], ReadError::Magic),
+        (HEADER, 0, &[0xd4, 0xc3, 0xb2, 0xa0, 3], ReadError::Magic),
+        (HEADER, 0, &[0x34, 0xcd, 0xb2, 0xa1], ReadError::Magic), // longer packet headers
+        (HEADER, 0, &[0x0a, 0x0d, 0x0d, 0x0a], ReadError::Magic), // pcapng
+        (HEADER, 0, &[0xb2, 0xa1, 0xd4, 0xc3], ReadError::Magic), // halves swapped
+        (HEADER, 0, &[0xa1, 0xb2, 0xc3, 0xd4], ReadError::Version), // the other byte order
+        (HEADER, 4, &[3], ReadError::Version),
+        (HEADER, 4, &[2, 1], ReadError::Version),
+        (HEADER, 4, &[0, 2, 0, 4], ReadError::Version), // big-endian
+        (HEADER, 6, &[3], ReadError::Version),
+        (HEADER, 6, &[4, 1], ReadError::Version),
         (
+            HEADER,
             6,
             &[3, 0, 0, 0, 0, 0, 0, 0, 0, 0, 0, 0, 0, 0, 2],
             ReadError::Version,
         ),
-        (20, &[0], ReadError::LinkType),
-        (20, &[101], ReadError::LinkType),
-        (20, &[1, 0, 0, 4], ReadError::LinkType),
+        (HEADER, 20, &[0], ReadError::LinkType),
+        (HEADER, 20, &[101], ReadError::LinkType),
+        (HEADER, 20, &[1, 0, 0, 4], ReadError::LinkType),
+        (HEADER, 20, &[0, 0, 0, 1], ReadError::LinkType), // big-endian
+        (BIG_HEADER, 0, &[0xa1, 0xb2, 0xcd, 0x34], ReadError::Magic),
+        (BIG_HEADER, 0, &[0xa1, 0xb2, 0x4d, 0x3c], ReadError::Magic),
+        (BIG_HEADER, 0, &[0x4d, 0x3c, 0xb2, 0xa1], ReadError::Version), // the other byte order
+        (BIG_HEADER, 4, &[2, 0, 4, 0], ReadError::Version), // little-endian
+        (BIG_HEADER, 7, &[3], ReadError::Version),
+        (BIG_HEADER, 20, &[1, 0, 0, 0], ReadError::LinkType), // little-endian
+        (BIG_HEADER, 20, &[4], ReadError::LinkType),
     ] {
-        let header = header_with(place, bytes);
+        let header = with(&from, place, bytes);
         assert_eq!(rt;
             read(rt.alloc(), &header),
             Err(want),
@@ -119,8 +134,10 @@ fn faults_of_the_file_header(rt: HostRuntime) -> Result<(), Fail> {
         );
     }
     // Two words and the snapshot length are ignored.
-    let ignored = header_with(8, &[9; 12]);
-    assert_eq!(rt; read(rt.alloc(), &ignored), Ok((0, 0, false)));
+    for from in [HEADER, BIG_HEADER] {
+        let ignored = with(&from, 8, &[9; 12]);
+        assert_eq!(rt; read(rt.alloc(), &ignored), Ok((0, 0, false)));
+    }
     Ok(())
 }
 

@@ -1,23 +1,39 @@
-use Rattle.std.proofs.Common.{◌≡◌, ℕ, List, [], Some, None, ap, subst, sym, ◌∙◌}
+use Rattle.std.proofs.Common.{◌≡◌, List, ℕ, [], None, ap, subst, sym, ◌∙◌}
 use Rattle.std.proofs.lemmas.Result.{err_from_is_err_and}
-use Rattle.byteorder.specs.Endian.{little_number}
+use Rattle.byteorder.specs.Endian.{big_number, little_number}
+use Rattle.pcap_trace.specs.declared.header.Endianness.{Endianness}
+use Rattle.pcap_trace.specs.declared.header.Endianness.TheVariants.{Big, Little}
 use Rattle.pcap_trace.specs.Devices.{Receives}
-use Rattle.pcap_trace.specs.Reading.{header_fault}
+use Rattle.pcap_trace.specs.Format.{number_in}
+use Rattle.pcap_trace.specs.Reading.{header_fault, IsHeaderFault}
 use Rattle.pcap_trace.proofs.Answering.{fits_fault, fits_body, only_from_fits}
 use Rattle.pcap_trace.proofs.trace.Trace.read.Goals as goal
 
-pub returns-in_err-check_header-clause-fits : goal.returns-in_err-check_header-clause-fits
-returns-in_err-check_header-clause-fits g c =
-    let p = err_from_is_err_and c.from_residual-in_err-check_header.result c.from_residual-in_err-check_header.ensures.1 in
+pub returns-in_err-order-clause-fits : goal.returns-in_err-order-clause-fits
+returns-in_err-order-clause-fits g c =
+    let p = err_from_is_err_and c.from_residual-in_err-order.result c.from_residual-in_err-order.ensures.1 in
     let before = g.S.Source.left c.args.source.now in
     let left = g.S.Source.left c.fill.new.source in
     let held = c.fill.new.self in
     let received : Receives [] held before left = subst (λ (old : List ℕ). Receives old held before left) c.in_ok-block.ensures c.in_ok-fill.ensures.received in
-    let fault : header_fault little_number held ≡ Some c.in_err-check_header.field-0.0 = ap (header_fault little_number) (sym c.held.ensures) ∙ c.in_err-check_header.ensures in
-    rw (p.1, p.2) (fits_fault before left held c.in_err-check_header.field-0.0 received c.in_ok-fill.ensures.filled fault)
+    let fault : IsHeaderFault held c.in_err-order.field-0.0 = subst (λ (xs : List ℕ). IsHeaderFault xs c.in_err-order.field-0.0) c.held.ensures c.in_err-order.ensures.fault in
+    rw (p.1, p.2) (fits_fault before left held c.in_err-order.field-0.0 received c.in_ok-fill.ensures.filled fault)
 
-pub returns-in_err-check_header-clause-only : goal.returns-in_err-check_header-clause-only
-returns-in_err-check_header-clause-only g c = only_from_fits (g.S.Source.left c.args.source.now) c.from_residual-in_err-check_header.result (returns-in_err-check_header-clause-fits g c)
+pub returns-in_err-order-clause-only : goal.returns-in_err-order-clause-only
+returns-in_err-order-clause-only g c = only_from_fits (g.S.Source.left c.args.source.now) c.from_residual-in_err-order.result (returns-in_err-order-clause-fits g c)
+
+pub returns-in-Big-clause-fits : goal.returns-in-Big-clause-fits
+returns-in-Big-clause-fits g c =
+    let before = g.S.Source.left c.args.source.now in
+    let left = g.S.Source.left c.fill.new.source in
+    let held = c.fill.new.self in
+    let received : Receives [] held before left = subst (λ (old : List ℕ). Receives old held before left) c.in_ok-block.ensures c.in_ok-fill.ensures.received in
+    let passed : header_fault big_number held ≡ None =
+    ap (header_fault big_number) (sym c.held.ensures) ∙ subst (λ (o : Endianness). header_fault (number_in o) c.held.result.now ≡ None) c.in-Big.is c.in_ok-order.ensures.ok in
+    fits_body Big before left held c.read_body.result received c.in_ok-fill.ensures.filled passed (rw c.skip.ensures at c.read_body.ensures.ok) (rw c.skip.ensures at c.read_body.ensures.fault)
+
+pub returns-in-Big-clause-only : goal.returns-in-Big-clause-only
+returns-in-Big-clause-only g c = only_from_fits (g.S.Source.left c.args.source.now) c.read_body.result (returns-in-Big-clause-fits g c)
 
 pub returns-clause-fits : goal.returns-clause-fits
 returns-clause-fits g c =
@@ -25,8 +41,9 @@ returns-clause-fits g c =
     let left = g.S.Source.left c.fill.new.source in
     let held = c.fill.new.self in
     let received : Receives [] held before left = subst (λ (old : List ℕ). Receives old held before left) c.in_ok-block.ensures c.in_ok-fill.ensures.received in
-    let passed : header_fault little_number held ≡ None = ap (header_fault little_number) (sym c.held.ensures) ∙ c.in_ok-check_header.ensures in
-    fits_body before left held c.read_body.result received c.in_ok-fill.ensures.filled passed (rw c.skip.ensures at c.read_body.ensures.ok) (rw c.skip.ensures at c.read_body.ensures.fault)
+    let passed : header_fault little_number held ≡ None =
+    ap (header_fault little_number) (sym c.held.ensures) ∙ subst (λ (o : Endianness). header_fault (number_in o) c.held.result.now ≡ None) c.in-Little.is c.in_ok-order.ensures.ok in
+    fits_body Little before left held c.read_body-in-Little.result received c.in_ok-fill.ensures.filled passed (rw c.skip.ensures at c.read_body-in-Little.ensures.ok) (rw c.skip.ensures at c.read_body-in-Little.ensures.fault)
 
 pub returns-clause-only : goal.returns-clause-only
-returns-clause-only g c = only_from_fits (g.S.Source.left c.args.source.now) c.read_body.result (returns-clause-fits g c)
+returns-clause-only g c = only_from_fits (g.S.Source.left c.args.source.now) c.read_body-in-Little.result (returns-clause-fits g c)

@@ -1,0 +1,49 @@
+//! The file header of a trace, as it is read (libpcap, "pcap-savefile", File Header).
+ghost use Rattle.std.specs.Prelude.{◌≡◌, IfOk, IfErr, MatchResult, Some, None};
+ghost use Rattle.pcap_trace.specs.Format.{number_in};
+ghost use Rattle.pcap_trace.specs.Reading.{header_fault, IsHeaderFault};
+
+use crate::fault::ReadError;
+use crate::packet::{ETHERNET, FILE_HEADER, MAJOR, MICROSECONDS_MAGIC, MINOR, NANOSECONDS_MAGIC};
+use byteorder::{BigEndian, ByteOrder, LittleEndian};
+
+/// The order of the bytes of a number in a trace: that of the machine that wrote it.
+#[derive(Clone, Copy)]
+pub enum Endianness {
+    /// The highest byte first.
+    Big,
+    /// The lowest byte first.
+    Little,
+}
+
+/// Tests the file header at the front, whose numbers are in this byte order.
+fn check_header<T: ByteOrder>(bytes: &[u8]) -> Result<(), ReadError>
+    ensures { MatchResult result (λ _. header_fault T.number_of bytes.now ≡ None) (λ e. header_fault T.number_of bytes.now ≡ Some e) }
+{
+    if bytes.len() < FILE_HEADER {
+        return Err(ReadError::Header);
+    }
+    let magic = T::read_u32(bytes);
+    if magic != MICROSECONDS_MAGIC && magic != NANOSECONDS_MAGIC {
+        return Err(ReadError::Magic);
+    }
+    if T::read_u16(&bytes[4..]) != MAJOR || T::read_u16(&bytes[6..]) != MINOR {
+        return Err(ReadError::Version);
+    }
+    if T::read_u32(&bytes[20..]) != ETHERNET {
+        return Err(ReadError::LinkType);
+    }
+    Ok(())
+}
+
+/// The byte order in which the file header at the front has no fault.
+pub fn byte_order(bytes: &[u8]) -> Result<Endianness, ReadError>
+    ensures ok { IfOk result (λ order. header_fault (number_in order) bytes.now ≡ None) }
+    ensures fault { IfErr result (λ e. IsHeaderFault bytes.now e) }
+{
+    match check_header::<LittleEndian>(bytes) {
+        Ok(()) => Ok(Endianness::Little),
+        Err(fault) if fault != ReadError::Magic => Err(fault),
+        Err(_) => check_header::<BigEndian>(bytes).map(|()| Endianness::Big),
+    }
+}
