@@ -5,7 +5,7 @@ use Rattle.dma_memory.specs.HostMemory.{bytes_at, with_bytes, LiesIn}
 use Rattle.descriptors.specs.declared.ring.Ring.{Ring}
 use Rattle.descriptors.specs.Ring.{address_of}
 use Rattle.rx_engine.specs.Arriving.{kept, after_arrival}
-use Rattle.rx_engine.specs.Descriptors.{named_address, AreApart}
+use Rattle.rx_engine.specs.Descriptors.{named_address, AreApart, ChangesOnly}
 use Rattle.rx_engine.specs.Engine.{Engine, IsEngine, oldest}
 use Rattle.rx_engine.specs.Finishing.{engine_after_done, memory_after_done, StandsApart, IsFinished}
 use Rattle.rx_engine.specs.Moving.{HasFrameToMove, CanMove, IsMoved, engine_after_data, memory_after_data}
@@ -69,3 +69,12 @@ OtherBytesLeaveHeld =
     (memory : List ℕ) (engine : Engine) (place : ℕ) (bytes : List ℕ)
     → LiesIn memory place (length bytes) → ForSome engine.work (AreAwayFromWork memory place (length bytes))
     → held (with_bytes memory place bytes) engine ≡ held memory engine
+
+-- A descriptor that is finished with a frame stays so while only bytes change that are apart from it and from the frame. So finished
+-- descriptors only grow in number.
+abbrev pub FinishedStays : Type 0
+FinishedStays =
+    (memory memory' : List ℕ) (place n descriptor : ℕ) (frame : List ℕ)
+    → ChangesOnly memory memory' place n → AreApart descriptor place n
+    → (place + n ≤ named_address memory descriptor) ⊎ (named_address memory descriptor + length frame ≤ place)
+    → IsFinished memory descriptor frame → IsFinished memory' descriptor frame

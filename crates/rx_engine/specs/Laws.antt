@@ -13,7 +13,7 @@ use Rattle.descriptors.specs.RxStatus.{status_bits, status_of}
 use Rattle.rx_engine.specs.Descriptors.{descriptor_at, named_address, AreApart, ChangesOnly}
 use Rattle.rx_engine.specs.Engine.{oldest}
 use Rattle.rx_engine.specs.Finishing.{finished_bytes, memory_after_done, StandsApart, IsFinished}
-use Rattle.rx_engine.specs.Held.{frame_of_work, in_work, AreAwayFromWork, DataKeepsHeld, DoneTakesFirst, OtherBytesLeaveHeld}
+use Rattle.rx_engine.specs.Held.{frame_of_work, in_work, AreAwayFromWork, DataKeepsHeld, DoneTakesFirst, FinishedStays, OtherBytesLeaveHeld}
 use Rattle.rx_engine.specs.declared.data.Data.TheVariants.{Nothing, Moved, Fault}
 use Rattle.rx_engine.specs.declared.engine.Work.{Work}
 
@@ -143,3 +143,18 @@ changes_only_stored memory memory' bytes address is lies = rw (is) (record {
   size = length-with_bytes memory bytes address lies;
   others = λ i k apart. bytes_at-elsewhere memory bytes address i k lies apart;
 })
+
+-- What is finished stays finished.
+pub finished-kept : FinishedStays
+finished-kept memory memory' place n descriptor frame only apart away finished =
+    let same = descriptor_at-kept memory memory' descriptor (only.others descriptor 16 (⊎_elim inr inl apart)) in
+    let count : (descriptor_at memory descriptor).length ≡ length frame = finished.length in
+    let kept : bytes_at memory' (named_address memory descriptor) (length frame) ≡ bytes_at memory (named_address memory descriptor) (length frame) = only.others (named_address memory descriptor) (length frame) (⊎_elim inr inl away) in
+    let bytes : bytes_at memory (named_address memory descriptor) (length frame) ≡ frame = ap (bytes_at memory (named_address memory descriptor)) (sym count) ∙ finished.bytes in
+    record {
+      done = ap (λ (d : RxDesc). status_bits d.status / 2 ^ 0 % 2) same ∙ finished.done;
+      ended = ap (λ (d : RxDesc). status_bits d.status / 2 ^ 1 % 2) same ∙ finished.ended;
+      unharmed = ap (λ (d : RxDesc). d.errors) same ∙ finished.unharmed;
+      length = ap (λ (d : RxDesc). d.length) same ∙ count;
+      bytes = ap (λ (d : RxDesc). bytes_at memory' d.address d.length) same ∙ ap (bytes_at memory' (named_address memory descriptor)) count ∙ kept ∙ bytes;
+    }
