@@ -1,3 +1,5 @@
 mod Choices
+mod Lanes
 mod Passes
-mod Rings
+mod Steps
+mod Writes

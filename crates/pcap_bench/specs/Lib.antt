@@ -1,5 +1,6 @@
+pub mod Choosing
 pub mod Faults
+pub mod Lane
 pub mod Options
 pub mod Passing
 pub mod Printing
-pub mod Ring

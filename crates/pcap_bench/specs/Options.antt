@@ -1,6 +1,5 @@
 -- The receive filter that the options of a pass ask for. (own)
-use Rattle.std.specs.Prelude.{◌≡◌, ◌≤◌, ◌&&◌, ℕ, List, Bool, true, false, Option, Some, None, IfSome, is_none, is_some}
-use Rattle.descriptors.specs.Frames.{padded}
+use Rattle.std.specs.Prelude.{◌≡◌, ◌≤◌, ℕ, List, Some, None, IfSome}
 use Rattle.rx_filter.specs.Addresses.{group_number}
 use Rattle.rx_filter.specs.Passing.{ReceiveFilter, Passes}
 use Rattle.command_line.specs.declared.job.PassFilter.{PassFilter}
@@ -31,13 +30,3 @@ KeptBy options frame = Passes (filter_for options) frame
 -- VLAN numbers have 12 bits.
 abbrev pub HasVlanNumber : PassFilter → Type 0
 HasVlanNumber options = IfSome options.vlan (λ n. n ≤ 4095)
-
--- RCTL: BAM, with UPE and MPE where all is accepted, and VFE where a VLAN is asked for
-abbrev pub mode_bits : Bool → Bool → ℕ
-mode_bits true false = 0x8018
-mode_bits true true = 0x48018
-mode_bits false false = 0x8000
-mode_bits false true = 0x48000
-
-abbrev pub mode_for : PassFilter → ℕ
-mode_for options = mode_bits (is_none options.address && is_none options.group) (is_some options.vlan)

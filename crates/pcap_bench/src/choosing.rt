@@ -1,101 +1,104 @@
-//! The receive filter that the options of a pass ask for.
-ghost use Rattle.std.specs.Prelude.{◌≡◌, ◌+◌, ◌^◌, ◌<◌, ◌≤◌, ◌↔◌, IsTrue, IsNone, length, slice_index, slice_set};
-ghost use Rattle.descriptors.specs.Frames.{padded};
-ghost use Rattle.registers.specs.Bits.{field};
-ghost use Rattle.rx_filter.specs.Addresses.{IsAddress, low_word, high_word, group_number};
-ghost use Rattle.rx_filter.specs.Passing.{Passes};
-ghost use Rattle.rx_filter.specs.Registers.{filter_of};
-ghost use Rattle.rx_filter.specs.Writing.{with_number};
-ghost use Rattle.rx_filter.specs.Laws.{SameSets};
-ghost use Rattle.pcap_bench.specs.Options.{filter_for, HasVlanNumber, mode_for};
+//! The registers of the receive filter, as the options of a pass ask for them.
+ghost use Rattle.std.specs.Prelude.{◌≡◌, ◌+◌, ◌*◌, ◌/◌, ◌%◌, ◌^◌, ◌≤◌, IfSome};
+ghost use Rattle.adapter.specs.Registers.{after_write};
+ghost use Rattle.rx_filter.specs.Addresses.{IsAddress, low_word, high_word};
+ghost use Rattle.pcap_bench.specs.Choosing.{with_address, with_group, with_tables, with_vlan, mode_for};
+ghost use Rattle.pcap_bench.specs.Options.{HasVlanNumber};
 
+use adapter::Adapter;
+use adapter::offsets::{MTA, RAL, REGISTER_BYTES, VET, VFTA};
 use bitflags::Flags;
 use command_line::PassFilter;
-use descriptors::SHORTEST_LEGAL;
 use registers::{GroupOffset, Rctl};
-use rx_filter::{Filter, hash_of};
+use rx_filter::hash_of;
 
-/// Bytes 12 and 13 of a tagged frame (IEEE 802.1Q).
-const VLAN_TYPE: u16 = 0x8100;
+/// VET: bytes 12 and 13 of a tagged frame (IEEE 802.1Q).
+const VLAN_TYPE: u32 = 0x8100;
 
 /// AV: the entry of a receive address is valid.
 const ADDRESS_VALID: u32 = 1 << 31;
 
+/// RAH(0), which stands behind RAL(0).
+const RAH: u32 = RAL + REGISTER_BYTES;
+
 /// Numbers that a word of a table has bits for.
 const WORD_BITS: u16 = 32;
 
-/// Writes the first exact address.
-fn accept_address(filter: &mut Filter, address: &[u8; 6])
-    ensures written { filter.new ≡ record filter.old { ral = slice_set filter.old.ral 0 (low_word address.now); rah = slice_set filter.old.rah 0 (high_word address.now + 2 ^ 31) } }
+/// RAL and RAH of an address that is valid.
+fn words_of(address: &[u8; 6]) -> (u32, u32)
+    ensures low { result.0 ≡ low_word address.now }
+    ensures high { result.1 ≡ high_word address.now + 2 ^ 31 }
     ensures address { IsAddress address.now }
 {
     let low = u32::from_le_bytes([address[0], address[1], address[2], address[3]]);
     let high = u32::from(u16::from_le_bytes([address[4], address[5]]));
-    filter.write_ral(0, low);
-    filter.write_rah(0, high + ADDRESS_VALID);
+    (low, high + ADDRESS_VALID)
 }
 
-/// Adds the number of a group to the group table.
-fn accept_group(filter: &mut Filter, group: &[u8; 6])
-    ensures { filter.new ≡ record filter.old { mta = with_number filter.old.mta (group_number 4 group.now) } }
+/// Writes RAL(0) and RAH(0): the address, or 0 where there is none.
+fn write_address(adapter: &mut Adapter, address: &Option<[u8; 6]>)
+    ensures written { adapter.new ≡ record adapter.old { filter = with_address address.now adapter.old.filter } }
+    ensures address { IfSome address.now IsAddress }
 {
-    let number = hash_of(GroupOffset::Bits47To36, group);
-    let word = usize::from(number / WORD_BITS);
-    filter.write_mta(word, filter.mta(word) | 1 << (number % WORD_BITS));
+    let (low, high) = match address {
+        Some(address) => words_of(address),
+        None => (0, 0),
+    };
+    adapter.write(RAL, low);
+    adapter.write(RAH, high);
 }
 
-/// Adds a number to the VLAN table.
-fn accept_vlan(filter: &mut Filter, number: u16)
-    requires { number ≤ 4095 }
-    ensures { filter.new ≡ record filter.old { vfta = with_number filter.old.vfta number } }
+/// Writes the word of a table that has the bit of a number, with that bit alone.
+fn write_number(adapter: &mut Adapter, table: u32, number: u16)
+    requires table { table ≤ VFTA }
+    requires number { number ≤ 4095 }
+    ensures { adapter.new ≡ after_write (table + 4 * (number / 32)) (2 ^ (number % 32)) adapter.old }
 {
-    let word = usize::from(number / WORD_BITS);
-    filter.write_vfta(word, filter.vfta(word) | 1 << (number % WORD_BITS));
+    let word = u32::from(number / WORD_BITS);
+    adapter.write(table + REGISTER_BYTES * word, 1 << (number % WORD_BITS));
 }
 
-/// RCTL as the options ask for.
-fn mode_of(options: &PassFilter) -> Rctl
+/// Writes the word of MTA that has the number of a group, where there is one.
+fn write_group(adapter: &mut Adapter, group: &Option<[u8; 6]>)
+    ensures { adapter.new ≡ record adapter.old { filter = with_group group.now adapter.old.filter } }
+{
+    if let Some(group) = group {
+        write_number(adapter, MTA, hash_of(GroupOffset::Bits47To36, group));
+    }
+}
+
+/// Writes the word of VFTA that has a VLAN's number, where there is one.
+fn write_vlan(adapter: &mut Adapter, vlan: Option<u16>)
+    requires { IfSome vlan (λ number. number ≤ 4095) }
+    ensures { adapter.new ≡ record adapter.old { filter = with_vlan vlan adapter.old.filter } }
+{
+    if let Some(number) = vlan {
+        write_number(adapter, VFTA, number);
+    }
+}
+
+/// RCTL as the options ask for: EN, BAM, UPE and MPE where neither an address nor a group is given, and VFE where a VLAN is.
+pub fn mode_of(options: &PassFilter) -> Rctl
     ensures { result.0 ≡ mode_for options.now }
 {
-    let open = if options.address.is_none() && options.group.is_none() {
-        Rctl::BAM.union(Rctl::UPE).union(Rctl::MPE)
-    } else {
-        Rctl::BAM
-    };
+    let mut mode = Rctl::EN.union(Rctl::BAM);
+    if options.address.is_none() && options.group.is_none() {
+        mode.insert(Rctl::UPE.union(Rctl::MPE));
+    }
     if options.vlan.is_some() {
-        open.union(Rctl::VFE)
-    } else {
-        open
+        mode.insert(Rctl::VFE);
     }
+    mode
 }
 
-/// The filter that the options of a pass ask for.
-pub fn filter_of_options(options: &PassFilter) -> Filter
+/// Writes the registers of the receive filter, RCTL apart, as the options of a pass ask for.
+pub fn write_filter(adapter: &mut Adapter, options: &PassFilter)
     requires { HasVlanNumber options.now }
-    ensures { SameSets (filter_of result) (filter_for options.now) }
+    ensures written { adapter.new ≡ record adapter.old { filter = with_tables options.now adapter.old.filter } }
+    ensures address { IfSome options.now.address IsAddress }
 {
-    let mut filter = Filter::new();
-    if let Some(address) = &options.address {
-        accept_address(&mut filter, address);
-    }
-    if let Some(group) = &options.group {
-        accept_group(&mut filter, group);
-    }
-    if let Some(vlan) = options.vlan {
-        accept_vlan(&mut filter, vlan);
-    }
-    filter.mode(mode_of(options).bits(), VLAN_TYPE);
-    filter
-}
-
-/// Whether a filter passes a frame, padded.
-pub fn keeps(filter: &Filter, frame: &[u8]) -> bool
-    ensures { IsTrue result ↔ Passes (filter_of filter.now) (padded frame.now) }
-{
-    if frame.len() < SHORTEST_LEGAL {
-        let mut padded = [0; SHORTEST_LEGAL];
-        padded[..frame.len()].copy_from_slice(frame);
-        return filter.passes(&padded);
-    }
-    filter.passes(frame)
+    write_address(adapter, &options.address);
+    write_group(adapter, &options.group);
+    write_vlan(adapter, options.vlan);
+    adapter.write(VET, VLAN_TYPE);
 }

@@ -1,12 +1,13 @@
-//! Traces of packets through an adapter's rings.
+//! Traces of packets through an adapter's receive ring.
 #![tactic(auto)]
 
 mod choosing;
 mod counts;
 mod fault;
+mod lane;
 mod passing;
 mod printing;
-mod ring;
+mod slots;
 #[cfg(test)]
 mod tests;
 

@@ -1,4 +1,4 @@
-//! The frames of a trace, through a ring.
+//! The frames of a trace, through an adapter.
 ghost use Rattle.std.specs.Prelude.{◌≡◌, ◌<◌, ◌≤◌, length, IfOk, IfErr, OnOk, OnErr};
 ghost use Rattle.std.specs.Io.KnownBytes.{Appends, append_known};
 ghost use Rattle.descriptors.specs.Frames.{padded, is_sendable};
@@ -6,12 +6,11 @@ ghost use Rattle.pcap_trace.specs.Devices.{AppendsFront, CountsFaults, Grows};
 ghost use Rattle.pcap_trace.specs.Format.{packet_of};
 ghost use Rattle.pcap_bench.specs.Options.{HasVlanNumber, KeptBy};
 ghost use Rattle.pcap_bench.specs.Passing.{WritesKept, StopsAmong, StopsBy};
-ghost use Rattle.pcap_bench.specs.Ring.{head_bytes, IsFinished};
+ghost use Rattle.pcap_bench.specs.Lane.{slot_bytes, HasFrame, IsWaiting};
 
-use crate::choosing::{filter_of_options, keeps};
 use crate::counts::PassCounts;
 use crate::fault::BenchError;
-use crate::ring::Ring;
+use crate::lane::ReceiveLane;
 use command_line::PassFilter;
 use descriptors::{LONGEST_SENDABLE, SHORTEST_SENDABLE};
 use pcap_trace::{RecordWriter, Sink, Trace, WriteError};
@@ -26,9 +25,9 @@ fn is_sendable(frame: &[u8]) -> bool
 
 /// Who looks on while a frame stands finished in the ring, before it is read: a test does, the program doesn't.
 pub trait Watch {
-    /// The frame at the head of the ring is about to be read.
-    fn look(&mut self, ring: &Ring)
-        requires { IsFinished ring.now (head_bytes ring.now) };
+    /// The frame at the driver's slot is about to be read.
+    fn look(&mut self, lane: &ReceiveLane)
+        requires { HasFrame lane.now (slot_bytes lane.now) };
 }
 
 /// Nobody.
@@ -36,29 +35,30 @@ pub trait Watch {
 pub struct Unwatched;
 
 impl Watch for Unwatched {
-    fn look(&mut self, _ring: &Ring) {}
+    fn look(&mut self, _lane: &ReceiveLane) {}
 }
 
-/// Takes a frame through the ring, and writes what the driver finds in memory.
-fn pass_frame<W: Sink, L: Watch>(
+/// Writes the frame that stands finished at the driver's slot, and offers its buffer again.
+fn write_received<W: Sink, L: Watch>(
     watch: &mut L,
-    ring: &mut Ring,
+    lane: &mut ReceiveLane,
     writer: &mut RecordWriter,
     sink: &mut W,
     number: u64,
-    frame: &[u8],
 ) -> Result<(), WriteError>
     requires sound { W.faults sink.old < u64.MAX }
-    requires short { length frame.now ≤ 1518 }
-    ensures ok { OnOk result (Appends (append_known (W.taken sink.old) writer.old) (append_known (W.taken sink.new) writer.new) (packet_of (record { time = number; frame = padded frame.now }))) }
+    requires short { length (slot_bytes lane.old) ≤ 1518 }
+    requires finished { HasFrame lane.old (slot_bytes lane.old) }
+    ensures ok { OnOk result (Appends (append_known (W.taken sink.old) writer.old) (append_known (W.taken sink.new) writer.new) (packet_of (record { time = number; frame = slot_bytes lane.old }))) }
     ensures grows { OnOk result (Grows (W.taken sink.old) (W.taken sink.new)) }
     ensures err { OnErr result (AppendsFront (W.taken sink.old) (W.taken sink.new) writer.old) }
     ensures faults { CountsFaults result (W.faults sink.old) (W.faults sink.new) }
+    ensures waiting { OnOk result (IsWaiting lane.new) }
+    ensures filter { OnOk result (lane.new.adapter.filter ≡ lane.old.adapter.filter) }
 {
-    ring.deliver(frame);
-    watch.look(ring);
-    writer.write(sink, number, ring.received())?;
-    ring.offer();
+    watch.look(lane);
+    writer.write(sink, number, lane.received())?;
+    lane.offer();
     Ok(())
 }
 
@@ -77,8 +77,7 @@ pub fn pass_watched<W: Sink, L: Watch>(
     ensures err { OnErr result (StopsAmong (KeptBy filter.now) trace.now.frames (W.taken sink.old) (W.taken sink.new)) }
     ensures fault { IfErr result (λ e. StopsBy e (W.taken sink.old) (W.taken sink.new) (W.faults sink.old) (W.faults sink.new)) }
 {
-    let chosen = filter_of_options(filter);
-    let mut ring = Ring::new(alloc)?;
+    let mut lane = ReceiveLane::new(alloc, filter)?;
     let mut writer = RecordWriter::new(alloc)?;
     let mut counts = PassCounts {
         read: trace.frames.len() as u64,
@@ -92,20 +91,20 @@ pub fn pass_watched<W: Sink, L: Watch>(
             counts.illegal += 1;
             continue;
         }
-        if !keeps(&chosen, frame) {
+        if !lane.receive(frame) {
             counts.filtered += 1;
             continue;
         }
-        pass_frame(watch, &mut ring, &mut writer, sink, number, frame)?;
+        write_received(watch, &mut lane, &mut writer, sink, number)?;
         counts.written += 1;
     }
     writer.flush(sink)?;
     Ok(counts)
 }
 
-/// Takes each frame of a trace that can be sent and that a receive filter passes through a receive ring of 8 descriptors in a host's
-/// memory, and writes it, padded to 60 bytes by zeros, with its number among the trace's frames (from 0; packets that were captured in
-/// part don't count) as its time in microseconds.
+/// Puts each frame of a trace that can be sent on the wire of an adapter, padded to 60 bytes by zeros; those that its receive filter passes
+/// come through a receive ring of 8 descriptors in a host's memory, and are written from there, each with its number among the frames of
+/// the trace (from 0; packets that were captured in part don't count) as its time in microseconds.
 ///
 /// Frames below 14 or above 1,518 bytes are counted as illegal; of the others, the filter is asked of the padded frame. It has the
 /// options' address as its one exact address, the number of the options' group (RCTL.MO 00) as the one number of its group table, and

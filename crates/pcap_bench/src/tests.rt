@@ -1,8 +1,8 @@
 //! What no clause says: that frames go through memory, printed texts, and devices that fail.
 ghost use Rattle.std.specs.Prelude.{◌≡◌, Some};
 
+use crate::lane::ReceiveLane;
 use crate::passing::{Watch, pass_watched};
-use crate::ring::Ring;
 use crate::{
     BenchError, DeviceError, Fault, Frames, PassCounts, PassFilter, ReadError, Sink, SliceSource,
     Trace, VecSink, WriteError, pass, print_pass,
@@ -33,15 +33,15 @@ fn trace_of(alloc: Global, lengths: &[usize]) -> Result<Trace, Fail> {
     })
 }
 
-/// Notes the descriptor at the head when a frame is read.
+/// Notes the descriptor at the driver's slot when a frame is read.
 #[derive(Drop)]
 struct Notes {
     descriptors: Vec<RxDesc>,
 }
 
 impl Watch for Notes {
-    fn look(&mut self, ring: &Ring) {
-        let _ = self.descriptors.push(ring.head_descriptor());
+    fn look(&mut self, lane: &ReceiveLane) {
+        let _ = self.descriptors.push(lane.descriptor());
     }
 }
 
@@ -84,7 +84,7 @@ fn three_frames_of_which_one_is_too_short(rt: HostRuntime) -> Result<(), Fail> {
 
 #[test]
 fn each_frame_stands_finished_in_memory_when_it_is_read(rt: HostRuntime) -> Result<(), Fail> {
-    let trace = trace_of(rt.alloc(), &[14, 13, 1518])?;
+    let trace = trace_of(rt.alloc(), &[14, 13, 1518, 60, 60, 60, 60, 60, 60, 61])?;
     let mut sink = VecSink::new(rt.alloc());
     let mut notes = Notes {
         descriptors: Vec::new(rt.alloc()),
@@ -104,9 +104,15 @@ fn each_frame_stands_finished_in_memory_when_it_is_read(rt: HostRuntime) -> Resu
         errors: 0,
         special: 0,
     };
+    let descriptors = notes.descriptors.as_slice();
+    assert_eq!(rt; descriptors.len(), 9);
     assert_eq!(rt;
-        notes.descriptors.as_slice(),
+        &descriptors[..2],
         [finished(0x4800, 60), finished(0x5000, 1518)].as_slice()
+    );
+    assert_eq!(rt;
+        &descriptors[7..],
+        [finished(0x8000, 60), finished(0x4800, 61)].as_slice()
     );
     Ok(())
 }

@@ -1,13 +1,18 @@
 use Rattle.std.proofs.Common.{◌≡◌, length}
 use Rattle.std.specs.Io.KnownBytes.{append_known}
 use Rattle.pcap_trace.specs.Devices.{Grows}
-use Rattle.pcap_bench.specs.Options.{KeptBy}
+use Rattle.rx_filter.specs.Laws.{SameSets}
+use Rattle.rx_filter.specs.Registers.{filter_of}
+use Rattle.pcap_bench.specs.Lane.{IsWaiting}
+use Rattle.pcap_bench.specs.Options.{filter_for, KeptBy}
 use Rattle.pcap_bench.proofs.Passes.{SoFar}
 use Rattle.pcap_bench.proofs.passing.pass_watched.Given as goal
 
 abbrev pub invariant-loop-frame : goal.invariant-loop-frame
 invariant-loop-frame g l = record {
   quiet : g.W.Sink.faults l.sink ≡ g.W.Sink.faults l.fn.sink;
+  waiting : IsWaiting l.lane;
+  filter : SameSets (filter_of l.lane.adapter.filter) (filter_for l.fn.filter);
   read : l.counts.read ≡ length l.fn.trace.frames;
   grows : Grows (g.W.Sink.taken l.fn.sink) (g.W.Sink.taken l.sink);
   so_far : SoFar (KeptBy l.fn.filter) l.fn.trace.frames l.frame-iterator l.next l.counts.illegal l.counts.filtered l.counts.written (g.W.Sink.taken l.fn.sink) (append_known (g.W.Sink.taken l.sink) l.writer);

@@ -1,0 +1,108 @@
+-- A frame's way through the adapter of a lane.
+use Rattle.std.proofs.Common.{◌≡◌, ◌≤◌, ◌<◌, ◌+◌, ◌*◌, ◌%◌, ℕ, List, length, Bool, true, leb, refl, sym, ap, subst, ◌∙◌, arith}
+use Rattle.std.specs.Prelude.{if◌then◌else◌}
+use Rattle.std.proofs.lemmas.Bool.{le-leb}
+use Rattle.registers.specs.ReceiveControl.{buffer_size_of}
+use Rattle.dma_memory.specs.HostMemory.{with_bytes, LiesIn}
+use Rattle.descriptors.specs.Frames.{IsLegal}
+use Rattle.rx_engine.specs.Descriptors.{named_address}
+use Rattle.rx_engine.specs.Engine.{Engine, idle_engine}
+use Rattle.rx_engine.specs.Finishing.{finished_bytes}
+use Rattle.rx_engine.specs.declared.arrival.Fate.TheVariants.{Stored}
+use Rattle.adapter.specs.declared.ring.RingRegisters.{RingRegisters}
+use Rattle.adapter.specs.declared.step.Stepped.TheVariants.{Moved, Done}
+use Rattle.adapter.specs.Receiving.{after_arrive, after_data, after_done, memory_after_data_step, memory_after_done_step, CanMoveFrame}
+use Rattle.adapter.specs.State.{AdapterState}
+use Rattle.pcap_bench.specs.Lane.{slots, buffer_at, ring_at, HasFrame, IsLane, IsReceiving, IsWaiting, LaneState, NameBuffers}
+use Rattle.pcap_bench.proofs.Lanes.{HasRoom, frame_finished, length-finished, length-offer, with_finished, with_frame, with_offer, NameBelow-offered, NameBuffers-finished}
+
+-- an adapter that holds no frame, with the head of its ring at a slot and the driver at another
+abbrev pub calm : AdapterState → ℕ → ℕ → AdapterState
+calm state head slot = record state { receive_kilobytes = 48; receiver = idle_engine; receive_ring = ring_at head slot }
+
+-- The adapter of a lane is such a one.
+is_calm : (state : AdapterState) (head slot : ℕ) → state.receive_kilobytes ≡ 48 → state.receiver ≡ idle_engine → state.receive_ring ≡ ring_at head slot → state ≡ calm state head slot
+is_calm state head slot room idle ring =
+    ap (λ (k : ℕ). record state { receive_kilobytes = k }) room
+    ∙ ap (λ (e : Engine). record state { receive_kilobytes = 48; receiver = e }) idle
+    ∙ ap (λ (r : RingRegisters). record state { receive_kilobytes = 48; receiver = idle_engine; receive_ring = r }) ring
+
+pub calm_of : (lane : LaneState) → IsLane lane → IsWaiting lane → lane.adapter ≡ calm lane.adapter lane.slot lane.slot
+calm_of lane is waiting =
+    is_calm lane.adapter lane.slot lane.slot is.room is.idle (is.ring ∙ ap (λ (head : ℕ). ring_at head lane.slot) waiting)
+
+-- such an adapter, once a frame is stored
+abbrev pub with_stored : AdapterState → ℕ → List ℕ → AdapterState
+with_stored state slot frame = after_arrive Stored frame (calm state slot slot)
+
+-- A ring at address 0 has its descriptors from there on.
+at_slot : (slot : ℕ) → 0 + 16 * slot ≡ 16 * slot
+at_slot slot = omega arith
+
+-- The frame can be moved to memory.
+pub can_move : (state : AdapterState) (memory frame : List ℕ) (slot : ℕ) → IsReceiving state.filter.rctl → slot < slots → length memory ≡ 34816 → IsLegal frame → HasRoom memory slot frame
+    → CanMoveFrame memory (with_stored state slot frame)
+can_move state memory frame slot receiving below size legal room =
+    let most = legal.most in
+    record {
+      indices = record { head = omega arith; tail = omega arith };
+      descriptor = omega arith;
+      place = subst (λ (at : ℕ). LiesIn memory (named_address memory at) (length frame)) (sym (at_slot slot)) room.lies;
+      not_extended = receiving.not_extended;
+      size = subst (λ (code : ℕ). length frame ≤ buffer_size_of code) (sym receiving.size) (omega arith);
+    }
+
+-- the lane behind both steps
+abbrev pub after_steps : AdapterState → List ℕ → List ℕ → ℕ → LaneState
+after_steps state memory frame slot = record {
+  adapter = after_done Done (after_data Moved (with_stored state slot frame));
+  memory = with_finished memory slot frame;
+  slot = slot;
+}
+
+pub memory_is : (state : AdapterState) (memory frame : List ℕ) (slot : ℕ) → slot < slots → HasRoom memory slot frame
+    → memory_after_done_step (memory_after_data_step Moved memory (with_stored state slot frame)) (after_data Moved (with_stored state slot frame)) ≡ with_finished memory slot frame
+memory_is state memory frame slot below room =
+    let size = room.size in
+    let within : leb (16 * slot + 16) (length (with_frame memory slot frame)) ≡ true = le-leb _ _ (omega arith) in
+    ap (λ (at : ℕ). (let moved = with_bytes memory (named_address memory at) frame in if leb (at + 16) (length moved) then with_bytes moved (at + 8) (finished_bytes (length frame)) else moved)) (at_slot slot)
+    ∙ ap (λ (lies : Bool). if lies then with_finished memory slot frame else with_frame memory slot frame) within
+
+pub record Received (lane : LaneState) (frame : List ℕ) : Type 0 where
+  pub is_lane : IsLane lane
+  pub has_frame : HasFrame lane frame
+
+pub received : (state : AdapterState) (memory frame : List ℕ) (slot : ℕ) → IsReceiving state.filter.rctl → slot < slots → length memory ≡ 34816 → NameBuffers memory → IsLegal frame → HasRoom memory slot frame
+    → Received (after_steps state memory frame slot) frame
+received state memory frame slot receiving below size named legal room = record {
+  is_lane = record {
+    receiving = receiving;
+    room = refl;
+    idle = refl;
+    slot = below;
+    ring = refl;
+    size = length-finished memory frame slot below room;
+    buffers = NameBuffers-finished memory frame slot below named legal room;
+  };
+  has_frame = record { head = refl; finished = frame_finished memory frame slot below size named legal room };
+}
+
+-- the adapter of a lane whose tail was written
+abbrev pub with_tail : AdapterState → ℕ → AdapterState
+with_tail state tail = record state { receive_ring = record state.receive_ring { tail = tail } }
+
+-- Once the buffer of the driver's slot is offered and RDT is there, it is a lane with the driver at the next slot.
+pub IsLane-offered : (lane : LaneState) (buffer : ℕ) → IsLane lane → buffer ≡ buffer_at lane.slot
+    → IsLane (record { adapter = with_tail lane.adapter lane.slot; memory = with_offer lane.memory lane.slot buffer; slot = (lane.slot + 1) % slots })
+IsLane-offered lane buffer is named =
+    let below = is.slot in
+    let tail : lane.slot ≡ ((lane.slot + 1) % slots + 7) % slots = omega arith in
+    record {
+      receiving = is.receiving;
+      room = is.room;
+      idle = is.idle;
+      slot = omega arith;
+      ring = ap (λ (r : RingRegisters). record r { tail = lane.slot }) is.ring ∙ ap (λ (t : ℕ). record (ring_at lane.adapter.receive_ring.head lane.slot) { tail = t }) tail;
+      size = length-offer lane.memory lane.slot buffer is.slot is.size;
+      buffers = NameBelow-offered lane.memory lane.slot slots buffer is.slot is.size named (λ k k_below other. is.buffers k k_below);
+    }

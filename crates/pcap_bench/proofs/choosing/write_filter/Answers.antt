@@ -1,0 +1,17 @@
+use Rattle.std.proofs.Common.{ap, ◌∙◌}
+use Rattle.adapter.specs.State.{AdapterState}
+use Rattle.pcap_bench.specs.Choosing.{with_group, with_vlan}
+use Rattle.pcap_bench.proofs.Writes.{wrote-vet}
+use Rattle.pcap_bench.proofs.choosing.write_filter.Goals as goal
+
+pub returns-clause-written : goal.returns-clause-written
+returns-clause-written c =
+    let options = c.args.options.now in
+    c.write.ensures.state
+    ∙ wrote-vet c.write_vlan.new.adapter
+    ∙ ap (λ (s : AdapterState). record s { filter = record s.filter { vet = 0x8100 } }) (
+    c.write_vlan.ensures
+    ∙ ap (λ (s : AdapterState). record s { filter = with_vlan options.vlan s.filter }) (
+    c.write_group.ensures ∙ ap (λ (s : AdapterState). record s { filter = with_group options.group s.filter }) c.write_address.ensures.written
+    )
+    )

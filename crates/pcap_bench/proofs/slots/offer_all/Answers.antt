@@ -1,0 +1,18 @@
+use Rattle.std.proofs.Common.{◌≡◌, ◌+◌, ◌*◌, ℕ, List, length, inl, inr, ap, ◌∙◌, arith}
+use Rattle.dma_memory.specs.Layout.{Counts, start_of, ReceiveBuffer}
+use Rattle.rx_engine.specs.Descriptors.{named_address}
+use Rattle.pcap_bench.specs.Lane.{buffer_at}
+use Rattle.pcap_bench.proofs.Lanes.{length-offer, NameBelow-offered}
+use Rattle.pcap_bench.proofs.slots.offer_all.Goals as goal
+
+pub loop-slot-preserved : goal.loop-slot-preserved
+loop-slot-preserved c =
+    let slot = c.loop-slot.slot in
+    let memory = c.loop-slot.memory in
+    let buffer = c.receive_buffer.result in
+    let is : buffer ≡ buffer_at slot = c.receive_buffer.ensures.start ∙ ap (λ (counts : Counts). start_of counts (ReceiveBuffer slot)) c.requires.layout in
+    let named = NameBelow-offered memory slot (slot + 1) buffer c.loop-slot-test.true c.loop-slot.invariant.size is (λ k below other. c.loop-slot.invariant.named k (elim other [ inl before ↦ before | inr after ↦ absurd (omega arith) ])) in
+    record {
+      size = ap length c.offer.ensures ∙ length-offer memory slot buffer c.loop-slot-test.true c.loop-slot.invariant.size;
+      named = λ k below. ap (λ (m : List ℕ). named_address m (16 * k)) c.offer.ensures ∙ named k below;
+    }

@@ -1,0 +1,39 @@
+-- What the options of a pass write to the registers of the receive filter. (Intel's manual, "13.5 Filter Registers" and "13.4.22 Receive
+-- Control"; what the options ask for: own)
+use Rattle.std.specs.Prelude.{◌+◌, ◌/◌, ◌%◌, ◌^◌, ◌&&◌, ℕ, List, Bool, true, false, Option, Some, None, is_none, is_some, slice_set}
+use Rattle.rx_filter.specs.Addresses.{low_word, high_word, group_number}
+use Rattle.rx_filter.specs.Registers.{FilterRegisters}
+use Rattle.command_line.specs.declared.job.PassFilter.{PassFilter}
+
+-- RAL(0) and RAH(0): the address, with AV, or 0 where none is given
+abbrev pub with_address : Option (List ℕ) → FilterRegisters → FilterRegisters
+with_address None r = record r { ral = slice_set r.ral 0 0; rah = slice_set r.rah 0 0 }
+with_address (Some address) r = record r { ral = slice_set r.ral 0 (low_word address); rah = slice_set r.rah 0 (high_word address + 2 ^ 31) }
+
+-- the word of a table that has a number's bit, with that bit alone
+abbrev pub with_bit : List ℕ → ℕ → List ℕ
+with_bit table number = slice_set table (number / 32) (2 ^ (number % 32))
+
+-- MTA: the bit of the group's number, of bits 47 to 36 of its address
+abbrev pub with_group : Option (List ℕ) → FilterRegisters → FilterRegisters
+with_group None r = r
+with_group (Some group) r = record r { mta = with_bit r.mta (group_number 4 group) }
+
+-- VFTA: the bit of the VLAN's number
+abbrev pub with_vlan : Option ℕ → FilterRegisters → FilterRegisters
+with_vlan None r = r
+with_vlan (Some number) r = record r { vfta = with_bit r.vfta number }
+
+-- all of these, and VET
+abbrev pub with_tables : PassFilter → FilterRegisters → FilterRegisters
+with_tables options r = record (with_vlan options.vlan (with_group options.group (with_address options.address r))) { vet = 0x8100 }
+
+-- RCTL: EN and BAM, with UPE and MPE where all is accepted, and VFE where a VLAN is asked for
+abbrev pub mode_bits : Bool → Bool → ℕ
+mode_bits true false = 0x801A
+mode_bits true true = 0x4801A
+mode_bits false false = 0x8002
+mode_bits false true = 0x48002
+
+abbrev pub mode_for : PassFilter → ℕ
+mode_for options = mode_bits (is_none options.address && is_none options.group) (is_some options.vlan)

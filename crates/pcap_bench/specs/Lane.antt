@@ -1,0 +1,69 @@
+-- An adapter that receives into a host's memory, with the driver that empties its ring: eight descriptors, each with its buffer. (Intel's
+-- manual, "3.2.6 Receive Descriptor Queue Structure"; the ring's size and places here are own)
+use Rattle.std.specs.Prelude.{◌≡◌, ◌<◌, ◌+◌, ◌*◌, ◌%◌, ℕ, List, length}
+use Rattle.registers.specs.Bits.{HasBit, field}
+use Rattle.dma_memory.specs.HostMemory.{bytes_at}
+use Rattle.descriptors.specs.declared.rx_desc.RxDesc.{RxDesc}
+use Rattle.descriptors.specs.RxStatus.{status_of}
+use Rattle.rx_engine.specs.Descriptors.{descriptor_at, named_address}
+use Rattle.rx_engine.specs.Engine.{idle_engine}
+use Rattle.rx_engine.specs.Finishing.{IsFinished}
+use Rattle.adapter.specs.declared.ring.RingRegisters.{RingRegisters}
+use Rattle.adapter.specs.State.{AdapterState}
+
+abbrev pub slots : ℕ
+slots = 8
+
+-- the first receive buffer stands behind both rings and the transmit buffers
+abbrev pub buffer_at : ℕ → ℕ
+buffer_at slot = 18432 + 2048 * slot
+
+-- a descriptor that offers a buffer
+abbrev pub offered : ℕ → RxDesc
+offered buffer = record { address = buffer; length = 0; checksum = 0; status = status_of 0; errors = 0; special = 0 }
+
+-- Each descriptor names the buffer of its slot.
+abbrev pub NameBuffers : List ℕ → Type 0
+NameBuffers memory = (slot : ℕ) → slot < slots → named_address memory (16 * slot) ≡ buffer_at slot
+
+-- RDBAL, RDBAH, RDLEN, RDH and RDT: the ring stands at address 0, and the adapter owns it from the head up to the slot before the driver's.
+abbrev pub ring_at : ℕ → ℕ → RingRegisters
+ring_at head slot = record { base_low = 0; base_high = 0; length_bytes = 16 * slots; head = head; tail = (slot + 7) % slots }
+
+-- the adapter, the host's memory, and the slot that the driver reads next
+pub record LaneState : Type 0 where
+  pub adapter : AdapterState
+  pub memory : List ℕ
+  pub slot : ℕ
+
+-- RCTL has EN, and asks for buffers of 2,048 bytes (13.4.22)
+pub record IsReceiving (control : ℕ) : Type 0 where
+  pub enabled : HasBit control 1
+  pub not_extended : ¬ (HasBit control 25)
+  pub size : field control 16 2 ≡ 0
+
+-- What holds of every lane: its adapter receives, has room for frames and holds none, and its ring lies in memory.
+pub record IsLane (lane : LaneState) : Type 0 where
+  pub receiving : IsReceiving lane.adapter.filter.rctl
+  pub room : lane.adapter.receive_kilobytes ≡ 48
+  pub idle : lane.adapter.receiver ≡ idle_engine
+  pub slot : lane.slot < slots
+  pub ring : lane.adapter.receive_ring ≡ ring_at lane.adapter.receive_ring.head lane.slot
+  pub size : length lane.memory ≡ 34816
+  pub buffers : NameBuffers lane.memory
+
+-- The adapter waits for a frame for the driver's slot.
+abbrev pub IsWaiting : LaneState → Type 0
+IsWaiting lane = lane.adapter.receive_ring.head ≡ lane.slot
+
+-- the descriptor at the driver's slot, and the bytes that it names
+abbrev pub slot_desc : LaneState → RxDesc
+slot_desc lane = descriptor_at lane.memory (16 * lane.slot)
+
+abbrev pub slot_bytes : LaneState → List ℕ
+slot_bytes lane = bytes_at lane.memory (slot_desc lane).address (slot_desc lane).length
+
+-- The adapter has finished the descriptor at the driver's slot with a frame, and has moved on.
+pub record HasFrame (lane : LaneState) (frame : List ℕ) : Type 0 where
+  pub head : lane.adapter.receive_ring.head ≡ (lane.slot + 1) % slots
+  pub finished : IsFinished lane.memory (16 * lane.slot) frame

@@ -1,0 +1,169 @@
+//! An adapter that receives into a host's memory, with the driver that empties its ring.
+ghost use Rattle.std.specs.Prelude.{◌≡◌, ◌↔◌, ◌+◌, ◌*◌, ◌%◌, IsTrue, IfOk, true, length};
+ghost use Rattle.descriptors.specs.Frames.{padded, is_sendable, IsLegal};
+ghost use Rattle.descriptors.specs.RxStatus.{status_bits};
+ghost use Rattle.rx_engine.specs.Descriptors.{descriptor_at};
+ghost use Rattle.rx_filter.specs.Laws.{SameSets};
+ghost use Rattle.rx_filter.specs.Passing.{Passes};
+ghost use Rattle.rx_filter.specs.Registers.{filter_of};
+ghost use Rattle.adapter.specs.Receiving.{after_data, after_done, memory_after_data_step, memory_after_done_step, CanMoveFrame, HasFrameAndDescriptor};
+ghost use Rattle.adapter.specs.declared.step.Stepped.TheVariants.{Moved, Done};
+ghost use Rattle.pcap_bench.specs.Lane.{ring_at, slot_bytes, slot_desc, HasFrame, IsWaiting};
+ghost use Rattle.pcap_bench.specs.Options.{filter_for, HasVlanNumber};
+
+use crate::choosing::{mode_of, write_filter};
+use crate::slots::{SLOTS, load_desc, offer, offer_all};
+use adapter::offsets::{RCTL, RDBAH, RDBAL, RDH, RDLEN, RDT};
+use adapter::{Adapter, Fate, StepKind};
+use bitflags::Flags;
+use command_line::PassFilter;
+use descriptors::{RX_DESC_BYTES, RxDesc, SHORTEST_LEGAL};
+use dma_memory::{HostMemory, Layout};
+use eeprom::Image;
+use mdic_phy::Link;
+use std::alloc::{AllocError, Global};
+use std::marker::Model;
+
+/// The address in the EEPROM, which the exact filter holds until it is written.
+const OWN_ADDRESS: [u8; 6] = [0x02, 0, 0, 0, 0, 0x01];
+
+/// The low word of an address.
+const LOW_WORD: u64 = 0xFFFF_FFFF;
+
+/// An adapter whose registers ask for the frames of a pass, the host's memory that it receives into, and the slot that its driver reads
+/// next. The ring of 8 descriptors, each with its buffer, is the adapter's but for the slot before the driver's.
+#[derive(Drop)]
+pub struct ReceiveLane {
+    adapter: Adapter,
+    memory: HostMemory,
+    slot: u16,
+}
+
+impl Model for ReceiveLane {
+    ghost use Rattle.pcap_bench.specs.Lane.{LaneState, IsLane};
+
+    ghost Value = { LaneState };
+
+    ghost view = { λ lane. record { adapter = lane.adapter; memory = lane.memory; slot = lane.slot } };
+
+    ghost invariant = { λ lane. IsLane (record { adapter = lane.adapter; memory = lane.memory; slot = lane.slot }) };
+}
+
+/// Writes the registers of the receive ring: all its descriptors are the adapter's but the last.
+fn write_ring(adapter: &mut Adapter, layout: &Layout)
+    requires { layout.now.rx ≡ 8 }
+    ensures { adapter.new ≡ record adapter.old { receive_ring = ring_at 0 0 } }
+{
+    let base = layout.receive_ring();
+    adapter.write(RDBAL, (base & LOW_WORD) as u32);
+    adapter.write(RDBAH, (base >> 32) as u32);
+    adapter.write(RDLEN, RX_DESC_BYTES as u32 * u32::from(layout.rx()));
+    adapter.write(RDH, 0);
+    adapter.write(RDT, u32::from(SLOTS - 1));
+}
+
+/// Takes the two steps that bring the oldest frame of the packet buffer to memory and finish its descriptor.
+fn finish_frame(adapter: &mut Adapter, memory: &mut HostMemory)
+    requires frame { HasFrameAndDescriptor adapter.old }
+    requires place { CanMoveFrame memory.old adapter.old }
+    ensures adapter { adapter.new ≡ after_done Done (after_data Moved adapter.old) }
+    ensures memory { memory.new ≡ memory_after_done_step (memory_after_data_step Moved memory.old adapter.old) (after_data Moved adapter.old) }
+{
+    let _ = adapter.step(StepKind::RxData, memory, false);
+    let _ = adapter.step(StepKind::RxDone, memory, false);
+}
+
+impl ReceiveLane {
+    /// A lane whose adapter receives the frames that the options of a pass ask for.
+    ///
+    /// # Errors
+    ///
+    /// Want of memory alone.
+    pub fn new(alloc: Global, options: &PassFilter) -> Result<ReceiveLane, AllocError>
+        requires { HasVlanNumber options.now }
+        ensures filter { IfOk result (λ lane. SameSets (filter_of lane.adapter.filter) (filter_for options.now)) }
+        ensures waiting { IfOk result IsWaiting }
+    {
+        let layout = Layout::of(SLOTS, SLOTS, SLOTS).unwrap();
+        let mut memory = HostMemory::new(alloc, layout.size())?;
+        offer_all(&mut memory, &layout);
+        let image = Image::with_address(OWN_ADDRESS);
+        let mut adapter = Adapter::new(alloc, &image, Link::Never)?;
+        write_filter(&mut adapter, options);
+        write_ring(&mut adapter, &layout);
+        adapter.write(RCTL, mode_of(options).bits());
+        Ok(ReceiveLane {
+            adapter,
+            memory,
+            slot: 0,
+        })
+    }
+
+    /// A frame of 14 to 1,518 bytes comes from the wire, padded to 60 bytes by zeros. Whether the adapter has received it: then it stands
+    /// finished at the driver's slot; else nothing has changed.
+    pub fn receive(&mut self, frame: &[u8]) -> bool
+        requires sendable { IsTrue (is_sendable frame.now) }
+        requires waiting { IsWaiting self.old }
+        ensures passes { IsTrue result ↔ Passes (filter_of self.old.adapter.filter) (padded frame.now) }
+        ensures finished { IsTrue result → HasFrame self.new (padded frame.now) }
+        ensures left { ¬ (IsTrue result) → self.new ≡ self.old }
+        ensures filter { self.new.adapter.filter ≡ self.old.adapter.filter }
+    {
+        if frame.len() < SHORTEST_LEGAL {
+            let mut padded = [0; SHORTEST_LEGAL];
+            padded[..frame.len()].copy_from_slice(frame);
+            return self.arrive(&padded);
+        }
+        self.arrive(frame)
+    }
+
+    /// The same for a frame of 60 to 1,518 bytes.
+    fn arrive(&mut self, frame: &[u8]) -> bool
+        requires legal { IsLegal frame.now }
+        requires waiting { IsWaiting self.old }
+        ensures passes { IsTrue result ↔ Passes (filter_of self.old.adapter.filter) frame.now }
+        ensures finished { IsTrue result → HasFrame self.new frame.now }
+        ensures left { ¬ (IsTrue result) → self.new ≡ self.old }
+        ensures filter { self.new.adapter.filter ≡ self.old.adapter.filter }
+    {
+        match self.adapter.arrive(frame) {
+            Fate::Stored => {
+                finish_frame(&mut self.adapter, &mut self.memory);
+                true
+            }
+            Fate::Off | Fate::Illegal | Fate::Filtered | Fate::Missed => false,
+        }
+    }
+
+    /// The descriptor at the driver's slot.
+    pub fn descriptor(&self) -> RxDesc
+        ensures { result ≡ slot_desc self.now }
+    {
+        load_desc(&self.memory, self.slot)
+    }
+
+    /// The frame that the finished descriptor at the driver's slot names, where it stands in memory.
+    pub fn received(&self) -> &[u8]
+        requires { HasFrame self.now (slot_bytes self.now) }
+        ensures { result.now ≡ slot_bytes self.now }
+    {
+        let desc = self.descriptor();
+        self.memory
+            .view(desc.address, usize::from(desc.length))
+            .unwrap()
+    }
+
+    /// Offers the buffer at the driver's slot again, and goes on to the next slot.
+    pub fn offer(&mut self)
+        requires { HasFrame self.old (slot_bytes self.old) }
+        ensures next { self.new.slot ≡ (self.old.slot + 1) % 8 }
+        ensures offered { status_bits (descriptor_at self.new.memory (16 * self.old.slot)).status ≡ 0 }
+        ensures waiting { IsWaiting self.new }
+        ensures filter { self.new.adapter.filter ≡ self.old.adapter.filter }
+    {
+        let buffer = self.descriptor().address;
+        offer(&mut self.memory, self.slot, buffer);
+        self.adapter.write(RDT, u32::from(self.slot));
+        self.slot = (self.slot + 1) % SLOTS;
+    }
+}

@@ -1,0 +1,59 @@
+//! The descriptors of a receive ring of 8, in a host's memory.
+ghost use Rattle.std.specs.Prelude.{◌≡◌, ◌<◌, ◌*◌, length};
+ghost use Rattle.dma_memory.specs.HostMemory.{with_bytes};
+ghost use Rattle.descriptors.specs.RxDesc.{rx_desc_bytes};
+ghost use Rattle.rx_engine.specs.Descriptors.{descriptor_at};
+ghost use Rattle.pcap_bench.specs.Lane.{slots, offered, NameBuffers};
+
+use bitflags::Flags;
+use descriptors::{RX_DESC_BYTES, RxDesc, RxStatus};
+use dma_memory::{HostMemory, Layout};
+
+/// Descriptors of the ring.
+pub const SLOTS: u16 = 8;
+
+/// The address of the descriptor of a slot.
+fn address_of(slot: u16) -> u64
+    ensures { result ≡ 16 * slot }
+{
+    RX_DESC_BYTES as u64 * u64::from(slot)
+}
+
+/// The descriptor of a slot.
+pub fn load_desc(memory: &HostMemory, slot: u16) -> RxDesc
+    requires slot { slot < slots }
+    requires size { length memory.now ≡ 34816 }
+    ensures { result ≡ descriptor_at memory.now (16 * slot) }
+{
+    let bytes = memory.view(address_of(slot), RX_DESC_BYTES).unwrap();
+    RxDesc::from_bytes(bytes.first_chunk().unwrap())
+}
+
+/// Writes the descriptor of a slot, which offers a buffer.
+pub fn offer(memory: &mut HostMemory, slot: u16, buffer: u64)
+    requires slot { slot < slots }
+    requires size { length memory.old ≡ 34816 }
+    ensures { memory.new ≡ with_bytes memory.old (16 * slot) (rx_desc_bytes (offered buffer)) }
+{
+    let desc = RxDesc {
+        address: buffer,
+        length: 0,
+        checksum: 0,
+        status: RxStatus::from_bits_retain(0),
+        errors: 0,
+        special: 0,
+    };
+    memory.store(address_of(slot), &desc.to_bytes()).unwrap();
+}
+
+/// Offers the buffers of a layout, each in the descriptor of its slot.
+pub fn offer_all(memory: &mut HostMemory, layout: &Layout)
+    requires layout { layout.now ≡ record { rx = 8; tx = 8; buffers = 8 } }
+    requires size { length memory.old ≡ 34816 }
+    ensures size { length memory.new ≡ 34816 }
+    ensures buffers { NameBuffers memory.new }
+{
+    for slot in 0..SLOTS {
+        offer(memory, slot, layout.receive_buffer(slot));
+    }
+}
