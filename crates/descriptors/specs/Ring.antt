@@ -1,5 +1,5 @@
 -- A ring of descriptors as its registers tell it ("13.4.25 Receive Descriptor Base Address Low" and its neighbours up to
--- "13.4.29 Receive Descriptor Tail", "13.4.35 Transmit Descriptor Base Address Low" up to "13.4.39 Transmit Descriptor
+-- "13.4.29 Receive Descriptor Tail", "13.4.36 Transmit Descriptor Base Address Low" up to "13.4.40 Transmit Descriptor
 -- Tail" of Intel's manual). Slots are numbered from 0.
 use Rattle.std.specs.Prelude.{◌≡◌, ◌<◌, ◌+◌, ◌-◌, ◌*◌, ◌/◌, ◌%◌, ℕ, zero, suc, min, List, [], ◌∷◌, ◌++◌, length}
 use Rattle.descriptors.specs.declared.ring.Ring.{Ring}
