@@ -1,0 +1,136 @@
+-- An access over a solo bus, behind what comes before it.
+use Rattle.std.proofs.Common.{◌≡◌, ◌+◌, ◌++◌, ◌∷◌, [], true, List, length, min, refl, sym, ap, subst, ◌∙◌, arith}
+use Rattle.std.specs.List.{All}
+use Rattle.std.proofs.lemmas.List.{append-nil}
+use Rattle.bus.specs.Law.{Acts, Happens}
+use Rattle.bus.specs.Past.{Access, Past}
+use Rattle.bus.specs.Solo.{ArePlayed, Prepared, Recounts, SoloState, most_accesses}
+use Rattle.bus.specs.SoloLaws.{are_free_joins, are_played_joins}
+use Rattle.bus.specs.TrailLaws.{past_of-append, same_past, trail_joins}
+use Rattle.bus.specs.Trails.{Accesses, Arrives, Event, IsAnswered, IsStep, Steps, past_of, past_of_event, world_after_access}
+use Rattle.adapter.specs.declared.step.StepKind.TheVariants.{TxTake, TxPut, RxData, RxDone, EepromTick, PhyTick}
+use Rattle.bus.specs.World.{World}
+use Rattle.bus.specs.declared.solo.SoloTick.{SoloTick}
+use Rattle.bus.proofs.Lists.{all-head, all-tail}
+use Rattle.bus.proofs.Trails.{trail_happens}
+
+-- What may happen doesn't speak of accesses.
+pub happens_accesses : (a b : World) (past : Past) (accesses : List Access) → Happens a b past → Happens a b (record past { accesses = accesses })
+happens_accesses a b past accesses happens =
+    let steady = happens.steady in
+    record {
+      steady = record {
+        size = steady.size;
+        image = steady.image;
+        causes = steady.causes;
+        mask = steady.mask;
+        receive_ring = steady.receive_ring;
+        transmit_ring = steady.transmit_ring;
+        filter = steady.filter;
+        device_control = steady.device_control;
+        transmit_control = steady.transmit_control;
+        allocation = steady.allocation;
+        missed = steady.missed;
+        off = steady.off;
+        receive_head = steady.receive_head;
+        transmit_head = steady.transmit_head;
+        legal = steady.legal;
+        eerd = steady.eerd;
+        management = steady.management;
+      };
+      between = λ o p sound.
+          let between = happens.between o p sound in
+          record {
+            sends = between.sends;
+            reported = between.reported;
+            written = between.written;
+            each_reported = between.each_reported;
+            holds = between.holds;
+            more = between.more;
+            done = between.done;
+            told = between.told;
+            whole = between.whole;
+            untouched = between.untouched;
+            foreign = between.foreign;
+            sound = between.sound;
+          };
+    }
+
+-- A step is no access.
+event-no_access : (event : Event) → IsStep event → (past_of_event event).accesses ≡ []
+event-no_access (Steps TxTake wire_free answer) is = refl
+event-no_access (Steps TxPut wire_free answer) is = refl
+event-no_access (Steps RxData wire_free answer) is = refl
+event-no_access (Steps RxDone wire_free answer) is = refl
+event-no_access (Steps EepromTick wire_free answer) is = refl
+event-no_access (Steps PhyTick wire_free answer) is = refl
+event-no_access (Arrives frame fate) is = refl
+event-no_access (Accesses access) is = absurd is
+
+pub no_access : (events : List Event) → All IsStep events → (past_of events).accesses ≡ []
+no_access [] are = refl
+no_access (event ∷ later) are =
+    ap (λ (accesses : List Access). accesses ++ (past_of later).accesses) (event-no_access event (all-head IsStep event later are))
+    ∙ no_access later (all-tail IsStep event later are)
+
+-- Steps, and then an access.
+past-with_access : (events : List Event) (access : Access) → All IsStep events → record (past_of events) { accesses = access ∷ [] } ≡ past_of (events ++ Accesses access ∷ [])
+past-with_access events access are =
+    let past = past_of events in
+    same_past _ _ _ _ _ _ _ _ _ _ _ _ (sym (append-nil past.put)) (sym (append-nil past.stored)) (omega arith) (omega arith) (omega arith)
+    (ap (λ (accesses : List Access). accesses ++ access ∷ []) (sym (no_access events are)))
+    ∙ sym (past_of-append events (Accesses access ∷ []))
+
+-- The world of a solo bus.
+abbrev pub solo_world : SoloState → World
+solo_world solo = solo.world
+
+abbrev pub is_lively : SoloState → Type 0
+is_lively solo = solo.lively ≡ true
+
+pub acts_on : (a p b : SoloState) (access : Access) (effect : World → World → Type 0) → Prepared a p → b ≡ record p { world = world_after_access access p.world } → IsAnswered access p.world → effect p.world b.world → Acts solo_world Recounts is_lively a b access effect
+acts_on a p b access effect prepared after answered does =
+    let events = prepared.grouped.before.events in
+    let are = prepared.grouped.before.are in
+    let middle = p.world in
+    let whole : p ≡ record prepared.middle { accesses = min (prepared.middle.accesses + 1) most_accesses } = prepared.is in
+    let world_p : p.world ≡ prepared.middle.world = ap solo_world whole in
+    let waiting_p : p.waiting ≡ prepared.middle.waiting = ap (λ (s : SoloState). s.waiting) whole in
+    let wire_p : p.wire ≡ prepared.middle.wire = ap (λ (s : SoloState). s.wire) whole in
+    let lively_p : p.lively ≡ prepared.middle.lively = ap (λ (s : SoloState). s.lively) whole in
+    let count_p : p.accesses ≡ min (prepared.middle.accesses + 1) most_accesses = ap (λ (s : SoloState). s.accesses) whole in
+    let world_b : b.world ≡ world_after_access access p.world = ap solo_world after in
+    let waiting_b : b.waiting ≡ prepared.middle.waiting = ap (λ (s : SoloState). s.waiting) after ∙ waiting_p in
+    let wire_b : b.wire ≡ prepared.middle.wire = ap (λ (s : SoloState). s.wire) after ∙ wire_p in
+    let lively_b : b.lively ≡ prepared.middle.lively = ap (λ (s : SoloState). s.lively) after ∙ lively_p in
+    let count_b : b.accesses ≡ p.accesses = ap (λ (s : SoloState). s.accesses) after in
+    let trail = subst (λ (w : World). Rattle.bus.specs.Trails.Trail events a.world w) (sym world_p) prepared.grouped.before.trail in
+    record {
+      middle = middle;
+      past = record (past_of events) { accesses = access ∷ [] };
+      only = refl;
+      told = record {
+        events = events ++ Accesses access ∷ [];
+        trail = trail_joins events (Accesses access ∷ []) a.world middle b.world trail (answered, world_b);
+        past_is = past-with_access events access are;
+        played =
+            subst (λ (ticks : List SoloTick). ArePlayed a.lively (events ++ Accesses access ∷ []) a.waiting ticks) (sym waiting_b)
+            (are_played_joins a.lively events (Accesses access ∷ []) a.waiting prepared.grouped.waiting prepared.middle.waiting prepared.grouped.before.played (prepared.middle.waiting, prepared.grouped.group, refl));
+        free = are_free_joins events (Accesses access ∷ []) (length a.wire) (length a.wire + length (past_of events).put) refl prepared.grouped.before.free tt;
+        wire = wire_b ∙ prepared.grouped.before.wire;
+        lively = lively_b ∙ prepared.grouped.before.lively;
+        count = omega (arith, count_b, count_p, prepared.grouped.before.accesses);
+      };
+      ticks = λ lively. let fall = prepared.ticks lively in record { eeprom = fall.eeprom; phy = fall.phy };
+      before = happens_accesses a.world middle (past_of events) (access ∷ []) (trail_happens events a.world middle are trail);
+      effect_is = does;
+    }
+
+-- The size of memory stays while ticks are played.
+pub size_prepared : (a p : SoloState) → Prepared a p → length p.world.memory ≡ length a.world.memory
+size_prepared a p prepared =
+    let happens = trail_happens prepared.grouped.before.events a.world prepared.middle.world prepared.grouped.before.are prepared.grouped.before.trail in
+    ap (λ (s : SoloState). length s.world.memory) prepared.is ∙ happens.steady.size
+
+pub lively_prepared : (a p : SoloState) → Prepared a p → p.lively ≡ a.lively
+lively_prepared a p prepared = ap (λ (s : SoloState). s.lively) prepared.is ∙ prepared.grouped.before.lively

@@ -1,0 +1,187 @@
+-- Finished slots, the driver's own slots, and the addresses in descriptors aren't the adapter's to write.
+use Rattle.std.proofs.Common.{◌≡◌, ◌≢◌, ◌≤◌, ◌<◌, ◌+◌, ◌*◌, inl, inr, ◌++◌, ◌∷◌, [], ℕ, List, map, drop, ⊎_elim, refl, sym, ap, subst, ◌∙◌, arith}
+use Rattle.std.specs.List.{All, AllPairs}
+use Rattle.std.proofs.lemmas.List.Elements.{All-append, All-cons, All-map}
+use Rattle.byteorder.specs.Endian.{little_number}
+use Rattle.byteorder.specs.Numbers.{little_from-take}
+use Rattle.dma_memory.specs.HostMemory.{bytes_at}
+use Rattle.descriptors.specs.RxDesc.{rx_desc_of}
+use Rattle.std.proofs.lemmas.Bool.{cases_lt}
+use Rattle.descriptors.specs.declared.ring.Ring.{Ring}
+use Rattle.descriptors.specs.Ring.{address_of, count_of, owned}
+use Rattle.rx_engine.specs.Descriptors as receive
+use Rattle.bus.specs.Areas.{Area, AreApart, bytes_in}
+use Rattle.bus.specs.Frames.{buffered, data_of, finished, frame_areas, in_work, IsForeign, named, offered_buffers, reported_half, ring_area, status_byte, work_areas}
+use Rattle.bus.specs.Law.{Sound}
+use Rattle.bus.specs.Own.{DriversKeepTheirOwn, descriptor_area, frame_named}
+use Rattle.bus.specs.Slots.{offered, outstanding}
+use Rattle.bus.specs.World.{World, receive_ring, transmit_ring}
+use Rattle.bus.proofs.Areas.{Inside, apart-inside, apart-sym, inside-apart}
+use Rattle.bus.proofs.Kept.{named-same}
+use Rattle.bus.proofs.Lists.{all-head, all-left, all-none, all-right, all-tail, all-unmapped, map-same, pairs-head, pairs-right, pairs-tail}
+use Rattle.bus.proofs.Rings.{dealt-right, outstanding-apart, outstanding-inside}
+
+-- Each of the elements in front with each of those behind.
+pairs-across : {X : Type 0} (R : X → X → Type 0) (xs ys : List X) → AllPairs R (xs ++ ys) → All (λ x. All (R x) ys) xs
+pairs-across R [] ys pairs = all-none (λ x. All (R x) ys)
+pairs-across R (x ∷ xs) ys pairs =
+    All-cons (λ z. All (R z) ys) x xs (all-right (R x) xs ys (pairs-head R x (xs ++ ys) pairs)) (pairs-across R xs ys (pairs-tail R x (xs ++ ys) pairs))
+
+-- The parts of what the adapter may write, of a sound world.
+pub record Parts (o : ℕ) (a : World) : Type 0 where
+  pub rings : AreApart (ring_area (receive_ring a)) (ring_area (transmit_ring a))
+  pub receive_rest : All (AreApart (ring_area (receive_ring a))) (frame_areas o a)
+  pub transmit_rest : All (AreApart (ring_area (transmit_ring a))) (frame_areas o a)
+  pub halves : All (λ area. Inside area (ring_area (receive_ring a))) (map reported_half (in_work a ++ offered (receive_ring a)))
+  pub bytes : All (λ area. Inside area (ring_area (transmit_ring a))) (map status_byte (buffered a ++ offered (transmit_ring a)))
+
+half-inside : (r : Area) (d : ℕ) → Inside (descriptor_area d) r → Inside (reported_half d) r
+half-inside r d inside = record { from = omega (arith, inside.from); to = omega (arith, inside.to) }
+
+byte-inside : (t : Area) (d : ℕ) → Inside (descriptor_area d) t → Inside (status_byte d) t
+byte-inside t d inside = record { from = omega (arith, inside.from); to = omega (arith, inside.to) }
+
+parts-of : (o p : ℕ) (a : World) → Sound o p a → Parts o a
+parts-of o p a sound =
+    let r = ring_area (receive_ring a) in
+    let t = ring_area (transmit_ring a) in
+    let Receive : ℕ → Type 0 = λ d. Inside (descriptor_area d) r in
+    let Transmit : ℕ → Type 0 = λ d. Inside (descriptor_area d) t in
+    let received = dealt-right a.memory (receive_ring a) o (in_work a) Receive sound.receive_slots (outstanding-inside (receive_ring a) o sound.receive_slots.slot) in
+    let sent = dealt-right a.memory (transmit_ring a) p (buffered a) Transmit sound.transmit_slots (outstanding-inside (transmit_ring a) p sound.transmit_slots.slot) in
+    let from_r = pairs-head AreApart r (t ∷ frame_areas o a) sound.separate.apart in
+    record {
+      rings = all-head (AreApart r) t (frame_areas o a) from_r;
+      receive_rest = all-tail (AreApart r) t (frame_areas o a) from_r;
+      transmit_rest = pairs-head AreApart t (frame_areas o a) (pairs-tail AreApart r (t ∷ frame_areas o a) sound.separate.apart);
+      halves = All-map (λ area. Inside area r) reported_half (in_work a ++ offered (receive_ring a)) (λ k d below. half-inside r _ (received k d below));
+      bytes = All-map (λ area. Inside area t) status_byte (buffered a ++ offered (transmit_ring a)) (λ k d below. byte-inside t _ (sent k d below));
+    }
+
+-- The last of the areas of frames are the offered buffers.
+last-buffers : (P : Area → Type 0) (o : ℕ) (a : World) → All P (frame_areas o a) → All P (offered_buffers a)
+last-buffers P o a all =
+    let names = map (named a.memory) (finished o a) in
+    let work = work_areas a.memory a.adapter.receiver.work in
+    all-right P work (offered_buffers a) (all-right P names (work ++ offered_buffers a) (all-right P (map (data_of a.memory) (offered (transmit_ring a))) (names ++ (work ++ offered_buffers a)) all))
+
+-- An area of the receive ring that is apart from the halves that are reported in isn't the adapter's.
+foreign-in_ring : (o p : ℕ) (a : World) (area : Area) → Sound o p a → Inside area (ring_area (receive_ring a)) → All (λ d. AreApart area (reported_half d)) (in_work a ++ offered (receive_ring a)) → IsForeign a area
+foreign-in_ring o p a area sound inside apart =
+    let parts = parts-of o p a sound in
+    let r = ring_area (receive_ring a) in
+    let t = ring_area (transmit_ring a) in
+    let bytes : All (AreApart area) (map status_byte (buffered a ++ offered (transmit_ring a))) =
+    λ k d below. inside-apart area _ t (parts.bytes k d below) (apart-inside area r t inside parts.rings) in
+    let buffers : All (AreApart area) (offered_buffers a) =
+    λ k d below. apart-inside area r _ inside (last-buffers (AreApart r) o a parts.receive_rest k d below) in
+    All-append (AreApart area) (map reported_half (in_work a ++ offered (receive_ring a))) (map status_byte (buffered a ++ offered (transmit_ring a)) ++ offered_buffers a)
+    (All-map (AreApart area) reported_half (in_work a ++ offered (receive_ring a)) apart)
+    (All-append (AreApart area) (map status_byte (buffered a ++ offered (transmit_ring a))) (offered_buffers a) bytes buffers)
+
+-- Descriptors of finished slots.
+pub foreign-finished : (o p : ℕ) (a : World) → Sound o p a → All (λ d. IsForeign a (descriptor_area d)) (finished o a)
+foreign-finished o p a sound =
+    let ring = receive_ring a in
+    let slots = sound.receive_slots in
+    let R : ℕ → ℕ → Type 0 = λ x y. AreApart (descriptor_area x) (descriptor_area y) in
+    let behind = in_work a ++ offered ring in
+    let pairs : AllPairs R (finished o a ++ behind) = subst (λ (list : List ℕ). AllPairs R list) slots.classes (outstanding-apart ring o slots.slot) in
+    let across = pairs-across R (finished o a) behind pairs in
+    let whole : All (λ d. Inside (descriptor_area d) (ring_area ring)) (finished o a ++ behind) =
+    subst (λ (list : List ℕ). All (λ d. Inside (descriptor_area d) (ring_area ring)) list) slots.classes (outstanding-inside ring o slots.slot) in
+    let inside = all-left (λ d. Inside (descriptor_area d) (ring_area ring)) (finished o a) behind whole in
+    λ k d below. foreign-in_ring o p a _ sound (inside k d below) (λ j e within. half-apart _ _ (across k d below j e within))
+  where
+    half-apart : (x y : ℕ) → AreApart (descriptor_area x) (descriptor_area y) → AreApart (descriptor_area x) (reported_half y)
+    half-apart x y (inl before) = inl (omega (arith, before))
+    half-apart x y (inr after) = inr (omega (arith, after))
+
+-- The bytes that finished slots name.
+pub foreign-named : (o p : ℕ) (a : World) → Sound o p a → All (λ d. IsForeign a (named a.memory d)) (finished o a)
+foreign-named o p a sound =
+    let parts = parts-of o p a sound in
+    let r = ring_area (receive_ring a) in
+    let t = ring_area (transmit_ring a) in
+    let payload = map (data_of a.memory) (offered (transmit_ring a)) in
+    let names = map (named a.memory) (finished o a) in
+    let work = work_areas a.memory a.adapter.receiver.work in
+    let halves = map reported_half (in_work a ++ offered (receive_ring a)) in
+    let bytes = map status_byte (buffered a ++ offered (transmit_ring a)) in
+    let named_r = all-left (AreApart r) names (work ++ offered_buffers a) (all-right (AreApart r) payload (names ++ (work ++ offered_buffers a)) parts.receive_rest) in
+    let named_t = all-left (AreApart t) names (work ++ offered_buffers a) (all-right (AreApart t) payload (names ++ (work ++ offered_buffers a)) parts.transmit_rest) in
+    let pairs = pairs-right AreApart payload (names ++ (work ++ offered_buffers a)) (pairs-tail AreApart t (frame_areas o a) (pairs-tail AreApart r (t ∷ frame_areas o a) sound.separate.apart)) in
+    let across = pairs-across AreApart names (work ++ offered_buffers a) pairs in
+    let each : All (λ area. IsForeign a area) names = λ k d below.
+    All-append (AreApart _) halves (bytes ++ offered_buffers a)
+    (λ j e within. inside-apart _ _ r (parts.halves j e within) (apart-sym r _ (named_r k d below)))
+    (All-append (AreApart _) bytes (offered_buffers a)
+    (λ j e within. inside-apart _ _ t (parts.bytes j e within) (apart-sym t _ (named_t k d below)))
+    (all-right (AreApart _) work (offered_buffers a) (across k d below))) in
+    all-unmapped (λ area. IsForeign a area) (named a.memory) (finished o a) each
+
+-- Slots and their addresses.
+
+-- each outstanding slot is one of the ring's
+outstanding-places : (ring : Ring) (oldest : ℕ) → All (λ d. (slot : ℕ) × (d ≡ address_of ring slot)) (outstanding ring oldest)
+outstanding-places ring oldest = All-map (λ d. (slot : ℕ) × (d ≡ address_of ring slot)) (address_of ring) (owned (record ring { head = oldest })) (λ k d below. (_, refl))
+
+slot-inside : (base n slot size : ℕ) → slot < n → size ≤ 16 → Inside (record { address = base + 16 * slot; size = size }) (record { address = base; size = 16 * n })
+slot-inside base n slot size below fits = record { from = omega arith; to = omega (arith, below, fits) }
+
+own-apart : (base slot other : ℕ) → other ≢ slot → AreApart (record { address = base + 16 * slot; size = 16 }) (reported_half (base + 16 * other))
+own-apart base slot other differ = ⊎_elim (λ (less : other < slot). inr (omega (arith, less))) (λ (more : slot ≤ other). inl (omega (arith, more, differ))) (cases_lt other slot)
+
+front-apart : (base slot other : ℕ) → AreApart (record { address = base + 16 * slot; size = 8 }) (reported_half (base + 16 * other))
+front-apart base slot other = ⊎_elim (λ (less : other < slot). inr (omega (arith, less))) (λ (more : slot ≤ other). inl (omega (arith, more))) (cases_lt other slot)
+
+foreign-own : (o p : ℕ) (a : World) (slot : ℕ) → Sound o p a → slot < count_of (receive_ring a) → All (λ other. other ≢ address_of (receive_ring a) slot) (outstanding (receive_ring a) o) → IsForeign a (descriptor_area (address_of (receive_ring a) slot))
+foreign-own o p a slot sound below others =
+    let ring = receive_ring a in
+    let places = dealt-right a.memory ring o (in_work a) (λ d. (s : ℕ) × (d ≡ address_of ring s)) sound.receive_slots (outstanding-places ring o) in
+    let differ = dealt-right a.memory ring o (in_work a) (λ other. other ≢ address_of ring slot) sound.receive_slots others in
+    foreign-in_ring o p a (descriptor_area (address_of ring slot)) sound (slot-inside ring.base (count_of ring) slot 16 below (omega arith))
+    (λ k d within. at-place (address_of ring slot) _ (places k d within) (differ k d within))
+  where
+    at-place : (own d : ℕ) → (s : ℕ) × (d ≡ address_of (receive_ring a) s) → d ≢ address_of (receive_ring a) slot → AreApart (descriptor_area (address_of (receive_ring a) slot)) (reported_half d)
+    at-place own d place differ =
+        subst (λ (e : ℕ). AreApart (descriptor_area (address_of (receive_ring a) slot)) (reported_half e)) (sym place.1)
+        (own-apart (receive_ring a).base slot place.0 (λ same. differ (place.1 ∙ ap (address_of (receive_ring a)) same)))
+
+foreign-address : (o p : ℕ) (a : World) (slot : ℕ) → Sound o p a → slot < count_of (receive_ring a) → IsForeign a (record { address = address_of (receive_ring a) slot; size = 8 })
+foreign-address o p a slot sound below =
+    let ring = receive_ring a in
+    let places = dealt-right a.memory ring o (in_work a) (λ d. (s : ℕ) × (d ≡ address_of ring s)) sound.receive_slots (outstanding-places ring o) in
+    foreign-in_ring o p a (record { address = address_of ring slot; size = 8 }) sound (slot-inside ring.base (count_of ring) slot 8 below (omega arith))
+    (λ k d within. at-place _ (places k d within))
+  where
+    at-place : (d : ℕ) → (s : ℕ) × (d ≡ address_of (receive_ring a) s) → AreApart (record { address = address_of (receive_ring a) slot; size = 8 }) (reported_half d)
+    at-place d place =
+        subst (λ (e : ℕ). AreApart (record { address = address_of (receive_ring a) slot; size = 8 }) (reported_half e)) (sym place.1)
+        (front-apart (receive_ring a).base slot place.0)
+
+-- The address that a descriptor names stands in its first eight bytes.
+address-front : (memory : List ℕ) (at : ℕ) → receive.named_address memory at ≡ little_number 8 (bytes_at memory at 8)
+unfolding rx_desc_of
+address-front memory at = little_from-take 0 8 16 (drop at memory) (omega arith) ∙ sym (little_from-take 0 8 8 (drop at memory) (omega arith))
+
+-- Between two accesses.
+
+pub drivers_keep_their_own : DriversKeepTheirOwn
+drivers_keep_their_own o p a b past sound happens =
+    let between = happens.between o p sound in
+    let slots : All (λ d. bytes_in b.memory (descriptor_area d) ≡ bytes_in a.memory (descriptor_area d)) (finished o a) = λ k d below. between.untouched _ (foreign-finished o p a sound k d below) in
+    let names = foreign-named o p a sound in
+    record {
+      finished_stay = record {
+        slots = slots;
+        frames =
+            map-same (frame_named b) (frame_named a) (finished o a)
+            (λ k d below. ap (bytes_in b.memory) (named-same a.memory b.memory _ (slots k d below)) ∙ between.untouched _ (names k d below));
+      };
+      own_slots = λ slot below others. between.untouched _ (foreign-own o p a slot sound below others);
+      addresses = λ slot below.
+          address-front b.memory (address_of (receive_ring a) slot)
+          ∙ ap (little_number 8) (between.untouched _ (foreign-address o p a slot sound below))
+          ∙ sym (address-front a.memory (address_of (receive_ring a) slot));
+    }

@@ -1,0 +1,237 @@
+-- Steps that leave memory, rings and slots: ticks, arrivals, and faults.
+use Rattle.std.proofs.Common.{◌≡◌, ◌++◌, [], inl, Bool, true, false, ℕ, List, Option, Some, None, length, map, refl, sym, ap, ◌∙◌, append_assoc, arith}
+use Rattle.std.proofs.lemmas.List.{append-nil}
+use Rattle.std.proofs.Common.{cond}
+use Rattle.eeprom.specs.Eerd as eeprom
+use Rattle.eeprom.specs.declared.eerd.ReadState.{ReadState}
+use Rattle.mdic_phy.specs.Mdic.{MdicState, has_work, mdic_after_tick, phy_after_tick, told}
+use Rattle.mdic_phy.specs.Mdic as mdi
+use Rattle.mdic_phy.specs.Phy.{PhyState}
+use Rattle.mdic_phy.specs.Phy as phy
+use Rattle.mdic_phy.specs.declared.mdic.Ticked.{Ticked as Told}
+use Rattle.registers.specs.Bits.{union}
+use Rattle.rx_engine.specs.Held.{held, in_work}
+use Rattle.rx_engine.specs.declared.arrival.Fate.{Fate}
+use Rattle.rx_engine.specs.declared.arrival.Fate.TheVariants.{Off, Illegal, Filtered, Missed, Stored}
+use Rattle.adapter.specs.Receiving.{IsFate, no_buffers_counted}
+use Rattle.adapter.specs.Recording.{one_more}
+use Rattle.adapter.specs.State.{AdapterState}
+use Rattle.adapter.specs.Steps.{after_phy_told, causes_told}
+use Rattle.adapter.specs.declared.step.StepKind.TheVariants.{EepromTick, PhyTick}
+use Rattle.adapter.specs.declared.step.Stepped.{Stepped}
+use Rattle.bus.specs.Areas.{bytes_in}
+use Rattle.bus.specs.Frames.{finished, frames_to_send, named, written_back}
+use Rattle.bus.specs.Law.{Between, Happens, Management, Sound, management_of, phy_ticked}
+use Rattle.bus.specs.Past.{Past, nothing}
+use Rattle.bus.specs.Steps.{IsRunning, past_of_arrival, past_of_step, world_after_arrival, world_after_step}
+use Rattle.bus.specs.World.{World}
+use Rattle.bus.proofs.Composing.{happens_none}
+use Rattle.bus.proofs.Engines.{added, steady_moves, still}
+use Rattle.descriptors.specs.Frames.{IsLegal}
+use Rattle.std.proofs.lemmas.List.Elements.{All-cons}
+use Rattle.bus.proofs.Lists.{all-none}
+
+-- what such a step may change of an adapter
+pub record Changes : Type 0 where
+  pub recorded : ℕ
+  pub missed : ℕ
+  pub no_buffers : ℕ
+  pub eerd : ReadState
+  pub mdic : MdicState
+  pub phy : PhyState
+  pub buffer : List (List ℕ)
+  pub receiver_stopped : Bool
+  pub transmitter_stopped : Bool
+
+abbrev pub changed : Changes → AdapterState → AdapterState
+changed c adapter = record adapter {
+  causes = record adapter.causes { recorded = c.recorded };
+  missed_packets = c.missed;
+  no_receive_buffers = c.no_buffers;
+  eerd = c.eerd;
+  mdic = c.mdic;
+  phy = c.phy;
+  receiver = record adapter.receiver { buffer = c.buffer; stopped = c.receiver_stopped };
+  transmitter = record adapter.transmitter { stopped = c.transmitter_stopped };
+}
+
+-- the changes that change nothing
+abbrev pub unchanged : AdapterState → Changes
+unchanged adapter = record {
+  recorded = adapter.causes.recorded;
+  missed = adapter.missed_packets;
+  no_buffers = adapter.no_receive_buffers;
+  eerd = adapter.eerd;
+  mdic = adapter.mdic;
+  phy = adapter.phy;
+  buffer = adapter.receiver.buffer;
+  receiver_stopped = adapter.receiver.stopped;
+  transmitter_stopped = adapter.transmitter.stopped;
+}
+
+pub between_quiet : (o p : ℕ) (a : World) (c : Changes) (past : Past) → past.put ≡ [] → c.buffer ≡ a.adapter.receiver.buffer ++ past.stored → Sound o p a → Between o p a (record a { adapter = changed c a.adapter }) past
+between_quiet o p a c past no_put stored sound =
+    let frames = map (λ (descriptor : ℕ). bytes_in a.memory (named a.memory descriptor)) (finished o a) in
+    let work = in_work a.memory a.adapter.receiver.work in
+    let grown : work ++ c.buffer ≡ held a.memory a.adapter.receiver ++ past.stored =
+    ap (λ (buffer : List (List ℕ)). work ++ buffer) stored ∙ sym (append_assoc work a.adapter.receiver.buffer past.stored) in
+    record {
+      sends = ap (λ (put : List (List ℕ)). put ++ frames_to_send a) no_put;
+      reported = [];
+      written = sym (append-nil (written_back p a));
+      each_reported = sym (ap length no_put);
+      holds =
+          ap (λ (behind : List (List ℕ)). frames ++ behind) grown
+          ∙ sym (append_assoc frames (held a.memory a.adapter.receiver) past.stored);
+      more = [];
+      done = sym (append-nil (finished o a));
+      told = inl refl;
+      whole = λ are. are;
+      untouched = λ area apart. refl;
+      foreign = λ area apart. apart;
+      sound = record {
+        receive_slots = sound.receive_slots;
+        transmit_slots = sound.transmit_slots;
+        separate = sound.separate;
+        reports = sound.reports;
+        pads = sound.pads;
+      };
+    }
+
+-- A fault.
+pub between_stopped : (o p : ℕ) (a : World) (receiver transmitter : Bool) → Sound o p a → Between o p a (record a { adapter = changed (record (unchanged a.adapter) { receiver_stopped = receiver; transmitter_stopped = transmitter }) a.adapter }) nothing
+between_stopped o p a receiver transmitter sound =
+    between_quiet o p a (record (unchanged a.adapter) { receiver_stopped = receiver; transmitter_stopped = transmitter }) nothing refl (sym (append-nil a.adapter.receiver.buffer)) sound
+
+-- Ticks.
+
+pub eeprom_tick_happens : (a : World) (answer : Stepped) → IsRunning a.adapter → Happens a (world_after_step EepromTick answer a) (past_of_step EepromTick answer)
+eeprom_tick_happens a answer running = record {
+  steady = record {
+    size = refl;
+    image = refl;
+    causes = λ place set. set;
+    mask = refl;
+    receive_ring = refl;
+    transmit_ring = refl;
+    filter = refl;
+    device_control = refl;
+    transmit_control = refl;
+    allocation = refl;
+    missed = omega (arith, running.registers.counters.missed);
+    off = λ off. (refl, refl);
+    receive_head = inl refl;
+    transmit_head = inl refl;
+    legal = all-none IsLegal;
+    eerd = refl;
+    management = refl;
+  };
+  between = λ o p sound.
+      between_quiet o p a (record (unchanged a.adapter) { eerd = eeprom.after_tick a.adapter.image a.adapter.eerd })
+      (record nothing { eeprom_ticks = 1 }) refl (sym (append-nil a.adapter.receiver.buffer)) sound;
+}
+
+-- the PHY's tick, by what it tells
+tick_told : (a : World) (tells : Option Told) (answer : Stepped) → told a.adapter.mdic a.adapter.phy ≡ tells → IsRunning a.adapter → (management_of (after_phy_told tells a.adapter) ≡ phy_ticked (management_of a.adapter)) → Happens a (record a { adapter = after_phy_told tells a.adapter }) (past_of_step PhyTick answer)
+tick_told a None answer is running moves = record {
+  steady = record {
+    size = refl;
+    image = refl;
+    causes = λ place set. set;
+    mask = refl;
+    receive_ring = refl;
+    transmit_ring = refl;
+    filter = refl;
+    device_control = refl;
+    transmit_control = refl;
+    allocation = refl;
+    missed = omega (arith, running.registers.counters.missed);
+    off = λ off. (refl, refl);
+    receive_head = inl refl;
+    transmit_head = inl refl;
+    legal = all-none IsLegal;
+    eerd = refl;
+    management = moves;
+  };
+  between = λ o p sound. between_quiet o p a (unchanged a.adapter) (record nothing { phy_ticks = 1 }) refl (sym (append-nil a.adapter.receiver.buffer)) sound;
+}
+tick_told a (Some tells) answer is running moves = record {
+  steady = record {
+    size = refl;
+    image = refl;
+    causes = added a.adapter.causes.recorded (causes_told tells);
+    mask = refl;
+    receive_ring = refl;
+    transmit_ring = refl;
+    filter = refl;
+    device_control = refl;
+    transmit_control = refl;
+    allocation = refl;
+    missed = omega (arith, running.registers.counters.missed);
+    off = λ off. (refl, refl);
+    receive_head = inl refl;
+    transmit_head = inl refl;
+    legal = all-none IsLegal;
+    eerd = refl;
+    management = moves;
+  };
+  between = λ o p sound.
+      between_quiet o p a
+      (record (unchanged a.adapter) {
+        recorded = union a.adapter.causes.recorded (causes_told tells);
+        mdic = mdic_after_tick a.adapter.mdic a.adapter.phy;
+        phy = phy_after_tick a.adapter.mdic a.adapter.phy;
+      })
+      (record nothing { phy_ticks = 1 }) refl (sym (append-nil a.adapter.receiver.buffer)) sound;
+}
+
+-- It moves MDIC and the PHY exactly where there is something to do.
+management_told : (adapter : AdapterState) (works : Bool) (tells : Told) → management_of (after_phy_told (cond works (Some tells) None) adapter) ≡ cond works (let line : Management = record { mdic = mdic_after_tick adapter.mdic adapter.phy; phy = phy_after_tick adapter.mdic adapter.phy } in line) (management_of adapter)
+management_told adapter true tells = refl
+management_told adapter false tells = refl
+
+pub phy_tick_happens : (a : World) (answer : Stepped) → IsRunning a.adapter → Happens a (world_after_step PhyTick answer a) (past_of_step PhyTick answer)
+phy_tick_happens a answer running =
+    tick_told a (told a.adapter.mdic a.adapter.phy) answer refl running
+    (management_told a.adapter (has_work a.adapter.mdic a.adapter.phy) (record { link_changed = phy.comes_up a.adapter.phy; access_complete = mdi.tells_end a.adapter.mdic }))
+
+-- Arrivals.
+
+pub arrival_happens : (a : World) (fate : Fate) (frame : List ℕ) → IsRunning a.adapter → IsFate a.adapter frame fate → Happens a (world_after_arrival fate frame a) (past_of_arrival fate frame)
+arrival_happens a Off frame running is = happens_none a
+arrival_happens a Illegal frame running is = happens_none a
+arrival_happens a Filtered frame running is = happens_none a
+arrival_happens a Missed frame running is = record {
+  steady =
+      steady_moves a a.memory
+      (record (still a.adapter) {
+        recorded = union a.adapter.causes.recorded 0x40;
+        missed = one_more a.adapter.missed_packets;
+        no_buffers = no_buffers_counted a.adapter;
+      })
+      (past_of_arrival Missed frame) refl (added a.adapter.causes.recorded 0x40) (omega (arith, running.registers.counters.missed)) (λ off. absurd (off is.0.enabled)) (inl refl) (inl refl) (all-none IsLegal) refl refl;
+  between = λ o p sound.
+      between_quiet o p a
+      (record (unchanged a.adapter) {
+        recorded = union a.adapter.causes.recorded 0x40;
+        missed = one_more a.adapter.missed_packets;
+        no_buffers = no_buffers_counted a.adapter;
+      })
+      (past_of_arrival Missed frame) refl (sym (append-nil a.adapter.receiver.buffer)) sound;
+}
+arrival_happens a Stored frame running is = record {
+  steady =
+      steady_moves a a.memory
+      (record (still a.adapter) {
+        no_buffers = no_buffers_counted a.adapter;
+        receiver = (world_after_arrival Stored frame a).adapter.receiver;
+      })
+      (past_of_arrival Stored frame) refl (λ place set. set) (omega (arith, running.registers.counters.missed)) (λ off. absurd (off is.0.enabled)) (inl refl) (inl refl) (All-cons IsLegal frame [] is.0.legal (all-none IsLegal)) refl refl;
+  between = λ o p sound.
+      between_quiet o p a
+      (record (unchanged a.adapter) {
+        no_buffers = no_buffers_counted a.adapter;
+        buffer = (world_after_arrival Stored frame a).adapter.receiver.buffer;
+      })
+      (past_of_arrival Stored frame) refl refl sound;
+}

@@ -1,0 +1,170 @@
+-- The slots of a ring from the driver's oldest on, and what the engines' steps make of their classes.
+use Rattle.std.proofs.Common.{◌≡◌, ⊎_elim, ◌≤◌, ◌<◌, ◌+◌, ◌-◌, ◌*◌, ◌%◌, ◌⊎◌, inl, inr, ◌++◌, ◌∷◌, [], true, false, ℕ, zero, suc, List, map, sym, ap, subst, ◌∙◌, append_assoc, arith}
+use Rattle.std.specs.List.{All, AllPairs, take_while}
+use Rattle.std.proofs.lemmas.Bool.{cases_eq}
+use Rattle.std.proofs.lemmas.Nat.{mod_below}
+use Rattle.std.proofs.lemmas.List.Elements.{All-cons, All-append, All-map}
+use Rattle.std.proofs.lemmas.List.Kept.{AllPairs-cons}
+use Rattle.descriptors.specs.declared.ring.Ring.{Ring}
+use Rattle.descriptors.specs.Ring.{IsSound, address_of, count_of, distance_of, next_of, owned, slots_from}
+use Rattle.descriptors.specs.RingLaws.{distance-around, distance-forward, distance-step, next-below, next-inner, next-last, owned-head}
+use Rattle.bus.specs.Areas.{Area, AreApart}
+use Rattle.bus.specs.Frames.{ring_area}
+use Rattle.bus.specs.Slots.{IsDealt, done_slots, is_done, offered, outstanding}
+use Rattle.bus.proofs.Areas.{Inside, apart-sym}
+use Rattle.bus.proofs.Lists.{all-left, all-none, all-right, all-tail, all-weaker, pairs-before, pairs-behind, pairs-mapped, pairs-none, take_while-passes, take_while-same, take_while-split}
+
+-- Slots by number.
+
+pub slots-below : (n i k : ℕ) → i < n → All (λ slot. slot < n) (slots_from n i k)
+slots-below n i zero below = all-none (λ slot. slot < n)
+slots-below n i (suc k) below = All-cons (λ slot. slot < n) i (slots_from n ((i + 1) % n) k) below (slots-below n ((i + 1) % n) k (next-below n i below))
+
+-- A slot isn't among those on the way to it.
+pub slots-other : (n i k x : ℕ) → i < n → x < n → k ≤ (x + n - i) % n → All (λ slot. ¬ (slot ≡ x)) (slots_from n i k)
+slots-other n i zero x below within far = all-none (λ slot. ¬ (slot ≡ x))
+slots-other n i (suc k) x below within far =
+    let none : i ≡ x → (x + n - i) % n ≡ 0 = λ same. distance-forward n i x within (omega (arith, same)) ∙ omega (arith, same) in
+    let differ : ¬ (i ≡ x) = λ same. let there = none same in absurd (omega (arith, there, far)) in
+    let step = distance-step n i x below within differ in
+    All-cons (λ slot. ¬ (slot ≡ x)) i (slots_from n ((i + 1) % n) k) differ (slots-other n ((i + 1) % n) k x (next-below n i below) within (omega (arith, step, far)))
+
+-- From the slot behind another it is all the ring to that other.
+pub distance-whole : (n i : ℕ) → i < n → (i + n - (i + 1) % n) % n ≡ n - 1
+distance-whole n i below =
+    ⊎_elim
+    (λ (last : i + 1 ≡ n). rw (next-last n i last) (distance-forward n 0 i below (omega arith) ∙ omega (arith, last)))
+    (λ (inner : ¬ (i + 1 ≡ n)).
+    let same = next-inner n i (omega (arith, inner)) in
+    rw same (distance-around n (i + 1) i (omega (arith, inner)) (omega arith) ∙ omega arith))
+    (cases_eq (i + 1) n)
+
+pub slots-distinct : (n i k : ℕ) → i < n → k ≤ n → AllPairs (λ a b. ¬ (b ≡ a)) (slots_from n i k)
+slots-distinct n i zero below fits = pairs-none (λ a b. ¬ (b ≡ a))
+slots-distinct n i (suc k) below fits =
+    let whole = distance-whole n i below in
+    AllPairs-cons (λ a b. ¬ (b ≡ a)) i (slots_from n ((i + 1) % n) k)
+    (slots-other n ((i + 1) % n) k i (next-below n i below) below (omega (arith, whole, fits)))
+    (slots-distinct n ((i + 1) % n) k (next-below n i below) (omega (arith, fits)))
+
+-- Slots by address.
+
+-- a descriptor's sixteen bytes
+abbrev pub descriptor_area : ℕ → Area
+descriptor_area descriptor = record { address = descriptor; size = 16 }
+
+-- The outstanding slots stand in the ring,
+pub outstanding-inside : (ring : Ring) (oldest : ℕ) → (oldest < count_of ring) ⊎ (outstanding ring oldest ≡ []) → All (λ descriptor. Inside (descriptor_area descriptor) (ring_area ring)) (outstanding ring oldest)
+unfolding owned
+outstanding-inside ring oldest (inr none) = rw none (all-none (λ descriptor. Inside (descriptor_area descriptor) (ring_area ring)))
+outstanding-inside ring oldest (inl below) =
+    let n = count_of ring in
+    let k = distance_of ring oldest ring.tail in
+    All-map (λ descriptor. Inside (descriptor_area descriptor) (ring_area ring)) (address_of ring) (slots_from n oldest k)
+    (all-weaker (λ slot. slot < n) (λ slot. Inside (descriptor_area (address_of ring slot)) (ring_area ring)) (slots_from n oldest k)
+    (λ slot inside. inside-ring ring.base n slot inside)
+    (slots-below n oldest k below))
+  where
+    inside-ring : (base n slot : ℕ) → slot < n → Inside (record { address = base + 16 * slot; size = 16 }) (record { address = base; size = 16 * n })
+    inside-ring base n slot below = record { from = omega arith; to = omega (arith, below) }
+
+-- and apart from one another.
+pub outstanding-apart : (ring : Ring) (oldest : ℕ) → (oldest < count_of ring) ⊎ (outstanding ring oldest ≡ []) → AllPairs (λ a b. AreApart (descriptor_area a) (descriptor_area b)) (outstanding ring oldest)
+unfolding owned
+outstanding-apart ring oldest (inr none) = rw none (pairs-none (λ a b. AreApart (descriptor_area a) (descriptor_area b)))
+outstanding-apart ring oldest (inl below) =
+    let n = count_of ring in
+    let k = distance_of ring oldest ring.tail in
+    let short : k < n = mod_below (ring.tail + n - oldest) n (omega (arith, below)) in
+    pairs-mapped (λ a b. AreApart (descriptor_area a) (descriptor_area b)) (address_of ring) (slots_from n oldest k)
+    (λ i j d before inside. far-apart ring.base _ _ (slots-distinct n oldest k below (omega (arith, short)) i j d before inside))
+  where
+    far-apart : (base a b : ℕ) → ¬ (b ≡ a) → AreApart (record { address = base + 16 * a; size = 16 }) (record { address = base + 16 * b; size = 16 })
+    far-apart base a b differ = grind arith
+
+-- Classes.
+
+-- What is taken or offered is outstanding.
+pub dealt-right : (memory : List ℕ) (ring : Ring) (oldest : ℕ) (taken : List ℕ) (P : ℕ → Type 0) → IsDealt memory ring oldest taken → All P (outstanding ring oldest) → All P (taken ++ offered ring)
+dealt-right memory ring oldest taken P dealt all =
+    all-right P (done_slots memory ring oldest) (taken ++ offered ring) (subst (λ (slots : List ℕ). All P slots) dealt.classes all)
+
+-- What is done is outstanding.
+pub dealt-left : (memory : List ℕ) (ring : Ring) (oldest : ℕ) (taken : List ℕ) (P : ℕ → Type 0) → IsDealt memory ring oldest taken → All P (outstanding ring oldest) → All P (done_slots memory ring oldest)
+dealt-left memory ring oldest taken P dealt all =
+    all-left P (done_slots memory ring oldest) (taken ++ offered ring) (subst (λ (slots : List ℕ). All P slots) dealt.classes all)
+
+-- Where the outstanding slots are as done as they were, the done ones are the same.
+pub done-same : (memory memory' : List ℕ) (ring : Ring) (oldest : ℕ) → All (λ d. is_done memory' d ≡ is_done memory d) (outstanding ring oldest) → done_slots memory' ring oldest ≡ done_slots memory ring oldest
+done-same memory memory' ring oldest same = take_while-same (is_done memory) (is_done memory') (outstanding ring oldest) same
+
+-- Then all classes are.
+pub dealt-same : (memory memory' : List ℕ) (ring : Ring) (oldest : ℕ) (taken : List ℕ) → All (λ d. is_done memory' d ≡ is_done memory d) (outstanding ring oldest) → IsDealt memory ring oldest taken → IsDealt memory' ring oldest taken
+dealt-same memory memory' ring oldest taken same dealt =
+    let rest = dealt-right memory ring oldest taken (λ d. is_done memory' d ≡ is_done memory d) dealt same in
+    record {
+      slot = dealt.slot;
+      classes = dealt.classes ∙ ap (λ (slots : List ℕ). slots ++ (taken ++ offered ring)) (sym (done-same memory memory' ring oldest same));
+      not_done = λ k d below. rest k d below ∙ dealt.not_done k d below;
+    }
+
+-- Where head differs from tail, the slot at the head is the first that is offered.
+pub offered-head : (ring : Ring) → IsSound ring → ¬ (ring.head ≡ ring.tail) → offered ring ≡ address_of ring ring.head ∷ offered (record ring { head = next_of ring ring.head })
+offered-head ring sound apart = ap (map (address_of ring)) (owned-head ring sound apart)
+
+-- The head moves on: the slot at the head is taken.
+pub dealt-moved : (memory : List ℕ) (ring : Ring) (oldest : ℕ) (taken : List ℕ) → IsSound ring → ¬ (ring.head ≡ ring.tail) → IsDealt memory ring oldest taken → IsDealt memory (record ring { head = next_of ring ring.head }) oldest (taken ++ address_of ring ring.head ∷ [])
+dealt-moved memory ring oldest taken sound apart dealt =
+    let moved : Ring = record ring { head = next_of ring ring.head } in
+    let head = address_of ring ring.head in
+    let same : taken ++ offered ring ≡ (taken ++ head ∷ []) ++ offered moved =
+    ap (λ (slots : List ℕ). taken ++ slots) (offered-head ring sound apart) ∙ sym (append_assoc taken (head ∷ []) (offered moved)) in
+    record {
+      slot = dealt.slot;
+      classes = dealt.classes ∙ ap (λ (slots : List ℕ). done_slots memory ring oldest ++ slots) same;
+      not_done = subst (λ (slots : List ℕ). All (λ d. is_done memory d ≡ false) slots) same dealt.not_done;
+    }
+
+-- The first slot that is taken gets done, and the others stay.
+pub record Reported (memory memory' : List ℕ) (ring : Ring) (oldest descriptor : ℕ) (taken : List ℕ) : Type 0 where
+  pub dealt : IsDealt memory' ring oldest taken
+  pub grown : done_slots memory' ring oldest ≡ done_slots memory ring oldest ++ descriptor ∷ []
+
+pub dealt-reported : (memory memory' : List ℕ) (ring : Ring) (oldest descriptor : ℕ) (taken : List ℕ) → IsDealt memory ring oldest (descriptor ∷ taken) → ((other : ℕ) → AreApart (descriptor_area descriptor) (descriptor_area other) → is_done memory' other ≡ is_done memory other) → is_done memory' descriptor ≡ true → Reported memory memory' ring oldest descriptor taken
+dealt-reported memory memory' ring oldest descriptor taken dealt others done =
+    let front = done_slots memory ring oldest in
+    let behind = taken ++ offered ring in
+    let R : ℕ → ℕ → Type 0 = λ a b. AreApart (descriptor_area a) (descriptor_area b) in
+    let pairs : AllPairs R (front ++ descriptor ∷ behind) = subst (λ (slots : List ℕ). AllPairs R slots) dealt.classes (outstanding-apart ring oldest dealt.slot) in
+    let before = pairs-before R front descriptor behind pairs in
+    let after = pairs-behind R front descriptor behind pairs in
+    let passes = take_while-passes (is_done memory) (outstanding ring oldest) in
+    let front_done : All (λ d. is_done memory' d ≡ true) front = λ k d below. others _ (apart-turned _ _ (before k d below)) ∙ passes k d below in
+    let all_done = All-append (λ d. is_done memory' d ≡ true) front (descriptor ∷ []) front_done (All-cons (λ d. is_done memory' d ≡ true) descriptor [] done (all-none (λ d. is_done memory' d ≡ true))) in
+    let open_before = all-tail (λ d. is_done memory d ≡ false) descriptor behind dealt.not_done in
+    let open_after : All (λ d. is_done memory' d ≡ false) behind = λ k d below. others _ (after k d below) ∙ open_before k d below in
+    let whole : outstanding ring oldest ≡ (front ++ descriptor ∷ []) ++ behind = dealt.classes ∙ sym (append_assoc front (descriptor ∷ []) behind) in
+    let grown : done_slots memory' ring oldest ≡ front ++ descriptor ∷ [] =
+    ap (take_while (is_done memory')) whole ∙ take_while-split (is_done memory') (front ++ descriptor ∷ []) behind all_done open_after in
+    record {
+      dealt = record {
+        slot = dealt.slot;
+        classes = whole ∙ ap (λ (slots : List ℕ). slots ++ behind) (sym grown);
+        not_done = open_after;
+      };
+      grown = grown;
+    }
+  where
+    apart-turned : (a b : ℕ) → AreApart (descriptor_area a) (descriptor_area b) → AreApart (descriptor_area b) (descriptor_area a)
+    apart-turned a b (inl before) = inr before
+    apart-turned a b (inr behind) = inl behind
+
+-- The first slot that is taken is apart from all others that are outstanding.
+pub dealt-others : (memory : List ℕ) (ring : Ring) (oldest descriptor : ℕ) (taken : List ℕ) → IsDealt memory ring oldest (descriptor ∷ taken) → All (λ other. AreApart (descriptor_area descriptor) (descriptor_area other)) (done_slots memory ring oldest) × All (λ other. AreApart (descriptor_area descriptor) (descriptor_area other)) (taken ++ offered ring)
+dealt-others memory ring oldest descriptor taken dealt =
+    let front = done_slots memory ring oldest in
+    let behind = taken ++ offered ring in
+    let R : ℕ → ℕ → Type 0 = λ a b. AreApart (descriptor_area a) (descriptor_area b) in
+    let pairs : AllPairs R (front ++ descriptor ∷ behind) = subst (λ (slots : List ℕ). AllPairs R slots) dealt.classes (outstanding-apart ring oldest dealt.slot) in
+    let before = pairs-before R front descriptor behind pairs in
+    ((λ k d below. apart-sym _ _ (before k d below)), pairs-behind R front descriptor behind pairs)

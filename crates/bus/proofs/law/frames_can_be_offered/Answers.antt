@@ -1,0 +1,5 @@
+use Rattle.bus.proofs.Offering.{frames_can_be_offered}
+use Rattle.bus.proofs.law.frames_can_be_offered.Goals as goal
+
+pub returns : goal.returns
+returns c = frames_can_be_offered

@@ -1,0 +1,5 @@
+use Rattle.bus.proofs.Offering.{slots_can_be_offered}
+use Rattle.bus.proofs.law.slots_can_be_offered.Goals as goal
+
+pub returns : goal.returns
+returns c = slots_can_be_offered

@@ -1,0 +1,32 @@
+-- The conditions of the law hold of some worlds: it isn't empty.
+use Rattle.std.specs.Prelude.{◌≢◌, ◌<◌, []}
+use Rattle.descriptors.specs.Ring.{count_of}
+use Rattle.bus.specs.Frames.{buffered, finished, frames_to_send, in_work}
+use Rattle.bus.specs.Law.{Sound}
+use Rattle.bus.specs.Slots.{offered}
+use Rattle.bus.specs.World.{World, receive_ring, transmit_ring}
+
+-- A world of which the conditions hold, with the first slot of each ring as the oldest, has this.
+abbrev pub SomeSound : (World → Type 0) → Type 0
+SomeSound Has = (world : World) × Sound 0 0 world × Has world
+
+-- both rings have slots, and some of the receive ring are offered
+pub record HasRings (world : World) : Type 0 where
+  pub receives : 0 < count_of (receive_ring world)
+  pub transmits : 0 < count_of (transmit_ring world)
+  pub offers : offered (receive_ring world) ≢ []
+
+abbrev pub HasWork : World → Type 0
+HasWork world = in_work world ≢ []
+
+abbrev pub HasFinished : World → Type 0
+HasFinished world = finished 0 world ≢ []
+
+-- there are frames to be sent, named by descriptors from TDH to TDT
+pub record HasFramesInRing (world : World) : Type 0 where
+  pub slots : offered (transmit_ring world) ≢ []
+  pub frames : frames_to_send world ≢ []
+
+-- there are frames in the transmit packet buffer
+abbrev pub HasFramesInBuffer : World → Type 0
+HasFramesInBuffer world = buffered world ≢ []

@@ -1,0 +1,26 @@
+-- A look of a small driver at its oldest receive slot, as the tests have one (own).
+use Rattle.std.specs.Prelude.{◌≡◌, ◌≤◌, ◌∷◌, ℕ, List, [], IfSome, Option, None, length, take}
+use Rattle.bus.specs.Frames.{finished, frames_held}
+use Rattle.bus.specs.Law.{AreWhole, Happens, Sound}
+use Rattle.bus.specs.Past.{Past}
+use Rattle.bus.specs.Slots.{outstanding}
+use Rattle.bus.specs.World.{World, receive_ring}
+
+-- the descriptor at this address is that of the oldest slot, which is outstanding
+pub record StandsFirst (descriptor oldest : ℕ) (world : World) : Type 0 where
+  pub later : List ℕ
+  pub slots : outstanding (receive_ring world) oldest ≡ descriptor ∷ later
+
+-- these bytes are the first of the frames held
+pub record IsFirstHeld (oldest : ℕ) (world : World) (frame : List ℕ) : Type 0 where
+  pub later : List (List ℕ)
+  pub held : frames_held oldest world ≡ frame ∷ later
+
+-- What a look says: where it found a frame, that frame is the first of those held; where it found none, and slots are whole, none was finished
+-- when it began.
+pub record Looked {B : Type 0} (world : B → World) (happened : B → B → Past → Type 0) (old new : B) (descriptor : ℕ) (found : Option ℕ) (bytes : List ℕ) : Type 0 where
+  pub past : Past
+  pub told : happened old new past
+  pub happens : Happens (world old) (world new) past
+  pub first : (o p : ℕ) → Sound o p (world old) → StandsFirst descriptor o (world old) → IfSome found (λ n. IsFirstHeld o (world new) (take n bytes))
+  pub none : found ≡ None → 1518 ≤ length bytes → (o p : ℕ) → Sound o p (world old) → StandsFirst descriptor o (world old) → AreWhole (world old).memory (finished o (world old)) → finished o (world old) ≡ []

@@ -1,0 +1,124 @@
+-- What a world holds: the frames of both rings, and the areas of memory that they need.
+use Rattle.std.specs.Prelude.{◌+◌, ◌*◌, ◌++◌, ℕ, Bool, true, List, [], ◌∷◌, All, Option, None, Some, map, if◌then◌else◌}
+use Rattle.registers.specs.Bits.{field}
+use Rattle.registers.specs.ReceiveControl.{buffer_size_of}
+use Rattle.descriptors.specs.declared.ring.Ring.{Ring}
+use Rattle.descriptors.specs.Ring.{count_of}
+use Rattle.rx_engine.specs.declared.engine.Work.{Work}
+use Rattle.rx_engine.specs.Descriptors as receive
+use Rattle.rx_engine.specs.Held.{held}
+use Rattle.tx_engine.specs.Fetching.{is_set}
+use Rattle.tx_engine.specs.Fetching as transmit
+use Rattle.tx_engine.specs.ToSend.{to_send}
+use Rattle.tx_engine.specs.Transmitter.{Queued}
+use Rattle.bus.specs.Areas.{Area, AreApart, bytes_in}
+use Rattle.bus.specs.Slots.{done_slots, offered}
+use Rattle.bus.specs.World.{World, receive_ring, transmit_ring}
+
+-- Slots.
+
+-- the slot of the frame in work
+abbrev pub slot_of_work : Option Work → List ℕ
+slot_of_work None = []
+slot_of_work (Some work) = work.descriptor ∷ []
+
+-- the slots of the receive ring whose frame is in work
+abbrev pub in_work : World → List ℕ
+in_work world = slot_of_work world.adapter.receiver.work
+
+-- the slots of the frames in the transmit packet buffer
+abbrev pub buffered : World → List ℕ
+buffered world = map (λ (queued : Queued). queued.descriptor) world.adapter.transmitter.buffer
+
+-- the finished slots of the receive ring, from the driver's oldest on
+abbrev pub finished : ℕ → World → List ℕ
+finished oldest world = done_slots world.memory (receive_ring world) oldest
+
+-- the written-back slots of the transmit ring, from the driver's oldest on
+abbrev pub written_back : ℕ → World → List ℕ
+written_back oldest world = done_slots world.memory (transmit_ring world) oldest
+
+-- Frames.
+
+-- the bytes that a finished descriptor's address and length name
+abbrev pub named : List ℕ → ℕ → Area
+named memory descriptor = record {
+  address = (receive.descriptor_at memory descriptor).address;
+  size = (receive.descriptor_at memory descriptor).length;
+}
+
+-- the frames on the host's side: of each finished slot, then the frame in work, then the packet buffer, oldest first
+abbrev pub frames_held : ℕ → World → List (List ℕ)
+frames_held oldest world =
+    map (λ (descriptor : ℕ). bytes_in world.memory (named world.memory descriptor)) (finished oldest world)
+    ++ held world.memory world.adapter.receiver
+
+-- the frames that the host has still to send: in the packet buffer, then of each descriptor from TDH to TDT, padded
+abbrev pub frames_to_send : World → List (List ℕ)
+frames_to_send world = to_send world.memory (transmit_ring world) true world.adapter.transmitter.buffer
+
+-- Areas.
+
+-- a ring's descriptors
+abbrev pub ring_area : Ring → Area
+ring_area ring = record { address = ring.base; size = 16 * count_of ring }
+
+-- the bytes of the frame in work
+abbrev pub work_areas : List ℕ → Option Work → List Area
+work_areas memory None = []
+work_areas memory (Some work) = record { address = receive.named_address memory work.descriptor; size = work.length } ∷ []
+
+-- the buffer that a receive descriptor names, of the size that RCTL.BSIZE names
+abbrev pub buffer_of : World → ℕ → Area
+buffer_of world descriptor = record {
+  address = receive.named_address world.memory descriptor;
+  size = buffer_size_of (field world.adapter.filter.rctl 16 2);
+}
+
+-- RCTL.EN
+abbrev pub receives : World → Bool
+receives world = is_set world.adapter.filter.rctl 1
+
+-- the buffers of the offered slots, where the adapter receives at all
+abbrev pub offered_buffers : World → List Area
+offered_buffers world = if receives world then map (buffer_of world) (offered (receive_ring world)) else []
+
+-- the data of a transmit descriptor
+abbrev pub data_of : List ℕ → ℕ → Area
+data_of memory descriptor = record {
+  address = (transmit.descriptor_at memory descriptor).address;
+  size = (transmit.descriptor_at memory descriptor).length;
+}
+
+-- the data of the descriptors from TDH to TDT, the bytes of finished slots and of the slot in work, and the buffers of offered slots
+abbrev pub frame_areas : ℕ → World → List Area
+frame_areas oldest world =
+    map (data_of world.memory) (offered (transmit_ring world))
+    ++ (map (named world.memory) (finished oldest world)
+    ++ (work_areas world.memory world.adapter.receiver.work
+    ++ offered_buffers world))
+
+-- the two rings and these
+abbrev pub areas : ℕ → World → List Area
+areas oldest world = ring_area (receive_ring world) ∷ ring_area (transmit_ring world) ∷ frame_areas oldest world
+
+-- What the adapter may write.
+
+-- bytes 8 to 15 of a receive descriptor
+abbrev pub reported_half : ℕ → Area
+reported_half descriptor = record { address = descriptor + 8; size = 8 }
+
+-- byte 12 of a transmit descriptor
+abbrev pub status_byte : ℕ → Area
+status_byte descriptor = record { address = descriptor + 12; size = 1 }
+
+-- what the adapter may write: of the slots that it has taken or is offered the bytes that it reports in, and the offered buffers
+abbrev pub writable : World → List Area
+writable world =
+    map reported_half (in_work world ++ offered (receive_ring world))
+    ++ (map status_byte (buffered world ++ offered (transmit_ring world))
+    ++ offered_buffers world)
+
+-- an area that isn't the adapter's
+abbrev pub IsForeign : World → Area → Type 0
+IsForeign world area = All (AreApart area) (writable world)

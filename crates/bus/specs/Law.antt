@@ -1,0 +1,131 @@
+-- The bus law: what may happen to an adapter and its memory between two accesses of a driver (own).
+use Rattle.std.specs.Prelude.{◌≡◌, ◌≤◌, ◌+◌, ◌⊎◌, ◌++◌, ℕ, true, List, [], ◌∷◌, All, length, map, max, min, if◌then◌else◌}
+use Rattle.std.specs.Fn.{iterate}
+use Rattle.eeprom.specs.Eerd as eeprom
+use Rattle.mdic_phy.specs.Mdic.{MdicState, has_work, mdic_after_tick, phy_after_tick}
+use Rattle.mdic_phy.specs.Phy.{PhyState}
+use Rattle.registers.specs.Bits.{HasBit}
+use Rattle.registers.specs.Counting.{greatest_count}
+use Rattle.descriptors.specs.declared.rx_desc.RxDesc.{RxDesc}
+use Rattle.descriptors.specs.Frames.{IsLegal}
+use Rattle.descriptors.specs.Ring.{IsSound}
+use Rattle.descriptors.specs.RxStatus.{status_bits}
+use Rattle.rx_engine.specs.Descriptors.{descriptor_at}
+use Rattle.tx_engine.specs.Fetching.{fetched}
+use Rattle.tx_engine.specs.Transmitter.{Queued}
+use Rattle.adapter.specs.Rings.{ring_of}
+use Rattle.adapter.specs.State.{AdapterState}
+use Rattle.bus.specs.Areas.{Area, AreSeparate, bytes_in}
+use Rattle.bus.specs.Frames.{areas, buffered, finished, frames_held, frames_to_send, in_work, IsForeign, written_back}
+use Rattle.bus.specs.Past.{Access, Past}
+use Rattle.bus.specs.Slots.{IsDealt, offered}
+use Rattle.bus.specs.World.{World, receive_ring, transmit_ring}
+
+-- Registers.
+
+-- MDIC and the PHY behind it
+pub record Management : Type 0 where
+  pub mdic : MdicState
+  pub phy : PhyState
+
+abbrev pub management_of : AdapterState → Management
+management_of adapter = record { mdic = adapter.mdic; phy = adapter.phy }
+
+-- a tick of the PHY does something where its count runs or a command is pending
+abbrev pub phy_ticked : Management → Management
+phy_ticked line =
+    if has_work line.mdic line.phy
+    then record { mdic = mdic_after_tick line.mdic line.phy; phy = phy_after_tick line.mdic line.phy }
+    else line
+
+-- What stands in every state, whatever the driver has made of rings and memory: registers stay, causes are added, ticks alone move EERD, MDIC
+-- and the PHY, and MPC counts what is missed.
+pub record Steady (a b : World) (past : Past) : Type 0 where
+  pub size : length b.memory ≡ length a.memory
+  pub image : b.adapter.image ≡ a.adapter.image
+  pub causes : (place : ℕ) → HasBit a.adapter.causes.recorded place → HasBit b.adapter.causes.recorded place
+  pub mask : b.adapter.causes.mask ≡ a.adapter.causes.mask
+  pub receive_ring : b.adapter.receive_ring ≡ record a.adapter.receive_ring { head = b.adapter.receive_ring.head }
+  pub transmit_ring : b.adapter.transmit_ring ≡ record a.adapter.transmit_ring { head = b.adapter.transmit_ring.head }
+  -- A head that moves is a slot of its ring, and so is the tail.
+  pub receive_head : (b.adapter.receive_ring.head ≡ a.adapter.receive_ring.head) ⊎ IsSound (ring_of b.adapter.receive_ring)
+  pub transmit_head : (b.adapter.transmit_ring.head ≡ a.adapter.transmit_ring.head) ⊎ IsSound (ring_of b.adapter.transmit_ring)
+  -- RAL, RAH, MTA, VFTA, RCTL and VET
+  pub filter : b.adapter.filter ≡ a.adapter.filter
+  pub device_control : b.adapter.device_control ≡ a.adapter.device_control
+  pub transmit_control : b.adapter.transmit_control ≡ a.adapter.transmit_control
+  pub allocation : b.adapter.receive_kilobytes ≡ a.adapter.receive_kilobytes
+  pub missed : b.adapter.missed_packets ≡ max a.adapter.missed_packets (min (a.adapter.missed_packets + past.missed) greatest_count)
+  -- Where RCTL.EN is 0 no frame is stored or missed.
+  pub off : ¬ (HasBit a.adapter.filter.rctl 1) → (past.stored ≡ []) × (past.missed ≡ 0)
+  pub legal : All IsLegal past.stored
+  pub eerd : b.adapter.eerd ≡ iterate (eeprom.after_tick a.adapter.image) past.eeprom_ticks a.adapter.eerd
+  pub management : management_of b.adapter ≡ iterate phy_ticked past.phy_ticks (management_of a.adapter)
+
+-- Frames.
+
+-- a frame's descriptor asks for a report, RS
+abbrev pub Reports : Queued → Type 0
+Reports queued = queued.report ≡ true
+
+-- The conditions of the law, for the slots that the driver counts as its oldest.
+pub record Sound (oldest_received oldest_sent : ℕ) (world : World) : Type 0 where
+  pub receive_slots : IsDealt world.memory (receive_ring world) oldest_received (in_work world)
+  pub transmit_slots : IsDealt world.memory (transmit_ring world) oldest_sent (buffered world)
+  pub separate : AreSeparate world.memory (areas oldest_received world)
+  -- every frame to be sent asks for a report
+  pub reports : All Reports (world.adapter.transmitter.buffer ++ map (fetched true world.memory) (offered (transmit_ring world)))
+  -- TCTL.PSP
+  pub pads : ¬ (world.adapter.transmit_ring.head ≡ world.adapter.transmit_ring.tail) → HasBit world.adapter.transmit_control 3
+
+-- a descriptor as this adapter finishes one: EOP, no errors, and the length of a legal frame
+pub record IsWhole (descriptor : RxDesc) : Type 0 where
+  pub ended : HasBit (status_bits descriptor.status) 1
+  pub unharmed : descriptor.errors ≡ 0
+  pub least : 60 ≤ descriptor.length
+  pub most : descriptor.length ≤ 1518
+
+abbrev pub AreWhole : List ℕ → List ℕ → Type 0
+AreWhole memory slots = All (λ slot. IsWhole (descriptor_at memory slot)) slots
+
+-- What happens to frames, slots and memory.
+pub record Between (oldest_received oldest_sent : ℕ) (a b : World) (past : Past) : Type 0 where
+  -- Frames are put in order, and the written-back slots from the oldest on grow by as many.
+  pub sends : past.put ++ frames_to_send b ≡ frames_to_send a
+  pub reported : List ℕ
+  pub written : written_back oldest_sent b ≡ written_back oldest_sent a ++ reported
+  pub each_reported : length reported ≡ length past.put
+  -- The frames held grow at the end by those that were stored.
+  pub holds : frames_held oldest_received b ≡ frames_held oldest_received a ++ past.stored
+  -- The finished slots from the oldest on only grow, and where they grew RXT0, bit 7, is recorded.
+  pub more : List ℕ
+  pub done : finished oldest_received b ≡ finished oldest_received a ++ more
+  pub told : (more ≡ []) ⊎ HasBit b.adapter.causes.recorded 7
+  -- Finished slots that are whole stay whole, and new ones are.
+  pub whole : AreWhole a.memory (finished oldest_received a) → AreWhole b.memory (finished oldest_received b)
+  -- What isn't the adapter's stays as it is, and stays not the adapter's.
+  pub untouched : (area : Area) → IsForeign a area → bytes_in b.memory area ≡ bytes_in a.memory area
+  pub foreign : (area : Area) → IsForeign a area → IsForeign b area
+  pub sound : Sound oldest_received oldest_sent b
+
+-- Any adapter steps and deliveries, whichever slots the driver counts as its oldest.
+pub record Happens (a b : World) (past : Past) : Type 0 where
+  pub steady : Steady a b past
+  pub between : (oldest_received oldest_sent : ℕ) → Sound oldest_received oldest_sent a → Between oldest_received oldest_sent a b past
+
+-- ticks of both kinds fell
+pub record HasTicks (past : Past) : Type 0 where
+  pub eeprom : 1 ≤ past.eeprom_ticks
+  pub phy : 1 ≤ past.phy_ticks
+
+-- One access of a driver over a bus: something happens, of which the bus tells by its own words, and then the access itself. A lively bus plays
+-- ticks before each.
+pub record Acts {B : Type 0} (world : B → World) (happened : B → B → Past → Type 0) (lively : B → Type 0) (old new : B) (access : Access) (effect : World → World → Type 0) : Type 0 where
+  -- where the access itself begins
+  pub middle : World
+  pub past : Past
+  pub only : past.accesses ≡ access ∷ []
+  pub told : happened old new past
+  pub ticks : lively old → HasTicks past
+  pub before : Happens (world old) middle past
+  pub effect_is : effect middle (world new)

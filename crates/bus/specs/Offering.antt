@@ -1,0 +1,81 @@
+-- A driver offers its next slot of a ring.
+use Rattle.std.specs.Prelude.{◌≡◌, ◌≢◌, ◌<◌, ◌∷◌, [], ◌++◌, ℕ, false, true, All}
+use Rattle.dma_memory.specs.HostMemory.{LiesIn}
+use Rattle.registers.specs.Bits.{HasBit}
+use Rattle.descriptors.specs.Ring.{address_of, count_of, next_of}
+use Rattle.tx_engine.specs.Fetching.{fetched, frame_at}
+use Rattle.bus.specs.Areas.{AreApart}
+use Rattle.bus.specs.Frames.{areas, buffer_of, data_of, frames_held, frames_to_send, written_back}
+use Rattle.bus.specs.Law.{Reports, Sound}
+use Rattle.bus.specs.OwnStores.{SameFrames}
+use Rattle.bus.specs.Slots.{is_done, outstanding}
+use Rattle.bus.specs.World.{World, receive_ring, transmit_ring}
+
+-- A driver offers its next receive slot: it moves RDT on by one ("3.2.6 Receive Descriptor Queue Structure").
+
+-- the world with RDT moved on by one
+abbrev pub offering : World → World
+offering world = record world {
+  adapter = record world.adapter {
+    receive_ring = record world.adapter.receive_ring { tail = next_of (receive_ring world) world.adapter.receive_ring.tail };
+  };
+}
+
+-- The slot at RDT can be offered: it isn't the last one before the oldest, its descriptor isn't done, and its buffer lies in memory, apart from
+-- all that the conditions name.
+pub record CanOffer (oldest : ℕ) (world : World) : Type 0 where
+  pub oldest_slot : oldest < count_of (receive_ring world)
+  pub head_slot : world.adapter.receive_ring.head < count_of (receive_ring world)
+  pub tail_slot : world.adapter.receive_ring.tail < count_of (receive_ring world)
+  pub room : next_of (receive_ring world) world.adapter.receive_ring.tail ≢ oldest
+  pub fresh : is_done world.memory (address_of (receive_ring world) world.adapter.receive_ring.tail) ≡ false
+  pub lies : LiesIn world.memory (buffer_of world (address_of (receive_ring world) world.adapter.receive_ring.tail)).address (buffer_of world 0).size
+  pub apart : All (λ area. AreApart area (buffer_of world (address_of (receive_ring world) world.adapter.receive_ring.tail))) (areas oldest world)
+
+-- Then the conditions hold again, the slot is the last that is outstanding, and frames are the same.
+pub record Offered (oldest_received oldest_sent : ℕ) (a b : World) : Type 0 where
+  pub same : SameFrames oldest_received oldest_sent a b
+  pub last : outstanding (receive_ring b) oldest_received ≡ outstanding (receive_ring a) oldest_received ++ address_of (receive_ring a) a.adapter.receive_ring.tail ∷ []
+
+abbrev pub SlotsCanBeOffered : Type 0
+SlotsCanBeOffered =
+    (oldest_received oldest_sent : ℕ) (world : World) → Sound oldest_received oldest_sent world → CanOffer oldest_received world
+    → Offered oldest_received oldest_sent world (offering world)
+
+-- A driver offers its next transmit slot: it moves TDT on by one ("3.4 Transmit Descriptor Ring Structure").
+
+-- the world with TDT moved on by one
+abbrev pub offering_frame : World → World
+offering_frame world = record world {
+  adapter = record world.adapter {
+    transmit_ring = record world.adapter.transmit_ring { tail = next_of (transmit_ring world) world.adapter.transmit_ring.tail };
+  };
+}
+
+-- The slot at TDT can be offered: it isn't the last one before the oldest, its descriptor isn't done and asks for a report, its data lies in
+-- memory, apart from all that the conditions name, and TCTL.PSP is set.
+pub record CanSend (oldest_received oldest_sent : ℕ) (world : World) : Type 0 where
+  pub oldest_slot : oldest_sent < count_of (transmit_ring world)
+  pub head_slot : world.adapter.transmit_ring.head < count_of (transmit_ring world)
+  pub tail_slot : world.adapter.transmit_ring.tail < count_of (transmit_ring world)
+  pub room : next_of (transmit_ring world) world.adapter.transmit_ring.tail ≢ oldest_sent
+  pub fresh : is_done world.memory (address_of (transmit_ring world) world.adapter.transmit_ring.tail) ≡ false
+  pub reports : Reports (fetched true world.memory (address_of (transmit_ring world) world.adapter.transmit_ring.tail))
+  pub pads : HasBit world.adapter.transmit_control 3
+  pub lies :
+      LiesIn world.memory (data_of world.memory (address_of (transmit_ring world) world.adapter.transmit_ring.tail)).address
+      (data_of world.memory (address_of (transmit_ring world) world.adapter.transmit_ring.tail)).size
+  pub apart : All (λ area. AreApart area (data_of world.memory (address_of (transmit_ring world) world.adapter.transmit_ring.tail))) (areas oldest_received world)
+
+-- Then the conditions hold again, the slot is the last that is outstanding, and its frame, padded, is the last that is to be sent.
+pub record OfferedFrame (oldest_received oldest_sent : ℕ) (a b : World) : Type 0 where
+  pub sound : Sound oldest_received oldest_sent b
+  pub to_send : frames_to_send b ≡ frames_to_send a ++ frame_at true a.memory (address_of (transmit_ring a) a.adapter.transmit_ring.tail) ∷ []
+  pub held : frames_held oldest_received b ≡ frames_held oldest_received a
+  pub written_same : written_back oldest_sent b ≡ written_back oldest_sent a
+  pub last : outstanding (transmit_ring b) oldest_sent ≡ outstanding (transmit_ring a) oldest_sent ++ address_of (transmit_ring a) a.adapter.transmit_ring.tail ∷ []
+
+abbrev pub FramesCanBeOffered : Type 0
+FramesCanBeOffered =
+    (oldest_received oldest_sent : ℕ) (world : World) → Sound oldest_received oldest_sent world → CanSend oldest_received oldest_sent world
+    → OfferedFrame oldest_received oldest_sent world (offering_frame world)

@@ -1,0 +1,30 @@
+-- A driver's store to memory of its own leaves what the law speaks of.
+use Rattle.std.specs.Prelude.{◌≡◌, ℕ, List, All, length}
+use Rattle.dma_memory.specs.HostMemory.{LiesIn}
+use Rattle.bus.specs.Areas.{Area, AreApart}
+use Rattle.bus.specs.Frames.{finished, frame_areas, frames_held, frames_to_send, written_back}
+use Rattle.bus.specs.Law.{Sound}
+use Rattle.bus.specs.Own.{descriptor_area}
+use Rattle.bus.specs.Slots.{outstanding}
+use Rattle.bus.specs.World.{World, receive_ring, transmit_ring, world_after_store}
+
+-- An area is apart from all outstanding descriptors, and from all frames and buffers that the conditions name.
+pub record IsOwn (oldest_received oldest_sent : ℕ) (world : World) (area : Area) : Type 0 where
+  pub received : All (λ slot. AreApart area (descriptor_area slot)) (outstanding (receive_ring world) oldest_received)
+  pub sent : All (λ slot. AreApart area (descriptor_area slot)) (outstanding (transmit_ring world) oldest_sent)
+  pub frames : All (AreApart area) (frame_areas oldest_received world)
+
+-- The conditions hold in the second world as in the first, and slots and frames are the same.
+pub record SameFrames (oldest_received oldest_sent : ℕ) (a b : World) : Type 0 where
+  pub sound : Sound oldest_received oldest_sent b
+  pub held : frames_held oldest_received b ≡ frames_held oldest_received a
+  pub to_send : frames_to_send b ≡ frames_to_send a
+  pub finished_same : finished oldest_received b ≡ finished oldest_received a
+  pub written_same : written_back oldest_sent b ≡ written_back oldest_sent a
+
+abbrev pub OwnStoresLeaveFrames : Type 0
+OwnStoresLeaveFrames =
+    (oldest_received oldest_sent : ℕ) (world : World) (address : ℕ) (bytes : List ℕ)
+    → Sound oldest_received oldest_sent world → LiesIn world.memory address (length bytes)
+    → IsOwn oldest_received oldest_sent world (record { address = address; size = length bytes })
+    → SameFrames oldest_received oldest_sent world (world_after_store address bytes world)

@@ -1,0 +1,37 @@
+-- What happened in a stretch of time (own).
+use Rattle.std.specs.Prelude.{ℕ, ◌+◌, List, [], ◌++◌}
+
+-- an access of the driver
+pub data Access : Type 0 where
+  -- a register at an offset was read as this value
+  Reads : (offset value : ℕ) → Access
+  Writes : (offset value : ℕ) → Access
+  -- so many bytes of memory were loaded
+  Loads : (address size : ℕ) → Access
+  Stores : (address : ℕ) (bytes : List ℕ) → Access
+
+pub record Past : Type 0 where
+  -- the frames that the adapter put onto the wire
+  pub put : List (List ℕ)
+  -- the frames from the wire that its packet buffer stored
+  pub stored : List (List ℕ)
+  -- how many it missed
+  pub missed : ℕ
+  pub eeprom_ticks : ℕ
+  pub phy_ticks : ℕ
+  -- the accesses of the driver
+  pub accesses : List Access
+
+abbrev pub nothing : Past
+nothing = record { put = []; stored = []; missed = 0; eeprom_ticks = 0; phy_ticks = 0; accesses = [] }
+
+-- one stretch, then another
+abbrev pub joined : Past → Past → Past
+joined first later = record {
+  put = first.put ++ later.put;
+  stored = first.stored ++ later.stored;
+  missed = first.missed + later.missed;
+  eeprom_ticks = first.eeprom_ticks + later.eeprom_ticks;
+  phy_ticks = first.phy_ticks + later.phy_ticks;
+  accesses = first.accesses ++ later.accesses;
+}

@@ -1,0 +1,30 @@
+-- The slots of a descriptor ring as a driver counts them, from its oldest one on ("3.2.6 Receive Descriptor Queue Structure", "3.4
+-- Transmit Descriptor Ring Structure"). A slot is told by the address of its descriptor.
+use Rattle.std.specs.Prelude.{◌≡◌, ◌<◌, ◌⊎◌, ◌++◌, ℕ, Bool, false, List, [], All, map, slice_index, take_while}
+use Rattle.dma_memory.specs.HostMemory.{bytes_at}
+use Rattle.descriptors.specs.declared.ring.Ring.{Ring}
+use Rattle.descriptors.specs.Ring.{address_of, count_of, owned}
+use Rattle.tx_engine.specs.Fetching.{is_set}
+
+-- the slots that the adapter owns: from head up to, not including, tail
+abbrev pub offered : Ring → List ℕ
+offered ring = map (address_of ring) (owned ring)
+
+-- the slots from the driver's oldest one up to, not including, tail; all others are the driver's
+abbrev pub outstanding : Ring → ℕ → List ℕ
+outstanding ring oldest = offered (record ring { head = oldest })
+
+-- the descriptor at an address is done: DD, bit 0 of its byte 12 (3.2.3.1, 3.3.3.2)
+abbrev pub is_done : List ℕ → ℕ → Bool
+is_done memory descriptor = is_set (slice_index (bytes_at memory descriptor 16) 12) 0
+
+-- the slots from the oldest on that are done
+abbrev pub done_slots : List ℕ → Ring → ℕ → List ℕ
+done_slots memory ring oldest = take_while (is_done memory) (outstanding ring oldest)
+
+-- From the oldest slot on there are done ones, then those that the engine has taken, then those that it is offered, and no done one among
+-- these two. A ring without slots has none outstanding.
+pub record IsDealt (memory : List ℕ) (ring : Ring) (oldest : ℕ) (taken : List ℕ) : Type 0 where
+  pub slot : (oldest < count_of ring) ⊎ (outstanding ring oldest ≡ [])
+  pub classes : outstanding ring oldest ≡ done_slots memory ring oldest ++ (taken ++ offered ring)
+  pub not_done : All (λ descriptor. is_done memory descriptor ≡ false) (taken ++ offered ring)

@@ -1,0 +1,68 @@
+-- What happens to a world, event by event: adapter steps, deliveries and accesses, each as it is.
+use Rattle.std.specs.Prelude.{◌≡◌, ℕ, Bool, List, [], ◌∷◌, All, ⊤}
+use Rattle.rx_engine.specs.declared.arrival.Fate.{Fate}
+use Rattle.adapter.specs.Receiving.{IsFate}
+use Rattle.adapter.specs.Registers.{answer_at}
+use Rattle.adapter.specs.Steps.{Answers}
+use Rattle.adapter.specs.declared.step.StepKind.{StepKind}
+use Rattle.adapter.specs.declared.step.Stepped.{Stepped}
+use Rattle.bus.specs.Law.{Happens}
+use Rattle.bus.specs.Past.{Access, Loads, Past, Reads, Stores, Writes, joined, nothing}
+use Rattle.bus.specs.Steps.{IsRunning, past_of_arrival, past_of_step, world_after_arrival, world_after_step}
+use Rattle.bus.specs.World.{World, world_after_read, world_after_store, world_after_write}
+
+pub data Event : Type 0 where
+  -- the adapter took a step of this kind, with or without room on its wire, and answered so
+  Steps : (kind : StepKind) (wire_free : Bool) (answer : Stepped) → Event
+  -- a frame was delivered, and met this fate
+  Arrives : (frame : List ℕ) (fate : Fate) → Event
+  Accesses : (access : Access) → Event
+
+-- what an access says of the world that it finds
+abbrev pub IsAnswered : Access → World → Type 0
+IsAnswered (Reads offset value) world = value ≡ answer_at offset world.adapter
+IsAnswered (Writes offset value) world = ⊤
+IsAnswered (Loads address size) world = ⊤
+IsAnswered (Stores address bytes) world = ⊤
+
+abbrev pub world_after_access : Access → World → World
+world_after_access (Reads offset value) world = world_after_read offset world
+world_after_access (Writes offset value) world = world_after_write offset value world
+world_after_access (Loads address size) world = world
+world_after_access (Stores address bytes) world = world_after_store address bytes world
+
+-- the event can happen in this world
+abbrev pub Occurs : Event → World → Type 0
+Occurs (Steps kind wire_free answer) world = IsRunning world.adapter × Answers kind wire_free world.memory world.adapter answer
+Occurs (Arrives frame fate) world = IsRunning world.adapter × IsFate world.adapter frame fate
+Occurs (Accesses access) world = IsAnswered access world
+
+abbrev pub world_after : Event → World → World
+world_after (Steps kind wire_free answer) world = world_after_step kind answer world
+world_after (Arrives frame fate) world = world_after_arrival fate frame world
+world_after (Accesses access) world = world_after_access access world
+
+-- These events lead from one world to another.
+abbrev pub Trail : List Event → World → World → Type 0
+Trail [] a b = b ≡ a
+Trail (event ∷ later) a b = Occurs event a × Trail later (world_after event a) b
+
+abbrev pub past_of_event : Event → Past
+past_of_event (Steps kind wire_free answer) = past_of_step kind answer
+past_of_event (Arrives frame fate) = past_of_arrival fate frame
+past_of_event (Accesses access) = record nothing { accesses = access ∷ [] }
+
+-- what happened in these events
+abbrev pub past_of : List Event → Past
+past_of [] = nothing
+past_of (event ∷ later) = joined (past_of_event event) (past_of later)
+
+-- it is no access
+abbrev pub IsStep : Event → Type 0
+IsStep (Steps kind wire_free answer) = ⊤
+IsStep (Arrives frame fate) = ⊤
+IsStep (Accesses access) = ⊥
+
+-- Any steps and deliveries may happen between two accesses.
+abbrev pub TrailsHappen : Type 0
+TrailsHappen = (events : List Event) (a b : World) → All IsStep events → Trail events a b → Happens a b (past_of events)

@@ -1,0 +1,30 @@
+-- What a bus shows its driver: a host's memory and the adapter, and what the driver's accesses do to them.
+use Rattle.std.specs.Prelude.{ℕ, List}
+use Rattle.dma_memory.specs.HostMemory.{with_bytes}
+use Rattle.descriptors.specs.declared.ring.Ring.{Ring}
+use Rattle.adapter.specs.Registers.{after_read, after_write}
+use Rattle.adapter.specs.Rings.{ring_of}
+use Rattle.adapter.specs.State.{AdapterState}
+
+pub record World : Type 0 where
+  -- the host's memory
+  pub memory : List ℕ
+  pub adapter : AdapterState
+
+abbrev pub receive_ring : World → Ring
+receive_ring world = ring_of world.adapter.receive_ring
+
+abbrev pub transmit_ring : World → Ring
+transmit_ring world = ring_of world.adapter.transmit_ring
+
+-- what a register read leaves, by its offset
+abbrev pub world_after_read : ℕ → World → World
+world_after_read offset world = record world { adapter = after_read offset world.adapter }
+
+-- what a register write leaves
+abbrev pub world_after_write : ℕ → ℕ → World → World
+world_after_write offset value world = record world { adapter = after_write offset value world.adapter }
+
+-- what a store to memory leaves
+abbrev pub world_after_store : ℕ → List ℕ → World → World
+world_after_store address bytes world = record world { memory = with_bytes world.memory address bytes }

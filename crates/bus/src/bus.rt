@@ -1,0 +1,109 @@
+// The bus, by what it shows and by what may happen between two accesses.
+
+ghost use Rattle.std.specs.Prelude.{◌≡◌, ◌+◌, ◌-◌, ◌^◌, ◌≤◌, ℕ, length, min};
+ghost use Rattle.adapter.specs.Registers.{answer_at};
+ghost use Rattle.bus.specs.Law.{Acts};
+ghost use Rattle.bus.specs.Past.{Past, joined, nothing};
+ghost use Rattle.bus.specs.Past.Access.{Loads, Reads, Stores, Writes};
+ghost use Rattle.bus.specs.World.{World, world_after_read, world_after_store, world_after_write};
+ghost use Rattle.dma_memory.specs.HostMemory.{bytes_at};
+
+/// What a driver reaches its adapter and its memory by. Each call but [`size`](Bus::size) is one
+/// access.
+///
+/// Any implementation may stand behind it: of a bus that isn't `honest` nothing is known but its size.
+/// An honest one is an adapter and a memory. Before an access steps of the adapter and deliveries may
+/// happen, and nothing else; the access itself is then what the adapter's registers and memory say.
+pub trait Bus {
+    /// How many bytes of memory there are.
+    ghost extent: { Self → ℕ };
+
+    /// Whether it obeys the law.
+    ghost honest: { Self → Type 0 };
+
+    /// Whether it plays a tick of the EEPROM and one of the PHY before each access.
+    ghost lively: { Self → Type 0 };
+
+    /// The memory and the adapter.
+    ghost world: { Self → World };
+
+    /// The bus's own word on what happened from one of its states to another.
+    ghost happened: { Self → Self → Past → Type 0 };
+
+    /// What stays of it, whatever is done over it, as what it was lent.
+    ghost kept: { Self → Self → Type 0 };
+
+    /// How many bytes the memory has, which never changes.
+    fn size(&self) -> u64
+        ensures { result ≡ extent self.now };
+
+    /// Reads the register at an offset in bytes.
+    fn read(&mut self, offset: u32) -> u32
+        ensures extent { extent self.new ≡ extent self.old }
+        ensures kept { kept self.old self.new }
+        ensures honest { honest self.old → honest self.new }
+        ensures lively { lively self.old → lively self.new }
+        ensures acts { honest self.old → Acts world happened lively self.old self.new (Reads offset result)
+            (λ before after. (result ≡ answer_at offset before.adapter) × (after ≡ world_after_read offset before)) };
+
+    /// Writes the register at an offset in bytes.
+    fn write(&mut self, offset: u32, value: u32)
+        ensures extent { extent self.new ≡ extent self.old }
+        ensures kept { kept self.old self.new }
+        ensures honest { honest self.old → honest self.new }
+        ensures lively { lively self.old → lively self.new }
+        ensures acts { honest self.old → Acts world happened lively self.old self.new (Writes offset value)
+            (λ before after. after ≡ world_after_write offset value before) };
+
+    /// Loads the bytes from `address` on, which lie below [`size`](Bus::size), into the whole of `into`.
+    fn load(&mut self, address: u64, into: &mut [u8])
+        requires { address + length into.old ≤ extent self.old }
+        ensures extent { extent self.new ≡ extent self.old }
+        ensures kept { kept self.old self.new }
+        ensures honest { honest self.old → honest self.new }
+        ensures lively { lively self.old → lively self.new }
+        ensures length { length into.new ≡ length into.old }
+        ensures acts { honest self.old → Acts world happened lively self.old self.new (Loads address (length into.old))
+            (λ before after. (into.new ≡ bytes_at before.memory address (length into.old)) × (after ≡ before)) };
+
+    /// Stores bytes from `address` on, where they lie below [`size`](Bus::size).
+    fn store(&mut self, address: u64, bytes: &[u8])
+        requires { address + length bytes.now ≤ extent self.old }
+        ensures extent { extent self.new ≡ extent self.old }
+        ensures kept { kept self.old self.new }
+        ensures honest { honest self.old → honest self.new }
+        ensures lively { lively self.old → lively self.new }
+        ensures acts { honest self.old → Acts world happened lively self.old self.new (Stores address bytes.now)
+            (λ before after. after ≡ world_after_store address bytes.now before) };
+
+    /// Nothing happens from a state to itself.
+    ghost stays: { (b : Self) → happened b b nothing };
+
+    /// What happens in two stretches happens in both together.
+    ghost joins: { (a b c : Self) (first later : Past) → happened a b first → happened b c later → happened a c (joined first later) };
+
+    /// Each state keeps what it has.
+    ghost keeps: { (b : Self) → kept b b };
+
+    /// What stays twice stays.
+    ghost keeps_on: { (a b c : Self) → kept a b → kept b c → kept a c };
+
+    /// The memory of an honest bus is as large as it says.
+    ghost sized: { (b : Self) → honest b → length (world b).memory ≡ extent b };
+}
+
+/// A bus that obeys the law, and counts its accesses.
+pub trait HonestBus: Bus {
+    /// How many accesses there were, up to the greatest `u64`.
+    ghost counted: { Self → ℕ };
+
+    /// How many accesses there were. The count stays at the greatest `u64`.
+    fn accesses(&self) -> u64
+        ensures { result ≡ counted self.now };
+
+    /// It is honest in every state.
+    ghost always: { (b : Self) → Self.honest b };
+
+    /// Each access raises the count by one, and nothing else does.
+    ghost counts: { (a b : Self) (past : Past) → Self.happened a b past → counted b ≡ min (counted a + length past.accesses) (2 ^ 64 - 1) };
+}

@@ -1,0 +1,22 @@
+//! The bus between a driver and its adapter, and the law that it obeys.
+//!
+//! Section numbers are those of Intel's "PCI/PCI-X Family of Gigabit Ethernet Controllers Software
+//! Developer's Manual".
+#![tactic(auto)]
+
+mod bus;
+mod law;
+mod solo;
+mod solo_bus;
+
+pub use bus::{Bus, HonestBus};
+pub use law::{
+    any_steps_may_happen, between_composes, conditions_can_be_met, drivers_keep_their_own,
+    frames_can_be_offered, own_stores_leave_frames, slots_can_be_offered, steps_are_instances,
+};
+pub use solo::{MOST_TICKS, SoloBus, SoloTick, WIRE_FRAMES};
+
+#[cfg(test)]
+mod looking;
+#[cfg(test)]
+mod tests;
