@@ -52,6 +52,7 @@ happens_accesses a b past accesses happens =
             whole = between.whole;
             untouched = between.untouched;
             foreign = between.foreign;
+            runs = between.runs;
             sound = between.sound;
           };
     }

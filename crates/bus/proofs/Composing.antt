@@ -106,6 +106,7 @@ between_trans o p a b c first later steady one two = record {
   whole = λ are. two.whole (one.whole are);
   untouched = λ area apart. two.untouched area (one.foreign area apart) ∙ one.untouched area apart;
   foreign = λ area apart. two.foreign area (one.foreign area apart);
+  runs = λ can. two.runs (one.runs can);
   sound = two.sound;
 }
 
@@ -122,6 +123,7 @@ between_refl o p a sound = record {
   whole = λ are. are;
   untouched = λ area apart. refl;
   foreign = λ area apart. apart;
+  runs = λ can. can;
   sound = sound;
 }
 

@@ -7,6 +7,7 @@ use Rattle.std.proofs.lemmas.List.Kept.{AllPairs-cons}
 use Rattle.dma_memory.specs.HostMemory.{bytes_at, with_bytes, LiesIn}
 use Rattle.dma_memory.specs.Laws.{bytes_at-after, bytes_at-before, bytes_at-parts, bytes_at-stored, length-with_bytes}
 use Rattle.descriptors.specs.declared.ring.Ring.{Ring}
+use Rattle.descriptors.specs.Frames.{IsLegal}
 use Rattle.descriptors.specs.Ring.{count_of, owned}
 use Rattle.descriptors.specs.RxDesc.{rx_desc_of}
 use Rattle.descriptors.specs.TxDesc.{tx_desc_of}
@@ -21,19 +22,21 @@ use Rattle.rx_engine.specs.Descriptors as receive
 use Rattle.rx_engine.specs.Finishing.{finished_bytes}
 use Rattle.rx_engine.specs.declared.engine.Work.{Work}
 use Rattle.tx_engine.specs.ToSend.{to_send}
-use Rattle.tx_engine.specs.Fetching.{fetched, is_set}
-use Rattle.tx_engine.specs.Transmitter.{idle}
+use Rattle.tx_engine.specs.Fetching.{IsTransmittable, fetched, is_set}
+use Rattle.tx_engine.specs.Transmitter.{idle, Queued}
 use Rattle.bus.specs.Areas.{Area, AreApart, AreSeparate}
-use Rattle.bus.specs.Examples.{HasFinished, HasFramesInBuffer, HasFramesInRing, HasRings, HasWork, SomeSound}
-use Rattle.bus.specs.Frames.{buffer_of, data_of, finished, named, offered_buffers}
-use Rattle.bus.specs.Law.{Reports, Sound}
+use Rattle.bus.specs.Examples.{HasFinished, HasFramesInBuffer, HasFramesInRing, HasRings, HasWork, HasWrittenBack, SomeSound}
+use Rattle.bus.specs.Frames.{buffer_of, data_of, finished, named, offered_buffers, written_back}
+use Rattle.bus.specs.Law.{Between, Reports, Sound}
+use Rattle.bus.specs.Past.{Past, nothing}
+use Rattle.bus.specs.Running.{CanRun, CanTransmit}
 use Rattle.bus.specs.Slots.{IsDealt, is_done, offered}
 use Rattle.bus.specs.Steps.{world_after_step}
 use Rattle.bus.specs.World.{World, receive_ring, transmit_ring}
 use Rattle.bus.proofs.Finishing.{between_done, done_adapter}
 use Rattle.bus.proofs.Lists.{all-none, pairs-none, take_while-split}
 use Rattle.bus.proofs.Moving.{between_moved}
-use Rattle.bus.proofs.Putting.{areas-same}
+use Rattle.bus.proofs.Putting.{areas-same, between_put, put_adapter}
 use Rattle.bus.proofs.Taking.{between_padded, taken}
 
 -- A ring whose oldest slot is the head, with no done slot among the offered ones.
@@ -124,6 +127,18 @@ ready-sound adapter size fits =
       pads = λ differ. refl;
     }
 
+ready-runs : (adapter : AdapterState) (size : ℕ) → CanRun (ready adapter size)
+ready-runs adapter size = record {
+  receiver_runs = refl;
+  transmitter_runs = refl;
+  receive_indices = λ differ. record { head = omega arith; tail = omega arith };
+  transmit_indices = λ differ. record { head = omega arith; tail = omega arith };
+  not_extended = λ set. absurd (omega (arith, set));
+  size = omega arith;
+  frames = All-cons IsLegal (replicate 60 0) [] (record { least = omega arith; most = omega arith }) (all-none IsLegal);
+  transmittable = subst (λ (slots : List ℕ). All (CanTransmit (replicate size 0)) slots) (sym (ready-idle adapter size)) (all-none (CanTransmit (replicate size 0)));
+}
+
 -- An adapter after power-on.
 abbrev new : AdapterState
 new = new_adapter (replicate 64 0) Never
@@ -151,8 +166,14 @@ ready-can_move size fits =
 abbrev busy : ℕ → World
 busy size = world_after_step RxData Moved (ready new size)
 
+busy-between : (size : ℕ) → 4096 ≤ size → Between 0 0 (ready new size) (busy size) nothing
+busy-between size fits = between_moved 0 0 (ready new size) (ready-has_frame size) (ready-can_move size fits) (ready-sound new size fits)
+
 busy-sound : (size : ℕ) → 4096 ≤ size → Sound 0 0 (busy size)
-busy-sound size fits = (between_moved 0 0 (ready new size) (ready-has_frame size) (ready-can_move size fits) (ready-sound new size fits)).sound
+busy-sound size fits = (busy-between size fits).sound
+
+busy-runs : (size : ℕ) → 4096 ≤ size → CanRun (busy size)
+busy-runs size fits = (busy-between size fits).runs (ready-runs new size)
 
 abbrev work : Work
 work = record { descriptor = 2048; length = 60 }
@@ -161,8 +182,14 @@ work = record { descriptor = 2048; length = 60 }
 abbrev done_with : ℕ → World
 done_with size = record { memory = with_bytes (busy size).memory (2048 + 8) (finished_bytes 60); adapter = done_adapter (busy size) }
 
+done-between : (size : ℕ) → 4096 ≤ size → Between 0 0 (busy size) (done_with size) nothing
+done-between size fits = between_done 0 0 work (busy size) (omega arith) (omega arith) (busy-sound size fits)
+
 done-sound : (size : ℕ) → 4096 ≤ size → Sound 0 0 (done_with size)
-done-sound size fits = (between_done 0 0 work (busy size) (omega arith) (omega arith) (busy-sound size fits)).sound
+done-sound size fits = (done-between size fits).sound
+
+done-runs : (size : ℕ) → 4096 ≤ size → CanRun (done_with size)
+done-runs size fits = (done-between size fits).runs (busy-runs size fits)
 
 done-finished : (size : ℕ) → 4096 ≤ size → HasFinished (done_with size)
 unfolding owned
@@ -264,6 +291,37 @@ sending-sound size fits =
       pads = λ differ. refl;
     }
 
+sending-transmittable : (size : ℕ) → 4096 ≤ size → CanTransmit (sending size).memory 2176
+unfolding tx_desc_of
+sending-transmittable size fits =
+    let memory = (sending size).memory in
+    let long = sending-size size fits in
+    let bytes : List ℕ = 0 ∷ 0 ∷ 0 ∷ 0 ∷ 0 ∷ 0 ∷ 0 ∷ 0 ∷ 60 ∷ 0 ∷ 0 ∷ 9 ∷ 0 ∷ 0 ∷ 0 ∷ 0 ∷ [] in
+    let there : IsTransmittable memory (tx_desc_of bytes) = record {
+      ends = refl;
+      legacy = λ set. absurd (omega (arith, set));
+      least = omega arith;
+      most = omega arith;
+      lies = omega (arith, long, fits);
+    } in
+    subst (λ (list : List ℕ). IsTransmittable memory (tx_desc_of list)) (sym (sending-bytes size fits)) there
+
+sending-runs : (size : ℕ) → 4096 ≤ size → CanRun (sending size)
+sending-runs size fits =
+    let memory = (sending size).memory in
+    record {
+      receiver_runs = refl;
+      transmitter_runs = refl;
+      receive_indices = λ differ. record { head = omega arith; tail = omega arith };
+      transmit_indices = λ differ. record { head = omega arith; tail = omega arith };
+      not_extended = λ set. absurd (omega (arith, set));
+      size = omega arith;
+      frames = all-none IsLegal;
+      transmittable =
+          subst (λ (slots : List ℕ). All (CanTransmit memory) slots) (sym (sending-offered size))
+          (All-cons (CanTransmit memory) 2176 [] (sending-transmittable size fits) (all-none (CanTransmit memory)));
+    }
+
 sending-has : (size : ℕ) → HasFramesInRing (sending size)
 unfolding owned to_send
 sending-has size = record { slots = λ none. absurd (cc); frames = λ none. absurd (cc) }
@@ -272,23 +330,49 @@ sending-has size = record { slots = λ none. absurd (cc); frames = λ none. absu
 abbrev took : ℕ → World
 took size = taken true (sending size)
 
-took-sound : (size : ℕ) → 4096 ≤ size → Sound 0 0 (took size)
-took-sound size fits = (between_padded 0 0 (sending size) (record { head = omega arith; tail = omega arith }) (λ same. absurd (omega (arith, same))) (sending-sound size fits)).sound
+took-between : (size : ℕ) → 4096 ≤ size → Between 0 0 (sending size) (took size) nothing
+took-between size fits = between_padded 0 0 (sending size) (record { head = omega arith; tail = omega arith }) (λ same. absurd (omega (arith, same))) (sending-sound size fits)
+
+-- It is put, and its slot is written back.
+abbrev fetched_one : ℕ → Queued
+fetched_one size = fetched true (sending size).memory 2176
+
+abbrev put_with : ℕ → World
+put_with size = record { memory = with_bytes (took size).memory (2176 + 12) (1 ∷ []); adapter = put_adapter (fetched_one size) [] (took size) }
+
+put-between : (size : ℕ) → 4096 ≤ size → Between 0 0 (took size) (put_with size) (let one : Past = record nothing { put = (fetched_one size).frame ∷ [] } in one)
+put-between size fits = between_put 0 0 (fetched_one size) [] (took size) (took-between size fits).sound
+
+put-written : (size : ℕ) → 4096 ≤ size → HasWrittenBack (put_with size)
+unfolding owned
+put-written size fits none =
+    let sound = (put-between size fits).sound in
+    let all : 2176 ∷ [] ≡ written_back 0 (put_with size) ++ [] = sound.transmit_slots.classes in
+    let empty : (let one : List ℕ = 2176 ∷ [] in one) ≡ [] = all ∙ ap (λ (slots : List ℕ). slots ++ []) none in
+    cc
 
 -- All of them.
 
 pub rings_can : SomeSound HasRings
 unfolding owned
-rings_can = (ready new 4096, ready-sound new 4096 (omega arith), record { receives = omega arith; transmits = omega arith; offers = λ none. absurd (cc) })
+rings_can = (ready new 4096, ready-sound new 4096 (omega arith), ready-runs new 4096, record { receives = omega arith; transmits = omega arith; offers = λ none. absurd (cc) })
 
 pub work_can : SomeSound HasWork
-work_can = (busy 4096, busy-sound 4096 (omega arith), λ none. absurd (cc))
+work_can = (busy 4096, busy-sound 4096 (omega arith), busy-runs 4096 (omega arith), λ none. absurd (cc))
 
 pub finished_can : SomeSound HasFinished
-finished_can = (done_with 4096, done-sound 4096 (omega arith), done-finished 4096 (omega arith))
+finished_can = (done_with 4096, done-sound 4096 (omega arith), done-runs 4096 (omega arith), done-finished 4096 (omega arith))
+
+pub written_can : SomeSound HasWrittenBack
+written_can =
+    let fits : 4096 ≤ 4096 = omega arith in
+    let between = put-between 4096 fits in
+    (put_with 4096, between.sound, between.runs ((took-between 4096 fits).runs (sending-runs 4096 fits)), put-written 4096 fits)
 
 pub frames_can : SomeSound HasFramesInRing
-frames_can = (sending 4096, sending-sound 4096 (omega arith), sending-has 4096)
+frames_can = (sending 4096, sending-sound 4096 (omega arith), sending-runs 4096 (omega arith), sending-has 4096)
 
 pub buffered_can : SomeSound HasFramesInBuffer
-buffered_can = (took 4096, took-sound 4096 (omega arith), λ none. absurd (cc))
+buffered_can =
+    let between = took-between 4096 (omega arith) in
+    (took 4096, between.sound, between.runs (sending-runs 4096 (omega arith)), λ none. absurd (cc))

@@ -35,6 +35,7 @@ use Rattle.bus.proofs.Engines.{added, steady_moves, still}
 use Rattle.bus.proofs.Kept.{IsSame, buffers-kept, frame_of, frames-kept, is_done-same, named-kept, same-apart, transmit_kept, whole-kept}
 use Rattle.bus.proofs.Lists.{all-head, all-left, all-none, all-right, all-tail, all-weaker, pairs-head}
 use Rattle.bus.proofs.Moving.{with_work}
+use Rattle.bus.proofs.Running.{transmittable-kept}
 use Rattle.bus.proofs.Rings.{dealt-others, dealt-reported, dealt-right, descriptor_area, outstanding-inside}
 use Rattle.descriptors.specs.Frames.{IsLegal}
 
@@ -162,6 +163,16 @@ between_done o p work a0 least most sound =
       untouched = λ other foreign. keeps.others other (apart-sym other area (all-head (AreApart other) area (halves ++ (bytes ++ buffers)) foreign));
       foreign = λ other foreign.
           subst (λ (there : List Area). All (AreApart other) (halves ++ (bytes ++ there))) (sym left) (all-tail (AreApart other) area (halves ++ (bytes ++ buffers)) foreign);
+      runs = λ can. record {
+        receiver_runs = can.receiver_runs;
+        transmitter_runs = can.transmitter_runs;
+        receive_indices = can.receive_indices;
+        transmit_indices = can.transmit_indices;
+        not_extended = can.not_extended;
+        size = can.size;
+        frames = can.frames;
+        transmittable = transmittable-kept memory memory' (offered (transmit_ring a)) size transmitting.same_offered can.transmittable;
+      };
       sound = record {
         receive_slots = receiving.dealt;
         transmit_slots = transmitting.dealt;

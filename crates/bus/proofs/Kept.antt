@@ -122,6 +122,7 @@ to_send-kept memory memory' ring buffer same =
 -- The transmit side, where what is written is apart from its ring and its data.
 
 pub record TransmitKept (world : World) (memory' : List ℕ) (oldest : ℕ) : Type 0 where
+  pub same_offered : All (IsSame world.memory memory') (offered (transmit_ring world))
   pub dealt : IsDealt memory' (transmit_ring world) oldest (buffered world)
   pub done : done_slots memory' (transmit_ring world) oldest ≡ written_back oldest world
   pub sends : to_send memory' (transmit_ring world) true world.adapter.transmitter.buffer ≡ frames_to_send world
@@ -136,6 +137,7 @@ transmit_kept_by_slots world memory' oldest area keeps dealt same data_apart =
     let same_offered = all-right (IsSame memory memory') (buffered world) (offered ring) (dealt-right memory ring oldest (buffered world) (IsSame memory memory') dealt same) in
     let fetches = fetched-kept memory memory' area (offered ring) keeps same_offered data_apart in
     record {
+      same_offered = same_offered;
       dealt = dealt-same memory memory' ring oldest (buffered world) done_as dealt;
       done = done-same memory memory' ring oldest done_as;
       sends = to_send-kept memory memory' ring world.adapter.transmitter.buffer fetches;

@@ -4,6 +4,7 @@ pub mod Areas
 pub mod Rings
 pub mod Kept
 pub mod Engines
+pub mod Running
 pub mod Quiet
 pub mod Taking
 pub mod Putting
@@ -18,3 +19,10 @@ pub mod Own
 pub mod FirstFrame
 pub mod OwnStores
 pub mod Offering
+pub mod TakingSlots
+pub mod Spare
+pub mod Carrying
+pub mod Tails
+pub mod RefillSteps
+pub mod SendSteps
+pub mod Idle

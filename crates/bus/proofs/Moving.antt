@@ -39,6 +39,7 @@ use Rattle.bus.proofs.Quiet.{between_stopped}
 use Rattle.bus.proofs.Rings.{dealt-left, dealt-moved, dealt-right, dealt-same, descriptor_area, done-same, offered-head, outstanding-inside}
 use Rattle.descriptors.specs.Frames.{IsLegal}
 use Rattle.bus.proofs.Lists.{all-none}
+use Rattle.bus.proofs.Running.{all-later, can_move, transmittable-kept}
 use Rattle.descriptors.specs.RingLaws.{next-below}
 use Rattle.descriptors.specs.Ring.{count_of}
 
@@ -129,6 +130,16 @@ between_moved o p a0 has can sound =
           let behind = all-without (AreApart other) bytes whole_buffer others (all-right (AreApart other) (map reported_half (offered ring)) (bytes ++ whole_buffer ∷ others) there) in
           let all = All-append (AreApart other) (map reported_half (head ∷ rest)) (bytes ++ others) halves behind in
           subst (λ (list : List Area). All (AreApart other) (map reported_half (head ∷ rest) ++ (bytes ++ list))) (sym left) all;
+      runs = λ run. record {
+        receiver_runs = run.receiver_runs;
+        transmitter_runs = run.transmitter_runs;
+        receive_indices = λ still_more. record { head = next-below (count_of ring) ring.head can.indices.head; tail = can.indices.tail };
+        transmit_indices = run.transmit_indices;
+        not_extended = run.not_extended;
+        size = run.size;
+        frames = all-later a.adapter.receiver.buffer run.frames;
+        transmittable = transmittable-kept memory memory' (offered (transmit_ring a)) size transmitting.same_offered run.transmittable;
+      };
       sound = record {
         receive_slots = dealt;
         transmit_slots = transmitting.dealt;
@@ -163,7 +174,7 @@ data_happens a Fault running answers = record {
   steady =
       steady_moves a a.memory (record (still a.adapter) { receiver = (world_after_step RxData Fault a).adapter.receiver })
       nothing refl (λ place set. set) (omega (arith, running.registers.counters.missed)) (λ off. (refl, refl)) (inl refl) (inl refl) (all-none IsLegal) refl refl;
-  between = λ o p sound. between_stopped o p a true a.adapter.transmitter.stopped sound;
+  between = λ o p sound. between_stopped o p a true a.adapter.transmitter.stopped (λ can. answers.1 (can_move o p a sound can answers.0)) sound;
 }
 data_happens a Nothing running answers = happens_none a
 data_happens a (Put frame) running answers = absurd answers

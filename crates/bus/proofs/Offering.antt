@@ -2,22 +2,23 @@
 use Rattle.std.proofs.Common.{inl, inr, ◌⊎◌, ⊎_elim, ◌≡◌, ◌≢◌, ◌<◌, ◌+◌, ◌-◌, ◌++◌, ◌∷◌, [], Bool, true, false, cond, ℕ, suc, List, length, map, refl, sym, ap, subst, ◌∙◌, append_assoc, arith, length-append}
 use Rattle.std.specs.List.{All, AllPairs, take_while}
 use Rattle.std.proofs.lemmas.List.{map-append}
-use Rattle.std.proofs.lemmas.List.Elements.{All-append, All-cons}
+use Rattle.std.proofs.lemmas.List.Elements.{All-append, All-cons, All-map}
 use Rattle.std.proofs.lemmas.List.Quantifiers.{all_pairs_push}
 use Rattle.std.proofs.lemmas.Nat.{mod_below}
 use Rattle.dma_memory.specs.HostMemory.{LiesIn}
 use Rattle.descriptors.specs.declared.ring.Ring.{Ring}
 use Rattle.descriptors.specs.Ring.{IsSound, address_of, count_of, distance_of, next_of, owned}
-use Rattle.descriptors.specs.RingLaws.{distance-grows, length-owned, owned-tail}
+use Rattle.descriptors.specs.RingLaws.{distance-grows, length-owned, next-below, owned-tail}
 use Rattle.rx_engine.specs.Held.{held}
 use Rattle.bus.specs.Areas.{Area, AreApart, AreSeparate, bytes_in}
-use Rattle.bus.specs.Frames.{areas, buffer_of, buffered, data_of, finished, in_work, named, offered_buffers, receives, ring_area, work_areas}
-use Rattle.bus.specs.Law.{Reports}
+use Rattle.bus.specs.Frames.{areas, buffer_of, buffered, data_of, finished, in_work, IsForeign, named, offered_buffers, receives, reported_half, ring_area, status_byte, work_areas}
+use Rattle.bus.specs.Law.{AreWhole, Reports}
 use Rattle.bus.specs.Offering.{FramesCanBeOffered, SlotsCanBeOffered, offering, offering_frame}
+use Rattle.bus.specs.Running.{CanTransmit}
 use Rattle.bus.specs.Slots.{IsDealt, done_slots, is_done, offered, outstanding}
-use Rattle.bus.specs.World.{receive_ring, transmit_ring}
+use Rattle.bus.specs.World.{World, receive_ring, transmit_ring}
 use Rattle.bus.proofs.Areas.{apart-sym}
-use Rattle.bus.proofs.Lists.{all-head, all-left, all-none, all-right, all-tail, pairs-head, pairs-tail, take_while-passes, take_while-split}
+use Rattle.bus.proofs.Lists.{all-head, all-left, all-none, all-right, all-tail, all-unmapped, pairs-head, pairs-tail, take_while-passes, take_while-split}
 use Rattle.std.proofs.lemmas.List.Kept.{AllPairs-cons}
 use Rattle.tx_engine.specs.Fetching.{fetched}
 use Rattle.tx_engine.specs.Laws.{to_send-offer}
@@ -101,6 +102,34 @@ areas-more r t d n n' w b b' area same_n more =
 areas-still : (r t : Area) (d n n' w b b' : List Area) → n' ≡ n → b' ≡ b → r ∷ t ∷ (d ++ (n' ++ (w ++ b'))) ≡ r ∷ t ∷ (d ++ (n ++ (w ++ b)))
 areas-still r t d n n' w b b' same_n same_b = rw (same_n, same_b) refl
 
+-- What isn't the adapter's stays so, but for the slot and its buffer.
+all-grown : (P : Area → Type 0) (f : ℕ → Area) (taken xs ys : List ℕ) (x : ℕ) → ys ≡ xs ++ x ∷ [] → All P (map f (taken ++ xs)) → P (f x) → All P (map f (taken ++ ys))
+all-grown P f taken xs ys x grown all new =
+    let Each : ℕ → Type 0 = λ d. P (f d) in
+    let each : All Each (taken ++ xs) = all-unmapped P f (taken ++ xs) all in
+    let more : All Each (xs ++ x ∷ []) = All-append Each xs (x ∷ []) (all-right Each taken xs each) (All-cons Each x [] new (all-none Each)) in
+    All-map P f (taken ++ ys) (All-append Each taken ys (all-left Each taken xs each) (subst (λ (slots : List ℕ). All Each slots) (sym grown) more))
+
+foreign-offered : (a : World) (area : Area) → offered (receive_ring (offering a)) ≡ offered (receive_ring a) ++ address_of (receive_ring a) a.adapter.receive_ring.tail ∷ [] → IsForeign a area → AreApart area (reported_half (address_of (receive_ring a) a.adapter.receive_ring.tail)) → AreApart area (buffer_of a (address_of (receive_ring a) a.adapter.receive_ring.tail)) → IsForeign (offering a) area
+foreign-offered a area grown foreign half buffer =
+    let b = offering a in
+    let P : Area → Type 0 = AreApart area in
+    let last = address_of (receive_ring a) a.adapter.receive_ring.tail in
+    let halves = map reported_half (in_work a ++ offered (receive_ring a)) in
+    let halves' = map reported_half (in_work a ++ offered (receive_ring b)) in
+    let bytes = map status_byte (buffered a ++ offered (transmit_ring a)) in
+    let rest : All P (bytes ++ offered_buffers a) = all-right P halves (bytes ++ offered_buffers a) foreign in
+    let old : All P (offered_buffers a) = all-right P bytes (offered_buffers a) rest in
+    let buffers : All P (offered_buffers b) =
+    ⊎_elim
+    (λ (more : offered_buffers b ≡ offered_buffers a ++ buffer_of a last ∷ []).
+    subst (λ (list : List Area). All P list) (sym more) (All-append P (offered_buffers a) (buffer_of a last ∷ []) old (All-cons P (buffer_of a last) [] buffer (all-none P))))
+    (λ (none : offered_buffers b ≡ offered_buffers a). subst (λ (list : List Area). All P list) (sym none) old)
+    (buffers-grown (receives a) (buffer_of a) (offered (receive_ring a)) (offered (receive_ring b)) last grown) in
+    All-append P halves' (bytes ++ offered_buffers b)
+    (all-grown P reported_half (in_work a) (offered (receive_ring a)) (offered (receive_ring b)) last grown (all-left P halves (bytes ++ offered_buffers a) foreign) half)
+    (All-append P bytes (offered_buffers b) (all-left P bytes (offered_buffers a) rest) buffers)
+
 pub slots_can_be_offered : SlotsCanBeOffered
 slots_can_be_offered o p a sound can =
     let b = offering a in
@@ -136,8 +165,20 @@ slots_can_be_offered o p a sound can =
         to_send = refl;
         finished_same = grown.done;
         written_same = refl;
+        runs = λ run. record {
+          receiver_runs = run.receiver_runs;
+          transmitter_runs = run.transmitter_runs;
+          receive_indices = λ some. record { head = can.head_slot; tail = next-below (count_of ring) ring.tail can.tail_slot };
+          transmit_indices = run.transmit_indices;
+          not_extended = run.not_extended;
+          size = run.size;
+          frames = run.frames;
+          transmittable = run.transmittable;
+        };
+        whole = subst (λ (slots : List ℕ). AreWhole a.memory slots) (sym grown.done);
       };
       last = grown.outstanding_grown;
+      foreign = λ area foreign half buffer. foreign-offered a area grown.offered_grown foreign half buffer;
     }
 
 -- A transmit slot.
@@ -159,6 +200,21 @@ separate-inserted memory front area behind lies apart separate =
       lie = all-inserted (λ a. LiesIn memory a.address a.size) front area behind lies separate.lie;
       apart = pairs-inserted AreApart front area behind (all-left (λ other. AreApart other area) front behind apart) (λ k d below. apart-sym _ area (right k d below)) separate.apart;
     }
+
+foreign-sending : (a : World) (area : Area) → offered (transmit_ring (offering_frame a)) ≡ offered (transmit_ring a) ++ address_of (transmit_ring a) a.adapter.transmit_ring.tail ∷ [] → IsForeign a area → AreApart area (status_byte (address_of (transmit_ring a) a.adapter.transmit_ring.tail)) → IsForeign (offering_frame a) area
+foreign-sending a area grown foreign status =
+    let b = offering_frame a in
+    let P : Area → Type 0 = AreApart area in
+    let last = address_of (transmit_ring a) a.adapter.transmit_ring.tail in
+    let halves = map reported_half (in_work a ++ offered (receive_ring a)) in
+    let bytes = map status_byte (buffered a ++ offered (transmit_ring a)) in
+    let bytes' = map status_byte (buffered a ++ offered (transmit_ring b)) in
+    let rest : All P (bytes ++ offered_buffers a) = all-right P halves (bytes ++ offered_buffers a) foreign in
+    All-append P halves (bytes' ++ offered_buffers a)
+    (all-left P halves (bytes ++ offered_buffers a) foreign)
+    (All-append P bytes' (offered_buffers a)
+    (all-grown P status_byte (buffered a) (offered (transmit_ring a)) (offered (transmit_ring b)) last grown (all-left P bytes (offered_buffers a) rest) status)
+    (all-right P bytes (offered_buffers a) rest))
 
 pub frames_can_be_offered : FramesCanBeOffered
 frames_can_be_offered o p a sound can =
@@ -195,6 +251,21 @@ frames_can_be_offered o p a sound can =
       };
       to_send = to_send-offer a.memory ring true buffer in_ring away;
       held = refl;
+      finished_same = refl;
       written_same = grown.done;
+      whole = λ are. are;
       last = grown.outstanding_grown;
+      runs = λ new run. record {
+        receiver_runs = run.receiver_runs;
+        transmitter_runs = run.transmitter_runs;
+        receive_indices = run.receive_indices;
+        transmit_indices = λ some. record { head = can.head_slot; tail = next-below (count_of ring) ring.tail can.tail_slot };
+        not_extended = run.not_extended;
+        size = run.size;
+        frames = run.frames;
+        transmittable =
+            subst (λ (slots : List ℕ). All (CanTransmit a.memory) slots) (sym grown.offered_grown)
+            (All-append (CanTransmit a.memory) (offered ring) (last ∷ []) run.transmittable (All-cons (CanTransmit a.memory) last [] new (all-none (CanTransmit a.memory))));
+      };
+      foreign = λ area foreign status. foreign-sending a area grown.offered_grown foreign status;
     }

@@ -1,20 +1,33 @@
 -- A driver's store to memory of its own.
 use Rattle.std.proofs.Common.{◌≡◌, ◌++◌, [], ℕ, List, length, map, cond, sym, ap, subst, ◌∙◌}
 use Rattle.std.specs.List.{All}
-use Rattle.dma_memory.specs.HostMemory.{with_bytes}
+use Rattle.dma_memory.specs.HostMemory.{LiesIn, with_bytes}
 use Rattle.dma_memory.specs.Laws.{length-with_bytes}
 use Rattle.rx_engine.specs.Held as engine
 use Rattle.tx_engine.specs.Transmitter.{Queued}
 use Rattle.bus.specs.Areas.{Area, AreApart}
-use Rattle.bus.specs.Frames.{areas, buffer_of, data_of, finished, named, offered_buffers, receives, ring_area, work_areas}
-use Rattle.bus.specs.Law.{Reports}
-use Rattle.bus.specs.OwnStores.{OwnStoresLeaveFrames}
+use Rattle.bus.specs.Frames.{areas, buffer_of, buffered, data_of, finished, in_work, named, offered_buffers, receives, reported_half, ring_area, status_byte, work_areas}
+use Rattle.bus.specs.Law.{Reports, Sound}
+use Rattle.bus.specs.OwnStores.{IsOwn, OwnStoresLeaveForeign, OwnStoresLeaveFrames}
 use Rattle.bus.specs.Slots.{offered, outstanding}
-use Rattle.bus.specs.World.{receive_ring, transmit_ring, world_after_store}
+use Rattle.bus.specs.World.{World, receive_ring, transmit_ring, world_after_store}
 use Rattle.bus.proofs.Areas.{Keeps, separate-same, stored-keeps}
 use Rattle.bus.proofs.Kept.{IsSame, buffers-kept, frame_of, receive_kept_by_slots, same-apart, transmit_kept_by_slots}
 use Rattle.bus.proofs.Lists.{all-left, all-right}
 use Rattle.bus.proofs.Putting.{areas-same}
+use Rattle.bus.proofs.Running.{transmittable-kept}
+use Rattle.bus.proofs.Rings.{dealt-right}
+
+-- The offered buffers are the same.
+buffers-stay : (o p : ℕ) (a : World) (address : ℕ) (bytes : List ℕ) → Sound o p a → LiesIn a.memory address (length bytes) → IsOwn o p a (record { address = address; size = length bytes }) → offered_buffers (world_after_store address bytes a) ≡ offered_buffers a
+buffers-stay o p a address bytes sound lies own =
+    let memory = a.memory in
+    let memory' = with_bytes memory address bytes in
+    let ring = receive_ring a in
+    let keeps : Keeps memory memory' (record { address = address; size = length bytes }) = stored-keeps memory bytes address (length-with_bytes memory bytes address lies) lies in
+    let received : All (IsSame memory memory') (outstanding ring o) = same-apart memory memory' (record { address = address; size = length bytes }) (outstanding ring o) keeps own.received in
+    let same : All (IsSame memory memory') (offered ring) = all-right (IsSame memory memory') (in_work a) (offered ring) (dealt-right memory ring o (in_work a) (IsSame memory memory') sound.receive_slots received) in
+    ap (λ (there : List Area). cond (receives a) there []) (buffers-kept memory memory' (buffer_of a 0).size (offered ring) same)
 
 pub own_stores_leave_frames : OwnStoresLeaveFrames
 own_stores_leave_frames o p a address bytes sound lies own =
@@ -34,8 +47,7 @@ own_stores_leave_frames o p a address bytes sound lies own =
     let sent : All (IsSame memory memory') (outstanding (transmit_ring a) p) = same-apart memory memory' area (outstanding (transmit_ring a) p) keeps own.sent in
     let receiving = receive_kept_by_slots a memory' o area keeps sound.receive_slots received names_apart work_apart in
     let transmitting = transmit_kept_by_slots a memory' p area keeps sound.transmit_slots sent (all-left (AreApart area) payload (names ++ (work ++ offered_buffers a)) own.frames) in
-    let buffers : offered_buffers b ≡ offered_buffers a =
-    ap (λ (there : List Area). cond (receives a) there []) (buffers-kept memory memory' (buffer_of a 0).size (offered (receive_ring a)) receiving.same_offered) in
+    let buffers = buffers-stay o p a address bytes sound lies own in
     record {
       sound = record {
         receive_slots = receiving.dealt;
@@ -53,4 +65,21 @@ own_stores_leave_frames o p a address bytes sound lies own =
       to_send = transmitting.sends;
       finished_same = receiving.done;
       written_same = transmitting.done;
+      runs = λ can. record {
+        receiver_runs = can.receiver_runs;
+        transmitter_runs = can.transmitter_runs;
+        receive_indices = can.receive_indices;
+        transmit_indices = can.transmit_indices;
+        not_extended = can.not_extended;
+        size = can.size;
+        frames = can.frames;
+        transmittable = transmittable-kept memory memory' (offered (transmit_ring a)) size transmitting.same_offered can.transmittable;
+      };
+      whole = receiving.whole;
     }
+
+-- What the adapter may write is the same.
+pub own_stores_leave_foreign : OwnStoresLeaveForeign
+own_stores_leave_foreign o p a address bytes sound lies own area foreign =
+    subst (λ (buffers : List Area). All (AreApart area) (map reported_half (in_work a ++ offered (receive_ring a)) ++ (map status_byte (buffered a ++ offered (transmit_ring a)) ++ buffers)))
+    (sym (buffers-stay o p a address bytes sound lies own)) foreign

@@ -32,6 +32,7 @@ use Rattle.bus.proofs.Lists.{all-head, all-left, all-right, all-tail, all-weaker
 use Rattle.bus.proofs.Rings.{dealt-others, dealt-reported, dealt-right, descriptor_area, outstanding-inside}
 use Rattle.descriptors.specs.Frames.{IsLegal}
 use Rattle.bus.proofs.Lists.{all-none}
+use Rattle.bus.proofs.Running.{transmittable-kept}
 
 -- A descriptor whose byte 12 is written as 1 is done.
 pub is_done-reported : (memory : List ℕ) (descriptor : ℕ) → LiesIn memory descriptor 16 → LiesIn memory (descriptor + 12) 1 → is_done (with_bytes memory (descriptor + 12) (1 ∷ [])) descriptor ≡ true
@@ -56,7 +57,7 @@ abbrev pub with_queue : List Queued → World → World
 with_queue queue world = record world { adapter = record world.adapter { transmitter = record world.adapter.transmitter { buffer = queue } } }
 
 -- the adapter behind a step that put the first of them
-abbrev put_adapter : Queued → List Queued → World → AdapterState
+abbrev pub put_adapter : Queued → List Queued → World → AdapterState
 put_adapter queued later world = after_put (Put queued.frame) (with_queue (queued ∷ later) world).adapter
 
 -- What is written as a report lies in the transmit ring.
@@ -80,7 +81,7 @@ place-found o p queued later a sound =
       byte = lies-inside w.memory (queued.descriptor + 12) 1 ring.base (ring_area ring).size (omega (arith, inside.from)) (omega (arith, inside.to)) lie;
     }
 
-between_put : (o p : ℕ) (queued : Queued) (later : List Queued) (a : World) → Sound o p (with_queue (queued ∷ later) a) → Between o p (with_queue (queued ∷ later) a) (record { memory = with_bytes a.memory (queued.descriptor + 12) (1 ∷ []); adapter = put_adapter queued later a }) (record nothing { put = queued.frame ∷ [] })
+pub between_put : (o p : ℕ) (queued : Queued) (later : List Queued) (a : World) → Sound o p (with_queue (queued ∷ later) a) → Between o p (with_queue (queued ∷ later) a) (record { memory = with_bytes a.memory (queued.descriptor + 12) (1 ∷ []); adapter = put_adapter queued later a }) (record nothing { put = queued.frame ∷ [] })
 between_put o p queued later a0 sound =
     let a = with_queue (queued ∷ later) a0 in
     let memory = a.memory in
@@ -138,6 +139,16 @@ between_put o p queued later a0 sound =
           keeps.others other (apart-sym other area (all-head (AreApart other) area bytes reports));
       foreign = λ other foreign.
           subst (λ (there : List Area). All (AreApart other) (halves ++ (bytes ++ there))) (sym buffers) (all-without (AreApart other) halves area (bytes ++ offered_buffers a) foreign);
+      runs = λ can. record {
+        receiver_runs = can.receiver_runs;
+        transmitter_runs = can.transmitter_runs;
+        receive_indices = can.receive_indices;
+        transmit_indices = can.transmit_indices;
+        not_extended = can.not_extended;
+        size = can.size;
+        frames = can.frames;
+        transmittable = transmittable-kept memory memory' offers size same_offers can.transmittable;
+      };
       sound = record {
         receive_slots = receiving.dealt;
         transmit_slots = transmitting.dealt;

@@ -1,5 +1,6 @@
 -- Steps that leave memory, rings and slots: ticks, arrivals, and faults.
-use Rattle.std.proofs.Common.{◌≡◌, ◌++◌, [], inl, Bool, true, false, ℕ, List, Option, Some, None, length, map, refl, sym, ap, ◌∙◌, append_assoc, arith}
+use Rattle.std.specs.List.{All}
+use Rattle.std.proofs.Common.{◌≡◌, ◌++◌, ◌∷◌, [], inl, Bool, true, false, ℕ, List, Option, Some, None, length, map, refl, sym, ap, ◌∙◌, append_assoc, arith}
 use Rattle.std.proofs.lemmas.List.{append-nil}
 use Rattle.std.proofs.Common.{cond}
 use Rattle.eeprom.specs.Eerd as eeprom
@@ -23,12 +24,13 @@ use Rattle.bus.specs.Areas.{bytes_in}
 use Rattle.bus.specs.Frames.{finished, frames_to_send, named, written_back}
 use Rattle.bus.specs.Law.{Between, Happens, Management, Sound, management_of, phy_ticked}
 use Rattle.bus.specs.Past.{Past, nothing}
+use Rattle.bus.specs.Running.{CanRun}
 use Rattle.bus.specs.Steps.{IsRunning, past_of_arrival, past_of_step, world_after_arrival, world_after_step}
 use Rattle.bus.specs.World.{World}
 use Rattle.bus.proofs.Composing.{happens_none}
 use Rattle.bus.proofs.Engines.{added, steady_moves, still}
 use Rattle.descriptors.specs.Frames.{IsLegal}
-use Rattle.std.proofs.lemmas.List.Elements.{All-cons}
+use Rattle.std.proofs.lemmas.List.Elements.{All-append, All-cons}
 use Rattle.bus.proofs.Lists.{all-none}
 
 -- what such a step may change of an adapter
@@ -69,8 +71,17 @@ unchanged adapter = record {
   transmitter_stopped = adapter.transmitter.stopped;
 }
 
-pub between_quiet : (o p : ℕ) (a : World) (c : Changes) (past : Past) → past.put ≡ [] → c.buffer ≡ a.adapter.receiver.buffer ++ past.stored → Sound o p a → Between o p a (record a { adapter = changed c a.adapter }) past
-between_quiet o p a c past no_put stored sound =
+-- engines with this packet buffer, stopped or not, go on
+pub record GoOn (buffer : List (List ℕ)) (receiver_stopped transmitter_stopped : Bool) : Type 0 where
+  pub receiver_runs : receiver_stopped ≡ false
+  pub transmitter_runs : transmitter_stopped ≡ false
+  pub frames : All IsLegal buffer
+
+pub going : (a : World) → CanRun a → GoOn a.adapter.receiver.buffer a.adapter.receiver.stopped a.adapter.transmitter.stopped
+going a can = record { receiver_runs = can.receiver_runs; transmitter_runs = can.transmitter_runs; frames = can.frames }
+
+pub between_quiet : (o p : ℕ) (a : World) (c : Changes) (past : Past) → past.put ≡ [] → c.buffer ≡ a.adapter.receiver.buffer ++ past.stored → (CanRun a → GoOn c.buffer c.receiver_stopped c.transmitter_stopped) → Sound o p a → Between o p a (record a { adapter = changed c a.adapter }) past
+between_quiet o p a c past no_put stored goes sound =
     let frames = map (λ (descriptor : ℕ). bytes_in a.memory (named a.memory descriptor)) (finished o a) in
     let work = in_work a.memory a.adapter.receiver.work in
     let grown : work ++ c.buffer ≡ held a.memory a.adapter.receiver ++ past.stored =
@@ -89,6 +100,18 @@ between_quiet o p a c past no_put stored sound =
       whole = λ are. are;
       untouched = λ area apart. refl;
       foreign = λ area apart. apart;
+      runs = λ can.
+          let on = goes can in
+          record {
+            receiver_runs = on.receiver_runs;
+            transmitter_runs = on.transmitter_runs;
+            receive_indices = can.receive_indices;
+            transmit_indices = can.transmit_indices;
+            not_extended = can.not_extended;
+            size = can.size;
+            frames = on.frames;
+            transmittable = can.transmittable;
+          };
       sound = record {
         receive_slots = sound.receive_slots;
         transmit_slots = sound.transmit_slots;
@@ -99,9 +122,9 @@ between_quiet o p a c past no_put stored sound =
     }
 
 -- A fault.
-pub between_stopped : (o p : ℕ) (a : World) (receiver transmitter : Bool) → Sound o p a → Between o p a (record a { adapter = changed (record (unchanged a.adapter) { receiver_stopped = receiver; transmitter_stopped = transmitter }) a.adapter }) nothing
-between_stopped o p a receiver transmitter sound =
-    between_quiet o p a (record (unchanged a.adapter) { receiver_stopped = receiver; transmitter_stopped = transmitter }) nothing refl (sym (append-nil a.adapter.receiver.buffer)) sound
+pub between_stopped : (o p : ℕ) (a : World) (receiver transmitter : Bool) → ¬ (CanRun a) → Sound o p a → Between o p a (record a { adapter = changed (record (unchanged a.adapter) { receiver_stopped = receiver; transmitter_stopped = transmitter }) a.adapter }) nothing
+between_stopped o p a receiver transmitter cannot sound =
+    between_quiet o p a (record (unchanged a.adapter) { receiver_stopped = receiver; transmitter_stopped = transmitter }) nothing refl (sym (append-nil a.adapter.receiver.buffer)) (λ can. absurd (cannot can)) sound
 
 -- Ticks.
 
@@ -128,7 +151,7 @@ eeprom_tick_happens a answer running = record {
   };
   between = λ o p sound.
       between_quiet o p a (record (unchanged a.adapter) { eerd = eeprom.after_tick a.adapter.image a.adapter.eerd })
-      (record nothing { eeprom_ticks = 1 }) refl (sym (append-nil a.adapter.receiver.buffer)) sound;
+      (record nothing { eeprom_ticks = 1 }) refl (sym (append-nil a.adapter.receiver.buffer)) (going a) sound;
 }
 
 -- the PHY's tick, by what it tells
@@ -153,7 +176,7 @@ tick_told a None answer is running moves = record {
     eerd = refl;
     management = moves;
   };
-  between = λ o p sound. between_quiet o p a (unchanged a.adapter) (record nothing { phy_ticks = 1 }) refl (sym (append-nil a.adapter.receiver.buffer)) sound;
+  between = λ o p sound. between_quiet o p a (unchanged a.adapter) (record nothing { phy_ticks = 1 }) refl (sym (append-nil a.adapter.receiver.buffer)) (going a) sound;
 }
 tick_told a (Some tells) answer is running moves = record {
   steady = record {
@@ -182,7 +205,7 @@ tick_told a (Some tells) answer is running moves = record {
         mdic = mdic_after_tick a.adapter.mdic a.adapter.phy;
         phy = phy_after_tick a.adapter.mdic a.adapter.phy;
       })
-      (record nothing { phy_ticks = 1 }) refl (sym (append-nil a.adapter.receiver.buffer)) sound;
+      (record nothing { phy_ticks = 1 }) refl (sym (append-nil a.adapter.receiver.buffer)) (going a) sound;
 }
 
 -- It moves MDIC and the PHY exactly where there is something to do.
@@ -217,7 +240,7 @@ arrival_happens a Missed frame running is = record {
         missed = one_more a.adapter.missed_packets;
         no_buffers = no_buffers_counted a.adapter;
       })
-      (past_of_arrival Missed frame) refl (sym (append-nil a.adapter.receiver.buffer)) sound;
+      (past_of_arrival Missed frame) refl (sym (append-nil a.adapter.receiver.buffer)) (going a) sound;
 }
 arrival_happens a Stored frame running is = record {
   steady =
@@ -233,5 +256,11 @@ arrival_happens a Stored frame running is = record {
         no_buffers = no_buffers_counted a.adapter;
         buffer = (world_after_arrival Stored frame a).adapter.receiver.buffer;
       })
-      (past_of_arrival Stored frame) refl refl sound;
+      (past_of_arrival Stored frame) refl refl
+      (λ can. record {
+        receiver_runs = can.receiver_runs;
+        transmitter_runs = can.transmitter_runs;
+        frames = All-append IsLegal a.adapter.receiver.buffer (frame ∷ []) can.frames (All-cons IsLegal frame [] is.0.legal (all-none IsLegal));
+      })
+      sound;
 }

@@ -17,6 +17,7 @@ use Rattle.bus.specs.Areas.{AreApart, AreSeparate}
 use Rattle.bus.specs.Frames.{buffered, data_of, finished, frames_held, in_work, named, offered_buffers, reported_half, ring_area, status_byte, work_areas, written_back}
 use Rattle.bus.specs.Law.{Between, Happens, Reports, Sound}
 use Rattle.bus.specs.Past.{nothing}
+use Rattle.bus.specs.Running.{CanTransmit}
 use Rattle.bus.specs.Slots.{IsDealt, offered}
 use Rattle.bus.specs.Steps.{IsRunning, world_after_step}
 use Rattle.bus.specs.World.{World, receive_ring, transmit_ring}
@@ -26,7 +27,8 @@ use Rattle.bus.proofs.Quiet.{between_stopped}
 use Rattle.bus.proofs.Engines.{added, steady_moves, still}
 use Rattle.bus.proofs.Rings.{dealt-moved, offered-head}
 use Rattle.descriptors.specs.Frames.{IsLegal}
-use Rattle.bus.proofs.Lists.{all-none}
+use Rattle.bus.proofs.Lists.{all-none, all-tail}
+use Rattle.bus.proofs.Running.{can_take}
 use Rattle.descriptors.specs.RingLaws.{next-below}
 use Rattle.descriptors.specs.Ring.{count_of}
 
@@ -71,6 +73,16 @@ between_padded o p a in_ring differ sound =
       untouched = λ area apart. refl;
       foreign = λ area apart.
           subst (λ (slots : List ℕ). All (AreApart area) (map reported_half (in_work a ++ offered (receive_ring a)) ++ (map status_byte slots ++ offered_buffers a))) (sym same) apart;
+      runs = λ can. record {
+        receiver_runs = can.receiver_runs;
+        transmitter_runs = can.transmitter_runs;
+        receive_indices = can.receive_indices;
+        transmit_indices = λ still_more. record { head = next-below (count_of ring) ring.head in_ring.head; tail = in_ring.tail };
+        not_extended = can.not_extended;
+        size = can.size;
+        frames = can.frames;
+        transmittable = all-tail (CanTransmit a.memory) head rest (subst (λ (slots : List ℕ). All (CanTransmit a.memory) slots) first can.transmittable);
+      };
       sound = record {
         receive_slots = sound.receive_slots;
         transmit_slots =
@@ -105,7 +117,7 @@ take_happens a Fault running answers = record {
   steady =
       steady_moves a a.memory (record (still a.adapter) { transmitter = (world_after_step TxTake Fault a).adapter.transmitter })
       nothing refl (λ place set. set) (omega (arith, running.registers.counters.missed)) (λ off. (refl, refl)) (inl refl) (inl refl) (all-none IsLegal) refl refl;
-  between = λ o p sound. between_stopped o p a a.adapter.receiver.stopped true sound;
+  between = λ o p sound. between_stopped o p a a.adapter.receiver.stopped true (λ can. answers.1 (can_take o p a sound can answers.0)) sound;
 }
 take_happens a Nothing running answers = happens_none a
 take_happens a (Put frame) running answers = absurd answers

@@ -1,14 +1,15 @@
--- The conditions of the law hold of some worlds: it isn't empty.
+-- The conditions of the law hold of some worlds whose engines can run: it isn't empty.
 use Rattle.std.specs.Prelude.{◌≢◌, ◌<◌, []}
 use Rattle.descriptors.specs.Ring.{count_of}
-use Rattle.bus.specs.Frames.{buffered, finished, frames_to_send, in_work}
+use Rattle.bus.specs.Frames.{buffered, finished, frames_to_send, in_work, written_back}
 use Rattle.bus.specs.Law.{Sound}
+use Rattle.bus.specs.Running.{CanRun}
 use Rattle.bus.specs.Slots.{offered}
 use Rattle.bus.specs.World.{World, receive_ring, transmit_ring}
 
--- A world of which the conditions hold, with the first slot of each ring as the oldest, has this.
+-- A world of which the conditions hold, with the first slot of each ring as the oldest, and whose engines can run, has this.
 abbrev pub SomeSound : (World → Type 0) → Type 0
-SomeSound Has = (world : World) × Sound 0 0 world × Has world
+SomeSound Has = (world : World) × Sound 0 0 world × CanRun world × Has world
 
 -- both rings have slots, and some of the receive ring are offered
 pub record HasRings (world : World) : Type 0 where
@@ -21,6 +22,9 @@ HasWork world = in_work world ≢ []
 
 abbrev pub HasFinished : World → Type 0
 HasFinished world = finished 0 world ≢ []
+
+abbrev pub HasWrittenBack : World → Type 0
+HasWrittenBack world = written_back 0 world ≢ []
 
 -- there are frames to be sent, named by descriptors from TDH to TDT
 pub record HasFramesInRing (world : World) : Type 0 where

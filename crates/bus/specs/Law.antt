@@ -18,6 +18,7 @@ use Rattle.adapter.specs.State.{AdapterState}
 use Rattle.bus.specs.Areas.{Area, AreSeparate, bytes_in}
 use Rattle.bus.specs.Frames.{areas, buffered, finished, frames_held, frames_to_send, in_work, IsForeign, written_back}
 use Rattle.bus.specs.Past.{Access, Past}
+use Rattle.bus.specs.Running.{CanRun}
 use Rattle.bus.specs.Slots.{IsDealt, offered}
 use Rattle.bus.specs.World.{World, receive_ring, transmit_ring}
 
@@ -106,6 +107,8 @@ pub record Between (oldest_received oldest_sent : ℕ) (a b : World) (past : Pas
   -- What isn't the adapter's stays as it is, and stays not the adapter's.
   pub untouched : (area : Area) → IsForeign a area → bytes_in b.memory area ≡ bytes_in a.memory area
   pub foreign : (area : Area) → IsForeign a area → IsForeign b area
+  -- Engines that can run can run further: no fault stops them.
+  pub runs : CanRun a → CanRun b
   pub sound : Sound oldest_received oldest_sent b
 
 -- Any adapter steps and deliveries, whichever slots the driver counts as its oldest.

@@ -3,10 +3,12 @@ pub mod World
 pub mod Past
 pub mod Slots
 pub mod Frames
+pub mod Running
 pub mod Law
 pub mod Composing
 pub mod Steps
 pub mod Trails
+pub mod Faults
 pub mod TrailLaws
 pub mod Examples
 pub mod Solo
@@ -16,3 +18,8 @@ pub mod Own
 pub mod FirstFrame
 pub mod OwnStores
 pub mod Offering
+pub mod TakingSlots
+pub mod Spare
+pub mod Refilling
+pub mod Sending
+pub mod Idle

@@ -4,10 +4,11 @@ use Rattle.dma_memory.specs.HostMemory.{LiesIn}
 use Rattle.registers.specs.Bits.{HasBit}
 use Rattle.descriptors.specs.Ring.{address_of, count_of, next_of}
 use Rattle.tx_engine.specs.Fetching.{fetched, frame_at}
-use Rattle.bus.specs.Areas.{AreApart}
-use Rattle.bus.specs.Frames.{areas, buffer_of, data_of, frames_held, frames_to_send, written_back}
-use Rattle.bus.specs.Law.{Reports, Sound}
+use Rattle.bus.specs.Areas.{Area, AreApart}
+use Rattle.bus.specs.Frames.{areas, buffer_of, data_of, finished, frames_held, frames_to_send, IsForeign, reported_half, status_byte, written_back}
+use Rattle.bus.specs.Law.{AreWhole, Reports, Sound}
 use Rattle.bus.specs.OwnStores.{SameFrames}
+use Rattle.bus.specs.Running.{CanRun, CanTransmit}
 use Rattle.bus.specs.Slots.{is_done, outstanding}
 use Rattle.bus.specs.World.{World, receive_ring, transmit_ring}
 
@@ -32,10 +33,14 @@ pub record CanOffer (oldest : ℕ) (world : World) : Type 0 where
   pub lies : LiesIn world.memory (buffer_of world (address_of (receive_ring world) world.adapter.receive_ring.tail)).address (buffer_of world 0).size
   pub apart : All (λ area. AreApart area (buffer_of world (address_of (receive_ring world) world.adapter.receive_ring.tail))) (areas oldest world)
 
--- Then the conditions hold again, the slot is the last that is outstanding, and frames are the same.
+-- Then the conditions hold again, the slot is the last that is outstanding, and frames are the same. What isn't the adapter's stays so, apart from
+-- where it may report the slot and from the slot's buffer.
 pub record Offered (oldest_received oldest_sent : ℕ) (a b : World) : Type 0 where
   pub same : SameFrames oldest_received oldest_sent a b
   pub last : outstanding (receive_ring b) oldest_received ≡ outstanding (receive_ring a) oldest_received ++ address_of (receive_ring a) a.adapter.receive_ring.tail ∷ []
+  pub foreign :
+      (area : Area) → IsForeign a area → AreApart area (reported_half (address_of (receive_ring a) a.adapter.receive_ring.tail))
+      → AreApart area (buffer_of a (address_of (receive_ring a) a.adapter.receive_ring.tail)) → IsForeign b area
 
 abbrev pub SlotsCanBeOffered : Type 0
 SlotsCanBeOffered =
@@ -67,13 +72,18 @@ pub record CanSend (oldest_received oldest_sent : ℕ) (world : World) : Type 0 
       (data_of world.memory (address_of (transmit_ring world) world.adapter.transmit_ring.tail)).size
   pub apart : All (λ area. AreApart area (data_of world.memory (address_of (transmit_ring world) world.adapter.transmit_ring.tail))) (areas oldest_received world)
 
--- Then the conditions hold again, the slot is the last that is outstanding, and its frame, padded, is the last that is to be sent.
+-- Then the conditions hold again, the slot is the last that is outstanding, and its frame, padded, is the last that is to be sent. Engines that
+-- could run still can, where the descriptor can be transmitted. What isn't the adapter's stays so, apart from the slot's status.
 pub record OfferedFrame (oldest_received oldest_sent : ℕ) (a b : World) : Type 0 where
   pub sound : Sound oldest_received oldest_sent b
   pub to_send : frames_to_send b ≡ frames_to_send a ++ frame_at true a.memory (address_of (transmit_ring a) a.adapter.transmit_ring.tail) ∷ []
   pub held : frames_held oldest_received b ≡ frames_held oldest_received a
+  pub finished_same : finished oldest_received b ≡ finished oldest_received a
   pub written_same : written_back oldest_sent b ≡ written_back oldest_sent a
+  pub whole : AreWhole a.memory (finished oldest_received a) → AreWhole b.memory (finished oldest_received b)
   pub last : outstanding (transmit_ring b) oldest_sent ≡ outstanding (transmit_ring a) oldest_sent ++ address_of (transmit_ring a) a.adapter.transmit_ring.tail ∷ []
+  pub runs : CanTransmit a.memory (address_of (transmit_ring a) a.adapter.transmit_ring.tail) → CanRun a → CanRun b
+  pub foreign : (area : Area) → IsForeign a area → AreApart area (status_byte (address_of (transmit_ring a) a.adapter.transmit_ring.tail)) → IsForeign b area
 
 abbrev pub FramesCanBeOffered : Type 0
 FramesCanBeOffered =

@@ -1,13 +1,15 @@
--- What a driver may count on, whatever happens between two of its accesses: finished slots, and its own slots, stay.
-use Rattle.std.specs.Prelude.{◌≡◌, ◌≢◌, ◌<◌, ℕ, List, All, map}
+-- What a driver may count on, whatever happens between two of its accesses: finished and written-back slots, and its own slots, stay.
+use Rattle.std.specs.Prelude.{◌≡◌, ◌≢◌, ◌<◌, ◌+◌, ℕ, List, All, map}
+use Rattle.descriptors.specs.declared.ring.Ring.{Ring}
 use Rattle.descriptors.specs.Ring.{address_of, count_of}
 use Rattle.rx_engine.specs.Descriptors.{named_address}
+use Rattle.tx_engine.specs.Fetching.{descriptor_at}
 use Rattle.bus.specs.Areas.{Area, bytes_in}
-use Rattle.bus.specs.Frames.{finished, named}
-use Rattle.bus.specs.Law.{Happens, Sound}
+use Rattle.bus.specs.Frames.{finished, named, written_back}
+use Rattle.bus.specs.Law.{Between, Happens, Sound}
 use Rattle.bus.specs.Past.{Past}
 use Rattle.bus.specs.Slots.{outstanding}
-use Rattle.bus.specs.World.{World, receive_ring}
+use Rattle.bus.specs.World.{World, receive_ring, transmit_ring}
 
 -- the sixteen bytes of a descriptor
 abbrev pub descriptor_area : ℕ → Area
@@ -26,11 +28,18 @@ pub record FinishedStay (oldest : ℕ) (a b : World) : Type 0 where
   pub slots : SlotsStay a b (finished oldest a)
   pub frames : map (frame_named b) (finished oldest a) ≡ map (frame_named a) (finished oldest a)
 
--- A slot of the receive ring that isn't outstanding is the driver's: its descriptor stays.
-abbrev pub OwnSlotStays : ℕ → World → World → Type 0
-OwnSlotStays oldest a b =
-    (slot : ℕ) → slot < count_of (receive_ring a) → All (λ other. other ≢ address_of (receive_ring a) slot) (outstanding (receive_ring a) oldest)
-    → bytes_in b.memory (descriptor_area (address_of (receive_ring a) slot)) ≡ bytes_in a.memory (descriptor_area (address_of (receive_ring a) slot))
+-- A slot of a ring, by its place, that isn't outstanding: it is the driver's.
+pub record IsOwnSlot (ring : Ring) (oldest slot : ℕ) : Type 0 where
+  pub below : slot < count_of ring
+  pub apart : All (λ other. other ≢ address_of ring slot) (outstanding ring oldest)
+
+-- A slot of the one ring or the other that is the driver's own stays its own, and its descriptor stays.
+pub record OwnSlotStays (ring : World → Ring) (oldest slot : ℕ) (a b : World) : Type 0 where
+  pub own : IsOwnSlot (ring b) oldest slot
+  pub bytes : bytes_in b.memory (descriptor_area (address_of (ring a) slot)) ≡ bytes_in a.memory (descriptor_area (address_of (ring a) slot))
+
+abbrev pub OwnSlotsStay : (World → Ring) → ℕ → World → World → Type 0
+OwnSlotsStay ring oldest a b = (slot : ℕ) → IsOwnSlot (ring a) oldest slot → OwnSlotStays ring oldest slot a b
 
 -- Every receive descriptor keeps the address of its buffer.
 abbrev pub AddressesStay : World → World → Type 0
@@ -38,11 +47,30 @@ AddressesStay a b =
     (slot : ℕ) → slot < count_of (receive_ring a)
     → named_address b.memory (address_of (receive_ring a) slot) ≡ named_address a.memory (address_of (receive_ring a) slot)
 
-pub record OwnStays (oldest : ℕ) (a b : World) : Type 0 where
-  pub finished_stay : FinishedStay oldest a b
-  pub own_slots : OwnSlotStays oldest a b
+-- A transmit descriptor keeps all but its status, byte 12: address, length and command among them.
+pub record KeepsAllButStatus (a b : World) (descriptor : ℕ) : Type 0 where
+  pub before : bytes_in b.memory (record { address = descriptor; size = 12 }) ≡ bytes_in a.memory (record { address = descriptor; size = 12 })
+  pub behind : bytes_in b.memory (record { address = descriptor + 13; size = 3 }) ≡ bytes_in a.memory (record { address = descriptor + 13; size = 3 })
+  pub fields : descriptor_at b.memory descriptor ≡ record (descriptor_at a.memory descriptor) { status = (descriptor_at b.memory descriptor).status }
+
+-- Every transmit descriptor does.
+abbrev pub RequestsStay : World → World → Type 0
+RequestsStay a b = (slot : ℕ) → slot < count_of (transmit_ring a) → KeepsAllButStatus a b (address_of (transmit_ring a) slot)
+
+-- Between two calls of a driver: what the law says where its conditions hold, these conditions among it; the same slots are outstanding; and
+-- finished slots, written-back slots, the driver's own slots, and what it wrote into descriptors stay.
+pub record OwnStays (oldest_received oldest_sent : ℕ) (a b : World) (past : Past) : Type 0 where
+  pub between : Between oldest_received oldest_sent a b past
+  pub same_received : outstanding (receive_ring b) oldest_received ≡ outstanding (receive_ring a) oldest_received
+  pub same_sent : outstanding (transmit_ring b) oldest_sent ≡ outstanding (transmit_ring a) oldest_sent
+  pub finished_stay : FinishedStay oldest_received a b
+  pub written_stay : SlotsStay a b (written_back oldest_sent a)
+  pub own_received : OwnSlotsStay receive_ring oldest_received a b
+  pub own_sent : OwnSlotsStay transmit_ring oldest_sent a b
   pub addresses : AddressesStay a b
+  pub requests : RequestsStay a b
 
 abbrev pub DriversKeepTheirOwn : Type 0
 DriversKeepTheirOwn =
-    (oldest_received oldest_sent : ℕ) (a b : World) (past : Past) → Sound oldest_received oldest_sent a → Happens a b past → OwnStays oldest_received a b
+    (oldest_received oldest_sent : ℕ) (a b : World) (past : Past) → Sound oldest_received oldest_sent a → Happens a b past
+    → OwnStays oldest_received oldest_sent a b past

@@ -2,9 +2,10 @@
 use Rattle.std.specs.Prelude.{◌≡◌, ℕ, List, All, length}
 use Rattle.dma_memory.specs.HostMemory.{LiesIn}
 use Rattle.bus.specs.Areas.{Area, AreApart}
-use Rattle.bus.specs.Frames.{finished, frame_areas, frames_held, frames_to_send, written_back}
-use Rattle.bus.specs.Law.{Sound}
+use Rattle.bus.specs.Frames.{finished, frame_areas, frames_held, frames_to_send, IsForeign, written_back}
+use Rattle.bus.specs.Law.{AreWhole, Sound}
 use Rattle.bus.specs.Own.{descriptor_area}
+use Rattle.bus.specs.Running.{CanRun}
 use Rattle.bus.specs.Slots.{outstanding}
 use Rattle.bus.specs.World.{World, receive_ring, transmit_ring, world_after_store}
 
@@ -14,13 +15,16 @@ pub record IsOwn (oldest_received oldest_sent : ℕ) (world : World) (area : Are
   pub sent : All (λ slot. AreApart area (descriptor_area slot)) (outstanding (transmit_ring world) oldest_sent)
   pub frames : All (AreApart area) (frame_areas oldest_received world)
 
--- The conditions hold in the second world as in the first, and slots and frames are the same.
+-- The conditions hold in the second world as in the first, slots and frames are the same, finished slots that are whole stay whole, and engines
+-- that could run still can.
 pub record SameFrames (oldest_received oldest_sent : ℕ) (a b : World) : Type 0 where
   pub sound : Sound oldest_received oldest_sent b
   pub held : frames_held oldest_received b ≡ frames_held oldest_received a
   pub to_send : frames_to_send b ≡ frames_to_send a
   pub finished_same : finished oldest_received b ≡ finished oldest_received a
   pub written_same : written_back oldest_sent b ≡ written_back oldest_sent a
+  pub runs : CanRun a → CanRun b
+  pub whole : AreWhole a.memory (finished oldest_received a) → AreWhole b.memory (finished oldest_received b)
 
 abbrev pub OwnStoresLeaveFrames : Type 0
 OwnStoresLeaveFrames =
@@ -28,3 +32,11 @@ OwnStoresLeaveFrames =
     → Sound oldest_received oldest_sent world → LiesIn world.memory address (length bytes)
     → IsOwn oldest_received oldest_sent world (record { address = address; size = length bytes })
     → SameFrames oldest_received oldest_sent world (world_after_store address bytes world)
+
+-- Behind such a store what isn't the adapter's isn't so still.
+abbrev pub OwnStoresLeaveForeign : Type 0
+OwnStoresLeaveForeign =
+    (oldest_received oldest_sent : ℕ) (world : World) (address : ℕ) (bytes : List ℕ)
+    → Sound oldest_received oldest_sent world → LiesIn world.memory address (length bytes)
+    → IsOwn oldest_received oldest_sent world (record { address = address; size = length bytes })
+    → (area : Area) → IsForeign world area → IsForeign (world_after_store address bytes world) area

@@ -1,11 +1,15 @@
 // Laws of what may happen between two accesses.
 
 ghost use Rattle.bus.specs.Composing.{HappeningsJoin, NothingHappens, SoundStays};
-ghost use Rattle.bus.specs.Examples.{HasFinished, HasFramesInBuffer, HasFramesInRing, HasRings, HasWork, SomeSound};
+ghost use Rattle.bus.specs.Examples.{HasFinished, HasFramesInBuffer, HasFramesInRing, HasRings, HasWork, HasWrittenBack, SomeSound};
+ghost use Rattle.bus.specs.Faults.{FaultsNeverCome};
+ghost use Rattle.bus.specs.Idle.{HappeningsKeepIdle, IdleAfterPowerOn, IdleAfterReset, IdleRingsAreSound, OtherWritesKeepIdle, ReadsKeepIdle, StoresKeepIdle, WritesKeepIdle};
 ghost use Rattle.bus.specs.Offering.{FramesCanBeOffered, SlotsCanBeOffered};
 ghost use Rattle.bus.specs.Own.{DriversKeepTheirOwn};
-ghost use Rattle.bus.specs.OwnStores.{OwnStoresLeaveFrames};
+ghost use Rattle.bus.specs.OwnStores.{OwnStoresLeaveForeign, OwnStoresLeaveFrames};
+ghost use Rattle.bus.specs.Spare.{AreasStayApart};
 ghost use Rattle.bus.specs.Steps.{ArrivalsHappen, StepsHappen};
+ghost use Rattle.bus.specs.TakingSlots.{FinishedSlotsCanBeTaken, WrittenSlotsCanBeFreed};
 ghost use Rattle.bus.specs.Trails.{TrailsHappen};
 
 /// What may happen between two accesses composes.
@@ -34,41 +38,100 @@ pub fn steps_are_instances()
     ensures arrivals { ArrivalsHappen }
 {}
 
-/// What a driver may count on, whatever happens between two of its accesses: the descriptors of
-/// finished slots stay, and the frames that they name; so do the receive descriptors of its own slots,
-/// those that aren't outstanding; and every receive descriptor keeps the address of its buffer.
+/// Where the conditions of the law hold and both engines can run, no step that the adapter takes by
+/// itself is a fault. By the law both can run further, whatever happens.
+pub fn faults_never_come()
+    ensures { FaultsNeverCome }
+{}
+
+/// What a driver may count on, whatever happens between two of its calls. The conditions of the law hold
+/// again, runs of finished and written-back slots only grow, and what isn't the adapter's stays as it is,
+/// and stays not the adapter's. The same slots are outstanding. The descriptors of finished slots stay,
+/// and the frames that they name; so do those of written-back slots, and those of its own slots of both
+/// rings, which aren't outstanding and stay its own. Every receive descriptor keeps the address of its
+/// buffer, and every transmit descriptor all but its status.
 pub fn drivers_keep_their_own()
     ensures { DriversKeepTheirOwn }
 {}
 
 /// A driver's store to memory of its own, apart from all outstanding descriptors and from the frames and
-/// buffers that the conditions of the law name, leaves these conditions, the slots, and the frames held
-/// and to be sent.
+/// buffers that the conditions of the law name.
+/// - `frames`: it leaves these conditions, the slots, and the frames held and to be sent; finished slots
+///   that are whole stay whole, and engines that could run still can.
+/// - `foreign`: what isn't the adapter's stays not the adapter's.
 pub fn own_stores_leave_frames()
-    ensures { OwnStoresLeaveFrames }
+    ensures frames { OwnStoresLeaveFrames }
+    ensures foreign { OwnStoresLeaveForeign }
 {}
 
 /// A driver may offer its next receive slot, by moving RDT on by one, where its descriptor isn't done and
 /// its buffer lies in memory, apart from all that the conditions of the law name: these then hold again,
-/// and frames are the same.
+/// frames are the same, and engines that could run still can. What isn't the adapter's stays so, apart
+/// from bytes 8 to 15 of the descriptor and from the buffer.
 pub fn slots_can_be_offered()
     ensures { SlotsCanBeOffered }
 {}
 
 /// A driver may offer its next transmit slot, by moving TDT on by one, where its descriptor isn't done and
 /// asks for a report, and its data lies in memory, apart from all that the conditions of the law name:
-/// these then hold again, and its frame, padded, is the last that is to be sent.
+/// these then hold again, and its frame, padded, is the last that is to be sent. Where its descriptor can
+/// be transmitted, engines that could run still can. What isn't the adapter's stays so, apart from byte 12
+/// of the descriptor.
 pub fn frames_can_be_offered()
     ensures { FramesCanBeOffered }
 {}
 
-/// The conditions of the law can be met: of a world whose rings are both set up and whose receive ring
-/// offers slots; of one with a frame in work, of one with a finished slot, of one with frames to be
-/// sent in the transmit ring, and of one with frames in the transmit packet buffer.
+/// A driver takes its oldest finished receive slot, by counting the next one as its oldest: the
+/// conditions of the law hold then, the slot is the driver's own, and its frame, which isn't the
+/// adapter's to write, leaves the front of the frames held.
+pub fn finished_slots_can_be_taken()
+    ensures { FinishedSlotsCanBeTaken }
+{}
+
+/// A driver frees its oldest written-back transmit slot, by counting the next one as its oldest: the
+/// conditions of the law hold then, and the slot is the driver's own.
+pub fn written_slots_can_be_freed()
+    ensures { WrittenSlotsCanBeFreed }
+{}
+
+/// Memory that no outstanding slot uses, apart from both rings and from all buffers and data that
+/// outstanding slots name, stays so whatever happens, is apart from all that the conditions of the law
+/// name, and isn't the adapter's to write, while the frames held are no longer than 1,518 bytes and
+/// receive buffers have room for them; and frames held stay so.
+pub fn areas_stay_apart()
+    ensures { AreasStayApart }
+{}
+
+/// An adapter with no frame in work and none to send, whose rings offer nothing and stand in memory, apart
+/// from each other, meets the conditions of the law, with the tails as the driver's oldest slots. So it is
+/// after power-on and after a reset, in a memory of any size.
+pub fn idle_rings_are_sound()
+    ensures sound { IdleRingsAreSound }
+    ensures after_power_on { IdleAfterPowerOn }
+    ensures after_reset { IdleAfterReset }
+{}
+
+/// Idle rings stay idle, until a write of a ring's own registers: whatever happens between two accesses,
+/// whatever is read or stored, and at a write of any other register, a reset among them. A write of a
+/// ring's registers leaves them idle where head equals tail behind it and both rings are apart, in memory.
+/// So the conditions of the law hold in each state of initialisation up to the first slot offered.
+pub fn idle_rings_stay_idle()
+    ensures happenings { HappeningsKeepIdle }
+    ensures reads { ReadsKeepIdle }
+    ensures stores { StoresKeepIdle }
+    ensures other_writes { OtherWritesKeepIdle }
+    ensures writes { WritesKeepIdle }
+{}
+
+/// The conditions of the law can be met, and both engines run: in a world whose rings are both set up and
+/// whose receive ring offers slots; in one with a frame in work, in one with a finished slot, in one with a
+/// written-back slot, in one with frames to be sent in the transmit ring, and in one with frames in the
+/// transmit packet buffer.
 pub fn conditions_can_be_met()
     ensures rings { SomeSound HasRings }
     ensures work { SomeSound HasWork }
     ensures finished { SomeSound HasFinished }
+    ensures written { SomeSound HasWrittenBack }
     ensures in_ring { SomeSound HasFramesInRing }
     ensures in_buffer { SomeSound HasFramesInBuffer }
 {}

@@ -2,9 +2,7 @@
 
 use crate::looking::look;
 use crate::{
-    Bus, HonestBus, MOST_TICKS, SoloBus, SoloTick, any_steps_may_happen, between_composes,
-    conditions_can_be_met, drivers_keep_their_own, frames_can_be_offered, own_stores_leave_frames,
-    slots_can_be_offered, steps_are_instances,
+    Bus, HonestBus, SoloBus, SoloTick, MOST_TICKS, any_steps_may_happen, between_composes, conditions_can_be_met, drivers_keep_their_own, faults_never_come, finished_slots_can_be_taken, frames_can_be_offered, own_stores_leave_frames, slots_can_be_offered, steps_are_instances, written_slots_can_be_freed,
 };
 use adapter::offsets::*;
 use adapter::{Adapter, Fate, StepKind, Stepped};
@@ -232,9 +230,12 @@ fn laws_can_be_called(_rt: HostRuntime) -> Result<(), Fail> {
     any_steps_may_happen();
     steps_are_instances();
     conditions_can_be_met();
+    faults_never_come();
     drivers_keep_their_own();
     own_stores_leave_frames();
     slots_can_be_offered();
     frames_can_be_offered();
+    finished_slots_can_be_taken();
+    written_slots_can_be_freed();
     Ok(())
 }

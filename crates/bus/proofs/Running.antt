@@ -1,0 +1,124 @@
+-- Engines that can run: no fault stops them, and what stays of them where memory is written or frames come and go.
+use Rattle.std.proofs.Common.{◌≡◌, ◌≢◌, ◌≤◌, inr, ◌++◌, ◌∷◌, [], Bool, true, false, cond, ℕ, List, length, drop, map, sym, ap, subst, arith}
+use Rattle.std.specs.List.{All}
+use Rattle.std.proofs.lemmas.Bool.{eq-eqb}
+use Rattle.dma_memory.specs.HostMemory.{LiesIn}
+use Rattle.descriptors.specs.declared.tx_desc.TxDesc.{TxDesc}
+use Rattle.descriptors.specs.Frames.{IsLegal}
+use Rattle.descriptors.specs.Ring.{address_of}
+use Rattle.descriptors.specs.TxDesc.{tx_desc_of}
+use Rattle.rx_engine.specs.Engine.{oldest}
+use Rattle.tx_engine.specs.Fetching.{IsTransmittable}
+use Rattle.adapter.specs.Receiving.{CanMoveFrame, HasFrameAndDescriptor}
+use Rattle.adapter.specs.Steps.{Answers, ticked}
+use Rattle.adapter.specs.Transmitting.{CanTake, HasNothingToTake}
+use Rattle.adapter.specs.declared.step.StepKind.{StepKind}
+use Rattle.adapter.specs.declared.step.StepKind.TheVariants.{TxTake, TxPut, RxData, RxDone, EepromTick, PhyTick}
+use Rattle.adapter.specs.declared.step.Stepped.{Stepped}
+use Rattle.adapter.specs.declared.step.Stepped.TheVariants.{Fault}
+use Rattle.bus.specs.Areas.{Area}
+use Rattle.bus.specs.Faults.{FaultsNeverCome}
+use Rattle.bus.specs.Frames.{buffer_of, buffered, data_of, finished, frame_areas, in_work, named, offered_buffers, receives, ring_area, work_areas}
+use Rattle.bus.specs.Law.{Sound}
+use Rattle.bus.specs.Running.{CanRun, CanTransmit}
+use Rattle.bus.specs.Slots.{offered}
+use Rattle.bus.specs.World.{World, receive_ring, transmit_ring}
+use Rattle.bus.proofs.Areas.{Inside, lies-inside}
+use Rattle.bus.proofs.Kept.{IsSame}
+use Rattle.bus.proofs.Lists.{all-head, all-none, all-right, all-tail}
+use Rattle.bus.proofs.Rings.{dealt-right, descriptor_area, offered-head, outstanding-inside}
+
+-- No fault.
+
+-- an area lies in memory
+abbrev pub Lies : List ℕ → Area → Type 0
+Lies memory area = LiesIn memory area.address area.size
+
+-- What a step that takes finds.
+pub can_take : (o p : ℕ) (a : World) → Sound o p a → CanRun a → ¬ (HasNothingToTake a.adapter) → CanTake a.memory a.adapter
+can_take o p a sound can not_idle =
+    let ring = transmit_ring a in
+    let r = ring_area (receive_ring a) in
+    let t = ring_area ring in
+    let differ : ring.head ≢ ring.tail = λ same. not_idle (inr (inr (inr same))) in
+    let in_ring = can.transmit_indices differ in
+    let first = offered-head ring in_ring differ in
+    let head = address_of ring ring.head in
+    let slots = sound.transmit_slots in
+    let Within : ℕ → Type 0 = λ d. Inside (descriptor_area d) t in
+    let within = all-right Within (buffered a) (offered ring) (dealt-right a.memory ring p (buffered a) Within slots (outstanding-inside ring p slots.slot)) in
+    let inside = all-head Within head _ (subst (λ (list : List ℕ). All Within list) first within) in
+    let lie : LiesIn a.memory ring.base t.size = all-head (Lies a.memory) t (frame_areas o a) (all-tail (Lies a.memory) r (t ∷ frame_areas o a) sound.separate.lie) in
+    record {
+      sound = in_ring;
+      lies = lies-inside a.memory head 16 ring.base t.size inside.from inside.to lie;
+      transmittable = all-head (CanTransmit a.memory) head _ (subst (λ (list : List ℕ). All (CanTransmit a.memory) list) first can.transmittable);
+    }
+
+-- The oldest of legal frames has at most 1,518 bytes.
+oldest-fits : (buffer : List (List ℕ)) → All IsLegal buffer → length (oldest buffer) ≤ 1518
+oldest-fits [] legal = omega arith
+oldest-fits (frame ∷ later) legal = (all-head IsLegal frame later legal).most
+
+-- What a data step finds.
+pub can_move : (o p : ℕ) (a : World) → Sound o p a → CanRun a → HasFrameAndDescriptor a.adapter → CanMoveFrame a.memory a.adapter
+can_move o p a sound can has =
+    let ring = receive_ring a in
+    let r = ring_area ring in
+    let t = ring_area (transmit_ring a) in
+    let in_ring = can.receive_indices has.offered in
+    let first = offered-head ring in_ring has.offered in
+    let head = address_of ring ring.head in
+    let buffer = buffer_of a head in
+    let slots = sound.receive_slots in
+    let Within : ℕ → Type 0 = λ d. Inside (descriptor_area d) r in
+    let within = all-right Within (in_work a) (offered ring) (dealt-right a.memory ring o (in_work a) Within slots (outstanding-inside ring o slots.slot)) in
+    let inside = all-head Within head _ (subst (λ (list : List ℕ). All Within list) first within) in
+    let lie : LiesIn a.memory ring.base r.size = all-head (Lies a.memory) r (t ∷ frame_areas o a) sound.separate.lie in
+    let lie_frames = all-tail (Lies a.memory) t (frame_areas o a) (all-tail (Lies a.memory) r (t ∷ frame_areas o a) sound.separate.lie) in
+    let payload = map (data_of a.memory) (offered (transmit_ring a)) in
+    let names = map (named a.memory) (finished o a) in
+    let work = work_areas a.memory a.adapter.receiver.work in
+    let lie_buffers = all-right (Lies a.memory) work (offered_buffers a) (all-right (Lies a.memory) names (work ++ offered_buffers a) (all-right (Lies a.memory) payload (names ++ (work ++ offered_buffers a)) lie_frames)) in
+    let enabled : receives a ≡ true = eq-eqb _ _ has.enabled in
+    let on : All (Lies a.memory) (map (buffer_of a) (offered ring)) = subst (λ (set : Bool). All (Lies a.memory) (cond set (map (buffer_of a) (offered ring)) [])) enabled lie_buffers in
+    let place : LiesIn a.memory buffer.address buffer.size = all-head (Lies a.memory) buffer _ (subst (λ (list : List ℕ). All (Lies a.memory) (map (buffer_of a) list)) first on) in
+    let least = oldest-fits a.adapter.receiver.buffer can.frames in
+    record {
+      indices = in_ring;
+      descriptor = lies-inside a.memory head 16 ring.base r.size inside.from inside.to lie;
+      place = omega (arith, place, least, can.size);
+      not_extended = can.not_extended;
+      size = omega (arith, least, can.size);
+    }
+
+-- A tick is no fault.
+tick-no_fault : (works : Bool) → Fault ≢ ticked works
+tick-no_fault true same = absurd (cc)
+tick-no_fault false same = absurd (cc)
+
+no_fault : (o p : ℕ) (a : World) (kind : StepKind) (wire_free : Bool) → Sound o p a → CanRun a → ¬ (Answers kind wire_free a.memory a.adapter Fault)
+no_fault o p a TxTake wire_free sound can answers = answers.1 (can_take o p a sound can answers.0)
+no_fault o p a TxPut wire_free sound can answers = answers
+no_fault o p a RxData wire_free sound can answers = answers.1 (can_move o p a sound can answers.0)
+no_fault o p a RxDone wire_free sound can answers = answers
+no_fault o p a EepromTick wire_free sound can answers = tick-no_fault _ answers
+no_fault o p a PhyTick wire_free sound can answers = tick-no_fault _ answers
+
+pub faults_never_come : FaultsNeverCome
+faults_never_come o p a kind wire_free answer sound can answers same =
+    no_fault o p a kind wire_free sound can (subst (λ (given : Stepped). Answers kind wire_free a.memory a.adapter given) same answers)
+
+-- What stays.
+
+-- Descriptors that stay, in a memory of the same size.
+pub transmittable-kept : (memory memory' : List ℕ) (slots : List ℕ) → length memory' ≡ length memory → All (IsSame memory memory') slots → All (CanTransmit memory) slots → All (CanTransmit memory') slots
+transmittable-kept memory memory' slots size same can = λ k d below.
+    let old = can k d below in
+    let there : IsTransmittable memory' _ = record { ends = old.ends; legacy = old.legacy; least = old.least; most = old.most; lies = omega (arith, size, old.lies) } in
+    subst (λ (desc : TxDesc). IsTransmittable memory' desc) (sym (ap tx_desc_of (same k d below))) there
+
+-- Frames without the oldest.
+pub all-later : (buffer : List (List ℕ)) → All IsLegal buffer → All IsLegal (drop 1 buffer)
+all-later [] legal = all-none IsLegal
+all-later (frame ∷ later) legal = all-tail IsLegal frame later legal

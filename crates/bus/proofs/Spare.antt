@@ -1,0 +1,138 @@
+-- Memory that no outstanding slot uses is apart from all that the conditions name, and stays so.
+use Rattle.std.proofs.Common.{◌≡◌, ◌≢◌, ◌≤◌, ◌<◌, ◌⊎◌, inl, inr, ⊎_elim, ◌+◌, ◌*◌, ◌++◌, ◌∷◌, [], Bool, true, false, cond, ℕ, List, Option, Some, None, length, map, drop, take, refl, sym, ap, subst, ◌∙◌, append_assoc, arith}
+use Rattle.std.specs.List.{All}
+use Rattle.std.proofs.lemmas.Bool.{cases_lt}
+use Rattle.std.proofs.lemmas.List.{append-nil, drop-take}
+use Rattle.std.proofs.lemmas.List.Elements.{All-append, All-cons, All-map}
+use Rattle.byteorder.specs.Endian.{little_number}
+use Rattle.byteorder.specs.Numbers.{little_from-take}
+use Rattle.dma_memory.specs.HostMemory.{bytes_at, LiesIn}
+use Rattle.dma_memory.specs.Laws.{length-bytes_at}
+use Rattle.registers.specs.Bits.{field}
+use Rattle.registers.specs.ReceiveControl.{buffer_size_of}
+use Rattle.descriptors.specs.declared.ring.Ring.{Ring}
+use Rattle.descriptors.specs.Ring.{address_of, count_of, distance_of, owned, slots_from}
+use Rattle.descriptors.specs.TxDesc.{tx_desc_of}
+use Rattle.rx_engine.specs.Descriptors as receive
+use Rattle.rx_engine.specs.Held as engine
+use Rattle.rx_engine.specs.declared.engine.Work.{Work}
+use Rattle.tx_engine.specs.Fetching as transmit
+use Rattle.bus.specs.Areas.{Area, AreApart, bytes_in}
+use Rattle.bus.specs.Frames.{areas, buffer_of, buffered, data_of, finished, frame_areas, frames_held, in_work, IsForeign, named, offered_buffers, receives, reported_half, ring_area, slot_of_work, status_byte, work_areas}
+use Rattle.bus.specs.Law.{Sound}
+use Rattle.bus.specs.Own.{descriptor_area}
+use Rattle.bus.specs.Slots.{offered, outstanding}
+use Rattle.bus.specs.Spare.{FramesFit, IsSpare, buffer_size}
+use Rattle.bus.specs.World.{World, receive_ring, transmit_ring}
+use Rattle.bus.proofs.Areas.{Inside, apart-inside, apart-sym, inside-apart}
+use Rattle.bus.proofs.Kept.{frame_of}
+use Rattle.bus.proofs.Lists.{all-head, all-left, all-none, all-right, all-tail, all-unmapped, all-weaker}
+use Rattle.bus.proofs.Own.{parts-of}
+use Rattle.bus.proofs.Rings.{dealt-left, dealt-right, outstanding-inside, slots-below}
+
+-- What holds of all areas of the conditions.
+pub record OfAreas (P : Area → Type 0) (o : ℕ) (a : World) : Type 0 where
+  pub received : P (ring_area (receive_ring a))
+  pub sent : P (ring_area (transmit_ring a))
+  pub payload : All (λ d. P (data_of a.memory d)) (offered (transmit_ring a))
+  pub names : All (λ d. P (named a.memory d)) (finished o a)
+  pub work : All P (work_areas a.memory a.adapter.receiver.work)
+  pub buffers : All P (offered_buffers a)
+
+pub of-areas : (P : Area → Type 0) (o : ℕ) (a : World) → All P (areas o a) → OfAreas P o a
+of-areas P o a all =
+    let r = ring_area (receive_ring a) in
+    let t = ring_area (transmit_ring a) in
+    let payload = map (data_of a.memory) (offered (transmit_ring a)) in
+    let names = map (named a.memory) (finished o a) in
+    let work = work_areas a.memory a.adapter.receiver.work in
+    let behind_r = all-tail P r (t ∷ frame_areas o a) all in
+    let frames = all-tail P t (frame_areas o a) behind_r in
+    let behind_payload = all-right P payload (names ++ (work ++ offered_buffers a)) frames in
+    let behind_names = all-right P names (work ++ offered_buffers a) behind_payload in
+    record {
+      received = all-head P r (t ∷ frame_areas o a) all;
+      sent = all-head P t (frame_areas o a) behind_r;
+      payload = all-unmapped P (data_of a.memory) (offered (transmit_ring a)) (all-left P payload (names ++ (work ++ offered_buffers a)) frames);
+      names = all-unmapped P (named a.memory) (finished o a) (all-left P names (work ++ offered_buffers a) behind_payload);
+      work = all-left P work (offered_buffers a) behind_names;
+      buffers = all-right P work (offered_buffers a) behind_names;
+    }
+
+pub all-areas : (P : Area → Type 0) (o : ℕ) (a : World) → OfAreas P o a → All P (areas o a)
+all-areas P o a each =
+    let r = ring_area (receive_ring a) in
+    let t = ring_area (transmit_ring a) in
+    let payload = map (data_of a.memory) (offered (transmit_ring a)) in
+    let names = map (named a.memory) (finished o a) in
+    let work = work_areas a.memory a.adapter.receiver.work in
+    All-cons P r (t ∷ frame_areas o a) each.received
+    (All-cons P t (frame_areas o a) each.sent
+    (All-append P payload (names ++ (work ++ offered_buffers a)) (All-map P (data_of a.memory) (offered (transmit_ring a)) each.payload)
+    (All-append P names (work ++ offered_buffers a) (All-map P (named a.memory) (finished o a) each.names)
+    (All-append P work (offered_buffers a) each.work each.buffers))))
+
+-- Apart from the areas.
+
+abbrev Short : List ℕ → Type 0
+Short frame = length frame ≤ 1518
+
+-- The frame in work stands in its buffer.
+work-apart : (memory : List ℕ) (work : Option Work) (size : ℕ) (area : Area) → 1518 ≤ size → All (λ d. AreApart (record { address = receive.named_address memory d; size = size }) area) (slot_of_work work) → All (λ place. LiesIn memory place.address place.size) (work_areas memory work) → All Short (engine.in_work memory work) → All (λ other. AreApart other area) (work_areas memory work)
+work-apart memory None size area room apart lie short = all-none (λ other. AreApart other area)
+work-apart memory (Some work) size area room apart lie short =
+    let at = receive.named_address memory work.descriptor in
+    let place : Area = record { address = at; size = work.length } in
+    let whole : Area = record { address = at; size = size } in
+    let count : length (bytes_at memory at work.length) ≡ work.length = length-bytes_at memory at work.length (all-head (λ (e : Area). LiesIn memory e.address e.size) place [] lie) in
+    let brief : length (bytes_at memory at work.length) ≤ 1518 = all-head Short (bytes_at memory at work.length) [] short in
+    let inside : Inside place whole = record { from = omega arith; to = omega (arith, count, brief, room) } in
+    All-cons (λ other. AreApart other area) place [] (apart-inside place whole area inside (all-head (λ d. AreApart (record { address = receive.named_address memory d; size = size }) area) work.descriptor [] apart)) (all-none (λ other. AreApart other area))
+
+-- A finished frame stands in its buffer.
+name-apart : (memory : List ℕ) (size d : ℕ) (area : Area) → 1518 ≤ size → LiesIn memory (named memory d).address (named memory d).size → length (bytes_in memory (named memory d)) ≤ 1518 → AreApart (record { address = receive.named_address memory d; size = size }) area → AreApart (named memory d) area
+name-apart memory size d area room lies short apart =
+    let count = length-bytes_at memory (named memory d).address (named memory d).size lies in
+    let whole : Area = record { address = receive.named_address memory d; size = size } in
+    let inside : Inside (named memory d) whole = record { from = omega arith; to = omega (arith, count, short, room) } in
+    apart-inside (named memory d) whole area inside apart
+
+buffers-apart : (on : Bool) (f : ℕ → Area) (slots : List ℕ) (area : Area) → All (λ d. AreApart (f d) area) slots → All (λ other. AreApart other area) (cond on (map f slots) [])
+buffers-apart true f slots area apart = All-map (λ other. AreApart other area) f slots apart
+buffers-apart false f slots area apart = all-none (λ other. AreApart other area)
+
+pub spare-apart : (o p : ℕ) (a : World) (area : Area) → Sound o p a → FramesFit o a → IsSpare o p a area → All (λ other. AreApart other area) (areas o a)
+spare-apart o p a area sound fit spare =
+    let Away : ℕ → Type 0 = λ d. AreApart (buffer_of a d) area in
+    let Near : ℕ → Type 0 = λ d. AreApart (data_of a.memory d) area in
+    let work = a.adapter.receiver.work in
+    let lie = of-areas (λ place. LiesIn a.memory place.address place.size) o a sound.separate.lie in
+    let done = dealt-left a.memory (receive_ring a) o (in_work a) Away sound.receive_slots spare.buffers in
+    let behind = dealt-right a.memory (receive_ring a) o (in_work a) Away sound.receive_slots spare.buffers in
+    let sent = dealt-right a.memory (transmit_ring a) p (buffered a) Near sound.transmit_slots spare.sources in
+    let frames = map (frame_of a.memory) (finished o a) in
+    let finished_short = all-unmapped Short (frame_of a.memory) (finished o a) (all-left Short frames (engine.held a.memory a.adapter.receiver) fit.short) in
+    let work_short = all-left Short (engine.in_work a.memory work) a.adapter.receiver.buffer (all-right Short frames (engine.held a.memory a.adapter.receiver) fit.short) in
+    all-areas (λ other. AreApart other area) o a (record {
+      received = spare.receive_slots;
+      sent = spare.transmit_slots;
+      payload = all-right Near (buffered a) (offered (transmit_ring a)) sent;
+      names = λ k d below. name-apart a.memory (buffer_size a) _ area fit.room (lie.names k d below) (finished_short k d below) (done k d below);
+      work = work-apart a.memory work (buffer_size a) area fit.room (all-left Away (in_work a) (offered (receive_ring a)) behind) lie.work work_short;
+      buffers = buffers-apart (receives a) (buffer_of a) (offered (receive_ring a)) area (all-right Away (in_work a) (offered (receive_ring a)) behind);
+    })
+
+-- The adapter doesn't write it.
+pub spare-foreign : (o p : ℕ) (a : World) (area : Area) → Sound o p a → FramesFit o a → IsSpare o p a area → IsForeign a area
+spare-foreign o p a area sound fit spare =
+    let parts = parts-of o p a sound in
+    let r = ring_area (receive_ring a) in
+    let t = ring_area (transmit_ring a) in
+    let halves = map reported_half (in_work a ++ offered (receive_ring a)) in
+    let bytes = map status_byte (buffered a ++ offered (transmit_ring a)) in
+    let buffers = (of-areas (λ other. AreApart other area) o a (spare-apart o p a area sound fit spare)).buffers in
+    All-append (AreApart area) halves (bytes ++ offered_buffers a)
+    (λ k d below. inside-apart area _ r (parts.halves k d below) (apart-sym r area spare.receive_slots))
+    (All-append (AreApart area) bytes (offered_buffers a)
+    (λ k d below. inside-apart area _ t (parts.bytes k d below) (apart-sym t area spare.transmit_slots))
+    (λ k d below. apart-sym _ area (buffers k d below)))

@@ -1,0 +1,186 @@
+-- A driver counts the slot behind its oldest as its oldest.
+use Rattle.std.proofs.Common.{◌≡◌, ◌≢◌, ◌<◌, ◌+◌, ◌-◌, ◌%◌, inl, inr, ⊎_elim, ◌++◌, ◌∷◌, [], true, ℕ, zero, suc, List, length, map, refl, sym, ap, subst, ◌∙◌, arith}
+use Rattle.std.specs.List.{All, AllPairs, take_while}
+use Rattle.std.proofs.lemmas.Bool.{cases_eq}
+use Rattle.std.proofs.lemmas.List.Sums.{take_while-cons}
+use Rattle.std.proofs.lemmas.Nat.{mod_below}
+use Rattle.std.proofs.Math.Nat.{add-mod_right, mod-eq_of_lt, mod_self, suc-mod}
+use Rattle.descriptors.specs.declared.ring.Ring.{Ring}
+use Rattle.descriptors.specs.Ring.{address_of, count_of, distance_of, next_of, owned, slots_from}
+use Rattle.descriptors.specs.RingLaws.{next-below, next-inner, next-last}
+use Rattle.rx_engine.specs.Descriptors.{descriptor_at}
+use Rattle.rx_engine.specs.Held.{held}
+use Rattle.bus.specs.Areas.{AreApart, AreSeparate}
+use Rattle.bus.specs.Frames.{buffered, data_of, in_work, IsForeign, named, offered_buffers, ring_area, work_areas}
+use Rattle.bus.specs.Law.{IsWhole}
+use Rattle.bus.specs.Own.{IsOwnSlot, frame_named}
+use Rattle.bus.specs.Slots.{IsDealt, done_slots, is_done, offered, outstanding}
+use Rattle.bus.specs.TakingSlots.{FinishedSlotsCanBeTaken, WrittenSlotsCanBeFreed, next_received}
+use Rattle.bus.specs.World.{receive_ring, transmit_ring}
+use Rattle.bus.proofs.Areas.{separate-without}
+use Rattle.bus.proofs.Lists.{all-head, all-tail, all-weaker, pairs-head, take_while-passes}
+use Rattle.bus.proofs.Own.{foreign-named}
+use Rattle.bus.proofs.Rings.{descriptor_area, outstanding-apart}
+
+-- The way from a slot.
+
+-- Where the next number leaves more than nothing, this one leaves one less.
+mod-before : (n m d : ℕ) → 0 < n → suc m % n ≡ suc d → m % n ≡ d
+mod-before n m d some next =
+    let below = mod_below m n some in
+    let step : suc (m % n) % n ≡ suc d = sym (suc-mod m n) ∙ next in
+    ⊎_elim
+    (λ (last : suc (m % n) ≡ n).
+    let none : suc (m % n) % n ≡ 0 = ap (λ (k : ℕ). k % n) last ∙ mod_self n in
+    absurd (omega (arith, none, step)))
+    (λ (inner : ¬ (suc (m % n) ≡ n)).
+    let same : suc (m % n) % n ≡ suc (m % n) = mod-eq_of_lt (omega (arith, below, inner)) in
+    omega (arith, same, step))
+    (cases_eq (suc (m % n)) n)
+
+-- One slot on, the way is shorter by one.
+way-shorter : (n from to d : ℕ) → from < n → (to + n - from) % n ≡ suc d → (to + n - (from + 1) % n) % n ≡ d
+way-shorter n from to d below way =
+    ⊎_elim
+    (λ (last : from + 1 ≡ n).
+    let moved : to + n - from ≡ suc to = omega (arith, last) in
+    let around : suc to % n ≡ suc d = ap (λ (k : ℕ). k % n) (sym moved) ∙ way in
+    let none : to + n - 0 ≡ to + n = omega arith in
+    ap (λ (k : ℕ). (to + n - k) % n) (next-last n from last)
+    ∙ ap (λ (k : ℕ). k % n) none
+    ∙ add-mod_right to n
+    ∙ mod-before n to d (omega (arith, below)) around)
+    (λ (inner : ¬ (from + 1 ≡ n)).
+    let moved : to + n - from ≡ suc (to + n - (from + 1)) = omega (arith, below, inner) in
+    let on : suc (to + n - (from + 1)) % n ≡ suc d = ap (λ (k : ℕ). k % n) (sym moved) ∙ way in
+    ap (λ (k : ℕ). (to + n - k) % n) (next-inner n from (omega (arith, below, inner)))
+    ∙ mod-before n (to + n - (from + 1)) d (omega (arith, below)) on)
+    (cases_eq (from + 1) n)
+
+-- Lists with a first element.
+
+list-some : (x : ℕ) (xs : List ℕ) → ¬ (x ∷ xs ≡ [])
+list-some x xs same = let none : suc (length xs) ≡ 0 = ap length same in absurd (omega (arith, none))
+
+-- Where a slot is outstanding, the first one stands at the oldest place, and the others from the next place on.
+outstanding-first : (ring : Ring) (oldest slot : ℕ) (later : List ℕ) → oldest < count_of ring → outstanding ring oldest ≡ slot ∷ later → outstanding ring oldest ≡ address_of ring oldest ∷ outstanding ring (next_of ring oldest)
+unfolding owned
+outstanding-first ring oldest slot later below some = by-way (distance_of ring oldest ring.tail) refl
+  where
+    by-way : (d : ℕ) → distance_of ring oldest ring.tail ≡ d → outstanding ring oldest ≡ address_of ring oldest ∷ outstanding ring (next_of ring oldest)
+    by-way zero way =
+        let none : outstanding ring oldest ≡ [] = ap (λ (k : ℕ). map (address_of ring) (slots_from (count_of ring) oldest k)) way in
+        absurd (list-some slot later (sym some ∙ none))
+    by-way (suc d) way =
+        let shorter : distance_of ring (next_of ring oldest) ring.tail ≡ d = way-shorter (count_of ring) oldest ring.tail d below way in
+        ap (λ (k : ℕ). map (address_of ring) (slots_from (count_of ring) oldest k)) way
+        ∙ ap (λ (k : ℕ). address_of ring oldest ∷ map (address_of ring) (slots_from (count_of ring) (next_of ring oldest) k)) (sym shorter)
+
+-- One place on in a ring of which slots are dealt.
+pub record Ahead (memory : List ℕ) (ring : Ring) (oldest : ℕ) (taken : List ℕ) (slot : ℕ) (later : List ℕ) : Type 0 where
+  pub stands : slot ≡ address_of ring oldest
+  pub first : outstanding ring oldest ≡ slot ∷ outstanding ring (next_of ring oldest)
+  pub dealt : IsDealt memory ring (next_of ring oldest) taken
+  pub behind : done_slots memory ring (next_of ring oldest) ≡ later
+  pub own : IsOwnSlot ring (next_of ring oldest) oldest
+
+first-same : (x y : ℕ) (xs ys : List ℕ) → x ∷ xs ≡ y ∷ ys → x ≡ y
+first-same x y xs ys same = cc
+
+others-same : (x y : ℕ) (xs ys : List ℕ) → x ∷ xs ≡ y ∷ ys → xs ≡ ys
+others-same x y xs ys same = cc
+
+pub dealt-ahead : (memory : List ℕ) (ring : Ring) (oldest : ℕ) (taken : List ℕ) (slot : ℕ) (later : List ℕ) → IsDealt memory ring oldest taken → done_slots memory ring oldest ≡ slot ∷ later → Ahead memory ring oldest taken slot later
+dealt-ahead memory ring oldest taken slot later dealt done =
+    let next = next_of ring oldest in
+    let behind = taken ++ offered ring in
+    let whole : outstanding ring oldest ≡ slot ∷ (later ++ behind) = dealt.classes ∙ ap (λ (slots : List ℕ). slots ++ behind) done in
+    let below : oldest < count_of ring =
+    ⊎_elim
+    (λ (inside : oldest < count_of ring). inside)
+    (λ (none : outstanding ring oldest ≡ []). absurd (list-some slot (later ++ behind) (sym whole ∙ none)))
+    dealt.slot in
+    let split : outstanding ring oldest ≡ address_of ring oldest ∷ outstanding ring next = outstanding-first ring oldest slot (later ++ behind) below whole in
+    let stands : slot ≡ address_of ring oldest = first-same slot (address_of ring oldest) (later ++ behind) (outstanding ring next) (sym whole ∙ split) in
+    let others : outstanding ring next ≡ later ++ behind = others-same (address_of ring oldest) slot (outstanding ring next) (later ++ behind) (sym split ∙ whole) in
+    let first : outstanding ring oldest ≡ slot ∷ outstanding ring next = split ∙ ap (λ (d : ℕ). d ∷ outstanding ring next) (sym stands) in
+    let passes : All (λ d. is_done memory d ≡ true) (slot ∷ later) =
+    subst (λ (slots : List ℕ). All (λ d. is_done memory d ≡ true) slots) done (take_while-passes (is_done memory) (outstanding ring oldest)) in
+    let here : is_done memory slot ≡ true = all-head (λ d. is_done memory d ≡ true) slot later passes in
+    let front : done_slots memory ring oldest ≡ slot ∷ done_slots memory ring next =
+    ap (take_while (is_done memory)) first ∙ take_while-cons (is_done memory) slot (outstanding ring next) ∙ rw here refl in
+    let rest : done_slots memory ring next ≡ later = others-same slot slot (done_slots memory ring next) later (sym front ∙ done) in
+    let pairs = pairs-head (λ a b. AreApart (descriptor_area a) (descriptor_area b)) slot (outstanding ring next)
+    (subst (λ (slots : List ℕ). AllPairs (λ a b. AreApart (descriptor_area a) (descriptor_area b)) slots) first (outstanding-apart ring oldest dealt.slot)) in
+    record {
+      stands = stands;
+      first = first;
+      dealt = record {
+        slot = inl (next-below (count_of ring) oldest below);
+        classes = others ∙ ap (λ (slots : List ℕ). slots ++ behind) (sym rest);
+        not_done = dealt.not_done;
+      };
+      behind = rest;
+      own = record {
+        below = below;
+        apart =
+            all-weaker (λ other. AreApart (descriptor_area slot) (descriptor_area other)) (λ other. other ≢ address_of ring oldest) (outstanding ring next)
+            (λ other apart. other-place slot other (address_of ring oldest) stands apart)
+            pairs;
+      };
+    }
+  where
+    other-place : (d other place : ℕ) → d ≡ place → AreApart (descriptor_area d) (descriptor_area other) → other ≢ place
+    other-place d other place is (inl before) same = absurd (omega (arith, is, before, same))
+    other-place d other place is (inr after) same = absurd (omega (arith, is, after, same))
+
+-- Both rings.
+
+pub finished_slots_can_be_taken : FinishedSlotsCanBeTaken
+finished_slots_can_be_taken o p a slot later sound done =
+    let ahead = dealt-ahead a.memory (receive_ring a) o (in_work a) slot later sound.receive_slots done in
+    let next = next_received o a in
+    let front = ring_area (receive_ring a) ∷ ring_area (transmit_ring a) ∷ map (data_of a.memory) (offered (transmit_ring a)) in
+    let rest = work_areas a.memory a.adapter.receiver.work ++ offered_buffers a in
+    let all : AreSeparate a.memory (front ++ (named a.memory slot ∷ (map (named a.memory) later ++ rest))) =
+    subst (λ (slots : List ℕ). AreSeparate a.memory (front ++ (map (named a.memory) slots ++ rest))) done sound.separate in
+    let fewer : AreSeparate a.memory (front ++ (map (named a.memory) later ++ rest)) = separate-without a.memory front (named a.memory slot) (map (named a.memory) later ++ rest) all in
+    record {
+      stands = ahead.stands;
+      sound = record {
+        receive_slots = ahead.dealt;
+        transmit_slots = sound.transmit_slots;
+        separate = subst (λ (slots : List ℕ). AreSeparate a.memory (front ++ (map (named a.memory) slots ++ rest))) (sym ahead.behind) fewer;
+        reports = sound.reports;
+        pads = sound.pads;
+      };
+      behind = ahead.behind;
+      held =
+          ap (λ (slots : List ℕ). map (frame_named a) slots ++ held a.memory a.adapter.receiver) done
+          ∙ ap (λ (slots : List ℕ). frame_named a slot ∷ (map (frame_named a) slots ++ held a.memory a.adapter.receiver)) (sym ahead.behind);
+      first = ahead.first;
+      own = ahead.own;
+      foreign =
+          all-head (λ d. IsForeign a (named a.memory d)) slot later
+          (subst (λ (slots : List ℕ). All (λ d. IsForeign a (named a.memory d)) slots) done (foreign-named o p a sound));
+      whole = λ are.
+          let each = subst (λ (slots : List ℕ). All (λ d. IsWhole (descriptor_at a.memory d)) slots) done are in
+          (all-head (λ d. IsWhole (descriptor_at a.memory d)) slot later each, all-tail (λ d. IsWhole (descriptor_at a.memory d)) slot later each);
+    }
+
+pub written_slots_can_be_freed : WrittenSlotsCanBeFreed
+written_slots_can_be_freed o p a slot later sound done =
+    let ahead = dealt-ahead a.memory (transmit_ring a) p (buffered a) slot later sound.transmit_slots done in
+    record {
+      stands = ahead.stands;
+      sound = record {
+        receive_slots = sound.receive_slots;
+        transmit_slots = ahead.dealt;
+        separate = sound.separate;
+        reports = sound.reports;
+        pads = sound.pads;
+      };
+      behind = ahead.behind;
+      first = ahead.first;
+      own = ahead.own;
+    }

@@ -1,0 +1,5 @@
+use Rattle.bus.proofs.Carrying.{areas_stay_apart}
+use Rattle.bus.proofs.law.areas_stay_apart.Goals as goal
+
+pub returns : goal.returns
+returns c = areas_stay_apart

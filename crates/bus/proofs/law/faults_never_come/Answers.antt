@@ -1,0 +1,5 @@
+use Rattle.bus.proofs.Running.{faults_never_come}
+use Rattle.bus.proofs.law.faults_never_come.Goals as goal
+
+pub returns : goal.returns
+returns c = faults_never_come

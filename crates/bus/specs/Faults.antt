@@ -1,0 +1,15 @@
+-- No fault stops an engine that can run.
+use Rattle.std.specs.Prelude.{◌≢◌, ℕ, Bool}
+use Rattle.adapter.specs.Steps.{Answers}
+use Rattle.adapter.specs.declared.step.StepKind.{StepKind}
+use Rattle.adapter.specs.declared.step.Stepped.{Stepped}
+use Rattle.adapter.specs.declared.step.Stepped.TheVariants.{Fault}
+use Rattle.bus.specs.Law.{Sound}
+use Rattle.bus.specs.Running.{CanRun}
+use Rattle.bus.specs.World.{World}
+
+-- Where the conditions of the law hold and the engines can run, no answer of a step is a fault.
+abbrev pub FaultsNeverCome : Type 0
+FaultsNeverCome =
+    (oldest_received oldest_sent : ℕ) (world : World) (kind : StepKind) (wire_free : Bool) (answer : Stepped)
+    → Sound oldest_received oldest_sent world → CanRun world → Answers kind wire_free world.memory world.adapter answer → answer ≢ Fault

@@ -1,0 +1,54 @@
+-- A small driver offers a receive slot with a buffer of its own, as the tests have one (own).
+use Rattle.std.specs.Prelude.{◌≡◌, ◌≢◌, ◌<◌, ◌+◌, ◌*◌, ◌%◌, ◌++◌, ◌∷◌, ℕ, List, []}
+use Rattle.dma_memory.specs.HostMemory.{LiesIn}
+use Rattle.descriptors.specs.declared.ring.Ring.{Ring}
+use Rattle.descriptors.specs.Ring.{count_of}
+use Rattle.descriptors.specs.RxDesc.{rx_desc_bytes}
+use Rattle.descriptors.specs.RxStatus.{status_of}
+use Rattle.bus.specs.Areas.{Area}
+use Rattle.bus.specs.Frames.{buffer_of, frames_held, frames_to_send}
+use Rattle.bus.specs.Law.{Sound}
+use Rattle.bus.specs.Past.{Access, Past, Stores, Writes}
+use Rattle.bus.specs.Slots.{outstanding}
+use Rattle.bus.specs.Spare.{FramesFit, IsSpare, buffer_size}
+use Rattle.bus.specs.World.{World, receive_ring, transmit_ring}
+
+-- The driver knows its ring: where it begins, how many slots it has, and which one stands at the tail, behind which there is room.
+pub record KnowsRing (ring : Ring) (oldest base count tail : ℕ) : Type 0 where
+  pub begins : ring.base ≡ base
+  pub slots : count_of ring ≡ count
+  pub last : ring.tail ≡ tail
+  pub head_slot : ring.head < count
+  pub oldest_slot : oldest < count
+  pub room : (tail + 1) % count ≢ oldest
+
+-- The slot at the tail of the receive ring can be offered with a buffer: it lies in memory, and no outstanding slot uses it.
+pub record CanRefill (oldest_received oldest_sent : ℕ) (world : World) (base count tail buffer : ℕ) : Type 0 where
+  pub ring : KnowsRing (receive_ring world) oldest_received base count tail
+  pub fit : FramesFit oldest_received world
+  pub lies : LiesIn world.memory buffer (buffer_size world)
+  pub spare : IsSpare oldest_received oldest_sent world (record { address = buffer; size = buffer_size world })
+
+-- Then the conditions hold again; frames were put and stored, and none was lost; the slot is the last that is outstanding, and names the buffer.
+pub record IsRefilled (oldest_received oldest_sent : ℕ) (a b : World) (past : Past) (slot buffer : ℕ) : Type 0 where
+  pub sound : Sound oldest_received oldest_sent b
+  pub sends : past.put ++ frames_to_send b ≡ frames_to_send a
+  pub holds : frames_held oldest_received b ≡ frames_held oldest_received a ++ past.stored
+  pub fit : FramesFit oldest_received b
+  pub received : outstanding (receive_ring b) oldest_received ≡ outstanding (receive_ring a) oldest_received ++ slot ∷ []
+  pub sent : outstanding (transmit_ring b) oldest_sent ≡ outstanding (transmit_ring a) oldest_sent
+  pub names : buffer_of b slot ≡ record { address = buffer; size = buffer_size a }
+
+-- a receive descriptor that names a buffer, and is else 0
+abbrev pub empty_descriptor : ℕ → List ℕ
+empty_descriptor buffer = rx_desc_bytes (record { address = buffer; length = 0; checksum = 0; status = status_of 0; errors = 0; special = 0 })
+
+-- the two accesses: the descriptor is stored, and then RDT written
+abbrev pub accesses_of_refill : (base count tail buffer : ℕ) → List Access
+accesses_of_refill base count tail buffer = Stores (base + 16 * tail) (empty_descriptor buffer) ∷ Writes 0x2818 ((tail + 1) % count) ∷ []
+
+pub record Refilled {B : Type 0} (world : B → World) (happened : B → B → Past → Type 0) (old new : B) (base count tail buffer : ℕ) : Type 0 where
+  pub past : Past
+  pub told : happened old new past
+  pub only : past.accesses ≡ accesses_of_refill base count tail buffer
+  pub refilled : (o p : ℕ) → Sound o p (world old) → CanRefill o p (world old) base count tail buffer → IsRefilled o p (world old) (world new) past (base + 16 * tail) buffer

@@ -1,0 +1,40 @@
+-- Memory that no outstanding slot uses (own).
+use Rattle.std.specs.Prelude.{◌≤◌, ℕ, All, length}
+use Rattle.registers.specs.Bits.{field}
+use Rattle.registers.specs.ReceiveControl.{buffer_size_of}
+use Rattle.bus.specs.Areas.{Area, AreApart}
+use Rattle.bus.specs.Frames.{areas, buffer_of, data_of, frames_held, IsForeign, ring_area}
+use Rattle.bus.specs.Law.{Happens, Sound}
+use Rattle.bus.specs.Past.{Past}
+use Rattle.bus.specs.Slots.{outstanding}
+use Rattle.bus.specs.World.{World, receive_ring, transmit_ring}
+
+-- how many bytes each receive buffer has, as RCTL.BSIZE names it
+abbrev pub buffer_size : World → ℕ
+buffer_size world = buffer_size_of (field world.adapter.filter.rctl 16 2)
+
+-- The frames held have 1,518 bytes at most, and each receive buffer has room for as many.
+pub record FramesFit (oldest : ℕ) (world : World) : Type 0 where
+  pub room : 1518 ≤ buffer_size world
+  pub short : All (λ frame. length frame ≤ 1518) (frames_held oldest world)
+
+-- An area is apart from both rings, and from the buffers and the data that outstanding slots name.
+pub record IsSpare (oldest_received oldest_sent : ℕ) (world : World) (area : Area) : Type 0 where
+  pub receive_slots : AreApart (ring_area (receive_ring world)) area
+  pub transmit_slots : AreApart (ring_area (transmit_ring world)) area
+  pub buffers : All (λ slot. AreApart (buffer_of world slot) area) (outstanding (receive_ring world) oldest_received)
+  pub sources : All (λ slot. AreApart (data_of world.memory slot) area) (outstanding (transmit_ring world) oldest_sent)
+
+-- Then it is apart from all that the conditions of the law name, and not the adapter's to write.
+pub record StaysApart (oldest_received oldest_sent : ℕ) (world : World) (area : Area) : Type 0 where
+  pub fit : FramesFit oldest_received world
+  pub spare : IsSpare oldest_received oldest_sent world area
+  pub apart : All (λ other. AreApart other area) (areas oldest_received world)
+  pub foreign : IsForeign world area
+
+-- It stays so, whatever happens between two accesses, while the frames held fit; and these still fit.
+abbrev pub AreasStayApart : Type 0
+AreasStayApart =
+    (oldest_received oldest_sent : ℕ) (a b : World) (past : Past) (area : Area)
+    → Sound oldest_received oldest_sent a → FramesFit oldest_received a → IsSpare oldest_received oldest_sent a area → Happens a b past
+    → StaysApart oldest_received oldest_sent b area
