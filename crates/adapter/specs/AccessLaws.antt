@@ -1,8 +1,8 @@
 -- What reads and writes do to one another, by the table: the laws that `offsets_by_table` and `accesses_by_table` promise.
-use Rattle.std.specs.Prelude.{◌≡◌, ◌≢◌, ◌/◌, ◌%◌, ◌^◌, ◌<◌, ◌==◌, ◌&&◌, ℕ, true, false, List, Some, bit_and, if◌then◌else◌}
+use Rattle.std.specs.Prelude.{◌≡◌, ◌≢◌, ◌%◌, ◌<◌, ◌&&◌, ℕ, true, false, List, Some, bit_and, if◌then◌else◌}
 use Rattle.mdic_phy.specs.declared.phy.Link.{Link}
 use Rattle.mdic_phy.specs.Phy.{link_is_up}
-use Rattle.registers.specs.Bits.{union, difference}
+use Rattle.registers.specs.Bits.{is_set, union, difference}
 use Rattle.registers.specs.Kept.{causes_of, status_of_link_up}
 use Rattle.adapter.specs.declared.register.Register.{Register}
 use Rattle.adapter.specs.declared.register.Register.TheVariants.{Ctrl, Status, Icr, Ics, Ims, Imc, Pba}
@@ -64,7 +64,7 @@ OthersStayAtRead =
 pub record TouchedRead (value : ℕ) (state : AdapterState) : Type 0 where
   -- behind a write of CTRL, STATUS shows the link where SLU, bit 6, was written
   pub link_shown : is_reset Ctrl value ≡ false
-      → answer Status (write_of Ctrl value state) ≡ (if link_is_up state.phy && value / 2 ^ 6 % 2 == 1 then status_of_link_up else 0)
+      → answer Status (write_of Ctrl value state) ≡ (if link_is_up state.phy && is_set value 6 then status_of_link_up else 0)
   -- behind a write of ICS, ICR reads the causes written, too
   pub causes_set : answer Icr (write_of Ics value state) ≡ union (answer Icr state) (causes_of value)
   -- behind a write of IMC, IMS reads the mask without them

@@ -2,7 +2,7 @@
 use Rattle.std.proofs.Common.{◌≡◌, ◌≤◌, ◌<◌, ◌++◌, ◌∷◌, [], ◌&&◌, ◌+◌, ℕ, List, All, Bool, true, false, length, Option, None, drop, refl, sym, ap, ◌∙◌, subst, append_assoc, inr, nat_lt, nat_le, if◌then◌else◌, arith}
 use Rattle.std.proofs.lemmas.Bool.{and_parts, false≢true, le-leb, ltb-true}
 use Rattle.std.proofs.lemmas.List.{append-nil}
-use Rattle.dma_memory.specs.HostMemory.{with_bytes}
+use Rattle.dma_memory.specs.Areas.{area_at}
 use Rattle.descriptors.specs.declared.ring.Ring.{Ring}
 use Rattle.descriptors.specs.Ring.{address_of, owned}
 use Rattle.rx_engine.specs.Engine.{Engine}
@@ -15,7 +15,7 @@ use Rattle.rx_engine.specs.declared.data.Data.TheVariants as answers
 use Rattle.rx_engine.specs.declared.engine.Work.{Work}
 use Rattle.tx_engine.specs.Fetching.{pads}
 use Rattle.tx_engine.specs.Laws.{to_send-put, to_send-take}
-use Rattle.tx_engine.specs.StatusLaws.{to_send-away}
+use Rattle.tx_engine.specs.StatusLaws.{to_send-written_back}
 use Rattle.tx_engine.specs.Steps.{IfFront, status_place, written_back}
 use Rattle.tx_engine.specs.ToSend.{IsAwayFrom, to_send}
 use Rattle.tx_engine.specs.Transmitter.{Queued}
@@ -37,20 +37,6 @@ taking_leaves_frames memory state Moved told = refl
 taking_leaves_frames memory state Done told = refl
 taking_leaves_frames memory state Ticked told = refl
 
--- what a report leaves of the frames to be sent
-reported-leaves : (memory : List ℕ) (ring : Ring) (pad : Bool) (queued : Queued) (later : List Queued)
-    → All (λ slot. IsAwayFrom memory (status_place queued) (address_of ring slot)) (owned ring)
-    → to_send (written_back memory queued) ring pad later ≡ to_send memory ring pad later
-reported-leaves memory ring pad queued later apart =
-    by_test (queued.report && nat_lt (status_place queued) (length memory)) (λ passes. passes)
-  where
-    by_test : (test : Bool) → (test ≡ true → (queued.report && nat_lt (status_place queued) (length memory)) ≡ true)
-        → to_send (if test then with_bytes memory (status_place queued) (1 ∷ []) else memory) ring pad later ≡ to_send memory ring pad later
-    by_test true passes =
-        let within : status_place queued < length memory = ltb-true _ _ (and_parts _ _ (passes refl)).1 in
-        to_send-away memory ring pad later (status_place queued) 1 (omega arith) apart
-    by_test false passes = refl
-
 pub putting_takes_first : PuttingTakesFirst
 putting_takes_first wire_free memory state frame told apart = by_buffer state.transmitter.buffer told.1 apart
   where
@@ -59,14 +45,14 @@ putting_takes_first wire_free memory state frame told apart = by_buffer state.tr
 
     by_buffer : (buffer : List Queued)
         → IsOldest buffer frame
-        → IfFront buffer (λ queued. All (λ slot. IsAwayFrom memory (status_place queued) (address_of ring slot)) (owned ring))
+        → IfFront buffer (λ queued. All (λ slot. IsAwayFrom memory (area_at (status_place queued) 1) (address_of ring slot)) (owned ring))
         → to_send memory ring (pads state.transmit_control) buffer
         ≡ frame ∷ to_send (reported buffer memory) ring (pads state.transmit_control) (drop 1 buffer)
     by_buffer [] none apart = absurd none
     by_buffer (queued ∷ later) same apart =
         to_send-put memory ring (pads state.transmit_control) queued later
         ∙ ap (λ (f : List ℕ). f ∷ to_send memory ring (pads state.transmit_control) later) same
-        ∙ ap (λ (fs : List (List ℕ)). frame ∷ fs) (sym (reported-leaves memory ring (pads state.transmit_control) queued later apart))
+        ∙ ap (λ (fs : List (List ℕ)). frame ∷ fs) (sym (to_send-written_back memory ring (pads state.transmit_control) later queued apart))
 
 pub data_leaves_frames : DataLeavesFrames
 data_leaves_frames memory state Moved told apart =

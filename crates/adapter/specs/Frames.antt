@@ -1,9 +1,10 @@
 -- The frames that an adapter holds, and what its steps and arrivals do to them (own): what the engines' laws are of an adapter.
 use Rattle.std.specs.Prelude.{◌≡◌, ◌++◌, ◌∷◌, ℕ, List, All, Bool, length, Some}
+use Rattle.dma_memory.specs.Areas.{AreApart, area_at, descriptor_area}
 use Rattle.dma_memory.specs.HostMemory.{LiesIn}
 use Rattle.descriptors.specs.Ring.{address_of, owned}
 use Rattle.rx_engine.specs.Arriving.{kept}
-use Rattle.rx_engine.specs.Descriptors.{AreApart, named_address}
+use Rattle.rx_engine.specs.Descriptors.{named_address}
 use Rattle.rx_engine.specs.Engine.{IsEngine, oldest}
 use Rattle.rx_engine.specs.Finishing.{StandsApart}
 use Rattle.rx_engine.specs.Held.{FinishesFirst, held}
@@ -37,7 +38,7 @@ TakingLeavesFrames =
 abbrev pub ReportStandsApart : List ℕ → AdapterState → Type 0
 ReportStandsApart memory state =
     IfFront state.transmitter.buffer (λ queued.
-    All (λ slot. IsAwayFrom memory (status_place queued) (address_of (ring_of state.transmit_ring) slot)) (owned (ring_of state.transmit_ring)))
+    All (λ slot. IsAwayFrom memory (area_at (status_place queued) 1) (address_of (ring_of state.transmit_ring) slot)) (owned (ring_of state.transmit_ring)))
 
 -- A step that puts a frame takes the front of the frames to be sent.
 abbrev pub PuttingTakesFirst : Type 0
@@ -49,7 +50,7 @@ PuttingTakesFirst =
 abbrev pub PlaceStandsApart : List ℕ → AdapterState → Type 0
 PlaceStandsApart memory state =
     let descriptor = address_of (ring_of state.receive_ring) state.receive_ring.head in
-    AreApart descriptor (named_address memory descriptor) (length (oldest state.receiver.buffer))
+    AreApart (area_at (named_address memory descriptor) (length (oldest state.receiver.buffer))) (descriptor_area descriptor)
 
 -- A data step leaves the frames held, whatever it answers: the oldest of the packet buffer becomes the one in work.
 abbrev pub DataLeavesFrames : Type 0

@@ -13,7 +13,7 @@ use Rattle.mdic_phy.specs.declared.phy.Negotiation.TheVariants.{NotStarted, Runn
 use Rattle.mdic_phy.specs.Mdic.{MdicState, mdic_after_tick, new_mdic, phy_after_tick, told, ended, phy_ended}
 use Rattle.mdic_phy.specs.Mdic as mdi
 use Rattle.mdic_phy.specs.MdicHistory.{MdicAndPhy, MdicEvent, after_mdic_events, both_behind}
-use Rattle.mdic_phy.specs.MdicLaws.{accesses_by_history}
+use Rattle.mdic_phy.specs.MdicLaws.{accesses_by_history, after_mdic_events-append}
 use Rattle.mdic_phy.specs.Phy.{PhyState, counted, is_counting, is_running, new_phy}
 use Rattle.mdic_phy.specs.Phy as phy
 use Rattle.adapter.specs.declared.register.Register.{Register}
@@ -107,12 +107,6 @@ both-event (Step RxDone answer memory) state = both-left state _ (parts-done ans
 both-event (Step EepromTick answer memory) state = refl
 both-event (Step PhyTick answer memory) state = both-ticked state
 both-event (Arrive fate frame) state = both-left state _ (parts-arrived fate frame state)
-
--- one list of events of MDIC behind another
-after_mdic_events-append : (before after : List MdicEvent) (both : MdicAndPhy)
-    → after_mdic_events (before ++ after) both ≡ after_mdic_events after (after_mdic_events before both)
-after_mdic_events-append [] after both = refl
-after_mdic_events-append (event ∷ before) after both = after_mdic_events-append before after (Rattle.mdic_phy.specs.MdicHistory.after_mdic_event event both)
 
 pub both-events : (events : List Event) (state : AdapterState) → both_of (after_events events state) ≡ after_mdic_events (mdic_events events) (both_of state)
 both-events [] state = refl

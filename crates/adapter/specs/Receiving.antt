@@ -1,11 +1,12 @@
 -- The ways of a frame from the wire into memory ("3.2 Packet Reception"): it arrives, a data step moves it to memory, and a done step
 -- writes its descriptor back.
 use Rattle.std.specs.Prelude.{◌≡◌, ◌≤◌, ◌<◌, ◌+◌, ◌/◌, ◌==◌, ℕ, List, IfSome, None, length, if◌then◌else◌}
+use Rattle.dma_memory.specs.Areas.{ChangesOnly, area_at}
 use Rattle.registers.specs.Bits.{HasBit}
 use Rattle.descriptors.specs.Frames.{IsLegal}
 use Rattle.descriptors.specs.Ring.{address_of}
 use Rattle.rx_engine.specs.Arriving.{IsAccepted, after_arrival}
-use Rattle.rx_engine.specs.Descriptors.{named_address, ChangesOnly}
+use Rattle.rx_engine.specs.Descriptors.{named_address}
 use Rattle.rx_engine.specs.Engine.{oldest}
 use Rattle.rx_engine.specs.Finishing.{engine_after_done, memory_after_done}
 use Rattle.rx_engine.specs.Moving.{HasFrameToMove, CanMove, engine_after_data, is_half_free, memory_after_data}
@@ -94,7 +95,7 @@ memory_after_data_step _ memory state = memory
 -- A data step changes at most so many bytes of the buffer that the descriptor at RDH names as the oldest frame has.
 abbrev pub DataChangesOnly : AdapterState → List ℕ → List ℕ → Type 0
 DataChangesOnly state memory memory' =
-    ChangesOnly memory memory' (named_address memory (address_of (ring_of state.receive_ring) state.receive_ring.head)) (length (oldest state.receiver.buffer))
+    ChangesOnly memory memory' (area_at (named_address memory (address_of (ring_of state.receive_ring) state.receive_ring.head)) (length (oldest state.receiver.buffer)))
 
 -- Done steps.
 
@@ -116,4 +117,4 @@ memory_after_done_step memory state = memory_after_done state.receiver.work memo
 
 -- A done step changes at most bytes 8 to 15 of the descriptor in work.
 abbrev pub DoneChangesOnly : AdapterState → List ℕ → List ℕ → Type 0
-DoneChangesOnly state memory memory' = IfSome state.receiver.work (λ work. ChangesOnly memory memory' (work.descriptor + 8) 8)
+DoneChangesOnly state memory memory' = IfSome state.receiver.work (λ work. ChangesOnly memory memory' (area_at (work.descriptor + 8) 8))

@@ -1,11 +1,11 @@
 -- What a read of a register answers and leaves, what a write leaves, and what a reset leaves.
-use Rattle.std.specs.Prelude.{◌/◌, ◌%◌, ◌^◌, ◌==◌, ◌&&◌, ℕ, Bool, false, List, ◌∷◌, Option, Some, None, bit_and, replicate, slice_index, slice_set, if◌then◌else◌}
+use Rattle.std.specs.Prelude.{◌&&◌, ℕ, Bool, false, List, ◌∷◌, Option, Some, None, bit_and, replicate, slice_index, slice_set, if◌then◌else◌}
 use Rattle.eeprom.specs.declared.eerd.ReadState.TheVariants.{Idle}
 use Rattle.eeprom.specs.Eerd as eeprom
 use Rattle.mdic_phy.specs.declared.phy.Link.{Link}
 use Rattle.mdic_phy.specs.Mdic as mdi
 use Rattle.mdic_phy.specs.Phy.{PhyState, link_is_up, new_phy}
-use Rattle.registers.specs.Bits.{union, difference}
+use Rattle.registers.specs.Bits.{is_set, union, difference}
 use Rattle.registers.specs.Kept.{causes_of, status_of_link_up}
 use Rattle.rx_filter.specs.Registers.{FilterRegisters}
 use Rattle.rx_engine.specs.Engine.{idle_engine}
@@ -65,7 +65,7 @@ after_reset state = adapter_at_reset state.image state.phy state.receive_kilobyt
 
 -- STATUS shows the link of the PHY while CTRL.SLU, bit 6, is set (own)
 abbrev pub shows_link : AdapterState → Bool
-shows_link state = link_is_up state.phy && state.device_control / 2 ^ 6 % 2 == 1
+shows_link state = link_is_up state.phy && is_set state.device_control 6
 
 -- what a read of a register answers
 abbrev pub answer : Register → AdapterState → ℕ
@@ -130,7 +130,7 @@ by_rule register value state = state
 
 -- a write of CTRL with RST, bit 26, resets, and the rest of it is ignored (own)
 abbrev pub is_reset : Register → ℕ → Bool
-is_reset Ctrl value = value / 2 ^ 26 % 2 == 1
+is_reset Ctrl value = is_set value 26
 is_reset register value = false
 
 -- by the kept bits of the table's row, or by the register's own rule

@@ -31,14 +31,8 @@ state_of inside = record {
   transmitter = inside.transmitter;
 }
 
--- the filter was told RCTL and VET as they are
-pub record IsTold (file : RegisterFile) : Type 0 where
-  pub rctl : file.filter.rctl ≡ file.rctl.0
-  pub vet : file.filter.vet ≡ file.vet
-
 pub record IsConsistent (inside : Inside) : Type 0 where
   pub adapter : IsAdapter (state_of inside)
-  pub told : IsTold inside.file
   pub receiver : IsEngine inside.receiver
 
 -- the registers after a reset
@@ -47,9 +41,7 @@ registers_at_reset words = record {
   ctrl = record { 0 = 0 };
   eerd = Idle;
   mdic = new_mdic;
-  vet = 0x8100;
   causes = record { recorded = 0; mask = 0 };
-  rctl = record { 0 = 0 };
   tctl = record { 0 = 0 };
   receive_ring = new_ring;
   transmit_ring = new_ring;

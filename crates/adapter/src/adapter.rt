@@ -13,7 +13,7 @@ use bitflags::Flags;
 use dma_memory::HostMemory;
 use eeprom::Image;
 use mdic_phy::{Link, Phy, Ticked};
-use registers::{Cause, Ctrl, Rctl, Status, Tctl};
+use registers::{Cause, Ctrl, Status, Tctl};
 use rx_engine::{MOST_FRAMES, RxEngine};
 use std::alloc::{AllocError, Global};
 use std::marker::Model;
@@ -182,11 +182,11 @@ impl Adapter {
             Register::Status => self.status().bits(),
             Register::Eerd => file.eerd.read(),
             Register::Mdic => file.mdic.read(),
-            Register::Vet => u32::from(file.vet),
+            Register::Vet => u32::from(file.filter.vet()),
             Register::Icr => file.causes.read(),
             Register::Ims => file.causes.masked(),
             Register::Ics | Register::Imc => 0,
-            Register::Rctl => file.rctl.bits(),
+            Register::Rctl => file.filter.rctl().bits(),
             Register::Tctl => file.tctl.bits(),
             Register::Pba => self.packet_buffer.read(),
             Register::Receive(part) => file.receive_ring.read(part),
@@ -213,18 +213,12 @@ impl Adapter {
             Register::Ctrl => self.write_ctrl(value),
             Register::Eerd => file.eerd.write(value),
             Register::Mdic => file.mdic.write(value),
-            Register::Vet => {
-                file.vet = (value & VLAN_TYPE_BITS) as u16;
-                file.filter.mode(file.rctl.bits(), file.vet);
-            }
+            Register::Vet => file.filter.write_vet((value & VLAN_TYPE_BITS) as u16),
             Register::Icr => file.causes.clear_written(value),
             Register::Ics => file.causes.set(value),
             Register::Ims => file.causes.mask(value),
             Register::Imc => file.causes.unmask(value),
-            Register::Rctl => {
-                file.rctl = Rctl::kept(value);
-                file.filter.mode(file.rctl.bits(), file.vet);
-            }
+            Register::Rctl => file.filter.write_rctl(value),
             Register::Tctl => file.tctl = Tctl::kept(value),
             Register::Pba => self.packet_buffer.write(value),
             Register::Receive(part) => file.receive_ring.write(part, value),

@@ -29,7 +29,7 @@ impl Adapter {
     {
         let room = self.room();
         let file = &mut self.file;
-        let fate = arrive(&mut self.receiver, file.rctl, &file.filter, room, frame);
+        let fate = arrive(&mut self.receiver, file.filter.rctl(), &file.filter, room, frame);
         match fate {
             Fate::Off | Fate::Illegal | Fate::Filtered => {}
             Fate::Missed => {
@@ -54,7 +54,7 @@ impl Adapter {
     {
         let file = &mut self.file;
         let mut ring = file.receive_ring.ring();
-        match rx_data(&mut self.receiver, &mut ring, file.rctl, memory) {
+        match rx_data(&mut self.receiver, &mut ring, file.filter.rctl(), memory) {
             Data::Nothing => Stepped::Nothing,
             Data::Fault => Stepped::Fault,
             Data::Moved { low } => {

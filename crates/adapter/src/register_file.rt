@@ -8,11 +8,8 @@ ghost use Rattle.adapter.specs.Table.{address_high_at_reset, address_low_at_rese
 use crate::ring::RingRegisters;
 use eeprom::{Eerd, Image};
 use mdic_phy::Mdic;
-use registers::{Causes, Counter, Ctrl, Rctl, Tctl};
-use rx_filter::Filter;
-
-/// VET after a reset: the VLAN type of IEEE 802.1Q (own).
-const VLAN_TYPE: u16 = 0x8100;
+use registers::{Causes, Counter, Ctrl, Tctl};
+use rx_filter::{Filter, VLAN_TYPE};
 
 /// The bits of a word of the EEPROM.
 const WORD_BITS: u32 = 16;
@@ -20,16 +17,13 @@ const WORD_BITS: u32 = 16;
 /// AV, bit 31 of RAH: the address is valid.
 const ADDRESS_VALID: u32 = 1 << 31;
 
-/// The registers that a reset sets, all but PBA and those of the PHY. RCTL and VET are told to the
-/// filter, too.
+/// The registers that a reset sets, all but PBA and those of the PHY. The filter has RCTL and VET, too.
 #[derive(Debug, Drop)]
 pub(crate) struct RegisterFile {
     pub(crate) ctrl: Ctrl,
     pub(crate) eerd: Eerd,
     pub(crate) mdic: Mdic,
-    pub(crate) vet: u16,
     pub(crate) causes: Causes,
-    pub(crate) rctl: Rctl,
     pub(crate) tctl: Tctl,
     pub(crate) receive_ring: RingRegisters,
     pub(crate) transmit_ring: RingRegisters,
@@ -52,9 +46,7 @@ impl RegisterFile {
             ctrl: Ctrl(0),
             eerd: Eerd::new(),
             mdic: Mdic::new(),
-            vet: VLAN_TYPE,
             causes: Causes::new(),
-            rctl: Rctl(0),
             tctl: Tctl(0),
             receive_ring: RingRegisters::new(),
             transmit_ring: RingRegisters::new(),
@@ -78,7 +70,7 @@ impl RegisterFile {
 }
 
 /// The filter after a reset: the address of the EEPROM is the first of the exact addresses, and VET
-/// is that of IEEE 802.1Q.
+/// is that of IEEE 802.1Q (own).
 #[tactic(auto, using(crate::proofs::Words::and_address_high))]
 fn filter_at_reset(image: &Image) -> Filter
     ensures { result ≡ filter_at_reset image.now }
@@ -86,7 +78,7 @@ fn filter_at_reset(image: &Image) -> Filter
     let mut filter = Filter::new();
     filter.write_ral(0, address_low(image));
     filter.write_rah(0, address_high(image));
-    filter.mode(0, VLAN_TYPE);
+    filter.write_vet(VLAN_TYPE);
     filter
 }
 

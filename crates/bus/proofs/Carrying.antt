@@ -4,6 +4,8 @@ use Rattle.std.specs.List.{All}
 use Rattle.std.proofs.lemmas.Bool.{cases_lt}
 use Rattle.std.proofs.lemmas.List.{append-nil, drop-drop, drop-take}
 use Rattle.std.proofs.lemmas.List.Elements.{All-append, All-map}
+use Rattle.dma_memory.specs.Areas.{AreApart, Area, ChangesOnly, IsInside, bytes_in, descriptor_area}
+use Rattle.dma_memory.specs.AreaLaws.{apart-inside, apart-sym, changes_only_stored, inside-apart}
 use Rattle.byteorder.specs.Endian.{little_number}
 use Rattle.byteorder.specs.Numbers.{little_from-take}
 use Rattle.dma_memory.specs.HostMemory.{bytes_at, LiesIn, with_bytes}
@@ -20,16 +22,13 @@ use Rattle.adapter.specs.Rings.{ring_of}
 use Rattle.adapter.specs.declared.ring.RingRegisters.{RingRegisters}
 use Rattle.rx_engine.specs.Descriptors.{named_address}
 use Rattle.tx_engine.specs.Fetching as transmit
-use Rattle.bus.specs.Areas.{Area, AreApart, bytes_in}
 use Rattle.bus.specs.Frames.{buffer_of, buffered, data_of, frames_held, frames_to_send, in_work, IsForeign, offered_buffers, reported_half, ring_area, status_byte}
 use Rattle.bus.specs.Law.{Happens, Sound}
-use Rattle.bus.specs.Own.{descriptor_area}
 use Rattle.bus.specs.OwnStores.{IsOwn}
 use Rattle.bus.specs.Past.{Past, joined, nothing}
 use Rattle.bus.specs.Slots.{offered, outstanding}
 use Rattle.bus.specs.Spare.{AreasStayApart, FramesFit, IsSpare}
 use Rattle.bus.specs.World.{World, receive_ring, transmit_ring, world_after_store}
-use Rattle.bus.proofs.Areas.{Inside, Keeps, apart-inside, apart-sym, inside-apart, stored-keeps}
 use Rattle.bus.proofs.Kept.{IsSame, same-apart}
 use Rattle.bus.proofs.Lists.{all-none, all-weaker}
 use Rattle.bus.proofs.Own.{drivers_keep_their_own, last-buffers, parts-of}
@@ -118,7 +117,7 @@ outstanding-slots ring oldest (inl below) =
     (λ i d within. (_, slots-below n oldest k below i d within, refl))
 
 -- An area of the transmit ring that is apart from the bytes that are reported in isn't the adapter's.
-pub foreign-in_transmit_ring : (o p : ℕ) (a : World) (area : Area) → Sound o p a → Inside area (ring_area (transmit_ring a)) → All (λ d. AreApart area (status_byte d)) (buffered a ++ offered (transmit_ring a)) → IsForeign a area
+pub foreign-in_transmit_ring : (o p : ℕ) (a : World) (area : Area) → Sound o p a → IsInside area (ring_area (transmit_ring a)) → All (λ d. AreApart area (status_byte d)) (buffered a ++ offered (transmit_ring a)) → IsForeign a area
 foreign-in_transmit_ring o p a area sound inside apart =
     let parts = parts-of o p a sound in
     let r = ring_area (receive_ring a) in
@@ -140,10 +139,10 @@ foreign-front o p a slot from size sound below early =
     let ring = transmit_ring a in
     let places = dealt-right a.memory ring p (buffered a) (λ d. (s : ℕ) × (s < count_of ring) × (d ≡ address_of ring s)) sound.transmit_slots (outstanding-slots ring p sound.transmit_slots.slot) in
     let area : Area = record { address = address_of ring slot + from; size = size } in
-    let inside : Inside area (ring_area ring) = front-inside ring.base (count_of ring) below in
+    let inside : IsInside area (ring_area ring) = front-inside ring.base (count_of ring) below in
     foreign-in_transmit_ring o p a area sound inside (λ k d within. at-place _ (places k d within))
   where
-    front-inside : (base n : ℕ) → slot < n → Inside (record { address = base + 16 * slot + from; size = size }) (record { address = base; size = 16 * n })
+    front-inside : (base n : ℕ) → slot < n → IsInside (record { address = base + 16 * slot + from; size = size }) (record { address = base; size = 16 * n })
     front-inside base n within = record { from = omega arith; to = omega (arith, within, early) }
     at-place : (d : ℕ) → (s : ℕ) × (s < count_of (transmit_ring a)) × (d ≡ address_of (transmit_ring a) s) → AreApart (record { address = address_of (transmit_ring a) slot + from; size = size }) (status_byte d)
     at-place d place =
@@ -209,11 +208,11 @@ carried-by_happening o p a b past sound happens =
 
 pub carried-by_store : (o p : ℕ) (a : World) (address : ℕ) (bytes : List ℕ) → Sound o p a → LiesIn a.memory address (length bytes) → IsOwn o p a (record { address = address; size = length bytes }) → Carries o p a (world_after_store address bytes a) nothing
 carried-by_store o p a address bytes sound lies own =
-    let same = own_stores_leave_frames o p a address bytes sound lies own in
+    let same = (own_stores_leave_frames o p a address bytes sound lies own).same in
     let memory' = with_bytes a.memory address bytes in
     let area : Area = record { address = address; size = length bytes } in
     let size : length memory' ≡ length a.memory = length-with_bytes a.memory bytes address lies in
-    let keeps : Keeps a.memory memory' area = stored-keeps a.memory bytes address size lies in
+    let keeps : ChangesOnly a.memory memory' area = changes_only_stored a.memory bytes address lies in
     let received : All (IsSame a.memory memory') (outstanding (receive_ring a) o) = same-apart a.memory memory' area (outstanding (receive_ring a) o) keeps own.received in
     let sent : All (IsSame a.memory memory') (outstanding (transmit_ring a) p) = same-apart a.memory memory' area (outstanding (transmit_ring a) p) keeps own.sent in
     record {

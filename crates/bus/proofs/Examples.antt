@@ -1,11 +1,13 @@
 -- Worlds of which the conditions of the law hold: a memory of zeros, with both rings behind a buffer at address 0.
 use Rattle.std.proofs.Common.{◌≡◌, ◌≤◌, ◌<◌, ◌+◌, ◌-◌, inl, inr, ◌++◌, ◌∷◌, [], true, false, ℕ, List, None, length, map, replicate, slice_index, take, refl, sym, ap, subst, ◌∙◌, arith}
 use Rattle.std.specs.List.{All}
-use Rattle.std.proofs.lemmas.List.{drop-replicate, length-replicate, take-replicate}
+use Rattle.std.proofs.lemmas.List.{length-replicate}
 use Rattle.std.proofs.lemmas.List.Elements.{All-cons}
 use Rattle.std.proofs.lemmas.List.Kept.{AllPairs-cons}
+use Rattle.dma_memory.specs.Areas.{AreApart, AreSeparate, Area}
+use Rattle.registers.specs.Bits.{is_set}
 use Rattle.dma_memory.specs.HostMemory.{bytes_at, with_bytes, LiesIn}
-use Rattle.dma_memory.specs.Laws.{bytes_at-after, bytes_at-before, bytes_at-parts, bytes_at-stored, length-with_bytes}
+use Rattle.dma_memory.specs.Laws.{bytes_at-after, bytes_at-before, bytes_at-parts, bytes_at-stored, bytes_at-zeros, length-with_bytes}
 use Rattle.descriptors.specs.declared.ring.Ring.{Ring}
 use Rattle.descriptors.specs.Frames.{IsLegal}
 use Rattle.descriptors.specs.Ring.{count_of, owned}
@@ -22,9 +24,8 @@ use Rattle.rx_engine.specs.Descriptors as receive
 use Rattle.rx_engine.specs.Finishing.{finished_bytes}
 use Rattle.rx_engine.specs.declared.engine.Work.{Work}
 use Rattle.tx_engine.specs.ToSend.{to_send}
-use Rattle.tx_engine.specs.Fetching.{IsTransmittable, fetched, is_set}
+use Rattle.tx_engine.specs.Fetching.{IsTransmittable, fetched}
 use Rattle.tx_engine.specs.Transmitter.{idle, Queued}
-use Rattle.bus.specs.Areas.{Area, AreApart, AreSeparate}
 use Rattle.bus.specs.Examples.{HasFinished, HasFramesInBuffer, HasFramesInRing, HasRings, HasWork, HasWrittenBack, SomeSound}
 use Rattle.bus.specs.Frames.{buffer_of, data_of, finished, named, offered_buffers, written_back}
 use Rattle.bus.specs.Law.{Between, Reports, Sound}
@@ -47,20 +48,15 @@ dealt-fresh memory ring in_ring fresh = record {
   not_done = fresh;
 }
 
--- Among zeros stand zeros.
-bytes_at-zeros : (size address n : ℕ) → LiesIn (replicate size 0) address n → bytes_at (replicate size 0) address n ≡ replicate n 0
-bytes_at-zeros size address n fits =
-    ap (take n) (drop-replicate address size 0) ∙ take-replicate n (size - address) 0 (omega (arith, length-replicate {A = ℕ} size 0))
-
 -- Descriptors in a memory of zeros.
 
-zeros-at : (size d : ℕ) → d + 16 ≤ size → bytes_at (replicate size 0) d 16 ≡ replicate 16 0
+pub zeros-at : (size d : ℕ) → d + 16 ≤ size → bytes_at (replicate size 0) d 16 ≡ replicate 16 0
 zeros-at size d fits = bytes_at-zeros size d 16 (omega (arith, fits, length-replicate {A = ℕ} size 0))
 
-zeros-open : (size d : ℕ) → d + 16 ≤ size → is_done (replicate size 0) d ≡ false
+pub zeros-open : (size d : ℕ) → d + 16 ≤ size → is_done (replicate size 0) d ≡ false
 zeros-open size d fits = ap (λ (bytes : List ℕ). is_set (slice_index bytes 12) 0) (zeros-at size d fits)
 
-zeros-address : (size d : ℕ) → d + 16 ≤ size → receive.named_address (replicate size 0) d ≡ 0
+pub zeros-address : (size d : ℕ) → d + 16 ≤ size → receive.named_address (replicate size 0) d ≡ 0
 unfolding rx_desc_of
 zeros-address size d fits = ap (λ (bytes : List ℕ). (rx_desc_of bytes).address) (zeros-at size d fits)
 

@@ -5,6 +5,8 @@ use Rattle.std.proofs.lemmas.Bool.{eq-eqb}
 use Rattle.std.proofs.lemmas.Bool.Decides.{nat_tests}
 use Rattle.std.proofs.lemmas.List.{append-nil, map-append}
 use Rattle.std.proofs.lemmas.List.Elements.{All-append, All-cons}
+use Rattle.dma_memory.specs.Areas.{AreApart, Area, ChangesOnly, IsInside, descriptor_area}
+use Rattle.dma_memory.specs.AreaLaws.{apart-inside, apart-sym, changes_only_stored, lies-inside}
 use Rattle.registers.specs.Bits.{union}
 use Rattle.registers.specs.Laws.{HasBit-union}
 use Rattle.dma_memory.specs.HostMemory.{bytes_at, with_bytes, LiesIn}
@@ -13,7 +15,7 @@ use Rattle.descriptors.specs.declared.rx_desc.RxDesc.{RxDesc}
 use Rattle.descriptors.specs.RxDesc.{rx_desc_of}
 use Rattle.rx_engine.specs.Descriptors as receive
 use Rattle.rx_engine.specs.Finishing.{IsFinished, StandsApart, finished_bytes, memory_after_done}
-use Rattle.rx_engine.specs.Laws.{descriptor_at-finished, written_back-finished}
+use Rattle.rx_engine.specs.Laws.{descriptor_at-finished, memory_after_done-lies, written_back-finished}
 use Rattle.rx_engine.specs.declared.engine.Work.{Work}
 use Rattle.tx_engine.specs.Transmitter.{Queued}
 use Rattle.adapter.specs.Receiving.{DoneAnswers, after_done}
@@ -22,21 +24,20 @@ use Rattle.adapter.specs.State.{AdapterState}
 use Rattle.adapter.specs.declared.step.StepKind.TheVariants.{RxDone}
 use Rattle.adapter.specs.declared.step.Stepped.{Stepped}
 use Rattle.adapter.specs.declared.step.Stepped.TheVariants.{Took, Put, WireFull, Moved, Done, Ticked, Nothing, Fault}
-use Rattle.bus.specs.Areas.{Area, AreApart}
 use Rattle.bus.specs.Frames.{areas, buffer_of, buffered, data_of, finished, frame_areas, frames_held, in_work, named, offered_buffers, receives, reported_half, ring_area, status_byte, written_back}
 use Rattle.bus.specs.Law.{AreWhole, Between, Happens, IsWhole, Reports, Sound}
 use Rattle.bus.specs.Past.{nothing}
 use Rattle.bus.specs.Slots.{done_slots, is_done, offered}
 use Rattle.bus.specs.Steps.{IsRunning, world_after_step}
 use Rattle.bus.specs.World.{World, receive_ring, transmit_ring}
-use Rattle.bus.proofs.Areas.{Inside, Keeps, apart-inside, apart-sym, lies-inside, separate-same, stored-keeps}
+use Rattle.bus.proofs.Areas.{separate-same}
 use Rattle.bus.proofs.Composing.{happens_none}
 use Rattle.bus.proofs.Engines.{added, steady_moves, still}
 use Rattle.bus.proofs.Kept.{IsSame, buffers-kept, frame_of, frames-kept, is_done-same, named-kept, same-apart, transmit_kept, whole-kept}
 use Rattle.bus.proofs.Lists.{all-head, all-left, all-none, all-right, all-tail, all-weaker, pairs-head}
 use Rattle.bus.proofs.Moving.{with_work}
 use Rattle.bus.proofs.Running.{transmittable-kept}
-use Rattle.bus.proofs.Rings.{dealt-others, dealt-reported, dealt-right, descriptor_area, outstanding-inside}
+use Rattle.bus.proofs.Rings.{dealt-others, dealt-reported, dealt-right, outstanding-inside}
 use Rattle.descriptors.specs.Frames.{IsLegal}
 
 -- A finished descriptor is done.
@@ -56,7 +57,7 @@ done_adapter world = after_done Done world.adapter
 
 -- Where the frame in work and its descriptor stand.
 pub record WorkStands (world : World) (work : Work) : Type 0 where
-  pub inside : Inside (descriptor_area work.descriptor) (ring_area (receive_ring world))
+  pub inside : IsInside (descriptor_area work.descriptor) (ring_area (receive_ring world))
   pub lies : LiesIn world.memory work.descriptor 16
   pub stands : StandsApart world.memory work.descriptor work.length
 
@@ -69,8 +70,8 @@ work-stands o p work a0 sound =
     let payload = map (data_of a.memory) (offered (transmit_ring a)) in
     let names = map (named a.memory) (finished o a) in
     let slots = sound.receive_slots in
-    let right = dealt-right a.memory ring o (in_work a) (λ d. Inside (descriptor_area d) r) slots (outstanding-inside ring o slots.slot) in
-    let inside = all-head (λ d. Inside (descriptor_area d) r) work.descriptor (offered ring) right in
+    let right = dealt-right a.memory ring o (in_work a) (λ d. IsInside (descriptor_area d) r) slots (outstanding-inside ring o slots.slot) in
+    let inside = all-head (λ d. IsInside (descriptor_area d) r) work.descriptor (offered ring) right in
     let place : Area = record { address = receive.named_address a.memory work.descriptor; size = work.length } in
     let Lies : Area → Type 0 = λ area. LiesIn a.memory area.address area.size in
     let lie_r : LiesIn a.memory ring.base r.size = all-head Lies r (t ∷ frame_areas o a) sound.separate.lie in
@@ -81,7 +82,7 @@ work-stands o p work a0 sound =
     let apart_place : AreApart r place = all-head (AreApart r) place (offered_buffers a) apart_held in
     record {
       inside = inside;
-      lies = lies-inside a.memory work.descriptor 16 ring.base r.size inside.from inside.to lie_r;
+      lies = lies-inside a.memory (descriptor_area work.descriptor) r inside lie_r;
       stands = record {
         place = all-head Lies place (offered_buffers a) lie_held;
         apart = apart-sym (descriptor_area work.descriptor) place (apart-inside (descriptor_area work.descriptor) r place inside apart_place);
@@ -100,7 +101,7 @@ between_done o p work a0 least most sound =
     let fits : LiesIn memory (d + 8) 8 = omega (arith, stand.lies) in
     let size : length memory' ≡ length memory = length-with_bytes memory (finished_bytes n) (d + 8) fits in
     let area = reported_half d in
-    let keeps : Keeps memory memory' area = stored-keeps memory (finished_bytes n) (d + 8) size fits in
+    let keeps : ChangesOnly memory memory' area = changes_only_stored memory (finished_bytes n) (d + 8) fits in
     let ring = receive_ring a in
     let r = ring_area ring in
     let t = ring_area (transmit_ring a) in
@@ -108,8 +109,8 @@ between_done o p work a0 least most sound =
     let names = map (named memory) (finished o a) in
     let place : Area = record { address = receive.named_address memory d; size = n } in
     let buffers = offered_buffers a in
-    let in_descriptor : Inside area (descriptor_area d) = record { from = omega arith; to = omega arith } in
-    let in_ring : Inside area r = record { from = omega (arith, stand.inside.from); to = omega (arith, stand.inside.to) } in
+    let in_descriptor : IsInside area (descriptor_area d) = record { from = omega arith; to = omega arith } in
+    let in_ring : IsInside area r = record { from = omega (arith, stand.inside.from); to = omega (arith, stand.inside.to) } in
     let apart_all : All (AreApart area) (t ∷ frame_areas o a) =
     all-weaker (AreApart r) (AreApart area) (t ∷ frame_areas o a) (λ other apart. apart-inside area r other in_ring apart) (pairs-head AreApart r (t ∷ frame_areas o a) sound.separate.apart) in
     let apart_t = all-head (AreApart area) t (frame_areas o a) apart_all in
@@ -188,12 +189,6 @@ between_done o p work a0 least most sound =
     same-lists : (r t : Area) (d d' f f' b' : List Area) (w : Area) (b : List Area) → d' ≡ d → f' ≡ f ++ w ∷ [] → b' ≡ b → r ∷ t ∷ (d' ++ (f' ++ b')) ≡ r ∷ t ∷ (d ++ (f ++ (w ∷ b)))
     same-lists r t d d' f f' b' w b same_d same_f same_b = rw (same_d, same_f, same_b, append_assoc f (w ∷ []) b) refl
 
--- It is written, as the descriptor lies in memory.
-back-written : (memory : List ℕ) (work : Work) → LiesIn memory work.descriptor 16 → memory_after_done (Some work) memory ≡ with_bytes memory (work.descriptor + 8) (finished_bytes work.length)
-back-written memory work lies =
-    let fits : nat_le (work.descriptor + 16) (length memory) ≡ true = grind (arith, nat_tests) in
-    rw fits refl
-
 -- In any state the size stays.
 length-back : (memory : List ℕ) (work : Work) → length (memory_after_done (Some work) memory) ≡ length memory
 length-back memory work = by-test (nat_le (work.descriptor + 16) (length memory)) refl
@@ -220,7 +215,7 @@ done_work (Some work) a running answers =
       between = λ o p sound.
           let stand = work-stands o p work a sound in
           let there = between_done o p work a (running.receiver.least work refl) (running.receiver.most work refl) sound in
-          subst (λ (memory : List ℕ). Between o p w (record { memory = memory; adapter = done_adapter w }) nothing) (sym (back-written w.memory work stand.lies)) there;
+          subst (λ (memory : List ℕ). Between o p w (record { memory = memory; adapter = done_adapter w }) nothing) (sym (memory_after_done-lies w.memory work stand.lies)) there;
     }
 
 -- Any answer of a done step.

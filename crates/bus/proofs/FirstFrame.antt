@@ -4,6 +4,8 @@ use Rattle.std.specs.List.{All, take_while}
 use Rattle.std.proofs.lemmas.Bool.{eq-eqb, ne_eqb}
 use Rattle.std.proofs.lemmas.List.{take_at}
 use Rattle.std.proofs.lemmas.List.Sums.{take_while-cons}
+use Rattle.dma_memory.specs.Areas.{Area, bytes_in, descriptor_area}
+use Rattle.registers.specs.Bits.{is_set}
 use Rattle.dma_memory.specs.HostMemory.{bytes_at, LiesIn}
 use Rattle.descriptors.specs.RxDesc.{rx_desc_of}
 use Rattle.descriptors.specs.declared.rx_desc.RxDesc.{RxDesc}
@@ -11,24 +13,24 @@ use Rattle.adapter.specs.Rings.{ring_of}
 use Rattle.adapter.specs.declared.ring.RingRegisters.{RingRegisters}
 use Rattle.rx_engine.specs.Descriptors.{descriptor_at}
 use Rattle.rx_engine.specs.Held.{held}
-use Rattle.tx_engine.specs.Fetching.{is_set}
-use Rattle.bus.specs.Areas.{Area, bytes_in}
-use Rattle.bus.specs.Frames.{IsForeign, data_of, finished, frame_areas, named, offered_buffers, ring_area, work_areas}
+use Rattle.bus.specs.Frames.{IsForeign, data_of, finished, frame_areas, frames_held, named, offered_buffers, ring_area, work_areas}
 use Rattle.bus.specs.Law.{Acts, AreWhole, Happens, IsWhole, Sound}
 use Rattle.bus.specs.FirstFrame.{IsFirstHeld, Looked, StandsFirst}
-use Rattle.bus.specs.Own.{descriptor_area, frame_named}
+use Rattle.bus.specs.Own.{frame_named}
 use Rattle.bus.specs.Past.{Loads, Past, joined}
 use Rattle.bus.specs.Slots.{is_done, offered, outstanding}
+use Rattle.bus.specs.TakingSlots.{next_received}
 use Rattle.bus.specs.World.{World, receive_ring, transmit_ring}
 use Rattle.bus.proofs.Composing.{happens_trans}
 use Rattle.bus.proofs.Kept.{named-same}
 use Rattle.bus.proofs.Lists.{all-head, all-left, all-right, all-tail}
 use Rattle.bus.proofs.Own.{foreign-finished}
+use Rattle.bus.proofs.TakingSlots.{finished_slots_can_be_taken}
 
 odd-set : (value : ℕ) → value % 2 ≢ 0 → is_set value 0 ≡ true
 odd-set value odd = let one : value / 2 ^ 0 % 2 ≡ 1 = omega (arith, odd) in eq-eqb _ _ one
 
-found_first : (w0 w1 w2 : World) (p1 p2 : Past) (o p d : ℕ) (bytes : List ℕ) → Happens w0 w1 p1 → Happens w1 w2 p2 → Sound o p w0 → StandsFirst d o w0 → bytes ≡ bytes_at w1.memory d 16 → slice_index bytes 12 % 2 ≢ 0 → IsFirstHeld o w2 (bytes_at w2.memory (rx_desc_of bytes).address (rx_desc_of bytes).length)
+found_first : (w0 w1 w2 : World) (p1 p2 : Past) (o p d : ℕ) (bytes : List ℕ) → Happens w0 w1 p1 → Happens w1 w2 p2 → Sound o p w0 → StandsFirst d o w0 → bytes ≡ bytes_at w1.memory d 16 → slice_index bytes 12 % 2 ≢ 0 → IsFirstHeld o p w2 (bytes_at w2.memory (rx_desc_of bytes).address (rx_desc_of bytes).length)
 found_first w0 w1 w2 p1 p2 o p d bytes one two sound first read odd =
     let b1 = one.between o p sound in
     let b2 = two.between o p b1.sound in
@@ -43,12 +45,10 @@ found_first w0 w1 w2 p1 p2 o p d bytes one two sound first read odd =
     let place : named w2.memory d ≡ record { address = (rx_desc_of bytes).address; size = (rx_desc_of bytes).length } =
     named-same w1.memory w2.memory d (b2.untouched (descriptor_area d) foreign)
     ∙ ap (λ (list : List ℕ). let area : Area = record { address = (rx_desc_of list).address; size = (rx_desc_of list).length } in area) (sym read) in
-    let rest = map (frame_named w2) (behind ++ b2.more) ++ held w2.memory w2.adapter.receiver in
+    let taken = finished_slots_can_be_taken o p w2 d (behind ++ b2.more) b2.sound after in
     record {
-      later = rest;
-      held =
-          ap (λ (list : List ℕ). map (frame_named w2) list ++ held w2.memory w2.adapter.receiver) after
-          ∙ ap (λ (area : Area). bytes_in w2.memory area ∷ rest) place;
+      held = taken.held ∙ ap (λ (area : Area). bytes_in w2.memory area ∷ frames_held (next_received o w2) w2) place;
+      sound = taken.sound;
     }
 
 -- What the first look finds of the slots.
@@ -129,7 +129,7 @@ look_some world happened lively joins old middle new d address k n bytes into re
       told = joins old middle new one.past two.past one.told two.told;
       happens = happens_trans (world old) w1 w2 one.past two.past first second;
       first = λ o p sound stands.
-          subst (λ (frame : List ℕ). IsFirstHeld o w2 frame) (sym copied ∙ sym (take_at into rest n (count ∙ same)))
+          subst (λ (frame : List ℕ). IsFirstHeld o p w2 frame) (sym copied ∙ sym (take_at into rest n (count ∙ same)))
           (found_first (world old) w1 w2 one.past two.past o p d bytes first second sound stands read odd);
       none = λ nothing. absurd (cc);
     }

@@ -5,6 +5,7 @@ use Rattle.std.proofs.Math.Nat.{mod_self}
 use Rattle.std.proofs.lemmas.Bool.{cases_eq}
 use Rattle.std.proofs.lemmas.List.Elements.{All-cons}
 use Rattle.std.proofs.lemmas.List.Kept.{AllPairs-cons}
+use Rattle.dma_memory.specs.Areas.{AreApart, AreSeparate, Area}
 use Rattle.dma_memory.specs.HostMemory.{LiesIn}
 use Rattle.descriptors.specs.declared.ring.Ring.{Ring}
 use Rattle.descriptors.specs.Ring.{IsSound, address_of, count_of, distance_of, owned, slots_from}
@@ -19,7 +20,6 @@ use Rattle.adapter.specs.Registers.{after_reset, by_row, is_reset, left_by_read,
 use Rattle.adapter.specs.Rings.{ring_of}
 use Rattle.adapter.specs.State.{AdapterState}
 use Rattle.adapter.specs.Table.{register_at, row_of}
-use Rattle.bus.specs.Areas.{Area, AreApart, AreSeparate}
 use Rattle.bus.specs.Frames.{areas, buffer_of, buffered, data_of, finished, in_work, named, offered_buffers, ring_area, slot_of_work, work_areas}
 use Rattle.bus.specs.Idle.{HappeningsKeepIdle, HasIdleRings, IdleAfterPowerOn, IdleAfterReset, IdleRingsAreSound, IsIdle, IsOfRing, OtherWritesKeepIdle, ReadsKeepIdle, StoresKeepIdle, WritesKeepIdle}
 use Rattle.bus.specs.Law.{Happens, Reports, Sound}
@@ -36,16 +36,19 @@ distance-none : (n i : ℕ) → (i + n - i) % n ≡ 0
 distance-none n i = let whole : i + n - i ≡ n = omega arith in ap (λ (k : ℕ). k % n) whole ∙ mod_self n
 
 -- Such a ring offers nothing, and nothing is outstanding from there on.
-offered-none : (ring : Ring) → ring.head ≡ ring.tail → offered ring ≡ []
+pub owned-none : (ring : Ring) → ring.head ≡ ring.tail → owned ring ≡ []
 unfolding owned
-offered-none ring same =
+owned-none ring same =
     let none : distance_of ring ring.head ring.tail ≡ 0 = ap (distance_of ring ring.head) (sym same) ∙ distance-none (count_of ring) ring.head in
-    ap (λ (k : ℕ). map (address_of ring) (slots_from (count_of ring) ring.head k)) none
+    ap (slots_from (count_of ring) ring.head) none
 
-outstanding-none : (ring : Ring) → outstanding ring ring.tail ≡ []
+pub offered-none : (ring : Ring) → ring.head ≡ ring.tail → offered ring ≡ []
+offered-none ring same = ap (map (address_of ring)) (owned-none ring same)
+
+pub outstanding-none : (ring : Ring) → outstanding ring ring.tail ≡ []
 outstanding-none ring = offered-none (record ring { head = ring.tail }) refl
 
-dealt-idle : (memory : List ℕ) (ring : Ring) (taken : List ℕ) → ring.head ≡ ring.tail → taken ≡ [] → IsDealt memory ring ring.tail taken
+pub dealt-idle : (memory : List ℕ) (ring : Ring) (taken : List ℕ) → ring.head ≡ ring.tail → taken ≡ [] → IsDealt memory ring ring.tail taken
 dealt-idle memory ring taken same none =
     let empty : taken ++ offered ring ≡ [] = rw (none) (offered-none ring same) in
     let clear = outstanding-none ring in
@@ -59,23 +62,26 @@ buffers-none : (on : Bool) (f : ℕ → Area) (slots : List ℕ) → slots ≡ [
 buffers-none true f slots none = ap (map f) none
 buffers-none false f slots none = refl
 
-pub idle_rings_are_sound : IdleRingsAreSound
-idle_rings_are_sound world idle =
+-- Only the two rings are named.
+pub idle-areas : (world : World) → IsIdle world → areas world.adapter.receive_ring.tail world ≡ ring_area (receive_ring world) ∷ ring_area (transmit_ring world) ∷ []
+idle-areas world idle =
     let memory = world.memory in
     let ring = receive_ring world in
     let unoffered = offered-none ring idle.rings.receive in
     let unsent = offered-none (transmit_ring world) idle.rings.transmit in
     let unfinished : finished ring.tail world ≡ [] = ap (take_while (is_done memory)) (outstanding-none ring) in
+    areas-same _ _ [] _ [] _ [] _ [] _ (ap (map (data_of memory)) unsent) (ap (map (named memory)) unfinished) (ap (work_areas memory) idle.work) (buffers-none _ (buffer_of world) (offered ring) unoffered)
+
+pub idle_rings_are_sound : IdleRingsAreSound
+idle_rings_are_sound world idle =
+    let memory = world.memory in
+    let unsent = offered-none (transmit_ring world) idle.rings.transmit in
     let queue : world.adapter.transmitter.buffer ++ map (fetched true memory) (offered (transmit_ring world)) ≡ [] =
     ap (λ (frames : List Queued). frames ++ map (fetched true memory) (offered (transmit_ring world))) idle.buffer ∙ ap (map (fetched true memory)) unsent in
     record {
-      receive_slots = dealt-idle memory ring (in_work world) idle.rings.receive (ap slot_of_work idle.work);
+      receive_slots = dealt-idle memory (receive_ring world) (in_work world) idle.rings.receive (ap slot_of_work idle.work);
       transmit_slots = dealt-idle memory (transmit_ring world) (buffered world) idle.rings.transmit (ap (map (λ (queued : Queued). queued.descriptor)) idle.buffer);
-      separate =
-          subst (λ (list : List Area). AreSeparate memory list)
-          (sym (areas-same _ _ [] _ [] _ [] _ [] _ (ap (map (data_of memory)) unsent) (ap (map (named memory)) unfinished) (ap (work_areas memory) idle.work)
-          (buffers-none _ (buffer_of world) (offered ring) unoffered)))
-          idle.rings.separate;
+      separate = subst (λ (list : List Area). AreSeparate memory list) (sym (idle-areas world idle)) idle.rings.separate;
       reports = subst (λ (frames : List Queued). All Reports frames) (sym queue) (all-none Reports);
       pads = λ differ. absurd (differ idle.rings.transmit);
     }
@@ -137,7 +143,7 @@ still-idle : (a b : RingRegisters) → b ≡ record a { head = b.head } → (b.h
 still-idle a b moved (inl stayed) idle none = stayed ∙ idle ∙ sym (ap (λ (ring : RingRegisters). ring.tail) moved)
 still-idle a b moved (inr slots) idle none = head-is-tail (ring_of b) slots none
 
-first-two : (memory : List ℕ) (r t : Area) (rest : List Area) → AreSeparate memory (r ∷ t ∷ rest) → AreSeparate memory (r ∷ t ∷ [])
+pub first-two : (memory : List ℕ) (r t : Area) (rest : List Area) → AreSeparate memory (r ∷ t ∷ rest) → AreSeparate memory (r ∷ t ∷ [])
 first-two memory r t rest separate = record {
   lie = all-left (λ (area : Area). LiesIn memory area.address area.size) (r ∷ t ∷ []) rest separate.lie;
   apart =

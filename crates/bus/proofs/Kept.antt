@@ -1,6 +1,9 @@
 -- What stays of both rings where one area of memory is written.
 use Rattle.std.proofs.Common.{◌≡◌, ◌++◌, ◌∷◌, [], true, ℕ, List, Option, Some, None, map, slice_index, refl, sym, ap, subst, ◌∙◌}
 use Rattle.std.specs.List.{All}
+use Rattle.dma_memory.specs.Areas.{AreApart, Area, ChangesOnly, bytes_in, descriptor_area}
+use Rattle.dma_memory.specs.AreaLaws.{inside-apart}
+use Rattle.registers.specs.Bits.{is_set}
 use Rattle.dma_memory.specs.HostMemory.{bytes_at}
 use Rattle.descriptors.specs.declared.ring.Ring.{Ring}
 use Rattle.descriptors.specs.declared.tx_desc.TxDesc.{TxDesc}
@@ -12,17 +15,15 @@ use Rattle.rx_engine.specs.Descriptors as receive
 use Rattle.rx_engine.specs.Held as engine
 use Rattle.rx_engine.specs.declared.engine.Work.{Work}
 use Rattle.tx_engine.specs.Fetching as transmit
-use Rattle.tx_engine.specs.Fetching.{as_sent, fetched, frame_at, is_set}
+use Rattle.tx_engine.specs.Fetching.{as_sent, fetched, frame_at}
 use Rattle.tx_engine.specs.ToSend.{to_send}
 use Rattle.tx_engine.specs.Transmitter.{Queued}
-use Rattle.bus.specs.Areas.{Area, AreApart, bytes_in}
 use Rattle.bus.specs.Frames.{buffered, data_of, finished, frames_to_send, in_work, named, ring_area, slot_of_work, work_areas, written_back}
 use Rattle.bus.specs.Law.{AreWhole, IsWhole}
 use Rattle.bus.specs.Slots.{IsDealt, done_slots, is_done, offered, outstanding}
 use Rattle.bus.specs.World.{World, receive_ring, transmit_ring}
-use Rattle.bus.proofs.Areas.{Keeps, inside-apart}
 use Rattle.bus.proofs.Lists.{all-head, all-left, all-right, all-unmapped, map-same}
-use Rattle.bus.proofs.Rings.{dealt-left, dealt-right, dealt-same, descriptor_area, done-same, outstanding-inside}
+use Rattle.bus.proofs.Rings.{dealt-left, dealt-right, dealt-same, done-same, outstanding-inside}
 
 -- One descriptor.
 
@@ -37,11 +38,11 @@ pub named-same : (memory memory' : List ℕ) (descriptor : ℕ) → IsSame memor
 named-same memory memory' descriptor same =
     ap (λ (bytes : List ℕ). let area : Area = record { address = (rx_desc_of bytes).address; size = (rx_desc_of bytes).length } in area) same
 
-pub frame-same : (memory memory' : List ℕ) (area : Area) (descriptor : ℕ) → Keeps memory memory' area → IsSame memory memory' descriptor → AreApart area (named memory descriptor) → bytes_in memory' (named memory' descriptor) ≡ bytes_in memory (named memory descriptor)
+pub frame-same : (memory memory' : List ℕ) (area : Area) (descriptor : ℕ) → ChangesOnly memory memory' area → IsSame memory memory' descriptor → AreApart area (named memory descriptor) → bytes_in memory' (named memory' descriptor) ≡ bytes_in memory (named memory descriptor)
 frame-same memory memory' area descriptor keeps same apart =
     ap (bytes_in memory') (named-same memory memory' descriptor same) ∙ keeps.others (named memory descriptor) apart
 
-pub fetched-same : (memory memory' : List ℕ) (area : Area) (descriptor : ℕ) → Keeps memory memory' area → IsSame memory memory' descriptor → AreApart area (data_of memory descriptor) → fetched true memory' descriptor ≡ fetched true memory descriptor
+pub fetched-same : (memory memory' : List ℕ) (area : Area) (descriptor : ℕ) → ChangesOnly memory memory' area → IsSame memory memory' descriptor → AreApart area (data_of memory descriptor) → fetched true memory' descriptor ≡ fetched true memory descriptor
 fetched-same memory memory' area descriptor keeps same apart =
     let desc : TxDesc = transmit.descriptor_at memory descriptor in
     let desc_same : transmit.descriptor_at memory' descriptor ≡ desc = ap tx_desc_of same in
@@ -50,11 +51,11 @@ fetched-same memory memory' area descriptor keeps same apart =
 
 -- Descriptors.
 
-pub same-apart : (memory memory' : List ℕ) (area : Area) (slots : List ℕ) → Keeps memory memory' area → All (λ d. AreApart area (descriptor_area d)) slots → All (IsSame memory memory') slots
+pub same-apart : (memory memory' : List ℕ) (area : Area) (slots : List ℕ) → ChangesOnly memory memory' area → All (λ d. AreApart area (descriptor_area d)) slots → All (IsSame memory memory') slots
 same-apart memory memory' area slots keeps apart = λ k d below. keeps.others _ (apart k d below)
 
 -- The outstanding ones of a ring that is apart.
-pub same-outstanding : (memory memory' : List ℕ) (area : Area) (ring : Ring) (oldest : ℕ) (taken : List ℕ) → Keeps memory memory' area → AreApart area (ring_area ring) → IsDealt memory ring oldest taken → All (IsSame memory memory') (outstanding ring oldest)
+pub same-outstanding : (memory memory' : List ℕ) (area : Area) (ring : Ring) (oldest : ℕ) (taken : List ℕ) → ChangesOnly memory memory' area → AreApart area (ring_area ring) → IsDealt memory ring oldest taken → All (IsSame memory memory') (outstanding ring oldest)
 same-outstanding memory memory' area ring oldest taken keeps apart dealt =
     let inside = outstanding-inside ring oldest dealt.slot in
     λ k d below. keeps.others _ (inside-apart area _ (ring_area ring) (inside k d below) apart)
@@ -66,7 +67,7 @@ named-kept memory memory' slots same = map-same (named memory') (named memory) s
 abbrev pub frame_of : List ℕ → ℕ → List ℕ
 frame_of memory descriptor = bytes_in memory (named memory descriptor)
 
-pub frames-kept : (memory memory' : List ℕ) (area : Area) (slots : List ℕ) → Keeps memory memory' area → All (IsSame memory memory') slots → All (AreApart area) (map (named memory) slots) → map (frame_of memory') slots ≡ map (frame_of memory) slots
+pub frames-kept : (memory memory' : List ℕ) (area : Area) (slots : List ℕ) → ChangesOnly memory memory' area → All (IsSame memory memory') slots → All (AreApart area) (map (named memory) slots) → map (frame_of memory') slots ≡ map (frame_of memory) slots
 frames-kept memory memory' area slots keeps same apart =
     let each = all-unmapped (AreApart area) (named memory) slots apart in
     map-same (frame_of memory') (frame_of memory) slots (λ k d below. frame-same memory memory' area _ keeps (same k d below) (each k d below))
@@ -83,7 +84,7 @@ work-kept memory memory' (Some work) same =
     ap (λ (bytes : List ℕ). (rx_desc_of bytes).address) (all-head (IsSame memory memory') work.descriptor [] same) in
     ap (λ (at : ℕ). let area : Area = record { address = at; size = work.length } in area ∷ []) address
 
-pub work_frame-kept : (memory memory' : List ℕ) (area : Area) (work : Option Work) → Keeps memory memory' area → All (IsSame memory memory') (slot_of_work work) → All (AreApart area) (work_areas memory work) → engine.in_work memory' work ≡ engine.in_work memory work
+pub work_frame-kept : (memory memory' : List ℕ) (area : Area) (work : Option Work) → ChangesOnly memory memory' area → All (IsSame memory memory') (slot_of_work work) → All (AreApart area) (work_areas memory work) → engine.in_work memory' work ≡ engine.in_work memory work
 work_frame-kept memory memory' area None keeps same apart = refl
 work_frame-kept memory memory' area (Some work) keeps same apart =
     let address : receive.named_address memory' work.descriptor ≡ receive.named_address memory work.descriptor =
@@ -106,7 +107,7 @@ data-kept memory memory' slots same =
     map-same (data_of memory') (data_of memory) slots
     (λ k d below. ap (λ (bytes : List ℕ). let area : Area = record { address = (tx_desc_of bytes).address; size = (tx_desc_of bytes).length } in area) (same k d below))
 
-pub fetched-kept : (memory memory' : List ℕ) (area : Area) (slots : List ℕ) → Keeps memory memory' area → All (IsSame memory memory') slots → All (AreApart area) (map (data_of memory) slots) → All (λ d. fetched true memory' d ≡ fetched true memory d) slots
+pub fetched-kept : (memory memory' : List ℕ) (area : Area) (slots : List ℕ) → ChangesOnly memory memory' area → All (IsSame memory memory') slots → All (AreApart area) (map (data_of memory) slots) → All (λ d. fetched true memory' d ≡ fetched true memory d) slots
 fetched-kept memory memory' area slots keeps same apart =
     let each = all-unmapped (AreApart area) (data_of memory) slots apart in
     λ k d below. fetched-same memory memory' area _ keeps (same k d below) (each k d below)
@@ -129,7 +130,7 @@ pub record TransmitKept (world : World) (memory' : List ℕ) (oldest : ℕ) : Ty
   pub data_areas : map (data_of memory') (offered (transmit_ring world)) ≡ map (data_of world.memory) (offered (transmit_ring world))
   pub fetches : map (fetched true memory') (offered (transmit_ring world)) ≡ map (fetched true world.memory) (offered (transmit_ring world))
 
-pub transmit_kept_by_slots : (world : World) (memory' : List ℕ) (oldest : ℕ) (area : Area) → Keeps world.memory memory' area → IsDealt world.memory (transmit_ring world) oldest (buffered world) → All (IsSame world.memory memory') (outstanding (transmit_ring world) oldest) → All (AreApart area) (map (data_of world.memory) (offered (transmit_ring world))) → TransmitKept world memory' oldest
+pub transmit_kept_by_slots : (world : World) (memory' : List ℕ) (oldest : ℕ) (area : Area) → ChangesOnly world.memory memory' area → IsDealt world.memory (transmit_ring world) oldest (buffered world) → All (IsSame world.memory memory') (outstanding (transmit_ring world) oldest) → All (AreApart area) (map (data_of world.memory) (offered (transmit_ring world))) → TransmitKept world memory' oldest
 transmit_kept_by_slots world memory' oldest area keeps dealt same data_apart =
     let memory = world.memory in
     let ring = transmit_ring world in
@@ -145,7 +146,7 @@ transmit_kept_by_slots world memory' oldest area keeps dealt same data_apart =
       fetches = map-same (fetched true memory') (fetched true memory) (offered ring) fetches;
     }
 
-pub transmit_kept : (world : World) (memory' : List ℕ) (oldest : ℕ) (area : Area) → Keeps world.memory memory' area → IsDealt world.memory (transmit_ring world) oldest (buffered world) → AreApart area (ring_area (transmit_ring world)) → All (AreApart area) (map (data_of world.memory) (offered (transmit_ring world))) → TransmitKept world memory' oldest
+pub transmit_kept : (world : World) (memory' : List ℕ) (oldest : ℕ) (area : Area) → ChangesOnly world.memory memory' area → IsDealt world.memory (transmit_ring world) oldest (buffered world) → AreApart area (ring_area (transmit_ring world)) → All (AreApart area) (map (data_of world.memory) (offered (transmit_ring world))) → TransmitKept world memory' oldest
 transmit_kept world memory' oldest area keeps dealt apart data_apart =
     transmit_kept_by_slots world memory' oldest area keeps dealt (same-outstanding world.memory memory' area (transmit_ring world) oldest (buffered world) keeps apart dealt) data_apart
 
@@ -161,7 +162,7 @@ pub record ReceiveKept (world : World) (memory' : List ℕ) (oldest : ℕ) : Typ
   pub areas_of_work : work_areas memory' world.adapter.receiver.work ≡ work_areas world.memory world.adapter.receiver.work
   pub frame_in_work : engine.in_work memory' world.adapter.receiver.work ≡ engine.in_work world.memory world.adapter.receiver.work
 
-pub receive_kept_by_slots : (world : World) (memory' : List ℕ) (oldest : ℕ) (area : Area) → Keeps world.memory memory' area → IsDealt world.memory (receive_ring world) oldest (in_work world) → All (IsSame world.memory memory') (outstanding (receive_ring world) oldest) → All (AreApart area) (map (named world.memory) (finished oldest world)) → All (AreApart area) (work_areas world.memory world.adapter.receiver.work) → ReceiveKept world memory' oldest
+pub receive_kept_by_slots : (world : World) (memory' : List ℕ) (oldest : ℕ) (area : Area) → ChangesOnly world.memory memory' area → IsDealt world.memory (receive_ring world) oldest (in_work world) → All (IsSame world.memory memory') (outstanding (receive_ring world) oldest) → All (AreApart area) (map (named world.memory) (finished oldest world)) → All (AreApart area) (work_areas world.memory world.adapter.receiver.work) → ReceiveKept world memory' oldest
 receive_kept_by_slots world memory' oldest area keeps dealt same named_apart work_apart =
     let memory = world.memory in
     let ring = receive_ring world in
@@ -182,6 +183,6 @@ receive_kept_by_slots world memory' oldest area keeps dealt same named_apart wor
       frame_in_work = work_frame-kept memory memory' area work keeps same_work work_apart;
     }
 
-pub receive_kept : (world : World) (memory' : List ℕ) (oldest : ℕ) (area : Area) → Keeps world.memory memory' area → IsDealt world.memory (receive_ring world) oldest (in_work world) → AreApart area (ring_area (receive_ring world)) → All (AreApart area) (map (named world.memory) (finished oldest world)) → All (AreApart area) (work_areas world.memory world.adapter.receiver.work) → ReceiveKept world memory' oldest
+pub receive_kept : (world : World) (memory' : List ℕ) (oldest : ℕ) (area : Area) → ChangesOnly world.memory memory' area → IsDealt world.memory (receive_ring world) oldest (in_work world) → AreApart area (ring_area (receive_ring world)) → All (AreApart area) (map (named world.memory) (finished oldest world)) → All (AreApart area) (work_areas world.memory world.adapter.receiver.work) → ReceiveKept world memory' oldest
 receive_kept world memory' oldest area keeps dealt apart named_apart work_apart =
     receive_kept_by_slots world memory' oldest area keeps dealt (same-outstanding world.memory memory' area (receive_ring world) oldest (in_work world) keeps apart dealt) named_apart work_apart

@@ -26,3 +26,5 @@ pub mod Tails
 pub mod RefillSteps
 pub mod SendSteps
 pub mod Idle
+pub mod SoundBuses
+pub mod Initialising

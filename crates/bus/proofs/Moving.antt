@@ -4,6 +4,8 @@ use Rattle.std.specs.List.{All}
 use Rattle.std.proofs.lemmas.Bool.{eq-eqb}
 use Rattle.std.proofs.lemmas.List.{append-nil}
 use Rattle.std.proofs.lemmas.List.Elements.{All-append}
+use Rattle.dma_memory.specs.Areas.{AreApart, AreSeparate, Area, ChangesOnly, IsInside, descriptor_area}
+use Rattle.dma_memory.specs.AreaLaws.{apart-inside, apart-sym, changes_only_stored, inside-apart}
 use Rattle.registers.specs.Bits.{union}
 use Rattle.dma_memory.specs.Laws.{length-with_bytes}
 use Rattle.descriptors.specs.Ring.{address_of, next_of}
@@ -22,21 +24,20 @@ use Rattle.adapter.specs.Transmitting.{moved_on}
 use Rattle.adapter.specs.declared.step.StepKind.TheVariants.{RxData}
 use Rattle.adapter.specs.declared.step.Stepped.{Stepped}
 use Rattle.adapter.specs.declared.step.Stepped.TheVariants.{Took, Put, WireFull, Moved, Done, Ticked, Nothing, Fault}
-use Rattle.bus.specs.Areas.{Area, AreApart, AreSeparate}
 use Rattle.bus.specs.Frames.{areas, buffer_of, buffered, data_of, finished, frames_held, named, offered_buffers, receives, reported_half, ring_area, status_byte, work_areas, written_back}
 use Rattle.bus.specs.Law.{AreWhole, Between, Happens, Reports, Sound}
 use Rattle.bus.specs.Past.{nothing}
 use Rattle.bus.specs.Slots.{IsDealt, done_slots, is_done, offered, outstanding}
 use Rattle.bus.specs.Steps.{IsRunning, world_after_step}
 use Rattle.bus.specs.World.{World, receive_ring, transmit_ring}
-use Rattle.bus.proofs.Areas.{Inside, Keeps, apart-inside, apart-sym, inside-apart, separate-same, separate-shorter, stored-keeps}
+use Rattle.bus.proofs.Areas.{separate-same, separate-shorter}
 use Rattle.bus.proofs.Composing.{happens_none}
 use Rattle.bus.proofs.Engines.{added, steady_moves, still}
 use Rattle.bus.proofs.Kept.{IsSame, buffers-kept, frame_of, frames-kept, is_done-same, named-kept, same-outstanding, transmit_kept, whole-kept}
 use Rattle.bus.proofs.Lists.{all-head, all-left, all-right, all-tail, all-weaker, all-without, pairs-before}
 use Rattle.bus.proofs.Putting.{areas-same}
 use Rattle.bus.proofs.Quiet.{between_stopped}
-use Rattle.bus.proofs.Rings.{dealt-left, dealt-moved, dealt-right, dealt-same, descriptor_area, done-same, offered-head, outstanding-inside}
+use Rattle.bus.proofs.Rings.{dealt-left, dealt-moved, dealt-right, dealt-same, done-same, offered-head, outstanding-inside}
 use Rattle.descriptors.specs.Frames.{IsLegal}
 use Rattle.bus.proofs.Lists.{all-none}
 use Rattle.bus.proofs.Running.{all-later, can_move, transmittable-kept}
@@ -64,8 +65,8 @@ between_moved o p a0 has can sound =
     let size : length memory' ≡ length memory = length-with_bytes memory frame at can.place in
     let area : Area = record { address = at; size = n } in
     let whole_buffer : Area = record { address = at; size = bsize } in
-    let part : Inside area whole_buffer = record { from = omega arith; to = omega (arith, can.size) } in
-    let keeps : Keeps memory memory' area = stored-keeps memory frame at size can.place in
+    let part : IsInside area whole_buffer = record { from = omega arith; to = omega (arith, can.size) } in
+    let keeps : ChangesOnly memory memory' area = changes_only_stored memory frame at can.place in
     let first : offered ring ≡ head ∷ rest = offered-head ring can.indices has.offered in
     let enabled : receives a ≡ true = eq-eqb _ _ has.enabled in
     let r = ring_area ring in
@@ -94,9 +95,9 @@ between_moved o p a0 has can sound =
     let same_offered : All (IsSame memory memory') (head ∷ rest) = subst (λ (list : List ℕ). All (IsSame memory memory') list) first (dealt-right memory ring o [] (IsSame memory memory') slots same) in
     let done : done_slots memory' ring o ≡ finished o a = done-same memory memory' ring o done_as in
     let dealt : IsDealt memory' next o (head ∷ []) = dealt-moved memory' ring o [] can.indices has.offered (dealt-same memory memory' ring o [] done_as slots) in
-    let inside : All (λ d. Inside (descriptor_area d) r) (head ∷ rest) =
-    subst (λ (list : List ℕ). All (λ d. Inside (descriptor_area d) r) list) first (dealt-right memory ring o [] (λ d. Inside (descriptor_area d) r) slots (outstanding-inside ring o slots.slot)) in
-    let apart_head : AreApart area (descriptor_area head) = inside-apart area (descriptor_area head) r (all-head (λ d. Inside (descriptor_area d) r) head rest inside) apart_r in
+    let inside : All (λ d. IsInside (descriptor_area d) r) (head ∷ rest) =
+    subst (λ (list : List ℕ). All (λ d. IsInside (descriptor_area d) r) list) first (dealt-right memory ring o [] (λ d. IsInside (descriptor_area d) r) slots (outstanding-inside ring o slots.slot)) in
+    let apart_head : AreApart area (descriptor_area head) = inside-apart area (descriptor_area head) r (all-head (λ d. IsInside (descriptor_area d) r) head rest inside) apart_r in
     let holding : held memory' b.adapter.receiver ≡ held memory a.adapter.receiver =
     held-after_data a.adapter.filter.rctl ring a.adapter.receiver memory (answers.Moved (is_half_free (ring_of (moved_on a.adapter.receive_ring)))) (λ _. record { has = has; can = can; apart = apart_head }) in
     let frames : map (frame_of memory') (done_slots memory' ring o) ≡ map (frame_of memory) (finished o a) =

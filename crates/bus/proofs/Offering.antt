@@ -10,16 +10,16 @@ use Rattle.descriptors.specs.declared.ring.Ring.{Ring}
 use Rattle.descriptors.specs.Ring.{IsSound, address_of, count_of, distance_of, next_of, owned}
 use Rattle.descriptors.specs.RingLaws.{distance-grows, length-owned, next-below, owned-tail}
 use Rattle.rx_engine.specs.Held.{held}
-use Rattle.bus.specs.Areas.{Area, AreApart, AreSeparate, bytes_in}
 use Rattle.bus.specs.Frames.{areas, buffer_of, buffered, data_of, finished, in_work, IsForeign, named, offered_buffers, receives, reported_half, ring_area, status_byte, work_areas}
 use Rattle.bus.specs.Law.{AreWhole, Reports}
 use Rattle.bus.specs.Offering.{FramesCanBeOffered, SlotsCanBeOffered, offering, offering_frame}
 use Rattle.bus.specs.Running.{CanTransmit}
 use Rattle.bus.specs.Slots.{IsDealt, done_slots, is_done, offered, outstanding}
 use Rattle.bus.specs.World.{World, receive_ring, transmit_ring}
-use Rattle.bus.proofs.Areas.{apart-sym}
 use Rattle.bus.proofs.Lists.{all-head, all-left, all-none, all-right, all-tail, all-unmapped, pairs-head, pairs-tail, take_while-passes, take_while-split}
 use Rattle.std.proofs.lemmas.List.Kept.{AllPairs-cons}
+use Rattle.dma_memory.specs.Areas.{AreApart, AreSeparate, Area, bytes_in}
+use Rattle.dma_memory.specs.AreaLaws.{apart-sym}
 use Rattle.tx_engine.specs.Fetching.{fetched}
 use Rattle.tx_engine.specs.Laws.{to_send-offer}
 use Rattle.tx_engine.specs.Transmitter.{Queued}
@@ -165,17 +165,17 @@ slots_can_be_offered o p a sound can =
         to_send = refl;
         finished_same = grown.done;
         written_same = refl;
-        runs = λ run. record {
-          receiver_runs = run.receiver_runs;
-          transmitter_runs = run.transmitter_runs;
-          receive_indices = λ some. record { head = can.head_slot; tail = next-below (count_of ring) ring.tail can.tail_slot };
-          transmit_indices = run.transmit_indices;
-          not_extended = run.not_extended;
-          size = run.size;
-          frames = run.frames;
-          transmittable = run.transmittable;
-        };
         whole = subst (λ (slots : List ℕ). AreWhole a.memory slots) (sym grown.done);
+      };
+      runs = λ run. record {
+        receiver_runs = run.receiver_runs;
+        transmitter_runs = run.transmitter_runs;
+        receive_indices = λ some. record { head = can.head_slot; tail = next-below (count_of ring) ring.tail can.tail_slot };
+        transmit_indices = run.transmit_indices;
+        not_extended = run.not_extended;
+        size = run.size;
+        frames = run.frames;
+        transmittable = run.transmittable;
       };
       last = grown.outstanding_grown;
       foreign = λ area foreign half buffer. foreign-offered a area grown.offered_grown foreign half buffer;

@@ -13,18 +13,18 @@ use Rattle.descriptors.specs.declared.tx_command.TxCommand.{TxCommand}
 use Rattle.descriptors.specs.declared.tx_desc.TxDesc.{TxDesc}
 use Rattle.descriptors.specs.declared.tx_status.TxStatus.{TxStatus}
 use Rattle.std.proofs.lemmas.Bool.{cases_lt}
+use Rattle.dma_memory.specs.Areas.{AreApart, Area, IsInside, bytes_in, descriptor_area}
+use Rattle.dma_memory.specs.AreaLaws.{apart-inside, apart-sym, inside-apart}
 use Rattle.descriptors.specs.declared.ring.Ring.{Ring}
 use Rattle.descriptors.specs.Ring.{address_of, count_of, owned}
 use Rattle.adapter.specs.Rings.{ring_of}
 use Rattle.adapter.specs.declared.ring.RingRegisters.{RingRegisters}
 use Rattle.rx_engine.specs.Descriptors as receive
-use Rattle.bus.specs.Areas.{Area, AreApart, bytes_in}
 use Rattle.bus.specs.Frames.{buffered, data_of, finished, frame_areas, in_work, IsForeign, named, offered_buffers, reported_half, ring_area, status_byte, work_areas, written_back}
 use Rattle.bus.specs.Law.{Sound}
-use Rattle.bus.specs.Own.{DriversKeepTheirOwn, IsOwnSlot, descriptor_area, frame_named}
+use Rattle.bus.specs.Own.{DriversKeepTheirOwn, IsOwnSlot, frame_named}
 use Rattle.bus.specs.Slots.{offered, outstanding}
 use Rattle.bus.specs.World.{World, receive_ring, transmit_ring}
-use Rattle.bus.proofs.Areas.{Inside, apart-inside, apart-sym, inside-apart}
 use Rattle.bus.proofs.Kept.{named-same}
 use Rattle.bus.proofs.Lists.{all-head, all-left, all-none, all-right, all-tail, all-unmapped, map-same, pairs-head, pairs-right, pairs-tail}
 use Rattle.bus.proofs.Rings.{dealt-left, dealt-right, outstanding-apart, outstanding-inside}
@@ -40,21 +40,21 @@ pub record Parts (o : ℕ) (a : World) : Type 0 where
   pub rings : AreApart (ring_area (receive_ring a)) (ring_area (transmit_ring a))
   pub receive_rest : All (AreApart (ring_area (receive_ring a))) (frame_areas o a)
   pub transmit_rest : All (AreApart (ring_area (transmit_ring a))) (frame_areas o a)
-  pub halves : All (λ area. Inside area (ring_area (receive_ring a))) (map reported_half (in_work a ++ offered (receive_ring a)))
-  pub bytes : All (λ area. Inside area (ring_area (transmit_ring a))) (map status_byte (buffered a ++ offered (transmit_ring a)))
+  pub halves : All (λ area. IsInside area (ring_area (receive_ring a))) (map reported_half (in_work a ++ offered (receive_ring a)))
+  pub bytes : All (λ area. IsInside area (ring_area (transmit_ring a))) (map status_byte (buffered a ++ offered (transmit_ring a)))
 
-half-inside : (r : Area) (d : ℕ) → Inside (descriptor_area d) r → Inside (reported_half d) r
+half-inside : (r : Area) (d : ℕ) → IsInside (descriptor_area d) r → IsInside (reported_half d) r
 half-inside r d inside = record { from = omega (arith, inside.from); to = omega (arith, inside.to) }
 
-byte-inside : (t : Area) (d : ℕ) → Inside (descriptor_area d) t → Inside (status_byte d) t
+byte-inside : (t : Area) (d : ℕ) → IsInside (descriptor_area d) t → IsInside (status_byte d) t
 byte-inside t d inside = record { from = omega (arith, inside.from); to = omega (arith, inside.to) }
 
 pub parts-of : (o p : ℕ) (a : World) → Sound o p a → Parts o a
 parts-of o p a sound =
     let r = ring_area (receive_ring a) in
     let t = ring_area (transmit_ring a) in
-    let Receive : ℕ → Type 0 = λ d. Inside (descriptor_area d) r in
-    let Transmit : ℕ → Type 0 = λ d. Inside (descriptor_area d) t in
+    let Receive : ℕ → Type 0 = λ d. IsInside (descriptor_area d) r in
+    let Transmit : ℕ → Type 0 = λ d. IsInside (descriptor_area d) t in
     let received = dealt-right a.memory (receive_ring a) o (in_work a) Receive sound.receive_slots (outstanding-inside (receive_ring a) o sound.receive_slots.slot) in
     let sent = dealt-right a.memory (transmit_ring a) p (buffered a) Transmit sound.transmit_slots (outstanding-inside (transmit_ring a) p sound.transmit_slots.slot) in
     let from_r = pairs-head AreApart r (t ∷ frame_areas o a) sound.separate.apart in
@@ -62,8 +62,8 @@ parts-of o p a sound =
       rings = all-head (AreApart r) t (frame_areas o a) from_r;
       receive_rest = all-tail (AreApart r) t (frame_areas o a) from_r;
       transmit_rest = pairs-head AreApart t (frame_areas o a) (pairs-tail AreApart r (t ∷ frame_areas o a) sound.separate.apart);
-      halves = All-map (λ area. Inside area r) reported_half (in_work a ++ offered (receive_ring a)) (λ k d below. half-inside r _ (received k d below));
-      bytes = All-map (λ area. Inside area t) status_byte (buffered a ++ offered (transmit_ring a)) (λ k d below. byte-inside t _ (sent k d below));
+      halves = All-map (λ area. IsInside area r) reported_half (in_work a ++ offered (receive_ring a)) (λ k d below. half-inside r _ (received k d below));
+      bytes = All-map (λ area. IsInside area t) status_byte (buffered a ++ offered (transmit_ring a)) (λ k d below. byte-inside t _ (sent k d below));
     }
 
 -- The last of the areas of frames are the offered buffers.
@@ -74,7 +74,7 @@ last-buffers P o a all =
     all-right P work (offered_buffers a) (all-right P names (work ++ offered_buffers a) (all-right P (map (data_of a.memory) (offered (transmit_ring a))) (names ++ (work ++ offered_buffers a)) all))
 
 -- An area of the receive ring that is apart from the halves that are reported in isn't the adapter's.
-pub foreign-in_ring : (o p : ℕ) (a : World) (area : Area) → Sound o p a → Inside area (ring_area (receive_ring a)) → All (λ d. AreApart area (reported_half d)) (in_work a ++ offered (receive_ring a)) → IsForeign a area
+pub foreign-in_ring : (o p : ℕ) (a : World) (area : Area) → Sound o p a → IsInside area (ring_area (receive_ring a)) → All (λ d. AreApart area (reported_half d)) (in_work a ++ offered (receive_ring a)) → IsForeign a area
 foreign-in_ring o p a area sound inside apart =
     let parts = parts-of o p a sound in
     let r = ring_area (receive_ring a) in
@@ -96,9 +96,9 @@ foreign-finished o p a sound =
     let behind = in_work a ++ offered ring in
     let pairs : AllPairs R (finished o a ++ behind) = subst (λ (list : List ℕ). AllPairs R list) slots.classes (outstanding-apart ring o slots.slot) in
     let across = pairs-across R (finished o a) behind pairs in
-    let whole : All (λ d. Inside (descriptor_area d) (ring_area ring)) (finished o a ++ behind) =
-    subst (λ (list : List ℕ). All (λ d. Inside (descriptor_area d) (ring_area ring)) list) slots.classes (outstanding-inside ring o slots.slot) in
-    let inside = all-left (λ d. Inside (descriptor_area d) (ring_area ring)) (finished o a) behind whole in
+    let whole : All (λ d. IsInside (descriptor_area d) (ring_area ring)) (finished o a ++ behind) =
+    subst (λ (list : List ℕ). All (λ d. IsInside (descriptor_area d) (ring_area ring)) list) slots.classes (outstanding-inside ring o slots.slot) in
+    let inside = all-left (λ d. IsInside (descriptor_area d) (ring_area ring)) (finished o a) behind whole in
     λ k d below. foreign-in_ring o p a _ sound (inside k d below) (λ j e within. half-apart _ _ (across k d below j e within))
   where
     half-apart : (x y : ℕ) → AreApart (descriptor_area x) (descriptor_area y) → AreApart (descriptor_area x) (reported_half y)
@@ -129,7 +129,7 @@ foreign-named o p a sound =
     all-unmapped (λ area. IsForeign a area) (named a.memory) (finished o a) each
 
 -- The same of the transmit ring, and of status bytes.
-foreign-in_transmit : (o p : ℕ) (a : World) (area : Area) → Sound o p a → Inside area (ring_area (transmit_ring a)) → All (λ d. AreApart area (status_byte d)) (buffered a ++ offered (transmit_ring a)) → IsForeign a area
+foreign-in_transmit : (o p : ℕ) (a : World) (area : Area) → Sound o p a → IsInside area (ring_area (transmit_ring a)) → All (λ d. AreApart area (status_byte d)) (buffered a ++ offered (transmit_ring a)) → IsForeign a area
 foreign-in_transmit o p a area sound inside apart =
     let parts = parts-of o p a sound in
     let r = ring_area (receive_ring a) in
@@ -153,7 +153,7 @@ foreign-written o p a sound =
     let behind = buffered a ++ offered ring in
     let pairs : AllPairs R (written_back p a ++ behind) = subst (λ (list : List ℕ). AllPairs R list) slots.classes (outstanding-apart ring p slots.slot) in
     let across = pairs-across R (written_back p a) behind pairs in
-    let inside = dealt-left a.memory ring p (buffered a) (λ d. Inside (descriptor_area d) (ring_area ring)) slots (outstanding-inside ring p slots.slot) in
+    let inside = dealt-left a.memory ring p (buffered a) (λ d. IsInside (descriptor_area d) (ring_area ring)) slots (outstanding-inside ring p slots.slot) in
     λ k d below. foreign-in_transmit o p a _ sound (inside k d below) (λ j e within. byte-apart _ _ (across k d below j e within))
   where
     byte-apart : (x y : ℕ) → AreApart (descriptor_area x) (descriptor_area y) → AreApart (descriptor_area x) (status_byte y)
@@ -166,7 +166,7 @@ foreign-written o p a sound =
 outstanding-places : (ring : Ring) (oldest : ℕ) → All (λ d. (slot : ℕ) × (d ≡ address_of ring slot)) (outstanding ring oldest)
 outstanding-places ring oldest = All-map (λ d. (slot : ℕ) × (d ≡ address_of ring slot)) (address_of ring) (owned (record ring { head = oldest })) (λ k d below. (_, refl))
 
-slot-inside : (base n slot size : ℕ) → slot < n → size ≤ 16 → Inside (record { address = base + 16 * slot; size = size }) (record { address = base; size = 16 * n })
+slot-inside : (base n slot size : ℕ) → slot < n → size ≤ 16 → IsInside (record { address = base + 16 * slot; size = size }) (record { address = base; size = 16 * n })
 slot-inside base n slot size below fits = record { from = omega arith; to = omega (arith, below, fits) }
 
 own-apart : (base slot other : ℕ) → other ≢ slot → AreApart (record { address = base + 16 * slot; size = 16 }) (reported_half (base + 16 * other))
@@ -230,7 +230,7 @@ front-status base slot other = ⊎_elim (λ (less : other < slot). inr (omega (a
 back-status : (base slot other : ℕ) → AreApart (record { address = base + 16 * slot + 13; size = 3 }) (status_byte (base + 16 * other))
 back-status base slot other = ⊎_elim (λ (more : slot < other). inl (omega (arith, more))) (λ (less : other ≤ slot). inr (omega (arith, less))) (cases_lt slot other)
 
-foreign-request : (o p : ℕ) (a : World) (area : Area) → Sound o p a → Inside area (ring_area (transmit_ring a)) → ((other : ℕ) → AreApart area (status_byte (address_of (transmit_ring a) other))) → IsForeign a area
+foreign-request : (o p : ℕ) (a : World) (area : Area) → Sound o p a → IsInside area (ring_area (transmit_ring a)) → ((other : ℕ) → AreApart area (status_byte (address_of (transmit_ring a) other))) → IsForeign a area
 foreign-request o p a area sound inside apart =
     let ring = transmit_ring a in
     let places = dealt-right a.memory ring p (buffered a) (λ d. (s : ℕ) × (d ≡ address_of ring s)) sound.transmit_slots (outstanding-places ring p) in

@@ -1,17 +1,18 @@
 -- A driver's store to memory of its own.
 use Rattle.std.proofs.Common.{◌≡◌, ◌++◌, [], ℕ, List, length, map, cond, sym, ap, subst, ◌∙◌}
 use Rattle.std.specs.List.{All}
+use Rattle.dma_memory.specs.Areas.{AreApart, Area, ChangesOnly}
+use Rattle.dma_memory.specs.AreaLaws.{changes_only_stored}
 use Rattle.dma_memory.specs.HostMemory.{LiesIn, with_bytes}
 use Rattle.dma_memory.specs.Laws.{length-with_bytes}
 use Rattle.rx_engine.specs.Held as engine
 use Rattle.tx_engine.specs.Transmitter.{Queued}
-use Rattle.bus.specs.Areas.{Area, AreApart}
 use Rattle.bus.specs.Frames.{areas, buffer_of, buffered, data_of, finished, in_work, named, offered_buffers, receives, reported_half, ring_area, status_byte, work_areas}
 use Rattle.bus.specs.Law.{Reports, Sound}
 use Rattle.bus.specs.OwnStores.{IsOwn, OwnStoresLeaveForeign, OwnStoresLeaveFrames}
 use Rattle.bus.specs.Slots.{offered, outstanding}
 use Rattle.bus.specs.World.{World, receive_ring, transmit_ring, world_after_store}
-use Rattle.bus.proofs.Areas.{Keeps, separate-same, stored-keeps}
+use Rattle.bus.proofs.Areas.{separate-same}
 use Rattle.bus.proofs.Kept.{IsSame, buffers-kept, frame_of, receive_kept_by_slots, same-apart, transmit_kept_by_slots}
 use Rattle.bus.proofs.Lists.{all-left, all-right}
 use Rattle.bus.proofs.Putting.{areas-same}
@@ -24,7 +25,7 @@ buffers-stay o p a address bytes sound lies own =
     let memory = a.memory in
     let memory' = with_bytes memory address bytes in
     let ring = receive_ring a in
-    let keeps : Keeps memory memory' (record { address = address; size = length bytes }) = stored-keeps memory bytes address (length-with_bytes memory bytes address lies) lies in
+    let keeps : ChangesOnly memory memory' (record { address = address; size = length bytes }) = changes_only_stored memory bytes address lies in
     let received : All (IsSame memory memory') (outstanding ring o) = same-apart memory memory' (record { address = address; size = length bytes }) (outstanding ring o) keeps own.received in
     let same : All (IsSame memory memory') (offered ring) = all-right (IsSame memory memory') (in_work a) (offered ring) (dealt-right memory ring o (in_work a) (IsSame memory memory') sound.receive_slots received) in
     ap (λ (there : List Area). cond (receives a) there []) (buffers-kept memory memory' (buffer_of a 0).size (offered ring) same)
@@ -36,7 +37,7 @@ own_stores_leave_frames o p a address bytes sound lies own =
     let b = world_after_store address bytes a in
     let area : Area = record { address = address; size = length bytes } in
     let size : length memory' ≡ length memory = length-with_bytes memory bytes address lies in
-    let keeps : Keeps memory memory' area = stored-keeps memory bytes address size lies in
+    let keeps : ChangesOnly memory memory' area = changes_only_stored memory bytes address lies in
     let payload = map (data_of memory) (offered (transmit_ring a)) in
     let names = map (named memory) (finished o a) in
     let work = work_areas memory a.adapter.receiver.work in
@@ -49,22 +50,25 @@ own_stores_leave_frames o p a address bytes sound lies own =
     let transmitting = transmit_kept_by_slots a memory' p area keeps sound.transmit_slots sent (all-left (AreApart area) payload (names ++ (work ++ offered_buffers a)) own.frames) in
     let buffers = buffers-stay o p a address bytes sound lies own in
     record {
-      sound = record {
-        receive_slots = receiving.dealt;
-        transmit_slots = transmitting.dealt;
-        separate =
-            separate-same memory memory' (areas o a) (areas o b) size
-            (areas-same (ring_area (receive_ring a)) (ring_area (transmit_ring a)) _ _ _ _ _ _ _ _ transmitting.data_areas receiving.named_areas receiving.areas_of_work buffers)
-            sound.separate;
-        reports = subst (λ (queue : List Queued). All Reports (a.adapter.transmitter.buffer ++ queue)) (sym transmitting.fetches) sound.reports;
-        pads = sound.pads;
+      same = record {
+        sound = record {
+          receive_slots = receiving.dealt;
+          transmit_slots = transmitting.dealt;
+          separate =
+              separate-same memory memory' (areas o a) (areas o b) size
+              (areas-same (ring_area (receive_ring a)) (ring_area (transmit_ring a)) _ _ _ _ _ _ _ _ transmitting.data_areas receiving.named_areas receiving.areas_of_work buffers)
+              sound.separate;
+          reports = subst (λ (queue : List Queued). All Reports (a.adapter.transmitter.buffer ++ queue)) (sym transmitting.fetches) sound.reports;
+          pads = sound.pads;
+        };
+        held =
+            ap (λ (frames : List (List ℕ)). frames ++ (engine.in_work memory' a.adapter.receiver.work ++ a.adapter.receiver.buffer)) receiving.frames
+            ∙ ap (λ (frames : List (List ℕ)). map (frame_of memory) (finished o a) ++ (frames ++ a.adapter.receiver.buffer)) receiving.frame_in_work;
+        to_send = transmitting.sends;
+        finished_same = receiving.done;
+        written_same = transmitting.done;
+        whole = receiving.whole;
       };
-      held =
-          ap (λ (frames : List (List ℕ)). frames ++ (engine.in_work memory' a.adapter.receiver.work ++ a.adapter.receiver.buffer)) receiving.frames
-          ∙ ap (λ (frames : List (List ℕ)). map (frame_of memory) (finished o a) ++ (frames ++ a.adapter.receiver.buffer)) receiving.frame_in_work;
-      to_send = transmitting.sends;
-      finished_same = receiving.done;
-      written_same = transmitting.done;
       runs = λ can. record {
         receiver_runs = can.receiver_runs;
         transmitter_runs = can.transmitter_runs;
@@ -75,7 +79,6 @@ own_stores_leave_frames o p a address bytes sound lies own =
         frames = can.frames;
         transmittable = transmittable-kept memory memory' (offered (transmit_ring a)) size transmitting.same_offered can.transmittable;
       };
-      whole = receiving.whole;
     }
 
 -- What the adapter may write is the same.

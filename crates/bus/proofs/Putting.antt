@@ -3,11 +3,13 @@ use Rattle.std.proofs.Common.{◌≡◌, ◌<◌, ◌+◌, ◌&&◌, inl, ◌++�
 use Rattle.std.specs.List.{All}
 use Rattle.std.proofs.lemmas.Bool.Decides.{nat_tests}
 use Rattle.std.proofs.lemmas.List.{append-nil, get_or-append_right}
-use Rattle.registers.specs.Bits.{union}
+use Rattle.dma_memory.specs.Areas.{AreApart, Area, ChangesOnly, IsInside, descriptor_area}
+use Rattle.dma_memory.specs.AreaLaws.{apart-inside, apart-sym, changes_only_stored, lies-inside}
+use Rattle.registers.specs.Bits.{is_set, union}
 use Rattle.dma_memory.specs.HostMemory.{bytes_at, with_bytes, LiesIn}
 use Rattle.dma_memory.specs.Laws.{bytes_at-parts, bytes_at-stored, length-bytes_at, length-with_bytes}
 use Rattle.rx_engine.specs.Held as engine
-use Rattle.tx_engine.specs.Fetching.{fetched, is_set}
+use Rattle.tx_engine.specs.Fetching.{fetched}
 use Rattle.tx_engine.specs.Steps.{written_back as reported_in}
 use Rattle.tx_engine.specs.Laws.{to_send-put}
 use Rattle.tx_engine.specs.Transmitter.{Queued}
@@ -17,19 +19,18 @@ use Rattle.adapter.specs.Transmitting.{PutAnswers, after_put, causes_of_putting}
 use Rattle.adapter.specs.declared.step.StepKind.TheVariants.{TxPut}
 use Rattle.adapter.specs.declared.step.Stepped.{Stepped}
 use Rattle.adapter.specs.declared.step.Stepped.TheVariants.{Took, Put, WireFull, Moved, Done, Ticked, Nothing, Fault}
-use Rattle.bus.specs.Areas.{Area, AreApart}
 use Rattle.bus.specs.Frames.{areas, buffer_of, buffered, data_of, finished, frame_areas, frames_held, in_work, named, offered_buffers, receives, reported_half, ring_area, status_byte, work_areas}
 use Rattle.bus.specs.Law.{Between, Happens, Reports, Sound}
 use Rattle.bus.specs.Past.{nothing}
 use Rattle.bus.specs.Slots.{is_done, offered}
 use Rattle.bus.specs.Steps.{IsRunning, past_of_step, world_after_step}
 use Rattle.bus.specs.World.{World, receive_ring, transmit_ring}
-use Rattle.bus.proofs.Areas.{Inside, Keeps, apart-inside, apart-sym, lies-inside, separate-same, stored-keeps}
+use Rattle.bus.proofs.Areas.{separate-same}
 use Rattle.bus.proofs.Composing.{happens_none}
 use Rattle.bus.proofs.Engines.{added, steady_moves, still}
 use Rattle.bus.proofs.Kept.{IsSame, buffers-kept, data-kept, fetched-kept, frame_of, is_done-same, receive_kept, to_send-kept}
 use Rattle.bus.proofs.Lists.{all-head, all-left, all-right, all-tail, all-weaker, all-without, map-same, pairs-head, pairs-tail}
-use Rattle.bus.proofs.Rings.{dealt-others, dealt-reported, dealt-right, descriptor_area, outstanding-inside}
+use Rattle.bus.proofs.Rings.{dealt-others, dealt-reported, dealt-right, outstanding-inside}
 use Rattle.descriptors.specs.Frames.{IsLegal}
 use Rattle.bus.proofs.Lists.{all-none}
 use Rattle.bus.proofs.Running.{transmittable-kept}
@@ -62,7 +63,7 @@ put_adapter queued later world = after_put (Put queued.frame) (with_queue (queue
 
 -- What is written as a report lies in the transmit ring.
 pub record Place (world : World) (descriptor : ℕ) : Type 0 where
-  pub inside : Inside (descriptor_area descriptor) (ring_area (transmit_ring world))
+  pub inside : IsInside (descriptor_area descriptor) (ring_area (transmit_ring world))
   pub lies : LiesIn world.memory descriptor 16
   pub byte : LiesIn world.memory (descriptor + 12) 1
 
@@ -71,14 +72,14 @@ place-found o p queued later a sound =
     let w = with_queue (queued ∷ later) a in
     let ring = transmit_ring w in
     let slots = sound.transmit_slots in
-    let right = dealt-right w.memory ring p (buffered w) (λ d. Inside (descriptor_area d) (ring_area ring)) slots (outstanding-inside ring p slots.slot) in
-    let inside = all-head (λ d. Inside (descriptor_area d) (ring_area ring)) queued.descriptor (buffered (with_queue later a) ++ offered ring) right in
+    let right = dealt-right w.memory ring p (buffered w) (λ d. IsInside (descriptor_area d) (ring_area ring)) slots (outstanding-inside ring p slots.slot) in
+    let inside = all-head (λ d. IsInside (descriptor_area d) (ring_area ring)) queued.descriptor (buffered (with_queue later a) ++ offered ring) right in
     let lie : LiesIn w.memory ring.base (ring_area ring).size =
     all-head (λ area. LiesIn w.memory area.address area.size) (ring_area ring) (frame_areas o w) (all-tail (λ area. LiesIn w.memory area.address area.size) (ring_area (receive_ring w)) (ring_area ring ∷ frame_areas o w) sound.separate.lie) in
     record {
       inside = inside;
-      lies = lies-inside w.memory queued.descriptor 16 ring.base (ring_area ring).size inside.from inside.to lie;
-      byte = lies-inside w.memory (queued.descriptor + 12) 1 ring.base (ring_area ring).size (omega (arith, inside.from)) (omega (arith, inside.to)) lie;
+      lies = lies-inside w.memory (descriptor_area queued.descriptor) (ring_area ring) inside lie;
+      byte = lies-inside w.memory (status_byte queued.descriptor) (ring_area ring) (record { from = omega (arith, inside.from); to = omega (arith, inside.to) }) lie;
     }
 
 pub between_put : (o p : ℕ) (queued : Queued) (later : List Queued) (a : World) → Sound o p (with_queue (queued ∷ later) a) → Between o p (with_queue (queued ∷ later) a) (record { memory = with_bytes a.memory (queued.descriptor + 12) (1 ∷ []); adapter = put_adapter queued later a }) (record nothing { put = queued.frame ∷ [] })
@@ -91,7 +92,7 @@ between_put o p queued later a0 sound =
     let place = place-found o p queued later a0 sound in
     let size : length memory' ≡ length memory = length-with_bytes memory (1 ∷ []) (d + 12) place.byte in
     let area = status_byte d in
-    let keeps : Keeps memory memory' area = stored-keeps memory (1 ∷ []) (d + 12) size place.byte in
+    let keeps : ChangesOnly memory memory' area = changes_only_stored memory (1 ∷ []) (d + 12) place.byte in
     let r = ring_area (receive_ring a) in
     let t = ring_area (transmit_ring a) in
     let offers = offered (transmit_ring a) in
@@ -99,8 +100,8 @@ between_put o p queued later a0 sound =
     let names = map (named memory) (finished o a) in
     let work = work_areas memory a.adapter.receiver.work in
     let rest = payload ++ (names ++ (work ++ offered_buffers a)) in
-    let in_descriptor : Inside area (descriptor_area d) = record { from = omega arith; to = omega arith } in
-    let in_transmit : Inside area t = record { from = omega (arith, place.inside.from); to = omega (arith, place.inside.to) } in
+    let in_descriptor : IsInside area (descriptor_area d) = record { from = omega arith; to = omega arith } in
+    let in_transmit : IsInside area t = record { from = omega (arith, place.inside.from); to = omega (arith, place.inside.to) } in
     let apart_receive : AreApart area r = apart-inside area t r in_transmit (apart-sym r t (all-head (AreApart r) t rest (pairs-head AreApart r (t ∷ rest) sound.separate.apart))) in
     let apart_rest : All (AreApart area) rest =
     all-weaker (AreApart t) (AreApart area) rest (λ other apart. apart-inside area t other in_transmit apart) (pairs-head AreApart t rest (pairs-tail AreApart r (t ∷ rest) sound.separate.apart)) in

@@ -20,7 +20,6 @@ use Rattle.adapter.specs.State.{AdapterState}
 use Rattle.adapter.specs.Steps.{after_phy_told, causes_told}
 use Rattle.adapter.specs.declared.step.StepKind.TheVariants.{EepromTick, PhyTick}
 use Rattle.adapter.specs.declared.step.Stepped.{Stepped}
-use Rattle.bus.specs.Areas.{bytes_in}
 use Rattle.bus.specs.Frames.{finished, frames_to_send, named, written_back}
 use Rattle.bus.specs.Law.{Between, Happens, Management, Sound, management_of, phy_ticked}
 use Rattle.bus.specs.Past.{Past, nothing}
@@ -31,6 +30,7 @@ use Rattle.bus.proofs.Composing.{happens_none}
 use Rattle.bus.proofs.Engines.{added, steady_moves, still}
 use Rattle.descriptors.specs.Frames.{IsLegal}
 use Rattle.std.proofs.lemmas.List.Elements.{All-append, All-cons}
+use Rattle.dma_memory.specs.Areas.{bytes_in}
 use Rattle.bus.proofs.Lists.{all-none}
 
 -- what such a step may change of an adapter

@@ -2,9 +2,10 @@
 use Rattle.std.proofs.Common.{◌≡◌, ◌≢◌, ◌≤◌, ◌<◌, ◌⊎◌, inl, inr, ◌+◌, ◌-◌, ◌*◌, ◌%◌, ◌^◌, ◌/◌, ◌==◌, ◌++◌, ◌∷◌, [], false, ℕ, List, length, min, slice_index, refl, sym, ap, subst, ◌∙◌, arith}
 use Rattle.std.specs.List.{All}
 use Rattle.std.proofs.lemmas.List.{append-nil}
+use Rattle.dma_memory.specs.Areas.{AreApart, Area, descriptor_area}
 use Rattle.dma_memory.specs.HostMemory.{bytes_at, LiesIn, with_bytes}
 use Rattle.dma_memory.specs.Laws.{bytes_at-stored}
-use Rattle.registers.specs.Bits.{field}
+use Rattle.registers.specs.Bits.{field, is_set}
 use Rattle.registers.specs.ReceiveControl.{buffer_size_of}
 use Rattle.rx_filter.specs.Registers.{FilterRegisters}
 use Rattle.descriptors.specs.declared.ring.Ring.{Ring}
@@ -16,12 +17,9 @@ use Rattle.descriptors.specs.RxDesc.{rx_desc_of}
 use Rattle.descriptors.specs.RxStatus.{status_bits, status_of}
 use Rattle.descriptors.specs.RingLaws.{next-below}
 use Rattle.rx_engine.specs.Descriptors.{descriptor_at, named_address}
-use Rattle.tx_engine.specs.Fetching.{is_set}
-use Rattle.bus.specs.Areas.{Area, AreApart}
 use Rattle.bus.specs.Frames.{areas, buffer_of, frames_held, frames_to_send}
 use Rattle.bus.specs.Law.{Acts, Happens, Sound}
 use Rattle.bus.specs.Offering.{CanOffer, Offered, offering}
-use Rattle.bus.specs.Own.{descriptor_area}
 use Rattle.bus.specs.OwnStores.{IsOwn}
 use Rattle.bus.specs.Past.{Access, Past, Stores, Writes, joined, nothing}
 use Rattle.bus.specs.Refilling.{CanRefill, IsRefilled, KnowsRing, Refilled, empty_descriptor}

@@ -5,13 +5,13 @@ use Rattle.std.proofs.lemmas.Bool.{cases_eq}
 use Rattle.std.proofs.lemmas.Nat.{mod_below}
 use Rattle.std.proofs.lemmas.List.Elements.{All-cons, All-append, All-map}
 use Rattle.std.proofs.lemmas.List.Kept.{AllPairs-cons}
+use Rattle.dma_memory.specs.Areas.{AreApart, Area, IsInside, descriptor_area}
+use Rattle.dma_memory.specs.AreaLaws.{apart-sym}
 use Rattle.descriptors.specs.declared.ring.Ring.{Ring}
 use Rattle.descriptors.specs.Ring.{IsSound, address_of, count_of, distance_of, next_of, owned, slots_from}
 use Rattle.descriptors.specs.RingLaws.{distance-around, distance-forward, distance-step, next-below, next-inner, next-last, owned-head}
-use Rattle.bus.specs.Areas.{Area, AreApart}
 use Rattle.bus.specs.Frames.{ring_area}
 use Rattle.bus.specs.Slots.{IsDealt, done_slots, is_done, offered, outstanding}
-use Rattle.bus.proofs.Areas.{Inside, apart-sym}
 use Rattle.bus.proofs.Lists.{all-left, all-none, all-right, all-tail, all-weaker, pairs-before, pairs-behind, pairs-mapped, pairs-none, take_while-passes, take_while-same, take_while-split}
 
 -- Slots by number.
@@ -49,23 +49,19 @@ slots-distinct n i (suc k) below fits =
 
 -- Slots by address.
 
--- a descriptor's sixteen bytes
-abbrev pub descriptor_area : ℕ → Area
-descriptor_area descriptor = record { address = descriptor; size = 16 }
-
 -- The outstanding slots stand in the ring,
-pub outstanding-inside : (ring : Ring) (oldest : ℕ) → (oldest < count_of ring) ⊎ (outstanding ring oldest ≡ []) → All (λ descriptor. Inside (descriptor_area descriptor) (ring_area ring)) (outstanding ring oldest)
+pub outstanding-inside : (ring : Ring) (oldest : ℕ) → (oldest < count_of ring) ⊎ (outstanding ring oldest ≡ []) → All (λ descriptor. IsInside (descriptor_area descriptor) (ring_area ring)) (outstanding ring oldest)
 unfolding owned
-outstanding-inside ring oldest (inr none) = rw none (all-none (λ descriptor. Inside (descriptor_area descriptor) (ring_area ring)))
+outstanding-inside ring oldest (inr none) = rw none (all-none (λ descriptor. IsInside (descriptor_area descriptor) (ring_area ring)))
 outstanding-inside ring oldest (inl below) =
     let n = count_of ring in
     let k = distance_of ring oldest ring.tail in
-    All-map (λ descriptor. Inside (descriptor_area descriptor) (ring_area ring)) (address_of ring) (slots_from n oldest k)
-    (all-weaker (λ slot. slot < n) (λ slot. Inside (descriptor_area (address_of ring slot)) (ring_area ring)) (slots_from n oldest k)
+    All-map (λ descriptor. IsInside (descriptor_area descriptor) (ring_area ring)) (address_of ring) (slots_from n oldest k)
+    (all-weaker (λ slot. slot < n) (λ slot. IsInside (descriptor_area (address_of ring slot)) (ring_area ring)) (slots_from n oldest k)
     (λ slot inside. inside-ring ring.base n slot inside)
     (slots-below n oldest k below))
   where
-    inside-ring : (base n slot : ℕ) → slot < n → Inside (record { address = base + 16 * slot; size = 16 }) (record { address = base; size = 16 * n })
+    inside-ring : (base n slot : ℕ) → slot < n → IsInside (record { address = base + 16 * slot; size = 16 }) (record { address = base; size = 16 * n })
     inside-ring base n slot below = record { from = omega arith; to = omega (arith, below) }
 
 -- and apart from one another.

@@ -2,6 +2,8 @@
 use Rattle.std.proofs.Common.{◌≡◌, ◌≢◌, ◌≤◌, inr, ◌++◌, ◌∷◌, [], Bool, true, false, cond, ℕ, List, length, drop, map, sym, ap, subst, arith}
 use Rattle.std.specs.List.{All}
 use Rattle.std.proofs.lemmas.Bool.{eq-eqb}
+use Rattle.dma_memory.specs.Areas.{Area, IsInside, descriptor_area}
+use Rattle.dma_memory.specs.AreaLaws.{lies-inside}
 use Rattle.dma_memory.specs.HostMemory.{LiesIn}
 use Rattle.descriptors.specs.declared.tx_desc.TxDesc.{TxDesc}
 use Rattle.descriptors.specs.Frames.{IsLegal}
@@ -16,17 +18,15 @@ use Rattle.adapter.specs.declared.step.StepKind.{StepKind}
 use Rattle.adapter.specs.declared.step.StepKind.TheVariants.{TxTake, TxPut, RxData, RxDone, EepromTick, PhyTick}
 use Rattle.adapter.specs.declared.step.Stepped.{Stepped}
 use Rattle.adapter.specs.declared.step.Stepped.TheVariants.{Fault}
-use Rattle.bus.specs.Areas.{Area}
 use Rattle.bus.specs.Faults.{FaultsNeverCome}
 use Rattle.bus.specs.Frames.{buffer_of, buffered, data_of, finished, frame_areas, in_work, named, offered_buffers, receives, ring_area, work_areas}
 use Rattle.bus.specs.Law.{Sound}
 use Rattle.bus.specs.Running.{CanRun, CanTransmit}
 use Rattle.bus.specs.Slots.{offered}
 use Rattle.bus.specs.World.{World, receive_ring, transmit_ring}
-use Rattle.bus.proofs.Areas.{Inside, lies-inside}
 use Rattle.bus.proofs.Kept.{IsSame}
 use Rattle.bus.proofs.Lists.{all-head, all-none, all-right, all-tail}
-use Rattle.bus.proofs.Rings.{dealt-right, descriptor_area, offered-head, outstanding-inside}
+use Rattle.bus.proofs.Rings.{dealt-right, offered-head, outstanding-inside}
 
 -- No fault.
 
@@ -45,13 +45,13 @@ can_take o p a sound can not_idle =
     let first = offered-head ring in_ring differ in
     let head = address_of ring ring.head in
     let slots = sound.transmit_slots in
-    let Within : ℕ → Type 0 = λ d. Inside (descriptor_area d) t in
+    let Within : ℕ → Type 0 = λ d. IsInside (descriptor_area d) t in
     let within = all-right Within (buffered a) (offered ring) (dealt-right a.memory ring p (buffered a) Within slots (outstanding-inside ring p slots.slot)) in
     let inside = all-head Within head _ (subst (λ (list : List ℕ). All Within list) first within) in
     let lie : LiesIn a.memory ring.base t.size = all-head (Lies a.memory) t (frame_areas o a) (all-tail (Lies a.memory) r (t ∷ frame_areas o a) sound.separate.lie) in
     record {
       sound = in_ring;
-      lies = lies-inside a.memory head 16 ring.base t.size inside.from inside.to lie;
+      lies = lies-inside a.memory (descriptor_area head) t inside lie;
       transmittable = all-head (CanTransmit a.memory) head _ (subst (λ (list : List ℕ). All (CanTransmit a.memory) list) first can.transmittable);
     }
 
@@ -71,7 +71,7 @@ can_move o p a sound can has =
     let head = address_of ring ring.head in
     let buffer = buffer_of a head in
     let slots = sound.receive_slots in
-    let Within : ℕ → Type 0 = λ d. Inside (descriptor_area d) r in
+    let Within : ℕ → Type 0 = λ d. IsInside (descriptor_area d) r in
     let within = all-right Within (in_work a) (offered ring) (dealt-right a.memory ring o (in_work a) Within slots (outstanding-inside ring o slots.slot)) in
     let inside = all-head Within head _ (subst (λ (list : List ℕ). All Within list) first within) in
     let lie : LiesIn a.memory ring.base r.size = all-head (Lies a.memory) r (t ∷ frame_areas o a) sound.separate.lie in
@@ -86,7 +86,7 @@ can_move o p a sound can has =
     let least = oldest-fits a.adapter.receiver.buffer can.frames in
     record {
       indices = in_ring;
-      descriptor = lies-inside a.memory head 16 ring.base r.size inside.from inside.to lie;
+      descriptor = lies-inside a.memory (descriptor_area head) r inside lie;
       place = omega (arith, place, least, can.size);
       not_extended = can.not_extended;
       size = omega (arith, least, can.size);

@@ -1,9 +1,11 @@
 -- A small driver sends a frame: two stores, and a write of TDT.
 use Rattle.std.proofs.Common.{◌≡◌, ◌≢◌, ◌≤◌, ◌<◌, ◌+◌, ◌-◌, ◌*◌, ◌%◌, ◌^◌, ◌/◌, ◌==◌, ◌++◌, ◌∷◌, [], true, false, ℕ, List, length, slice_index, refl, sym, ap, subst, ◌∙◌, arith, append_assoc}
 use Rattle.std.specs.List.{All}
+use Rattle.dma_memory.specs.Areas.{AreApart, Area, ChangesOnly, bytes_in, descriptor_area}
+use Rattle.dma_memory.specs.AreaLaws.{apart-inside, apart-sym, changes_only_stored, inside-apart}
 use Rattle.dma_memory.specs.HostMemory.{bytes_at, LiesIn, with_bytes}
 use Rattle.dma_memory.specs.Laws.{bytes_at-stored}
-use Rattle.registers.specs.Bits.{HasBit}
+use Rattle.registers.specs.Bits.{HasBit, is_set}
 use Rattle.descriptors.specs.declared.ring.Ring.{Ring}
 use Rattle.descriptors.specs.declared.tx_desc.TxDesc.{TxDesc}
 use Rattle.descriptors.specs.Frames.{padded}
@@ -11,12 +13,10 @@ use Rattle.descriptors.specs.Laws.{length-tx_desc_bytes, tx_desc_of-tx_desc_byte
 use Rattle.descriptors.specs.Ring.{address_of, count_of, next_of}
 use Rattle.descriptors.specs.TxDesc.{tx_desc_of}
 use Rattle.descriptors.specs.TxFields.{command_bits, command_of, sent_bits, sent_of}
-use Rattle.tx_engine.specs.Fetching.{descriptor_at, fetched, frame_at, is_set}
-use Rattle.bus.specs.Areas.{Area, AreApart, bytes_in}
+use Rattle.tx_engine.specs.Fetching.{descriptor_at, fetched, frame_at}
 use Rattle.bus.specs.Frames.{areas, data_of, frame_areas, frames_held, frames_to_send, ring_area}
 use Rattle.bus.specs.Law.{Acts, Happens, Sound}
 use Rattle.bus.specs.Offering.{CanSend, OfferedFrame, offering_frame}
-use Rattle.bus.specs.Own.{descriptor_area}
 use Rattle.bus.specs.OwnStores.{IsOwn}
 use Rattle.bus.specs.Past.{Access, Past, Stores, Writes, joined, nothing}
 use Rattle.bus.specs.Refilling.{KnowsRing}
@@ -24,7 +24,6 @@ use Rattle.bus.specs.Sending.{CanSendBy, IsSent, Sent, whole_descriptor}
 use Rattle.bus.specs.Slots.{is_done, outstanding}
 use Rattle.bus.specs.Spare.{FramesFit, IsSpare}
 use Rattle.bus.specs.World.{World, receive_ring, transmit_ring, world_after_store, world_after_write}
-use Rattle.bus.proofs.Areas.{Keeps, apart-inside, apart-sym, inside-apart, stored-keeps}
 use Rattle.bus.proofs.Lists.{all-tail}
 use Rattle.dma_memory.specs.Laws.{length-with_bytes}
 use Rattle.bus.proofs.Carrying.{Carries, carried-by_happening, carried-by_store, carries_trans, fit-carried, same_outstanding, spare-carried}
@@ -168,7 +167,7 @@ stands-store o p a b past base count tail buffer frame bytes below long stands =
     let own = own-transmit_slot o p b base tail sound place in
     let lies : LiesIn b.memory slot (length bytes) = subst (λ (n : ℕ). LiesIn b.memory slot n) (sym long) own.lies in
     let carries = carried-by_store o p b slot bytes sound lies (subst (λ (n : ℕ). IsOwn o p b (record { address = slot; size = n })) (sym long) own.own) in
-    let keeps : Keeps b.memory (with_bytes b.memory slot bytes) (record { address = slot; size = length bytes }) = stored-keeps b.memory bytes slot (length-with_bytes b.memory bytes slot lies) lies in
+    let keeps : ChangesOnly b.memory (with_bytes b.memory slot bytes) (record { address = slot; size = length bytes }) = changes_only_stored b.memory bytes slot lies in
     let apart : AreApart (descriptor_area slot) area = apart-inside (descriptor_area slot) (ring_area (transmit_ring b)) area place.inside stands.spare.transmit_slots in
     record {
       carries = carried-to_store o p a b past slot bytes stands.carries carries;

@@ -4,6 +4,8 @@ use Rattle.std.specs.List.{All}
 use Rattle.std.proofs.lemmas.Bool.{cases_lt}
 use Rattle.std.proofs.lemmas.List.{append-nil, drop-take}
 use Rattle.std.proofs.lemmas.List.Elements.{All-append, All-cons, All-map}
+use Rattle.dma_memory.specs.Areas.{AreApart, Area, IsInside, bytes_in, descriptor_area}
+use Rattle.dma_memory.specs.AreaLaws.{apart-inside, apart-sym, inside-apart}
 use Rattle.byteorder.specs.Endian.{little_number}
 use Rattle.byteorder.specs.Numbers.{little_from-take}
 use Rattle.dma_memory.specs.HostMemory.{bytes_at, LiesIn}
@@ -17,14 +19,11 @@ use Rattle.rx_engine.specs.Descriptors as receive
 use Rattle.rx_engine.specs.Held as engine
 use Rattle.rx_engine.specs.declared.engine.Work.{Work}
 use Rattle.tx_engine.specs.Fetching as transmit
-use Rattle.bus.specs.Areas.{Area, AreApart, bytes_in}
 use Rattle.bus.specs.Frames.{areas, buffer_of, buffered, data_of, finished, frame_areas, frames_held, in_work, IsForeign, named, offered_buffers, receives, reported_half, ring_area, slot_of_work, status_byte, work_areas}
 use Rattle.bus.specs.Law.{Sound}
-use Rattle.bus.specs.Own.{descriptor_area}
 use Rattle.bus.specs.Slots.{offered, outstanding}
 use Rattle.bus.specs.Spare.{FramesFit, IsSpare, buffer_size}
 use Rattle.bus.specs.World.{World, receive_ring, transmit_ring}
-use Rattle.bus.proofs.Areas.{Inside, apart-inside, apart-sym, inside-apart}
 use Rattle.bus.proofs.Kept.{frame_of}
 use Rattle.bus.proofs.Lists.{all-head, all-left, all-none, all-right, all-tail, all-unmapped, all-weaker}
 use Rattle.bus.proofs.Own.{parts-of}
@@ -86,7 +85,7 @@ work-apart memory (Some work) size area room apart lie short =
     let whole : Area = record { address = at; size = size } in
     let count : length (bytes_at memory at work.length) ≡ work.length = length-bytes_at memory at work.length (all-head (λ (e : Area). LiesIn memory e.address e.size) place [] lie) in
     let brief : length (bytes_at memory at work.length) ≤ 1518 = all-head Short (bytes_at memory at work.length) [] short in
-    let inside : Inside place whole = record { from = omega arith; to = omega (arith, count, brief, room) } in
+    let inside : IsInside place whole = record { from = omega arith; to = omega (arith, count, brief, room) } in
     All-cons (λ other. AreApart other area) place [] (apart-inside place whole area inside (all-head (λ d. AreApart (record { address = receive.named_address memory d; size = size }) area) work.descriptor [] apart)) (all-none (λ other. AreApart other area))
 
 -- A finished frame stands in its buffer.
@@ -94,7 +93,7 @@ name-apart : (memory : List ℕ) (size d : ℕ) (area : Area) → 1518 ≤ size 
 name-apart memory size d area room lies short apart =
     let count = length-bytes_at memory (named memory d).address (named memory d).size lies in
     let whole : Area = record { address = receive.named_address memory d; size = size } in
-    let inside : Inside (named memory d) whole = record { from = omega arith; to = omega (arith, count, short, room) } in
+    let inside : IsInside (named memory d) whole = record { from = omega arith; to = omega (arith, count, short, room) } in
     apart-inside (named memory d) whole area inside apart
 
 buffers-apart : (on : Bool) (f : ℕ → Area) (slots : List ℕ) (area : Area) → All (λ d. AreApart (f d) area) slots → All (λ other. AreApart other area) (cond on (map f slots) [])

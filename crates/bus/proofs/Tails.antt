@@ -3,6 +3,8 @@ use Rattle.std.proofs.Common.{◌≡◌, ◌≢◌, ◌≤◌, ◌<◌, ◌⊎�
 use Rattle.std.specs.List.{All}
 use Rattle.std.proofs.lemmas.List.Elements.{All-map}
 use Rattle.std.proofs.lemmas.Nat.{and_mask}
+use Rattle.dma_memory.specs.Areas.{AreApart, Area, IsInside, descriptor_area}
+use Rattle.dma_memory.specs.AreaLaws.{apart-inside, apart-sym, inside-apart, lies-inside}
 use Rattle.dma_memory.specs.HostMemory.{LiesIn}
 use Rattle.descriptors.specs.declared.ring.Ring.{Ring}
 use Rattle.descriptors.specs.Ring.{IsSound, address_of, count_of, distance_of, next_of, owned, slots_from}
@@ -15,15 +17,12 @@ use Rattle.adapter.specs.Rings.{ring_of}
 use Rattle.adapter.specs.State.{AdapterState}
 use Rattle.adapter.specs.Table.{register_at}
 use Rattle.adapter.specs.TableLaws.{register_at-there}
-use Rattle.bus.specs.Areas.{Area, AreApart}
 use Rattle.bus.specs.Frames.{buffered, frame_areas, in_work, IsForeign, reported_half, ring_area, status_byte}
 use Rattle.bus.specs.Law.{Sound}
-use Rattle.bus.specs.Own.{descriptor_area}
 use Rattle.bus.specs.OwnStores.{IsOwn}
 use Rattle.bus.specs.Refilling.{KnowsRing}
 use Rattle.bus.specs.Slots.{offered, outstanding}
 use Rattle.bus.specs.World.{World, receive_ring, transmit_ring, world_after_write}
-use Rattle.bus.proofs.Areas.{Inside, apart-inside, apart-sym, inside-apart, lies-inside}
 use Rattle.bus.proofs.Carrying.{foreign-in_transmit_ring, head-slot}
 use Rattle.bus.proofs.Own.{foreign-in_ring, parts-of}
 use Rattle.bus.proofs.Rings.{dealt-right, outstanding-inside, slots-other}
@@ -57,7 +56,7 @@ tail-aside ring oldest below within =
 -- The descriptor at the tail, in the driver's numbers.
 pub record TailSlot (ring : Ring) (oldest base tail : ℕ) : Type 0 where
   pub is : address_of ring ring.tail ≡ base + 16 * tail
-  pub inside : Inside (descriptor_area (base + 16 * tail)) (ring_area ring)
+  pub inside : IsInside (descriptor_area (base + 16 * tail)) (ring_area ring)
   pub aside : All (λ d. AreApart (descriptor_area (base + 16 * tail)) (descriptor_area d)) (outstanding ring oldest)
 
 pub tail-slot : (ring : Ring) (oldest base count tail : ℕ) → tail < count → KnowsRing ring oldest base count tail → TailSlot ring oldest base tail
@@ -67,11 +66,11 @@ tail-slot ring oldest base count tail below knows =
     let first : oldest < count_of ring = omega (arith, knows.slots, knows.oldest_slot) in
     record {
       is = is;
-      inside = subst (λ (d : ℕ). Inside (descriptor_area d) (ring_area ring)) is (in-ring ring.base (count_of ring) ring.tail within);
+      inside = subst (λ (d : ℕ). IsInside (descriptor_area d) (ring_area ring)) is (in-ring ring.base (count_of ring) ring.tail within);
       aside = subst (λ (e : ℕ). All (λ d. AreApart (descriptor_area e) (descriptor_area d)) (outstanding ring oldest)) is (tail-aside ring oldest first within);
     }
   where
-    in-ring : (b n slot : ℕ) → slot < n → Inside (record { address = b + 16 * slot; size = 16 }) (record { address = b; size = 16 * n })
+    in-ring : (b n slot : ℕ) → slot < n → IsInside (record { address = b + 16 * slot; size = 16 }) (record { address = b; size = 16 * n })
     in-ring b n slot within = record { from = omega arith; to = omega (arith, within) }
 
 -- A slot's sixteen bytes, where they are the driver's: they lie in memory, a store to them leaves what the law speaks of, and the adapter
@@ -81,8 +80,8 @@ pub record OwnSlot (o p : ℕ) (a : World) (slot : ℕ) : Type 0 where
   pub own : IsOwn o p a (descriptor_area slot)
   pub foreign : IsForeign a (descriptor_area slot)
 
-lies-in_ring : (memory : List ℕ) (slot base size : ℕ) → Inside (descriptor_area slot) (record { address = base; size = size }) → LiesIn memory base size → LiesIn memory slot 16
-lies-in_ring memory slot base size inside lies = lies-inside memory slot 16 base size inside.from inside.to lies
+lies-in_ring : (memory : List ℕ) (slot base size : ℕ) → IsInside (descriptor_area slot) (record { address = base; size = size }) → LiesIn memory base size → LiesIn memory slot 16
+lies-in_ring memory slot base size inside lies = lies-inside memory (descriptor_area slot) (record { address = base; size = size }) inside lies
 
 half-apart : (x y : ℕ) → AreApart (descriptor_area x) (descriptor_area y) → AreApart (descriptor_area x) (reported_half y)
 half-apart x y (inl before) = inl (omega (arith, before))

@@ -3,6 +3,7 @@ use Rattle.std.proofs.Common.{◌≡◌, inl, inr, ◌++◌, ◌∷◌, [], Bool
 use Rattle.std.specs.List.{All}
 use Rattle.std.proofs.lemmas.Bool.{eq-eqb}
 use Rattle.std.proofs.lemmas.List.{append-nil, map-append}
+use Rattle.dma_memory.specs.Areas.{AreApart, AreSeparate}
 use Rattle.registers.specs.Bits.{union}
 use Rattle.descriptors.specs.Ring.{IsSound, address_of, next_of}
 use Rattle.tx_engine.specs.Fetching.{fetched, pads}
@@ -13,7 +14,6 @@ use Rattle.adapter.specs.Transmitting.{CanTake, HasNothingToTake, TakeAnswers, c
 use Rattle.adapter.specs.declared.step.StepKind.TheVariants.{TxTake}
 use Rattle.adapter.specs.declared.step.Stepped.{Stepped}
 use Rattle.adapter.specs.declared.step.Stepped.TheVariants.{Took, Put, WireFull, Moved, Done, Ticked, Nothing, Fault}
-use Rattle.bus.specs.Areas.{AreApart, AreSeparate}
 use Rattle.bus.specs.Frames.{buffered, data_of, finished, frames_held, in_work, named, offered_buffers, reported_half, ring_area, status_byte, work_areas, written_back}
 use Rattle.bus.specs.Law.{Between, Happens, Reports, Sound}
 use Rattle.bus.specs.Past.{nothing}

@@ -5,12 +5,12 @@ use Rattle.std.proofs.lemmas.Bool.{cases_eq}
 use Rattle.std.proofs.lemmas.List.Sums.{take_while-cons}
 use Rattle.std.proofs.lemmas.Nat.{mod_below}
 use Rattle.std.proofs.Math.Nat.{add-mod_right, mod-eq_of_lt, mod_self, suc-mod}
+use Rattle.dma_memory.specs.Areas.{AreApart, AreSeparate, descriptor_area}
 use Rattle.descriptors.specs.declared.ring.Ring.{Ring}
 use Rattle.descriptors.specs.Ring.{address_of, count_of, distance_of, next_of, owned, slots_from}
 use Rattle.descriptors.specs.RingLaws.{next-below, next-inner, next-last}
 use Rattle.rx_engine.specs.Descriptors.{descriptor_at}
 use Rattle.rx_engine.specs.Held.{held}
-use Rattle.bus.specs.Areas.{AreApart, AreSeparate}
 use Rattle.bus.specs.Frames.{buffered, data_of, in_work, IsForeign, named, offered_buffers, ring_area, work_areas}
 use Rattle.bus.specs.Law.{IsWhole}
 use Rattle.bus.specs.Own.{IsOwnSlot, frame_named}
@@ -20,7 +20,7 @@ use Rattle.bus.specs.World.{receive_ring, transmit_ring}
 use Rattle.bus.proofs.Areas.{separate-without}
 use Rattle.bus.proofs.Lists.{all-head, all-tail, all-weaker, pairs-head, take_while-passes}
 use Rattle.bus.proofs.Own.{foreign-named}
-use Rattle.bus.proofs.Rings.{descriptor_area, outstanding-apart}
+use Rattle.bus.proofs.Rings.{outstanding-apart}
 
 -- The way from a slot.
 

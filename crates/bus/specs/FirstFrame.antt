@@ -4,6 +4,7 @@ use Rattle.bus.specs.Frames.{finished, frames_held}
 use Rattle.bus.specs.Law.{AreWhole, Happens, Sound}
 use Rattle.bus.specs.Past.{Past}
 use Rattle.bus.specs.Slots.{outstanding}
+use Rattle.bus.specs.TakingSlots.{next_received}
 use Rattle.bus.specs.World.{World, receive_ring}
 
 -- the descriptor at this address is that of the oldest slot, which is outstanding
@@ -11,10 +12,10 @@ pub record StandsFirst (descriptor oldest : ℕ) (world : World) : Type 0 where
   pub later : List ℕ
   pub slots : outstanding (receive_ring world) oldest ≡ descriptor ∷ later
 
--- these bytes are the first of the frames held
-pub record IsFirstHeld (oldest : ℕ) (world : World) (frame : List ℕ) : Type 0 where
-  pub later : List (List ℕ)
-  pub held : frames_held oldest world ≡ frame ∷ later
+-- These bytes are the first of the frames held. A driver has taken it where it counts the next slot as its oldest: the conditions hold for that.
+pub record IsFirstHeld (oldest_received oldest_sent : ℕ) (world : World) (frame : List ℕ) : Type 0 where
+  pub held : frames_held oldest_received world ≡ frame ∷ frames_held (next_received oldest_received world) world
+  pub sound : Sound (next_received oldest_received world) oldest_sent world
 
 -- What a look says: where it found a frame, that frame is the first of those held; where it found none, and slots are whole, none was finished
 -- when it began.
@@ -22,5 +23,5 @@ pub record Looked {B : Type 0} (world : B → World) (happened : B → B → Pas
   pub past : Past
   pub told : happened old new past
   pub happens : Happens (world old) (world new) past
-  pub first : (o p : ℕ) → Sound o p (world old) → StandsFirst descriptor o (world old) → IfSome found (λ n. IsFirstHeld o (world new) (take n bytes))
+  pub first : (o p : ℕ) → Sound o p (world old) → StandsFirst descriptor o (world old) → IfSome found (λ n. IsFirstHeld o p (world new) (take n bytes))
   pub none : found ≡ None → 1518 ≤ length bytes → (o p : ℕ) → Sound o p (world old) → StandsFirst descriptor o (world old) → AreWhole (world old).memory (finished o (world old)) → finished o (world old) ≡ []

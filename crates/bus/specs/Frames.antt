@@ -1,17 +1,16 @@
 -- What a world holds: the frames of both rings, and the areas of memory that they need.
 use Rattle.std.specs.Prelude.{◌+◌, ◌*◌, ◌++◌, ℕ, Bool, true, List, [], ◌∷◌, All, Option, None, Some, map, if◌then◌else◌}
-use Rattle.registers.specs.Bits.{field}
+use Rattle.dma_memory.specs.Areas.{AreApart, Area, bytes_in}
+use Rattle.registers.specs.Bits.{field, is_set}
 use Rattle.registers.specs.ReceiveControl.{buffer_size_of}
 use Rattle.descriptors.specs.declared.ring.Ring.{Ring}
 use Rattle.descriptors.specs.Ring.{count_of}
 use Rattle.rx_engine.specs.declared.engine.Work.{Work}
 use Rattle.rx_engine.specs.Descriptors as receive
 use Rattle.rx_engine.specs.Held.{held}
-use Rattle.tx_engine.specs.Fetching.{is_set}
 use Rattle.tx_engine.specs.Fetching as transmit
 use Rattle.tx_engine.specs.ToSend.{to_send}
 use Rattle.tx_engine.specs.Transmitter.{Queued}
-use Rattle.bus.specs.Areas.{Area, AreApart, bytes_in}
 use Rattle.bus.specs.Slots.{done_slots, offered}
 use Rattle.bus.specs.World.{World, receive_ring, transmit_ring}
 

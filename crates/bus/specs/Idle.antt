@@ -1,11 +1,11 @@
 -- Rings that offer nothing, of an adapter that has no slot of the host's (own): as after power-on, after a reset, and in each state of
 -- initialisation up to the first slot that is offered ("14.4 Receive Initialization", "14.5 Transmit Initialization").
 use Rattle.std.specs.Prelude.{⊤, ◌≡◌, ℕ, List, [], ◌∷◌, None, length}
+use Rattle.dma_memory.specs.Areas.{AreSeparate}
 use Rattle.mdic_phy.specs.declared.phy.Link.{Link}
 use Rattle.adapter.specs.Registers.{after_reset, new_adapter, write_of}
 use Rattle.adapter.specs.declared.register.Register.{Register}
 use Rattle.adapter.specs.declared.register.Register.TheVariants.{Receive, Transmit}
-use Rattle.bus.specs.Areas.{AreSeparate}
 use Rattle.bus.specs.Frames.{ring_area}
 use Rattle.bus.specs.Law.{Happens, Sound}
 use Rattle.bus.specs.Past.{Past}

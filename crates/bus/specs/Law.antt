@@ -1,6 +1,7 @@
 -- The bus law: what may happen to an adapter and its memory between two accesses of a driver (own).
 use Rattle.std.specs.Prelude.{◌≡◌, ◌≤◌, ◌+◌, ◌⊎◌, ◌++◌, ℕ, true, List, [], ◌∷◌, All, length, map, max, min, if◌then◌else◌}
 use Rattle.std.specs.Fn.{iterate}
+use Rattle.dma_memory.specs.Areas.{AreSeparate, Area, bytes_in}
 use Rattle.eeprom.specs.Eerd as eeprom
 use Rattle.mdic_phy.specs.Mdic.{MdicState, has_work, mdic_after_tick, phy_after_tick}
 use Rattle.mdic_phy.specs.Phy.{PhyState}
@@ -15,7 +16,6 @@ use Rattle.tx_engine.specs.Fetching.{fetched}
 use Rattle.tx_engine.specs.Transmitter.{Queued}
 use Rattle.adapter.specs.Rings.{ring_of}
 use Rattle.adapter.specs.State.{AdapterState}
-use Rattle.bus.specs.Areas.{Area, AreSeparate, bytes_in}
 use Rattle.bus.specs.Frames.{areas, buffered, finished, frames_held, frames_to_send, in_work, IsForeign, written_back}
 use Rattle.bus.specs.Past.{Access, Past}
 use Rattle.bus.specs.Running.{CanRun}

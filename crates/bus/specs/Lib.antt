@@ -1,4 +1,3 @@
-pub mod Areas
 pub mod World
 pub mod Past
 pub mod Slots
@@ -23,3 +22,5 @@ pub mod Spare
 pub mod Refilling
 pub mod Sending
 pub mod Idle
+pub mod SoundBuses
+pub mod Initialising

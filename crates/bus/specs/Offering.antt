@@ -1,14 +1,14 @@
 -- A driver offers its next slot of a ring.
 use Rattle.std.specs.Prelude.{◌≡◌, ◌≢◌, ◌<◌, ◌∷◌, [], ◌++◌, ℕ, false, true, All}
+use Rattle.dma_memory.specs.Areas.{AreApart, Area}
 use Rattle.dma_memory.specs.HostMemory.{LiesIn}
 use Rattle.registers.specs.Bits.{HasBit}
 use Rattle.descriptors.specs.Ring.{address_of, count_of, next_of}
 use Rattle.tx_engine.specs.Fetching.{fetched, frame_at}
-use Rattle.bus.specs.Areas.{Area, AreApart}
 use Rattle.bus.specs.Frames.{areas, buffer_of, data_of, finished, frames_held, frames_to_send, IsForeign, reported_half, status_byte, written_back}
 use Rattle.bus.specs.Law.{AreWhole, Reports, Sound}
 use Rattle.bus.specs.OwnStores.{SameFrames}
-use Rattle.bus.specs.Running.{CanRun, CanTransmit}
+use Rattle.bus.specs.Running.{CanTransmit, GoOn}
 use Rattle.bus.specs.Slots.{is_done, outstanding}
 use Rattle.bus.specs.World.{World, receive_ring, transmit_ring}
 
@@ -33,10 +33,11 @@ pub record CanOffer (oldest : ℕ) (world : World) : Type 0 where
   pub lies : LiesIn world.memory (buffer_of world (address_of (receive_ring world) world.adapter.receive_ring.tail)).address (buffer_of world 0).size
   pub apart : All (λ area. AreApart area (buffer_of world (address_of (receive_ring world) world.adapter.receive_ring.tail))) (areas oldest world)
 
--- Then the conditions hold again, the slot is the last that is outstanding, and frames are the same. What isn't the adapter's stays so, apart from
--- where it may report the slot and from the slot's buffer.
+-- Then the conditions hold again, the slot is the last that is outstanding, frames are the same, and engines that could run still can. What isn't
+-- the adapter's stays so, apart from where it may report the slot and from the slot's buffer.
 pub record Offered (oldest_received oldest_sent : ℕ) (a b : World) : Type 0 where
   pub same : SameFrames oldest_received oldest_sent a b
+  pub runs : GoOn a b
   pub last : outstanding (receive_ring b) oldest_received ≡ outstanding (receive_ring a) oldest_received ++ address_of (receive_ring a) a.adapter.receive_ring.tail ∷ []
   pub foreign :
       (area : Area) → IsForeign a area → AreApart area (reported_half (address_of (receive_ring a) a.adapter.receive_ring.tail))
@@ -82,7 +83,7 @@ pub record OfferedFrame (oldest_received oldest_sent : ℕ) (a b : World) : Type
   pub written_same : written_back oldest_sent b ≡ written_back oldest_sent a
   pub whole : AreWhole a.memory (finished oldest_received a) → AreWhole b.memory (finished oldest_received b)
   pub last : outstanding (transmit_ring b) oldest_sent ≡ outstanding (transmit_ring a) oldest_sent ++ address_of (transmit_ring a) a.adapter.transmit_ring.tail ∷ []
-  pub runs : CanTransmit a.memory (address_of (transmit_ring a) a.adapter.transmit_ring.tail) → CanRun a → CanRun b
+  pub runs : CanTransmit a.memory (address_of (transmit_ring a) a.adapter.transmit_ring.tail) → GoOn a b
   pub foreign : (area : Area) → IsForeign a area → AreApart area (status_byte (address_of (transmit_ring a) a.adapter.transmit_ring.tail)) → IsForeign b area
 
 abbrev pub FramesCanBeOffered : Type 0

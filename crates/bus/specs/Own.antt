@@ -1,19 +1,15 @@
 -- What a driver may count on, whatever happens between two of its accesses: finished and written-back slots, and its own slots, stay.
 use Rattle.std.specs.Prelude.{◌≡◌, ◌≢◌, ◌<◌, ◌+◌, ℕ, List, All, map}
+use Rattle.dma_memory.specs.Areas.{Area, bytes_in, descriptor_area}
 use Rattle.descriptors.specs.declared.ring.Ring.{Ring}
 use Rattle.descriptors.specs.Ring.{address_of, count_of}
 use Rattle.rx_engine.specs.Descriptors.{named_address}
 use Rattle.tx_engine.specs.Fetching.{descriptor_at}
-use Rattle.bus.specs.Areas.{Area, bytes_in}
 use Rattle.bus.specs.Frames.{finished, named, written_back}
 use Rattle.bus.specs.Law.{Between, Happens, Sound}
 use Rattle.bus.specs.Past.{Past}
 use Rattle.bus.specs.Slots.{outstanding}
 use Rattle.bus.specs.World.{World, receive_ring, transmit_ring}
-
--- the sixteen bytes of a descriptor
-abbrev pub descriptor_area : ℕ → Area
-descriptor_area descriptor = record { address = descriptor; size = 16 }
 
 -- these slots have the same bytes in both worlds
 abbrev pub SlotsStay : World → World → List ℕ → Type 0

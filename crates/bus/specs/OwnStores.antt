@@ -1,11 +1,10 @@
 -- A driver's store to memory of its own leaves what the law speaks of.
 use Rattle.std.specs.Prelude.{◌≡◌, ℕ, List, All, length}
+use Rattle.dma_memory.specs.Areas.{AreApart, Area, descriptor_area}
 use Rattle.dma_memory.specs.HostMemory.{LiesIn}
-use Rattle.bus.specs.Areas.{Area, AreApart}
 use Rattle.bus.specs.Frames.{finished, frame_areas, frames_held, frames_to_send, IsForeign, written_back}
 use Rattle.bus.specs.Law.{AreWhole, Sound}
-use Rattle.bus.specs.Own.{descriptor_area}
-use Rattle.bus.specs.Running.{CanRun}
+use Rattle.bus.specs.Running.{GoOn}
 use Rattle.bus.specs.Slots.{outstanding}
 use Rattle.bus.specs.World.{World, receive_ring, transmit_ring, world_after_store}
 
@@ -15,25 +14,28 @@ pub record IsOwn (oldest_received oldest_sent : ℕ) (world : World) (area : Are
   pub sent : All (λ slot. AreApart area (descriptor_area slot)) (outstanding (transmit_ring world) oldest_sent)
   pub frames : All (AreApart area) (frame_areas oldest_received world)
 
--- The conditions hold in the second world as in the first, slots and frames are the same, finished slots that are whole stay whole, and engines
--- that could run still can.
+-- The conditions hold in the second world as in the first, slots and frames are the same, and finished slots that are whole stay whole.
 pub record SameFrames (oldest_received oldest_sent : ℕ) (a b : World) : Type 0 where
   pub sound : Sound oldest_received oldest_sent b
   pub held : frames_held oldest_received b ≡ frames_held oldest_received a
   pub to_send : frames_to_send b ≡ frames_to_send a
   pub finished_same : finished oldest_received b ≡ finished oldest_received a
   pub written_same : written_back oldest_sent b ≡ written_back oldest_sent a
-  pub runs : CanRun a → CanRun b
   pub whole : AreWhole a.memory (finished oldest_received a) → AreWhole b.memory (finished oldest_received b)
+
+-- And engines that could run still can.
+pub record LeavesFrames (oldest_received oldest_sent : ℕ) (a b : World) : Type 0 where
+  pub same : SameFrames oldest_received oldest_sent a b
+  pub runs : GoOn a b
 
 abbrev pub OwnStoresLeaveFrames : Type 0
 OwnStoresLeaveFrames =
     (oldest_received oldest_sent : ℕ) (world : World) (address : ℕ) (bytes : List ℕ)
     → Sound oldest_received oldest_sent world → LiesIn world.memory address (length bytes)
     → IsOwn oldest_received oldest_sent world (record { address = address; size = length bytes })
-    → SameFrames oldest_received oldest_sent world (world_after_store address bytes world)
+    → LeavesFrames oldest_received oldest_sent world (world_after_store address bytes world)
 
--- Behind such a store what isn't the adapter's isn't so still.
+-- What isn't the adapter's to write stays so behind such a store.
 abbrev pub OwnStoresLeaveForeign : Type 0
 OwnStoresLeaveForeign =
     (oldest_received oldest_sent : ℕ) (world : World) (address : ℕ) (bytes : List ℕ)

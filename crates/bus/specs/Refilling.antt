@@ -1,11 +1,11 @@
 -- A small driver offers a receive slot with a buffer of its own, as the tests have one (own).
 use Rattle.std.specs.Prelude.{◌≡◌, ◌≢◌, ◌<◌, ◌+◌, ◌*◌, ◌%◌, ◌++◌, ◌∷◌, ℕ, List, []}
+use Rattle.dma_memory.specs.Areas.{Area}
 use Rattle.dma_memory.specs.HostMemory.{LiesIn}
 use Rattle.descriptors.specs.declared.ring.Ring.{Ring}
 use Rattle.descriptors.specs.Ring.{count_of}
 use Rattle.descriptors.specs.RxDesc.{rx_desc_bytes}
 use Rattle.descriptors.specs.RxStatus.{status_of}
-use Rattle.bus.specs.Areas.{Area}
 use Rattle.bus.specs.Frames.{buffer_of, frames_held, frames_to_send}
 use Rattle.bus.specs.Law.{Sound}
 use Rattle.bus.specs.Past.{Access, Past, Stores, Writes}

@@ -26,3 +26,7 @@ pub record CanRun (world : World) : Type 0 where
   pub frames : All IsLegal world.adapter.receiver.buffer
   -- The descriptors from TDH to TDT can be transmitted.
   pub transmittable : All (CanTransmit world.memory) (offered (transmit_ring world))
+
+-- engines that can run in the first world can in the second
+abbrev pub GoOn : World → World → Type 0
+GoOn a b = CanRun a → CanRun b

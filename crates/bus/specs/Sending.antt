@@ -1,11 +1,11 @@
 -- A small driver sends a frame through a buffer of its own, as the tests have one (own).
 use Rattle.std.specs.Prelude.{◌≡◌, ◌+◌, ◌*◌, ◌%◌, ◌++◌, ◌∷◌, ℕ, List, [], length}
+use Rattle.dma_memory.specs.Areas.{Area}
 use Rattle.dma_memory.specs.HostMemory.{LiesIn}
 use Rattle.registers.specs.Bits.{HasBit}
 use Rattle.descriptors.specs.Frames.{padded}
 use Rattle.descriptors.specs.TxDesc.{tx_desc_bytes}
 use Rattle.descriptors.specs.TxFields.{command_of, sent_of}
-use Rattle.bus.specs.Areas.{Area}
 use Rattle.bus.specs.Frames.{frames_held, frames_to_send}
 use Rattle.bus.specs.Law.{Sound}
 use Rattle.bus.specs.Past.{Access, Past, Stores, Writes}

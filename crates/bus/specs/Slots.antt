@@ -2,9 +2,9 @@
 -- Transmit Descriptor Ring Structure"). A slot is told by the address of its descriptor.
 use Rattle.std.specs.Prelude.{◌≡◌, ◌<◌, ◌⊎◌, ◌++◌, ℕ, Bool, false, List, [], All, map, slice_index, take_while}
 use Rattle.dma_memory.specs.HostMemory.{bytes_at}
+use Rattle.registers.specs.Bits.{is_set}
 use Rattle.descriptors.specs.declared.ring.Ring.{Ring}
 use Rattle.descriptors.specs.Ring.{address_of, count_of, owned}
-use Rattle.tx_engine.specs.Fetching.{is_set}
 
 -- the slots that the adapter owns: from head up to, not including, tail
 abbrev pub offered : Ring → List ℕ

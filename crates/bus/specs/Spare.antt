@@ -1,8 +1,8 @@
 -- Memory that no outstanding slot uses (own).
 use Rattle.std.specs.Prelude.{◌≤◌, ℕ, All, length}
+use Rattle.dma_memory.specs.Areas.{AreApart, Area}
 use Rattle.registers.specs.Bits.{field}
 use Rattle.registers.specs.ReceiveControl.{buffer_size_of}
-use Rattle.bus.specs.Areas.{Area, AreApart}
 use Rattle.bus.specs.Frames.{areas, buffer_of, data_of, frames_held, IsForeign, ring_area}
 use Rattle.bus.specs.Law.{Happens, Sound}
 use Rattle.bus.specs.Past.{Past}

@@ -4,6 +4,7 @@ ghost use Rattle.bus.specs.Composing.{HappeningsJoin, NothingHappens, SoundStays
 ghost use Rattle.bus.specs.Examples.{HasFinished, HasFramesInBuffer, HasFramesInRing, HasRings, HasWork, HasWrittenBack, SomeSound};
 ghost use Rattle.bus.specs.Faults.{FaultsNeverCome};
 ghost use Rattle.bus.specs.Idle.{HappeningsKeepIdle, IdleAfterPowerOn, IdleAfterReset, IdleRingsAreSound, OtherWritesKeepIdle, ReadsKeepIdle, StoresKeepIdle, WritesKeepIdle};
+ghost use Rattle.bus.specs.Initialising.{ManySlotsCanBeOffered, OtherWritesLeaveFrames, ReadsLeaveFrames, ReceiverCanBeSet, TransmitRingCanBeSet, TransmitterCanBeSet};
 ghost use Rattle.bus.specs.Offering.{FramesCanBeOffered, SlotsCanBeOffered};
 ghost use Rattle.bus.specs.Own.{DriversKeepTheirOwn};
 ghost use Rattle.bus.specs.OwnStores.{OwnStoresLeaveForeign, OwnStoresLeaveFrames};
@@ -127,6 +128,29 @@ pub fn idle_rings_stay_idle()
 /// whose receive ring offers slots; in one with a frame in work, in one with a finished slot, in one with a
 /// written-back slot, in one with frames to be sent in the transmit ring, and in one with frames in the
 /// transmit packet buffer.
+/// A driver may offer many receive slots by one write of RDT, where each could be offered behind the one
+/// before it.
+pub fn many_slots_can_be_offered()
+    ensures { ManySlotsCanBeOffered }
+{}
+
+/// What else a driver does with registers leaves the conditions of the law, slots and frames.
+/// - `receive_control`: it writes RCTL, where the buffers that then count are apart from all else.
+/// - `transmit_control`: it writes TCTL, with PSP or while TDH is TDT.
+/// - `transmit_ring`: it sets up a transmit ring of which no frame is in the packet buffer, with TDH equal to
+///   TDT, apart from all else; the conditions then hold with TDT as the oldest slot.
+/// - `others`, `reads`: it writes any other register, without a reset, or reads one.
+pub fn registers_can_be_set()
+    ensures receive_control { ReceiverCanBeSet }
+    ensures transmit_control { TransmitterCanBeSet }
+    ensures transmit_ring { TransmitRingCanBeSet }
+    ensures others { OtherWritesLeaveFrames }
+    ensures reads { ReadsLeaveFrames }
+{}
+
+/// The conditions of the law can be met: of a world whose rings are both set up and whose receive ring
+/// offers slots; of one with a frame in work, of one with a finished slot, of one with frames to be
+/// sent in the transmit ring, and of one with frames in the transmit packet buffer.
 pub fn conditions_can_be_met()
     ensures rings { SomeSound HasRings }
     ensures work { SomeSound HasWork }

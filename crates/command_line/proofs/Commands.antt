@@ -3,6 +3,7 @@ use Rattle.std.specs.List.{find, list_all, slice_index_or}
 use Rattle.std.specs.Option.{option_map, option_map_or}
 use Rattle.std.specs.Prelude.{Result, Ok, Err, IfErr, IsErrAnd, codes, is_some, unwrap_or}
 use Rattle.std.specs.Str.{bytes_eq}
+use Rattle.std.proofs.lemmas.Option.{same_Some}
 use Rattle.std.proofs.lemmas.Slice.Eq.{bytes_eq-Decides}
 use Rattle.std.proofs.Common.{◌≡◌, ◌∙◌, ◌||◌, Bool, cond, true, false, not, refl, sym, subst, ap, ap₂, List, [], ◌∷◌, Option, Some, None, inl, inr, true≢false}
 use Rattle.clap.proofs.OnLiterals.{clap_on_literals}
@@ -87,15 +88,12 @@ not_second text word e = go (bytes_eq text word) refl
         let back : bytes_eq word text ≡ true = (bytes_eq-Decides word text).1 (sym ((bytes_eq-Decides text word).0 same)) in
         absurd (true≢false (sym back ∙ e))
 
-some_is : {X : Type 0} (x y : X) → Some x ≡ Some y → x ≡ y
-some_is x y e = ap (λ o. unwrap_or o x) e
-
 first_of_two : (first second : Shape) (is_first is_second : Bool) (words : List Text) (name : Text) (rows : List Row) → is_second ≡ false
     → option_map_or (λ s. level_fault s [] nothing_held words false []) (cond is_first (Some first) (cond is_second (Some second) None)) [] ≡ []
     → option_map (λ s. rows_at s words) (cond is_first (Some first) (cond is_second (Some second) None)) ≡ Some (name, rows)
     → (level_fault first [] nothing_held words false [] ≡ []) × (name ≡ first.name) × (rows ≡ rows_after first.rules [] words)
 first_of_two first second true is_second words name rows e f found =
-    let same : (name, rows) ≡ rows_at first words = sym (some_is (rows_at first words) (name, rows) found) in
+    let same : (name, rows) ≡ rows_at first words = sym (same_Some (rows_at first words) (name, rows) found) in
     (f, ap (λ (p : Text × List Row). p.0) same, ap (λ (p : Text × List Row). p.1) same)
 first_of_two first second false true words name rows e f found = absurd (true≢false e)
 first_of_two first second false false words name rows e f found = absurd (cc)
@@ -170,8 +168,8 @@ pair_met : {X : Type 0} (o : Option X) (h : X → Text × List Row) (name : Text
     → option_map (λ p. p.1) (option_map h o) ≡ Some rows → option_map h o ≡ Some (name, rows)
 pair_met None h name rows e f = absurd (cc)
 pair_met (Some x) h name rows e f =
-    let first : (h x).0 ≡ name = some_is (h x).0 name e in
-    let second : (h x).1 ≡ rows = some_is (h x).1 rows f in
+    let first : (h x).0 ≡ name = same_Some (h x).0 name e in
+    let second : (h x).1 ≡ rows = same_Some (h x).1 rows f in
     ap₂ (λ (u : Text) (v : List Row). Some (u, v)) first second
 
 -- the name and the rows that the getter gives are those of the subcommand that was entered

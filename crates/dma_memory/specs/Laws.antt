@@ -1,8 +1,9 @@
 -- What stands in a memory after a store.
-use Rattle.std.proofs.Common.{◌≡◌, ◌≤◌, ◌<◌, ◌+◌, ◌-◌, ◌⊎◌, inl, inr, ◌++◌, ◌∷◌, [], ℕ, zero, suc, List, length, take, drop, refl, sym, ap, ◌∙◌, append_assoc, arith}
-use Rattle.std.proofs.lemmas.List.{length-append, length-take-le, length-drop, take-append-drop, take-append-le, drop-append-le, take_at, drop_at, drop-drop}
+use Rattle.std.proofs.Common.{◌≡◌, ◌≤◌, ◌<◌, ◌+◌, ◌-◌, inl, inr, ◌++◌, ◌∷◌, [], ℕ, zero, suc, List, length, take, drop, replicate, refl, sym, ap, ◌∙◌, append_assoc, arith}
+use Rattle.std.proofs.lemmas.List.{length-append, length-take-le, length-drop, length-replicate, take-replicate, drop-replicate, take-append-drop, take-append-le, drop-append-le, take_at, drop_at, drop-drop}
 use Rattle.std.proofs.Math.Seq.{take-add}
 use Rattle.dma_memory.specs.HostMemory.{bytes_at, with_bytes, LiesIn}
+use Rattle.dma_memory.specs.Areas.{area_at, AreApart}
 
 -- No bytes stored leave the memory, whatever the address.
 pub with_bytes-none : (memory : List ℕ) (address : ℕ) → with_bytes memory address [] ≡ memory
@@ -60,10 +61,10 @@ bytes_at-after memory (x ∷ xs) address i n fits after =
     ∙ ap (take n) (drop-drop (i - length (take address memory ++ bytes)) (address + length bytes) memory)
     ∙ ap (λ (j : ℕ). take n (drop j memory)) k
 
--- The bytes before or behind what was stored stay.
-pub bytes_at-elsewhere : (memory bytes : List ℕ) (address i n : ℕ) → LiesIn memory address (length bytes) → ((i + n ≤ address) ⊎ (address + length bytes ≤ i)) → bytes_at (with_bytes memory address bytes) i n ≡ bytes_at memory i n
-bytes_at-elsewhere memory bytes address i n fits (inl before) = bytes_at-before memory bytes address i n fits before
-bytes_at-elsewhere memory bytes address i n fits (inr after) = bytes_at-after memory bytes address i n fits after
+-- Bytes apart from what was stored stay.
+pub bytes_at-elsewhere : (memory bytes : List ℕ) (address i n : ℕ) → LiesIn memory address (length bytes) → AreApart (area_at address (length bytes)) (area_at i n) → bytes_at (with_bytes memory address bytes) i n ≡ bytes_at memory i n
+bytes_at-elsewhere memory bytes address i n fits (inl after) = bytes_at-after memory bytes address i n fits after
+bytes_at-elsewhere memory bytes address i n fits (inr before) = bytes_at-before memory bytes address i n fits before
 
 -- The same where the first store begins in the memory.
 adjacent : (memory first second : List ℕ) (address : ℕ) → address ≤ length memory → with_bytes (with_bytes memory address first) (address + length first) second ≡ with_bytes memory address (first ++ second)
@@ -88,6 +89,11 @@ with_bytes-adjacent memory (x ∷ xs) second address fits = adjacent memory (x �
 -- So many bytes that lie in the memory are so many.
 pub length-bytes_at : (memory : List ℕ) (address n : ℕ) → LiesIn memory address n → length (bytes_at memory address n) ≡ n
 length-bytes_at memory address n fits = length-take-le n (drop address memory) (omega (arith, length-drop address memory))
+
+-- Among zeros stand zeros.
+pub bytes_at-zeros : (size address n : ℕ) → LiesIn (replicate size 0) address n → bytes_at (replicate size 0) address n ≡ replicate n 0
+bytes_at-zeros size address n fits =
+    ap (take n) (drop-replicate address size 0) ∙ take-replicate n (size - address) 0 (omega (arith, length-replicate {A = ℕ} size 0))
 
 -- Bytes are the first of them and then the others.
 pub bytes_at-parts : (memory : List ℕ) (address n k : ℕ) → bytes_at memory address (n + k) ≡ bytes_at memory address n ++ bytes_at memory (address + n) k

@@ -1,6 +1,7 @@
 -- Where the rings and buffers of a driver stand in its host's memory.
-use Rattle.std.specs.Prelude.{◌≡◌, ◌≢◌, ◌≤◌, ◌<◌, ◌+◌, ◌*◌, ◌%◌, ◌⊎◌, ℕ}
+use Rattle.std.specs.Prelude.{◌≡◌, ◌≢◌, ◌≤◌, ◌<◌, ◌+◌, ◌*◌, ◌%◌, ℕ}
 use Rattle.std.specs.Int.{next_multiple_of}
+use Rattle.dma_memory.specs.Areas.{Area, area_at, AreApart}
 
 -- How many descriptors the receive ring and the transmit ring have, and how many receive buffers there are.
 pub record Counts : Type 0 where
@@ -63,13 +64,13 @@ bytes_of counts (ReceiveBuffer number) = 2048
 abbrev pub size_of : Counts → ℕ
 size_of counts = start_of counts (ReceiveBuffer counts.buffers)
 
--- Of two places one ends at or before the start of the other, so no byte belongs to both.
-abbrev pub AreApart : Counts → Place → Place → Type 0
-AreApart counts a b = (start_of counts a + bytes_of counts a ≤ start_of counts b) ⊎ (start_of counts b + bytes_of counts b ≤ start_of counts a)
+-- The bytes of a place.
+abbrev pub area_of : Counts → Place → Area
+area_of counts place = area_at (start_of counts place) (bytes_of counts place)
 
 -- Any two places of a layout are apart.
 abbrev pub PlacesAreApart : Type 0
-PlacesAreApart = (counts : Counts) (a b : Place) → HasPlace counts a → HasPlace counts b → a ≢ b → AreApart counts a b
+PlacesAreApart = (counts : Counts) (a b : Place) → HasPlace counts a → HasPlace counts b → a ≢ b → AreApart (area_of counts a) (area_of counts b)
 
 -- Each place of a layout ends at or before the end of the memory that the layout needs.
 abbrev pub PlacesLieBelowSize : Type 0

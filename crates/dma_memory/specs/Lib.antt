@@ -1,3 +1,5 @@
+pub mod AreaLaws
+pub mod Areas
 pub mod HostMemory
 pub mod Layout
 pub mod Laws

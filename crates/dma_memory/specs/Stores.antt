@@ -1,6 +1,7 @@
 -- What is known of a memory after stores: laws of `bytes_at` and `with_bytes` over all memories.
-use Rattle.std.specs.Prelude.{◌≡◌, ◌≤◌, ◌<◌, ◌+◌, ◌⊎◌, ◌↔◌, ◌++◌, ℕ, List, [], length}
+use Rattle.std.specs.Prelude.{◌≡◌, ◌<◌, ◌+◌, ◌↔◌, ◌++◌, ℕ, List, [], length}
 use Rattle.dma_memory.specs.HostMemory.{bytes_at, with_bytes, LiesIn}
+use Rattle.dma_memory.specs.Areas.{Area, area_at, bytes_in, AreApart}
 
 -- So many bytes lie in a memory exactly where the address of each is below its size.
 abbrev pub LieWhereEachLies : Type 0
@@ -14,9 +15,9 @@ StoreKeepsSize = (memory bytes : List ℕ) (address : ℕ) → LiesIn memory add
 abbrev pub StoredIsLoaded : Type 0
 StoredIsLoaded = (memory bytes : List ℕ) (address : ℕ) → LiesIn memory address (length bytes) → bytes_at (with_bytes memory address bytes) address (length bytes) ≡ bytes
 
--- Bytes that end at or before the address of a store, or begin where it ended, stay.
+-- Bytes apart from those that are stored stay.
 abbrev pub OthersStay : Type 0
-OthersStay = (memory bytes : List ℕ) (address i n : ℕ) → LiesIn memory address (length bytes) → ((i + n ≤ address) ⊎ (address + length bytes ≤ i)) → bytes_at (with_bytes memory address bytes) i n ≡ bytes_at memory i n
+OthersStay = (memory bytes : List ℕ) (address : ℕ) (other : Area) → LiesIn memory address (length bytes) → AreApart (area_at address (length bytes)) other → bytes_in (with_bytes memory address bytes) other ≡ bytes_in memory other
 
 -- Two stores, the second right behind the first, are one.
 abbrev pub AdjacentStoresAreOne : Type 0

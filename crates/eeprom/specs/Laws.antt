@@ -1,7 +1,7 @@
 -- The law of EERD's history, and the lemmas that lead to it, for proofs of the crates above too.
-use Rattle.std.proofs.Common.{◌≡◌, ℕ, Bool, true, false, List, [], ◌∷◌, ◌++◌, refl, ap, ◌∙◌, ◌||◌}
+use Rattle.std.proofs.Common.{◌≡◌, ℕ, true, false, List, [], ◌∷◌, ◌++◌, refl, ap, ◌∙◌}
 use Rattle.std.specs.List.{list_any}
-use Rattle.std.proofs.lemmas.Bool.{false≢true, true≢false}
+use Rattle.std.proofs.lemmas.Bool.{false≢true, true≢false, or_parts}
 use Rattle.eeprom.specs.declared.eerd.ReadState.{ReadState}
 use Rattle.eeprom.specs.declared.eerd.ReadState.TheVariants.{Idle, Pending, Done}
 use Rattle.eeprom.specs.Image.{word_at}
@@ -13,11 +13,6 @@ pub after_all-append : (words : List ℕ) (before after : List Operation) (state
     → after_all words (before ++ after) state ≡ after_all words after (after_all words before state)
 after_all-append words [] after state = refl
 after_all-append words (operation ∷ before) after state = after_all-append words before after (after_operation words operation state)
-
--- neither of two tests that fail together passes
-both_false : (a b : Bool) → (a || b) ≡ false → (a ≡ false) × (b ≡ false)
-both_false false b fails = (refl, fails)
-both_false true b fails = (fails, absurd (true≢false fails))
 
 -- a write without START leaves the register as it is
 pub after_write-no_start : (value : ℕ) (state : ReadState) → has_start value ≡ false → after_write value state ≡ state
@@ -31,7 +26,7 @@ after_write-start value state starts = rw starts refl
 pub stays_idle : (words : List ℕ) (all : List Operation) → NoStart all → after_all words all Idle ≡ Idle
 stays_idle words [] none = refl
 stays_idle words (Write value ∷ all) none =
-    let parts = both_false (has_start value) (list_any is_start all) none in
+    let parts = or_parts (has_start value) (list_any is_start all) none in
     ap (after_all words all) (after_write-no_start value Idle parts.0) ∙ stays_idle words all parts.1
 stays_idle words (Tick ∷ all) none = stays_idle words all none
 
@@ -39,7 +34,7 @@ stays_idle words (Tick ∷ all) none = stays_idle words all none
 pub stays_done : (words : List ℕ) (all : List Operation) (address word : ℕ) → NoStart all → after_all words all (Done address word) ≡ Done address word
 stays_done words [] address word none = refl
 stays_done words (Write value ∷ all) address word none =
-    let parts = both_false (has_start value) (list_any is_start all) none in
+    let parts = or_parts (has_start value) (list_any is_start all) none in
     ap (after_all words all) (after_write-no_start value (Done address word) parts.0) ∙ stays_done words all address word parts.1
 stays_done words (Tick ∷ all) address word none = stays_done words all address word none
 
@@ -47,7 +42,7 @@ stays_done words (Tick ∷ all) address word none = stays_done words all address
 pub stays_pending : (words : List ℕ) (all : List Operation) (address : ℕ) → NoStart all → NoTick all → after_all words all (Pending address) ≡ Pending address
 stays_pending words [] address none still = refl
 stays_pending words (Write value ∷ all) address none still =
-    let parts = both_false (has_start value) (list_any is_start all) none in
+    let parts = or_parts (has_start value) (list_any is_start all) none in
     ap (after_all words all) (after_write-no_start value (Pending address) parts.0) ∙ stays_pending words all address parts.1 still
 stays_pending words (Tick ∷ all) address none still = absurd (true≢false still)
 
@@ -55,7 +50,7 @@ stays_pending words (Tick ∷ all) address none still = absurd (true≢false sti
 pub ends_pending : (words : List ℕ) (all : List Operation) (address : ℕ) → NoStart all → HasTick all → after_all words all (Pending address) ≡ Done address (word_at words address)
 ends_pending words [] address none ticks = absurd (false≢true ticks)
 ends_pending words (Write value ∷ all) address none ticks =
-    let parts = both_false (has_start value) (list_any is_start all) none in
+    let parts = or_parts (has_start value) (list_any is_start all) none in
     ap (after_all words all) (after_write-no_start value (Pending address) parts.0) ∙ ends_pending words all address parts.1 ticks
 ends_pending words (Tick ∷ all) address none ticks = stays_done words all address (word_at words address) none
 

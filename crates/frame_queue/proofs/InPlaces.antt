@@ -3,8 +3,6 @@ use Rattle.std.proofs.Common.{◌≡◌, ◌≤◌, ◌<◌, ◌+◌, ◌-◌, �
 use Rattle.std.proofs.lemmas.Bool.{cond_below, cond_above}
 use Rattle.std.proofs.lemmas.Bool.Decides.{leb_tells, nat_tests}
 use Rattle.std.specs.Prelude.{slice_get, Some, None, is_some, true, false, Bool, IsTrue, ◌==◌, ◌↔◌}
-use Rattle.std.proofs.lemmas.List.{length-append}
-use Rattle.circular_buffer.specs.Buffer.{keep_last}
 use Rattle.dma_memory.specs.HostMemory.{bytes_at, with_bytes, LiesIn}
 use Rattle.dma_memory.specs.Laws.{bytes_at-elsewhere, bytes_at-stored}
 use Rattle.frame_queue.specs.Places.{frames_from}
@@ -63,8 +61,8 @@ frames_from-round bytes c p i (n ∷ ns) round fits =
 
 -- Bytes written at a place leave what stands at another one.
 bytes_at-other_place : (bytes written : List ℕ) (place n other : ℕ) → LiesIn bytes (place * 1518) (length written) → length written ≤ 1518 → n ≤ 1518 → (other < place) ⊎ (place < other) → bytes_at (with_bytes bytes (place * 1518) written) (other * 1518) n ≡ bytes_at bytes (other * 1518) n
-bytes_at-other_place bytes written place n other lies short fits (inl before) = bytes_at-elsewhere bytes written (place * 1518) (other * 1518) n lies (inl (omega arith))
-bytes_at-other_place bytes written place n other lies short fits (inr after) = bytes_at-elsewhere bytes written (place * 1518) (other * 1518) n lies (inr (omega arith))
+bytes_at-other_place bytes written place n other lies short fits (inl before) = bytes_at-elsewhere bytes written (place * 1518) (other * 1518) n lies (inr (omega arith))
+bytes_at-other_place bytes written place n other lies short fits (inr after) = bytes_at-elsewhere bytes written (place * 1518) (other * 1518) n lies (inl (omega arith))
 
 -- Bytes written at the place behind the frames leave them.
 pub frames_from-kept : (bytes written ns : List ℕ) (c p q : ℕ) → LiesIn bytes (wrapped c q * 1518) (length written) → length written ≤ 1518 → All (λ (n : ℕ). n ≤ 1518) ns → p + length ns ≡ q → q < p + c → q < c + c → frames_from (with_bytes bytes (wrapped c q * 1518) written) c p ns ≡ frames_from bytes c p ns
@@ -130,12 +128,6 @@ frames_from-pushed bytes written ns c p n size first room fits count short =
     ap (bytes_at (with_bytes bytes (wrapped c q * 1518) written) (wrapped c q * 1518)) (sym count) ∙ bytes_at-stored bytes written (wrapped c q * 1518) lies in
     let kept = frames_from-kept bytes written ns c p q lies (omega (arith, count, short)) fits refl (omega arith) (omega arith) in
     frames_from-append (with_bytes bytes (wrapped c q * 1518) written) c p n ns ∙ rw (kept, stored) refl
-
--- The lengths with one more, where there is room, are all kept.
-pub keep_last-room : (ns : List ℕ) (c n : ℕ) → length ns < c → keep_last c (ns ++ n ∷ []) ≡ ns ++ n ∷ []
-keep_last-room ns c n room =
-    let none : length (ns ++ n ∷ []) - c ≡ 0 = omega (arith, length-append ns (n ∷ [])) in
-    ap (λ (k : ℕ). drop k (ns ++ n ∷ [])) none
 
 -- Where there is a first length, there is one.
 pub some_below : (ns : List ℕ) → is_some (slice_get ns 0) ≡ true → 0 < length ns

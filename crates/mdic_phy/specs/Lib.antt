@@ -1,4 +1,3 @@
-pub mod Bits
 pub mod Phy
 pub mod Mdic
 pub mod PhyHistory

@@ -1,10 +1,10 @@
 -- MDIC, the MDI control register (manual, 13.4.7), one step at a time.
 use Rattle.std.specs.Prelude.{ℕ, ◌+◌, ◌*◌, ◌/◌, ◌%◌, ◌^◌, ◌==◌, ◌&&◌, ◌||◌, Bool, Option, Some, None, is_some, if◌then◌else◌}
 use Rattle.std.specs.Int.RustNames.{bit_and, bit_or}
+use Rattle.registers.specs.Bits.{field, is_set}
 use Rattle.mdic_phy.specs.declared.mdic.Operation.{Operation}
 use Rattle.mdic_phy.specs.declared.mdic.Operation.TheVariants.{Write, Read}
 use Rattle.mdic_phy.specs.declared.mdic.Ticked.{Ticked}
-use Rattle.mdic_phy.specs.Bits.{is_set}
 use Rattle.mdic_phy.specs.Phy.{PhyState}
 use Rattle.mdic_phy.specs.Phy as phy
 
@@ -22,13 +22,13 @@ abbrev pub data_of : ℕ → ℕ
 data_of value = value % 2 ^ 16
 
 abbrev pub regadd : ℕ → ℕ
-regadd value = value / 2 ^ 16 % 2 ^ 5
+regadd value = field value 16 5
 
 abbrev pub phyadd : ℕ → ℕ
-phyadd value = value / 2 ^ 21 % 2 ^ 5
+phyadd value = field value 21 5
 
 abbrev pub op : ℕ → ℕ
-op value = value / 2 ^ 26 % 2 ^ 2
+op value = field value 26 2
 
 -- OP 01 is a write, 10 a read (13.4.7); 00 and 11 begin no command (own).
 abbrev pub operation_of : ℕ → Option Operation

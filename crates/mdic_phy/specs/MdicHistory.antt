@@ -1,10 +1,10 @@
 -- What MDIC reads, and what comes to the PHY, said of the list of all writes and ticks since the register was new.
 use Rattle.std.specs.Prelude.{◌≡◌, ◌≢◌, ℕ, Bool, true, false, List, [], ◌∷◌, ◌++◌, Option, Some, None, if◌then◌else◌}
 use Rattle.std.specs.List.{list_any}
+use Rattle.registers.specs.Bits.{is_set}
 use Rattle.mdic_phy.specs.declared.mdic.Operation.{Operation}
 use Rattle.mdic_phy.specs.declared.mdic.Operation.TheVariants as operation
 use Rattle.mdic_phy.specs.declared.mdic.Ticked.{Ticked}
-use Rattle.mdic_phy.specs.Bits.{is_set}
 use Rattle.mdic_phy.specs.Phy.{PhyState, read_value, comes_up, is_counting}
 use Rattle.mdic_phy.specs.Mdic.{MdicState, new_mdic, after_write, mdic_after_tick, phy_after_tick, kept, with_ready, with_error, with_data, data_of, regadd, phyadd, operation_of, reaches_phy, told}
 use Rattle.mdic_phy.specs.PhyHistory.{PhyEvent, after_events}

@@ -3,10 +3,11 @@ use Rattle.std.proofs.Common.{◌≡◌, ◌≢◌, ℕ, ◌-◌, ◌%◌, ◌^�
 use Rattle.std.proofs.lemmas.Bool.{true≢false}
 use Rattle.std.proofs.lemmas.Bool.Decides.{nat_tests}
 use Rattle.std.proofs.lemmas.Nat.{and_assoc, and_mask, and_mod}
+use Rattle.registers.specs.Bits.{is_set}
+use Rattle.registers.specs.Laws.{contains_is_set}
 use Rattle.mdic_phy.specs.declared.mdic.Operation.{Operation}
 use Rattle.mdic_phy.specs.declared.mdic.Operation.TheVariants as operation
 use Rattle.mdic_phy.specs.declared.mdic.Ticked.{Ticked}
-use Rattle.mdic_phy.specs.Bits.{is_set}
 use Rattle.mdic_phy.specs.Phy.{PhyState, read_value, after_tick, comes_up, is_counting}
 use Rattle.mdic_phy.specs.Phy as state
 use Rattle.mdic_phy.specs.Mdic.{new_mdic, kept, with_ready, with_error, with_data, data_of, regadd, phyadd, operation_of, reaches_phy, ended, ended_value, phy_ended, told}
@@ -147,8 +148,9 @@ pub both-behind : (s : PhyState) (before : List MdicEvent) (event : MdicEvent) �
 both-behind s before event = after_mdic_events-append before (event ∷ []) (record { mdic = new_mdic; phy = s })
 
 -- bit 29 is kept
-pub interrupt-kept : (value : ℕ) → bit_and (kept value) (2 ^ 29) ≡ bit_and value (2 ^ 29)
-interrupt-kept value = and_assoc (2 ^ 29) value 0x2FFF_FFFF
+pub interrupt-kept : (value : ℕ) → is_set (kept value) 29 ≡ is_set value 29
+interrupt-kept value =
+    sym (contains_is_set (kept value) 29) ∙ ap (λ (bit : ℕ). bit == 2 ^ 29) (and_assoc (2 ^ 29) value 0x2FFF_FFFF) ∙ contains_is_set value 29
 
 abbrev told_by : Bool → Bool → Option Ticked
 told_by up complete = Some (record { link_changed = up; access_complete = complete })
@@ -184,6 +186,6 @@ told_by_history = record {
       ap told_both (both-behind s before (Write value))
       ∙ ap (λ (p : Option Operation). told (record { value = kept value; pending = p }) (both_behind s before).phy) is
       ∙ told-command (is_counting (both_behind s before).phy) (comes_up (both_behind s before).phy) (is_set (kept value) 29)
-      ∙ ap (told_by (comes_up (both_behind s before).phy)) (ap (λ (n : ℕ). n == 2 ^ 29) (interrupt-kept value))
+      ∙ ap (told_by (comes_up (both_behind s before).phy)) (interrupt-kept value)
       ∙ ap (λ (phy : PhyState). told_by (comes_up phy) (is_set value 29)) (sym (ap (λ (both : MdicAndPhy). both.phy) (both-behind s before (Write value))) ∙ accesses_by_history s (before ++ Write value ∷ []));
 }

@@ -1,10 +1,10 @@
 -- A PHY with the registers of IEEE 802.3, clause 22, as far as link up, one step at a time.
 use Rattle.std.specs.Prelude.{ℕ, ◌-◌, ◌==◌, ◌&&◌, Bool, true, false, nat_le, not, if◌then◌else◌}
+use Rattle.registers.specs.Bits.{is_set}
 use Rattle.mdic_phy.specs.declared.phy.Link.{Link}
 use Rattle.mdic_phy.specs.declared.phy.Link.TheVariants.{After, Never}
 use Rattle.mdic_phy.specs.declared.phy.Negotiation.{Negotiation}
 use Rattle.mdic_phy.specs.declared.phy.Negotiation.TheVariants.{NotStarted, Running, Complete}
-use Rattle.mdic_phy.specs.Bits.{is_set}
 
 -- What a PHY knows: when its link comes up, whether negotiation is enabled (register 0, bit 12), how far
 -- negotiation stands, and whether the link status (register 1, bit 2) is latched low.

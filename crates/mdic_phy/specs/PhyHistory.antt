@@ -1,9 +1,9 @@
 -- What a PHY shows, said of the list of all that came to it since it was new.
 use Rattle.std.specs.Prelude.{◌≡◌, ℕ, ◌≤◌, ◌==◌, ◌&&◌, ◌||◌, Bool, true, false, not, List, [], ◌∷◌, ◌++◌, count_by, nat_le, IsTrue, if◌then◌else◌}
 use Rattle.std.specs.List.{list_any}
+use Rattle.registers.specs.Bits.{is_set}
 use Rattle.mdic_phy.specs.declared.phy.Link.{Link}
 use Rattle.mdic_phy.specs.declared.phy.Link.TheVariants.{After, Never}
-use Rattle.mdic_phy.specs.Bits.{is_set}
 use Rattle.mdic_phy.specs.Phy.{PhyState, new_phy, after_write, after_read, after_tick, read_value, link_is_up}
 
 -- What may come to a PHY: a tick, a read of a register, a write of a value to a register.

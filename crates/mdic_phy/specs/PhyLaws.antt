@@ -1,13 +1,13 @@
 -- The laws of the history of a PHY, and the lemmas that lead to them, for proofs of the crates above too.
-use Rattle.std.proofs.Common.{◌≡◌, ℕ, ◌+◌, ◌-◌, ◌≤◌, ◌==◌, ◌||◌, Bool, true, false, cond, List, [], ◌∷◌, ◌++◌, count_by, nat_le, refl, ap, ◌∙◌, ◌⊎◌, inl, inr, arith}
+use Rattle.std.proofs.Common.{◌≡◌, ℕ, ◌+◌, ◌-◌, ◌≤◌, ◌==◌, Bool, true, false, cond, List, [], ◌∷◌, ◌++◌, count_by, nat_le, refl, ap, ◌∙◌, ◌⊎◌, inl, inr, arith}
 use Rattle.std.specs.List.{list_any}
-use Rattle.std.proofs.lemmas.Bool.{false≢true, true≢false}
+use Rattle.std.proofs.lemmas.Bool.{false≢true, true≢false, or_parts}
 use Rattle.std.proofs.lemmas.Bool.Decides.{nat_tests}
 use Rattle.std.proofs.lemmas.List.Sums.{sum_by-cons}
+use Rattle.registers.specs.Bits.{is_set}
 use Rattle.mdic_phy.specs.declared.phy.Link.{Link}
 use Rattle.mdic_phy.specs.declared.phy.Link.TheVariants.{After, Never}
 use Rattle.mdic_phy.specs.declared.phy.Negotiation.TheVariants.{NotStarted, Running, Complete}
-use Rattle.mdic_phy.specs.Bits.{is_set}
 use Rattle.mdic_phy.specs.Phy.{PhyState, new_phy, after_write, after_read, after_tick, link_is_up, is_complete, counted, negotiation_of, status_value}
 use Rattle.mdic_phy.specs.PhyHistory.{PhyEvent, Tick, Read, Write, after_event, after_events, phy_behind, is_tick, is_status_read, is_control_write, is_reset, is_restart, takes_down, HasNo, LinkByHistory, LatchByHistory, ControlByHistory}
 use Rattle.mdic_phy.specs.WriteLaws.{link-by_tests, not_started-by_tests, reset-by_tests, restart-by_tests, negotiation-by_tests, latch-by_tests, latched-by_tests, still_latched-by_tests, never-by_tests, enabled-by_tests, enabled_stays-by_tests}
@@ -17,16 +17,11 @@ pub after_events-append : (before after : List PhyEvent) (phy : PhyState) → af
 after_events-append [] after phy = refl
 after_events-append (event ∷ before) after phy = after_events-append before after (after_event event phy)
 
--- neither of two tests that fail together passes
-pub both_false : (a b : Bool) → (a || b) ≡ false → (a ≡ false) × (b ≡ false)
-both_false false b fails = (refl, fails)
-both_false true b fails = (fails, absurd (true≢false fails))
-
 first_fails : (test : PhyEvent → Bool) (event : PhyEvent) (later : List PhyEvent) → HasNo test (event ∷ later) → test event ≡ false
-first_fails test event later none = (both_false (test event) (list_any test later) none).0
+first_fails test event later none = (or_parts (test event) (list_any test later) none).0
 
 later_fail : (test : PhyEvent → Bool) (event : PhyEvent) (later : List PhyEvent) → HasNo test (event ∷ later) → HasNo test later
-later_fail test event later none = (both_false (test event) (list_any test later) none).1
+later_fail test event later none = (or_parts (test event) (list_any test later) none).1
 
 -- ---- the setting of the link stays
 

@@ -1,9 +1,9 @@
 -- One write of the PHY, by the four tests that it depends on.
 use Rattle.std.proofs.Common.{◌≡◌, ℕ, ◌==◌, ◌&&◌, ◌||◌, Bool, true, false, not, cond, refl, ap}
 use Rattle.std.proofs.lemmas.Bool.{false≢true, true≢false}
+use Rattle.registers.specs.Bits.{is_set}
 use Rattle.mdic_phy.specs.declared.phy.Link.TheVariants.{Never}
 use Rattle.mdic_phy.specs.declared.phy.Negotiation.TheVariants.{NotStarted}
-use Rattle.mdic_phy.specs.Bits.{is_set}
 use Rattle.mdic_phy.specs.Phy.{PhyState, new_phy, restarted, negotiation_of, after_write}
 
 -- A write, where it is known whether it is of register 0, and whether it has bits 15, 12 and 9.

@@ -3,6 +3,7 @@ use Rattle.std.proofs.Common.{◌≡◌, ◌<◌, ◌≤◌, ◌+◌, ◌/◌, �
 use Rattle.std.specs.Prelude.{slice_set, IfSome, is_none, is_some}
 use Rattle.std.specs.Int.Bits.{or_zero_l}
 use Rattle.std.proofs.lemmas.List.{length-replicate, get_or-replicate}
+use Rattle.std.proofs.lemmas.Option.{none-some, same_Some}
 use Rattle.registers.specs.Bits.{HasBit, field, union}
 use Rattle.registers.specs.ReceiveControl.{group_offset_of, shift_of}
 use Rattle.rx_filter.specs.Addresses.{IsAddress, low_word, high_word, group_number}
@@ -18,12 +19,6 @@ use Rattle.pcap_bench.specs.Options.{IsOpen, KeptBy, filter_for, HasVlanNumber}
 
 -- ---- the sets of each table
 
-some_is : {X : Type 0} (x y : X) → Some x ≡ Some y → x ≡ y
-some_is x y e = cc
-
-none_is_none : {X : Type 0} (y : X) → None ≡ Some y → ⊥
-none_is_none y e = cc
-
 -- RAL and RAH of which the first entry alone isn't 0, by an address
 pub low_words : Option (List ℕ) → List ℕ
 low_words None = replicate 16 0
@@ -35,11 +30,11 @@ high_words (Some address) = slice_set (replicate 16 0) 0 (high_word address + 2 
 
 addresses_of : (o : Option (List ℕ)) (address : List ℕ) → IfSome o IsAddress → HasEntry (low_words o) (high_words o) address ↔ (o ≡ Some address)
 unfolding low_words high_words
-addresses_of None address is = ((λ has. absurd (HasEntry-zeros 16 address has)), (λ e. absurd (none_is_none address e)))
+addresses_of None address is = ((λ has. absurd (HasEntry-zeros 16 address has)), (λ e. absurd (none-some address e)))
 addresses_of (Some own) address is =
     let added = HasEntry-added (replicate 16 0) (replicate 16 0) 0 own address is (omega arith) (omega arith) (omega arith) refl in (
       (λ has. elim (added.0 has) [ inl same ↦ ap Some (sym same) | inr had ↦ absurd (HasEntry-zeros 16 address had) ]),
-      (λ e. added.1 (inl (sym (some_is own address e)))),
+      (λ e. added.1 (inl (sym (same_Some own address e)))),
     )
 
 -- A word with one bit alone, in a table of zeros, adds that number.
@@ -71,20 +66,20 @@ number_of_group (Some group) = Some (group_number 4 group)
 
 groups_of : (o : Option (List ℕ)) (number : ℕ) → HasTableBit (with_bit_of (number_of_group o)) number ↔ IsGroupNumber o number
 unfolding with_bit_of
-groups_of None number = ((λ has. absurd (HasTableBit-zeros 128 number has)), (λ is. absurd (none_is_none is.0 is.1)))
+groups_of None number = ((λ has. absurd (HasTableBit-zeros 128 number has)), (λ is. absurd (none-some is.0 is.1)))
 groups_of (Some group) number =
     let one = numbers_of (group_number 4 group) number (omega arith) in (
       (λ has. (group, refl, one.0 has)),
-      (λ is. one.1 (is.2 ∙ ap (group_number 4) (sym (some_is group is.0 is.1)))),
+      (λ is. one.1 (is.2 ∙ ap (group_number 4) (sym (same_Some group is.0 is.1)))),
     )
 
 vlans_of : (o : Option ℕ) (number : ℕ) → IfSome o (λ n. n ≤ 4095) → HasTableBit (with_bit_of o) number ↔ (o ≡ Some number)
 unfolding with_bit_of
-vlans_of None number fits = ((λ has. absurd (HasTableBit-zeros 128 number has)), (λ e. absurd (none_is_none number e)))
+vlans_of None number fits = ((λ has. absurd (HasTableBit-zeros 128 number has)), (λ e. absurd (none-some number e)))
 vlans_of (Some wanted) number fits =
     let one = numbers_of wanted number (omega arith) in (
       (λ has. ap Some (sym (one.0 has))),
-      (λ e. one.1 (sym (some_is wanted number e))),
+      (λ e. one.1 (sym (same_Some wanted number e))),
     )
 
 -- ---- the bits of the mode
@@ -99,10 +94,10 @@ pub record Modes (a g : Option (List ℕ)) (v : Option ℕ) (mode : ℕ) : Type 
 modes : (a g : Option (List ℕ)) (v : Option ℕ) → Modes a g v (mode_bits (is_none a && is_none g) (is_some v))
 modes None None None = record { shift = refl; every_vlan = ((λ h. refl), (λ h. refl)); individuals = ((λ h. (refl, refl)), (λ h. refl)); groups = ((λ h. (refl, refl)), (λ h. refl)); broadcasts = ((λ h. tt), (λ h. refl)) }
 modes None None (Some n) = record { shift = refl; every_vlan = ((λ h. absurd (omega arith)), (λ h. absurd cc)); individuals = ((λ h. (refl, refl)), (λ h. refl)); groups = ((λ h. (refl, refl)), (λ h. refl)); broadcasts = ((λ h. tt), (λ h. refl)) }
-modes None (Some y) None = record { shift = refl; every_vlan = ((λ h. refl), (λ h. refl)); individuals = ((λ h. absurd (omega arith)), (λ h. absurd (none_is_none y (sym h.1)))); groups = ((λ h. absurd (omega arith)), (λ h. absurd (none_is_none y (sym h.1)))); broadcasts = ((λ h. tt), (λ h. refl)) }
-modes None (Some y) (Some n) = record { shift = refl; every_vlan = ((λ h. absurd (omega arith)), (λ h. absurd cc)); individuals = ((λ h. absurd (omega arith)), (λ h. absurd (none_is_none y (sym h.1)))); groups = ((λ h. absurd (omega arith)), (λ h. absurd (none_is_none y (sym h.1)))); broadcasts = ((λ h. tt), (λ h. refl)) }
-modes (Some x) g None = record { shift = refl; every_vlan = ((λ h. refl), (λ h. refl)); individuals = ((λ h. absurd (omega arith)), (λ h. absurd (none_is_none x (sym h.0)))); groups = ((λ h. absurd (omega arith)), (λ h. absurd (none_is_none x (sym h.0)))); broadcasts = ((λ h. tt), (λ h. refl)) }
-modes (Some x) g (Some n) = record { shift = refl; every_vlan = ((λ h. absurd (omega arith)), (λ h. absurd cc)); individuals = ((λ h. absurd (omega arith)), (λ h. absurd (none_is_none x (sym h.0)))); groups = ((λ h. absurd (omega arith)), (λ h. absurd (none_is_none x (sym h.0)))); broadcasts = ((λ h. tt), (λ h. refl)) }
+modes None (Some y) None = record { shift = refl; every_vlan = ((λ h. refl), (λ h. refl)); individuals = ((λ h. absurd (omega arith)), (λ h. absurd (none-some y (sym h.1)))); groups = ((λ h. absurd (omega arith)), (λ h. absurd (none-some y (sym h.1)))); broadcasts = ((λ h. tt), (λ h. refl)) }
+modes None (Some y) (Some n) = record { shift = refl; every_vlan = ((λ h. absurd (omega arith)), (λ h. absurd cc)); individuals = ((λ h. absurd (omega arith)), (λ h. absurd (none-some y (sym h.1)))); groups = ((λ h. absurd (omega arith)), (λ h. absurd (none-some y (sym h.1)))); broadcasts = ((λ h. tt), (λ h. refl)) }
+modes (Some x) g None = record { shift = refl; every_vlan = ((λ h. refl), (λ h. refl)); individuals = ((λ h. absurd (omega arith)), (λ h. absurd (none-some x (sym h.0)))); groups = ((λ h. absurd (omega arith)), (λ h. absurd (none-some x (sym h.0)))); broadcasts = ((λ h. tt), (λ h. refl)) }
+modes (Some x) g (Some n) = record { shift = refl; every_vlan = ((λ h. absurd (omega arith)), (λ h. absurd cc)); individuals = ((λ h. absurd (omega arith)), (λ h. absurd (none-some x (sym h.0)))); groups = ((λ h. absurd (omega arith)), (λ h. absurd (none-some x (sym h.0)))); broadcasts = ((λ h. tt), (λ h. refl)) }
 
 -- The mode receives, into buffers of 2,048 bytes.
 receiving : (every tagged : Bool) → IsReceiving (mode_bits every tagged)

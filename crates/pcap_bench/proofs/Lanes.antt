@@ -1,13 +1,14 @@
 -- What a frame, and the offer of its buffer, make of a lane.
 use Rattle.std.proofs.Common.{◌≡◌, ◌≤◌, ◌<◌, ◌+◌, ◌*◌, ◌^◌, ◌⊎◌, inl, inr, ℕ, List, length, sym, ap, subst, ◌∙◌, arith}
 use Rattle.std.proofs.lemmas.Bool.{cases_lt}
+use Rattle.dma_memory.specs.Areas.{AreApart, area_at, descriptor_area}
 use Rattle.dma_memory.specs.HostMemory.{bytes_at, with_bytes, LiesIn}
 use Rattle.dma_memory.specs.Laws.{length-with_bytes, bytes_at-stored}
 use Rattle.descriptors.specs.declared.rx_desc.RxDesc.{RxDesc}
 use Rattle.descriptors.specs.Frames.{IsLegal}
 use Rattle.descriptors.specs.RxDesc.{rx_desc_of, rx_desc_bytes, Fits}
 use Rattle.descriptors.specs.Laws.{rx_desc_of-rx_desc_bytes, length-rx_desc_bytes}
-use Rattle.rx_engine.specs.Descriptors.{descriptor_at, named_address, AreApart}
+use Rattle.rx_engine.specs.Descriptors.{descriptor_at, named_address}
 use Rattle.rx_engine.specs.Finishing.{finished_bytes, IsFinished}
 use Rattle.rx_engine.specs.Laws.{descriptor_at-apart, descriptor_at-finished, frame_of_work-moved, written_back-finished}
 use Rattle.pcap_bench.specs.Lane.{slots, buffer_at, offered, NameBuffers}
@@ -93,13 +94,13 @@ frame_finished memory frame slot below size named legal room =
     let behind = room.behind in
     let most = legal.most in
     let at = 16 * slot in
-    let apart : AreApart at (named_address memory at) (length frame) = inr (omega arith) in
+    let apart : AreApart (area_at (named_address memory at) (length frame)) (descriptor_area at) = inr (omega arith) in
     let same : named_address middle at ≡ named_address memory at = ap (λ (d : RxDesc). d.address) (kept_by_frame memory frame slot slot below room) in
     let moved : bytes_at middle (named_address middle at) (length frame) ≡ frame = frame_of_work-moved memory frame at room.lies apart in
     let place : LiesIn middle (named_address middle at) (length frame) =
     let lies = room.lies in
     subst (λ (i : ℕ). LiesIn middle i (length frame)) (sym same) (omega arith) in
-    let stays : AreApart at (named_address middle at) (length frame) = subst (λ (i : ℕ). AreApart at i (length frame)) (sym same) apart in
+    let stays : AreApart (area_at (named_address middle at) (length frame)) (descriptor_area at) = subst (λ (i : ℕ). AreApart (area_at i (length frame)) (descriptor_area at)) (sym same) apart in
     subst (IsFinished (with_finished memory slot frame) at) moved
     (written_back-finished middle at (length frame) (omega arith) (desc_lies middle slot below middle_size) (record { place = place; apart = stays }))
 

@@ -1,7 +1,7 @@
 //! The registers of the receive filter, as the options of a pass ask for them.
 ghost use Rattle.std.specs.Prelude.{◌≡◌, ◌+◌, ◌*◌, ◌/◌, ◌%◌, ◌^◌, ◌≤◌, IfSome};
 ghost use Rattle.adapter.specs.Registers.{after_write};
-ghost use Rattle.rx_filter.specs.Addresses.{IsAddress, low_word, high_word};
+ghost use Rattle.rx_filter.specs.Addresses.{IsAddress};
 ghost use Rattle.pcap_bench.specs.Choosing.{with_address, with_group, with_tables, with_vlan, mode_for};
 ghost use Rattle.pcap_bench.specs.Options.{HasVlanNumber};
 
@@ -10,42 +10,22 @@ use adapter::offsets::{MTA, RAL, REGISTER_BYTES, VET, VFTA};
 use bitflags::Flags;
 use command_line::PassFilter;
 use registers::{GroupOffset, Rctl};
-use rx_filter::hash_of;
-
-/// VET: bytes 12 and 13 of a tagged frame (IEEE 802.1Q).
-const VLAN_TYPE: u32 = 0x8100;
-
-/// AV: the entry of a receive address is valid.
-const ADDRESS_VALID: u32 = 1 << 31;
+use rx_filter::{AddressWords, TableBit, VLAN_TYPE, hash_of};
 
 /// RAH(0), which stands behind RAL(0).
 const RAH: u32 = RAL + REGISTER_BYTES;
-
-/// Numbers that a word of a table has bits for.
-const WORD_BITS: u16 = 32;
-
-/// RAL and RAH of an address that is valid.
-fn words_of(address: &[u8; 6]) -> (u32, u32)
-    ensures low { result.0 ≡ low_word address.now }
-    ensures high { result.1 ≡ high_word address.now + 2 ^ 31 }
-    ensures address { IsAddress address.now }
-{
-    let low = u32::from_le_bytes([address[0], address[1], address[2], address[3]]);
-    let high = u32::from(u16::from_le_bytes([address[4], address[5]]));
-    (low, high + ADDRESS_VALID)
-}
 
 /// Writes RAL(0) and RAH(0): the address, or 0 where there is none.
 fn write_address(adapter: &mut Adapter, address: &Option<[u8; 6]>)
     ensures written { adapter.new ≡ record adapter.old { filter = with_address address.now adapter.old.filter } }
     ensures address { IfSome address.now IsAddress }
 {
-    let (low, high) = match address {
-        Some(address) => words_of(address),
-        None => (0, 0),
+    let words = match address {
+        Some(address) => AddressWords::of(address),
+        None => AddressWords { low: 0, high: 0 },
     };
-    adapter.write(RAL, low);
-    adapter.write(RAH, high);
+    adapter.write(RAL, words.low);
+    adapter.write(RAH, words.high);
 }
 
 /// Writes the word of a table that has the bit of a number, with that bit alone.
@@ -54,8 +34,8 @@ fn write_number(adapter: &mut Adapter, table: u32, number: u16)
     requires number { number ≤ 4095 }
     ensures { adapter.new ≡ after_write (table + 4 * (number / 32)) (2 ^ (number % 32)) adapter.old }
 {
-    let word = u32::from(number / WORD_BITS);
-    adapter.write(table + REGISTER_BYTES * word, 1 << (number % WORD_BITS));
+    let place = TableBit::of(number);
+    adapter.write(table + REGISTER_BYTES * u32::from(place.word), place.mask);
 }
 
 /// Writes the word of MTA that has the number of a group, where there is one.
@@ -100,5 +80,5 @@ pub fn write_filter(adapter: &mut Adapter, options: &PassFilter)
     write_address(adapter, &options.address);
     write_group(adapter, &options.group);
     write_vlan(adapter, options.vlan);
-    adapter.write(VET, VLAN_TYPE);
+    adapter.write(VET, u32::from(VLAN_TYPE));
 }

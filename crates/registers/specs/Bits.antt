@@ -1,10 +1,14 @@
 -- The bits of a register: one bit, a field of several bits, and the bits that are 1 as a set of places.
 -- Places are counted from 0, the lowest bit. (own)
-use Rattle.std.specs.Prelude.{◌≡◌, ◌<◌, ◌-◌, ◌/◌, ◌%◌, ◌^◌, ◌↔◌, ◌⊎◌, ℕ, bit_and, bit_or}
+use Rattle.std.specs.Prelude.{◌≡◌, ◌==◌, ◌<◌, ◌-◌, ◌/◌, ◌%◌, ◌^◌, ◌↔◌, ◌⊎◌, ℕ, Bool, bit_and, bit_or}
 
 -- the bit at this place is 1
 abbrev pub HasBit : ℕ → ℕ → Type 0
 HasBit value place = value / 2 ^ place % 2 ≡ 1
+
+-- whether it is
+abbrev pub is_set : ℕ → ℕ → Bool
+is_set value place = value / 2 ^ place % 2 == 1
 
 -- the number that stands in the `width` bits from the place `lowest` on
 abbrev pub field : ℕ → ℕ → ℕ → ℕ

@@ -2,9 +2,10 @@
 use Rattle.std.proofs.Common.{◌≡◌, ◌<◌, ◌^◌, ◌*◌, ◌-◌, ◌↔◌, ℕ, zero, suc, min, IsTrue, ◌==◌, bit_and, bit_or, refl, sym, ◌∙◌, ap, subst, inl, inr, arith}
 use Rattle.std.specs.Int.{bit_at, trailing_zeros, w32}
 use Rattle.std.proofs.lemmas.Bool.{cases_eq, cases_lt, eqb-true, eq-eqb}
+use Rattle.std.proofs.lemmas.Bool.Decides.{same_from_decides}
 use Rattle.std.proofs.lemmas.Nat.{pow_pos, and_le_l}
 use Rattle.std.proofs.lemmas.Nat.Bits.{and_pow, bit_at_and, bit_at_or, bit_at_not, bit_at-lt, bit_at-zero, bit_at_above, bit_at-trailing_zeros, same_from_bits}
-use Rattle.registers.specs.Bits.{HasBit, union, intersection, difference, IsSubset, UnionByPlaces, IntersectionByPlaces, DifferenceByPlaces, MeetByPlaces, SubsetByPlaces, EmptyByPlaces, SameByPlaces}
+use Rattle.registers.specs.Bits.{HasBit, is_set, union, intersection, difference, IsSubset, UnionByPlaces, IntersectionByPlaces, DifferenceByPlaces, MeetByPlaces, SubsetByPlaces, EmptyByPlaces, SameByPlaces}
 
 -- a bit times a power that is the power again is 1
 bit_of_product : (bit power : ℕ) → bit < 2 → 0 < power → bit * power ≡ power → bit ≡ 1
@@ -19,6 +20,9 @@ contains_bit value place =
       (λ contained. bit_of_product (bit_at value place) (2 ^ place) (bit_at-lt value place) (pow_pos place) (sym product ∙ eqb-true _ _ contained)),
       (λ set. eq-eqb _ _ (product ∙ ap (λ bit. bit * 2 ^ place) set ∙ omega arith)),
     )
+
+pub contains_is_set : (value place : ℕ) → (bit_and value (2 ^ place) == 2 ^ place) ≡ is_set value place
+contains_is_set value place = same_from_decides {P = HasBit value place} _ _ (contains_bit value place) (eqb-true _ _, eq-eqb _ _)
 
 pub HasBit-union : UnionByPlaces
 HasBit-union a b place =

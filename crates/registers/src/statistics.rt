@@ -4,6 +4,7 @@ ghost use Rattle.std.specs.Prelude.{◌≡◌, ◌+◌, ◌≤◌, min};
 ghost use Rattle.registers.specs.Counting.{greatest_count};
 
 use std::marker::Model;
+use std::mem;
 
 /// A statistics counter of 32 bits, as MPC, GPRC, GPTC and RNBC (13.7 "Statistics Registers"): it sticks at 0xFFFF_FFFF,
 /// and a read clears it.
@@ -41,7 +42,7 @@ impl Counter {
     pub fn bump(&mut self)
         ensures { self.new ≡ min (self.old + 1) greatest_count }
     {
-        *self = Counter::at(self.value().saturating_add(1));
+        self.count = self.count.saturating_add(1);
     }
 
     /// A read of the register: answers the count, and clears it.
@@ -49,9 +50,7 @@ impl Counter {
         ensures answer { result ≡ self.old }
         ensures cleared { self.new ≡ 0 }
     {
-        let count = self.value();
-        *self = Counter::new();
-        count
+        mem::take(&mut self.count)
     }
 
     /// The count, without clearing it.

@@ -2,9 +2,10 @@
 use Rattle.std.specs.Prelude.{◌≡◌, ◌+◌, ◌++◌, ℕ, List, [], ◌∷◌, length, nat_le, Option, None, Some, if◌then◌else◌}
 use Rattle.byteorder.specs.Endian.{little_bytes}
 use Rattle.registers.specs.Bits.{HasBit}
+use Rattle.dma_memory.specs.Areas.{area_at, descriptor_area, AreApart}
 use Rattle.dma_memory.specs.HostMemory.{bytes_at, with_bytes, LiesIn}
 use Rattle.descriptors.specs.RxStatus.{status_bits}
-use Rattle.rx_engine.specs.Descriptors.{descriptor_at, named_address, AreApart}
+use Rattle.rx_engine.specs.Descriptors.{descriptor_at, named_address}
 use Rattle.rx_engine.specs.Engine.{Engine}
 use Rattle.rx_engine.specs.declared.engine.Work.{Work}
 
@@ -26,7 +27,7 @@ memory_after_done (Some work) memory =
 -- so many bytes at the address that a descriptor names lie in memory, apart from that descriptor
 pub record StandsApart (memory : List ℕ) (descriptor n : ℕ) : Type 0 where
   pub place : LiesIn memory (named_address memory descriptor) n
-  pub apart : AreApart descriptor (named_address memory descriptor) n
+  pub apart : AreApart (area_at (named_address memory descriptor) n) (descriptor_area descriptor)
 
 -- the descriptor at an address is finished with a frame: it is done, holds the end of its packet and had no error, and its
 -- address and length name the frame

@@ -1,11 +1,12 @@
 -- The frames that the receive engine holds: on their way from the wire to a finished descriptor (own).
-use Rattle.std.specs.Prelude.{◌≡◌, ◌≤◌, ◌+◌, ◌⊎◌, ◌++◌, ℕ, List, [], ◌∷◌, length, Option, None, Some}
+use Rattle.std.specs.Prelude.{◌≡◌, ◌++◌, ℕ, List, [], ◌∷◌, length, Option, None, Some}
 use Rattle.std.specs.Option.{ForSome}
+use Rattle.dma_memory.specs.Areas.{Area, area_at, descriptor_area, AreApart, ChangesOnly}
 use Rattle.dma_memory.specs.HostMemory.{bytes_at, with_bytes, LiesIn}
 use Rattle.descriptors.specs.declared.ring.Ring.{Ring}
 use Rattle.descriptors.specs.Ring.{address_of}
 use Rattle.rx_engine.specs.Arriving.{kept, after_arrival}
-use Rattle.rx_engine.specs.Descriptors.{named_address, AreApart, ChangesOnly}
+use Rattle.rx_engine.specs.Descriptors.{named_address}
 use Rattle.rx_engine.specs.Engine.{Engine, IsEngine, oldest}
 use Rattle.rx_engine.specs.Finishing.{engine_after_done, memory_after_done, StandsApart, IsFinished}
 use Rattle.rx_engine.specs.Moving.{HasFrameToMove, CanMove, IsMoved, engine_after_data, memory_after_data}
@@ -35,7 +36,7 @@ ArrivalGrowsHeld = (fate : Fate) (frame memory : List ℕ) (engine : Engine) →
 pub record MovesApart (control : ℕ) (ring : Ring) (engine : Engine) (memory : List ℕ) : Type 0 where
   pub has : HasFrameToMove control ring engine
   pub can : CanMove control ring memory (length (oldest engine.buffer))
-  pub apart : AreApart (address_of ring ring.head) (named_address memory (address_of ring ring.head)) (length (oldest engine.buffer))
+  pub apart : AreApart (area_at (named_address memory (address_of ring ring.head)) (length (oldest engine.buffer))) (descriptor_area (address_of ring ring.head))
 
 -- A data step leaves them as they are: the oldest frame of the packet buffer becomes the frame in work.
 abbrev pub DataKeepsHeld : Type 0
@@ -58,23 +59,23 @@ DoneTakesFirst =
     → FinishesFirst (held memory engine) (held (memory_after_done engine.work memory) (engine_after_done engine))
     (memory_after_done engine.work memory) work.descriptor)
 
--- so many bytes from a place on have none in common with the descriptor of the frame in work, nor with the frame
-pub record AreAwayFromWork (memory : List ℕ) (place n : ℕ) (work : Work) : Type 0 where
-  pub descriptor : AreApart work.descriptor place n
-  pub frame : (place + n ≤ named_address memory work.descriptor) ⊎ (named_address memory work.descriptor + work.length ≤ place)
+-- an area is apart from the descriptor of the frame in work, and from the frame
+pub record IsAwayFromWork (memory : List ℕ) (area : Area) (work : Work) : Type 0 where
+  pub descriptor : AreApart area (descriptor_area work.descriptor)
+  pub frame : AreApart area (area_at (named_address memory work.descriptor) work.length)
 
 -- Bytes written apart from the frame in work and its descriptor leave the frames.
 abbrev pub OtherBytesLeaveHeld : Type 0
 OtherBytesLeaveHeld =
     (memory : List ℕ) (engine : Engine) (place : ℕ) (bytes : List ℕ)
-    → LiesIn memory place (length bytes) → ForSome engine.work (AreAwayFromWork memory place (length bytes))
+    → LiesIn memory place (length bytes) → ForSome engine.work (IsAwayFromWork memory (area_at place (length bytes)))
     → held (with_bytes memory place bytes) engine ≡ held memory engine
 
 -- A descriptor that is finished with a frame stays so while only bytes change that are apart from it and from the frame. So finished
 -- descriptors only grow in number.
 abbrev pub FinishedStays : Type 0
 FinishedStays =
-    (memory memory' : List ℕ) (place n descriptor : ℕ) (frame : List ℕ)
-    → ChangesOnly memory memory' place n → AreApart descriptor place n
-    → (place + n ≤ named_address memory descriptor) ⊎ (named_address memory descriptor + length frame ≤ place)
+    (memory memory' : List ℕ) (area : Area) (descriptor : ℕ) (frame : List ℕ)
+    → ChangesOnly memory memory' area → AreApart area (descriptor_area descriptor)
+    → AreApart area (area_at (named_address memory descriptor) (length frame))
     → IsFinished memory descriptor frame → IsFinished memory' descriptor frame

@@ -1,19 +1,20 @@
 -- What the engine's steps do to the frames that it holds, and to descriptors.
-use Rattle.std.proofs.Common.{◌≡◌, ◌≤◌, ◌<◌, ◌+◌, ◌/◌, ◌%◌, ◌^◌, ◌⊎◌, ⊎_elim, inl, inr, Option, None, Some, ◌++◌, ◌∷◌, [], ℕ, List, length, drop, slice_index, refl, sym, ap, ◌∙◌, Bool, if◌then◌else◌, arith}
+use Rattle.std.proofs.Common.{◌≡◌, ◌≤◌, ◌<◌, ◌+◌, ◌/◌, ◌%◌, ◌^◌, inl, inr, Option, None, Some, ◌++◌, ◌∷◌, [], ℕ, List, length, drop, slice_index, refl, sym, ap, ◌∙◌, Bool, if◌then◌else◌, arith}
 use Rattle.std.proofs.lemmas.Bool.{le-leb}
 use Rattle.std.proofs.lemmas.List.{drop_at, drop-drop, get_or-append_right}
 use Rattle.std.specs.Option.{ForSome}
 use Rattle.byteorder.specs.Endian.{little_number}
 use Rattle.byteorder.specs.Numbers.{little_from-append, little_from-take, little_number-reads_back}
+use Rattle.dma_memory.specs.Areas.{Area, area_at, descriptor_area, AreApart}
 use Rattle.dma_memory.specs.HostMemory.{bytes_at, with_bytes, LiesIn}
-use Rattle.dma_memory.specs.Laws.{bytes_at-stored, bytes_at-elsewhere, bytes_at-parts, bytes_at-before, length-bytes_at, length-with_bytes}
+use Rattle.dma_memory.specs.Laws.{bytes_at-stored, bytes_at-elsewhere, bytes_at-parts, bytes_at-before, length-bytes_at}
 use Rattle.descriptors.specs.declared.rx_desc.RxDesc.{RxDesc}
 use Rattle.descriptors.specs.RxDesc.{rx_desc_of}
 use Rattle.descriptors.specs.RxStatus.{status_bits, status_of}
-use Rattle.rx_engine.specs.Descriptors.{descriptor_at, named_address, AreApart, ChangesOnly}
+use Rattle.rx_engine.specs.Descriptors.{descriptor_at, named_address}
 use Rattle.rx_engine.specs.Engine.{oldest}
 use Rattle.rx_engine.specs.Finishing.{finished_bytes, memory_after_done, StandsApart, IsFinished}
-use Rattle.rx_engine.specs.Held.{frame_of_work, in_work, AreAwayFromWork, DataKeepsHeld, DoneTakesFirst, FinishedStays, OtherBytesLeaveHeld}
+use Rattle.rx_engine.specs.Held.{frame_of_work, in_work, IsAwayFromWork, DataKeepsHeld, DoneTakesFirst, FinishedStays, OtherBytesLeaveHeld}
 use Rattle.rx_engine.specs.declared.data.Data.TheVariants.{Nothing, Moved, Fault}
 use Rattle.rx_engine.specs.declared.engine.Work.{Work}
 
@@ -22,17 +23,16 @@ pub descriptor_at-kept : (memory memory' : List ℕ) (at : ℕ) → bytes_at mem
 descriptor_at-kept memory memory' at same = ap rx_desc_of same
 
 -- Bytes apart from a descriptor leave it.
-pub descriptor_at-apart : (memory bytes : List ℕ) (at address : ℕ) → LiesIn memory address (length bytes) → AreApart at address (length bytes) → descriptor_at (with_bytes memory address bytes) at ≡ descriptor_at memory at
-descriptor_at-apart memory bytes at address lies (inl before) = descriptor_at-kept memory (with_bytes memory address bytes) at (bytes_at-elsewhere memory bytes address at 16 lies (inr before))
-descriptor_at-apart memory bytes at address lies (inr after) = descriptor_at-kept memory (with_bytes memory address bytes) at (bytes_at-elsewhere memory bytes address at 16 lies (inl after))
+pub descriptor_at-apart : (memory bytes : List ℕ) (at address : ℕ) → LiesIn memory address (length bytes) → AreApart (area_at address (length bytes)) (descriptor_area at) → descriptor_at (with_bytes memory address bytes) at ≡ descriptor_at memory at
+descriptor_at-apart memory bytes at address lies apart = descriptor_at-kept memory (with_bytes memory address bytes) at (bytes_at-elsewhere memory bytes address at 16 lies apart)
 
--- Bytes apart from a descriptor are apart from its second half.
-apart_behind : (at address n : ℕ) → AreApart at address n → (address + n ≤ at + 8) ⊎ (at + 8 + 8 ≤ address)
-apart_behind at address n (inl before) = inl (omega arith)
-apart_behind at address n (inr after) = inr (omega arith)
+-- The second half of a descriptor is apart from what the descriptor is apart from.
+apart_behind : (at : ℕ) (area : Area) → AreApart area (descriptor_area at) → AreApart (area_at (at + 8) 8) area
+apart_behind at area (inl before) = inr (omega arith)
+apart_behind at area (inr after) = inl (omega arith)
 
 -- A frame written apart from the descriptor at the head is the frame in work.
-pub frame_of_work-moved : (memory frame : List ℕ) (at : ℕ) → LiesIn memory (named_address memory at) (length frame) → AreApart at (named_address memory at) (length frame) → frame_of_work (with_bytes memory (named_address memory at) frame) (record { descriptor = at; length = length frame }) ≡ frame
+pub frame_of_work-moved : (memory frame : List ℕ) (at : ℕ) → LiesIn memory (named_address memory at) (length frame) → AreApart (area_at (named_address memory at) (length frame)) (descriptor_area at) → frame_of_work (with_bytes memory (named_address memory at) frame) (record { descriptor = at; length = length frame }) ≡ frame
 frame_of_work-moved memory frame at lies apart =
     let same : named_address (with_bytes memory (named_address memory at) frame) at ≡ named_address memory at = ap (λ (desc : RxDesc). desc.address) (descriptor_at-apart memory frame at (named_address memory at) lies apart) in
     ap (λ (address : ℕ). bytes_at (with_bytes memory (named_address memory at) frame) address (length frame)) same ∙ bytes_at-stored memory frame (named_address memory at) lies
@@ -95,7 +95,7 @@ written_back-finished memory at n short lies stands =
     let desc = descriptor_at-finished memory at n short lies in
     let count : length (bytes_at memory address n) ≡ n = length-bytes_at memory address n stands.place in
     let lies_behind : LiesIn memory (at + 8) 8 = omega arith in
-    let kept : bytes_at memory' address n ≡ bytes_at memory address n = bytes_at-elsewhere memory (finished_bytes n) (at + 8) address n lies_behind (apart_behind at address n stands.apart) in
+    let kept : bytes_at memory' address n ≡ bytes_at memory address n = bytes_at-elsewhere memory (finished_bytes n) (at + 8) address n lies_behind (apart_behind at (area_at address n) stands.apart) in
     record {
       done = ap (λ (d : RxDesc). status_bits d.status / 2 ^ 0 % 2) desc;
       ended = ap (λ (d : RxDesc). status_bits d.status / 2 ^ 1 % 2) desc;
@@ -122,14 +122,14 @@ held-after_done engine memory sound work is lies stands =
     })
 
 -- Bytes away from the frame in work and its descriptor leave the frame as it stands in memory.
-frame_of_work-away : (memory bytes : List ℕ) (place : ℕ) (work : Work) → LiesIn memory place (length bytes) → AreAwayFromWork memory place (length bytes) work → frame_of_work (with_bytes memory place bytes) work ≡ frame_of_work memory work
+frame_of_work-away : (memory bytes : List ℕ) (place : ℕ) (work : Work) → LiesIn memory place (length bytes) → IsAwayFromWork memory (area_at place (length bytes)) work → frame_of_work (with_bytes memory place bytes) work ≡ frame_of_work memory work
 frame_of_work-away memory bytes place work lies away =
     let at = named_address memory work.descriptor in
     let same : named_address (with_bytes memory place bytes) work.descriptor ≡ at = ap (λ (desc : RxDesc). desc.address) (descriptor_at-apart memory bytes work.descriptor place lies away.descriptor) in
     ap (λ (address : ℕ). bytes_at (with_bytes memory place bytes) address work.length) same
-    ∙ bytes_at-elsewhere memory bytes place at work.length lies (⊎_elim inr inl away.frame)
+    ∙ bytes_at-elsewhere memory bytes place at work.length lies away.frame
 
-in_work-away : (memory bytes : List ℕ) (place : ℕ) (work : Option Work) → LiesIn memory place (length bytes) → ForSome work (AreAwayFromWork memory place (length bytes)) → in_work (with_bytes memory place bytes) work ≡ in_work memory work
+in_work-away : (memory bytes : List ℕ) (place : ℕ) (work : Option Work) → LiesIn memory place (length bytes) → ForSome work (IsAwayFromWork memory (area_at place (length bytes))) → in_work (with_bytes memory place bytes) work ≡ in_work memory work
 in_work-away memory bytes place None lies away = refl
 in_work-away memory bytes place (Some work) lies away = ap (λ (frame : List ℕ). frame ∷ []) (frame_of_work-away memory bytes place work lies (away work refl))
 
@@ -137,19 +137,12 @@ in_work-away memory bytes place (Some work) lies away = ap (λ (frame : List ℕ
 pub held-elsewhere : OtherBytesLeaveHeld
 held-elsewhere memory engine place bytes lies away = ap (λ (frames : List (List ℕ)). frames ++ engine.buffer) (in_work-away memory bytes place engine.work lies away)
 
--- A store changes at most its bytes.
-pub changes_only_stored : (memory memory' bytes : List ℕ) (address : ℕ) → memory' ≡ with_bytes memory address bytes → LiesIn memory address (length bytes) → ChangesOnly memory memory' address (length bytes)
-changes_only_stored memory memory' bytes address is lies = rw (is) (record {
-  size = length-with_bytes memory bytes address lies;
-  others = λ i k apart. bytes_at-elsewhere memory bytes address i k lies apart;
-})
-
 -- What is finished stays finished.
 pub finished-kept : FinishedStays
-finished-kept memory memory' place n descriptor frame only apart away finished =
-    let same = descriptor_at-kept memory memory' descriptor (only.others descriptor 16 (⊎_elim inr inl apart)) in
+finished-kept memory memory' area descriptor frame only apart away finished =
+    let same = descriptor_at-kept memory memory' descriptor (only.others (descriptor_area descriptor) apart) in
     let count : (descriptor_at memory descriptor).length ≡ length frame = finished.length in
-    let kept : bytes_at memory' (named_address memory descriptor) (length frame) ≡ bytes_at memory (named_address memory descriptor) (length frame) = only.others (named_address memory descriptor) (length frame) (⊎_elim inr inl away) in
+    let kept : bytes_at memory' (named_address memory descriptor) (length frame) ≡ bytes_at memory (named_address memory descriptor) (length frame) = only.others (area_at (named_address memory descriptor) (length frame)) away in
     let bytes : bytes_at memory (named_address memory descriptor) (length frame) ≡ frame = ap (bytes_at memory (named_address memory descriptor)) (sym count) ∙ finished.bytes in
     record {
       done = ap (λ (d : RxDesc). status_bits d.status / 2 ^ 0 % 2) same ∙ finished.done;

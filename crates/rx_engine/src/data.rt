@@ -4,8 +4,9 @@ ghost use Rattle.std.specs.Prelude.{◌≡◌, ◌≤◌, ◌*◌, ◌↔◌, le
 ghost use Rattle.registers.specs.Bits.{HasBit, field};
 ghost use Rattle.registers.specs.ReceiveControl.{buffer_size_of};
 ghost use Rattle.descriptors.specs.Ring.{IsSound, address_of, count_of, distance_of};
+ghost use Rattle.dma_memory.specs.Areas.{ChangesOnly, area_at};
 ghost use Rattle.dma_memory.specs.HostMemory.{LiesIn};
-ghost use Rattle.rx_engine.specs.Descriptors.{named_address, ChangesOnly};
+ghost use Rattle.rx_engine.specs.Descriptors.{named_address};
 ghost use Rattle.rx_engine.specs.Engine.{oldest, IsEngine};
 ghost use Rattle.rx_engine.specs.Moving.{HasFrameToMove, CanMove, engine_after_data, ring_after_data, memory_after_data, IsMoved, IfMoved, is_half_free};
 
@@ -63,7 +64,7 @@ pub fn rx_data(
     ensures ring { ring.new ≡ ring_after_data result ring.old }
     ensures memory { memory.new ≡ memory_after_data result ring.old engine.old memory.old }
     ensures only { ChangesOnly memory.old memory.new
-        (named_address memory.old (address_of ring.old ring.old.head)) (length (oldest engine.old.buffer)) }
+        (area_at (named_address memory.old (address_of ring.old ring.old.head)) (length (oldest engine.old.buffer))) }
     ensures before { IsEngine engine.old }
     ensures after { IsEngine engine.new }
 {

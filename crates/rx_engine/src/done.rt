@@ -1,8 +1,9 @@
 // The done step: a descriptor is written back.
 
 ghost use Rattle.std.specs.Prelude.{◌≡◌, ◌+◌, ◌↔◌, None, IfSome};
+ghost use Rattle.dma_memory.specs.Areas.{ChangesOnly, area_at};
 ghost use Rattle.dma_memory.specs.HostMemory.{LiesIn, bytes_at, with_bytes};
-ghost use Rattle.rx_engine.specs.Descriptors.{named_address, ChangesOnly};
+ghost use Rattle.rx_engine.specs.Descriptors.{named_address};
 ghost use Rattle.rx_engine.specs.Engine.{IsEngine};
 ghost use Rattle.rx_engine.specs.Finishing.{engine_after_done, finished_bytes, memory_after_done, StandsApart, IsFinished};
 
@@ -37,7 +38,7 @@ pub fn rx_done(engine: &mut RxEngine, memory: &mut HostMemory) -> Done
         → StandsApart memory.old work.descriptor work.length
         → IsFinished memory.new work.descriptor
         (bytes_at memory.old (named_address memory.old work.descriptor) work.length)) }
-    ensures only { IfSome engine.old.work (λ work. ChangesOnly memory.old memory.new (work.descriptor + 8) 8) }
+    ensures only { IfSome engine.old.work (λ work. ChangesOnly memory.old memory.new (area_at (work.descriptor + 8) 8)) }
     ensures before { IsEngine engine.old }
     ensures after { IsEngine engine.new }
 {
@@ -57,7 +58,7 @@ fn write_back(memory: &mut HostMemory, descriptor: u64, length: u16)
     ensures memory { memory.new ≡ with_bytes memory.old (descriptor + 8) (finished_bytes length) }
     ensures finished { StandsApart memory.old descriptor length
         → IsFinished memory.new descriptor (bytes_at memory.old (named_address memory.old descriptor) length) }
-    ensures only { ChangesOnly memory.old memory.new (descriptor + 8) 8 }
+    ensures only { ChangesOnly memory.old memory.new (area_at (descriptor + 8) 8) }
 {
     let finished = RxDesc {
         address: 0,

@@ -21,7 +21,7 @@ const OFFERED: Ring = Ring {
 
 fn broadcast_filter() -> Filter {
     let mut filter = Filter::new();
-    filter.mode(CONTROL.0, 0x8100);
+    filter.write_rctl(CONTROL.0);
     filter
 }
 

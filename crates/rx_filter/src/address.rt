@@ -3,22 +3,41 @@
 ghost use Rattle.std.specs.Prelude.{◌≡◌, ◌+◌, ◌*◌, ◌/◌, ◌%◌, ◌^◌, ◌≤◌, ◌<◌, ◌↔◌, IsTrue, length, slice_index};
 ghost use Rattle.registers.specs.Bits.{HasBit};
 ghost use Rattle.registers.specs.ReceiveControl.{shift_of};
-ghost use Rattle.rx_filter.specs.Addresses.{destination, IsGroup, broadcast, group_number, low_word, high_word, ether_type, vlan_number};
+ghost use Rattle.rx_filter.specs.Addresses.{destination, IsAddress, IsGroup, broadcast, group_number, low_word, high_word, ether_type, vlan_number};
 ghost use Rattle.rx_filter.specs.Registers.{HasEntry, HoldsAddress};
 
 use crate::filter::EXACT_ADDRESSES;
-use crate::table::has_bit;
+use crate::table::{NUMBERS, has_bit};
 use registers::GroupOffset;
 
-/// How many numbers the group table and the VLAN table have.
-const NUMBERS: u16 = 4096;
+/// The broadcast address.
+const BROADCAST: [u8; 6] = [0xFF; 6];
 
-/// Bytes of an address as a receive address register pair holds them: bytes 0 to 3 in one word and bytes 4 and 5 in the
-/// other, the earlier byte the lower one.
-#[derive(Clone, Copy)]
-pub(crate) struct AddressWords {
-    pub(crate) low: u32,
-    pub(crate) high: u32,
+/// AV, bit 31 of RAH: the entry is valid.
+const ADDRESS_VALID: u32 = 1 << 31;
+
+/// The two words of an entry of the exact addresses.
+#[derive(Clone, Copy, Debug, PartialEq, Eq)]
+pub struct AddressWords {
+    /// RAL: bytes 0 to 3 of the address, the earlier byte the lower one (13.5.2).
+    pub low: u32,
+    /// RAH: bytes 4 and 5 of the address in bits 15:0, the earlier byte the lower one, and AV in bit 31 (13.5.3).
+    pub high: u32,
+}
+
+impl AddressWords {
+    /// The words of the valid entry that holds an address.
+    pub fn of(address: &[u8; 6]) -> AddressWords
+        ensures low { result.low ≡ low_word address.now }
+        ensures high { result.high ≡ high_word address.now + 2 ^ 31 }
+        ensures address { IsAddress address.now }
+    {
+        let [b0, b1, b2, b3, b4, b5] = *address;
+        AddressWords {
+            low: u32::from_le_bytes([b0, b1, b2, b3]),
+            high: u32::from(u16::from_le_bytes([b4, b5])) + ADDRESS_VALID,
+        }
+    }
 }
 
 /// The number of an address in the group table: the 12 of its last 16 bits that RCTL.MO names (13.5.1 "Multicast Table
@@ -45,32 +64,19 @@ pub(crate) fn is_group(address: &[u8; 6]) -> bool
     address[0] % 2 == 1
 }
 
-/// The address in words.
-pub(crate) fn words_of(address: &[u8; 6]) -> AddressWords
-    ensures low { result.low ≡ low_word address.now }
-    ensures high { result.high ≡ high_word address.now }
-{
-    let [b0, b1, b2, b3, b4, b5] = *address;
-    AddressWords {
-        low: u32::from_le_bytes([b0, b1, b2, b3]),
-        high: u32::from(u16::from_le_bytes([b4, b5])),
-    }
-}
-
 /// Whether the address is the broadcast address.
 pub(crate) fn is_broadcast(address: &[u8; 6]) -> bool
     ensures { IsTrue result ↔ (address.now ≡ broadcast) }
 {
-    let words = words_of(address);
-    words.low == u32::MAX && words.high == 0xFFFF
+    *address == BROADCAST
 }
 
 /// Whether a receive address register pair is valid and holds this address.
 fn holds_address(low: u32, high: u32, address: &[u8; 6]) -> bool
     ensures { IsTrue result ↔ HoldsAddress low high address.now }
 {
-    let words = words_of(address);
-    low == words.low && high % 0x1_0000 == words.high && has_bit(high, 31)
+    let words = AddressWords::of(address);
+    low == words.low && high % 0x1_0000 == words.high % 0x1_0000 && has_bit(high, 31)
 }
 
 /// Whether one of the 16 register pairs is valid and holds this address.

@@ -1,6 +1,7 @@
 // The filter's registers, and which frames pass.
 
 ghost use Rattle.std.specs.Prelude.{◌≡◌, ◌<◌, ◌≤◌, ◌↔◌, IsTrue, bit_and, length, replicate, slice_index, slice_set};
+ghost use Rattle.registers.specs.Kept.{receive_control_mask};
 ghost use Rattle.rx_filter.specs.Addresses.{destination};
 ghost use Rattle.rx_filter.specs.Passing.{AcceptsAddress, AcceptsGroup, AcceptsVlan, Passes};
 ghost use Rattle.rx_filter.specs.Registers.{filter_of, address_high_mask};
@@ -17,6 +18,9 @@ pub const EXACT_ADDRESSES: usize = 16;
 
 /// How many words MTA and VFTA each have.
 pub const TABLE_WORDS: usize = 128;
+
+/// The VLAN type of IEEE 802.1Q, for VET: bytes 12 and 13 of a tagged frame.
+pub const VLAN_TYPE: u16 = 0x8100;
 
 /// The bits of RAH that a write changes and a read shows: address bytes 4 and 5, and AV.
 const ADDRESS_HIGH_BITS: u32 = 0x8000_FFFF;
@@ -97,12 +101,18 @@ impl Filter {
         self.vfta[i] = value;
     }
 
-    /// Tells the filter RCTL and VET as they now are.
-    pub fn mode(&mut self, rctl: u32, vet: u16)
-        ensures { self.new ≡ record self.old { rctl = rctl; vet = vet } }
+    /// A write of RCTL, which keeps its bits of the word (13.4.22).
+    pub fn write_rctl(&mut self, value: u32)
+        ensures { self.new ≡ record self.old { rctl = bit_and value receive_control_mask } }
     {
-        self.rctl = Rctl(rctl);
-        self.vet = vet;
+        self.rctl = Rctl::kept(value);
+    }
+
+    /// A write of VET, the VLAN type (13.4.11).
+    pub fn write_vet(&mut self, value: u16)
+        ensures { self.new ≡ record self.old { vet = value } }
+    {
+        self.vet = value;
     }
 
     /// A read of RAL(n). `n` is below 16.
@@ -135,6 +145,20 @@ impl Filter {
         ensures { result ≡ slice_index self.now.vfta i }
     {
         self.vfta[i]
+    }
+
+    /// A read of RCTL.
+    pub fn rctl(&self) -> Rctl
+        ensures { result.0 ≡ self.now.rctl }
+    {
+        self.rctl
+    }
+
+    /// A read of VET.
+    pub fn vet(&self) -> u16
+        ensures { result ≡ self.now.vet }
+    {
+        self.vet
     }
 
     /// Whether a frame of at least 16 bytes passes: its destination and its VLAN are accepted (3.2.1 and chapter 9).

@@ -8,9 +8,10 @@ mod filter;
 mod laws;
 mod table;
 
-pub use address::hash_of;
-pub use filter::{EXACT_ADDRESSES, Filter, TABLE_WORDS};
+pub use address::{AddressWords, hash_of};
+pub use filter::{EXACT_ADDRESSES, Filter, TABLE_WORDS, VLAN_TYPE};
 pub use laws::sets_of_registers;
+pub use table::TableBit;
 
 #[cfg(test)]
 mod tests;

@@ -1,10 +1,39 @@
 // Tables of one bit a number.
 
-ghost use Rattle.std.specs.Prelude.{◌≡◌, ◌<◌, ◌↔◌, IsTrue};
+ghost use Rattle.std.specs.Prelude.{◌≡◌, ◌<◌, ◌/◌, ◌%◌, ◌^◌, ◌↔◌, IsTrue};
 ghost use Rattle.registers.specs.Bits.{HasBit};
 ghost use Rattle.rx_filter.specs.Registers.{HasTableBit};
 
 use crate::filter::TABLE_WORDS;
+
+/// How many numbers the group table and the VLAN table have.
+pub(crate) const NUMBERS: u16 = 4096;
+
+/// How many numbers a word of a table has bits for.
+const WORD_NUMBERS: u16 = 32;
+
+/// Where the bit of a number stands in MTA or VFTA.
+#[derive(Clone, Copy, Debug, PartialEq, Eq)]
+pub struct TableBit {
+    /// The word of the table, 0 to 127.
+    pub word: u8,
+    /// The bit in that word: a word with this bit alone.
+    pub mask: u32,
+}
+
+impl TableBit {
+    /// Where the bit of a number stands (13.5.1, 13.5.4). The number is below 4,096.
+    pub fn of(number: u16) -> TableBit
+        requires { number < 4096 }
+        ensures word { result.word ≡ number / 32 }
+        ensures mask { result.mask ≡ 2 ^ (number % 32) }
+    {
+        TableBit {
+            word: (number / WORD_NUMBERS) as u8,
+            mask: 1 << (number % WORD_NUMBERS),
+        }
+    }
+}
 
 /// Whether the bit at this place of a word is 1.
 pub(crate) fn has_bit(word: u32, place: u32) -> bool
@@ -15,9 +44,11 @@ pub(crate) fn has_bit(word: u32, place: u32) -> bool
 }
 
 /// Whether the bit of this number is 1 in a table of words of 32 bits.
+#[tactic(auto, using(registers::specs::Laws::contains_bit))]
 pub(crate) fn has_table_bit(table: &[u32; TABLE_WORDS], number: u16) -> bool
     requires { number < 4096 }
     ensures { IsTrue result ↔ HasTableBit table.now number }
 {
-    has_bit(table[usize::from(number / 32)], u32::from(number % 32))
+    let place = TableBit::of(number);
+    table[usize::from(place.word)] & place.mask == place.mask
 }

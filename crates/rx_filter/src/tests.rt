@@ -1,7 +1,7 @@
 // Worked examples, and each public call once.
 
-use crate::{Filter, hash_of, sets_of_registers};
-use registers::GroupOffset;
+use crate::{AddressWords, Filter, TableBit, VLAN_TYPE, hash_of, sets_of_registers};
+use registers::{GroupOffset, Rctl};
 
 /// The bits of RCTL that the examples set.
 const UPE: u32 = 1 << 3;
@@ -14,9 +14,6 @@ const VFE: u32 = 1 << 18;
 
 /// The bit of RAH that makes an entry valid.
 const AV: u32 = 1 << 31;
-
-/// The VLAN type of IEEE 802.1Q.
-const TAGGED: u16 = 0x8100;
 
 const BROADCAST: [u8; 6] = [0xFF; 6];
 
@@ -51,6 +48,20 @@ fn number_of_a_group_is_its_word_and_bit(rt: HostRuntime) {
 }
 
 #[test]
+fn bits_of_numbers(rt: HostRuntime) {
+    for (number, word, mask) in [(0, 0, 1), (0x341, 26, 0x2), (4095, 127, 0x8000_0000)] {
+        assert_eq!(rt; TableBit::of(number), TableBit { word, mask });
+    }
+}
+
+#[test]
+fn words_of_an_address(rt: HostRuntime) {
+    let words = AddressWords::of(&[0x02, 0x11, 0x22, 0x33, 0x44, 0x55]);
+    assert_eq!(rt; words.low, 0x3322_1102);
+    assert_eq!(rt; words.high, 0x8000_5544);
+}
+
+#[test]
 fn group_table_is_asked_for_groups_alone(rt: HostRuntime) {
     assert_eq!(rt;
         hash_of(GroupOffset::Bits47To36, &[0x01, 0, 0x5E, 0, 0, 0x01]),
@@ -75,13 +86,16 @@ fn vlan_numbers_are_asked_of_tagged_frames(rt: HostRuntime) {
     let mut filter = Filter::new();
     filter.write_vfta(0, 1 << 5);
     assert_eq!(rt; filter.vfta(0), 1 << 5);
-    filter.mode(UPE | VFE, TAGGED);
+    filter.write_rctl(UPE | VFE);
+    filter.write_vet(VLAN_TYPE);
+    assert_eq!(rt; filter.rctl(), Rctl(UPE | VFE));
+    assert_eq!(rt; filter.vet(), VLAN_TYPE);
     let destination = [0x02, 0, 0, 0, 0, 0x02];
     assert!(rt; filter.passes(frame_to(destination, [0x81, 0x00, 0x00, 0x05]).as_slice()));
     assert!(rt; !filter.passes(frame_to(destination, [0x81, 0x00, 0x00, 0x06]).as_slice()));
     assert!(rt; filter.passes(frame_to(destination, [0x81, 0x00, 0x20, 0x05]).as_slice()));
     assert!(rt; filter.passes(frame_to(destination, [0x08, 0x00, 0x00, 0x06]).as_slice()));
-    filter.mode(UPE, TAGGED);
+    filter.write_rctl(UPE);
     assert!(rt; filter.passes(frame_to(destination, [0x81, 0x00, 0x00, 0x06]).as_slice()));
 }
 
@@ -112,7 +126,7 @@ fn modes_accept_kinds_of_addresses(rt: HostRuntime) {
         (UPE | MPE | BAM, true, true, true),
     ] {
         let mut filter = Filter::new();
-        filter.mode(mode, TAGGED);
+        filter.write_rctl(mode);
         assert_eq!(rt;
             passes_to(&filter, individual),
             to_individual,

@@ -1,6 +1,7 @@
 -- Frames and what their descriptors ask for, side by side.
 use Rattle.std.proofs.Common.{◌≡◌, ◌-◌, ◌<◌, not, length-append, ◌++◌, ◌∷◌, [], ℕ, List, length, drop, slice_get, Some, ◌↔◌, refl, ap, ◌∙◌, arith}
 use Rattle.circular_buffer.specs.Buffer.{Buffer, buffer, keep_last}
+use Rattle.frame_queue.specs.Laws.{keep_last-room}
 use Rattle.frame_queue.specs.Frames.{Frames}
 use Rattle.tx_engine.specs.Transmitter.{Queued, Transmitter}
 use Rattle.tx_engine.specs.Buffer.{side_by_side, transmitter_of, IsWhole}
@@ -36,12 +37,6 @@ pub side_by_side-front : (frames : List (List ℕ)) (reports : List Report) (fra
 side_by_side-front [] reports frame same front = tt
 side_by_side-front (first ∷ frames) [] frame same front = absurd (omega arith)
 side_by_side-front (first ∷ frames) (report ∷ reports) frame same front = cc
-
--- One more, where there is room, leaves all.
-keep_last-room : (reports : List Report) (capacity : ℕ) (report : Report) → length reports < capacity → keep_last capacity (reports ++ report ∷ []) ≡ reports ++ report ∷ []
-keep_last-room reports capacity report room =
-    let none : length (reports ++ report ∷ []) - capacity ≡ 0 = omega (arith, length-append reports (report ∷ [])) in
-    ap (λ (n : ℕ). drop n (reports ++ report ∷ [])) none
 
 -- A frame more, in both queues: the reports in order.
 pushed-reports : (engine : Inside) (report : Report) (reports : Buffer Report) → IsWhole engine → length engine.frames.frames < 4 → reports ≡ buffer (keep_last engine.reports.capacity (engine.reports.items ++ report ∷ [])) engine.reports.capacity → reports.items ≡ engine.reports.items ++ report ∷ []

@@ -1,7 +1,7 @@
 -- What the transmit engine reads ("3.3 Packet Transmission" of Intel's manual), and when it reads at all.
-use Rattle.std.specs.Prelude.{◌≡◌, ◌==◌, ◌<◌, ◌≤◌, ◌/◌, ◌%◌, ◌^◌, ◌⊎◌, if◌then◌else◌, Bool, IsTrue, ℕ, List, length}
+use Rattle.std.specs.Prelude.{◌≡◌, ◌<◌, ◌≤◌, ◌⊎◌, if◌then◌else◌, Bool, IsTrue, ℕ, List, length}
 use Rattle.dma_memory.specs.HostMemory.{bytes_at, LiesIn}
-use Rattle.registers.specs.Bits.{HasBit}
+use Rattle.registers.specs.Bits.{HasBit, is_set}
 use Rattle.descriptors.specs.declared.ring.Ring.{Ring}
 use Rattle.descriptors.specs.declared.tx_desc.TxDesc.{TxDesc}
 use Rattle.descriptors.specs.Frames.{padded}
@@ -9,10 +9,6 @@ use Rattle.descriptors.specs.Ring.{IsSound, address_of}
 use Rattle.descriptors.specs.TxDesc.{tx_desc_of}
 use Rattle.descriptors.specs.TxFields.{command_bits}
 use Rattle.tx_engine.specs.Transmitter.{Queued, Transmitter}
-
--- Whether the bit at this place is 1.
-abbrev pub is_set : ℕ → ℕ → Bool
-is_set value place = value / 2 ^ place % 2 == 1
 
 -- Whether a transmit control register pads short packets: PSP ("13.4.33 Transmit Control Register").
 abbrev pub pads : ℕ → Bool

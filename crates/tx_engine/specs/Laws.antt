@@ -1,19 +1,11 @@
 -- The frames to be sent, step by step.
-use Rattle.std.proofs.Common.{◌≡◌, ◌-◌, replicate, ◌^◌, ◌==◌, ◌++◌, ◌∷◌, [], Bool, true, false, ℕ, List, length, map, refl, sym, ap, ◌∙◌, append_assoc, arith, bit_and, cond}
-use Rattle.std.proofs.lemmas.Bool.{eqb-true, eq-eqb}
-use Rattle.std.proofs.lemmas.Bool.Decides.{same_from_decides}
+use Rattle.std.proofs.Common.{◌≡◌, ◌-◌, replicate, ◌++◌, ◌∷◌, [], Bool, true, false, ℕ, List, length, map, refl, sym, ap, ◌∙◌, append_assoc, arith, cond}
 use Rattle.std.proofs.lemmas.List.{append-nil, map-append}
-use Rattle.registers.specs.Bits.{HasBit}
-use Rattle.registers.specs.Laws.{contains_bit}
 use Rattle.descriptors.specs.Ring.{next_of, address_of, owned}
 use Rattle.descriptors.specs.RingLaws.{owned-head, owned-tail}
 use Rattle.tx_engine.specs.Transmitter.{Queued}
-use Rattle.tx_engine.specs.Fetching.{is_set, descriptor_at, named_by, frame_at, fetched, as_sent}
+use Rattle.tx_engine.specs.Fetching.{descriptor_at, named_by, frame_at, fetched, as_sent}
 use Rattle.tx_engine.specs.ToSend.{to_send, TakingMovesFrames, PuttingTakesFront, OfferingAddsFrames}
-
--- To contain a flag of one bit is to have that bit set.
-pub contains-is_set : (value place : ℕ) → (bit_and value (2 ^ place) == 2 ^ place) ≡ is_set value place
-contains-is_set value place = same_from_decides {P = HasBit value place} _ _ (contains_bit value place) (eqb-true _ _, eq-eqb _ _)
 
 -- Taking moves the frame of the slot at the head from the ring's part to the buffer's end.
 pub to_send-take : TakingMovesFrames

@@ -1,11 +1,12 @@
 -- What bytes that are written leave: the other bytes, and the frames that are named elsewhere.
-use Rattle.std.proofs.Common.{◌≡◌, inl, inr, ◌<◌, ◌+◌, ◌++◌, ◌∷◌, [], Bool, true, false, ◌&&◌, if◌then◌else◌, ℕ, zero, suc, List, length, map, drop, slice_index, refl, sym, ap, ◌∙◌, arith, lit≤}
+use Rattle.std.proofs.Common.{◌≡◌, ◌<◌, ◌+◌, ◌++◌, ◌∷◌, [], Bool, true, false, ◌&&◌, if◌then◌else◌, ℕ, zero, suc, List, length, map, drop, slice_index, refl, sym, ap, ◌∙◌, arith, lit≤}
 use Rattle.std.proofs.lemmas.Bool.{and_parts, ltb-true}
 use Rattle.std.proofs.lemmas.List.{get_or-drop}
 use Rattle.std.specs.Prelude.{nat_lt}
 use Rattle.std.specs.List.{All}
 use Rattle.byteorder.specs.Endian.{little_from, little_number}
 use Rattle.byteorder.specs.Numbers.{little_from-take}
+use Rattle.dma_memory.specs.Areas.{area_at}
 use Rattle.dma_memory.specs.HostMemory.{bytes_at, with_bytes, LiesIn}
 use Rattle.dma_memory.specs.Laws.{bytes_at-elsewhere}
 use Rattle.descriptors.specs.declared.ring.Ring.{Ring}
@@ -15,12 +16,7 @@ use Rattle.tx_engine.specs.Transmitter.{Queued}
 use Rattle.tx_engine.specs.Fetching.{descriptor_at, as_sent, frame_at}
 use Rattle.tx_engine.specs.Laws.{to_send-put}
 use Rattle.tx_engine.specs.Steps.{IfFront, status_place, written_back}
-use Rattle.tx_engine.specs.ToSend.{to_send, AreAwayFrom, IsApartFrom, IsAwayFrom, OtherBytesLeaveFrames}
-
--- Bytes apart from those that are written stay.
-bytes_at-apart : (memory bytes : List ℕ) (place address n : ℕ) → LiesIn memory place (length bytes) → IsApartFrom place (length bytes) address n → bytes_at (with_bytes memory place bytes) address n ≡ bytes_at memory address n
-bytes_at-apart memory bytes place address n lies (inl before) = bytes_at-elsewhere memory bytes place address n lies (inr before)
-bytes_at-apart memory bytes place address n lies (inr behind) = bytes_at-elsewhere memory bytes place address n lies (inl behind)
+use Rattle.tx_engine.specs.ToSend.{to_send, IsAwayFrom, OtherBytesLeaveFrames}
 
 -- A number behind a place is the number from that place on.
 little_from-drop : (j n i : ℕ) (bytes : List ℕ) → little_from j n (drop i bytes) ≡ little_from (i + j) n bytes
@@ -51,19 +47,19 @@ unfolding tx_desc_of
 same-length memory changed address same = length-first_ten changed address ∙ ap (little_from 8 2) same ∙ sym (length-first_ten memory address)
 
 -- Bytes away from a descriptor and its frame leave the frame.
-frame_at-away : (memory bytes : List ℕ) (pad : Bool) (place address : ℕ) → LiesIn memory place (length bytes) → AreAwayFrom memory place (length bytes) address → frame_at pad (with_bytes memory place bytes) address ≡ frame_at pad memory address
+frame_at-away : (memory bytes : List ℕ) (pad : Bool) (place address : ℕ) → LiesIn memory place (length bytes) → IsAwayFrom memory (area_at place (length bytes)) address → frame_at pad (with_bytes memory place bytes) address ≡ frame_at pad memory address
 frame_at-away memory bytes pad place address lies away =
     let changed = with_bytes memory place bytes in
     let old = descriptor_at memory address in
-    let ten = bytes_at-apart memory bytes place address 10 lies away.fields in
+    let ten = bytes_at-elsewhere memory bytes place address 10 lies away.fields in
     let at = same-address memory changed address ten in
     let size = same-length memory changed address ten in
     ap (as_sent pad)
     (ap (λ (a : ℕ). bytes_at changed a (descriptor_at changed address).length) at
     ∙ ap (λ (n : ℕ). bytes_at changed old.address n) size
-    ∙ bytes_at-apart memory bytes place old.address old.length lies away.frame)
+    ∙ bytes_at-elsewhere memory bytes place old.address old.length lies away.frame)
 
-frames-away : (memory bytes : List ℕ) (ring : Ring) (pad : Bool) (place : ℕ) (slots : List ℕ) → LiesIn memory place (length bytes) → All (λ slot. AreAwayFrom memory place (length bytes) (address_of ring slot)) slots → map (λ (slot : ℕ). frame_at pad (with_bytes memory place bytes) (address_of ring slot)) slots ≡ map (λ (slot : ℕ). frame_at pad memory (address_of ring slot)) slots
+frames-away : (memory bytes : List ℕ) (ring : Ring) (pad : Bool) (place : ℕ) (slots : List ℕ) → LiesIn memory place (length bytes) → All (λ slot. IsAwayFrom memory (area_at place (length bytes)) (address_of ring slot)) slots → map (λ (slot : ℕ). frame_at pad (with_bytes memory place bytes) (address_of ring slot)) slots ≡ map (λ (slot : ℕ). frame_at pad memory (address_of ring slot)) slots
 frames-away memory bytes ring pad place [] lies away = refl
 frames-away memory bytes ring pad place (slot ∷ slots) lies away =
     let first : frame_at pad (with_bytes memory place bytes) (address_of ring slot) ≡ frame_at pad memory (address_of ring slot) = frame_at-away memory bytes pad place (address_of ring slot) lies (away 0 0 (omega arith)) in
@@ -78,7 +74,7 @@ to_send-elsewhere memory ring pad buffer place bytes lies away =
     ap (λ (frames : List (List ℕ)). map (λ (queued : Queued). queued.frame) buffer ++ frames) (frames-away memory bytes ring pad place (owned ring) lies away)
 
 -- So does one byte.
-pub to_send-away : (memory : List ℕ) (ring : Ring) (pad : Bool) (buffer : List Queued) (place byte : ℕ) → LiesIn memory place 1 → All (λ slot. IsAwayFrom memory place (address_of ring slot)) (owned ring) → to_send (with_bytes memory place (byte ∷ [])) ring pad buffer ≡ to_send memory ring pad buffer
+pub to_send-away : (memory : List ℕ) (ring : Ring) (pad : Bool) (buffer : List Queued) (place byte : ℕ) → LiesIn memory place 1 → All (λ slot. IsAwayFrom memory (area_at place 1) (address_of ring slot)) (owned ring) → to_send (with_bytes memory place (byte ∷ [])) ring pad buffer ≡ to_send memory ring pad buffer
 to_send-away memory ring pad buffer place byte lies away = to_send-elsewhere memory ring pad buffer place (byte ∷ []) lies away
 
 -- Of two memories with the same frames to be sent, either has them.
@@ -87,7 +83,7 @@ to_send-either true memory changed ring pad buffer same = same refl
 to_send-either false memory changed ring pad buffer same = refl
 
 -- The status byte of a frame that has gone out, away from them, leaves the frames to be sent, whether it is written or not.
-pub to_send-written_back : (memory : List ℕ) (ring : Ring) (pad : Bool) (buffer : List Queued) (queued : Queued) → All (λ slot. IsAwayFrom memory (status_place queued) (address_of ring slot)) (owned ring) → to_send (written_back memory queued) ring pad buffer ≡ to_send memory ring pad buffer
+pub to_send-written_back : (memory : List ℕ) (ring : Ring) (pad : Bool) (buffer : List Queued) (queued : Queued) → All (λ slot. IsAwayFrom memory (area_at (status_place queued) 1) (address_of ring slot)) (owned ring) → to_send (written_back memory queued) ring pad buffer ≡ to_send memory ring pad buffer
 to_send-written_back memory ring pad buffer queued away =
     let lies_there = nat_lt (status_place queued) (length memory) in
     to_send-either (queued.report && lies_there) memory (with_bytes memory (status_place queued) (1 ∷ [])) ring pad buffer
@@ -96,7 +92,7 @@ to_send-written_back memory ring pad buffer queued away =
     to_send-away memory ring pad buffer (status_place queued) 1 (omega arith) away)
 
 -- Once the oldest frame of the buffer has gone out, it was the front of the frames to be sent, and the others are left.
-pub to_send-gone : (memory changed : List ℕ) (buffer : List Queued) → IfFront buffer (λ queued. changed ≡ written_back memory queued) → IfFront buffer (λ queued. (ring : Ring) (pad : Bool) → All (λ slot. IsAwayFrom memory (status_place queued) (address_of ring slot)) (owned ring) → to_send memory ring pad buffer ≡ queued.frame ∷ to_send changed ring pad (drop 1 buffer))
+pub to_send-gone : (memory changed : List ℕ) (buffer : List Queued) → IfFront buffer (λ queued. changed ≡ written_back memory queued) → IfFront buffer (λ queued. (ring : Ring) (pad : Bool) → All (λ slot. IsAwayFrom memory (area_at (status_place queued) 1) (address_of ring slot)) (owned ring) → to_send memory ring pad buffer ≡ queued.frame ∷ to_send changed ring pad (drop 1 buffer))
 to_send-gone memory changed [] written = tt
 to_send-gone memory changed (queued ∷ rest) written = λ ring pad away.
     let left : to_send changed ring pad rest ≡ to_send memory ring pad rest = ap (λ (m : List ℕ). to_send m ring pad rest) written ∙ to_send-written_back memory ring pad rest queued away in

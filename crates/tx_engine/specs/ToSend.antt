@@ -1,5 +1,6 @@
 -- The frames that a host still holds for the wire (own).
-use Rattle.std.specs.Prelude.{◌≡◌, ◌≤◌, ◌+◌, ◌++◌, ◌⊎◌, ◌∷◌, [], Bool, ℕ, List, length, map, All}
+use Rattle.std.specs.Prelude.{◌≡◌, ◌++◌, ◌∷◌, [], Bool, ℕ, List, length, map, All}
+use Rattle.dma_memory.specs.Areas.{Area, area_at, AreApart}
 use Rattle.dma_memory.specs.HostMemory.{with_bytes, LiesIn}
 use Rattle.descriptors.specs.declared.ring.Ring.{Ring}
 use Rattle.descriptors.specs.Ring.{IsSound, next_of, address_of, owned}
@@ -11,19 +12,11 @@ use Rattle.tx_engine.specs.Fetching.{descriptor_at, frame_at, fetched}
 unfoldable pub to_send : List ℕ → Ring → Bool → List Queued → List (List ℕ)
 to_send memory ring pad buffer = map (λ (queued : Queued). queued.frame) buffer ++ map (λ (slot : ℕ). frame_at pad memory (address_of ring slot)) (owned ring)
 
--- So many bytes from a place on have none in common with so many from an address on.
-abbrev pub IsApartFrom : ℕ → ℕ → ℕ → ℕ → Type 0
-IsApartFrom place size address n = (place + size ≤ address) ⊎ (address + n ≤ place)
-
--- So many bytes from a place on don't touch what the descriptor at an address says of its frame (its first ten bytes, address
--- and length), and not the frame.
-pub record AreAwayFrom (memory : List ℕ) (place size address : ℕ) : Type 0 where
-  pub fields : IsApartFrom place size address 10
-  pub frame : IsApartFrom place size (descriptor_at memory address).address (descriptor_at memory address).length
-
--- One byte doesn't.
-abbrev pub IsAwayFrom : List ℕ → ℕ → ℕ → Type 0
-IsAwayFrom memory place address = AreAwayFrom memory place 1 address
+-- An area is apart from what the descriptor at an address says of its frame (its first ten bytes, address and length), and
+-- from the frame.
+pub record IsAwayFrom (memory : List ℕ) (area : Area) (address : ℕ) : Type 0 where
+  pub fields : AreApart area (area_at address 10)
+  pub frame : AreApart area (area_at (descriptor_at memory address).address (descriptor_at memory address).length)
 
 -- Taking moves the frame of the slot at the head from the ring's part to the buffer's end.
 abbrev pub TakingMovesFrames : Type 0
@@ -42,7 +35,7 @@ PuttingTakesFront =
 abbrev pub OtherBytesLeaveFrames : Type 0
 OtherBytesLeaveFrames =
     (memory : List ℕ) (ring : Ring) (pad : Bool) (buffer : List Queued) (place : ℕ) (bytes : List ℕ)
-    → LiesIn memory place (length bytes) → All (λ slot. AreAwayFrom memory place (length bytes) (address_of ring slot)) (owned ring)
+    → LiesIn memory place (length bytes) → All (λ slot. IsAwayFrom memory (area_at place (length bytes)) (address_of ring slot)) (owned ring)
     → to_send (with_bytes memory place bytes) ring pad buffer ≡ to_send memory ring pad buffer
 
 -- A driver that moves tail on adds the frame of the slot at the old tail.

@@ -1,9 +1,9 @@
 ghost use Rattle.std.specs.Prelude.{◌≡◌, ◌+◌, ◌<◌, ◌≤◌, ◌^◌, ◌↔◌, IsTrue, IsSome, IfSome, length};
-ghost use Rattle.registers.specs.Bits.{HasBit};
+ghost use Rattle.registers.specs.Bits.{HasBit, is_set};
 ghost use Rattle.dma_memory.specs.HostMemory.{LiesIn};
 ghost use Rattle.descriptors.specs.Ring.{address_of};
 ghost use Rattle.descriptors.specs.TxFields.{command_bits};
-ghost use Rattle.tx_engine.specs.Fetching.{IsTransmittable, IsFetchable, descriptor_at, named_by, is_set};
+ghost use Rattle.tx_engine.specs.Fetching.{IsTransmittable, IsFetchable, descriptor_at, named_by};
 
 use bitflags::Flags;
 use descriptors::{LONGEST_SENDABLE, Ring, TX_DESC_BYTES, TxCommand, TxDesc};

@@ -6,7 +6,7 @@ returns c = record {
   lies = λ memory address n. (LiesIn-each memory address n, LiesIn-from_each memory address n);
   size = length-with_bytes;
   stored = bytes_at-stored;
-  others = bytes_at-elsewhere;
+  others = λ memory bytes address other. bytes_at-elsewhere memory bytes address other.address other.size;
   adjacent = with_bytes-adjacent;
   none = with_bytes-none;
 }

@@ -1,4 +1,5 @@
-use Rattle.std.proofs.Common.{ap, ◌∙◌}
+use Rattle.std.proofs.Common.{ℕ, ap, ◌∙◌}
+use Rattle.adapter.specs.Registers.{after_write}
 use Rattle.adapter.specs.State.{AdapterState}
 use Rattle.pcap_bench.specs.Choosing.{with_group, with_vlan}
 use Rattle.pcap_bench.proofs.Writes.{wrote-vet}
@@ -8,6 +9,7 @@ pub returns-clause-written : goal.returns-clause-written
 returns-clause-written c =
     let options = c.args.options.now in
     c.write.ensures.state
+    ∙ ap (λ (word : ℕ). after_write 0x38 word c.write_vlan.new.adapter) c.from.ensures
     ∙ wrote-vet c.write_vlan.new.adapter
     ∙ ap (λ (s : AdapterState). record s { filter = record s.filter { vet = 0x8100 } }) (
     c.write_vlan.ensures

@@ -1,6 +1,6 @@
 use Rattle.std.proofs.Common.{◌∙◌}
-use Rattle.tx_engine.specs.Laws.{contains-is_set}
+use Rattle.registers.specs.Laws.{contains_is_set}
 use Rattle.tx_engine.proofs.fetching.asks_report.Goals as goal
 
 pub returns : goal.returns
-returns c = c.contains.ensures tt ∙ contains-is_set c.args.command.0 3
+returns c = c.contains.ensures tt ∙ contains_is_set c.args.command.0 3

@@ -3,8 +3,9 @@ use Rattle.std.proofs.lemmas.List.{length-append, length-replicate, with_items_i
 use Rattle.circular_buffer.specs.Buffer.{buffer}
 use Rattle.dma_memory.specs.HostMemory.{with_bytes, LiesIn}
 use Rattle.dma_memory.specs.Laws.{length-with_bytes}
+use Rattle.frame_queue.specs.Laws.{keep_last-room}
 use Rattle.frame_queue.specs.Wrapping.{wrapped}
-use Rattle.frame_queue.proofs.InPlaces.{length-frames_from, frames_from-pushed, keep_last-room, wrapped-within}
+use Rattle.frame_queue.proofs.InPlaces.{length-frames_from, frames_from-pushed, wrapped-within}
 use Rattle.frame_queue.proofs.queue.FrameQueue.push_padded.Goals as goal
 
 pub returns : goal.returns

@@ -1,0 +1,290 @@
+-- Accesses that keep the conditions of the law.
+use Rattle.std.proofs.Common.{◌≡◌, ◌<◌, ◌+◌, ◌-◌, ◌%◌, ◌++◌, ◌∷◌, [], true, false, ℕ, Bool, List, Option, None, Some, zero, suc, if◌then◌else◌, map, refl, sym, ap, subst, ◌∙◌, append_assoc, arith}
+use Rattle.std.specs.Fn.{iterate}
+use Rattle.std.specs.List.{All}
+use Rattle.std.proofs.lemmas.List.{append-nil}
+use Rattle.std.proofs.Math.Nat.{mod-add-mod, mod-eq_of_lt}
+use Rattle.descriptors.specs.Ring.{address_of, count_of, next_of, owned, slots_from}
+use Rattle.descriptors.specs.RingLaws.{next-below}
+use Rattle.mdic_phy.specs.declared.phy.Link.TheVariants.{Never}
+use Rattle.rx_engine.specs.Engine.{Engine}
+use Rattle.tx_engine.specs.Fetching.{fetched, frame_at}
+use Rattle.tx_engine.specs.ToSend.{to_send}
+use Rattle.tx_engine.specs.Transmitter.{Queued, Transmitter}
+use Rattle.adapter.specs.declared.register.Register.{Register}
+use Rattle.adapter.specs.declared.register.Register.TheVariants.{Ctrl, Status, Eerd, Mdic, Vet, Icr, Ics, Ims, Imc, Rctl, Tctl, Pba, Receive, Transmit, Mpc, Gprc, Gptc, Rnbc, Mta, Ral, Rah, Vfta}
+use Rattle.adapter.specs.declared.ring.RingRegisters.{RingRegisters}
+use Rattle.adapter.specs.Registers.{after_reset, by_row, is_reset, left_by_read, new_adapter, read_of, write_of}
+use Rattle.adapter.specs.Rings.{ring_of}
+use Rattle.adapter.specs.State.{AdapterState}
+use Rattle.adapter.specs.Table.{register_at, row_of}
+use Rattle.bus.specs.Frames.{finished, frames_held, frames_to_send, written_back}
+use Rattle.bus.specs.Initialising.{CanOfferMany, IsOfConditions, ManySlotsCanBeOffered, OfferedMany, OtherWritesLeaveFrames, ReadsLeaveFrames, ReceiverCanBeSet, TransmitRingCanBeSet, TransmitterCanBeSet, with_tail}
+use Rattle.bus.specs.Law.{AreWhole, Reports, Sound}
+use Rattle.bus.specs.Offering.{CanOffer, offering}
+use Rattle.bus.specs.OwnStores.{LeavesFrames, SameFrames}
+use Rattle.bus.specs.Running.{CanRun, CanTransmit}
+use Rattle.bus.specs.Slots.{offered, outstanding}
+use Rattle.bus.specs.World.{World, receive_ring, transmit_ring}
+use Rattle.bus.proofs.Idle.{dealt-idle, offered-none, outstanding-none, owned-none}
+use Rattle.bus.proofs.Lists.{all-none}
+use Rattle.bus.proofs.Offering.{slots_can_be_offered}
+
+-- Controls and the transmit ring.
+
+pub receiver_can_be_set : ReceiverCanBeSet
+receiver_can_be_set o p control world sound separate = record {
+  same = record {
+    sound = record {
+      receive_slots = sound.receive_slots;
+      transmit_slots = sound.transmit_slots;
+      separate = separate;
+      reports = sound.reports;
+      pads = sound.pads;
+    };
+    held = refl;
+    to_send = refl;
+    finished_same = refl;
+    written_same = refl;
+    whole = λ are. are;
+  };
+  runs = λ not_extended size can. record {
+    receiver_runs = can.receiver_runs;
+    transmitter_runs = can.transmitter_runs;
+    receive_indices = can.receive_indices;
+    transmit_indices = can.transmit_indices;
+    not_extended = not_extended;
+    size = size;
+    frames = can.frames;
+    transmittable = can.transmittable;
+  };
+}
+
+pub transmitter_can_be_set : TransmitterCanBeSet
+transmitter_can_be_set o p control world sound pads = record {
+  same = record {
+    sound = record {
+      receive_slots = sound.receive_slots;
+      transmit_slots = sound.transmit_slots;
+      separate = sound.separate;
+      reports = sound.reports;
+      pads = pads;
+    };
+    held = refl;
+    to_send = refl;
+    finished_same = refl;
+    written_same = refl;
+    whole = λ are. are;
+  };
+  runs = λ can. record {
+    receiver_runs = can.receiver_runs;
+    transmitter_runs = can.transmitter_runs;
+    receive_indices = can.receive_indices;
+    transmit_indices = can.transmit_indices;
+    not_extended = can.not_extended;
+    size = can.size;
+    frames = can.frames;
+    transmittable = can.transmittable;
+  };
+}
+
+none-sent : (memory : List ℕ) (registers : RingRegisters) (buffer : List Queued) → buffer ≡ [] → registers.head ≡ registers.tail → to_send memory (ring_of registers) true buffer ≡ []
+unfolding to_send
+none-sent memory registers buffer none same =
+    let ring = ring_of registers in
+    let behind = map (λ (slot : ℕ). frame_at true memory (address_of ring slot)) (owned ring) in
+    ap (λ (queue : List Queued). map (λ (queued : Queued). queued.frame) queue ++ behind) none
+    ∙ ap (map (λ (slot : ℕ). frame_at true memory (address_of ring slot))) (owned-none ring same)
+
+pub transmit_ring_can_be_set : TransmitRingCanBeSet
+transmit_ring_can_be_set o p ring world sound none same separate =
+    let memory = world.memory in
+    let unsent = offered-none (ring_of ring) same in
+    let queue : world.adapter.transmitter.buffer ++ map (fetched true memory) (offered (ring_of ring)) ≡ [] =
+    ap (λ (frames : List Queued). frames ++ map (fetched true memory) (offered (ring_of ring))) none ∙ ap (map (fetched true memory)) unsent in
+    record {
+      sound = record {
+        receive_slots = sound.receive_slots;
+        transmit_slots = dealt-idle memory (ring_of ring) _ same (ap (map (λ (queued : Queued). queued.descriptor)) none);
+        separate = separate;
+        reports = subst (λ (frames : List Queued). All Reports frames) (sym queue) (all-none Reports);
+        pads = λ differ. absurd (differ same);
+      };
+      none_outstanding = outstanding-none (ring_of ring);
+      none_to_send = none-sent memory ring world.adapter.transmitter.buffer none same;
+      held = refl;
+      finished_same = refl;
+      runs = λ can. record {
+        receiver_runs = can.receiver_runs;
+        transmitter_runs = can.transmitter_runs;
+        receive_indices = can.receive_indices;
+        transmit_indices = λ differ. absurd (differ same);
+        not_extended = can.not_extended;
+        size = can.size;
+        frames = can.frames;
+        transmittable = subst (λ (slots : List ℕ). All (CanTransmit memory) slots) (sym unsent) (all-none (CanTransmit memory));
+      };
+    }
+
+-- Other accesses.
+
+-- A world of these parts, which are all that the conditions, slots and frames rest on.
+abbrev of_parts : List ℕ → RingRegisters → RingRegisters → Engine → Transmitter → ℕ → ℕ → World
+of_parts memory receive transmit receiver transmitter receive_control transmit_control = record {
+  memory = memory;
+  adapter = record (new_adapter [] Never) {
+    receive_ring = receive;
+    transmit_ring = transmit;
+    receiver = receiver;
+    transmitter = transmitter;
+    filter = record (new_adapter [] Never).filter { rctl = receive_control };
+    transmit_control = transmit_control;
+  };
+}
+
+abbrev parts : World → World
+parts world =
+    of_parts world.memory world.adapter.receive_ring world.adapter.transmit_ring world.adapter.receiver world.adapter.transmitter world.adapter.filter.rctl
+    world.adapter.transmit_control
+
+to_parts : (o p : ℕ) (world : World) → Sound o p world → Sound o p (parts world)
+to_parts o p world sound = record {
+  receive_slots = sound.receive_slots;
+  transmit_slots = sound.transmit_slots;
+  separate = sound.separate;
+  reports = sound.reports;
+  pads = sound.pads;
+}
+
+from_parts : (o p : ℕ) (world : World) → Sound o p (parts world) → Sound o p world
+from_parts o p world sound = record {
+  receive_slots = sound.receive_slots;
+  transmit_slots = sound.transmit_slots;
+  separate = sound.separate;
+  reports = sound.reports;
+  pads = sound.pads;
+}
+
+running_to_parts : (world : World) → CanRun world → CanRun (parts world)
+running_to_parts world can = record {
+  receiver_runs = can.receiver_runs;
+  transmitter_runs = can.transmitter_runs;
+  receive_indices = can.receive_indices;
+  transmit_indices = can.transmit_indices;
+  not_extended = can.not_extended;
+  size = can.size;
+  frames = can.frames;
+  transmittable = can.transmittable;
+}
+
+running_from_parts : (world : World) → CanRun (parts world) → CanRun world
+running_from_parts world can = record {
+  receiver_runs = can.receiver_runs;
+  transmitter_runs = can.transmitter_runs;
+  receive_indices = can.receive_indices;
+  transmit_indices = can.transmit_indices;
+  not_extended = can.not_extended;
+  size = can.size;
+  frames = can.frames;
+  transmittable = can.transmittable;
+}
+
+by-parts : (o p : ℕ) (a b : World) → parts b ≡ parts a → Sound o p a → LeavesFrames o p a b
+by-parts o p a b same sound = record {
+  same = record {
+    sound = from_parts o p b (subst (Sound o p) (sym same) (to_parts o p a sound));
+    held = ap (frames_held o) same;
+    to_send = ap frames_to_send same;
+    finished_same = ap (finished o) same;
+    written_same = ap (written_back p) same;
+    whole = λ are. subst (λ (world : World). AreWhole world.memory (finished o world)) (sym same) are;
+  };
+  runs = λ can. running_from_parts b (subst CanRun (sym same) (running_to_parts a can));
+}
+
+read-leaves : (o p : ℕ) (register : Register) (world : World) → Sound o p world → LeavesFrames o p world (record world { adapter = read_of register world.adapter })
+read-leaves o p Icr world sound = by-parts o p world _ refl sound
+read-leaves o p Mpc world sound = by-parts o p world _ refl sound
+read-leaves o p Gprc world sound = by-parts o p world _ refl sound
+read-leaves o p Gptc world sound = by-parts o p world _ refl sound
+read-leaves o p Rnbc world sound = by-parts o p world _ refl sound
+read-leaves o p _ world sound = by-parts o p world _ refl sound
+
+pub reads_leave_frames : ReadsLeaveFrames
+reads_leave_frames o p offset world sound = by_case (register_at offset)
+  where
+    by_case : (found : Option Register) → LeavesFrames o p world (record world { adapter = left_by_read found world.adapter })
+    by_case (Some register) = read-leaves o p register world sound
+    by_case None = by-parts o p world world refl sound
+
+pub other_writes_leave_frames : OtherWritesLeaveFrames
+other_writes_leave_frames o p Ctrl value world sound other none = by_test (is_reset Ctrl value) none
+  where
+    by_test : (test : Bool) → test ≡ false → LeavesFrames o p world (record world { adapter = if test then after_reset world.adapter else by_row (row_of Ctrl).kept Ctrl value world.adapter })
+    by_test true same = absurd (cc)
+    by_test false same = by-parts o p world _ refl sound
+other_writes_leave_frames o p Rctl value world sound other none = absurd (other tt)
+other_writes_leave_frames o p Tctl value world sound other none = absurd (other tt)
+other_writes_leave_frames o p (Receive part) value world sound other none = absurd (other tt)
+other_writes_leave_frames o p (Transmit part) value world sound other none = absurd (other tt)
+other_writes_leave_frames o p Status value world sound other none = by-parts o p world _ refl sound
+other_writes_leave_frames o p Eerd value world sound other none = by-parts o p world _ refl sound
+other_writes_leave_frames o p Mdic value world sound other none = by-parts o p world _ refl sound
+other_writes_leave_frames o p Vet value world sound other none = by-parts o p world _ refl sound
+other_writes_leave_frames o p Icr value world sound other none = by-parts o p world _ refl sound
+other_writes_leave_frames o p Ics value world sound other none = by-parts o p world _ refl sound
+other_writes_leave_frames o p Ims value world sound other none = by-parts o p world _ refl sound
+other_writes_leave_frames o p Imc value world sound other none = by-parts o p world _ refl sound
+other_writes_leave_frames o p Pba value world sound other none = by-parts o p world _ refl sound
+other_writes_leave_frames o p Mpc value world sound other none = by-parts o p world _ refl sound
+other_writes_leave_frames o p Gprc value world sound other none = by-parts o p world _ refl sound
+other_writes_leave_frames o p Gptc value world sound other none = by-parts o p world _ refl sound
+other_writes_leave_frames o p Rnbc value world sound other none = by-parts o p world _ refl sound
+other_writes_leave_frames o p (Mta word) value world sound other none = by-parts o p world _ refl sound
+other_writes_leave_frames o p (Ral entry) value world sound other none = by-parts o p world _ refl sound
+other_writes_leave_frames o p (Rah entry) value world sound other none = by-parts o p world _ refl sound
+other_writes_leave_frames o p (Vfta word) value world sound other none = by-parts o p world _ refl sound
+
+-- Many slots.
+
+same_trans : (o p : ℕ) (a b d : World) → SameFrames o p a b → SameFrames o p b d → SameFrames o p a d
+same_trans o p a b d one two = record {
+  sound = two.sound;
+  held = two.held ∙ one.held;
+  to_send = two.to_send ∙ one.to_send;
+  finished_same = two.finished_same ∙ one.finished_same;
+  written_same = two.written_same ∙ one.written_same;
+  whole = λ are. two.whole (one.whole are);
+}
+
+-- one by one
+offered_each : (o p k : ℕ) (world : World) → Sound o p world → CanOfferMany o k world → OfferedMany o p k world (iterate offering k world)
+offered_each o p zero world sound can = record { same = (by-parts o p world world refl sound).same; runs = λ can. can; last = sym (append-nil (outstanding (receive_ring world) o)) }
+offered_each o p (suc k) world sound can =
+    let one = slots_can_be_offered o p world sound can.0 in
+    let rest = offered_each o p k (offering world) one.same.sound can.1 in
+    let ring = receive_ring world in
+    let later = map (address_of ring) (slots_from (count_of ring) (next_of ring ring.tail) k) in
+    record {
+      same = same_trans o p world (offering world) (iterate offering k (offering world)) one.same rest.same;
+      runs = λ can. rest.runs (one.runs can);
+      last = rest.last ∙ ap (λ (slots : List ℕ). slots ++ later) one.last ∙ append_assoc (outstanding ring o) (address_of ring ring.tail ∷ []) later;
+    }
+
+moved_tail : (k : ℕ) (world : World) → world.adapter.receive_ring.tail < count_of (receive_ring world) → iterate offering k world ≡ with_tail ((world.adapter.receive_ring.tail + k) % count_of (receive_ring world)) world
+moved_tail zero world within =
+    let n = count_of (receive_ring world) in
+    let tail = world.adapter.receive_ring.tail in
+    let whole : tail + 0 ≡ tail = omega arith in
+    let index : (tail + 0) % n ≡ tail = ap (λ (i : ℕ). i % n) whole ∙ mod-eq_of_lt within in
+    ap (λ (i : ℕ). with_tail i world) (sym index)
+moved_tail (suc k) world within =
+    let n = count_of (receive_ring world) in
+    let tail = world.adapter.receive_ring.tail in
+    let sum : tail + 1 + k ≡ tail + suc k = omega arith in
+    let index : ((tail + 1) % n + k) % n ≡ (tail + suc k) % n = mod-add-mod (tail + 1) n k ∙ ap (λ (i : ℕ). i % n) sum in
+    moved_tail k (offering world) (next-below n tail within) ∙ ap (λ (i : ℕ). with_tail i world) index
+
+pub many_slots_can_be_offered : ManySlotsCanBeOffered
+many_slots_can_be_offered o p k world sound within can =
+    subst (OfferedMany o p k world) (moved_tail k world within) (offered_each o p k world sound can)

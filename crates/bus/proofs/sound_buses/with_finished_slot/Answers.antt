@@ -1,0 +1,31 @@
+use Rattle.std.proofs.Common.{◌≡◌, ap, sym, subst, arith}
+use Rattle.adapter.specs.declared.step.StepKind.TheVariants.{RxDone}
+use Rattle.bus.specs.Examples.{HasFinished}
+use Rattle.bus.specs.Law.{Sound}
+use Rattle.bus.specs.Solo.{SoloState, has_room}
+use Rattle.bus.specs.SoundBuses.{reported}
+use Rattle.bus.specs.World.{World}
+use Rattle.bus.proofs.SoundBuses.{reported-found, reported-has_finished, stepped-sound}
+use Rattle.bus.proofs.sound_buses.with_finished_slot.Goals as goal
+
+world-is : (c : goal.After-step) → c.step.new.self.world ≡ reported 4096 c.args.image.now
+world-is c =
+    let state : SoloState → World = λ solo. solo.world in
+    reported-found 4096 c.args.image.now c.step.result c.in_ok-bus.bus.world c.step.new.self.world c.in_ok-bus.ensures.world c.step.ensures.answer (ap state c.step.ensures.state)
+
+sound-is : (c : goal.After-step) → Sound 0 0 c.step.new.self.world
+sound-is c =
+    let state : SoloState → World = λ solo. solo.world in
+    subst (Sound 0 0) (sym (ap state c.step.ensures.state))
+    (stepped-sound RxDone (has_room c.in_ok-bus.bus) c.step.result c.in_ok-bus.bus.world c.step.ensures.running c.step.ensures.answer c.in_ok-bus.ensures.sound)
+
+pub returns-clause-world : goal.returns-clause-world
+returns-clause-world c = world-is c
+
+pub returns-clause-sound : goal.returns-clause-sound
+returns-clause-sound c = sound-is c
+
+pub returns-clause-finished : goal.returns-clause-finished
+returns-clause-finished c =
+    let is = world-is c in
+    subst HasFinished (sym is) (reported-has_finished 4096 c.args.image.now (subst (Sound 0 0) is (sound-is c)))

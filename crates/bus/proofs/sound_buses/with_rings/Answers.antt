@@ -1,0 +1,19 @@
+use Rattle.std.proofs.Common.{◌≡◌, ◌≤◌, ap, ◌∙◌, sym, subst, arith}
+use Rattle.bus.specs.Examples.{HasRings}
+use Rattle.bus.specs.Law.{Sound}
+use Rattle.bus.specs.Solo.{SoloState}
+use Rattle.bus.specs.SoundBuses.{ready}
+use Rattle.bus.specs.World.{World, world_after_write}
+use Rattle.bus.proofs.SoundBuses.{ready-has_rings, ready-sound, ready-written}
+use Rattle.bus.proofs.sound_buses.with_rings.Goals as goal
+
+pub returns : goal.returns
+returns c =
+    let words = c.args.image.now in
+    let is : c.write_now.new.self.world ≡ ready 4096 words =
+    ap (λ (solo : SoloState). solo.world) c.write_now.ensures.state ∙ ap (world_after_write 0x2818 1) c.in_ok-bus.ensures ∙ ready-written 4096 words in
+    record {
+      world = is;
+      sound = subst (Sound 0 0) (sym is) (ready-sound 4096 words (omega arith));
+      rings = subst HasRings (sym is) (ready-has_rings 4096 words);
+    }

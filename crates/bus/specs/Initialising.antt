@@ -1,0 +1,119 @@
+-- What a driver does while the conditions of the law hold, besides offering slots one by one and storing to memory of its own: it writes and reads
+-- registers, as in initialisation behind the first slot offered (own).
+use Rattle.std.specs.Prelude.{⊤, ◌≡◌, ◌≤◌, ◌<◌, ◌+◌, ◌%◌, ◌++◌, ℕ, zero, suc, [], false, map}
+use Rattle.std.specs.Fn.{iterate}
+use Rattle.dma_memory.specs.Areas.{AreSeparate}
+use Rattle.registers.specs.Bits.{HasBit, field}
+use Rattle.registers.specs.ReceiveControl.{buffer_size_of}
+use Rattle.descriptors.specs.Ring.{address_of, count_of, slots_from}
+use Rattle.adapter.specs.Registers.{is_reset, write_of}
+use Rattle.adapter.specs.declared.register.Register.{Register}
+use Rattle.adapter.specs.declared.register.Register.TheVariants.{Rctl, Receive, Tctl, Transmit}
+use Rattle.adapter.specs.declared.ring.RingRegisters.{RingRegisters}
+use Rattle.bus.specs.Frames.{areas, finished, frames_held, frames_to_send}
+use Rattle.bus.specs.Law.{Sound}
+use Rattle.bus.specs.Offering.{CanOffer, offering}
+use Rattle.bus.specs.OwnStores.{LeavesFrames, SameFrames}
+use Rattle.bus.specs.Running.{GoOn}
+use Rattle.bus.specs.Slots.{outstanding}
+use Rattle.bus.specs.World.{World, receive_ring, transmit_ring, world_after_read}
+
+-- Many slots are offered at once.
+
+-- so many slots can be offered, one behind the other
+abbrev pub CanOfferMany : ℕ → ℕ → World → Type 0
+CanOfferMany oldest zero world = ⊤
+CanOfferMany oldest (suc k) world = CanOffer oldest world × CanOfferMany oldest k (offering world)
+
+-- the world with RDT at this index
+abbrev pub with_tail : ℕ → World → World
+with_tail index world = record world { adapter = record world.adapter { receive_ring = record world.adapter.receive_ring { tail = index } } }
+
+-- RDT moved on by so many, in one write: the conditions hold again, these slots are the last that are outstanding, and frames are the same.
+pub record OfferedMany (oldest_received oldest_sent k : ℕ) (a b : World) : Type 0 where
+  pub same : SameFrames oldest_received oldest_sent a b
+  pub runs : GoOn a b
+  pub last :
+      outstanding (receive_ring b) oldest_received
+      ≡ outstanding (receive_ring a) oldest_received ++ map (address_of (receive_ring a)) (slots_from (count_of (receive_ring a)) a.adapter.receive_ring.tail k)
+
+abbrev pub ManySlotsCanBeOffered : Type 0
+ManySlotsCanBeOffered =
+    (oldest_received oldest_sent k : ℕ) (world : World) → Sound oldest_received oldest_sent world → world.adapter.receive_ring.tail < count_of (receive_ring world)
+    → CanOfferMany oldest_received k world
+    → OfferedMany oldest_received oldest_sent k world (with_tail ((world.adapter.receive_ring.tail + k) % count_of (receive_ring world)) world)
+
+-- Controls.
+
+-- the world with this word in RCTL
+abbrev pub with_receive_control : ℕ → World → World
+with_receive_control control world = record world { adapter = record world.adapter { filter = record world.adapter.filter { rctl = control } } }
+
+-- The conditions hold, and frames are the same; where BSEX is 0 and BSIZE names room for every legal frame, engines that could run still can.
+pub record ReceiverSet (oldest_received oldest_sent control : ℕ) (a b : World) : Type 0 where
+  pub same : SameFrames oldest_received oldest_sent a b
+  pub runs : ¬ (HasBit control 25) → 1518 ≤ buffer_size_of (field control 16 2) → GoOn a b
+
+-- RCTL may be written where the rings, the frames and the buffers that then count are apart, in memory.
+abbrev pub ReceiverCanBeSet : Type 0
+ReceiverCanBeSet =
+    (oldest_received oldest_sent control : ℕ) (world : World) → Sound oldest_received oldest_sent world
+    → AreSeparate world.memory (areas oldest_received (with_receive_control control world))
+    → ReceiverSet oldest_received oldest_sent control world (with_receive_control control world)
+
+-- the world with this word in TCTL
+abbrev pub with_transmit_control : ℕ → World → World
+with_transmit_control control world = record world { adapter = record world.adapter { transmit_control = control } }
+
+-- TCTL may be written where PSP is set, or TDH is TDT.
+abbrev pub TransmitterCanBeSet : Type 0
+TransmitterCanBeSet =
+    (oldest_received oldest_sent control : ℕ) (world : World) → Sound oldest_received oldest_sent world
+    → (¬ (world.adapter.transmit_ring.head ≡ world.adapter.transmit_ring.tail) → HasBit control 3)
+    → LeavesFrames oldest_received oldest_sent world (with_transmit_control control world)
+
+-- The transmit ring.
+
+-- the world with these registers of the transmit ring
+abbrev pub with_transmit_ring : RingRegisters → World → World
+with_transmit_ring ring world = record world { adapter = record world.adapter { transmit_ring = ring } }
+
+-- The conditions hold with TDT as the oldest slot, nothing is outstanding or to be sent, and what was received stays.
+pub record TransmitRingSet (oldest_received : ℕ) (a b : World) : Type 0 where
+  pub sound : Sound oldest_received b.adapter.transmit_ring.tail b
+  pub none_outstanding : outstanding (transmit_ring b) b.adapter.transmit_ring.tail ≡ []
+  pub none_to_send : frames_to_send b ≡ []
+  pub held : frames_held oldest_received b ≡ frames_held oldest_received a
+  pub finished_same : finished oldest_received b ≡ finished oldest_received a
+  pub runs : GoOn a b
+
+-- While no frame is in the transmit packet buffer the transmit ring may be set up, with TDH equal to TDT, where it is apart from all else.
+abbrev pub TransmitRingCanBeSet : Type 0
+TransmitRingCanBeSet =
+    (oldest_received oldest_sent : ℕ) (ring : RingRegisters) (world : World) → Sound oldest_received oldest_sent world
+    → world.adapter.transmitter.buffer ≡ [] → ring.head ≡ ring.tail
+    → AreSeparate world.memory (areas oldest_received (with_transmit_ring ring world))
+    → TransmitRingSet oldest_received world (with_transmit_ring ring world)
+
+-- Other accesses.
+
+-- a register that the conditions read
+abbrev pub IsOfConditions : Register → Type 0
+IsOfConditions Rctl = ⊤
+IsOfConditions Tctl = ⊤
+IsOfConditions (Receive part) = ⊤
+IsOfConditions (Transmit part) = ⊤
+IsOfConditions register = ⊥
+
+-- A write of any other register leaves the conditions, slots and frames, a reset apart,
+abbrev pub OtherWritesLeaveFrames : Type 0
+OtherWritesLeaveFrames =
+    (oldest_received oldest_sent : ℕ) (register : Register) (value : ℕ) (world : World)
+    → Sound oldest_received oldest_sent world → ¬ (IsOfConditions register) → is_reset register value ≡ false
+    → LeavesFrames oldest_received oldest_sent world (record world { adapter = write_of register value world.adapter })
+
+-- and so does a read of any register.
+abbrev pub ReadsLeaveFrames : Type 0
+ReadsLeaveFrames =
+    (oldest_received oldest_sent offset : ℕ) (world : World)
+    → Sound oldest_received oldest_sent world → LeavesFrames oldest_received oldest_sent world (world_after_read offset world)

@@ -1,0 +1,59 @@
+-- What the buses of `src/sound_buses.rt` hold (own), by the bytes of their memory and the words of their EEPROM. The memory is all zeros, so
+-- each receive descriptor names the buffer at address 0, behind which both rings of eight slots stand.
+use Rattle.std.specs.Prelude.{ℕ, List, [], ◌∷◌, replicate}
+use Rattle.mdic_phy.specs.declared.phy.Link.TheVariants.{Never}
+use Rattle.rx_engine.specs.declared.arrival.Fate.TheVariants.{Stored}
+use Rattle.adapter.specs.Registers.{filter_at_reset, new_adapter}
+use Rattle.adapter.specs.declared.step.StepKind.TheVariants.{RxData, RxDone, TxTake}
+use Rattle.adapter.specs.declared.step.Stepped.TheVariants.{Done, Moved, Took}
+use Rattle.bus.specs.Offering.{offering, offering_frame}
+use Rattle.bus.specs.Steps.{world_after_arrival, world_after_step}
+use Rattle.bus.specs.World.{World, world_after_store}
+
+-- both rings set up and nothing offered: RCTL.EN and BAM, with buffers of 2,048 bytes, and TCTL.EN and PSP
+abbrev pub resting : ℕ → List ℕ → World
+resting size words = record {
+  memory = replicate size 0;
+  adapter = record (new_adapter words Never) {
+    filter = record (filter_at_reset words) { rctl = 0x8002 };
+    transmit_control = 0xA;
+    receive_ring = record { base_low = 2048; base_high = 0; length_bytes = 128; head = 0; tail = 0 };
+    transmit_ring = record { base_low = 2176; base_high = 0; length_bytes = 128; head = 0; tail = 0 };
+  };
+}
+
+-- the first receive slot offered
+abbrev pub ready : ℕ → List ℕ → World
+ready size words = offering (resting size words)
+
+-- a frame to all
+abbrev pub call : List ℕ
+call = replicate 60 255
+
+-- it has arrived,
+abbrev pub called : ℕ → List ℕ → World
+called size words = world_after_arrival Stored call (ready size words)
+
+-- it is in work,
+abbrev pub working : ℕ → List ℕ → World
+working size words = world_after_step RxData Moved (called size words)
+
+-- and its slot is finished
+abbrev pub reported : ℕ → List ℕ → World
+reported size words = world_after_step RxDone Done (working size words)
+
+-- a transmit descriptor of 60 bytes at 2,304, with EOP, IFCS and RS
+abbrev pub request : List ℕ
+request = 0 ∷ 9 ∷ 0 ∷ 0 ∷ 0 ∷ 0 ∷ 0 ∷ 0 ∷ 60 ∷ 0 ∷ 0 ∷ 11 ∷ 0 ∷ 0 ∷ 0 ∷ 0 ∷ []
+
+-- it stands in the first transmit slot,
+abbrev pub requested : ℕ → List ℕ → World
+requested size words = world_after_store 2176 request (resting size words)
+
+-- the slot is offered,
+abbrev pub sending : ℕ → List ℕ → World
+sending size words = offering_frame (requested size words)
+
+-- and its frame taken
+abbrev pub sent : ℕ → List ℕ → World
+sent size words = world_after_step TxTake Took (sending size words)

@@ -1,0 +1,38 @@
+-- Areas of a host's memory (own).
+use Rattle.std.specs.Prelude.{◌≡◌, ◌≤◌, ◌+◌, ◌⊎◌, ℕ, List, length, All, AllPairs}
+use Rattle.dma_memory.specs.HostMemory.{bytes_at, LiesIn}
+
+-- so many bytes from an address on
+pub record Area : Type 0 where
+  pub address : ℕ
+  pub size : ℕ
+
+abbrev pub area_at : ℕ → ℕ → Area
+area_at address size = record { address = address; size = size }
+
+-- the sixteen bytes of a descriptor ("3.2.3 Receive Descriptor Format", "3.3.3 Legacy Transmit Descriptor Format" of Intel's manual)
+abbrev pub descriptor_area : ℕ → Area
+descriptor_area address = area_at address 16
+
+-- the bytes that stand in an area
+abbrev pub bytes_in : List ℕ → Area → List ℕ
+bytes_in memory area = bytes_at memory area.address area.size
+
+-- of two areas one ends at or before the start of the other, so no byte belongs to both
+abbrev pub AreApart : Area → Area → Type 0
+AreApart a b = (a.address + a.size ≤ b.address) ⊎ (b.address + b.size ≤ a.address)
+
+-- the first area begins and ends within the second
+pub record IsInside (inner outer : Area) : Type 0 where
+  pub from : outer.address ≤ inner.address
+  pub to : inner.address + inner.size ≤ outer.address + outer.size
+
+-- these areas lie in memory, and any two of them are apart
+pub record AreSeparate (memory : List ℕ) (areas : List Area) : Type 0 where
+  pub lie : All (λ area. LiesIn memory area.address area.size) areas
+  pub apart : AllPairs AreApart areas
+
+-- of memory at most this area has changed
+pub record ChangesOnly (memory memory' : List ℕ) (area : Area) : Type 0 where
+  pub size : length memory' ≡ length memory
+  pub others : (other : Area) → AreApart area other → bytes_in memory' other ≡ bytes_in memory other
