@@ -1,27 +1,22 @@
 -- What steps and arrivals do to the frames of an adapter, proved.
-use Rattle.std.proofs.Common.{◌≡◌, ◌≤◌, ◌<◌, ◌++◌, ◌∷◌, [], ◌&&◌, ◌+◌, ℕ, List, All, Bool, true, false, length, Option, None, drop, refl, sym, ap, ◌∙◌, subst, append_assoc, inr, nat_lt, nat_le, if◌then◌else◌, arith}
-use Rattle.std.proofs.lemmas.Bool.{and_parts, false≢true, le-leb, ltb-true}
+use Rattle.std.proofs.Common.{◌≡◌, ◌∷◌, [], ℕ, List, All, drop, refl, sym, ap, ◌∙◌, append_assoc, inr}
 use Rattle.std.proofs.lemmas.List.{append-nil}
 use Rattle.dma_memory.specs.Areas.{area_at}
 use Rattle.descriptors.specs.declared.ring.Ring.{Ring}
 use Rattle.descriptors.specs.Ring.{address_of, owned}
-use Rattle.rx_engine.specs.Engine.{Engine}
-use Rattle.rx_engine.specs.Finishing.{IsFinished, finished_bytes, memory_after_done}
-use Rattle.rx_engine.specs.Held.{frame_of_work, held, in_work}
+use Rattle.rx_engine.specs.Held.{held, in_work}
 use Rattle.rx_engine.specs.Laws.{held-after_data, held-after_done}
 use Rattle.rx_engine.specs.Moving.{is_half_free}
 use Rattle.rx_engine.specs.declared.arrival.Fate.TheVariants.{Stored}
 use Rattle.rx_engine.specs.declared.data.Data.TheVariants as answers
-use Rattle.rx_engine.specs.declared.engine.Work.{Work}
 use Rattle.tx_engine.specs.Fetching.{pads}
 use Rattle.tx_engine.specs.Laws.{to_send-put, to_send-take}
 use Rattle.tx_engine.specs.StatusLaws.{to_send-written_back}
-use Rattle.tx_engine.specs.Steps.{IfFront, status_place, written_back}
+use Rattle.tx_engine.specs.Steps.{IfFront, status_place}
 use Rattle.tx_engine.specs.ToSend.{IsAwayFrom, to_send}
 use Rattle.tx_engine.specs.Transmitter.{Queued}
 use Rattle.adapter.specs.declared.step.Stepped.TheVariants.{Took, Put, WireFull, Moved, Done, Ticked, Nothing, Fault}
 use Rattle.adapter.specs.Frames.{ArrivalGrowsFrames, DataLeavesFrames, DoneTakesFirstFrame, PuttingTakesFirst, TakingLeavesFrames}
-use Rattle.adapter.specs.Receiving.{memory_after_done_step}
 use Rattle.adapter.specs.Rings.{ring_of}
 use Rattle.adapter.specs.Transmitting.{IsOldest, moved_on, reported}
 

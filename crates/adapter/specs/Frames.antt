@@ -5,7 +5,7 @@ use Rattle.dma_memory.specs.HostMemory.{LiesIn}
 use Rattle.descriptors.specs.Ring.{address_of, owned}
 use Rattle.rx_engine.specs.Arriving.{kept}
 use Rattle.rx_engine.specs.Descriptors.{named_address}
-use Rattle.rx_engine.specs.Engine.{IsEngine, oldest}
+use Rattle.rx_engine.specs.Receiver.{IsReceiver, oldest}
 use Rattle.rx_engine.specs.Finishing.{StandsApart}
 use Rattle.rx_engine.specs.Held.{FinishesFirst, held}
 use Rattle.rx_engine.specs.declared.arrival.Fate.{Fate}
@@ -61,7 +61,7 @@ DataLeavesFrames =
 -- A done step takes the first of the frames held, the one in work, which then stands finished at its descriptor, where it is apart from that.
 abbrev pub DoneTakesFirstFrame : Type 0
 DoneTakesFirstFrame =
-    (memory : List ℕ) (state : AdapterState) (work : Work) → IsEngine state.receiver → state.receiver.work ≡ Some work
+    (memory : List ℕ) (state : AdapterState) (work : Work) → IsReceiver state.receiver → state.receiver.work ≡ Some work
     → LiesIn memory work.descriptor 16 → StandsApart memory work.descriptor work.length
     → FinishesFirst (frames_held memory state) (frames_held (memory_after_done_step memory state) (after_done Done state))
     (memory_after_done_step memory state) work.descriptor

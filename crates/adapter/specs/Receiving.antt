@@ -7,7 +7,7 @@ use Rattle.descriptors.specs.Frames.{IsLegal}
 use Rattle.descriptors.specs.Ring.{address_of}
 use Rattle.rx_engine.specs.Arriving.{IsAccepted, after_arrival}
 use Rattle.rx_engine.specs.Descriptors.{named_address}
-use Rattle.rx_engine.specs.Engine.{oldest}
+use Rattle.rx_engine.specs.Receiver.{oldest}
 use Rattle.rx_engine.specs.Finishing.{engine_after_done, memory_after_done}
 use Rattle.rx_engine.specs.Moving.{HasFrameToMove, CanMove, engine_after_data, is_half_free, memory_after_data}
 use Rattle.rx_engine.specs.declared.arrival.Fate.{Fate}

@@ -8,8 +8,8 @@ use Rattle.mdic_phy.specs.Phy.{PhyState, link_is_up, new_phy}
 use Rattle.registers.specs.Bits.{is_set, union, difference}
 use Rattle.registers.specs.Kept.{causes_of, status_of_link_up}
 use Rattle.rx_filter.specs.Registers.{FilterRegisters}
-use Rattle.rx_engine.specs.Engine.{idle_engine}
-use Rattle.tx_engine.specs.Transmitter.{idle}
+use Rattle.rx_engine.specs.Receiver.{new_receiver}
+use Rattle.tx_engine.specs.Transmitter.{new_transmitter}
 use Rattle.adapter.specs.declared.register.Register.{Register}
 use Rattle.adapter.specs.declared.register.Register.TheVariants.{Ctrl, Status, Eerd, Mdic, Vet, Icr, Ics, Ims, Imc, Rctl, Tctl, Pba, Receive, Transmit, Mpc, Gprc, Gptc, Rnbc, Mta, Ral, Rah, Vfta}
 use Rattle.adapter.specs.PacketBuffer.{allocation_shown, allocation_written}
@@ -48,8 +48,8 @@ adapter_at_reset words phy kilobytes = record {
   received_packets = 0;
   transmitted_packets = 0;
   no_receive_buffers = 0;
-  receiver = idle_engine;
-  transmitter = idle;
+  receiver = new_receiver;
+  transmitter = new_transmitter;
 }
 
 -- an adapter after power-on: its PHY is new, and its packet buffer has 48 kilobytes for frames that are received

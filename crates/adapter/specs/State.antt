@@ -8,7 +8,7 @@ use Rattle.registers.specs.Kept.{all_causes}
 use Rattle.registers.specs.Counting.{greatest_count}
 use Rattle.registers.specs.Interrupts.{Interrupts}
 use Rattle.rx_filter.specs.Registers.{FilterRegisters}
-use Rattle.rx_engine.specs.Engine.{Engine}
+use Rattle.rx_engine.specs.Receiver.{Receiver}
 use Rattle.tx_engine.specs.Transmitter.{Transmitter}
 use Rattle.adapter.specs.declared.ring.RingRegisters.{RingRegisters}
 use Rattle.adapter.specs.PacketBuffer.{IsAllocation}
@@ -42,7 +42,7 @@ pub record AdapterState : Type 0 where
   -- RNBC
   pub no_receive_buffers : ℕ
   -- the receive packet buffer, the frame in work, and whether a fault has stopped the engine
-  pub receiver : Engine
+  pub receiver : Receiver
   -- the transmit packet buffer, and whether a fault has stopped the engine
   pub transmitter : Transmitter
 

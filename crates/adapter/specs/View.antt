@@ -1,10 +1,10 @@
 -- How the fields of an adapter are the plain data of its contracts.
-use Rattle.std.specs.Prelude.{◌≡◌, ℕ, List}
+use Rattle.std.specs.Prelude.{ℕ, List}
 use Rattle.adapter.specs.declared.adapter.Adapter.TheInside.{Inside}
 use Rattle.adapter.specs.declared.register_file.RegisterFile.{RegisterFile}
 use Rattle.eeprom.specs.declared.eerd.ReadState.TheVariants.{Idle}
 use Rattle.mdic_phy.specs.Mdic.{new_mdic}
-use Rattle.rx_engine.specs.Engine.{IsEngine}
+use Rattle.rx_engine.specs.Receiver.{IsReceiver}
 use Rattle.adapter.specs.Registers.{filter_at_reset}
 use Rattle.adapter.specs.Rings.{new_ring}
 use Rattle.adapter.specs.State.{AdapterState, IsAdapter}
@@ -33,7 +33,7 @@ state_of inside = record {
 
 pub record IsConsistent (inside : Inside) : Type 0 where
   pub adapter : IsAdapter (state_of inside)
-  pub receiver : IsEngine inside.receiver
+  pub receiver : IsReceiver inside.receiver
 
 -- the registers after a reset
 abbrev pub registers_at_reset : List ℕ → RegisterFile

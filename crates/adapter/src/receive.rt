@@ -3,7 +3,7 @@
 ghost use Rattle.std.specs.Prelude.{◌≡◌, length, if◌then◌else◌};
 ghost use Rattle.registers.specs.Bits.{IsSubset};
 ghost use Rattle.registers.specs.Kept.{all_causes};
-ghost use Rattle.rx_engine.specs.Engine.{IsEngine};
+ghost use Rattle.rx_engine.specs.Receiver.{IsReceiver};
 ghost use Rattle.adapter.specs.State.{IsAdapter};
 ghost use Rattle.adapter.specs.Receiving.{DataAnswers, DataChangesOnly, DoneAnswers, DoneChangesOnly, IsFate, after_arrive, after_data, after_done, memory_after_data_step, memory_after_done_step, no_buffers_counted};
 
@@ -25,11 +25,17 @@ impl Adapter {
         ensures fate { IsFate self.old frame.now result }
         ensures state { self.new ≡ after_arrive result frame.now self.old }
         ensures adapter { IsAdapter self.old }
-        ensures receiver { IsEngine self.old.receiver }
+        ensures receiver { IsReceiver self.old.receiver }
     {
         let room = self.room();
         let file = &mut self.file;
-        let fate = arrive(&mut self.receiver, file.filter.rctl(), &file.filter, room, frame);
+        let fate = arrive(
+            &mut self.receiver,
+            file.filter.rctl(),
+            &file.filter,
+            room,
+            frame,
+        );
         match fate {
             Fate::Off | Fate::Illegal | Fate::Filtered => {}
             Fate::Missed => {
@@ -50,7 +56,7 @@ impl Adapter {
         ensures only { DataChangesOnly self.old memory.old memory.new }
         ensures size { length memory.new ≡ length memory.old }
         ensures adapter { IsAdapter self.old }
-        ensures receiver { IsEngine self.old.receiver }
+        ensures receiver { IsReceiver self.old.receiver }
     {
         let file = &mut self.file;
         let mut ring = file.receive_ring.ring();
@@ -73,7 +79,7 @@ impl Adapter {
         ensures only { DoneChangesOnly self.old memory.old memory.new }
         ensures size { length memory.new ≡ length memory.old }
         ensures adapter { IsAdapter self.old }
-        ensures receiver { IsEngine self.old.receiver }
+        ensures receiver { IsReceiver self.old.receiver }
     {
         match rx_done(&mut self.receiver, memory) {
             Done::Nothing => Stepped::Nothing,

@@ -1,5 +1,5 @@
 -- Separate areas: in a memory of the same size, without one of them, with a shorter one in place of one.
-use Rattle.std.proofs.Common.{◌≡◌, ◌≤◌, ◌+◌, ◌++◌, ◌∷◌, ℕ, List, length, arith}
+use Rattle.std.proofs.Common.{◌≡◌, ◌≤◌, ◌++◌, ◌∷◌, ℕ, List, length, arith}
 use Rattle.dma_memory.specs.Areas.{AreApart, AreSeparate, Area, IsInside}
 use Rattle.dma_memory.specs.AreaLaws.{apart-inside, inside-apart, lies-inside}
 use Rattle.dma_memory.specs.HostMemory.{LiesIn}

@@ -1,14 +1,11 @@
 -- From one world to another, by what happens or by a driver's store to memory of its own: what a driver rests on.
-use Rattle.std.proofs.Common.{◌≡◌, ◌≢◌, ◌≤◌, ◌<◌, ◌⊎◌, inl, inr, ⊎_elim, ◌+◌, ◌*◌, ◌++◌, ◌∷◌, [], ℕ, List, length, map, drop, take, refl, sym, ap, subst, ◌∙◌, append_assoc, arith}
+use Rattle.std.proofs.Common.{◌≡◌, ◌≤◌, ◌<◌, ◌⊎◌, inl, inr, ⊎_elim, ◌++◌, [], ℕ, List, length, refl, sym, ap, subst, ◌∙◌, append_assoc}
 use Rattle.std.specs.List.{All}
-use Rattle.std.proofs.lemmas.Bool.{cases_lt}
-use Rattle.std.proofs.lemmas.List.{append-nil, drop-drop, drop-take}
+use Rattle.std.proofs.lemmas.List.{append-nil}
 use Rattle.std.proofs.lemmas.List.Elements.{All-append, All-map}
-use Rattle.dma_memory.specs.Areas.{AreApart, Area, ChangesOnly, IsInside, bytes_in, descriptor_area}
-use Rattle.dma_memory.specs.AreaLaws.{apart-inside, apart-sym, changes_only_stored, inside-apart}
-use Rattle.byteorder.specs.Endian.{little_number}
-use Rattle.byteorder.specs.Numbers.{little_from-take}
-use Rattle.dma_memory.specs.HostMemory.{bytes_at, LiesIn, with_bytes}
+use Rattle.dma_memory.specs.Areas.{AreApart, Area, ChangesOnly}
+use Rattle.dma_memory.specs.AreaLaws.{changes_only_stored}
+use Rattle.dma_memory.specs.HostMemory.{LiesIn, with_bytes}
 use Rattle.dma_memory.specs.Laws.{length-with_bytes}
 use Rattle.registers.specs.Bits.{field}
 use Rattle.registers.specs.ReceiveControl.{buffer_size_of}
@@ -18,22 +15,23 @@ use Rattle.descriptors.specs.Frames.{IsLegal}
 use Rattle.descriptors.specs.Ring.{IsSound, address_of, count_of, distance_of, owned, slots_from}
 use Rattle.descriptors.specs.RxDesc.{rx_desc_of}
 use Rattle.descriptors.specs.TxDesc.{tx_desc_of}
+use Rattle.descriptors.specs.declared.tx_desc.TxDesc.{TxDesc}
 use Rattle.adapter.specs.Rings.{ring_of}
 use Rattle.adapter.specs.declared.ring.RingRegisters.{RingRegisters}
 use Rattle.rx_engine.specs.Descriptors.{named_address}
-use Rattle.tx_engine.specs.Fetching as transmit
-use Rattle.bus.specs.Frames.{buffer_of, buffered, data_of, frames_held, frames_to_send, in_work, IsForeign, offered_buffers, reported_half, ring_area, status_byte}
+use Rattle.bus.specs.Frames.{buffer_of, data_of, frames_held, frames_to_send, ring_area}
 use Rattle.bus.specs.Law.{Happens, Sound}
 use Rattle.bus.specs.OwnStores.{IsOwn}
+use Rattle.bus.specs.Own.{KeepsAllButStatus}
 use Rattle.bus.specs.Past.{Past, joined, nothing}
-use Rattle.bus.specs.Slots.{offered, outstanding}
+use Rattle.bus.specs.Slots.{outstanding}
 use Rattle.bus.specs.Spare.{AreasStayApart, FramesFit, IsSpare}
 use Rattle.bus.specs.World.{World, receive_ring, transmit_ring, world_after_store}
 use Rattle.bus.proofs.Kept.{IsSame, same-apart}
 use Rattle.bus.proofs.Lists.{all-none, all-weaker}
-use Rattle.bus.proofs.Own.{drivers_keep_their_own, last-buffers, parts-of}
+use Rattle.bus.proofs.Own.{drivers_keep_their_own}
 use Rattle.bus.proofs.OwnStores.{own_stores_leave_frames}
-use Rattle.bus.proofs.Rings.{dealt-right, outstanding-inside, slots-below}
+use Rattle.bus.proofs.Rings.{slots-below}
 use Rattle.bus.proofs.Spare.{spare-apart, spare-foreign}
 
 -- The slots that the driver has given out keep what they name, frames are those of before with what came and went, and registers stay but
@@ -116,57 +114,6 @@ outstanding-slots ring oldest (inl below) =
     All-map (λ d. (slot : ℕ) × (slot < count_of ring) × (d ≡ address_of ring slot)) (address_of ring) (slots_from n oldest k)
     (λ i d within. (_, slots-below n oldest k below i d within, refl))
 
--- An area of the transmit ring that is apart from the bytes that are reported in isn't the adapter's.
-pub foreign-in_transmit_ring : (o p : ℕ) (a : World) (area : Area) → Sound o p a → IsInside area (ring_area (transmit_ring a)) → All (λ d. AreApart area (status_byte d)) (buffered a ++ offered (transmit_ring a)) → IsForeign a area
-foreign-in_transmit_ring o p a area sound inside apart =
-    let parts = parts-of o p a sound in
-    let r = ring_area (receive_ring a) in
-    let t = ring_area (transmit_ring a) in
-    let halves = map reported_half (in_work a ++ offered (receive_ring a)) in
-    let bytes = map status_byte (buffered a ++ offered (transmit_ring a)) in
-    All-append (AreApart area) halves (bytes ++ offered_buffers a)
-    (λ k d below. inside-apart area _ r (parts.halves k d below) (apart-inside area t r inside (apart-sym r t parts.rings)))
-    (All-append (AreApart area) bytes (offered_buffers a)
-    (All-map (AreApart area) status_byte (buffered a ++ offered (transmit_ring a)) apart)
-    (λ k d below. apart-inside area t _ inside (last-buffers (AreApart t) o a parts.transmit_rest k d below)))
-
-byte-apart : (base slot other from size : ℕ) → from + size ≤ 12 → AreApart (record { address = base + 16 * slot + from; size = size }) (status_byte (base + 16 * other))
-byte-apart base slot other from size early = ⊎_elim (λ (less : other < slot). inr (omega (arith, less, early))) (λ (more : slot ≤ other). inl (omega (arith, more, early))) (cases_lt other slot)
-
--- What stands in front of the status of a transmit descriptor.
-foreign-front : (o p : ℕ) (a : World) (slot from size : ℕ) → Sound o p a → slot < count_of (transmit_ring a) → from + size ≤ 12 → IsForeign a (record { address = address_of (transmit_ring a) slot + from; size = size })
-foreign-front o p a slot from size sound below early =
-    let ring = transmit_ring a in
-    let places = dealt-right a.memory ring p (buffered a) (λ d. (s : ℕ) × (s < count_of ring) × (d ≡ address_of ring s)) sound.transmit_slots (outstanding-slots ring p sound.transmit_slots.slot) in
-    let area : Area = record { address = address_of ring slot + from; size = size } in
-    let inside : IsInside area (ring_area ring) = front-inside ring.base (count_of ring) below in
-    foreign-in_transmit_ring o p a area sound inside (λ k d within. at-place _ (places k d within))
-  where
-    front-inside : (base n : ℕ) → slot < n → IsInside (record { address = base + 16 * slot + from; size = size }) (record { address = base; size = 16 * n })
-    front-inside base n within = record { from = omega arith; to = omega (arith, within, early) }
-    at-place : (d : ℕ) → (s : ℕ) × (s < count_of (transmit_ring a)) × (d ≡ address_of (transmit_ring a) s) → AreApart (record { address = address_of (transmit_ring a) slot + from; size = size }) (status_byte d)
-    at-place d place =
-        subst (λ (e : ℕ). AreApart (record { address = address_of (transmit_ring a) slot + from; size = size }) (status_byte e)) (sym place.2)
-        (byte-apart (transmit_ring a).base slot place.0 from size early)
-
-address-front : (memory : List ℕ) (at : ℕ) → (transmit.descriptor_at memory at).address ≡ little_number 8 (bytes_at memory at 8)
-unfolding tx_desc_of
-address-front memory at = little_from-take 0 8 16 (drop at memory) (omega arith) ∙ sym (little_from-take 0 8 8 (drop at memory) (omega arith))
-
-length-behind : (memory : List ℕ) (at : ℕ) → (transmit.descriptor_at memory at).length ≡ little_number 2 (bytes_at memory (at + 8) 2)
-unfolding tx_desc_of
-length-behind memory at =
-    ap (little_number 2) (drop-take 8 8 (drop at memory) ∙ ap (take 8) (drop-drop 8 at memory))
-    ∙ little_from-take 0 2 8 (drop (at + 8) memory) (omega arith)
-    ∙ sym (little_from-take 0 2 2 (drop (at + 8) memory) (omega arith))
-
-pub same-data : (memory memory' : List ℕ) (at : ℕ) → bytes_at memory' at 8 ≡ bytes_at memory at 8 → bytes_at memory' (at + 8) 2 ≡ bytes_at memory (at + 8) 2 → data_of memory' at ≡ data_of memory at
-same-data memory memory' at front behind =
-    let address : (transmit.descriptor_at memory' at).address ≡ (transmit.descriptor_at memory at).address = address-front memory' at ∙ ap (little_number 8) front ∙ sym (address-front memory at) in
-    let size : (transmit.descriptor_at memory' at).length ≡ (transmit.descriptor_at memory at).length = length-behind memory' at ∙ ap (little_number 2) behind ∙ sym (length-behind memory at) in
-    ap (λ (n : ℕ). let area : Area = record { address = n; size = (transmit.descriptor_at memory' at).length } in area) address
-    ∙ ap (λ (n : ℕ). let area : Area = record { address = (transmit.descriptor_at memory at).address; size = n } in area) size
-
 pub carried-by_happening : (o p : ℕ) (a b : World) (past : Past) → Sound o p a → Happens a b past → Carries o p a b past
 carried-by_happening o p a b past sound happens =
     let between = happens.between o p sound in
@@ -189,20 +136,17 @@ carried-by_happening o p a b past sound happens =
       filter = steady.filter;
       control = steady.transmit_control;
       addresses = λ k d below. address-at _ (received k d below) own.addresses;
-      sources = λ k d below. data-at _ (sent k d below);
+      sources = λ k d below. data-at _ (sent k d below) own.requests;
     }
   where
     address-at : (d : ℕ) → (slot : ℕ) × (slot < count_of (receive_ring a)) × (d ≡ address_of (receive_ring a) slot) → ((slot : ℕ) → slot < count_of (receive_ring a) → named_address b.memory (address_of (receive_ring a) slot) ≡ named_address a.memory (address_of (receive_ring a) slot)) → named_address b.memory d ≡ named_address a.memory d
     address-at d place stay = subst (λ (e : ℕ). named_address b.memory e ≡ named_address a.memory e) (sym place.2) (stay place.0 place.1)
-    data-at : (d : ℕ) → (slot : ℕ) × (slot < count_of (transmit_ring a)) × (d ≡ address_of (transmit_ring a) slot) → data_of b.memory d ≡ data_of a.memory d
-    data-at d place =
-        let between = happens.between o p sound in
-        let at = address_of (transmit_ring a) place.0 in
-        let none : at + 0 ≡ at = omega arith in
-        let front : bytes_at b.memory at 8 ≡ bytes_at a.memory at 8 =
-        subst (λ (n : ℕ). bytes_at b.memory n 8 ≡ bytes_at a.memory n 8) none (between.untouched (record { address = at + 0; size = 8 }) (foreign-front o p a place.0 0 8 sound place.1 (omega arith))) in
-        let behind = between.untouched (record { address = at + 8; size = 2 }) (foreign-front o p a place.0 8 2 sound place.1 (omega arith)) in
-        subst (λ (e : ℕ). data_of b.memory e ≡ data_of a.memory e) (sym place.2) (same-data a.memory b.memory at front behind)
+
+    data-at : (d : ℕ) → (slot : ℕ) × (slot < count_of (transmit_ring a)) × (d ≡ address_of (transmit_ring a) slot) → ((slot : ℕ) → slot < count_of (transmit_ring a) → KeepsAllButStatus a b (address_of (transmit_ring a) slot)) → data_of b.memory d ≡ data_of a.memory d
+    data-at d place stay =
+        let fields = (stay place.0 place.1).fields in
+        subst (λ (e : ℕ). data_of b.memory e ≡ data_of a.memory e) (sym place.2)
+        (ap (λ (desc : TxDesc). let area : Area = record { address = desc.address; size = desc.length } in area) fields)
 
 -- A driver's store to memory of its own.
 

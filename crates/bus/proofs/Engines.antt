@@ -5,7 +5,7 @@ use Rattle.eeprom.specs.Eerd as eeprom
 use Rattle.registers.specs.Bits.{HasBit, union}
 use Rattle.registers.specs.Counting.{greatest_count}
 use Rattle.registers.specs.Laws.{HasBit-union}
-use Rattle.rx_engine.specs.Engine.{Engine}
+use Rattle.rx_engine.specs.Receiver.{Receiver}
 use Rattle.tx_engine.specs.Transmitter.{Transmitter}
 use Rattle.adapter.specs.State.{AdapterState}
 use Rattle.bus.specs.Law.{Steady, management_of, phy_ticked}
@@ -29,7 +29,7 @@ pub record Moves : Type 0 where
   pub received : ℕ
   pub transmitted : ℕ
   pub no_buffers : ℕ
-  pub receiver : Engine
+  pub receiver : Receiver
   pub transmitter : Transmitter
 
 abbrev pub moved : Moves → AdapterState → AdapterState

@@ -1,5 +1,5 @@
 -- Worlds of which the conditions of the law hold: a memory of zeros, with both rings behind a buffer at address 0.
-use Rattle.std.proofs.Common.{◌≡◌, ◌≤◌, ◌<◌, ◌+◌, ◌-◌, inl, inr, ◌++◌, ◌∷◌, [], true, false, ℕ, List, None, length, map, replicate, slice_index, take, refl, sym, ap, subst, ◌∙◌, arith}
+use Rattle.std.proofs.Common.{◌≡◌, ◌≤◌, ◌<◌, ◌+◌, inl, inr, ◌++◌, ◌∷◌, [], true, false, ℕ, List, None, length, map, replicate, slice_index, refl, sym, ap, subst, ◌∙◌, arith}
 use Rattle.std.specs.List.{All}
 use Rattle.std.proofs.lemmas.List.{length-replicate}
 use Rattle.std.proofs.lemmas.List.Elements.{All-cons}
@@ -25,7 +25,7 @@ use Rattle.rx_engine.specs.Finishing.{finished_bytes}
 use Rattle.rx_engine.specs.declared.engine.Work.{Work}
 use Rattle.tx_engine.specs.ToSend.{to_send}
 use Rattle.tx_engine.specs.Fetching.{IsTransmittable, fetched}
-use Rattle.tx_engine.specs.Transmitter.{idle, Queued}
+use Rattle.tx_engine.specs.Transmitter.{Queued, new_transmitter}
 use Rattle.bus.specs.Examples.{HasFinished, HasFramesInBuffer, HasFramesInRing, HasRings, HasWork, HasWrittenBack, SomeSound}
 use Rattle.bus.specs.Frames.{buffer_of, data_of, finished, named, offered_buffers, written_back}
 use Rattle.bus.specs.Law.{Between, Reports, Sound}
@@ -62,7 +62,7 @@ zeros-address size d fits = ap (λ (bytes : List ℕ). (rx_desc_of bytes).addres
 
 -- A world that a driver has set up over so many bytes of zeros: RCTL.EN, buffers of 2,048 bytes, one slot offered, TCTL.EN and PSP; a frame
 -- has arrived.
-abbrev ready : AdapterState → ℕ → World
+abbrev pub ready : AdapterState → ℕ → World
 ready adapter size = record {
   memory = replicate size 0;
   adapter = record adapter {
@@ -71,15 +71,15 @@ ready adapter size = record {
     receive_ring = record { base_low = 2048; base_high = 0; length_bytes = 128; head = 0; tail = 1 };
     transmit_ring = record { base_low = 2176; base_high = 0; length_bytes = 128; head = 0; tail = 0 };
     receiver = record { buffer = replicate 60 0 ∷ []; work = None; stopped = false };
-    transmitter = idle;
+    transmitter = new_transmitter;
   };
 }
 
-ready-offered : (adapter : AdapterState) (size : ℕ) → offered (receive_ring (ready adapter size)) ≡ 2048 ∷ []
+pub ready-offered : (adapter : AdapterState) (size : ℕ) → offered (receive_ring (ready adapter size)) ≡ 2048 ∷ []
 unfolding owned
 ready-offered adapter size = refl
 
-ready-idle : (adapter : AdapterState) (size : ℕ) → offered (transmit_ring (ready adapter size)) ≡ []
+pub ready-idle : (adapter : AdapterState) (size : ℕ) → offered (transmit_ring (ready adapter size)) ≡ []
 unfolding owned
 ready-idle adapter size = refl
 
@@ -100,7 +100,7 @@ three-separate size fits =
           (AllPairs-cons AreApart b [] (all-none (AreApart b)) (pairs-none AreApart)));
     }
 
-ready-sound : (adapter : AdapterState) (size : ℕ) → 4096 ≤ size → Sound 0 0 (ready adapter size)
+pub ready-sound : (adapter : AdapterState) (size : ℕ) → 4096 ≤ size → Sound 0 0 (ready adapter size)
 ready-sound adapter size fits =
     let w = ready adapter size in
     let memory = replicate size 0 in
@@ -123,7 +123,7 @@ ready-sound adapter size fits =
       pads = λ differ. refl;
     }
 
-ready-runs : (adapter : AdapterState) (size : ℕ) → CanRun (ready adapter size)
+pub ready-runs : (adapter : AdapterState) (size : ℕ) → CanRun (ready adapter size)
 ready-runs adapter size = record {
   receiver_runs = refl;
   transmitter_runs = refl;
@@ -136,7 +136,7 @@ ready-runs adapter size = record {
 }
 
 -- An adapter after power-on.
-abbrev new : AdapterState
+abbrev pub new : AdapterState
 new = new_adapter (replicate 64 0) Never
 
 ready-has_frame : (size : ℕ) → HasFrameAndDescriptor (ready new size).adapter

@@ -12,11 +12,9 @@ use Rattle.descriptors.specs.declared.rx_desc.RxDesc.{RxDesc}
 use Rattle.adapter.specs.Rings.{ring_of}
 use Rattle.adapter.specs.declared.ring.RingRegisters.{RingRegisters}
 use Rattle.rx_engine.specs.Descriptors.{descriptor_at}
-use Rattle.rx_engine.specs.Held.{held}
 use Rattle.bus.specs.Frames.{IsForeign, data_of, finished, frame_areas, frames_held, named, offered_buffers, ring_area, work_areas}
 use Rattle.bus.specs.Law.{Acts, AreWhole, Happens, IsWhole, Sound}
 use Rattle.bus.specs.FirstFrame.{IsFirstHeld, Looked, StandsFirst}
-use Rattle.bus.specs.Own.{frame_named}
 use Rattle.bus.specs.Past.{Loads, Past, joined}
 use Rattle.bus.specs.Slots.{is_done, offered, outstanding}
 use Rattle.bus.specs.TakingSlots.{next_received}

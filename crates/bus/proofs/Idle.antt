@@ -1,6 +1,6 @@
 -- Idle rings: the conditions of the law hold of them, and they stay idle.
-use Rattle.std.proofs.Common.{◌≡◌, ⊎_elim, ◌≤◌, ◌<◌, ◌+◌, ◌-◌, ◌%◌, ◌⊎◌, inl, inr, ◌++◌, ◌∷◌, [], true, false, ℕ, zero, suc, List, Bool, Option, None, Some, cond, if◌then◌else◌, length, map, refl, sym, ap, subst, ◌∙◌, arith}
-use Rattle.std.specs.List.{All, AllPairs, take_while}
+use Rattle.std.proofs.Common.{◌≡◌, ⊎_elim, ◌+◌, ◌-◌, ◌%◌, ◌⊎◌, inl, inr, ◌++◌, ◌∷◌, [], true, false, ℕ, List, Bool, Option, None, Some, cond, if◌then◌else◌, length, map, refl, sym, ap, subst, ◌∙◌, arith}
+use Rattle.std.specs.List.{All, take_while}
 use Rattle.std.proofs.Math.Nat.{mod_self}
 use Rattle.std.proofs.lemmas.Bool.{cases_eq}
 use Rattle.std.proofs.lemmas.List.Elements.{All-cons}
@@ -9,21 +9,19 @@ use Rattle.dma_memory.specs.Areas.{AreApart, AreSeparate, Area}
 use Rattle.dma_memory.specs.HostMemory.{LiesIn}
 use Rattle.descriptors.specs.declared.ring.Ring.{Ring}
 use Rattle.descriptors.specs.Ring.{IsSound, address_of, count_of, distance_of, owned, slots_from}
-use Rattle.mdic_phy.specs.declared.phy.Link.{Link}
 use Rattle.rx_engine.specs.declared.engine.Work.{Work}
 use Rattle.tx_engine.specs.Fetching.{fetched}
 use Rattle.tx_engine.specs.Transmitter.{Queued}
 use Rattle.adapter.specs.declared.register.Register.{Register}
 use Rattle.adapter.specs.declared.register.Register.TheVariants.{Ctrl, Status, Eerd, Mdic, Vet, Icr, Ics, Ims, Imc, Rctl, Tctl, Pba, Receive, Transmit, Mpc, Gprc, Gptc, Rnbc, Mta, Ral, Rah, Vfta}
 use Rattle.adapter.specs.declared.ring.RingRegisters.{RingRegisters}
-use Rattle.adapter.specs.Registers.{after_reset, by_row, is_reset, left_by_read, left_by_write, new_adapter, read_of, write_of}
+use Rattle.adapter.specs.Registers.{after_reset, by_row, is_reset, left_by_read, left_by_write, read_of, write_of}
 use Rattle.adapter.specs.Rings.{ring_of}
 use Rattle.adapter.specs.State.{AdapterState}
 use Rattle.adapter.specs.Table.{register_at, row_of}
-use Rattle.bus.specs.Frames.{areas, buffer_of, buffered, data_of, finished, in_work, named, offered_buffers, ring_area, slot_of_work, work_areas}
-use Rattle.bus.specs.Idle.{HappeningsKeepIdle, HasIdleRings, IdleAfterPowerOn, IdleAfterReset, IdleRingsAreSound, IsIdle, IsOfRing, OtherWritesKeepIdle, ReadsKeepIdle, StoresKeepIdle, WritesKeepIdle}
-use Rattle.bus.specs.Law.{Happens, Reports, Sound}
-use Rattle.bus.specs.Past.{Past}
+use Rattle.bus.specs.Frames.{areas, buffer_of, buffered, data_of, finished, in_work, named, ring_area, slot_of_work, work_areas}
+use Rattle.bus.specs.Idle.{HappeningsKeepIdle, IdleAfterPowerOn, IdleAfterReset, IdleRingsAreSound, IsIdle, OtherWritesKeepIdle, ReadsKeepIdle, StoresKeepIdle, WritesKeepIdle}
+use Rattle.bus.specs.Law.{Reports, Sound}
 use Rattle.bus.specs.Slots.{IsDealt, done_slots, is_done, offered, outstanding}
 use Rattle.bus.specs.World.{World, receive_ring, transmit_ring, world_after_write}
 use Rattle.bus.proofs.Lists.{all-head, all-left, all-none, all-weaker, pairs-head, pairs-none}
@@ -114,11 +112,11 @@ idle_after_reset world = record {
 
 -- What happens leaves them idle.
 
-append-empty : {X : Type 0} (xs ys : List X) → xs ++ ys ≡ [] → (xs ≡ []) × (ys ≡ [])
+pub append-empty : {X : Type 0} (xs ys : List X) → xs ++ ys ≡ [] → (xs ≡ []) × (ys ≡ [])
 append-empty [] ys none = (refl, none)
 append-empty (x ∷ xs) ys none = absurd (cc)
 
-map-empty : {X Y : Type 0} (f : X → Y) (xs : List X) → map f xs ≡ [] → xs ≡ []
+pub map-empty : {X Y : Type 0} (f : X → Y) (xs : List X) → map f xs ≡ [] → xs ≡ []
 map-empty f [] none = refl
 map-empty f (x ∷ xs) none = absurd (cc)
 
@@ -127,7 +125,7 @@ work-empty None none = refl
 work-empty (Some work) none = absurd (cc)
 
 -- No slot is taken, and none offered, where none is outstanding.
-none-dealt : (memory : List ℕ) (ring : Ring) (oldest : ℕ) (taken : List ℕ) → oldest ≡ ring.tail → IsDealt memory ring oldest taken → (taken ≡ []) × (offered ring ≡ [])
+pub none-dealt : (memory : List ℕ) (ring : Ring) (oldest : ℕ) (taken : List ℕ) → oldest ≡ ring.tail → IsDealt memory ring oldest taken → (taken ≡ []) × (offered ring ≡ [])
 none-dealt memory ring oldest taken same dealt =
     let clear : outstanding ring oldest ≡ [] = ap (outstanding ring) same ∙ outstanding-none ring in
     let all = append-empty (done_slots memory ring oldest) (taken ++ offered ring) (sym dealt.classes ∙ clear) in
@@ -139,7 +137,7 @@ head-is-tail ring slots none =
     ⊎_elim (λ (same : ring.head ≡ ring.tail). same) (λ (differ : ¬ (ring.head ≡ ring.tail)). let first = offered-head ring slots differ in absurd (cc)) (cases_eq ring.head ring.tail)
 
 -- The head stayed at the tail, or is a slot and so is the tail.
-still-idle : (a b : RingRegisters) → b ≡ record a { head = b.head } → (b.head ≡ a.head) ⊎ IsSound (ring_of b) → a.head ≡ a.tail → offered (ring_of b) ≡ [] → b.head ≡ b.tail
+pub still-idle : (a b : RingRegisters) → b ≡ record a { head = b.head } → (b.head ≡ a.head) ⊎ IsSound (ring_of b) → a.head ≡ a.tail → offered (ring_of b) ≡ [] → b.head ≡ b.tail
 still-idle a b moved (inl stayed) idle none = stayed ∙ idle ∙ sym (ap (λ (ring : RingRegisters). ring.tail) moved)
 still-idle a b moved (inr slots) idle none = head-is-tail (ring_of b) slots none
 
@@ -185,6 +183,7 @@ idle-same memory memory' a b size work buffer r t idle = record {
   where
     same-rings : (let list : List Area = ring_area (ring_of b.receive_ring) ∷ ring_area (ring_of b.transmit_ring) ∷ [] in list) ≡ ring_area (ring_of a.receive_ring) ∷ ring_area (ring_of a.transmit_ring) ∷ []
     same-rings = rw (r, t) refl
+
     same-separate : AreSeparate memory' (ring_area (ring_of b.receive_ring) ∷ ring_area (ring_of b.transmit_ring) ∷ [])
     same-separate =
         let rings = subst (λ (list : List Area). AreSeparate memory list) (sym same-rings) idle.rings.separate in

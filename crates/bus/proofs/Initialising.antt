@@ -1,5 +1,5 @@
 -- Accesses that keep the conditions of the law.
-use Rattle.std.proofs.Common.{◌≡◌, ◌<◌, ◌+◌, ◌-◌, ◌%◌, ◌++◌, ◌∷◌, [], true, false, ℕ, Bool, List, Option, None, Some, zero, suc, if◌then◌else◌, map, refl, sym, ap, subst, ◌∙◌, append_assoc, arith}
+use Rattle.std.proofs.Common.{◌≡◌, ◌<◌, ◌+◌, ◌%◌, ◌++◌, ◌∷◌, [], true, false, ℕ, Bool, List, Option, None, Some, zero, suc, if◌then◌else◌, map, refl, sym, ap, subst, ◌∙◌, append_assoc, arith}
 use Rattle.std.specs.Fn.{iterate}
 use Rattle.std.specs.List.{All}
 use Rattle.std.proofs.lemmas.List.{append-nil}
@@ -7,25 +7,24 @@ use Rattle.std.proofs.Math.Nat.{mod-add-mod, mod-eq_of_lt}
 use Rattle.descriptors.specs.Ring.{address_of, count_of, next_of, owned, slots_from}
 use Rattle.descriptors.specs.RingLaws.{next-below}
 use Rattle.mdic_phy.specs.declared.phy.Link.TheVariants.{Never}
-use Rattle.rx_engine.specs.Engine.{Engine}
+use Rattle.rx_engine.specs.Receiver.{Receiver}
 use Rattle.tx_engine.specs.Fetching.{fetched, frame_at}
 use Rattle.tx_engine.specs.ToSend.{to_send}
 use Rattle.tx_engine.specs.Transmitter.{Queued, Transmitter}
 use Rattle.adapter.specs.declared.register.Register.{Register}
 use Rattle.adapter.specs.declared.register.Register.TheVariants.{Ctrl, Status, Eerd, Mdic, Vet, Icr, Ics, Ims, Imc, Rctl, Tctl, Pba, Receive, Transmit, Mpc, Gprc, Gptc, Rnbc, Mta, Ral, Rah, Vfta}
 use Rattle.adapter.specs.declared.ring.RingRegisters.{RingRegisters}
-use Rattle.adapter.specs.Registers.{after_reset, by_row, is_reset, left_by_read, new_adapter, read_of, write_of}
+use Rattle.adapter.specs.Registers.{after_reset, by_row, is_reset, left_by_read, new_adapter, read_of}
 use Rattle.adapter.specs.Rings.{ring_of}
-use Rattle.adapter.specs.State.{AdapterState}
 use Rattle.adapter.specs.Table.{register_at, row_of}
 use Rattle.bus.specs.Frames.{finished, frames_held, frames_to_send, written_back}
-use Rattle.bus.specs.Initialising.{CanOfferMany, IsOfConditions, ManySlotsCanBeOffered, OfferedMany, OtherWritesLeaveFrames, ReadsLeaveFrames, ReceiverCanBeSet, TransmitRingCanBeSet, TransmitterCanBeSet, with_tail}
+use Rattle.bus.specs.Initialising.{CanOfferMany, ManySlotsCanBeOffered, OfferedMany, OtherWritesLeaveFrames, ReadsLeaveFrames, ReceiverCanBeSet, TransmitRingCanBeSet, TransmitterCanBeSet, with_tail}
 use Rattle.bus.specs.Law.{AreWhole, Reports, Sound}
-use Rattle.bus.specs.Offering.{CanOffer, offering}
+use Rattle.bus.specs.Offering.{offering}
 use Rattle.bus.specs.OwnStores.{LeavesFrames, SameFrames}
 use Rattle.bus.specs.Running.{CanRun, CanTransmit}
 use Rattle.bus.specs.Slots.{offered, outstanding}
-use Rattle.bus.specs.World.{World, receive_ring, transmit_ring}
+use Rattle.bus.specs.World.{World, receive_ring}
 use Rattle.bus.proofs.Idle.{dealt-idle, offered-none, outstanding-none, owned-none}
 use Rattle.bus.proofs.Lists.{all-none}
 use Rattle.bus.proofs.Offering.{slots_can_be_offered}
@@ -129,7 +128,7 @@ transmit_ring_can_be_set o p ring world sound none same separate =
 -- Other accesses.
 
 -- A world of these parts, which are all that the conditions, slots and frames rest on.
-abbrev of_parts : List ℕ → RingRegisters → RingRegisters → Engine → Transmitter → ℕ → ℕ → World
+abbrev of_parts : List ℕ → RingRegisters → RingRegisters → Receiver → Transmitter → ℕ → ℕ → World
 of_parts memory receive transmit receiver transmitter receive_control transmit_control = record {
   memory = memory;
   adapter = record (new_adapter [] Never) {

@@ -28,3 +28,5 @@ pub mod SendSteps
 pub mod Idle
 pub mod SoundBuses
 pub mod Initialising
+pub mod Waiting
+pub mod Begun

@@ -11,7 +11,7 @@ use Rattle.dma_memory.specs.Laws.{length-with_bytes}
 use Rattle.descriptors.specs.Ring.{address_of, next_of}
 use Rattle.descriptors.specs.RxDesc.{rx_desc_of}
 use Rattle.rx_engine.specs.Descriptors as receive
-use Rattle.rx_engine.specs.Engine.{oldest}
+use Rattle.rx_engine.specs.Receiver.{oldest}
 use Rattle.rx_engine.specs.Held.{held}
 use Rattle.rx_engine.specs.Laws.{held-after_data}
 use Rattle.rx_engine.specs.Moving.{is_half_free}

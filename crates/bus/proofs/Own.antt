@@ -129,7 +129,7 @@ foreign-named o p a sound =
     all-unmapped (λ area. IsForeign a area) (named a.memory) (finished o a) each
 
 -- The same of the transmit ring, and of status bytes.
-foreign-in_transmit : (o p : ℕ) (a : World) (area : Area) → Sound o p a → IsInside area (ring_area (transmit_ring a)) → All (λ d. AreApart area (status_byte d)) (buffered a ++ offered (transmit_ring a)) → IsForeign a area
+pub foreign-in_transmit : (o p : ℕ) (a : World) (area : Area) → Sound o p a → IsInside area (ring_area (transmit_ring a)) → All (λ d. AreApart area (status_byte d)) (buffered a ++ offered (transmit_ring a)) → IsForeign a area
 foreign-in_transmit o p a area sound inside apart =
     let parts = parts-of o p a sound in
     let r = ring_area (receive_ring a) in

@@ -5,7 +5,7 @@ use Rattle.std.proofs.lemmas.Bool.{cases_eq}
 use Rattle.std.proofs.lemmas.Nat.{mod_below}
 use Rattle.std.proofs.lemmas.List.Elements.{All-cons, All-append, All-map}
 use Rattle.std.proofs.lemmas.List.Kept.{AllPairs-cons}
-use Rattle.dma_memory.specs.Areas.{AreApart, Area, IsInside, descriptor_area}
+use Rattle.dma_memory.specs.Areas.{AreApart, IsInside, descriptor_area}
 use Rattle.dma_memory.specs.AreaLaws.{apart-sym}
 use Rattle.descriptors.specs.declared.ring.Ring.{Ring}
 use Rattle.descriptors.specs.Ring.{IsSound, address_of, count_of, distance_of, next_of, owned, slots_from}

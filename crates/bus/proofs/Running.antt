@@ -9,7 +9,7 @@ use Rattle.descriptors.specs.declared.tx_desc.TxDesc.{TxDesc}
 use Rattle.descriptors.specs.Frames.{IsLegal}
 use Rattle.descriptors.specs.Ring.{address_of}
 use Rattle.descriptors.specs.TxDesc.{tx_desc_of}
-use Rattle.rx_engine.specs.Engine.{oldest}
+use Rattle.rx_engine.specs.Receiver.{oldest}
 use Rattle.tx_engine.specs.Fetching.{IsTransmittable}
 use Rattle.adapter.specs.Receiving.{CanMoveFrame, HasFrameAndDescriptor}
 use Rattle.adapter.specs.Steps.{Answers, ticked}

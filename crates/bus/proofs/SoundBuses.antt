@@ -1,14 +1,14 @@
 -- The buses of `src/sound_buses.rt`: what their registers say, and that the laws apply to them.
-use Rattle.std.proofs.Common.{◌≡◌, ◌≤◌, ◌<◌, ◌+◌, ◌-◌, inl, inr, ◌++◌, ◌∷◌, [], true, false, ℕ, Bool, List, None, length, map, replicate, slice_index, refl, sym, ap, subst, ◌∙◌, arith}
+use Rattle.std.proofs.Common.{◌≡◌, ◌≤◌, inl, inr, ◌++◌, ◌∷◌, [], true, ℕ, Bool, List, length, replicate, slice_index, refl, sym, ap, subst, ◌∙◌, arith}
 use Rattle.std.specs.List.{All}
 use Rattle.std.proofs.lemmas.List.{length-replicate}
 use Rattle.std.proofs.lemmas.List.Elements.{All-cons}
 use Rattle.std.proofs.lemmas.List.Kept.{AllPairs-cons}
+use Rattle.dma_memory.specs.Areas.{AreApart, Area}
 use Rattle.registers.specs.Bits.{is_set}
-use Rattle.dma_memory.specs.Areas.{AreApart, AreSeparate, Area}
-use Rattle.dma_memory.specs.HostMemory.{LiesIn, bytes_at, with_bytes}
+use Rattle.dma_memory.specs.HostMemory.{LiesIn, bytes_at}
 use Rattle.dma_memory.specs.Laws.{bytes_at-stored, length-with_bytes}
-use Rattle.descriptors.specs.Ring.{count_of, owned}
+use Rattle.descriptors.specs.Ring.{owned}
 use Rattle.descriptors.specs.TxDesc.{tx_desc_of}
 use Rattle.descriptors.specs.TxFields.{command_bits}
 use Rattle.tx_engine.specs.Fetching.{IsTransmittable, descriptor_at, fetched}
@@ -27,17 +27,15 @@ use Rattle.adapter.specs.declared.step.StepKind.TheVariants.{RxData, RxDone, TxT
 use Rattle.adapter.specs.declared.step.Stepped.{Stepped}
 use Rattle.adapter.specs.declared.step.Stepped.TheVariants.{Took, Put, WireFull, Moved, Done, Ticked, Nothing, Fault}
 use Rattle.adapter.specs.Registers.{new_adapter}
-use Rattle.adapter.specs.State.{AdapterState}
 use Rattle.adapter.specs.Table.{array_register_at, register_at}
 use Rattle.bus.specs.Examples.{HasFinished, HasFramesInBuffer, HasFramesInRing, HasRings, HasWork}
 use Rattle.bus.specs.Frames.{buffer_of, data_of, finished}
 use Rattle.bus.specs.Idle.{IsIdle}
 use Rattle.bus.specs.Law.{Reports, Sound}
 use Rattle.bus.specs.Offering.{CanOffer, CanSend}
-use Rattle.bus.specs.Slots.{is_done, offered}
 use Rattle.bus.specs.SoundBuses.{call, called, ready, reported, request, requested, resting, sending, sent, working}
 use Rattle.bus.specs.Steps.{IsRunning, world_after_arrival, world_after_step}
-use Rattle.bus.specs.World.{World, receive_ring, world_after_write}
+use Rattle.bus.specs.World.{World, world_after_write}
 use Rattle.bus.proofs.Examples.{zeros-address, zeros-open}
 use Rattle.bus.proofs.Idle.{idle-areas, idle_rings_are_sound, stores_keep_idle}
 use Rattle.bus.proofs.Instances.{arrivals_happen, steps_happen}

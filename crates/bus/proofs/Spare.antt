@@ -1,33 +1,23 @@
 -- Memory that no outstanding slot uses is apart from all that the conditions name, and stays so.
-use Rattle.std.proofs.Common.{◌≡◌, ◌≢◌, ◌≤◌, ◌<◌, ◌⊎◌, inl, inr, ⊎_elim, ◌+◌, ◌*◌, ◌++◌, ◌∷◌, [], Bool, true, false, cond, ℕ, List, Option, Some, None, length, map, drop, take, refl, sym, ap, subst, ◌∙◌, append_assoc, arith}
+use Rattle.std.proofs.Common.{◌≡◌, ◌≤◌, ◌++◌, ◌∷◌, [], Bool, true, false, cond, ℕ, List, Option, Some, None, length, map, arith}
 use Rattle.std.specs.List.{All}
-use Rattle.std.proofs.lemmas.Bool.{cases_lt}
-use Rattle.std.proofs.lemmas.List.{append-nil, drop-take}
 use Rattle.std.proofs.lemmas.List.Elements.{All-append, All-cons, All-map}
-use Rattle.dma_memory.specs.Areas.{AreApart, Area, IsInside, bytes_in, descriptor_area}
+use Rattle.dma_memory.specs.Areas.{AreApart, Area, IsInside, bytes_in}
 use Rattle.dma_memory.specs.AreaLaws.{apart-inside, apart-sym, inside-apart}
-use Rattle.byteorder.specs.Endian.{little_number}
-use Rattle.byteorder.specs.Numbers.{little_from-take}
 use Rattle.dma_memory.specs.HostMemory.{bytes_at, LiesIn}
 use Rattle.dma_memory.specs.Laws.{length-bytes_at}
-use Rattle.registers.specs.Bits.{field}
-use Rattle.registers.specs.ReceiveControl.{buffer_size_of}
-use Rattle.descriptors.specs.declared.ring.Ring.{Ring}
-use Rattle.descriptors.specs.Ring.{address_of, count_of, distance_of, owned, slots_from}
-use Rattle.descriptors.specs.TxDesc.{tx_desc_of}
 use Rattle.rx_engine.specs.Descriptors as receive
 use Rattle.rx_engine.specs.Held as engine
 use Rattle.rx_engine.specs.declared.engine.Work.{Work}
-use Rattle.tx_engine.specs.Fetching as transmit
-use Rattle.bus.specs.Frames.{areas, buffer_of, buffered, data_of, finished, frame_areas, frames_held, in_work, IsForeign, named, offered_buffers, receives, reported_half, ring_area, slot_of_work, status_byte, work_areas}
+use Rattle.bus.specs.Frames.{areas, buffer_of, buffered, data_of, finished, frame_areas, in_work, IsForeign, named, offered_buffers, receives, reported_half, ring_area, slot_of_work, status_byte, work_areas}
 use Rattle.bus.specs.Law.{Sound}
-use Rattle.bus.specs.Slots.{offered, outstanding}
+use Rattle.bus.specs.Slots.{offered}
 use Rattle.bus.specs.Spare.{FramesFit, IsSpare, buffer_size}
 use Rattle.bus.specs.World.{World, receive_ring, transmit_ring}
 use Rattle.bus.proofs.Kept.{frame_of}
-use Rattle.bus.proofs.Lists.{all-head, all-left, all-none, all-right, all-tail, all-unmapped, all-weaker}
+use Rattle.bus.proofs.Lists.{all-head, all-left, all-none, all-right, all-tail, all-unmapped}
 use Rattle.bus.proofs.Own.{parts-of}
-use Rattle.bus.proofs.Rings.{dealt-left, dealt-right, outstanding-inside, slots-below}
+use Rattle.bus.proofs.Rings.{dealt-left, dealt-right}
 
 -- What holds of all areas of the conditions.
 pub record OfAreas (P : Area → Type 0) (o : ℕ) (a : World) : Type 0 where

@@ -1,42 +1,38 @@
 -- The slot at the tail of a ring is the driver's; and what a write of RDT or TDT leaves.
-use Rattle.std.proofs.Common.{◌≡◌, ◌≢◌, ◌≤◌, ◌<◌, ◌⊎◌, inl, inr, ⊎_elim, ◌+◌, ◌-◌, ◌*◌, ◌%◌, ◌++◌, ◌∷◌, [], ℕ, List, Option, Some, length, map, refl, sym, ap, subst, ◌∙◌, arith, bit_and}
+use Rattle.std.proofs.Common.{◌≡◌, ◌<◌, ◌⊎◌, inl, inr, ◌+◌, ◌*◌, ℕ, List, Option, sym, ap, subst, ◌∙◌, arith, bit_and}
 use Rattle.std.specs.List.{All}
 use Rattle.std.proofs.lemmas.List.Elements.{All-map}
 use Rattle.std.proofs.lemmas.Nat.{and_mask}
-use Rattle.dma_memory.specs.Areas.{AreApart, Area, IsInside, descriptor_area}
+use Rattle.dma_memory.specs.Areas.{AreApart, IsInside, descriptor_area}
 use Rattle.dma_memory.specs.AreaLaws.{apart-inside, apart-sym, inside-apart, lies-inside}
 use Rattle.dma_memory.specs.HostMemory.{LiesIn}
 use Rattle.descriptors.specs.declared.ring.Ring.{Ring}
-use Rattle.descriptors.specs.Ring.{IsSound, address_of, count_of, distance_of, next_of, owned, slots_from}
+use Rattle.descriptors.specs.Ring.{IsSound, address_of, count_of, distance_of, owned, slots_from}
 use Rattle.adapter.specs.declared.register.Register.{Register}
 use Rattle.adapter.specs.declared.register.Register.TheVariants.{Receive, Transmit}
 use Rattle.adapter.specs.declared.register.RingRegister.TheVariants.{Tail}
 use Rattle.adapter.specs.declared.ring.RingRegisters.{RingRegisters}
 use Rattle.adapter.specs.Registers.{left_by_write}
 use Rattle.adapter.specs.Rings.{ring_of}
-use Rattle.adapter.specs.State.{AdapterState}
-use Rattle.adapter.specs.Table.{register_at}
 use Rattle.adapter.specs.TableLaws.{register_at-there}
-use Rattle.bus.specs.Frames.{buffered, frame_areas, in_work, IsForeign, reported_half, ring_area, status_byte}
+use Rattle.bus.specs.Frames.{buffered, in_work, IsForeign, reported_half, ring_area, status_byte}
 use Rattle.bus.specs.Law.{Sound}
 use Rattle.bus.specs.OwnStores.{IsOwn}
 use Rattle.bus.specs.Refilling.{KnowsRing}
-use Rattle.bus.specs.Slots.{offered, outstanding}
+use Rattle.bus.specs.Slots.{outstanding}
 use Rattle.bus.specs.World.{World, receive_ring, transmit_ring, world_after_write}
-use Rattle.bus.proofs.Carrying.{foreign-in_transmit_ring, head-slot}
-use Rattle.bus.proofs.Own.{foreign-in_ring, parts-of}
+use Rattle.bus.proofs.Carrying.{head-slot}
+use Rattle.bus.proofs.Own.{foreign-in_ring, foreign-in_transmit, parts-of}
 use Rattle.bus.proofs.Rings.{dealt-right, outstanding-inside, slots-other}
 use Rattle.bus.proofs.Spare.{of-areas}
 
 -- What the driver knows of its ring it knows still where the head alone has moved.
-pub knows-carried : (a b : RingRegisters) (oldest base count tail : ℕ) → b ≡ record a { head = b.head } → (b.head ≡ a.head) ⊎ IsSound (ring_of b) → KnowsRing (ring_of a) oldest base count tail → KnowsRing (ring_of b) oldest base count tail
-knows-carried a b oldest base count tail same moved knows = record {
+pub knows-carried : (a b : RingRegisters) (base count tail : ℕ) → b ≡ record a { head = b.head } → (b.head ≡ a.head) ⊎ IsSound (ring_of b) → KnowsRing (ring_of a) base count tail → KnowsRing (ring_of b) base count tail
+knows-carried a b base count tail same moved knows = record {
   begins = ap (λ (registers : RingRegisters). (ring_of registers).base) same ∙ knows.begins;
   slots = ap (λ (registers : RingRegisters). count_of (ring_of registers)) same ∙ knows.slots;
   last = ap (λ (registers : RingRegisters). registers.tail) same ∙ knows.last;
   head_slot = subst (λ (n : ℕ). b.head < n) knows.slots (head-slot a b same moved (subst (λ (n : ℕ). a.head < n) (sym knows.slots) knows.head_slot));
-  oldest_slot = knows.oldest_slot;
-  room = knows.room;
 }
 
 -- The slot at the tail isn't outstanding.
@@ -59,11 +55,11 @@ pub record TailSlot (ring : Ring) (oldest base tail : ℕ) : Type 0 where
   pub inside : IsInside (descriptor_area (base + 16 * tail)) (ring_area ring)
   pub aside : All (λ d. AreApart (descriptor_area (base + 16 * tail)) (descriptor_area d)) (outstanding ring oldest)
 
-pub tail-slot : (ring : Ring) (oldest base count tail : ℕ) → tail < count → KnowsRing ring oldest base count tail → TailSlot ring oldest base tail
-tail-slot ring oldest base count tail below knows =
+pub tail-slot : (ring : Ring) (oldest base count tail : ℕ) → oldest < count → tail < count → KnowsRing ring base count tail → TailSlot ring oldest base tail
+tail-slot ring oldest base count tail oldest_slot below knows =
     let is : address_of ring ring.tail ≡ base + 16 * tail = omega (arith, knows.begins, knows.last) in
     let within : ring.tail < count_of ring = omega (arith, knows.slots, knows.last, below) in
-    let first : oldest < count_of ring = omega (arith, knows.slots, knows.oldest_slot) in
+    let first : oldest < count_of ring = omega (arith, knows.slots, oldest_slot) in
     record {
       is = is;
       inside = subst (λ (d : ℕ). IsInside (descriptor_area d) (ring_area ring)) is (in-ring ring.base (count_of ring) ring.tail within);
@@ -126,7 +122,7 @@ own-transmit_slot o p a base tail sound slot =
         sent = slot.aside;
         frames = λ k d below. apart-inside area t _ slot.inside (parts.transmit_rest k d below);
       };
-      foreign = foreign-in_transmit_ring o p a area sound slot.inside (λ k d below. byte-apart (base + 16 * tail) _ (aside k d below));
+      foreign = foreign-in_transmit o p a area sound slot.inside (λ k d below. byte-apart (base + 16 * tail) _ (aside k d below));
     }
 
 -- Writes.

@@ -1,21 +1,22 @@
 -- What a driver does while the conditions of the law hold, besides offering slots one by one and storing to memory of its own: it writes and reads
 -- registers, as in initialisation behind the first slot offered (own).
-use Rattle.std.specs.Prelude.{⊤, ◌≡◌, ◌≤◌, ◌<◌, ◌+◌, ◌%◌, ◌++◌, ℕ, zero, suc, [], false, map}
-use Rattle.std.specs.Fn.{iterate}
+use Rattle.std.specs.Prelude.{⊤, ◌≡◌, ◌≤◌, ◌<◌, ◌+◌, ◌%◌, ◌++◌, ℕ, zero, suc, [], false, All, None, map}
 use Rattle.dma_memory.specs.Areas.{AreSeparate}
 use Rattle.registers.specs.Bits.{HasBit, field}
 use Rattle.registers.specs.ReceiveControl.{buffer_size_of}
 use Rattle.descriptors.specs.Ring.{address_of, count_of, slots_from}
+use Rattle.rx_engine.specs.Descriptors.{named_address}
 use Rattle.adapter.specs.Registers.{is_reset, write_of}
 use Rattle.adapter.specs.declared.register.Register.{Register}
 use Rattle.adapter.specs.declared.register.Register.TheVariants.{Rctl, Receive, Tctl, Transmit}
 use Rattle.adapter.specs.declared.ring.RingRegisters.{RingRegisters}
 use Rattle.bus.specs.Frames.{areas, finished, frames_held, frames_to_send}
-use Rattle.bus.specs.Law.{Sound}
+use Rattle.bus.specs.Law.{Happens, Sound}
 use Rattle.bus.specs.Offering.{CanOffer, offering}
 use Rattle.bus.specs.OwnStores.{LeavesFrames, SameFrames}
+use Rattle.bus.specs.Past.{Past}
 use Rattle.bus.specs.Running.{GoOn}
-use Rattle.bus.specs.Slots.{outstanding}
+use Rattle.bus.specs.Slots.{offered, outstanding}
 use Rattle.bus.specs.World.{World, receive_ring, transmit_ring, world_after_read}
 
 -- Many slots are offered at once.
@@ -117,3 +118,29 @@ abbrev pub ReadsLeaveFrames : Type 0
 ReadsLeaveFrames =
     (oldest_received oldest_sent offset : ℕ) (world : World)
     → Sound oldest_received oldest_sent world → LeavesFrames oldest_received oldest_sent world (world_after_read offset world)
+
+-- What happens meanwhile.
+
+-- no frame is in the transmit packet buffer, and TDH is TDT
+pub record IsTransmitIdle (world : World) : Type 0 where
+  pub buffer : world.adapter.transmitter.buffer ≡ []
+  pub ring : world.adapter.transmit_ring.head ≡ world.adapter.transmit_ring.tail
+
+-- A transmit ring of which nothing is outstanding stays so, with all that is received going on.
+abbrev pub TransmitStaysIdle : Type 0
+TransmitStaysIdle =
+    (oldest_received : ℕ) (a b : World) (past : Past) → Sound oldest_received a.adapter.transmit_ring.tail a
+    → a.adapter.transmit_ring.head ≡ a.adapter.transmit_ring.tail → Happens a b past → IsTransmitIdle b
+
+-- No receive slot is finished or in work, and those offered, with the addresses of their buffers, are as they were.
+pub record OffersStay (oldest_received : ℕ) (a b : World) : Type 0 where
+  pub none_finished : finished oldest_received b ≡ []
+  pub no_work : b.adapter.receiver.work ≡ None
+  pub slots : offered (receive_ring b) ≡ offered (receive_ring a)
+  pub addresses : All (λ slot. named_address b.memory slot ≡ named_address a.memory slot) (offered (receive_ring a))
+
+-- While RCTL.EN is 0 and no frame is held, the receive slots that are offered wait.
+abbrev pub OffersWait : Type 0
+OffersWait =
+    (oldest_received oldest_sent : ℕ) (a b : World) (past : Past) → Sound oldest_received oldest_sent a → oldest_received < count_of (receive_ring a)
+    → ¬ (HasBit a.adapter.filter.rctl 1) → frames_held oldest_received a ≡ [] → Happens a b past → OffersStay oldest_received a b

@@ -1,6 +1,6 @@
 -- What a driver may count on, whatever happens between two of its accesses: finished and written-back slots, and its own slots, stay.
 use Rattle.std.specs.Prelude.{◌≡◌, ◌≢◌, ◌<◌, ◌+◌, ℕ, List, All, map}
-use Rattle.dma_memory.specs.Areas.{Area, bytes_in, descriptor_area}
+use Rattle.dma_memory.specs.Areas.{bytes_in, descriptor_area}
 use Rattle.descriptors.specs.declared.ring.Ring.{Ring}
 use Rattle.descriptors.specs.Ring.{address_of, count_of}
 use Rattle.rx_engine.specs.Descriptors.{named_address}

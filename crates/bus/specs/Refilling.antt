@@ -1,6 +1,6 @@
 -- A small driver offers a receive slot with a buffer of its own, as the tests have one (own).
-use Rattle.std.specs.Prelude.{◌≡◌, ◌≢◌, ◌<◌, ◌+◌, ◌*◌, ◌%◌, ◌++◌, ◌∷◌, ℕ, List, []}
-use Rattle.dma_memory.specs.Areas.{Area}
+use Rattle.std.specs.Prelude.{◌≡◌, ◌≢◌, ◌<◌, ◌+◌, ◌*◌, ◌%◌, ◌++◌, ◌∷◌, ℕ, List, [], length}
+use Rattle.dma_memory.specs.Areas.{AreApart, Area}
 use Rattle.dma_memory.specs.HostMemory.{LiesIn}
 use Rattle.descriptors.specs.declared.ring.Ring.{Ring}
 use Rattle.descriptors.specs.Ring.{count_of}
@@ -13,31 +13,43 @@ use Rattle.bus.specs.Slots.{outstanding}
 use Rattle.bus.specs.Spare.{FramesFit, IsSpare, buffer_size}
 use Rattle.bus.specs.World.{World, receive_ring, transmit_ring}
 
--- The driver knows its ring: where it begins, how many slots it has, and which one stands at the tail, behind which there is room.
-pub record KnowsRing (ring : Ring) (oldest base count tail : ℕ) : Type 0 where
+-- The driver knows its ring: where it begins, how many slots it has, and which one stands at the tail; and one of them stands at the head.
+pub record KnowsRing (ring : Ring) (base count tail : ℕ) : Type 0 where
   pub begins : ring.base ≡ base
   pub slots : count_of ring ≡ count
   pub last : ring.tail ≡ tail
   pub head_slot : ring.head < count
-  pub oldest_slot : oldest < count
-  pub room : (tail + 1) % count ≢ oldest
 
--- The slot at the tail of the receive ring can be offered with a buffer: it lies in memory, and no outstanding slot uses it.
+-- The slot at the tail of the receive ring can be offered with a buffer: behind it there is room, the buffer lies in memory, and no
+-- outstanding slot uses it.
 pub record CanRefill (oldest_received oldest_sent : ℕ) (world : World) (base count tail buffer : ℕ) : Type 0 where
-  pub ring : KnowsRing (receive_ring world) oldest_received base count tail
+  pub ring : KnowsRing (receive_ring world) base count tail
+  pub oldest_slot : oldest_received < count
+  pub room : (tail + 1) % count ≢ oldest_received
   pub fit : FramesFit oldest_received world
   pub lies : LiesIn world.memory buffer (buffer_size world)
   pub spare : IsSpare oldest_received oldest_sent world (record { address = buffer; size = buffer_size world })
 
--- Then the conditions hold again; frames were put and stored, and none was lost; the slot is the last that is outstanding, and names the buffer.
-pub record IsRefilled (oldest_received oldest_sent : ℕ) (a b : World) (past : Past) (slot buffer : ℕ) : Type 0 where
+-- What a driver rests on stays, and all spare memory that is apart from the area that it has given out stays spare.
+pub record StaysReady (oldest_received oldest_sent : ℕ) (a b : World) (given : Area) : Type 0 where
+  pub size : length b.memory ≡ length a.memory
+  pub filter : b.adapter.filter ≡ a.adapter.filter
+  pub control : b.adapter.transmit_control ≡ a.adapter.transmit_control
+  pub fit : FramesFit oldest_received b
+  pub spare : (area : Area) → IsSpare oldest_received oldest_sent a area → AreApart given area → IsSpare oldest_received oldest_sent b area
+
+-- Then the conditions hold again; frames were put and stored, and none was lost; the slot is the last that is outstanding, and names the
+-- buffer; and the driver knows both rings as before, but for the tail that it has moved on by one.
+pub record IsRefilled (oldest_received oldest_sent : ℕ) (a b : World) (past : Past) (base count tail buffer : ℕ) : Type 0 where
   pub sound : Sound oldest_received oldest_sent b
   pub sends : past.put ++ frames_to_send b ≡ frames_to_send a
   pub holds : frames_held oldest_received b ≡ frames_held oldest_received a ++ past.stored
-  pub fit : FramesFit oldest_received b
-  pub received : outstanding (receive_ring b) oldest_received ≡ outstanding (receive_ring a) oldest_received ++ slot ∷ []
+  pub received : outstanding (receive_ring b) oldest_received ≡ outstanding (receive_ring a) oldest_received ++ (base + 16 * tail) ∷ []
   pub sent : outstanding (transmit_ring b) oldest_sent ≡ outstanding (transmit_ring a) oldest_sent
-  pub names : buffer_of b slot ≡ record { address = buffer; size = buffer_size a }
+  pub names : buffer_of b (base + 16 * tail) ≡ record { address = buffer; size = buffer_size a }
+  pub moved : KnowsRing (receive_ring b) base count ((tail + 1) % count)
+  pub other_ring : (first slots last : ℕ) → KnowsRing (transmit_ring a) first slots last → KnowsRing (transmit_ring b) first slots last
+  pub ready : StaysReady oldest_received oldest_sent a b (record { address = buffer; size = buffer_size a })
 
 -- a receive descriptor that names a buffer, and is else 0
 abbrev pub empty_descriptor : ℕ → List ℕ
@@ -51,4 +63,13 @@ pub record Refilled {B : Type 0} (world : B → World) (happened : B → B → P
   pub past : Past
   pub told : happened old new past
   pub only : past.accesses ≡ accesses_of_refill base count tail buffer
-  pub refilled : (o p : ℕ) → Sound o p (world old) → CanRefill o p (world old) base count tail buffer → IsRefilled o p (world old) (world new) past (base + 16 * tail) buffer
+  pub refilled : (o p : ℕ) → Sound o p (world old) → CanRefill o p (world old) base count tail buffer → IsRefilled o p (world old) (world new) past base count tail buffer
+
+-- Some slot of the receive ring can be offered with some buffer, where slot 0 is the oldest of both rings.
+pub record LetsRefill (world : World) : Type 0 where
+  pub base : ℕ
+  pub count : ℕ
+  pub tail : ℕ
+  pub buffer : ℕ
+  pub below : tail < count
+  pub can : CanRefill 0 0 world base count tail buffer

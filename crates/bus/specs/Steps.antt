@@ -1,7 +1,7 @@
 -- Adapter steps and deliveries as what may happen between two accesses.
 use Rattle.std.specs.Prelude.{ℕ, Bool, List, [], ◌∷◌}
 use Rattle.rx_engine.specs.Arriving.{kept}
-use Rattle.rx_engine.specs.Engine.{IsEngine}
+use Rattle.rx_engine.specs.Receiver.{IsReceiver}
 use Rattle.rx_engine.specs.declared.arrival.Fate.{Fate}
 use Rattle.rx_engine.specs.declared.arrival.Fate.TheVariants.{Off, Illegal, Filtered, Missed, Stored}
 use Rattle.adapter.specs.Receiving.{IsFate, after_arrive}
@@ -52,7 +52,7 @@ world_after_arrival fate frame world = record world { adapter = after_arrive fat
 -- What holds of every adapter.
 pub record IsRunning (adapter : AdapterState) : Type 0 where
   pub registers : IsAdapter adapter
-  pub receiver : IsEngine adapter.receiver
+  pub receiver : IsReceiver adapter.receiver
 
 -- Each step is one of the things that may happen.
 abbrev pub StepsHappen : Type 0

@@ -4,7 +4,7 @@ ghost use Rattle.bus.specs.Composing.{HappeningsJoin, NothingHappens, SoundStays
 ghost use Rattle.bus.specs.Examples.{HasFinished, HasFramesInBuffer, HasFramesInRing, HasRings, HasWork, HasWrittenBack, SomeSound};
 ghost use Rattle.bus.specs.Faults.{FaultsNeverCome};
 ghost use Rattle.bus.specs.Idle.{HappeningsKeepIdle, IdleAfterPowerOn, IdleAfterReset, IdleRingsAreSound, OtherWritesKeepIdle, ReadsKeepIdle, StoresKeepIdle, WritesKeepIdle};
-ghost use Rattle.bus.specs.Initialising.{ManySlotsCanBeOffered, OtherWritesLeaveFrames, ReadsLeaveFrames, ReceiverCanBeSet, TransmitRingCanBeSet, TransmitterCanBeSet};
+ghost use Rattle.bus.specs.Initialising.{ManySlotsCanBeOffered, OffersWait, OtherWritesLeaveFrames, ReadsLeaveFrames, ReceiverCanBeSet, TransmitRingCanBeSet, TransmitStaysIdle, TransmitterCanBeSet};
 ghost use Rattle.bus.specs.Offering.{FramesCanBeOffered, SlotsCanBeOffered};
 ghost use Rattle.bus.specs.Own.{DriversKeepTheirOwn};
 ghost use Rattle.bus.specs.OwnStores.{OwnStoresLeaveForeign, OwnStoresLeaveFrames};
@@ -146,6 +146,15 @@ pub fn registers_can_be_set()
     ensures transmit_ring { TransmitRingCanBeSet }
     ensures others { OtherWritesLeaveFrames }
     ensures reads { ReadsLeaveFrames }
+{}
+
+/// What waits while a driver initialises, whatever happens between two of its accesses.
+/// - `offers`: while RCTL.EN is 0 and no frame is held, the receive slots offered, and the addresses of
+///   their buffers.
+/// - `transmit_ring`: a transmit ring of which nothing is outstanding.
+pub fn rings_wait()
+    ensures offers { OffersWait }
+    ensures transmit_ring { TransmitStaysIdle }
 {}
 
 /// The conditions of the law can be met: of a world whose rings are both set up and whose receive ring

@@ -11,6 +11,10 @@ use descriptors::RxDesc;
 pub fn look<B: Bus>(bus: &mut B, descriptor: u64, into: &mut [u8]) -> Option<usize>
     requires lies { descriptor + 16 ≤ B.extent bus.old }
     ensures extent { B.extent bus.new ≡ B.extent bus.old }
+    ensures kept { B.kept bus.old bus.new }
+    ensures honest { B.honest bus.old → B.honest bus.new }
+    ensures lively { B.lively bus.old → B.lively bus.new }
+    ensures length { length into.new ≡ length into.old }
     ensures looked { B.honest bus.old → Looked B.world B.happened bus.old bus.new descriptor result into.new }
 {
     let mut bytes = [0; 16];

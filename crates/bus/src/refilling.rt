@@ -16,6 +16,9 @@ pub fn refill<B: Bus>(bus: &mut B, slots: &RingSlots, buffer: u64)
     requires fits { slots.now.base + 16 * slots.now.tail < 2 ^ 64 }
     requires lies { slots.now.base + 16 * slots.now.tail + 16 ≤ B.extent bus.old }
     ensures extent { B.extent bus.new ≡ B.extent bus.old }
+    ensures kept { B.kept bus.old bus.new }
+    ensures honest { B.honest bus.old → B.honest bus.new }
+    ensures lively { B.lively bus.old → B.lively bus.new }
     ensures refilled { B.honest bus.old → Refilled B.world B.happened bus.old bus.new slots.now.base slots.now.count slots.now.tail buffer }
 {
     let descriptor = RxDesc {

@@ -19,6 +19,9 @@ pub fn send<B: Bus>(bus: &mut B, slots: &RingSlots, buffer: u64, frame: &[u8])
     requires lies { slots.now.base + 16 * slots.now.tail + 16 ≤ B.extent bus.old }
     requires room { buffer + length frame.now ≤ B.extent bus.old }
     ensures extent { B.extent bus.new ≡ B.extent bus.old }
+    ensures kept { B.kept bus.old bus.new }
+    ensures honest { B.honest bus.old → B.honest bus.new }
+    ensures lively { B.lively bus.old → B.lively bus.new }
     ensures sent { B.honest bus.old → Sent B.world B.happened bus.old bus.new slots.now.base slots.now.count slots.now.tail buffer frame.now }
 {
     let descriptor = TxDesc {

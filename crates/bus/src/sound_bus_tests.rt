@@ -5,7 +5,7 @@ use crate::sound_buses::{
 };
 use crate::{
     Bus, SoloBus, idle_rings_are_sound, idle_rings_stay_idle, many_slots_can_be_offered,
-    registers_can_be_set,
+    registers_can_be_set, rings_wait,
 };
 use adapter::offsets::*;
 use adapter::{Fate, StepKind, Stepped};
@@ -100,5 +100,6 @@ fn laws_of_initialisation_can_be_called(_rt: HostRuntime) -> Result<(), Fail> {
     idle_rings_stay_idle();
     many_slots_can_be_offered();
     registers_can_be_set();
+    rings_wait();
     Ok(())
 }

@@ -2,7 +2,10 @@
 
 use crate::looking::look;
 use crate::{
-    Bus, HonestBus, SoloBus, SoloTick, MOST_TICKS, any_steps_may_happen, between_composes, conditions_can_be_met, drivers_keep_their_own, faults_never_come, finished_slots_can_be_taken, frames_can_be_offered, own_stores_leave_frames, slots_can_be_offered, steps_are_instances, written_slots_can_be_freed,
+    Bus, HonestBus, MOST_TICKS, SoloBus, SoloTick, any_steps_may_happen, areas_stay_apart,
+    between_composes, conditions_can_be_met, drivers_keep_their_own, faults_never_come,
+    finished_slots_can_be_taken, frames_can_be_offered, own_stores_leave_frames,
+    slots_can_be_offered, steps_are_instances, written_slots_can_be_freed,
 };
 use adapter::offsets::*;
 use adapter::{Adapter, Fate, StepKind, Stepped};
@@ -21,19 +24,19 @@ const RECEIVE: u32 = 0x0000_8002;
 const TRANSMIT: u32 = 0x0000_000A;
 
 /// A frame that every receiver with BAM accepts.
-const BROADCAST: [u8; 60] = [0xFF; 60];
+pub(crate) const BROADCAST: [u8; 60] = [0xFF; 60];
 
 /// The bytes of the memory: a receive ring of 8 at 0, a transmit ring of 8 at 0x80, and buffers.
 const MEMORY_BYTES: u64 = 0x5000;
 
-const TRANSMIT_RING: u64 = 0x80;
+pub(crate) const TRANSMIT_RING: u64 = 0x80;
 
-const TRANSMIT_BUFFER: u64 = 0x800;
+pub(crate) const TRANSMIT_BUFFER: u64 = 0x800;
 
 const RECEIVE_BUFFER: u64 = 0x1000;
 
 /// A solo bus whose adapter is new.
-fn new_bus(alloc: Global, link: Link, lively: bool) -> Result<SoloBus, Fail> {
+pub(crate) fn new_bus(alloc: Global, link: Link, lively: bool) -> Result<SoloBus, Fail> {
     let image = Image::with_address([0x02, 0, 0, 0, 0, 0x01]);
     let adapter = Adapter::new(alloc, &image, link)?;
     let memory = HostMemory::new(alloc, MEMORY_BYTES)?;
@@ -70,14 +73,14 @@ fn look_at_first(rt: &impl Abort, bus: &mut SoloBus, into: &mut [u8]) -> Option<
 }
 
 /// Lets ticks be played, for which there is room.
-fn play(rt: &impl Abort, bus: &mut SoloBus, ticks: &[SoloTick]) {
+pub(crate) fn play(rt: &impl Abort, bus: &mut SoloBus, ticks: &[SoloTick]) {
     let waiting = bus.waiting();
     assert!(rt; ticks.len() <= MOST_TICKS - waiting);
     bus.play(ticks);
 }
 
 /// Sets up both rings, with two receive slots offered, in eight accesses.
-fn set_up(rt: &impl Abort, bus: &mut SoloBus) {
+pub(crate) fn set_up(rt: &impl Abort, bus: &mut SoloBus) {
     store(rt, bus, 0, &RECEIVE_BUFFER.to_le_bytes());
     store(rt, bus, 16, &(RECEIVE_BUFFER + 2048).to_le_bytes());
     bus.write(RDLEN, 128);
@@ -234,6 +237,7 @@ fn laws_can_be_called(_rt: HostRuntime) -> Result<(), Fail> {
     drivers_keep_their_own();
     own_stores_leave_frames();
     slots_can_be_offered();
+    areas_stay_apart();
     frames_can_be_offered();
     finished_slots_can_be_taken();
     written_slots_can_be_freed();

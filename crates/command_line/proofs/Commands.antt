@@ -1,7 +1,7 @@
 -- What holds of the program's command line where clap takes the words: the subcommand is `pass`, and has its files.
 use Rattle.std.specs.List.{find, list_all, slice_index_or}
 use Rattle.std.specs.Option.{option_map, option_map_or}
-use Rattle.std.specs.Prelude.{Result, Ok, Err, IfErr, IsErrAnd, codes, is_some, unwrap_or}
+use Rattle.std.specs.Prelude.{Result, Ok, Err, IfErr, IsErrAnd, codes, is_some}
 use Rattle.std.specs.Str.{bytes_eq}
 use Rattle.std.proofs.lemmas.Option.{same_Some}
 use Rattle.std.proofs.lemmas.Slice.Eq.{bytes_eq-Decides}

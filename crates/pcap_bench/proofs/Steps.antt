@@ -6,7 +6,7 @@ use Rattle.registers.specs.ReceiveControl.{buffer_size_of}
 use Rattle.dma_memory.specs.HostMemory.{with_bytes, LiesIn}
 use Rattle.descriptors.specs.Frames.{IsLegal}
 use Rattle.rx_engine.specs.Descriptors.{named_address}
-use Rattle.rx_engine.specs.Engine.{Engine, idle_engine}
+use Rattle.rx_engine.specs.Receiver.{Receiver, new_receiver}
 use Rattle.rx_engine.specs.Finishing.{finished_bytes}
 use Rattle.rx_engine.specs.declared.arrival.Fate.TheVariants.{Stored}
 use Rattle.adapter.specs.declared.ring.RingRegisters.{RingRegisters}
@@ -18,14 +18,14 @@ use Rattle.pcap_bench.proofs.Lanes.{HasRoom, frame_finished, length-finished, le
 
 -- an adapter that holds no frame, with the head of its ring at a slot and the driver at another
 abbrev pub calm : AdapterState → ℕ → ℕ → AdapterState
-calm state head slot = record state { receive_kilobytes = 48; receiver = idle_engine; receive_ring = ring_at head slot }
+calm state head slot = record state { receive_kilobytes = 48; receiver = new_receiver; receive_ring = ring_at head slot }
 
 -- The adapter of a lane is such a one.
-is_calm : (state : AdapterState) (head slot : ℕ) → state.receive_kilobytes ≡ 48 → state.receiver ≡ idle_engine → state.receive_ring ≡ ring_at head slot → state ≡ calm state head slot
+is_calm : (state : AdapterState) (head slot : ℕ) → state.receive_kilobytes ≡ 48 → state.receiver ≡ new_receiver → state.receive_ring ≡ ring_at head slot → state ≡ calm state head slot
 is_calm state head slot room idle ring =
     ap (λ (k : ℕ). record state { receive_kilobytes = k }) room
-    ∙ ap (λ (e : Engine). record state { receive_kilobytes = 48; receiver = e }) idle
-    ∙ ap (λ (r : RingRegisters). record state { receive_kilobytes = 48; receiver = idle_engine; receive_ring = r }) ring
+    ∙ ap (λ (e : Receiver). record state { receive_kilobytes = 48; receiver = e }) idle
+    ∙ ap (λ (r : RingRegisters). record state { receive_kilobytes = 48; receiver = new_receiver; receive_ring = r }) ring
 
 pub calm_of : (lane : LaneState) → IsLane lane → IsWaiting lane → lane.adapter ≡ calm lane.adapter lane.slot lane.slot
 calm_of lane is waiting =

@@ -6,7 +6,7 @@ use Rattle.dma_memory.specs.HostMemory.{bytes_at}
 use Rattle.descriptors.specs.declared.rx_desc.RxDesc.{RxDesc}
 use Rattle.descriptors.specs.RxStatus.{status_of}
 use Rattle.rx_engine.specs.Descriptors.{descriptor_at, named_address}
-use Rattle.rx_engine.specs.Engine.{idle_engine}
+use Rattle.rx_engine.specs.Receiver.{new_receiver}
 use Rattle.rx_engine.specs.Finishing.{IsFinished}
 use Rattle.adapter.specs.declared.ring.RingRegisters.{RingRegisters}
 use Rattle.adapter.specs.State.{AdapterState}
@@ -46,7 +46,7 @@ pub record IsReceiving (control : ℕ) : Type 0 where
 pub record IsLane (lane : LaneState) : Type 0 where
   pub receiving : IsReceiving lane.adapter.filter.rctl
   pub room : lane.adapter.receive_kilobytes ≡ 48
-  pub idle : lane.adapter.receiver ≡ idle_engine
+  pub idle : lane.adapter.receiver ≡ new_receiver
   pub slot : lane.slot < slots
   pub ring : lane.adapter.receive_ring ≡ ring_at lane.adapter.receive_ring.head lane.slot
   pub size : length lane.memory ≡ 34816

@@ -4,7 +4,7 @@ use Rattle.registers.specs.Bits.{HasBit}
 use Rattle.descriptors.specs.Frames.{IsLegal}
 use Rattle.rx_filter.specs.Registers.{FilterRegisters, filter_of}
 use Rattle.rx_filter.specs.Passing.{Passes}
-use Rattle.rx_engine.specs.Engine.{Engine}
+use Rattle.rx_engine.specs.Receiver.{Receiver}
 use Rattle.rx_engine.specs.declared.arrival.Fate.{Fate}
 use Rattle.rx_engine.specs.declared.arrival.Fate.TheVariants.{Off, Illegal, Filtered, Missed, Stored}
 
@@ -24,7 +24,7 @@ kept Missed frame = []
 kept Stored frame = frame ∷ []
 
 -- the engine after a frame with this fate came: a frame that is stored is behind the others, and nothing else changes
-abbrev pub after_arrival : Fate → List ℕ → Engine → Engine
+abbrev pub after_arrival : Fate → List ℕ → Receiver → Receiver
 after_arrival Off frame engine = engine
 after_arrival Illegal frame engine = engine
 after_arrival Filtered frame engine = engine

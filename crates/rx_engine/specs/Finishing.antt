@@ -6,7 +6,7 @@ use Rattle.dma_memory.specs.Areas.{area_at, descriptor_area, AreApart}
 use Rattle.dma_memory.specs.HostMemory.{bytes_at, with_bytes, LiesIn}
 use Rattle.descriptors.specs.RxStatus.{status_bits}
 use Rattle.rx_engine.specs.Descriptors.{descriptor_at, named_address}
-use Rattle.rx_engine.specs.Engine.{Engine}
+use Rattle.rx_engine.specs.Receiver.{Receiver}
 use Rattle.rx_engine.specs.declared.engine.Work.{Work}
 
 -- bytes 8 to 15 of a finished descriptor: the length, checksum 0, status 0x03 (DD and EOP), errors 0, special 0
@@ -14,7 +14,7 @@ abbrev pub finished_bytes : ℕ → List ℕ
 finished_bytes n = little_bytes 2 n ++ 0 ∷ 0 ∷ 3 ∷ 0 ∷ 0 ∷ 0 ∷ []
 
 -- the engine after a done step: no frame is in work
-abbrev pub engine_after_done : Engine → Engine
+abbrev pub engine_after_done : Receiver → Receiver
 engine_after_done engine = record engine { work = None }
 
 -- Memory after a done step: bytes 8 to 15 of the descriptor in work are written. In a memory that ends before the descriptor's end

@@ -7,7 +7,7 @@ use Rattle.descriptors.specs.declared.ring.Ring.{Ring}
 use Rattle.descriptors.specs.Ring.{address_of}
 use Rattle.rx_engine.specs.Arriving.{kept, after_arrival}
 use Rattle.rx_engine.specs.Descriptors.{named_address}
-use Rattle.rx_engine.specs.Engine.{Engine, IsEngine, oldest}
+use Rattle.rx_engine.specs.Receiver.{Receiver, IsReceiver, oldest}
 use Rattle.rx_engine.specs.Finishing.{engine_after_done, memory_after_done, StandsApart, IsFinished}
 use Rattle.rx_engine.specs.Moving.{HasFrameToMove, CanMove, IsMoved, engine_after_data, memory_after_data}
 use Rattle.rx_engine.specs.declared.arrival.Fate.{Fate}
@@ -23,17 +23,17 @@ in_work memory None = []
 in_work memory (Some work) = frame_of_work memory work ∷ []
 
 -- the frames that the engine holds: the frame in work, then the packet buffer, oldest first
-abbrev pub held : List ℕ → Engine → List (List ℕ)
+abbrev pub held : List ℕ → Receiver → List (List ℕ)
 held memory engine = in_work memory engine.work ++ engine.buffer
 
 -- What the steps do to that list.
 
 -- A frame that is stored is behind the others; any other fate leaves them.
 abbrev pub ArrivalGrowsHeld : Type 0
-ArrivalGrowsHeld = (fate : Fate) (frame memory : List ℕ) (engine : Engine) → held memory (after_arrival fate frame engine) ≡ held memory engine ++ kept fate frame
+ArrivalGrowsHeld = (fate : Fate) (frame memory : List ℕ) (engine : Receiver) → held memory (after_arrival fate frame engine) ≡ held memory engine ++ kept fate frame
 
 -- the step, where it moves a frame, had one to move and a place for it in memory, which is apart from its descriptor
-pub record MovesApart (control : ℕ) (ring : Ring) (engine : Engine) (memory : List ℕ) : Type 0 where
+pub record MovesApart (control : ℕ) (ring : Ring) (engine : Receiver) (memory : List ℕ) : Type 0 where
   pub has : HasFrameToMove control ring engine
   pub can : CanMove control ring memory (length (oldest engine.buffer))
   pub apart : AreApart (area_at (named_address memory (address_of ring ring.head)) (length (oldest engine.buffer))) (descriptor_area (address_of ring ring.head))
@@ -41,7 +41,7 @@ pub record MovesApart (control : ℕ) (ring : Ring) (engine : Engine) (memory : 
 -- A data step leaves them as they are: the oldest frame of the packet buffer becomes the frame in work.
 abbrev pub DataKeepsHeld : Type 0
 DataKeepsHeld =
-    (control : ℕ) (ring : Ring) (engine : Engine) (memory : List ℕ) (answer : Data)
+    (control : ℕ) (ring : Ring) (engine : Receiver) (memory : List ℕ) (answer : Data)
     → (IsMoved answer → MovesApart control ring engine memory)
     → held (memory_after_data answer ring engine memory) (engine_after_data answer ring engine) ≡ held memory engine
 
@@ -54,7 +54,7 @@ pub record FinishesFirst (before after : List (List ℕ)) (memory : List ℕ) (d
 -- A done step takes the first, the frame in work, which then stands finished at its descriptor, wherever it is apart from that.
 abbrev pub DoneTakesFirst : Type 0
 DoneTakesFirst =
-    (engine : Engine) (memory : List ℕ) → IsEngine engine
+    (engine : Receiver) (memory : List ℕ) → IsReceiver engine
     → ForSome engine.work (λ work. LiesIn memory work.descriptor 16 → StandsApart memory work.descriptor work.length
     → FinishesFirst (held memory engine) (held (memory_after_done engine.work memory) (engine_after_done engine))
     (memory_after_done engine.work memory) work.descriptor)
@@ -67,7 +67,7 @@ pub record IsAwayFromWork (memory : List ℕ) (area : Area) (work : Work) : Type
 -- Bytes written apart from the frame in work and its descriptor leave the frames.
 abbrev pub OtherBytesLeaveHeld : Type 0
 OtherBytesLeaveHeld =
-    (memory : List ℕ) (engine : Engine) (place : ℕ) (bytes : List ℕ)
+    (memory : List ℕ) (engine : Receiver) (place : ℕ) (bytes : List ℕ)
     → LiesIn memory place (length bytes) → ForSome engine.work (IsAwayFromWork memory (area_at place (length bytes)))
     → held (with_bytes memory place bytes) engine ≡ held memory engine
 

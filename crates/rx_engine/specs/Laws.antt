@@ -12,7 +12,7 @@ use Rattle.descriptors.specs.declared.rx_desc.RxDesc.{RxDesc}
 use Rattle.descriptors.specs.RxDesc.{rx_desc_of}
 use Rattle.descriptors.specs.RxStatus.{status_bits, status_of}
 use Rattle.rx_engine.specs.Descriptors.{descriptor_at, named_address}
-use Rattle.rx_engine.specs.Engine.{oldest}
+use Rattle.rx_engine.specs.Receiver.{oldest}
 use Rattle.rx_engine.specs.Finishing.{finished_bytes, memory_after_done, StandsApart, IsFinished}
 use Rattle.rx_engine.specs.Held.{frame_of_work, in_work, IsAwayFromWork, DataKeepsHeld, DoneTakesFirst, FinishedStays, OtherBytesLeaveHeld}
 use Rattle.rx_engine.specs.declared.data.Data.TheVariants.{Nothing, Moved, Fault}

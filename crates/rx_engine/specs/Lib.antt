@@ -1,8 +1,8 @@
 pub mod Arriving
 pub mod Descriptors
-pub mod Engine
 pub mod Finishing
 pub mod Held
 pub mod Inside
 pub mod Laws
 pub mod Moving
+pub mod Receiver

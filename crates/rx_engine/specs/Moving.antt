@@ -1,17 +1,17 @@
 -- The data step of the receive engine ("3.2.6 Receive Descriptor Queue Structure"; that it can fault is own).
-use Rattle.std.specs.Prelude.{◌≡◌, ◌≢◌, ◌==◌, ◌≤◌, ◌*◌, ⊤, ℕ, List, length, drop, Bool, true, Some}
+use Rattle.std.specs.Prelude.{◌≢◌, ◌==◌, ◌≤◌, ◌*◌, ⊤, ℕ, List, length, drop, Bool, true, Some}
 use Rattle.registers.specs.Bits.{HasBit, field}
 use Rattle.registers.specs.ReceiveControl.{buffer_size_of}
 use Rattle.dma_memory.specs.HostMemory.{with_bytes, LiesIn}
 use Rattle.descriptors.specs.declared.ring.Ring.{Ring}
 use Rattle.descriptors.specs.Ring.{IsSound, address_of, count_of, distance_of, next_of}
 use Rattle.rx_engine.specs.Descriptors.{named_address}
-use Rattle.rx_engine.specs.Engine.{Engine, IsReady, oldest}
+use Rattle.rx_engine.specs.Receiver.{Receiver, IsReady, oldest}
 use Rattle.rx_engine.specs.declared.data.Data.{Data}
 use Rattle.rx_engine.specs.declared.data.Data.TheVariants.{Nothing, Moved, Fault}
 
 -- with RCTL at this word there is a frame to move, and a descriptor for it
-pub record HasFrameToMove (control : ℕ) (ring : Ring) (engine : Engine) : Type 0 where
+pub record HasFrameToMove (control : ℕ) (ring : Ring) (engine : Receiver) : Type 0 where
   -- RCTL.EN (13.4.22)
   pub enabled : HasBit control 1
   pub ready : IsReady engine
@@ -44,7 +44,7 @@ IfMoved (Moved low) fact = fact low
 IfMoved Fault fact = ⊤
 
 -- the engine after a step with this answer: the oldest frame is in work, or the engine is stopped
-abbrev pub engine_after_data : Data → Ring → Engine → Engine
+abbrev pub engine_after_data : Data → Ring → Receiver → Receiver
 engine_after_data Nothing ring engine = engine
 engine_after_data (Moved low) ring engine = record engine {
   buffer = drop 1 engine.buffer;
@@ -59,7 +59,7 @@ ring_after_data (Moved low) ring = record ring { head = next_of ring ring.head }
 ring_after_data Fault ring = ring
 
 -- memory: the oldest frame stands where the descriptor at the head says
-abbrev pub memory_after_data : Data → Ring → Engine → List ℕ → List ℕ
+abbrev pub memory_after_data : Data → Ring → Receiver → List ℕ → List ℕ
 memory_after_data Nothing ring engine memory = memory
 memory_after_data (Moved low) ring engine memory = with_bytes memory (named_address memory (address_of ring ring.head)) (oldest engine.buffer)
 memory_after_data Fault ring engine memory = memory

@@ -5,7 +5,7 @@ ghost use Rattle.registers.specs.Bits.{HasBit};
 ghost use Rattle.descriptors.specs.Frames.{IsLegal};
 ghost use Rattle.rx_filter.specs.Registers.{filter_of};
 ghost use Rattle.rx_filter.specs.Passing.{Passes};
-ghost use Rattle.rx_engine.specs.Engine.{IsEngine};
+ghost use Rattle.rx_engine.specs.Receiver.{IsReceiver};
 ghost use Rattle.rx_engine.specs.Arriving.{IsAccepted, after_arrival};
 
 use crate::{MOST_FRAMES, RxEngine};
@@ -42,8 +42,8 @@ pub fn arrive(engine: &mut RxEngine, control: Rctl, filter: &Filter, room: u8, f
     ensures stored { (result ≡ Fate.Stored)
         ↔ (IsAccepted control.0 filter.now frame.now × (length engine.old.buffer < room)) }
     ensures engine { engine.new ≡ after_arrival result frame.now engine.old }
-    ensures before { IsEngine engine.old }
-    ensures after { IsEngine engine.new }
+    ensures before { IsReceiver engine.old }
+    ensures after { IsReceiver engine.new }
 {
     let is_full = engine.buffered() >= room;
     if !control.is_enabled() {

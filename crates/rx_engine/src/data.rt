@@ -7,7 +7,7 @@ ghost use Rattle.descriptors.specs.Ring.{IsSound, address_of, count_of, distance
 ghost use Rattle.dma_memory.specs.Areas.{ChangesOnly, area_at};
 ghost use Rattle.dma_memory.specs.HostMemory.{LiesIn};
 ghost use Rattle.rx_engine.specs.Descriptors.{named_address};
-ghost use Rattle.rx_engine.specs.Engine.{oldest, IsEngine};
+ghost use Rattle.rx_engine.specs.Receiver.{oldest, IsReceiver};
 ghost use Rattle.rx_engine.specs.Moving.{HasFrameToMove, CanMove, engine_after_data, ring_after_data, memory_after_data, IsMoved, IfMoved, is_half_free};
 
 use crate::storing::store_within;
@@ -65,8 +65,8 @@ pub fn rx_data(
     ensures memory { memory.new ≡ memory_after_data result ring.old engine.old memory.old }
     ensures only { ChangesOnly memory.old memory.new
         (area_at (named_address memory.old (address_of ring.old ring.old.head)) (length (oldest engine.old.buffer))) }
-    ensures before { IsEngine engine.old }
-    ensures after { IsEngine engine.new }
+    ensures before { IsReceiver engine.old }
+    ensures after { IsReceiver engine.new }
 {
     let Some(frame) = engine.next_frame() else {
         return Data::Nothing;

@@ -4,7 +4,7 @@ ghost use Rattle.std.specs.Prelude.{◌≡◌, ◌+◌, ◌↔◌, None, IfSome}
 ghost use Rattle.dma_memory.specs.Areas.{ChangesOnly, area_at};
 ghost use Rattle.dma_memory.specs.HostMemory.{LiesIn, bytes_at, with_bytes};
 ghost use Rattle.rx_engine.specs.Descriptors.{named_address};
-ghost use Rattle.rx_engine.specs.Engine.{IsEngine};
+ghost use Rattle.rx_engine.specs.Receiver.{IsReceiver};
 ghost use Rattle.rx_engine.specs.Finishing.{engine_after_done, finished_bytes, memory_after_done, StandsApart, IsFinished};
 
 use crate::RxEngine;
@@ -39,8 +39,8 @@ pub fn rx_done(engine: &mut RxEngine, memory: &mut HostMemory) -> Done
         → IsFinished memory.new work.descriptor
         (bytes_at memory.old (named_address memory.old work.descriptor) work.length)) }
     ensures only { IfSome engine.old.work (λ work. ChangesOnly memory.old memory.new (area_at (work.descriptor + 8) 8)) }
-    ensures before { IsEngine engine.old }
-    ensures after { IsEngine engine.new }
+    ensures before { IsReceiver engine.old }
+    ensures after { IsReceiver engine.new }
 {
     let Some(&work) = engine.work() else {
         return Done::Nothing;

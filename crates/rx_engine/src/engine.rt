@@ -28,19 +28,19 @@ pub struct RxEngine {
 }
 
 impl Model for RxEngine {
-    ghost use Rattle.rx_engine.specs.Engine.{Engine};
+    ghost use Rattle.rx_engine.specs.Receiver.{Receiver};
 
-    ghost Value = { Engine };
+    ghost Value = { Receiver };
 
-    ghost use Rattle.rx_engine.specs.Inside.{engine_of, IsSound};
+    ghost use Rattle.rx_engine.specs.Inside.{receiver_of, IsSound};
 
-    ghost view = { engine_of };
+    ghost view = { receiver_of };
 
     ghost invariant = { IsSound };
 }
 
 impl RxEngine {
-    ghost use Rattle.rx_engine.specs.Engine.{idle_engine, IsEngine, IsReady, oldest};
+    ghost use Rattle.rx_engine.specs.Receiver.{new_receiver, IsReceiver, IsReady, oldest};
     ghost use Rattle.descriptors.specs.Frames.{IsLegal};
 
     /// An engine that holds no frame.
@@ -49,7 +49,7 @@ impl RxEngine {
     ///
     /// Want of memory alone.
     pub fn new(alloc: Global) -> Result<RxEngine, AllocError>
-        ensures { IfOk result (λ engine. engine ≡ idle_engine) }
+        ensures { IfOk result (λ engine. engine ≡ new_receiver) }
     {
         Ok(RxEngine {
             buffer: FrameQueue::new(alloc, MOST_FRAMES)?,
@@ -61,7 +61,7 @@ impl RxEngine {
     /// Empties the packet buffer, drops the frame in work and starts a stopped engine again, as a reset by CTRL.RST does
     /// ("13.4.1 Device Control Register").
     pub fn reset(&mut self)
-        ensures { self.new ≡ idle_engine }
+        ensures { self.new ≡ new_receiver }
     {
         self.buffer.clear();
         self.work = None;
@@ -72,7 +72,7 @@ impl RxEngine {
     pub fn buffered(&self) -> u8
         ensures count { result ≡ length self.now.buffer }
         ensures fits { result ≤ MOST_FRAMES }
-        ensures sound { IsEngine self.now }
+        ensures sound { IsReceiver self.now }
     {
         self.buffer.len()
     }
@@ -80,7 +80,7 @@ impl RxEngine {
     /// The frame in work, if there is one.
     pub fn work(&self) -> Option<&Work>
         ensures work { option_copied result ≡ self.now.work }
-        ensures sound { IsEngine self.now }
+        ensures sound { IsReceiver self.now }
     {
         self.work.as_ref()
     }
@@ -90,7 +90,7 @@ impl RxEngine {
         requires room { length self.old.buffer < MOST_FRAMES }
         requires legal { IsLegal frame.now }
         ensures stored { self.new ≡ record self.old { buffer = self.old.buffer ++ frame.now ∷ [] } }
-        ensures sound { IsEngine self.new }
+        ensures sound { IsReceiver self.new }
     {
         self.buffer.push(frame);
     }
@@ -100,7 +100,7 @@ impl RxEngine {
         ensures ready { IsSome result ↔ IsReady self.now }
         ensures oldest { IfSome result (λ frame. frame.now ≡ oldest self.now.buffer) }
         ensures legal { IfSome result (λ frame. IsLegal frame.now) }
-        ensures sound { IsEngine self.now }
+        ensures sound { IsReceiver self.now }
     {
         if self.stopped || self.work.is_some() {
             return None;
@@ -113,7 +113,7 @@ impl RxEngine {
         requires least { 60 ≤ work.length }
         requires most { work.length ≤ 1518 }
         ensures begun { self.new ≡ record self.old { buffer = drop 1 self.old.buffer; work = Some work } }
-        ensures sound { IsEngine self.new }
+        ensures sound { IsReceiver self.new }
     {
         self.buffer.pop();
         self.work = Some(work);
@@ -122,7 +122,7 @@ impl RxEngine {
     /// No frame is in work any more.
     pub(crate) fn end(&mut self)
         ensures ended { self.new ≡ record self.old { work = None } }
-        ensures sound { IsEngine self.new }
+        ensures sound { IsReceiver self.new }
     {
         self.work = None;
     }
@@ -130,7 +130,7 @@ impl RxEngine {
     /// A fault stops the engine.
     pub(crate) fn stop(&mut self)
         ensures stopped { self.new ≡ record self.old { stopped = true } }
-        ensures sound { IsEngine self.new }
+        ensures sound { IsReceiver self.new }
     {
         self.stopped = true;
     }

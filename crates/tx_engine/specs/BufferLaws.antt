@@ -1,5 +1,5 @@
 -- Frames and what their descriptors ask for, side by side.
-use Rattle.std.proofs.Common.{◌≡◌, ◌-◌, ◌<◌, not, length-append, ◌++◌, ◌∷◌, [], ℕ, List, length, drop, slice_get, Some, ◌↔◌, refl, ap, ◌∙◌, arith}
+use Rattle.std.proofs.Common.{◌≡◌, ◌<◌, not, length-append, ◌++◌, ◌∷◌, [], ℕ, List, length, slice_get, Some, ◌↔◌, refl, ap, ◌∙◌, arith}
 use Rattle.circular_buffer.specs.Buffer.{Buffer, buffer, keep_last}
 use Rattle.frame_queue.specs.Laws.{keep_last-room}
 use Rattle.frame_queue.specs.Frames.{Frames}

@@ -17,5 +17,5 @@ pub record Transmitter : Type 0 where
   pub stopped : Bool
 
 -- An engine with nothing to put, which isn't stopped.
-abbrev pub idle : Transmitter
-idle = record { buffer = []; stopped = false }
+abbrev pub new_transmitter : Transmitter
+new_transmitter = record { buffer = []; stopped = false }

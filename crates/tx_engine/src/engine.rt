@@ -1,5 +1,5 @@
 ghost use Rattle.std.specs.Prelude.{◌≡◌, ◌+◌, ◌-◌, ◌<◌, ◌≤◌, ◌^◌, ◌↔◌, ◌++◌, ◌∷◌, [], drop, length, map, replicate, slice_get, true, false, IsTrue, IsNone, IfSome, IfOk};
-ghost use Rattle.tx_engine.specs.Transmitter.{Queued, idle};
+ghost use Rattle.tx_engine.specs.Transmitter.{Queued, new_transmitter};
 ghost use Rattle.tx_engine.specs.Steps.{IfFront};
 
 use crate::fetching::Named;
@@ -43,7 +43,7 @@ impl TxEngine {
     ///
     /// Want of memory alone.
     pub fn new(alloc: Global) -> Result<TxEngine, AllocError>
-        ensures { IfOk result (λ engine. engine ≡ idle) }
+        ensures { IfOk result (λ engine. engine ≡ new_transmitter) }
     {
         Ok(TxEngine {
             frames: FrameQueue::new(alloc, PACKET_BUFFER_FRAMES)?,
@@ -54,7 +54,7 @@ impl TxEngine {
 
     /// A reset: empties the buffer and restarts a stopped engine.
     pub fn reset(&mut self)
-        ensures { self.new ≡ idle }
+        ensures { self.new ≡ new_transmitter }
     {
         self.frames.clear();
         self.reports.clear();

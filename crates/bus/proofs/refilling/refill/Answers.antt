@@ -12,3 +12,6 @@ returns-clause-refilled g c honest =
     c.to_bytes.ensures
     ∙ ap (λ (bits : ℕ). rx_desc_bytes (record { address = c.args.buffer; length = 0; checksum = 0; status = status_of bits; errors = 0; special = 0 })) (c.empty.ensures tt) in
     refilled-by g.B.Bus.world g.B.Bus.happened g.B.Bus.lively g.met.B.Bus.joins c.args.bus.now c.store.new.self c.write.new.self slots.base slots.count slots.tail c.args.buffer c.address.result c.next.result c.to_bytes.result c.requires.slot c.ranges.buffer.fits c.address.ensures c.next.ensures is (c.store.ensures.acts honest) (c.write.ensures.acts (c.store.ensures.honest honest))
+
+pub returns-clause-kept : goal.returns-clause-kept
+returns-clause-kept g c = g.met.B.Bus.keeps_on c.args.bus.now c.store.new.self c.write.new.self c.store.ensures.kept c.write.ensures.kept

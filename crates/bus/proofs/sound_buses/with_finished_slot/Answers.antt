@@ -1,4 +1,4 @@
-use Rattle.std.proofs.Common.{◌≡◌, ap, sym, subst, arith}
+use Rattle.std.proofs.Common.{◌≡◌, ap, sym, subst}
 use Rattle.adapter.specs.declared.step.StepKind.TheVariants.{RxDone}
 use Rattle.bus.specs.Examples.{HasFinished}
 use Rattle.bus.specs.Law.{Sound}

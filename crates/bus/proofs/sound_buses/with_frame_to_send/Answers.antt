@@ -1,4 +1,4 @@
-use Rattle.std.proofs.Common.{◌≡◌, ◌≤◌, ℕ, ap, ◌∙◌, sym, subst, arith}
+use Rattle.std.proofs.Common.{◌≡◌, ℕ, ap, ◌∙◌, sym, subst, arith}
 use Rattle.bus.specs.Examples.{HasFramesInRing}
 use Rattle.bus.specs.Law.{Sound}
 use Rattle.bus.specs.Solo.{SoloState}

@@ -1,4 +1,4 @@
-use Rattle.std.proofs.Common.{◌≡◌, ◌≤◌, ap, sym, subst, arith}
+use Rattle.std.proofs.Common.{◌≡◌, ap, sym, subst, arith}
 use Rattle.adapter.specs.declared.step.StepKind.TheVariants.{RxData}
 use Rattle.bus.specs.Examples.{HasWork}
 use Rattle.bus.specs.Law.{Sound}

@@ -4,7 +4,7 @@ use Rattle.std.specs.Option.{ForSome}
 use Rattle.descriptors.specs.Frames.{IsLegal}
 use Rattle.rx_engine.specs.declared.engine.Work.{Work}
 
-pub record Engine : Type 0 where
+pub record Receiver : Type 0 where
   -- the receive packet buffer: the frames in it, oldest first
   pub buffer : List (List ℕ)
   -- the frame in work: it stands in memory, its descriptor isn't written back yet
@@ -13,8 +13,8 @@ pub record Engine : Type 0 where
   pub stopped : Bool
 
 -- an engine that holds no frame and runs
-abbrev pub idle_engine : Engine
-idle_engine = record { buffer = []; work = None; stopped = false }
+abbrev pub new_receiver : Receiver
+new_receiver = record { buffer = []; work = None; stopped = false }
 
 -- the oldest frame of a packet buffer that isn't empty
 abbrev pub oldest : List (List ℕ) → List ℕ
@@ -22,13 +22,13 @@ oldest [] = []
 oldest (frame ∷ frames) = frame
 
 -- the engine could begin with its oldest frame
-pub record IsReady (engine : Engine) : Type 0 where
+pub record IsReady (engine : Receiver) : Type 0 where
   pub running : engine.stopped ≡ false
   pub free : engine.work ≡ None
   pub frames : engine.buffer ≢ []
 
 -- what every engine keeps, whatever its steps: at most 24 frames wait, and each frame that it holds has a legal length
-pub record IsEngine (engine : Engine) : Type 0 where
+pub record IsReceiver (engine : Receiver) : Type 0 where
   pub room : length engine.buffer ≤ 24
   pub frames : All IsLegal engine.buffer
   pub least : ForSome engine.work (λ work. 60 ≤ work.length)
