@@ -1,8 +1,8 @@
 -- From one world to another, by what happens or by a driver's store to memory of its own: what a driver rests on.
-use Rattle.std.proofs.Common.{◌≡◌, ◌≤◌, ◌<◌, ◌⊎◌, inl, inr, ⊎_elim, ◌++◌, [], ℕ, List, length, refl, sym, ap, subst, ◌∙◌, append_assoc}
+use Rattle.std.proofs.Common.{◌≡◌, ◌≤◌, ◌<◌, ◌⊎◌, inl, inr, ⊎_elim, ◌++◌, ℕ, List, length, refl, sym, ap, subst, ◌∙◌, append_assoc}
 use Rattle.std.specs.List.{All}
 use Rattle.std.proofs.lemmas.List.{append-nil}
-use Rattle.std.proofs.lemmas.List.Elements.{All-append, All-map}
+use Rattle.std.proofs.lemmas.List.Elements.{All-append}
 use Rattle.dma_memory.specs.Areas.{AreApart, Area, ChangesOnly}
 use Rattle.dma_memory.specs.AreaLaws.{changes_only_stored}
 use Rattle.dma_memory.specs.HostMemory.{LiesIn, with_bytes}
@@ -10,9 +10,8 @@ use Rattle.dma_memory.specs.Laws.{length-with_bytes}
 use Rattle.registers.specs.Bits.{field}
 use Rattle.registers.specs.ReceiveControl.{buffer_size_of}
 use Rattle.rx_filter.specs.Registers.{FilterRegisters}
-use Rattle.descriptors.specs.declared.ring.Ring.{Ring}
 use Rattle.descriptors.specs.Frames.{IsLegal}
-use Rattle.descriptors.specs.Ring.{IsSound, address_of, count_of, distance_of, owned, slots_from}
+use Rattle.descriptors.specs.Ring.{IsSound, count_of}
 use Rattle.descriptors.specs.RxDesc.{rx_desc_of}
 use Rattle.descriptors.specs.TxDesc.{tx_desc_of}
 use Rattle.descriptors.specs.declared.tx_desc.TxDesc.{TxDesc}
@@ -22,8 +21,8 @@ use Rattle.rx_engine.specs.Descriptors.{named_address}
 use Rattle.bus.specs.Frames.{buffer_of, data_of, frames_held, frames_to_send, ring_area}
 use Rattle.bus.specs.Law.{Happens, Sound}
 use Rattle.bus.specs.OwnStores.{IsOwn}
-use Rattle.bus.specs.Own.{KeepsAllButStatus}
 use Rattle.bus.specs.Past.{Past, joined, nothing}
+use Rattle.bus.specs.Running.{GoOn}
 use Rattle.bus.specs.Slots.{outstanding}
 use Rattle.bus.specs.Spare.{AreasStayApart, FramesFit, IsSpare}
 use Rattle.bus.specs.World.{World, receive_ring, transmit_ring, world_after_store}
@@ -31,11 +30,11 @@ use Rattle.bus.proofs.Kept.{IsSame, same-apart}
 use Rattle.bus.proofs.Lists.{all-none, all-weaker}
 use Rattle.bus.proofs.Own.{drivers_keep_their_own}
 use Rattle.bus.proofs.OwnStores.{own_stores_leave_frames}
-use Rattle.bus.proofs.Rings.{slots-below}
+use Rattle.bus.proofs.Rings.{each-outstanding}
 use Rattle.bus.proofs.Spare.{spare-apart, spare-foreign}
 
--- The slots that the driver has given out keep what they name, frames are those of before with what came and went, and registers stay but
--- the heads.
+-- The slots that the driver has given out keep what they name, frames are those of before with what came and went, registers stay but the
+-- heads, and engines that can run go on.
 pub record Carries (o p : ℕ) (a b : World) (past : Past) : Type 0 where
   pub sound : Sound o p b
   pub sends : past.put ++ frames_to_send b ≡ frames_to_send a
@@ -50,6 +49,7 @@ pub record Carries (o p : ℕ) (a b : World) (past : Past) : Type 0 where
   pub control : b.adapter.transmit_control ≡ a.adapter.transmit_control
   pub addresses : All (λ d. named_address b.memory d ≡ named_address a.memory d) (outstanding (receive_ring a) o)
   pub sources : All (λ d. data_of b.memory d ≡ data_of a.memory d) (outstanding (transmit_ring a) p)
+  pub runs : GoOn a b
 
 -- Rings that are the same but for their heads.
 
@@ -100,29 +100,16 @@ carries_trans o p a b c first later one two = record {
   sources =
       all-trans (data_of a.memory) (data_of b.memory) (data_of c.memory) (outstanding (transmit_ring a) p) (outstanding (transmit_ring b) p)
       (same_outstanding a.adapter.transmit_ring b.adapter.transmit_ring p one.transmits) one.sources two.sources;
+  runs = λ can. two.runs (one.runs can);
 }
 
 -- What happens.
-
--- the outstanding slots are slots of the ring
-pub outstanding-slots : (ring : Ring) (oldest : ℕ) → (oldest < count_of ring) ⊎ (outstanding ring oldest ≡ []) → All (λ d. (slot : ℕ) × (slot < count_of ring) × (d ≡ address_of ring slot)) (outstanding ring oldest)
-unfolding owned
-outstanding-slots ring oldest (inr none) = rw none (all-none (λ d. (slot : ℕ) × (slot < count_of ring) × (d ≡ address_of ring slot)))
-outstanding-slots ring oldest (inl below) =
-    let n = count_of ring in
-    let k = distance_of ring oldest ring.tail in
-    All-map (λ d. (slot : ℕ) × (slot < count_of ring) × (d ≡ address_of ring slot)) (address_of ring) (slots_from n oldest k)
-    (λ i d within. (_, slots-below n oldest k below i d within, refl))
 
 pub carried-by_happening : (o p : ℕ) (a b : World) (past : Past) → Sound o p a → Happens a b past → Carries o p a b past
 carried-by_happening o p a b past sound happens =
     let between = happens.between o p sound in
     let steady = happens.steady in
     let own = drivers_keep_their_own o p a b past sound happens in
-    let R = receive_ring a in
-    let T = transmit_ring a in
-    let received = outstanding-slots R o sound.receive_slots.slot in
-    let sent = outstanding-slots T p sound.transmit_slots.slot in
     record {
       sound = between.sound;
       sends = between.sends;
@@ -135,24 +122,19 @@ carried-by_happening o p a b past sound happens =
       transmit_head = steady.transmit_head;
       filter = steady.filter;
       control = steady.transmit_control;
-      addresses = λ k d below. address-at _ (received k d below) own.addresses;
-      sources = λ k d below. data-at _ (sent k d below) own.requests;
+      addresses = each-outstanding (receive_ring a) o (λ d. named_address b.memory d ≡ named_address a.memory d) sound.receive_slots.slot own.addresses;
+      sources =
+          each-outstanding (transmit_ring a) p (λ d. data_of b.memory d ≡ data_of a.memory d) sound.transmit_slots.slot
+          (λ slot below. ap (λ (desc : TxDesc). let area : Area = record { address = desc.address; size = desc.length } in area) (own.requests slot below).fields);
+      runs = between.runs;
     }
-  where
-    address-at : (d : ℕ) → (slot : ℕ) × (slot < count_of (receive_ring a)) × (d ≡ address_of (receive_ring a) slot) → ((slot : ℕ) → slot < count_of (receive_ring a) → named_address b.memory (address_of (receive_ring a) slot) ≡ named_address a.memory (address_of (receive_ring a) slot)) → named_address b.memory d ≡ named_address a.memory d
-    address-at d place stay = subst (λ (e : ℕ). named_address b.memory e ≡ named_address a.memory e) (sym place.2) (stay place.0 place.1)
-
-    data-at : (d : ℕ) → (slot : ℕ) × (slot < count_of (transmit_ring a)) × (d ≡ address_of (transmit_ring a) slot) → ((slot : ℕ) → slot < count_of (transmit_ring a) → KeepsAllButStatus a b (address_of (transmit_ring a) slot)) → data_of b.memory d ≡ data_of a.memory d
-    data-at d place stay =
-        let fields = (stay place.0 place.1).fields in
-        subst (λ (e : ℕ). data_of b.memory e ≡ data_of a.memory e) (sym place.2)
-        (ap (λ (desc : TxDesc). let area : Area = record { address = desc.address; size = desc.length } in area) fields)
 
 -- A driver's store to memory of its own.
 
 pub carried-by_store : (o p : ℕ) (a : World) (address : ℕ) (bytes : List ℕ) → Sound o p a → LiesIn a.memory address (length bytes) → IsOwn o p a (record { address = address; size = length bytes }) → Carries o p a (world_after_store address bytes a) nothing
 carried-by_store o p a address bytes sound lies own =
-    let same = (own_stores_leave_frames o p a address bytes sound lies own).same in
+    let leaves = own_stores_leave_frames o p a address bytes sound lies own in
+    let same = leaves.same in
     let memory' = with_bytes a.memory address bytes in
     let area : Area = record { address = address; size = length bytes } in
     let size : length memory' ≡ length a.memory = length-with_bytes a.memory bytes address lies in
@@ -173,6 +155,7 @@ carried-by_store o p a address bytes sound lies own =
       control = refl;
       addresses = λ k d below. ap (λ (list : List ℕ). (rx_desc_of list).address) (received k d below);
       sources = λ k d below. ap (λ (list : List ℕ). let place : Area = record { address = (tx_desc_of list).address; size = (tx_desc_of list).length } in place) (sent k d below);
+      runs = leaves.runs;
     }
 
 -- What a driver rests on.

@@ -1,5 +1,5 @@
 -- A look at the oldest receive slot finds the first of the frames held.
-use Rattle.std.proofs.Common.{◌≡◌, ◌≢◌, ◌≤◌, ◌<◌, ◌⊎◌, ⊎_elim, ◌+◌, ◌-◌, ◌/◌, ◌%◌, ◌^◌, ◌++◌, ◌∷◌, [], Bool, true, false, ℕ, List, Some, None, length, map, slice_index, cond, refl, sym, ap, subst, ◌∙◌, arith}
+use Rattle.std.proofs.Common.{◌≡◌, ◌≢◌, ◌≤◌, ◌<◌, ◌⊎◌, ⊎_elim, ◌+◌, ◌-◌, ◌/◌, ◌%◌, ◌^◌, ◌++◌, ◌∷◌, [], Bool, true, false, ℕ, List, Some, None, length, slice_index, cond, sym, ap, subst, ◌∙◌, arith}
 use Rattle.std.specs.List.{All, take_while}
 use Rattle.std.proofs.lemmas.Bool.{eq-eqb, ne_eqb}
 use Rattle.std.proofs.lemmas.List.{take_at}
@@ -12,16 +12,17 @@ use Rattle.descriptors.specs.declared.rx_desc.RxDesc.{RxDesc}
 use Rattle.adapter.specs.Rings.{ring_of}
 use Rattle.adapter.specs.declared.ring.RingRegisters.{RingRegisters}
 use Rattle.rx_engine.specs.Descriptors.{descriptor_at}
-use Rattle.bus.specs.Frames.{IsForeign, data_of, finished, frame_areas, frames_held, named, offered_buffers, ring_area, work_areas}
+use Rattle.bus.specs.Frames.{IsForeign, finished, frames_held, named}
 use Rattle.bus.specs.Law.{Acts, AreWhole, Happens, IsWhole, Sound}
 use Rattle.bus.specs.FirstFrame.{IsFirstHeld, Looked, StandsFirst}
 use Rattle.bus.specs.Past.{Loads, Past, joined}
-use Rattle.bus.specs.Slots.{is_done, offered, outstanding}
+use Rattle.bus.specs.Slots.{is_done, outstanding}
 use Rattle.bus.specs.TakingSlots.{next_received}
-use Rattle.bus.specs.World.{World, receive_ring, transmit_ring}
+use Rattle.bus.specs.World.{World, receive_ring}
 use Rattle.bus.proofs.Composing.{happens_trans}
+use Rattle.bus.proofs.EachArea.{of-areas}
 use Rattle.bus.proofs.Kept.{named-same}
-use Rattle.bus.proofs.Lists.{all-head, all-left, all-right, all-tail}
+use Rattle.bus.proofs.Lists.{all-head, append-empty}
 use Rattle.bus.proofs.Own.{foreign-finished}
 use Rattle.bus.proofs.TakingSlots.{finished_slots_can_be_taken}
 
@@ -62,10 +63,6 @@ front-of w0 w1 p1 o d one first = record {
       ∙ take_while-cons (is_done w1.memory) d first.later;
 }
 
-front-empty : (xs ys : List ℕ) → xs ++ ys ≡ [] → xs ≡ []
-front-empty [] ys none = refl
-front-empty (x ∷ xs) ys none = cc
-
 even-clear : (value : ℕ) → value % 2 ≡ 0 → is_set value 0 ≡ false
 even-clear value even = ne_eqb (value / 2 ^ 0 % 2) 1 (λ one. absurd (omega (arith, even, one)))
 
@@ -76,7 +73,7 @@ none_clear w0 w1 p1 o p d bytes one sound first read even =
     let front = front-of w0 w1 p1 o d one first in
     let clear : is_done w1.memory d ≡ false = ap (λ (list : List ℕ). is_set (slice_index list 12) 0) (sym read) ∙ even-clear (slice_index bytes 12) even in
     let empty : finished o w1 ≡ [] = front.slots ∙ ap (λ (test : Bool). cond test (d ∷ take_while (is_done w1.memory) front.later) []) clear in
-    front-empty (finished o w0) b1.more (sym b1.done ∙ empty)
+    (append-empty (finished o w0) b1.more (sym b1.done ∙ empty)).0
 
 -- A whole slot fits.
 fits_whole : (w0 w1 : World) (p1 : Past) (o p d size : ℕ) (desc : RxDesc) (bytes : List ℕ) → Happens w0 w1 p1 → Sound o p w0 → StandsFirst d o w0 → AreWhole w0.memory (finished o w0) → bytes ≡ bytes_at w1.memory d 16 → slice_index bytes 12 % 2 ≢ 0 → desc ≡ rx_desc_of bytes → length w1.memory ≡ size → (desc.length ≤ 1518) × (desc.address + desc.length ≤ size)
@@ -86,13 +83,9 @@ fits_whole w0 w1 p1 o p d size desc bytes one sound first whole read odd is long
     let done : is_done w1.memory d ≡ true = ap (λ (list : List ℕ). is_set (slice_index list 12) 0) (sym read) ∙ odd-set (slice_index bytes 12) odd in
     let behind = take_while (is_done w1.memory) front.later in
     let list : finished o w1 ≡ d ∷ behind = front.slots ∙ ap (λ (test : Bool). cond test (d ∷ behind) []) done in
-    let payload = map (data_of w1.memory) (offered (transmit_ring w1)) in
-    let names = map (named w1.memory) (finished o w1) in
-    let rest = work_areas w1.memory w1.adapter.receiver.work ++ offered_buffers w1 in
     let Lies : Area → Type 0 = λ area. LiesIn w1.memory area.address area.size in
-    let lie = all-tail Lies (ring_area (transmit_ring w1)) (frame_areas o w1) (all-tail Lies (ring_area (receive_ring w1)) (ring_area (transmit_ring w1) ∷ frame_areas o w1) b1.sound.separate.lie) in
-    let lie_names = all-left Lies names rest (all-right Lies payload (names ++ rest) lie) in
-    let lies : Lies (named w1.memory d) = all-head Lies (named w1.memory d) (map (named w1.memory) behind) (subst (λ (slots : List ℕ). All Lies (map (named w1.memory) slots)) list lie_names) in
+    let Stands : ℕ → Type 0 = λ slot. Lies (named w1.memory slot) in
+    let lies : Lies (named w1.memory d) = all-head Stands d behind (subst (λ (slots : List ℕ). All Stands slots) list (of-areas Lies o w1 b1.sound.separate.lie).names) in
     let good : IsWhole (descriptor_at w1.memory d) = all-head (λ slot. IsWhole (descriptor_at w1.memory slot)) d behind (subst (λ (slots : List ℕ). AreWhole w1.memory slots) list (b1.whole whole)) in
     let same : descriptor_at w1.memory d ≡ desc = ap rx_desc_of (sym read) ∙ sym is in
     let lies_at : LiesIn w1.memory desc.address desc.length = subst (λ (e : RxDesc). LiesIn w1.memory e.address e.length) same lies in

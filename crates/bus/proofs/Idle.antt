@@ -24,7 +24,7 @@ use Rattle.bus.specs.Idle.{HappeningsKeepIdle, IdleAfterPowerOn, IdleAfterReset,
 use Rattle.bus.specs.Law.{Reports, Sound}
 use Rattle.bus.specs.Slots.{IsDealt, done_slots, is_done, offered, outstanding}
 use Rattle.bus.specs.World.{World, receive_ring, transmit_ring, world_after_write}
-use Rattle.bus.proofs.Lists.{all-head, all-left, all-none, all-weaker, pairs-head, pairs-none}
+use Rattle.bus.proofs.Lists.{all-head, all-left, all-none, all-weaker, append-empty, map-empty, pairs-head, pairs-none}
 use Rattle.bus.proofs.Putting.{areas-same}
 use Rattle.bus.proofs.Rings.{offered-head}
 
@@ -111,14 +111,6 @@ idle_after_reset world = record {
 }
 
 -- What happens leaves them idle.
-
-pub append-empty : {X : Type 0} (xs ys : List X) → xs ++ ys ≡ [] → (xs ≡ []) × (ys ≡ [])
-append-empty [] ys none = (refl, none)
-append-empty (x ∷ xs) ys none = absurd (cc)
-
-pub map-empty : {X Y : Type 0} (f : X → Y) (xs : List X) → map f xs ≡ [] → xs ≡ []
-map-empty f [] none = refl
-map-empty f (x ∷ xs) none = absurd (cc)
 
 work-empty : (work : Option Work) → slot_of_work work ≡ [] → work ≡ None
 work-empty None none = refl

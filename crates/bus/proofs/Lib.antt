@@ -2,6 +2,7 @@ pub mod Composing
 pub mod Lists
 pub mod Areas
 pub mod Rings
+pub mod EachArea
 pub mod Kept
 pub mod Engines
 pub mod Running

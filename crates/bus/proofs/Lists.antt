@@ -50,6 +50,16 @@ map-same f g (x ∷ xs) same =
     let rest : map f xs ≡ map g xs = map-same f g xs (all-tail (λ y. f y ≡ g y) x xs same) in
     rw (first, rest) refl
 
+-- Empty lists.
+
+pub append-empty : {X : Type 0} (xs ys : List X) → xs ++ ys ≡ [] → (xs ≡ []) × (ys ≡ [])
+append-empty [] ys none = (refl, none)
+append-empty (x ∷ xs) ys none = absurd (cc)
+
+pub map-empty : {X Y : Type 0} (f : X → Y) (xs : List X) → map f xs ≡ [] → xs ≡ []
+map-empty f [] none = refl
+map-empty f (x ∷ xs) none = absurd (cc)
+
 -- Each pair.
 
 pub pairs-none : {X : Type 0} (R : X → X → Type 0) → AllPairs R []

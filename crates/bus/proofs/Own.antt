@@ -27,7 +27,7 @@ use Rattle.bus.specs.Slots.{offered, outstanding}
 use Rattle.bus.specs.World.{World, receive_ring, transmit_ring}
 use Rattle.bus.proofs.Kept.{named-same}
 use Rattle.bus.proofs.Lists.{all-head, all-left, all-none, all-right, all-tail, all-unmapped, map-same, pairs-head, pairs-right, pairs-tail}
-use Rattle.bus.proofs.Rings.{dealt-left, dealt-right, outstanding-apart, outstanding-inside}
+use Rattle.bus.proofs.Rings.{dealt-left, dealt-right, outstanding-apart, outstanding-inside, slot-inside}
 
 -- Each of the elements in front with each of those behind.
 pairs-across : {X : Type 0} (R : X → X → Type 0) (xs ys : List X) → AllPairs R (xs ++ ys) → All (λ x. All (R x) ys) xs
@@ -48,6 +48,13 @@ half-inside r d inside = record { from = omega (arith, inside.from); to = omega 
 
 byte-inside : (t : Area) (d : ℕ) → IsInside (descriptor_area d) t → IsInside (status_byte d) t
 byte-inside t d inside = record { from = omega (arith, inside.from); to = omega (arith, inside.to) }
+
+-- What is apart from a descriptor is apart from what is reported in it.
+pub half-apart : (x y : ℕ) → AreApart (descriptor_area x) (descriptor_area y) → AreApart (descriptor_area x) (reported_half y)
+half-apart x y apart = inside-apart (descriptor_area x) (reported_half y) (descriptor_area y) (half-inside (descriptor_area y) y (record { from = omega arith; to = omega arith })) apart
+
+pub byte-apart : (x y : ℕ) → AreApart (descriptor_area x) (descriptor_area y) → AreApart (descriptor_area x) (status_byte y)
+byte-apart x y apart = inside-apart (descriptor_area x) (status_byte y) (descriptor_area y) (byte-inside (descriptor_area y) y (record { from = omega arith; to = omega arith })) apart
 
 pub parts-of : (o p : ℕ) (a : World) → Sound o p a → Parts o a
 parts-of o p a sound =
@@ -100,10 +107,6 @@ foreign-finished o p a sound =
     subst (λ (list : List ℕ). All (λ d. IsInside (descriptor_area d) (ring_area ring)) list) slots.classes (outstanding-inside ring o slots.slot) in
     let inside = all-left (λ d. IsInside (descriptor_area d) (ring_area ring)) (finished o a) behind whole in
     λ k d below. foreign-in_ring o p a _ sound (inside k d below) (λ j e within. half-apart _ _ (across k d below j e within))
-  where
-    half-apart : (x y : ℕ) → AreApart (descriptor_area x) (descriptor_area y) → AreApart (descriptor_area x) (reported_half y)
-    half-apart x y (inl before) = inl (omega (arith, before))
-    half-apart x y (inr after) = inr (omega (arith, after))
 
 -- The bytes that finished slots name.
 pub foreign-named : (o p : ℕ) (a : World) → Sound o p a → All (λ d. IsForeign a (named a.memory d)) (finished o a)
@@ -155,19 +158,12 @@ foreign-written o p a sound =
     let across = pairs-across R (written_back p a) behind pairs in
     let inside = dealt-left a.memory ring p (buffered a) (λ d. IsInside (descriptor_area d) (ring_area ring)) slots (outstanding-inside ring p slots.slot) in
     λ k d below. foreign-in_transmit o p a _ sound (inside k d below) (λ j e within. byte-apart _ _ (across k d below j e within))
-  where
-    byte-apart : (x y : ℕ) → AreApart (descriptor_area x) (descriptor_area y) → AreApart (descriptor_area x) (status_byte y)
-    byte-apart x y (inl before) = inl (omega (arith, before))
-    byte-apart x y (inr after) = inr (omega (arith, after))
 
 -- Slots and their addresses.
 
 -- each outstanding slot is one of the ring's
 outstanding-places : (ring : Ring) (oldest : ℕ) → All (λ d. (slot : ℕ) × (d ≡ address_of ring slot)) (outstanding ring oldest)
 outstanding-places ring oldest = All-map (λ d. (slot : ℕ) × (d ≡ address_of ring slot)) (address_of ring) (owned (record ring { head = oldest })) (λ k d below. (_, refl))
-
-slot-inside : (base n slot size : ℕ) → slot < n → size ≤ 16 → IsInside (record { address = base + 16 * slot; size = size }) (record { address = base; size = 16 * n })
-slot-inside base n slot size below fits = record { from = omega arith; to = omega (arith, below, fits) }
 
 own-apart : (base slot other : ℕ) → other ≢ slot → AreApart (record { address = base + 16 * slot; size = 16 }) (reported_half (base + 16 * other))
 own-apart base slot other differ = ⊎_elim (λ (less : other < slot). inr (omega (arith, less))) (λ (more : slot ≤ other). inl (omega (arith, more, differ))) (cases_lt other slot)

@@ -18,14 +18,14 @@ use Rattle.descriptors.specs.RxDesc.{rx_desc_of}
 use Rattle.descriptors.specs.RxStatus.{status_bits, status_of}
 use Rattle.descriptors.specs.RingLaws.{next-below}
 use Rattle.rx_engine.specs.Descriptors.{named_address}
-use Rattle.bus.specs.Frames.{areas, buffer_of, frames_held, frames_to_send}
+use Rattle.bus.specs.Frames.{areas, buffer_of, buffer_size, frames_held, frames_to_send}
 use Rattle.bus.specs.Law.{Acts, Happens, Sound}
 use Rattle.bus.specs.Offering.{CanOffer, Offered, offering}
 use Rattle.bus.specs.OwnStores.{IsOwn}
 use Rattle.bus.specs.Past.{Access, Past, Stores, Writes, joined, nothing}
 use Rattle.bus.specs.Refilling.{CanRefill, IsRefilled, KnowsRing, Refilled, empty_descriptor}
 use Rattle.bus.specs.Slots.{is_done, outstanding}
-use Rattle.bus.specs.Spare.{FramesFit, buffer_size}
+use Rattle.bus.specs.Spare.{FramesFit}
 use Rattle.bus.specs.World.{World, receive_ring, world_after_store, world_after_write}
 use Rattle.bus.proofs.Carrying.{Carries, carried-by_happening, carried-by_store, carries_trans, fit-carried, same_outstanding, spare-carried}
 use Rattle.bus.proofs.Lists.{all-none}
@@ -49,6 +49,7 @@ carries-same o p a b past other put stored carries = record {
   control = carries.control;
   addresses = carries.addresses;
   sources = carries.sources;
+  runs = carries.runs;
 }
 
 -- Something happens, and then a store to memory of the driver's own.
@@ -149,6 +150,7 @@ offered o p a b past base count tail buffer oldest_slot below room fits carries 
               sources = still.sources;
             };
       };
+      runs = λ can. done.runs (carries.runs can);
     })
 
 -- The two stretches, the store and the write.

@@ -12,7 +12,7 @@ use Rattle.descriptors.specs.Ring.{IsSound, address_of, count_of, distance_of, n
 use Rattle.descriptors.specs.RingLaws.{distance-around, distance-forward, distance-step, next-below, next-inner, next-last, owned-head}
 use Rattle.bus.specs.Frames.{ring_area}
 use Rattle.bus.specs.Slots.{IsDealt, done_slots, is_done, offered, outstanding}
-use Rattle.bus.proofs.Lists.{all-left, all-none, all-right, all-tail, all-weaker, pairs-before, pairs-behind, pairs-mapped, pairs-none, take_while-passes, take_while-same, take_while-split}
+use Rattle.bus.proofs.Lists.{all-left, all-none, all-right, all-tail, pairs-before, pairs-behind, pairs-mapped, pairs-none, take_while-passes, take_while-same, take_while-split}
 
 -- Slots by number.
 
@@ -49,20 +49,27 @@ slots-distinct n i (suc k) below fits =
 
 -- Slots by address.
 
--- The outstanding slots stand in the ring,
-pub outstanding-inside : (ring : Ring) (oldest : ℕ) → (oldest < count_of ring) ⊎ (outstanding ring oldest ≡ []) → All (λ descriptor. IsInside (descriptor_area descriptor) (ring_area ring)) (outstanding ring oldest)
+-- A fact of each slot of the ring is one of each that is outstanding.
+pub each-outstanding : (ring : Ring) (oldest : ℕ) (P : ℕ → Type 0) → (oldest < count_of ring) ⊎ (outstanding ring oldest ≡ []) → ((slot : ℕ) → slot < count_of ring → P (address_of ring slot)) → All P (outstanding ring oldest)
 unfolding owned
-outstanding-inside ring oldest (inr none) = rw none (all-none (λ descriptor. IsInside (descriptor_area descriptor) (ring_area ring)))
-outstanding-inside ring oldest (inl below) =
+each-outstanding ring oldest P (inr none) fact = rw none (all-none P)
+each-outstanding ring oldest P (inl below) fact =
     let n = count_of ring in
     let k = distance_of ring oldest ring.tail in
-    All-map (λ descriptor. IsInside (descriptor_area descriptor) (ring_area ring)) (address_of ring) (slots_from n oldest k)
-    (all-weaker (λ slot. slot < n) (λ slot. IsInside (descriptor_area (address_of ring slot)) (ring_area ring)) (slots_from n oldest k)
-    (λ slot inside. inside-ring ring.base n slot inside)
-    (slots-below n oldest k below))
-  where
-    inside-ring : (base n slot : ℕ) → slot < n → IsInside (record { address = base + 16 * slot; size = 16 }) (record { address = base; size = 16 * n })
-    inside-ring base n slot below = record { from = omega arith; to = omega (arith, below) }
+    All-map P (address_of ring) (slots_from n oldest k) (λ i d inside. fact _ (slots-below n oldest k below i d inside))
+
+-- The first bytes of a slot stand in the ring,
+pub slot-inside : (base n slot size : ℕ) → slot < n → size ≤ 16 → IsInside (record { address = base + 16 * slot; size = size }) (record { address = base; size = 16 * n })
+slot-inside base n slot size below fits = record { from = omega arith; to = omega (arith, below, fits) }
+
+-- so the outstanding slots do,
+pub outstanding-inside : (ring : Ring) (oldest : ℕ) → (oldest < count_of ring) ⊎ (outstanding ring oldest ≡ []) → All (λ descriptor. IsInside (descriptor_area descriptor) (ring_area ring)) (outstanding ring oldest)
+outstanding-inside ring oldest first =
+    each-outstanding ring oldest (λ descriptor. IsInside (descriptor_area descriptor) (ring_area ring)) first
+    (λ slot below. slot-inside ring.base (count_of ring) slot 16 below (omega arith))
+
+pub far-apart : (base a b : ℕ) → ¬ (b ≡ a) → AreApart (record { address = base + 16 * a; size = 16 }) (record { address = base + 16 * b; size = 16 })
+far-apart base a b differ = grind arith
 
 -- and apart from one another.
 pub outstanding-apart : (ring : Ring) (oldest : ℕ) → (oldest < count_of ring) ⊎ (outstanding ring oldest ≡ []) → AllPairs (λ a b. AreApart (descriptor_area a) (descriptor_area b)) (outstanding ring oldest)
@@ -74,9 +81,6 @@ outstanding-apart ring oldest (inl below) =
     let short : k < n = mod_below (ring.tail + n - oldest) n (omega (arith, below)) in
     pairs-mapped (λ a b. AreApart (descriptor_area a) (descriptor_area b)) (address_of ring) (slots_from n oldest k)
     (λ i j d before inside. far-apart ring.base _ _ (slots-distinct n oldest k below (omega (arith, short)) i j d before inside))
-  where
-    far-apart : (base a b : ℕ) → ¬ (b ≡ a) → AreApart (record { address = base + 16 * a; size = 16 }) (record { address = base + 16 * b; size = 16 })
-    far-apart base a b differ = grind arith
 
 -- Classes.
 
@@ -135,7 +139,7 @@ dealt-reported memory memory' ring oldest descriptor taken dealt others done =
     let before = pairs-before R front descriptor behind pairs in
     let after = pairs-behind R front descriptor behind pairs in
     let passes = take_while-passes (is_done memory) (outstanding ring oldest) in
-    let front_done : All (λ d. is_done memory' d ≡ true) front = λ k d below. others _ (apart-turned _ _ (before k d below)) ∙ passes k d below in
+    let front_done : All (λ d. is_done memory' d ≡ true) front = λ k d below. others _ (apart-sym _ _ (before k d below)) ∙ passes k d below in
     let all_done = All-append (λ d. is_done memory' d ≡ true) front (descriptor ∷ []) front_done (All-cons (λ d. is_done memory' d ≡ true) descriptor [] done (all-none (λ d. is_done memory' d ≡ true))) in
     let open_before = all-tail (λ d. is_done memory d ≡ false) descriptor behind dealt.not_done in
     let open_after : All (λ d. is_done memory' d ≡ false) behind = λ k d below. others _ (after k d below) ∙ open_before k d below in
@@ -150,10 +154,6 @@ dealt-reported memory memory' ring oldest descriptor taken dealt others done =
       };
       grown = grown;
     }
-  where
-    apart-turned : (a b : ℕ) → AreApart (descriptor_area a) (descriptor_area b) → AreApart (descriptor_area b) (descriptor_area a)
-    apart-turned a b (inl before) = inr before
-    apart-turned a b (inr behind) = inl behind
 
 -- The first slot that is taken is apart from all others that are outstanding.
 pub dealt-others : (memory : List ℕ) (ring : Ring) (oldest descriptor : ℕ) (taken : List ℕ) → IsDealt memory ring oldest (descriptor ∷ taken) → All (λ other. AreApart (descriptor_area descriptor) (descriptor_area other)) (done_slots memory ring oldest) × All (λ other. AreApart (descriptor_area descriptor) (descriptor_area other)) (taken ++ offered ring)

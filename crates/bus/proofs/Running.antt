@@ -1,5 +1,5 @@
 -- Engines that can run: no fault stops them, and what stays of them where memory is written or frames come and go.
-use Rattle.std.proofs.Common.{◌≡◌, ◌≢◌, ◌≤◌, inr, ◌++◌, ◌∷◌, [], Bool, true, false, cond, ℕ, List, length, drop, map, sym, ap, subst, arith}
+use Rattle.std.proofs.Common.{◌≡◌, ◌≢◌, ◌≤◌, inr, ◌∷◌, [], Bool, true, false, cond, ℕ, List, length, drop, map, sym, ap, subst, arith}
 use Rattle.std.specs.List.{All}
 use Rattle.std.proofs.lemmas.Bool.{eq-eqb}
 use Rattle.dma_memory.specs.Areas.{Area, IsInside, descriptor_area}
@@ -19,11 +19,12 @@ use Rattle.adapter.specs.declared.step.StepKind.TheVariants.{TxTake, TxPut, RxDa
 use Rattle.adapter.specs.declared.step.Stepped.{Stepped}
 use Rattle.adapter.specs.declared.step.Stepped.TheVariants.{Fault}
 use Rattle.bus.specs.Faults.{FaultsNeverCome}
-use Rattle.bus.specs.Frames.{buffer_of, buffered, data_of, finished, frame_areas, in_work, named, offered_buffers, receives, ring_area, work_areas}
+use Rattle.bus.specs.Frames.{buffer_of, buffered, in_work, receives, ring_area}
 use Rattle.bus.specs.Law.{Sound}
 use Rattle.bus.specs.Running.{CanRun, CanTransmit}
 use Rattle.bus.specs.Slots.{offered}
 use Rattle.bus.specs.World.{World, receive_ring, transmit_ring}
+use Rattle.bus.proofs.EachArea.{of-areas}
 use Rattle.bus.proofs.Kept.{IsSame}
 use Rattle.bus.proofs.Lists.{all-head, all-none, all-right, all-tail}
 use Rattle.bus.proofs.Rings.{dealt-right, offered-head, outstanding-inside}
@@ -38,7 +39,6 @@ Lies memory area = LiesIn memory area.address area.size
 pub can_take : (o p : ℕ) (a : World) → Sound o p a → CanRun a → ¬ (HasNothingToTake a.adapter) → CanTake a.memory a.adapter
 can_take o p a sound can not_idle =
     let ring = transmit_ring a in
-    let r = ring_area (receive_ring a) in
     let t = ring_area ring in
     let differ : ring.head ≢ ring.tail = λ same. not_idle (inr (inr (inr same))) in
     let in_ring = can.transmit_indices differ in
@@ -48,10 +48,10 @@ can_take o p a sound can not_idle =
     let Within : ℕ → Type 0 = λ d. IsInside (descriptor_area d) t in
     let within = all-right Within (buffered a) (offered ring) (dealt-right a.memory ring p (buffered a) Within slots (outstanding-inside ring p slots.slot)) in
     let inside = all-head Within head _ (subst (λ (list : List ℕ). All Within list) first within) in
-    let lie : LiesIn a.memory ring.base t.size = all-head (Lies a.memory) t (frame_areas o a) (all-tail (Lies a.memory) r (t ∷ frame_areas o a) sound.separate.lie) in
+    let lie = of-areas (Lies a.memory) o a sound.separate.lie in
     record {
       sound = in_ring;
-      lies = lies-inside a.memory (descriptor_area head) t inside lie;
+      lies = lies-inside a.memory (descriptor_area head) t inside lie.sent;
       transmittable = all-head (CanTransmit a.memory) head _ (subst (λ (list : List ℕ). All (CanTransmit a.memory) list) first can.transmittable);
     }
 
@@ -65,7 +65,6 @@ pub can_move : (o p : ℕ) (a : World) → Sound o p a → CanRun a → HasFrame
 can_move o p a sound can has =
     let ring = receive_ring a in
     let r = ring_area ring in
-    let t = ring_area (transmit_ring a) in
     let in_ring = can.receive_indices has.offered in
     let first = offered-head ring in_ring has.offered in
     let head = address_of ring ring.head in
@@ -74,19 +73,14 @@ can_move o p a sound can has =
     let Within : ℕ → Type 0 = λ d. IsInside (descriptor_area d) r in
     let within = all-right Within (in_work a) (offered ring) (dealt-right a.memory ring o (in_work a) Within slots (outstanding-inside ring o slots.slot)) in
     let inside = all-head Within head _ (subst (λ (list : List ℕ). All Within list) first within) in
-    let lie : LiesIn a.memory ring.base r.size = all-head (Lies a.memory) r (t ∷ frame_areas o a) sound.separate.lie in
-    let lie_frames = all-tail (Lies a.memory) t (frame_areas o a) (all-tail (Lies a.memory) r (t ∷ frame_areas o a) sound.separate.lie) in
-    let payload = map (data_of a.memory) (offered (transmit_ring a)) in
-    let names = map (named a.memory) (finished o a) in
-    let work = work_areas a.memory a.adapter.receiver.work in
-    let lie_buffers = all-right (Lies a.memory) work (offered_buffers a) (all-right (Lies a.memory) names (work ++ offered_buffers a) (all-right (Lies a.memory) payload (names ++ (work ++ offered_buffers a)) lie_frames)) in
+    let lie = of-areas (Lies a.memory) o a sound.separate.lie in
     let enabled : receives a ≡ true = eq-eqb _ _ has.enabled in
-    let on : All (Lies a.memory) (map (buffer_of a) (offered ring)) = subst (λ (set : Bool). All (Lies a.memory) (cond set (map (buffer_of a) (offered ring)) [])) enabled lie_buffers in
+    let on : All (Lies a.memory) (map (buffer_of a) (offered ring)) = subst (λ (set : Bool). All (Lies a.memory) (cond set (map (buffer_of a) (offered ring)) [])) enabled lie.buffers in
     let place : LiesIn a.memory buffer.address buffer.size = all-head (Lies a.memory) buffer _ (subst (λ (list : List ℕ). All (Lies a.memory) (map (buffer_of a) list)) first on) in
     let least = oldest-fits a.adapter.receiver.buffer can.frames in
     record {
       indices = in_ring;
-      descriptor = lies-inside a.memory (descriptor_area head) r inside lie;
+      descriptor = lies-inside a.memory (descriptor_area head) r inside lie.received;
       place = omega (arith, place, least, can.size);
       not_extended = can.not_extended;
       size = omega (arith, least, can.size);

@@ -13,7 +13,7 @@ use Rattle.descriptors.specs.Laws.{length-tx_desc_bytes, tx_desc_of-tx_desc_byte
 use Rattle.descriptors.specs.Ring.{address_of, count_of}
 use Rattle.descriptors.specs.TxDesc.{tx_desc_of}
 use Rattle.descriptors.specs.TxFields.{command_bits, command_of, sent_bits, sent_of}
-use Rattle.tx_engine.specs.Fetching.{descriptor_at, fetched, frame_at}
+use Rattle.tx_engine.specs.Fetching.{IsTransmittable, descriptor_at, fetched, frame_at}
 use Rattle.bus.specs.Frames.{areas, data_of, frame_areas, frames_to_send, ring_area}
 use Rattle.bus.specs.Law.{Acts, Happens, Sound}
 use Rattle.bus.specs.Offering.{CanSend, OfferedFrame, offering_frame}
@@ -21,6 +21,7 @@ use Rattle.bus.specs.OwnStores.{IsOwn}
 use Rattle.bus.specs.Past.{Access, Past, Stores, Writes, joined, nothing}
 use Rattle.bus.specs.Refilling.{KnowsRing}
 use Rattle.bus.specs.Sending.{CanSendBy, IsSent, Sent, whole_descriptor}
+use Rattle.bus.specs.Running.{CanTransmit}
 use Rattle.bus.specs.Slots.{is_done, outstanding}
 use Rattle.bus.specs.Spare.{FramesFit, IsSpare}
 use Rattle.bus.specs.World.{World, receive_ring, transmit_ring, world_after_store, world_after_write}
@@ -73,6 +74,7 @@ pub record Says (memory : List ℕ) (slot buffer size : ℕ) : Type 0 where
   pub report : (fetched true memory slot).report ≡ true
   pub place : data_of memory slot ≡ record { address = buffer; size = size }
   pub frame : frame_at true memory slot ≡ padded (bytes_at memory buffer size)
+  pub transmittable : 14 ≤ size → LiesIn memory buffer size → CanTransmit memory slot
 
 whole-says : (memory : List ℕ) (slot buffer size : ℕ) → buffer < 2 ^ 64 → size ≤ 1518 → bytes_at memory slot 16 ≡ whole_descriptor buffer size → Says memory slot buffer size
 whole-says memory slot buffer size fits short bytes =
@@ -84,11 +86,14 @@ whole-says memory slot buffer size fits short bytes =
       report = ap (λ (d : TxDesc). is_set (command_bits d.command) 3) desc;
       place = ap (λ (d : TxDesc). let area : Area = record { address = d.address; size = d.length } in area) desc;
       frame = ap (λ (d : TxDesc). padded (bytes_at memory d.address d.length)) desc;
+      transmittable = λ least lies.
+          subst (λ (d : TxDesc). IsTransmittable memory d) (sym desc)
+          (record { ends = refl; legacy = omega arith; least = omega (arith, least); most = short; lies = lies });
     }
 
 -- Behind the stores, where the descriptor stands and the frame, the slot can be offered.
-sent-by_tail : (o p : ℕ) (a b : World) (past : Past) (base count tail buffer : ℕ) (frame : List ℕ) → p < count → tail < count → (tail + 1) % count ≢ p → buffer < 2 ^ 64 → length frame ≤ 1518 → Carries o p a b past → KnowsRing (transmit_ring b) base count tail → FramesFit o b → HasBit b.adapter.transmit_control 3 → LiesIn b.memory buffer (length frame) → bytes_at b.memory (base + 16 * tail) 16 ≡ whole_descriptor buffer (length frame) → bytes_at b.memory buffer (length frame) ≡ frame → All (λ other. AreApart other (record { address = buffer; size = length frame })) (areas o b) → IsSent o p a (world_after_write 0x3818 ((tail + 1) % count) b) past base count tail buffer frame
-sent-by_tail o p a b past base count tail buffer frame oldest_slot below room fits short carries knows fit pads lies descriptor bytes apart =
+sent-by_tail : (o p : ℕ) (a b : World) (past : Past) (base count tail buffer : ℕ) (frame : List ℕ) → p < count → tail < count → (tail + 1) % count ≢ p → buffer < 2 ^ 64 → 14 ≤ length frame → length frame ≤ 1518 → Carries o p a b past → KnowsRing (transmit_ring b) base count tail → FramesFit o b → HasBit b.adapter.transmit_control 3 → LiesIn b.memory buffer (length frame) → bytes_at b.memory (base + 16 * tail) 16 ≡ whole_descriptor buffer (length frame) → bytes_at b.memory buffer (length frame) ≡ frame → All (λ other. AreApart other (record { address = buffer; size = length frame })) (areas o b) → IsSent o p a (world_after_write 0x3818 ((tail + 1) % count) b) past base count tail buffer frame
+sent-by_tail o p a b past base count tail buffer frame oldest_slot below room fits least short carries knows fit pads lies descriptor bytes apart =
     let ring = transmit_ring b in
     let slot = base + 16 * tail in
     let area : Area = record { address = buffer; size = length frame } in
@@ -145,6 +150,7 @@ sent-by_tail o p a b past base count tail buffer frame oldest_slot below room fi
                   (All-cons Away (address_of ring ring.tail) [] (subst (λ (given : Area). AreApart given there) (sym says.place) away) (all-none Away)));
             };
       };
+      runs = λ can. done.runs (says.transmittable least lies) (carries.runs can);
     })
 
 -- The frame stored.
@@ -217,8 +223,8 @@ frame-stored o p w0 m1 past base count tail buffer frame happens sound can =
     }
 
 -- The three stretches, the stores and the write.
-frame-sent : (o p : ℕ) (w0 m1 m2 m3 : World) (p1 p2 p3 : Past) (base count tail buffer : ℕ) (frame : List ℕ) → tail < count → buffer < 2 ^ 64 → length frame ≤ 1518 → Happens w0 m1 p1 → Happens (world_after_store buffer frame m1) m2 p2 → Happens (world_after_store (base + 16 * tail) (whole_descriptor buffer (length frame)) m2) m3 p3 → Sound o p w0 → CanSendBy o p w0 base count tail buffer (length frame) → IsSent o p w0 (world_after_write 0x3818 ((tail + 1) % count) m3) (joined (joined p1 p2) p3) base count tail buffer frame
-frame-sent o p w0 m1 m2 m3 p1 p2 p3 base count tail buffer frame below fits short one two three sound can =
+frame-sent : (o p : ℕ) (w0 m1 m2 m3 : World) (p1 p2 p3 : Past) (base count tail buffer : ℕ) (frame : List ℕ) → tail < count → buffer < 2 ^ 64 → 14 ≤ length frame → length frame ≤ 1518 → Happens w0 m1 p1 → Happens (world_after_store buffer frame m1) m2 p2 → Happens (world_after_store (base + 16 * tail) (whole_descriptor buffer (length frame)) m2) m3 p3 → Sound o p w0 → CanSendBy o p w0 base count tail buffer (length frame) → IsSent o p w0 (world_after_write 0x3818 ((tail + 1) % count) m3) (joined (joined p1 p2) p3) base count tail buffer frame
+frame-sent o p w0 m1 m2 m3 p1 p2 p3 base count tail buffer frame below fits least short one two three sound can =
     let slot = base + 16 * tail in
     let bytes = whole_descriptor buffer (length frame) in
     let area : Area = record { address = buffer; size = length frame } in
@@ -235,11 +241,11 @@ frame-sent o p w0 m1 m2 m3 p1 p2 p3 base count tail buffer frame below fits shor
     let at_w2 : bytes_at w2.memory slot 16 ≡ bytes = subst (λ (n : ℕ). bytes_at w2.memory slot n ≡ bytes) long (bytes_at-stored m2.memory bytes slot lies) in
     let at_m3 : bytes_at m3.memory slot 16 ≡ bytes = (three.between o p third.carries.sound).untouched (descriptor_area slot) own3.foreign ∙ at_w2 in
     let apart = spare-apart o p m3 area last.carries.sound last.fit last.spare in
-    sent-by_tail o p w0 m3 (joined (joined p1 p2) p3) base count tail buffer frame can.oldest_slot below can.room fits short last.carries last.knows last.fit last.pads last.lies at_m3 last.bytes apart
+    sent-by_tail o p w0 m3 (joined (joined p1 p2) p3) base count tail buffer frame can.oldest_slot below can.room fits least short last.carries last.knows last.fit last.pads last.lies at_m3 last.bytes apart
 
 -- Over a bus.
-pub sent-by : {B : Type 0} (world : B → World) (happened : B → B → Past → Type 0) (lively : B → Type 0) → ((a b c : B) (s t : Past) → happened a b s → happened b c t → happened a c (joined s t)) → (old first second new : B) (base count tail buffer address next : ℕ) (frame bytes : List ℕ) → tail < count → buffer < 2 ^ 64 → length frame ≤ 1518 → address ≡ base + 16 * tail → next ≡ (tail + 1) % count → bytes ≡ whole_descriptor buffer (length frame) → Acts world happened lively old first (Stores buffer frame) (λ before after. after ≡ world_after_store buffer frame before) → Acts world happened lively first second (Stores address bytes) (λ before after. after ≡ world_after_store address bytes before) → Acts world happened lively second new (Writes 0x3818 next) (λ before after. after ≡ world_after_write 0x3818 next before) → Sent world happened old new base count tail buffer frame
-sent-by world happened lively joins old first second new base count tail buffer address next frame bytes below fits short at behind is one two three =
+pub sent-by : {B : Type 0} (world : B → World) (happened : B → B → Past → Type 0) (lively : B → Type 0) → ((a b c : B) (s t : Past) → happened a b s → happened b c t → happened a c (joined s t)) → (old first second new : B) (base count tail buffer address next : ℕ) (frame bytes : List ℕ) → tail < count → buffer < 2 ^ 64 → 14 ≤ length frame → length frame ≤ 1518 → address ≡ base + 16 * tail → next ≡ (tail + 1) % count → bytes ≡ whole_descriptor buffer (length frame) → Acts world happened lively old first (Stores buffer frame) (λ before after. after ≡ world_after_store buffer frame before) → Acts world happened lively first second (Stores address bytes) (λ before after. after ≡ world_after_store address bytes before) → Acts world happened lively second new (Writes 0x3818 next) (λ before after. after ≡ world_after_write 0x3818 next before) → Sent world happened old new base count tail buffer frame
+sent-by world happened lively joins old first second new base count tail buffer address next frame bytes below fits least short at behind is one two three =
     let slot = base + 16 * tail in
     let value = (tail + 1) % count in
     let descriptor = whole_descriptor buffer (length frame) in
@@ -262,5 +268,5 @@ sent-by world happened lively joins old first second new base count tail buffer 
           ∙ ap (λ (n : ℕ). Stores buffer frame ∷ Stores slot descriptor ∷ Writes 0x3818 n ∷ []) behind;
       sent = λ o p sound can.
           subst (λ (w : World). IsSent o p (world old) w (joined (joined one.past two.past) three.past) base count tail buffer frame) (sym written)
-          (frame-sent o p (world old) one.middle two.middle three.middle one.past two.past three.past base count tail buffer frame below fits short one.before happens_second happens_third sound can);
+          (frame-sent o p (world old) one.middle two.middle three.middle one.past two.past three.past base count tail buffer frame below fits least short one.before happens_second happens_third sound can);
     }

@@ -1,5 +1,5 @@
 -- Memory that no outstanding slot uses is apart from all that the conditions name, and stays so.
-use Rattle.std.proofs.Common.{◌≡◌, ◌≤◌, ◌++◌, ◌∷◌, [], Bool, true, false, cond, ℕ, List, Option, Some, None, length, map, arith}
+use Rattle.std.proofs.Common.{◌≡◌, ◌≤◌, ◌++◌, [], Bool, true, false, cond, ℕ, List, Option, Some, None, length, map, arith}
 use Rattle.std.specs.List.{All}
 use Rattle.std.proofs.lemmas.List.Elements.{All-append, All-cons, All-map}
 use Rattle.dma_memory.specs.Areas.{AreApart, Area, IsInside, bytes_in}
@@ -9,57 +9,16 @@ use Rattle.dma_memory.specs.Laws.{length-bytes_at}
 use Rattle.rx_engine.specs.Descriptors as receive
 use Rattle.rx_engine.specs.Held as engine
 use Rattle.rx_engine.specs.declared.engine.Work.{Work}
-use Rattle.bus.specs.Frames.{areas, buffer_of, buffered, data_of, finished, frame_areas, in_work, IsForeign, named, offered_buffers, receives, reported_half, ring_area, slot_of_work, status_byte, work_areas}
+use Rattle.bus.specs.Frames.{IsForeign, areas, buffer_of, buffer_size, buffered, data_of, finished, in_work, named, offered_buffers, receives, reported_half, ring_area, slot_of_work, status_byte, work_areas}
 use Rattle.bus.specs.Law.{Sound}
 use Rattle.bus.specs.Slots.{offered}
-use Rattle.bus.specs.Spare.{FramesFit, IsSpare, buffer_size}
+use Rattle.bus.specs.Spare.{FramesFit, IsSpare}
 use Rattle.bus.specs.World.{World, receive_ring, transmit_ring}
+use Rattle.bus.proofs.EachArea.{all-areas, of-areas}
 use Rattle.bus.proofs.Kept.{frame_of}
-use Rattle.bus.proofs.Lists.{all-head, all-left, all-none, all-right, all-tail, all-unmapped}
+use Rattle.bus.proofs.Lists.{all-head, all-left, all-none, all-right, all-unmapped}
 use Rattle.bus.proofs.Own.{parts-of}
 use Rattle.bus.proofs.Rings.{dealt-left, dealt-right}
-
--- What holds of all areas of the conditions.
-pub record OfAreas (P : Area → Type 0) (o : ℕ) (a : World) : Type 0 where
-  pub received : P (ring_area (receive_ring a))
-  pub sent : P (ring_area (transmit_ring a))
-  pub payload : All (λ d. P (data_of a.memory d)) (offered (transmit_ring a))
-  pub names : All (λ d. P (named a.memory d)) (finished o a)
-  pub work : All P (work_areas a.memory a.adapter.receiver.work)
-  pub buffers : All P (offered_buffers a)
-
-pub of-areas : (P : Area → Type 0) (o : ℕ) (a : World) → All P (areas o a) → OfAreas P o a
-of-areas P o a all =
-    let r = ring_area (receive_ring a) in
-    let t = ring_area (transmit_ring a) in
-    let payload = map (data_of a.memory) (offered (transmit_ring a)) in
-    let names = map (named a.memory) (finished o a) in
-    let work = work_areas a.memory a.adapter.receiver.work in
-    let behind_r = all-tail P r (t ∷ frame_areas o a) all in
-    let frames = all-tail P t (frame_areas o a) behind_r in
-    let behind_payload = all-right P payload (names ++ (work ++ offered_buffers a)) frames in
-    let behind_names = all-right P names (work ++ offered_buffers a) behind_payload in
-    record {
-      received = all-head P r (t ∷ frame_areas o a) all;
-      sent = all-head P t (frame_areas o a) behind_r;
-      payload = all-unmapped P (data_of a.memory) (offered (transmit_ring a)) (all-left P payload (names ++ (work ++ offered_buffers a)) frames);
-      names = all-unmapped P (named a.memory) (finished o a) (all-left P names (work ++ offered_buffers a) behind_payload);
-      work = all-left P work (offered_buffers a) behind_names;
-      buffers = all-right P work (offered_buffers a) behind_names;
-    }
-
-pub all-areas : (P : Area → Type 0) (o : ℕ) (a : World) → OfAreas P o a → All P (areas o a)
-all-areas P o a each =
-    let r = ring_area (receive_ring a) in
-    let t = ring_area (transmit_ring a) in
-    let payload = map (data_of a.memory) (offered (transmit_ring a)) in
-    let names = map (named a.memory) (finished o a) in
-    let work = work_areas a.memory a.adapter.receiver.work in
-    All-cons P r (t ∷ frame_areas o a) each.received
-    (All-cons P t (frame_areas o a) each.sent
-    (All-append P payload (names ++ (work ++ offered_buffers a)) (All-map P (data_of a.memory) (offered (transmit_ring a)) each.payload)
-    (All-append P names (work ++ offered_buffers a) (All-map P (named a.memory) (finished o a) each.names)
-    (All-append P work (offered_buffers a) each.work each.buffers))))
 
 -- Apart from the areas.
 

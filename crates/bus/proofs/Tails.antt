@@ -1,5 +1,5 @@
 -- The slot at the tail of a ring is the driver's; and what a write of RDT or TDT leaves.
-use Rattle.std.proofs.Common.{◌≡◌, ◌<◌, ◌⊎◌, inl, inr, ◌+◌, ◌*◌, ℕ, List, Option, sym, ap, subst, ◌∙◌, arith, bit_and}
+use Rattle.std.proofs.Common.{◌≡◌, ◌<◌, ◌⊎◌, ◌+◌, ◌*◌, ℕ, Option, sym, ap, subst, ◌∙◌, arith, bit_and}
 use Rattle.std.specs.List.{All}
 use Rattle.std.proofs.lemmas.List.Elements.{All-map}
 use Rattle.std.proofs.lemmas.Nat.{and_mask}
@@ -15,16 +15,16 @@ use Rattle.adapter.specs.declared.ring.RingRegisters.{RingRegisters}
 use Rattle.adapter.specs.Registers.{left_by_write}
 use Rattle.adapter.specs.Rings.{ring_of}
 use Rattle.adapter.specs.TableLaws.{register_at-there}
-use Rattle.bus.specs.Frames.{buffered, in_work, IsForeign, reported_half, ring_area, status_byte}
+use Rattle.bus.specs.Frames.{buffered, in_work, IsForeign, ring_area}
 use Rattle.bus.specs.Law.{Sound}
 use Rattle.bus.specs.OwnStores.{IsOwn}
 use Rattle.bus.specs.Refilling.{KnowsRing}
 use Rattle.bus.specs.Slots.{outstanding}
 use Rattle.bus.specs.World.{World, receive_ring, transmit_ring, world_after_write}
 use Rattle.bus.proofs.Carrying.{head-slot}
-use Rattle.bus.proofs.Own.{foreign-in_ring, foreign-in_transmit, parts-of}
-use Rattle.bus.proofs.Rings.{dealt-right, outstanding-inside, slots-other}
-use Rattle.bus.proofs.Spare.{of-areas}
+use Rattle.bus.proofs.Own.{byte-apart, foreign-in_ring, foreign-in_transmit, half-apart, parts-of}
+use Rattle.bus.proofs.Rings.{dealt-right, far-apart, outstanding-inside, slot-inside, slots-other}
+use Rattle.bus.proofs.EachArea.{of-areas}
 
 -- What the driver knows of its ring it knows still where the head alone has moved.
 pub knows-carried : (a b : RingRegisters) (base count tail : ℕ) → b ≡ record a { head = b.head } → (b.head ≡ a.head) ⊎ IsSound (ring_of b) → KnowsRing (ring_of a) base count tail → KnowsRing (ring_of b) base count tail
@@ -36,9 +36,6 @@ knows-carried a b base count tail same moved knows = record {
 }
 
 -- The slot at the tail isn't outstanding.
-
-far-apart : (base a b : ℕ) → ¬ (b ≡ a) → AreApart (record { address = base + 16 * a; size = 16 }) (record { address = base + 16 * b; size = 16 })
-far-apart base a b differ = grind arith
 
 tail-aside : (ring : Ring) (oldest : ℕ) → oldest < count_of ring → ring.tail < count_of ring → All (λ d. AreApart (descriptor_area (address_of ring ring.tail)) (descriptor_area d)) (outstanding ring oldest)
 unfolding owned
@@ -62,12 +59,9 @@ tail-slot ring oldest base count tail oldest_slot below knows =
     let first : oldest < count_of ring = omega (arith, knows.slots, oldest_slot) in
     record {
       is = is;
-      inside = subst (λ (d : ℕ). IsInside (descriptor_area d) (ring_area ring)) is (in-ring ring.base (count_of ring) ring.tail within);
+      inside = subst (λ (d : ℕ). IsInside (descriptor_area d) (ring_area ring)) is (slot-inside ring.base (count_of ring) ring.tail 16 within (omega arith));
       aside = subst (λ (e : ℕ). All (λ d. AreApart (descriptor_area e) (descriptor_area d)) (outstanding ring oldest)) is (tail-aside ring oldest first within);
     }
-  where
-    in-ring : (b n slot : ℕ) → slot < n → IsInside (record { address = b + 16 * slot; size = 16 }) (record { address = b; size = 16 * n })
-    in-ring b n slot within = record { from = omega arith; to = omega (arith, within) }
 
 -- A slot's sixteen bytes, where they are the driver's: they lie in memory, a store to them leaves what the law speaks of, and the adapter
 -- doesn't write them.
@@ -75,17 +69,6 @@ pub record OwnSlot (o p : ℕ) (a : World) (slot : ℕ) : Type 0 where
   pub lies : LiesIn a.memory slot 16
   pub own : IsOwn o p a (descriptor_area slot)
   pub foreign : IsForeign a (descriptor_area slot)
-
-lies-in_ring : (memory : List ℕ) (slot base size : ℕ) → IsInside (descriptor_area slot) (record { address = base; size = size }) → LiesIn memory base size → LiesIn memory slot 16
-lies-in_ring memory slot base size inside lies = lies-inside memory (descriptor_area slot) (record { address = base; size = size }) inside lies
-
-half-apart : (x y : ℕ) → AreApart (descriptor_area x) (descriptor_area y) → AreApart (descriptor_area x) (reported_half y)
-half-apart x y (inl before) = inl (omega (arith, before))
-half-apart x y (inr after) = inr (omega (arith, after))
-
-byte-apart : (x y : ℕ) → AreApart (descriptor_area x) (descriptor_area y) → AreApart (descriptor_area x) (status_byte y)
-byte-apart x y (inl before) = inl (omega (arith, before))
-byte-apart x y (inr after) = inr (omega (arith, after))
 
 pub own-receive_slot : (o p : ℕ) (a : World) (base tail : ℕ) → Sound o p a → TailSlot (receive_ring a) o base tail → OwnSlot o p a (base + 16 * tail)
 own-receive_slot o p a base tail sound slot =
@@ -97,7 +80,7 @@ own-receive_slot o p a base tail sound slot =
     let sent = outstanding-inside (transmit_ring a) p sound.transmit_slots.slot in
     let aside = dealt-right a.memory (receive_ring a) o (in_work a) (λ d. AreApart area (descriptor_area d)) sound.receive_slots slot.aside in
     record {
-      lies = lies-in_ring a.memory (base + 16 * tail) r.address r.size slot.inside lie.received;
+      lies = lies-inside a.memory area r slot.inside lie.received;
       own = record {
         received = slot.aside;
         sent = λ k d below. apart-inside area r _ slot.inside (inside-apart r _ t (sent k d below) parts.rings);
@@ -116,7 +99,7 @@ own-transmit_slot o p a base tail sound slot =
     let received = outstanding-inside (receive_ring a) o sound.receive_slots.slot in
     let aside = dealt-right a.memory (transmit_ring a) p (buffered a) (λ d. AreApart area (descriptor_area d)) sound.transmit_slots slot.aside in
     record {
-      lies = lies-in_ring a.memory (base + 16 * tail) t.address t.size slot.inside lie.sent;
+      lies = lies-inside a.memory area t slot.inside lie.sent;
       own = record {
         received = λ k d below. apart-inside area t _ slot.inside (inside-apart t _ r (received k d below) (apart-sym r t parts.rings));
         sent = slot.aside;

@@ -1,10 +1,7 @@
 -- What waits while initialisation goes on.
-use Rattle.std.proofs.Common.{◌≡◌, ◌<◌, ◌++◌, [], ℕ, List, Option, None, Some, map, refl, sym, ap, subst, ◌∙◌}
+use Rattle.std.proofs.Common.{◌≡◌, ◌++◌, [], inl, ℕ, List, Option, None, Some, map, refl, sym, ap, subst, ◌∙◌}
 use Rattle.std.specs.List.{All}
-use Rattle.std.proofs.lemmas.List.Elements.{All-map}
 use Rattle.dma_memory.specs.Areas.{bytes_in}
-use Rattle.descriptors.specs.declared.ring.Ring.{Ring}
-use Rattle.descriptors.specs.Ring.{address_of, count_of, distance_of, owned, slots_from}
 use Rattle.rx_engine.specs.Descriptors.{named_address}
 use Rattle.rx_engine.specs.Held as engine
 use Rattle.rx_engine.specs.declared.engine.Work.{Work}
@@ -16,10 +13,10 @@ use Rattle.bus.specs.Initialising.{OffersWait, TransmitStaysIdle}
 use Rattle.bus.specs.Law.{Sound}
 use Rattle.bus.specs.Slots.{offered, outstanding}
 use Rattle.bus.specs.World.{World, receive_ring, transmit_ring}
-use Rattle.bus.proofs.Idle.{append-empty, map-empty, none-dealt, still-idle}
-use Rattle.bus.proofs.Lists.{all-weaker}
+use Rattle.bus.proofs.Idle.{none-dealt, still-idle}
+use Rattle.bus.proofs.Lists.{append-empty, map-empty}
 use Rattle.bus.proofs.Own.{drivers_keep_their_own}
-use Rattle.bus.proofs.Rings.{slots-below}
+use Rattle.bus.proofs.Rings.{each-outstanding}
 
 pub transmit_stays_idle : TransmitStaysIdle
 transmit_stays_idle o a b past sound same happens =
@@ -59,14 +56,6 @@ all-offered o p world sound none =
     sound.receive_slots.classes ∙ ap (λ (front : List ℕ). front ++ (in_work world ++ slots)) none.none_finished
     ∙ ap (λ (work : Option Work). slot_of_work work ++ slots) none.no_work
 
--- A fact of each slot of the ring is one of each that is outstanding.
-each-outstanding : (ring : Ring) (oldest : ℕ) (P : ℕ → Type 0) → oldest < count_of ring → ((slot : ℕ) → slot < count_of ring → P (address_of ring slot)) → All P (outstanding ring oldest)
-unfolding owned
-each-outstanding ring oldest P within fact =
-    let n = count_of ring in
-    let slots = slots_from n oldest (distance_of ring oldest ring.tail) in
-    All-map P (address_of ring) slots (all-weaker (λ (slot : ℕ). slot < n) (λ (slot : ℕ). P (address_of ring slot)) slots fact (slots-below n oldest (distance_of ring oldest ring.tail) within))
-
 pub offers_wait : OffersWait
 offers_wait o p a b past sound within off none happens =
     let between = happens.between o p sound in
@@ -79,5 +68,5 @@ offers_wait o p a b past sound within off none happens =
       none_finished = after.none_finished;
       no_work = after.no_work;
       slots = sym (all-offered o p b between.sound after) ∙ same ∙ all-offered o p a sound before;
-      addresses = subst (All Stays) (all-offered o p a sound before) (each-outstanding (receive_ring a) o Stays within (drivers_keep_their_own o p a b past sound happens).addresses);
+      addresses = subst (All Stays) (all-offered o p a sound before) (each-outstanding (receive_ring a) o Stays (inl within) (drivers_keep_their_own o p a b past sound happens).addresses);
     }

@@ -67,11 +67,15 @@ abbrev pub work_areas : List ℕ → Option Work → List Area
 work_areas memory None = []
 work_areas memory (Some work) = record { address = receive.named_address memory work.descriptor; size = work.length } ∷ []
 
--- the buffer that a receive descriptor names, of the size that RCTL.BSIZE names
+-- how many bytes each receive buffer has, as RCTL.BSIZE names it
+abbrev pub buffer_size : World → ℕ
+buffer_size world = buffer_size_of (field world.adapter.filter.rctl 16 2)
+
+-- the buffer that a receive descriptor names
 abbrev pub buffer_of : World → ℕ → Area
 buffer_of world descriptor = record {
   address = receive.named_address world.memory descriptor;
-  size = buffer_size_of (field world.adapter.filter.rctl 16 2);
+  size = buffer_size world;
 }
 
 -- RCTL.EN

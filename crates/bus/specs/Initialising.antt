@@ -2,15 +2,14 @@
 -- registers, as in initialisation behind the first slot offered (own).
 use Rattle.std.specs.Prelude.{⊤, ◌≡◌, ◌≤◌, ◌<◌, ◌+◌, ◌%◌, ◌++◌, ℕ, zero, suc, [], false, All, None, map}
 use Rattle.dma_memory.specs.Areas.{AreSeparate}
-use Rattle.registers.specs.Bits.{HasBit, field}
-use Rattle.registers.specs.ReceiveControl.{buffer_size_of}
+use Rattle.registers.specs.Bits.{HasBit}
 use Rattle.descriptors.specs.Ring.{address_of, count_of, slots_from}
 use Rattle.rx_engine.specs.Descriptors.{named_address}
 use Rattle.adapter.specs.Registers.{is_reset, write_of}
 use Rattle.adapter.specs.declared.register.Register.{Register}
 use Rattle.adapter.specs.declared.register.Register.TheVariants.{Rctl, Receive, Tctl, Transmit}
 use Rattle.adapter.specs.declared.ring.RingRegisters.{RingRegisters}
-use Rattle.bus.specs.Frames.{areas, finished, frames_held, frames_to_send}
+use Rattle.bus.specs.Frames.{areas, buffer_size, finished, frames_held, frames_to_send}
 use Rattle.bus.specs.Law.{Happens, Sound}
 use Rattle.bus.specs.Offering.{CanOffer, offering}
 use Rattle.bus.specs.OwnStores.{LeavesFrames, SameFrames}
@@ -51,16 +50,16 @@ abbrev pub with_receive_control : ℕ → World → World
 with_receive_control control world = record world { adapter = record world.adapter { filter = record world.adapter.filter { rctl = control } } }
 
 -- The conditions hold, and frames are the same; where BSEX is 0 and BSIZE names room for every legal frame, engines that could run still can.
-pub record ReceiverSet (oldest_received oldest_sent control : ℕ) (a b : World) : Type 0 where
+pub record ReceiverSet (oldest_received oldest_sent : ℕ) (a b : World) : Type 0 where
   pub same : SameFrames oldest_received oldest_sent a b
-  pub runs : ¬ (HasBit control 25) → 1518 ≤ buffer_size_of (field control 16 2) → GoOn a b
+  pub runs : ¬ (HasBit b.adapter.filter.rctl 25) → 1518 ≤ buffer_size b → GoOn a b
 
 -- RCTL may be written where the rings, the frames and the buffers that then count are apart, in memory.
 abbrev pub ReceiverCanBeSet : Type 0
 ReceiverCanBeSet =
     (oldest_received oldest_sent control : ℕ) (world : World) → Sound oldest_received oldest_sent world
     → AreSeparate world.memory (areas oldest_received (with_receive_control control world))
-    → ReceiverSet oldest_received oldest_sent control world (with_receive_control control world)
+    → ReceiverSet oldest_received oldest_sent world (with_receive_control control world)
 
 -- the world with this word in TCTL
 abbrev pub with_transmit_control : ℕ → World → World

@@ -6,11 +6,12 @@ use Rattle.descriptors.specs.declared.ring.Ring.{Ring}
 use Rattle.descriptors.specs.Ring.{count_of}
 use Rattle.descriptors.specs.RxDesc.{rx_desc_bytes}
 use Rattle.descriptors.specs.RxStatus.{status_of}
-use Rattle.bus.specs.Frames.{buffer_of, frames_held, frames_to_send}
+use Rattle.bus.specs.Frames.{buffer_of, buffer_size, frames_held, frames_to_send}
 use Rattle.bus.specs.Law.{Sound}
 use Rattle.bus.specs.Past.{Access, Past, Stores, Writes}
+use Rattle.bus.specs.Running.{GoOn}
 use Rattle.bus.specs.Slots.{outstanding}
-use Rattle.bus.specs.Spare.{FramesFit, IsSpare, buffer_size}
+use Rattle.bus.specs.Spare.{FramesFit, IsSpare}
 use Rattle.bus.specs.World.{World, receive_ring, transmit_ring}
 
 -- The driver knows its ring: where it begins, how many slots it has, and which one stands at the tail; and one of them stands at the head.
@@ -39,7 +40,7 @@ pub record StaysReady (oldest_received oldest_sent : ℕ) (a b : World) (given :
   pub spare : (area : Area) → IsSpare oldest_received oldest_sent a area → AreApart given area → IsSpare oldest_received oldest_sent b area
 
 -- Then the conditions hold again; frames were put and stored, and none was lost; the slot is the last that is outstanding, and names the
--- buffer; and the driver knows both rings as before, but for the tail that it has moved on by one.
+-- buffer; the driver knows both rings as before, but for the tail that it has moved on by one; and engines that could run still can.
 pub record IsRefilled (oldest_received oldest_sent : ℕ) (a b : World) (past : Past) (base count tail buffer : ℕ) : Type 0 where
   pub sound : Sound oldest_received oldest_sent b
   pub sends : past.put ++ frames_to_send b ≡ frames_to_send a
@@ -50,6 +51,7 @@ pub record IsRefilled (oldest_received oldest_sent : ℕ) (a b : World) (past : 
   pub moved : KnowsRing (receive_ring b) base count ((tail + 1) % count)
   pub other_ring : (first slots last : ℕ) → KnowsRing (transmit_ring a) first slots last → KnowsRing (transmit_ring b) first slots last
   pub ready : StaysReady oldest_received oldest_sent a b (record { address = buffer; size = buffer_size a })
+  pub runs : GoOn a b
 
 -- a receive descriptor that names a buffer, and is else 0
 abbrev pub empty_descriptor : ℕ → List ℕ

@@ -1,10 +1,10 @@
 -- When both engines of an adapter go on: what a step needs so that no fault stops its engine (that a fault stops an engine is own).
 use Rattle.std.specs.Prelude.{◌≡◌, ◌≢◌, ◌≤◌, ℕ, false, List, All}
-use Rattle.registers.specs.Bits.{HasBit, field}
-use Rattle.registers.specs.ReceiveControl.{buffer_size_of}
+use Rattle.registers.specs.Bits.{HasBit}
 use Rattle.descriptors.specs.Frames.{IsLegal}
 use Rattle.descriptors.specs.Ring.{IsSound}
 use Rattle.tx_engine.specs.Fetching.{IsTransmittable, descriptor_at}
+use Rattle.bus.specs.Frames.{buffer_size}
 use Rattle.bus.specs.Slots.{offered}
 use Rattle.bus.specs.World.{World, receive_ring, transmit_ring}
 
@@ -21,7 +21,7 @@ pub record CanRun (world : World) : Type 0 where
   pub transmit_indices : world.adapter.transmit_ring.head ≢ world.adapter.transmit_ring.tail → IsSound (transmit_ring world)
   -- RCTL.BSEX is 0, and a buffer of the size that RCTL.BSIZE names has room for every legal frame.
   pub not_extended : ¬ (HasBit world.adapter.filter.rctl 25)
-  pub size : 1518 ≤ buffer_size_of (field world.adapter.filter.rctl 16 2)
+  pub size : 1518 ≤ buffer_size world
   -- The frames in the receive packet buffer are legal.
   pub frames : All IsLegal world.adapter.receiver.buffer
   -- The descriptors from TDH to TDT can be transmitted.

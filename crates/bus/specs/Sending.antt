@@ -9,6 +9,7 @@ use Rattle.bus.specs.Frames.{frames_held, frames_to_send}
 use Rattle.bus.specs.Law.{Sound}
 use Rattle.bus.specs.Past.{Access, Past, Stores, Writes}
 use Rattle.bus.specs.Refilling.{KnowsRing, StaysReady}
+use Rattle.bus.specs.Running.{GoOn}
 use Rattle.bus.specs.Slots.{outstanding}
 use Rattle.bus.specs.Spare.{FramesFit, IsSpare}
 use Rattle.bus.specs.World.{World, receive_ring, transmit_ring}
@@ -25,7 +26,8 @@ pub record CanSendBy (oldest_received oldest_sent : ℕ) (world : World) (base c
   pub spare : IsSpare oldest_received oldest_sent world (record { address = buffer; size = size })
 
 -- Then the conditions hold again; frames were put and stored, and none was lost; the frame, padded, is the last that is to be sent, and the
--- slot the last that is outstanding; and the driver knows both rings as before, but for the tail that it has moved on by one.
+-- slot the last that is outstanding; the driver knows both rings as before, but for the tail that it has moved on by one; and engines that
+-- could run still can.
 pub record IsSent (oldest_received oldest_sent : ℕ) (a b : World) (past : Past) (base count tail buffer : ℕ) (frame : List ℕ) : Type 0 where
   pub sound : Sound oldest_received oldest_sent b
   pub sends : past.put ++ frames_to_send b ≡ frames_to_send a ++ padded frame ∷ []
@@ -35,6 +37,7 @@ pub record IsSent (oldest_received oldest_sent : ℕ) (a b : World) (past : Past
   pub moved : KnowsRing (transmit_ring b) base count ((tail + 1) % count)
   pub other_ring : (first slots last : ℕ) → KnowsRing (receive_ring a) first slots last → KnowsRing (receive_ring b) first slots last
   pub ready : StaysReady oldest_received oldest_sent a b (record { address = buffer; size = length frame })
+  pub runs : GoOn a b
 
 -- a transmit descriptor that names so many bytes at an address, as a whole packet (EOP) with a check sequence (IFCS), and asks for a report (RS)
 abbrev pub whole_descriptor : (buffer size : ℕ) → List ℕ

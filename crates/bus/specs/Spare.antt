@@ -1,17 +1,11 @@
 -- Memory that no outstanding slot uses (own).
 use Rattle.std.specs.Prelude.{◌≤◌, ℕ, All, length}
 use Rattle.dma_memory.specs.Areas.{AreApart, Area}
-use Rattle.registers.specs.Bits.{field}
-use Rattle.registers.specs.ReceiveControl.{buffer_size_of}
-use Rattle.bus.specs.Frames.{areas, buffer_of, data_of, frames_held, IsForeign, ring_area}
+use Rattle.bus.specs.Frames.{areas, buffer_of, buffer_size, data_of, frames_held, IsForeign, ring_area}
 use Rattle.bus.specs.Law.{Happens, Sound}
 use Rattle.bus.specs.Past.{Past}
 use Rattle.bus.specs.Slots.{outstanding}
 use Rattle.bus.specs.World.{World, receive_ring, transmit_ring}
-
--- how many bytes each receive buffer has, as RCTL.BSIZE names it
-abbrev pub buffer_size : World → ℕ
-buffer_size world = buffer_size_of (field world.adapter.filter.rctl 16 2)
 
 -- The frames held have 1,518 bytes at most, and each receive buffer has room for as many.
 pub record FramesFit (oldest : ℕ) (world : World) : Type 0 where

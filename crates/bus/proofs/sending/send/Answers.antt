@@ -14,7 +14,7 @@ returns-clause-sent g c honest =
     c.to_bytes.ensures
     ∙ ap (λ (bits : ℕ). tx_desc_bytes (record { address = c.args.buffer; length = size; cso = 0; command = command_of bits; status = c.empty.result; css = 0; special = 0 })) command
     ∙ ap (λ (bits : ℕ). tx_desc_bytes (record { address = c.args.buffer; length = size; cso = 0; command = command_of 0x0B; status = sent_of bits; css = 0; special = 0 })) (c.empty.ensures tt) in
-    sent-by g.B.Bus.world g.B.Bus.happened g.B.Bus.lively g.met.B.Bus.joins c.args.bus.now c.store.new.self c.store-2.new.self c.write.new.self slots.base slots.count slots.tail c.args.buffer c.address.result c.next.result c.args.frame.now c.to_bytes.result c.requires.slot c.ranges.buffer.fits c.requires.most c.address.ensures c.next.ensures is (c.store.ensures.acts honest) (c.store-2.ensures.acts (c.store.ensures.honest honest)) (c.write.ensures.acts (c.store-2.ensures.honest (c.store.ensures.honest honest)))
+    sent-by g.B.Bus.world g.B.Bus.happened g.B.Bus.lively g.met.B.Bus.joins c.args.bus.now c.store.new.self c.store-2.new.self c.write.new.self slots.base slots.count slots.tail c.args.buffer c.address.result c.next.result c.args.frame.now c.to_bytes.result c.requires.slot c.ranges.buffer.fits c.requires.least c.requires.most c.address.ensures c.next.ensures is (c.store.ensures.acts honest) (c.store-2.ensures.acts (c.store.ensures.honest honest)) (c.write.ensures.acts (c.store-2.ensures.honest (c.store.ensures.honest honest)))
 
 pub returns-clause-kept : goal.returns-clause-kept
 returns-clause-kept g c =
