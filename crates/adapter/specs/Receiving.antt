@@ -31,7 +31,7 @@ room state = state.receive_kilobytes / 2
 
 -- a frame gets as far as the packet buffer
 abbrev pub GetsIn : AdapterState → List ℕ → Type 0
-GetsIn state frame = IsAccepted state.filter.rctl state.filter frame
+GetsIn state frame = IsAccepted state.filter frame
 
 -- what each fate of a frame says of the adapter before it: the first that applies
 abbrev pub IsFate : AdapterState → List ℕ → Fate → Type 0

@@ -29,13 +29,7 @@ impl Adapter {
     {
         let room = self.room();
         let file = &mut self.file;
-        let fate = arrive(
-            &mut self.receiver,
-            file.filter.rctl(),
-            &file.filter,
-            room,
-            frame,
-        );
+        let fate = arrive(&mut self.receiver, &file.filter, room, frame);
         match fate {
             Fate::Off | Fate::Illegal | Fate::Filtered => {}
             Fate::Missed => {

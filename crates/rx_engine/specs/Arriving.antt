@@ -8,10 +8,10 @@ use Rattle.rx_engine.specs.Receiver.{Receiver}
 use Rattle.rx_engine.specs.declared.arrival.Fate.{Fate}
 use Rattle.rx_engine.specs.declared.arrival.Fate.TheVariants.{Off, Illegal, Filtered, Missed, Stored}
 
--- with RCTL at this word the frame gets as far as the packet buffer
-pub record IsAccepted (control : ℕ) (filter : FilterRegisters) (frame : List ℕ) : Type 0 where
+-- the frame gets as far as the packet buffer
+pub record IsAccepted (filter : FilterRegisters) (frame : List ℕ) : Type 0 where
   -- RCTL.EN (13.4.22)
-  pub enabled : HasBit control 1
+  pub enabled : HasBit filter.rctl 1
   pub legal : IsLegal frame
   pub passes : Passes (filter_of filter) frame
 

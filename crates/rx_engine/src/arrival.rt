@@ -10,7 +10,6 @@ ghost use Rattle.rx_engine.specs.Arriving.{IsAccepted, after_arrival};
 
 use crate::{MOST_FRAMES, RxEngine};
 use descriptors::{LONGEST_LEGAL, SHORTEST_LEGAL};
-use registers::Rctl;
 use rx_filter::Filter;
 
 /// What becomes of a frame that comes from the wire: the first of these that applies (the order is own).
@@ -28,25 +27,25 @@ pub enum Fate {
     Stored,
 }
 
-/// A frame comes from the wire while the registers of the receive filter and RCTL are these and the packet buffer has
-/// room for `room` frames, which is half the kilobytes of PBA.RXA and 24 at most. Nothing but a frame that is stored
-/// changes anything.
-pub fn arrive(engine: &mut RxEngine, control: Rctl, filter: &Filter, room: u8, frame: &[u8]) -> Fate
+/// A frame comes from the wire while the registers of the receive filter, RCTL among them, are these and the packet
+/// buffer has room for `room` frames, which is half the kilobytes of PBA.RXA and 24 at most. Nothing but a frame that
+/// is stored changes anything.
+pub fn arrive(engine: &mut RxEngine, filter: &Filter, room: u8, frame: &[u8]) -> Fate
     requires { room ≤ MOST_FRAMES }
-    ensures off { (result ≡ Fate.Off) ↔ (¬ (HasBit control.0 1)) }
-    ensures illegal { (result ≡ Fate.Illegal) ↔ (HasBit control.0 1 × (¬ (IsLegal frame.now))) }
+    ensures off { (result ≡ Fate.Off) ↔ (¬ (HasBit filter.now.rctl 1)) }
+    ensures illegal { (result ≡ Fate.Illegal) ↔ (HasBit filter.now.rctl 1 × (¬ (IsLegal frame.now))) }
     ensures filtered { (result ≡ Fate.Filtered)
-        ↔ (HasBit control.0 1 × IsLegal frame.now × (¬ (Passes (filter_of filter.now) frame.now))) }
+        ↔ (HasBit filter.now.rctl 1 × IsLegal frame.now × (¬ (Passes (filter_of filter.now) frame.now))) }
     ensures missed { (result ≡ Fate.Missed)
-        ↔ (IsAccepted control.0 filter.now frame.now × (room ≤ length engine.old.buffer)) }
+        ↔ (IsAccepted filter.now frame.now × (room ≤ length engine.old.buffer)) }
     ensures stored { (result ≡ Fate.Stored)
-        ↔ (IsAccepted control.0 filter.now frame.now × (length engine.old.buffer < room)) }
+        ↔ (IsAccepted filter.now frame.now × (length engine.old.buffer < room)) }
     ensures engine { engine.new ≡ after_arrival result frame.now engine.old }
     ensures before { IsReceiver engine.old }
     ensures after { IsReceiver engine.new }
 {
     let is_full = engine.buffered() >= room;
-    if !control.is_enabled() {
+    if !filter.rctl().is_enabled() {
         return Fate::Off;
     }
     if !is_legal(frame) {

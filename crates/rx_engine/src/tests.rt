@@ -19,9 +19,10 @@ const OFFERED: Ring = Ring {
     tail: 7,
 };
 
-fn broadcast_filter() -> Filter {
+/// A filter with this word in RCTL, and else as new.
+fn filter_with(control: Rctl) -> Filter {
     let mut filter = Filter::new();
-    filter.write_rctl(CONTROL.0);
+    filter.write_rctl(control.0);
     filter
 }
 
@@ -40,9 +41,9 @@ fn offered_memory(rt: &HostRuntime) -> Result<HostMemory, Fail> {
 #[test]
 fn frames_without_room_are_missed(rt: HostRuntime) -> Result<(), Fail> {
     let mut engine = RxEngine::new(rt.alloc())?;
-    let filter = broadcast_filter();
+    let filter = filter_with(CONTROL);
     for fate in [Fate::Stored, Fate::Missed, Fate::Missed] {
-        assert_eq!(rt; arrive(&mut engine, CONTROL, &filter, 1, &[0xFF; 60]), fate);
+        assert_eq!(rt; arrive(&mut engine, &filter, 1, &[0xFF; 60]), fate);
     }
     assert_eq!(rt; engine.buffered(), 1);
     Ok(())
@@ -51,7 +52,6 @@ fn frames_without_room_are_missed(rt: HostRuntime) -> Result<(), Fail> {
 #[test]
 fn the_first_fate_that_applies(rt: HostRuntime) -> Result<(), Fail> {
     let mut engine = RxEngine::new(rt.alloc())?;
-    let filter = broadcast_filter();
     let bytes = [0xFF; 1519];
     for (control, length, fate) in [
         (Rctl(0), 59, Fate::Off),
@@ -61,13 +61,13 @@ fn the_first_fate_that_applies(rt: HostRuntime) -> Result<(), Fail> {
         (CONTROL, 1519, Fate::Illegal),
     ] {
         assert_eq!(rt;
-            arrive(&mut engine, control, &filter, 24, &bytes[..length]),
+            arrive(&mut engine, &filter_with(control), 24, &bytes[..length]),
             fate,
             "{length} bytes"
         );
     }
     assert_eq!(rt;
-        arrive(&mut engine, CONTROL, &filter, 24, &[2; 60]),
+        arrive(&mut engine, &filter_with(CONTROL), 24, &[2; 60]),
         Fate::Filtered
     );
     assert_eq!(rt; engine.buffered(), 2);
@@ -80,7 +80,7 @@ fn a_frame_reaches_memory(rt: HostRuntime) -> Result<(), Fail> {
     let mut engine = RxEngine::new(rt.alloc())?;
     let mut memory = offered_memory(&rt)?;
     let mut ring = OFFERED;
-    let fate = arrive(&mut engine, CONTROL, &broadcast_filter(), 24, &[0xFF; 60]);
+    let fate = arrive(&mut engine, &filter_with(CONTROL), 24, &[0xFF; 60]);
     assert_eq!(rt; fate, Fate::Stored);
     let moved = rx_data(&mut engine, &mut ring, CONTROL, &mut memory);
     assert_eq!(rt; (moved, ring.head), (Data::Moved { low: false }, 1));
@@ -96,11 +96,11 @@ fn a_frame_reaches_memory(rt: HostRuntime) -> Result<(), Fail> {
 #[test]
 fn one_frame_is_in_work(rt: HostRuntime) -> Result<(), Fail> {
     let mut engine = RxEngine::new(rt.alloc())?;
-    let filter = broadcast_filter();
+    let filter = filter_with(CONTROL);
     let mut memory = offered_memory(&rt)?;
     let mut ring = OFFERED;
     for _ in 0..2 {
-        let fate = arrive(&mut engine, CONTROL, &filter, 24, &[0xFF; 60]);
+        let fate = arrive(&mut engine, &filter, 24, &[0xFF; 60]);
         assert_eq!(rt; fate, Fate::Stored);
     }
     for data in [Data::Moved { low: false }, Data::Nothing] {
@@ -134,11 +134,8 @@ fn a_fault_stops_the_engine(rt: HostRuntime) -> Result<(), Fail> {
         head: 0,
         tail: 1,
     };
-    let filter = broadcast_filter();
-    assert_eq!(rt;
-        arrive(&mut engine, CONTROL, &filter, 24, &[0xFF; 60]),
-        Fate::Stored
-    );
+    let filter = filter_with(CONTROL);
+    assert_eq!(rt; arrive(&mut engine, &filter, 24, &[0xFF; 60]), Fate::Stored);
     for data in [Data::Fault, Data::Nothing] {
         assert_eq!(rt; rx_data(&mut engine, &mut ring, CONTROL, &mut memory), data);
         assert_eq!(rt; (ring.head, ring.tail, engine.buffered()), (0, 1, 1));
@@ -146,10 +143,7 @@ fn a_fault_stops_the_engine(rt: HostRuntime) -> Result<(), Fail> {
     assert!(rt; engine.work().is_none());
     engine.reset();
     assert_eq!(rt; engine.buffered(), 0);
-    assert_eq!(rt;
-        arrive(&mut engine, CONTROL, &filter, 24, &[0xFF; 60]),
-        Fate::Stored
-    );
+    assert_eq!(rt; arrive(&mut engine, &filter, 24, &[0xFF; 60]), Fate::Stored);
     ring = OFFERED;
     assert_eq!(rt;
         rx_data(&mut engine, &mut ring, CONTROL, &mut memory),
@@ -168,7 +162,7 @@ fn data_step(
 ) -> Result<(Fate, Data), Fail> {
     let mut ring = ring;
     let mut engine = RxEngine::new(rt.alloc())?;
-    let fate = arrive(&mut engine, CONTROL, &broadcast_filter(), 24, frame);
+    let fate = arrive(&mut engine, &filter_with(CONTROL), 24, frame);
     Ok((fate, rx_data(&mut engine, &mut ring, control, memory)))
 }
 
