@@ -11,9 +11,10 @@ use Rattle.descriptors.specs.declared.ring.Ring.{Ring}
 use Rattle.descriptors.specs.Ring.{IsSound, address_of, count_of, distance_of, owned, slots_from}
 use Rattle.rx_engine.specs.declared.engine.Work.{Work}
 use Rattle.tx_engine.specs.Fetching.{fetched}
-use Rattle.tx_engine.specs.Transmitter.{Queued}
+use Rattle.rx_engine.specs.Receiver.{Receiver}
+use Rattle.tx_engine.specs.Transmitter.{Queued, Transmitter}
 use Rattle.adapter.specs.declared.register.Register.{Register}
-use Rattle.adapter.specs.declared.register.Register.TheVariants.{Ctrl, Status, Eerd, Mdic, Vet, Icr, Ics, Ims, Imc, Rctl, Tctl, Pba, Receive, Transmit, Mpc, Gprc, Gptc, Rnbc, Mta, Ral, Rah, Vfta}
+use Rattle.adapter.specs.declared.register.Register.TheVariants.{Icr, Mpc, Gprc, Gptc, Rnbc}
 use Rattle.adapter.specs.declared.ring.RingRegisters.{RingRegisters}
 use Rattle.adapter.specs.Registers.{after_reset, by_row, is_reset, left_by_read, left_by_write, read_of, write_of}
 use Rattle.adapter.specs.Rings.{ring_of}
@@ -27,6 +28,7 @@ use Rattle.bus.specs.World.{World, receive_ring, transmit_ring, world_after_writ
 use Rattle.bus.proofs.Lists.{all-head, all-left, all-none, all-weaker, append-empty, map-empty, pairs-head, pairs-none}
 use Rattle.bus.proofs.Putting.{areas-same}
 use Rattle.bus.proofs.Rings.{offered-head}
+use Rattle.bus.proofs.Writes.{row-leaves}
 
 -- Rings whose head is their tail.
 
@@ -209,32 +211,16 @@ record NoFrames (state : AdapterState) : Type 0 where
   buffer : state.transmitter.buffer ≡ []
 
 write-frames : (register : Register) (value : ℕ) (state : AdapterState) → NoFrames state → NoFrames (write_of register value state)
-write-frames Ctrl value state none = by_test (is_reset Ctrl value)
+write-frames register value state none = by_test (is_reset register value)
   where
-    by_test : (test : Bool) → NoFrames (if test then after_reset state else by_row (row_of Ctrl).kept Ctrl value state)
+    by_test : (test : Bool) → NoFrames (if test then after_reset state else by_row (row_of register).kept register value state)
     by_test true = record { work = refl; buffer = refl }
-    by_test false = record { work = none.work; buffer = none.buffer }
-write-frames Status value state none = none
-write-frames Eerd value state none = record { work = none.work; buffer = none.buffer }
-write-frames Mdic value state none = record { work = none.work; buffer = none.buffer }
-write-frames Vet value state none = record { work = none.work; buffer = none.buffer }
-write-frames Icr value state none = record { work = none.work; buffer = none.buffer }
-write-frames Ics value state none = record { work = none.work; buffer = none.buffer }
-write-frames Ims value state none = record { work = none.work; buffer = none.buffer }
-write-frames Imc value state none = record { work = none.work; buffer = none.buffer }
-write-frames Rctl value state none = record { work = none.work; buffer = none.buffer }
-write-frames Tctl value state none = record { work = none.work; buffer = none.buffer }
-write-frames Pba value state none = record { work = none.work; buffer = none.buffer }
-write-frames (Receive part) value state none = record { work = none.work; buffer = none.buffer }
-write-frames (Transmit part) value state none = record { work = none.work; buffer = none.buffer }
-write-frames Mpc value state none = none
-write-frames Gprc value state none = none
-write-frames Gptc value state none = none
-write-frames Rnbc value state none = none
-write-frames (Mta word) value state none = record { work = none.work; buffer = none.buffer }
-write-frames (Ral entry) value state none = record { work = none.work; buffer = none.buffer }
-write-frames (Rah entry) value state none = record { work = none.work; buffer = none.buffer }
-write-frames (Vfta word) value state none = record { work = none.work; buffer = none.buffer }
+    by_test false =
+        let leaves = row-leaves register value state in
+        record {
+          work = ap (λ (receiver : Receiver). receiver.work) leaves.receiver ∙ none.work;
+          buffer = ap (λ (transmitter : Transmitter). transmitter.buffer) leaves.transmitter ∙ none.buffer;
+        }
 
 pub writes_keep_idle : WritesKeepIdle
 writes_keep_idle offset value world idle rings = by_case (register_at offset) refl
@@ -255,29 +241,13 @@ writes_keep_idle offset value world idle rings = by_case (register_at offset) re
 
 -- A write of a register that isn't a ring's leaves the rings, or resets.
 pub other_writes_keep_idle : OtherWritesKeepIdle
-other_writes_keep_idle Ctrl value world other idle = by_test (is_reset Ctrl value)
+other_writes_keep_idle register value world other idle = by_test (is_reset register value)
   where
-    by_test : (test : Bool) → IsIdle (record world { adapter = if test then after_reset world.adapter else by_row (row_of Ctrl).kept Ctrl value world.adapter })
+    by_test : (test : Bool) → IsIdle (record world { adapter = if test then after_reset world.adapter else by_row (row_of register).kept register value world.adapter })
     by_test true = idle_after_reset world
-    by_test false = idle-same world.memory world.memory world.adapter _ refl refl refl refl refl idle
-other_writes_keep_idle Status value world other idle = idle
-other_writes_keep_idle (Receive part) value world other idle = absurd (other tt)
-other_writes_keep_idle (Transmit part) value world other idle = absurd (other tt)
-other_writes_keep_idle Eerd value world other idle = idle-same world.memory world.memory world.adapter _ refl refl refl refl refl idle
-other_writes_keep_idle Mdic value world other idle = idle-same world.memory world.memory world.adapter _ refl refl refl refl refl idle
-other_writes_keep_idle Vet value world other idle = idle-same world.memory world.memory world.adapter _ refl refl refl refl refl idle
-other_writes_keep_idle Icr value world other idle = idle-same world.memory world.memory world.adapter _ refl refl refl refl refl idle
-other_writes_keep_idle Ics value world other idle = idle-same world.memory world.memory world.adapter _ refl refl refl refl refl idle
-other_writes_keep_idle Ims value world other idle = idle-same world.memory world.memory world.adapter _ refl refl refl refl refl idle
-other_writes_keep_idle Imc value world other idle = idle-same world.memory world.memory world.adapter _ refl refl refl refl refl idle
-other_writes_keep_idle Rctl value world other idle = idle-same world.memory world.memory world.adapter _ refl refl refl refl refl idle
-other_writes_keep_idle Tctl value world other idle = idle-same world.memory world.memory world.adapter _ refl refl refl refl refl idle
-other_writes_keep_idle Pba value world other idle = idle-same world.memory world.memory world.adapter _ refl refl refl refl refl idle
-other_writes_keep_idle Mpc value world other idle = idle
-other_writes_keep_idle Gprc value world other idle = idle
-other_writes_keep_idle Gptc value world other idle = idle
-other_writes_keep_idle Rnbc value world other idle = idle
-other_writes_keep_idle (Mta word) value world other idle = idle-same world.memory world.memory world.adapter _ refl refl refl refl refl idle
-other_writes_keep_idle (Ral entry) value world other idle = idle-same world.memory world.memory world.adapter _ refl refl refl refl refl idle
-other_writes_keep_idle (Rah entry) value world other idle = idle-same world.memory world.memory world.adapter _ refl refl refl refl refl idle
-other_writes_keep_idle (Vfta word) value world other idle = idle-same world.memory world.memory world.adapter _ refl refl refl refl refl idle
+    by_test false =
+        let leaves = row-leaves register value world.adapter in
+        let rings = leaves.rings other in
+        idle-same world.memory world.memory world.adapter _ refl
+        (ap (λ (receiver : Receiver). receiver.work) leaves.receiver)
+        (ap (λ (transmitter : Transmitter). transmitter.buffer) leaves.transmitter) rings.0 rings.1 idle

@@ -12,7 +12,7 @@ use Rattle.tx_engine.specs.Fetching.{fetched, frame_at}
 use Rattle.tx_engine.specs.ToSend.{to_send}
 use Rattle.tx_engine.specs.Transmitter.{Queued, Transmitter}
 use Rattle.adapter.specs.declared.register.Register.{Register}
-use Rattle.adapter.specs.declared.register.Register.TheVariants.{Ctrl, Status, Eerd, Mdic, Vet, Icr, Ics, Ims, Imc, Rctl, Tctl, Pba, Receive, Transmit, Mpc, Gprc, Gptc, Rnbc, Mta, Ral, Rah, Vfta}
+use Rattle.adapter.specs.declared.register.Register.TheVariants.{Icr, Mpc, Gprc, Gptc, Rnbc}
 use Rattle.adapter.specs.declared.ring.RingRegisters.{RingRegisters}
 use Rattle.adapter.specs.Registers.{after_reset, by_row, is_reset, left_by_read, new_adapter, read_of}
 use Rattle.adapter.specs.Rings.{ring_of}
@@ -28,6 +28,7 @@ use Rattle.bus.specs.World.{World, receive_ring}
 use Rattle.bus.proofs.Idle.{dealt-idle, offered-none, outstanding-none, owned-none}
 use Rattle.bus.proofs.Lists.{all-none}
 use Rattle.bus.proofs.Offering.{slots_can_be_offered}
+use Rattle.bus.proofs.Writes.{row-leaves}
 
 -- Controls and the transmit ring.
 
@@ -217,32 +218,15 @@ reads_leave_frames o p offset world sound = by_case (register_at offset)
     by_case None = by-parts o p world world refl sound
 
 pub other_writes_leave_frames : OtherWritesLeaveFrames
-other_writes_leave_frames o p Ctrl value world sound other none = by_test (is_reset Ctrl value) none
+other_writes_leave_frames o p register value world sound other none = by_test (is_reset register value) none
   where
-    by_test : (test : Bool) → test ≡ false → LeavesFrames o p world (record world { adapter = if test then after_reset world.adapter else by_row (row_of Ctrl).kept Ctrl value world.adapter })
+    by_test : (test : Bool) → test ≡ false → LeavesFrames o p world (record world { adapter = if test then after_reset world.adapter else by_row (row_of register).kept register value world.adapter })
     by_test true same = absurd (cc)
-    by_test false same = by-parts o p world _ refl sound
-other_writes_leave_frames o p Rctl value world sound other none = absurd (other tt)
-other_writes_leave_frames o p Tctl value world sound other none = absurd (other tt)
-other_writes_leave_frames o p (Receive part) value world sound other none = absurd (other tt)
-other_writes_leave_frames o p (Transmit part) value world sound other none = absurd (other tt)
-other_writes_leave_frames o p Status value world sound other none = by-parts o p world _ refl sound
-other_writes_leave_frames o p Eerd value world sound other none = by-parts o p world _ refl sound
-other_writes_leave_frames o p Mdic value world sound other none = by-parts o p world _ refl sound
-other_writes_leave_frames o p Vet value world sound other none = by-parts o p world _ refl sound
-other_writes_leave_frames o p Icr value world sound other none = by-parts o p world _ refl sound
-other_writes_leave_frames o p Ics value world sound other none = by-parts o p world _ refl sound
-other_writes_leave_frames o p Ims value world sound other none = by-parts o p world _ refl sound
-other_writes_leave_frames o p Imc value world sound other none = by-parts o p world _ refl sound
-other_writes_leave_frames o p Pba value world sound other none = by-parts o p world _ refl sound
-other_writes_leave_frames o p Mpc value world sound other none = by-parts o p world _ refl sound
-other_writes_leave_frames o p Gprc value world sound other none = by-parts o p world _ refl sound
-other_writes_leave_frames o p Gptc value world sound other none = by-parts o p world _ refl sound
-other_writes_leave_frames o p Rnbc value world sound other none = by-parts o p world _ refl sound
-other_writes_leave_frames o p (Mta word) value world sound other none = by-parts o p world _ refl sound
-other_writes_leave_frames o p (Ral entry) value world sound other none = by-parts o p world _ refl sound
-other_writes_leave_frames o p (Rah entry) value world sound other none = by-parts o p world _ refl sound
-other_writes_leave_frames o p (Vfta word) value world sound other none = by-parts o p world _ refl sound
+    by_test false same =
+        let leaves = row-leaves register value world.adapter in
+        let controls = leaves.controls other in
+        let rings = leaves.rings controls.no_ring in
+        by-parts o p world _ (rw (leaves.receiver, leaves.transmitter, rings.0, rings.1, controls.receive, controls.transmit) refl) sound
 
 -- Many slots.
 

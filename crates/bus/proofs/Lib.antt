@@ -26,6 +26,7 @@ pub mod Carrying
 pub mod Tails
 pub mod RefillSteps
 pub mod SendSteps
+pub mod Writes
 pub mod Idle
 pub mod SoundBuses
 pub mod Initialising

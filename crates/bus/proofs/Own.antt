@@ -15,8 +15,7 @@ use Rattle.descriptors.specs.declared.tx_status.TxStatus.{TxStatus}
 use Rattle.std.proofs.lemmas.Bool.{cases_lt}
 use Rattle.dma_memory.specs.Areas.{AreApart, Area, IsInside, bytes_in, descriptor_area}
 use Rattle.dma_memory.specs.AreaLaws.{apart-inside, apart-sym, inside-apart}
-use Rattle.descriptors.specs.declared.ring.Ring.{Ring}
-use Rattle.descriptors.specs.Ring.{address_of, count_of, owned}
+use Rattle.descriptors.specs.Ring.{address_of, count_of}
 use Rattle.adapter.specs.Rings.{ring_of}
 use Rattle.adapter.specs.declared.ring.RingRegisters.{RingRegisters}
 use Rattle.rx_engine.specs.Descriptors as receive
@@ -27,7 +26,7 @@ use Rattle.bus.specs.Slots.{offered, outstanding}
 use Rattle.bus.specs.World.{World, receive_ring, transmit_ring}
 use Rattle.bus.proofs.Kept.{named-same}
 use Rattle.bus.proofs.Lists.{all-head, all-left, all-none, all-right, all-tail, all-unmapped, map-same, pairs-head, pairs-right, pairs-tail}
-use Rattle.bus.proofs.Rings.{dealt-left, dealt-right, outstanding-apart, outstanding-inside, slot-inside}
+use Rattle.bus.proofs.Rings.{dealt-left, dealt-right, each-outstanding, far-apart, outstanding-apart, outstanding-inside, slot-inside}
 
 -- Each of the elements in front with each of those behind.
 pairs-across : {X : Type 0} (R : X → X → Type 0) (xs ys : List X) → AllPairs R (xs ++ ys) → All (λ x. All (R x) ys) xs
@@ -159,42 +158,29 @@ foreign-written o p a sound =
     let inside = dealt-left a.memory ring p (buffered a) (λ d. IsInside (descriptor_area d) (ring_area ring)) slots (outstanding-inside ring p slots.slot) in
     λ k d below. foreign-in_transmit o p a _ sound (inside k d below) (λ j e within. byte-apart _ _ (across k d below j e within))
 
--- Slots and their addresses.
-
--- each outstanding slot is one of the ring's
-outstanding-places : (ring : Ring) (oldest : ℕ) → All (λ d. (slot : ℕ) × (d ≡ address_of ring slot)) (outstanding ring oldest)
-outstanding-places ring oldest = All-map (λ d. (slot : ℕ) × (d ≡ address_of ring slot)) (address_of ring) (owned (record ring { head = oldest })) (λ k d below. (_, refl))
-
-own-apart : (base slot other : ℕ) → other ≢ slot → AreApart (record { address = base + 16 * slot; size = 16 }) (reported_half (base + 16 * other))
-own-apart base slot other differ = ⊎_elim (λ (less : other < slot). inr (omega (arith, less))) (λ (more : slot ≤ other). inl (omega (arith, more, differ))) (cases_lt other slot)
-
-front-apart : (base slot other : ℕ) → AreApart (record { address = base + 16 * slot; size = 8 }) (reported_half (base + 16 * other))
-front-apart base slot other = ⊎_elim (λ (less : other < slot). inr (omega (arith, less))) (λ (more : slot ≤ other). inl (omega (arith, more))) (cases_lt other slot)
+-- The driver's own slots, and the addresses in descriptors.
 
 foreign-own : (o p : ℕ) (a : World) (slot : ℕ) → Sound o p a → IsOwnSlot (receive_ring a) o slot → IsForeign a (descriptor_area (address_of (receive_ring a) slot))
 foreign-own o p a slot sound own =
     let ring = receive_ring a in
-    let places = dealt-right a.memory ring o (in_work a) (λ d. (s : ℕ) × (d ≡ address_of ring s)) sound.receive_slots (outstanding-places ring o) in
-    let differ = dealt-right a.memory ring o (in_work a) (λ other. other ≢ address_of ring slot) sound.receive_slots own.apart in
-    foreign-in_ring o p a (descriptor_area (address_of ring slot)) sound (slot-inside ring.base (count_of ring) slot 16 own.below (omega arith))
-    (λ k d within. at-place (address_of ring slot) _ (places k d within) (differ k d within))
-  where
-    at-place : (own d : ℕ) → (s : ℕ) × (d ≡ address_of (receive_ring a) s) → d ≢ address_of (receive_ring a) slot → AreApart (descriptor_area (address_of (receive_ring a) slot)) (reported_half d)
-    at-place own d place differ =
-        subst (λ (e : ℕ). AreApart (descriptor_area (address_of (receive_ring a) slot)) (reported_half e)) (sym place.1)
-        (own-apart (receive_ring a).base slot place.0 (λ same. differ (place.1 ∙ ap (address_of (receive_ring a)) same)))
+    let at = address_of ring slot in
+    let Apart : ℕ → Type 0 = λ d. AreApart (descriptor_area at) (reported_half d) in
+    let others = each-outstanding ring o (λ d. d ≢ at → Apart d) sound.receive_slots.slot
+    (λ other below differ. half-apart at (address_of ring other) (far-apart ring.base slot other (λ same. differ (ap (address_of ring) same)))) in
+    foreign-in_ring o p a (descriptor_area at) sound (slot-inside ring.base (count_of ring) slot 16 own.below (omega arith))
+    (dealt-right a.memory ring o (in_work a) Apart sound.receive_slots (λ k d within. others k d within (own.apart k d within)))
+
+front-apart : (base slot other : ℕ) → AreApart (record { address = base + 16 * slot; size = 8 }) (reported_half (base + 16 * other))
+front-apart base slot other = ⊎_elim (λ (less : other < slot). inr (omega (arith, less))) (λ (more : slot ≤ other). inl (omega (arith, more))) (cases_lt other slot)
 
 foreign-address : (o p : ℕ) (a : World) (slot : ℕ) → Sound o p a → slot < count_of (receive_ring a) → IsForeign a (record { address = address_of (receive_ring a) slot; size = 8 })
 foreign-address o p a slot sound below =
     let ring = receive_ring a in
-    let places = dealt-right a.memory ring o (in_work a) (λ d. (s : ℕ) × (d ≡ address_of ring s)) sound.receive_slots (outstanding-places ring o) in
-    foreign-in_ring o p a (record { address = address_of ring slot; size = 8 }) sound (slot-inside ring.base (count_of ring) slot 8 below (omega arith))
-    (λ k d within. at-place _ (places k d within))
-  where
-    at-place : (d : ℕ) → (s : ℕ) × (d ≡ address_of (receive_ring a) s) → AreApart (record { address = address_of (receive_ring a) slot; size = 8 }) (reported_half d)
-    at-place d place =
-        subst (λ (e : ℕ). AreApart (record { address = address_of (receive_ring a) slot; size = 8 }) (reported_half e)) (sym place.1)
-        (front-apart (receive_ring a).base slot place.0)
+    let area : Area = record { address = address_of ring slot; size = 8 } in
+    let Apart : ℕ → Type 0 = λ d. AreApart area (reported_half d) in
+    foreign-in_ring o p a area sound (slot-inside ring.base (count_of ring) slot 8 below (omega arith))
+    (dealt-right a.memory ring o (in_work a) Apart sound.receive_slots
+    (each-outstanding ring o Apart sound.receive_slots.slot (λ other within. front-apart ring.base slot other)))
 
 -- The address that a descriptor names stands in its first eight bytes.
 address-front : (memory : List ℕ) (at : ℕ) → receive.named_address memory at ≡ little_number 8 (bytes_at memory at 8)
@@ -203,21 +189,15 @@ address-front memory at = little_from-take 0 8 16 (drop at memory) (omega arith)
 
 -- The same of the transmit ring.
 
-own-status : (base slot other : ℕ) → other ≢ slot → AreApart (record { address = base + 16 * slot; size = 16 }) (status_byte (base + 16 * other))
-own-status base slot other differ = ⊎_elim (λ (less : other < slot). inr (omega (arith, less))) (λ (more : slot ≤ other). inl (omega (arith, more, differ))) (cases_lt other slot)
-
 foreign-own_sent : (o p : ℕ) (a : World) (slot : ℕ) → Sound o p a → IsOwnSlot (transmit_ring a) p slot → IsForeign a (descriptor_area (address_of (transmit_ring a) slot))
 foreign-own_sent o p a slot sound own =
     let ring = transmit_ring a in
-    let places = dealt-right a.memory ring p (buffered a) (λ d. (s : ℕ) × (d ≡ address_of ring s)) sound.transmit_slots (outstanding-places ring p) in
-    let differ = dealt-right a.memory ring p (buffered a) (λ other. other ≢ address_of ring slot) sound.transmit_slots own.apart in
-    foreign-in_transmit o p a (descriptor_area (address_of ring slot)) sound (slot-inside ring.base (count_of ring) slot 16 own.below (omega arith))
-    (λ k d within. at-place _ (places k d within) (differ k d within))
-  where
-    at-place : (d : ℕ) → (s : ℕ) × (d ≡ address_of (transmit_ring a) s) → d ≢ address_of (transmit_ring a) slot → AreApart (descriptor_area (address_of (transmit_ring a) slot)) (status_byte d)
-    at-place d place differ =
-        subst (λ (e : ℕ). AreApart (descriptor_area (address_of (transmit_ring a) slot)) (status_byte e)) (sym place.1)
-        (own-status (transmit_ring a).base slot place.0 (λ same. differ (place.1 ∙ ap (address_of (transmit_ring a)) same)))
+    let at = address_of ring slot in
+    let Apart : ℕ → Type 0 = λ d. AreApart (descriptor_area at) (status_byte d) in
+    let others = each-outstanding ring p (λ d. d ≢ at → Apart d) sound.transmit_slots.slot
+    (λ other below differ. byte-apart at (address_of ring other) (far-apart ring.base slot other (λ same. differ (ap (address_of ring) same)))) in
+    foreign-in_transmit o p a (descriptor_area at) sound (slot-inside ring.base (count_of ring) slot 16 own.below (omega arith))
+    (dealt-right a.memory ring p (buffered a) Apart sound.transmit_slots (λ k d within. others k d within (own.apart k d within)))
 
 -- Bytes of a descriptor in front of its status, and behind it.
 front-status : (base slot other : ℕ) → AreApart (record { address = base + 16 * slot; size = 12 }) (status_byte (base + 16 * other))
@@ -229,11 +209,9 @@ back-status base slot other = ⊎_elim (λ (more : slot < other). inl (omega (ar
 foreign-request : (o p : ℕ) (a : World) (area : Area) → Sound o p a → IsInside area (ring_area (transmit_ring a)) → ((other : ℕ) → AreApart area (status_byte (address_of (transmit_ring a) other))) → IsForeign a area
 foreign-request o p a area sound inside apart =
     let ring = transmit_ring a in
-    let places = dealt-right a.memory ring p (buffered a) (λ d. (s : ℕ) × (d ≡ address_of ring s)) sound.transmit_slots (outstanding-places ring p) in
-    foreign-in_transmit o p a area sound inside (λ k d within. at-place _ (places k d within))
-  where
-    at-place : (d : ℕ) → (s : ℕ) × (d ≡ address_of (transmit_ring a) s) → AreApart area (status_byte d)
-    at-place d place = subst (λ (e : ℕ). AreApart area (status_byte e)) (sym place.1) (apart place.0)
+    let Apart : ℕ → Type 0 = λ d. AreApart area (status_byte d) in
+    foreign-in_transmit o p a area sound inside
+    (dealt-right a.memory ring p (buffered a) Apart sound.transmit_slots (each-outstanding ring p Apart sound.transmit_slots.slot (λ other within. apart other)))
 
 -- A transmit descriptor by its bytes.
 

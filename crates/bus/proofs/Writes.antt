@@ -1,0 +1,55 @@
+-- What a write of a register leaves of the adapter, where it doesn't reset it.
+use Rattle.std.proofs.Common.{◌≡◌, ℕ, refl}
+use Rattle.adapter.specs.declared.register.Register.{Register}
+use Rattle.adapter.specs.declared.register.Register.TheVariants.{Ctrl, Status, Eerd, Mdic, Vet, Icr, Ics, Ims, Imc, Rctl, Tctl, Pba, Receive, Transmit, Mpc, Gprc, Gptc, Rnbc, Mta, Ral, Rah, Vfta}
+use Rattle.adapter.specs.Registers.{by_row}
+use Rattle.adapter.specs.State.{AdapterState}
+use Rattle.adapter.specs.Table.{row_of}
+use Rattle.bus.specs.Idle.{IsOfRing}
+use Rattle.bus.specs.Initialising.{IsOfConditions}
+
+-- RCTL and TCTL are those of before, and the register isn't one of a ring.
+pub record KeepsControls (register : Register) (a b : AdapterState) : Type 0 where
+  pub no_ring : ¬ (IsOfRing register)
+  pub receive : b.filter.rctl ≡ a.filter.rctl
+  pub transmit : b.transmit_control ≡ a.transmit_control
+
+-- The engines are; the rings are, but for a write of a ring's register; and so are RCTL and TCTL where the conditions don't read the register.
+pub record Leaves (register : Register) (a b : AdapterState) : Type 0 where
+  pub receiver : b.receiver ≡ a.receiver
+  pub transmitter : b.transmitter ≡ a.transmitter
+  pub rings : ¬ (IsOfRing register) → (b.receive_ring ≡ a.receive_ring) × (b.transmit_ring ≡ a.transmit_ring)
+  pub controls : ¬ (IsOfConditions register) → KeepsControls register a b
+
+-- a register that is neither of a ring nor RCTL or TCTL
+leaves-all : (register : Register) (a b : AdapterState) → ¬ (IsOfRing register) → b.receiver ≡ a.receiver → b.transmitter ≡ a.transmitter → b.receive_ring ≡ a.receive_ring → b.transmit_ring ≡ a.transmit_ring → b.filter.rctl ≡ a.filter.rctl → b.transmit_control ≡ a.transmit_control → Leaves register a b
+leaves-all register a b no_ring receiver transmitter r t receive transmit = record {
+  receiver = receiver;
+  transmitter = transmitter;
+  rings = λ other. (r, t);
+  controls = λ other. record { no_ring = no_ring; receive = receive; transmit = transmit };
+}
+
+pub row-leaves : (register : Register) (value : ℕ) (state : AdapterState) → Leaves register state (by_row (row_of register).kept register value state)
+row-leaves Rctl value state = record { receiver = refl; transmitter = refl; rings = λ other. (refl, refl); controls = λ other. absurd (other tt) }
+row-leaves Tctl value state = record { receiver = refl; transmitter = refl; rings = λ other. (refl, refl); controls = λ other. absurd (other tt) }
+row-leaves (Receive part) value state = record { receiver = refl; transmitter = refl; rings = λ other. absurd (other tt); controls = λ other. absurd (other tt) }
+row-leaves (Transmit part) value state = record { receiver = refl; transmitter = refl; rings = λ other. absurd (other tt); controls = λ other. absurd (other tt) }
+row-leaves Ctrl value state = leaves-all Ctrl state _ (λ no. no) refl refl refl refl refl refl
+row-leaves Status value state = leaves-all Status state _ (λ no. no) refl refl refl refl refl refl
+row-leaves Eerd value state = leaves-all Eerd state _ (λ no. no) refl refl refl refl refl refl
+row-leaves Mdic value state = leaves-all Mdic state _ (λ no. no) refl refl refl refl refl refl
+row-leaves Vet value state = leaves-all Vet state _ (λ no. no) refl refl refl refl refl refl
+row-leaves Icr value state = leaves-all Icr state _ (λ no. no) refl refl refl refl refl refl
+row-leaves Ics value state = leaves-all Ics state _ (λ no. no) refl refl refl refl refl refl
+row-leaves Ims value state = leaves-all Ims state _ (λ no. no) refl refl refl refl refl refl
+row-leaves Imc value state = leaves-all Imc state _ (λ no. no) refl refl refl refl refl refl
+row-leaves Pba value state = leaves-all Pba state _ (λ no. no) refl refl refl refl refl refl
+row-leaves Mpc value state = leaves-all Mpc state _ (λ no. no) refl refl refl refl refl refl
+row-leaves Gprc value state = leaves-all Gprc state _ (λ no. no) refl refl refl refl refl refl
+row-leaves Gptc value state = leaves-all Gptc state _ (λ no. no) refl refl refl refl refl refl
+row-leaves Rnbc value state = leaves-all Rnbc state _ (λ no. no) refl refl refl refl refl refl
+row-leaves (Mta word) value state = leaves-all (Mta word) state _ (λ no. no) refl refl refl refl refl refl
+row-leaves (Ral entry) value state = leaves-all (Ral entry) state _ (λ no. no) refl refl refl refl refl refl
+row-leaves (Rah entry) value state = leaves-all (Rah entry) state _ (λ no. no) refl refl refl refl refl refl
+row-leaves (Vfta word) value state = leaves-all (Vfta word) state _ (λ no. no) refl refl refl refl refl refl
