@@ -1,5 +1,5 @@
 -- Every access, step and arrival leaves an adapter's registers as those of an adapter.
-use Rattle.std.proofs.Common.{◌≡◌, ◌%◌, ◌==◌, ◌≤◌, ℕ, Bool, true, false, List, [], ◌∷◌, Option, Some, None, refl, ◌∙◌, if◌then◌else◌, arith, length-set}
+use Rattle.std.proofs.Common.{◌≡◌, ◌%◌, ◌==◌, ◌≤◌, ℕ, Bool, true, false, List, [], ◌∷◌, length, Option, Some, None, refl, ◌∙◌, if◌then◌else◌, arith, length-set}
 use Rattle.std.proofs.lemmas.Bool.{and_parts, eqb-true, leb-true}
 use Rattle.mdic_phy.specs.declared.mdic.Ticked.{Ticked}
 use Rattle.mdic_phy.specs.declared.phy.Link.{Link}
@@ -20,7 +20,7 @@ use Rattle.adapter.specs.declared.step.Stepped.TheVariants.{Took, Put, Moved, Do
 use Rattle.adapter.specs.History.{Event, Read, Write, Step, Arrive, after_event, after_events}
 use Rattle.adapter.specs.PacketBuffer.{IsAllocation, allocation_written, is_allocation}
 use Rattle.adapter.specs.Registers.{after_reset, answer, by_row, is_reset, left_by_read, left_by_write, new_adapter, read_of, write_of}
-use Rattle.adapter.specs.State.{AdapterState, CausesAlone, CountersFit, IsAdapter}
+use Rattle.adapter.specs.State.{AdapterState, CausesAlone, CountersFit, HasTables, IsAdapter}
 use Rattle.adapter.specs.Receiving.{after_arrive, after_data, after_done, causes_of_moving, no_buffers_counted}
 use Rattle.adapter.specs.Recording.{one_more, with_causes}
 use Rattle.adapter.specs.Steps.{after_phy_told, causes_told, after_step}
@@ -44,6 +44,20 @@ no_counts = record { missed = omega arith; received = omega arith; transmitted =
 no_causes : CausesAlone 0 0
 no_causes = record { recorded_causes = refl; masked_causes = refl }
 
+-- By parts.
+
+of-parts : {state : AdapterState} → HasTables state.filter.ral state.filter.rah state.filter.mta state.filter.vfta → IsAllocation state.receive_kilobytes → CausesAlone state.causes.recorded state.causes.mask → CountersFit state.missed_packets state.received_packets state.transmitted_packets state.no_receive_buffers → IsAdapter state
+of-parts tables allocation causes counters = record { tables = tables; allocation = allocation; causes = causes; counters = counters }
+
+of-tables : {ral rah mta vfta : List ℕ} → length ral ≡ 16 → length rah ≡ 16 → length mta ≡ 128 → length vfta ≡ 128 → HasTables ral rah mta vfta
+of-tables ral rah mta vfta = record { ral_entries = ral; rah_entries = rah; mta_words = mta; vfta_words = vfta }
+
+of-causes : {recorded mask : ℕ} → IsSubset recorded all_causes → IsSubset mask all_causes → CausesAlone recorded mask
+of-causes recorded masked = record { recorded_causes = recorded; masked_causes = masked }
+
+of-counters : {mpc gprc gptc rnbc : ℕ} → mpc ≤ greatest_count → gprc ≤ greatest_count → gptc ≤ greatest_count → rnbc ≤ greatest_count → CountersFit mpc gprc gptc rnbc
+of-counters missed received transmitted no_buffers = record { missed = missed; received = received; transmitted = transmitted; no_buffers = no_buffers }
+
 pub IsAdapter-at_reset : (state : AdapterState) → IsAdapter state → IsAdapter (after_reset state)
 IsAdapter-at_reset state adapter =
     record {
@@ -64,106 +78,32 @@ IsAdapter-new words link =
 
 IsAdapter-by_row : (register : Register) (value : ℕ) (state : AdapterState) → IsAdapter state → IsAdapter (by_row (row_of register).kept register value state)
 IsAdapter-by_row Pba value state adapter =
-    record {
-      tables = adapter.tables;
-      allocation = IsAllocation-written value state.receive_kilobytes adapter.allocation;
-      causes = adapter.causes;
-      counters = adapter.counters;
-    }
+    of-parts adapter.tables (IsAllocation-written value state.receive_kilobytes adapter.allocation) adapter.causes adapter.counters
 IsAdapter-by_row (Mta word) value state adapter =
-    let tables = adapter.tables in
-    record {
-      tables = record {
-        ral_entries = tables.ral_entries;
-        rah_entries = tables.rah_entries;
-        mta_words = length-set state.filter.mta word _ ∙ tables.mta_words;
-        vfta_words = tables.vfta_words;
-      };
-      allocation = adapter.allocation;
-      causes = adapter.causes;
-      counters = adapter.counters;
-    }
+    let t = adapter.tables in
+    of-parts (of-tables t.ral_entries t.rah_entries (length-set state.filter.mta word _ ∙ t.mta_words) t.vfta_words) adapter.allocation adapter.causes adapter.counters
 IsAdapter-by_row (Ral entry) value state adapter =
-    let tables = adapter.tables in
-    record {
-      tables = record {
-        ral_entries = length-set state.filter.ral entry _ ∙ tables.ral_entries;
-        rah_entries = tables.rah_entries;
-        mta_words = tables.mta_words;
-        vfta_words = tables.vfta_words;
-      };
-      allocation = adapter.allocation;
-      causes = adapter.causes;
-      counters = adapter.counters;
-    }
+    let t = adapter.tables in
+    of-parts (of-tables (length-set state.filter.ral entry _ ∙ t.ral_entries) t.rah_entries t.mta_words t.vfta_words) adapter.allocation adapter.causes adapter.counters
 IsAdapter-by_row (Rah entry) value state adapter =
-    let tables = adapter.tables in
-    record {
-      tables = record {
-        ral_entries = tables.ral_entries;
-        rah_entries = length-set state.filter.rah entry _ ∙ tables.rah_entries;
-        mta_words = tables.mta_words;
-        vfta_words = tables.vfta_words;
-      };
-      allocation = adapter.allocation;
-      causes = adapter.causes;
-      counters = adapter.counters;
-    }
+    let t = adapter.tables in
+    of-parts (of-tables t.ral_entries (length-set state.filter.rah entry _ ∙ t.rah_entries) t.mta_words t.vfta_words) adapter.allocation adapter.causes adapter.counters
 IsAdapter-by_row (Vfta word) value state adapter =
-    let tables = adapter.tables in
-    record {
-      tables = record {
-        ral_entries = tables.ral_entries;
-        rah_entries = tables.rah_entries;
-        mta_words = tables.mta_words;
-        vfta_words = length-set state.filter.vfta word _ ∙ tables.vfta_words;
-      };
-      allocation = adapter.allocation;
-      causes = adapter.causes;
-      counters = adapter.counters;
-    }
+    let t = adapter.tables in
+    of-parts (of-tables t.ral_entries t.rah_entries t.mta_words (length-set state.filter.vfta word _ ∙ t.vfta_words)) adapter.allocation adapter.causes adapter.counters
 IsAdapter-by_row Icr value state adapter =
-    record {
-      tables = adapter.tables;
-      allocation = adapter.allocation;
-      causes = record {
-        recorded_causes = IsSubset-intersection state.causes.recorded _ all_causes adapter.causes.recorded_causes;
-        masked_causes = adapter.causes.masked_causes;
-      };
-      counters = adapter.counters;
-    }
+    let recorded = IsSubset-intersection state.causes.recorded _ all_causes adapter.causes.recorded_causes in
+    of-parts adapter.tables adapter.allocation (of-causes recorded adapter.causes.masked_causes) adapter.counters
 IsAdapter-by_row Ics value state adapter =
-    record {
-      tables = adapter.tables;
-      allocation = adapter.allocation;
-      causes = record {
-        recorded_causes = IsSubset-union state.causes.recorded _ all_causes adapter.causes.recorded_causes (IsSubset-masked value all_causes);
-        masked_causes = adapter.causes.masked_causes;
-      };
-      counters = adapter.counters;
-    }
+    let recorded = IsSubset-union state.causes.recorded _ all_causes adapter.causes.recorded_causes (IsSubset-masked value all_causes) in
+    of-parts adapter.tables adapter.allocation (of-causes recorded adapter.causes.masked_causes) adapter.counters
 IsAdapter-by_row Ims value state adapter =
-    record {
-      tables = adapter.tables;
-      allocation = adapter.allocation;
-      causes = record {
-        recorded_causes = adapter.causes.recorded_causes;
-        masked_causes = IsSubset-union state.causes.mask _ all_causes adapter.causes.masked_causes (IsSubset-masked value all_causes);
-      };
-      counters = adapter.counters;
-    }
+    let masked = IsSubset-union state.causes.mask _ all_causes adapter.causes.masked_causes (IsSubset-masked value all_causes) in
+    of-parts adapter.tables adapter.allocation (of-causes adapter.causes.recorded_causes masked) adapter.counters
 IsAdapter-by_row Imc value state adapter =
-    record {
-      tables = adapter.tables;
-      allocation = adapter.allocation;
-      causes = record {
-        recorded_causes = adapter.causes.recorded_causes;
-        masked_causes = IsSubset-intersection state.causes.mask _ all_causes adapter.causes.masked_causes;
-      };
-      counters = adapter.counters;
-    }
-IsAdapter-by_row _ value state adapter =
-    record { tables = adapter.tables; allocation = adapter.allocation; causes = adapter.causes; counters = adapter.counters }
+    let masked = IsSubset-intersection state.causes.mask _ all_causes adapter.causes.masked_causes in
+    of-parts adapter.tables adapter.allocation (of-causes adapter.causes.recorded_causes masked) adapter.counters
+IsAdapter-by_row _ value state adapter = of-parts adapter.tables adapter.allocation adapter.causes adapter.counters
 
 pub IsAdapter-written : (register : Register) (value : ℕ) (state : AdapterState) → IsAdapter state → IsAdapter (write_of register value state)
 IsAdapter-written register value state adapter =
@@ -174,67 +114,20 @@ IsAdapter-written register value state adapter =
     by_test false = IsAdapter-by_row register value state adapter
 
 pub IsAdapter-read : (register : Register) (state : AdapterState) → IsAdapter state → IsAdapter (read_of register state)
-IsAdapter-read Icr state adapter =
-    record {
-      tables = adapter.tables;
-      allocation = adapter.allocation;
-      causes = record { recorded_causes = refl; masked_causes = adapter.causes.masked_causes };
-      counters = adapter.counters;
-    }
+IsAdapter-read Icr state adapter = of-parts adapter.tables adapter.allocation (of-causes refl adapter.causes.masked_causes) adapter.counters
 IsAdapter-read Mpc state adapter =
-    let counters = adapter.counters in
-    record {
-      tables = adapter.tables;
-      allocation = adapter.allocation;
-      causes = adapter.causes;
-      counters = record {
-        missed = omega arith;
-        received = counters.received;
-        transmitted = counters.transmitted;
-        no_buffers = counters.no_buffers;
-      };
-    }
+    let c = adapter.counters in
+    of-parts adapter.tables adapter.allocation adapter.causes (of-counters (omega arith) c.received c.transmitted c.no_buffers)
 IsAdapter-read Gprc state adapter =
-    let counters = adapter.counters in
-    record {
-      tables = adapter.tables;
-      allocation = adapter.allocation;
-      causes = adapter.causes;
-      counters = record {
-        missed = counters.missed;
-        received = omega arith;
-        transmitted = counters.transmitted;
-        no_buffers = counters.no_buffers;
-      };
-    }
+    let c = adapter.counters in
+    of-parts adapter.tables adapter.allocation adapter.causes (of-counters c.missed (omega arith) c.transmitted c.no_buffers)
 IsAdapter-read Gptc state adapter =
-    let counters = adapter.counters in
-    record {
-      tables = adapter.tables;
-      allocation = adapter.allocation;
-      causes = adapter.causes;
-      counters = record {
-        missed = counters.missed;
-        received = counters.received;
-        transmitted = omega arith;
-        no_buffers = counters.no_buffers;
-      };
-    }
+    let c = adapter.counters in
+    of-parts adapter.tables adapter.allocation adapter.causes (of-counters c.missed c.received (omega arith) c.no_buffers)
 IsAdapter-read Rnbc state adapter =
-    let counters = adapter.counters in
-    record {
-      tables = adapter.tables;
-      allocation = adapter.allocation;
-      causes = adapter.causes;
-      counters = record {
-        missed = counters.missed;
-        received = counters.received;
-        transmitted = counters.transmitted;
-        no_buffers = omega arith;
-      };
-    }
-IsAdapter-read _ state adapter =
-    record { tables = adapter.tables; allocation = adapter.allocation; causes = adapter.causes; counters = adapter.counters }
+    let c = adapter.counters in
+    of-parts adapter.tables adapter.allocation adapter.causes (of-counters c.missed c.received c.transmitted (omega arith))
+IsAdapter-read _ state adapter = of-parts adapter.tables adapter.allocation adapter.causes adapter.counters
 
 -- what a tick tells are causes
 causes_told-alone : (ticked : Ticked) → IsSubset (causes_told ticked) all_causes
@@ -249,20 +142,13 @@ causes_told-alone ticked = by_tests ticked.link_changed ticked.access_complete
 -- More causes recorded leave an adapter.
 IsAdapter-with_causes : (causes : ℕ) (state : AdapterState) → IsSubset causes all_causes → IsAdapter state → IsAdapter (with_causes causes state)
 IsAdapter-with_causes causes state alone adapter =
-    record {
-      tables = adapter.tables;
-      allocation = adapter.allocation;
-      causes = record {
-        recorded_causes = IsSubset-union state.causes.recorded causes all_causes adapter.causes.recorded_causes alone;
-        masked_causes = adapter.causes.masked_causes;
-      };
-      counters = adapter.counters;
-    }
+    let recorded = IsSubset-union state.causes.recorded causes all_causes adapter.causes.recorded_causes alone in
+    of-parts adapter.tables adapter.allocation (of-causes recorded adapter.causes.masked_causes) adapter.counters
 
 IsAdapter-told : (told : Option Ticked) (state : AdapterState) → IsAdapter state → IsAdapter (after_phy_told told state)
 IsAdapter-told (Some ticked) state adapter =
     IsAdapter-with_causes (causes_told ticked) _ (causes_told-alone ticked)
-    (record { tables = adapter.tables; allocation = adapter.allocation; causes = adapter.causes; counters = adapter.counters })
+    (of-parts adapter.tables adapter.allocation adapter.causes adapter.counters)
 IsAdapter-told None state adapter = adapter
 
 -- a cause of a test, among all causes
@@ -283,9 +169,9 @@ no_buffers-fit state adapter = by_test (state.receive_ring.head == state.receive
 IsAdapter-took : (answer : Stepped) (memory : List ℕ) (state : AdapterState) → IsAdapter state → IsAdapter (after_take answer memory state)
 IsAdapter-took Took memory state adapter =
     IsAdapter-with_causes (causes_of_taking state.transmit_ring) _ (cause-alone _ 0x2 refl)
-    (record { tables = adapter.tables; allocation = adapter.allocation; causes = adapter.causes; counters = adapter.counters })
+    (of-parts adapter.tables adapter.allocation adapter.causes adapter.counters)
 IsAdapter-took Fault memory state adapter =
-    record { tables = adapter.tables; allocation = adapter.allocation; causes = adapter.causes; counters = adapter.counters }
+    of-parts adapter.tables adapter.allocation adapter.causes adapter.counters
 IsAdapter-took _ memory state adapter = adapter
 
 putting-alone : (buffer : List Queued) → IsSubset (causes_of_putting buffer) all_causes
@@ -294,74 +180,34 @@ putting-alone (queued ∷ later) = cause-alone queued.report 0x1 refl
 
 IsAdapter-put : (answer : Stepped) (state : AdapterState) → IsAdapter state → IsAdapter (after_put answer state)
 IsAdapter-put (Put frame) state adapter =
-    let counters = adapter.counters in
+    let c = adapter.counters in
     IsAdapter-with_causes (causes_of_putting state.transmitter.buffer) _ (putting-alone state.transmitter.buffer)
-    (record {
-      tables = adapter.tables;
-      allocation = adapter.allocation;
-      causes = adapter.causes;
-      counters = record {
-        missed = counters.missed;
-        received = counters.received;
-        transmitted = one_more-fits state.transmitted_packets;
-        no_buffers = counters.no_buffers;
-      };
-    })
+    (of-parts adapter.tables adapter.allocation adapter.causes (of-counters c.missed c.received (one_more-fits state.transmitted_packets) c.no_buffers))
 IsAdapter-put _ state adapter = adapter
 
 IsAdapter-moved : (answer : Stepped) (state : AdapterState) → IsAdapter state → IsAdapter (after_data answer state)
 IsAdapter-moved Moved state adapter =
     IsAdapter-with_causes (causes_of_moving state.receive_ring) _ (cause-alone _ 0x10 refl)
-    (record { tables = adapter.tables; allocation = adapter.allocation; causes = adapter.causes; counters = adapter.counters })
+    (of-parts adapter.tables adapter.allocation adapter.causes adapter.counters)
 IsAdapter-moved Fault state adapter =
-    record { tables = adapter.tables; allocation = adapter.allocation; causes = adapter.causes; counters = adapter.counters }
+    of-parts adapter.tables adapter.allocation adapter.causes adapter.counters
 IsAdapter-moved _ state adapter = adapter
 
 IsAdapter-done : (answer : Stepped) (state : AdapterState) → IsAdapter state → IsAdapter (after_done answer state)
 IsAdapter-done Done state adapter =
-    let counters = adapter.counters in
+    let c = adapter.counters in
     IsAdapter-with_causes 0x80 _ refl
-    (record {
-      tables = adapter.tables;
-      allocation = adapter.allocation;
-      causes = adapter.causes;
-      counters = record {
-        missed = counters.missed;
-        received = one_more-fits state.received_packets;
-        transmitted = counters.transmitted;
-        no_buffers = counters.no_buffers;
-      };
-    })
+    (of-parts adapter.tables adapter.allocation adapter.causes (of-counters c.missed (one_more-fits state.received_packets) c.transmitted c.no_buffers))
 IsAdapter-done _ state adapter = adapter
 
 pub IsAdapter-arrived : (fate : Fate) (frame : List ℕ) (state : AdapterState) → IsAdapter state → IsAdapter (after_arrive fate frame state)
 IsAdapter-arrived Missed frame state adapter =
-    let counters = adapter.counters in
+    let c = adapter.counters in
     IsAdapter-with_causes 0x40 _ refl
-    (record {
-      tables = adapter.tables;
-      allocation = adapter.allocation;
-      causes = adapter.causes;
-      counters = record {
-        missed = one_more-fits state.missed_packets;
-        received = counters.received;
-        transmitted = counters.transmitted;
-        no_buffers = no_buffers-fit state adapter;
-      };
-    })
+    (of-parts adapter.tables adapter.allocation adapter.causes (of-counters (one_more-fits state.missed_packets) c.received c.transmitted (no_buffers-fit state adapter)))
 IsAdapter-arrived Stored frame state adapter =
-    let counters = adapter.counters in
-    record {
-      tables = adapter.tables;
-      allocation = adapter.allocation;
-      causes = adapter.causes;
-      counters = record {
-        missed = counters.missed;
-        received = counters.received;
-        transmitted = counters.transmitted;
-        no_buffers = no_buffers-fit state adapter;
-      };
-    }
+    let c = adapter.counters in
+    of-parts adapter.tables adapter.allocation adapter.causes (of-counters c.missed c.received c.transmitted (no_buffers-fit state adapter))
 IsAdapter-arrived _ frame state adapter = adapter
 
 pub IsAdapter-stepped : (kind : StepKind) (answer : Stepped) (memory : List ℕ) (state : AdapterState) → IsAdapter state
@@ -371,7 +217,7 @@ IsAdapter-stepped TxPut answer memory state adapter = IsAdapter-put answer state
 IsAdapter-stepped RxData answer memory state adapter = IsAdapter-moved answer state adapter
 IsAdapter-stepped RxDone answer memory state adapter = IsAdapter-done answer state adapter
 IsAdapter-stepped EepromTick answer memory state adapter =
-    record { tables = adapter.tables; allocation = adapter.allocation; causes = adapter.causes; counters = adapter.counters }
+    of-parts adapter.tables adapter.allocation adapter.causes adapter.counters
 IsAdapter-stepped PhyTick answer memory state adapter = IsAdapter-told (mdi.told state.mdic state.phy) state adapter
 
 pub IsAdapter-after_event : (event : Event) (state : AdapterState) → IsAdapter state → IsAdapter (after_event event state)
