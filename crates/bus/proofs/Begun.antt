@@ -1,5 +1,5 @@
 -- A world in which a slot can be refilled, and a frame be sent.
-use Rattle.std.proofs.Common.{◌≡◌, ◌≤◌, inl, ◌++◌, ◌∷◌, [], ℕ, List, length, length-append, map, replicate, refl, sym, ap, subst, ◌∙◌, arith}
+use Rattle.std.proofs.Common.{◌≡◌, ◌≤◌, inl, ◌++◌, [], true, false, ℕ, List, length, map, refl, sym, ap, subst, arith}
 use Rattle.std.specs.List.{All}
 use Rattle.std.proofs.lemmas.List.{length-replicate}
 use Rattle.std.proofs.lemmas.List.Elements.{All-cons}
@@ -8,38 +8,31 @@ use Rattle.bus.specs.Examples.{SomeSound}
 use Rattle.bus.specs.Frames.{buffer_of, data_of, finished, frames_held, named}
 use Rattle.bus.specs.Refilling.{LetsRefill}
 use Rattle.bus.specs.Sending.{LetsSend}
+use Rattle.bus.specs.Slots.{is_done, offered}
+use Rattle.bus.specs.SoundBuses.{ready}
 use Rattle.bus.specs.Spare.{FramesFit, IsSpare}
-use Rattle.bus.specs.World.{World}
-use Rattle.bus.proofs.Examples.{new, ready, ready-idle, ready-offered, ready-runs, ready-sound, zeros-address}
-use Rattle.bus.proofs.Lists.{all-none}
+use Rattle.bus.specs.World.{World, receive_ring}
+use Rattle.bus.proofs.Examples.{ready-runs, words}
+use Rattle.bus.proofs.Lists.{all-none, take_while-split}
+use Rattle.bus.proofs.SoundBuses.{ready-idle, ready-offered, ready-sound, zeros-address, zeros-open}
 
 -- 8,192 bytes of zeros
 abbrev begun : World
-begun = ready new 8192
+begun = ready 8192 words
 
--- No slot is finished: none was taken, and the outstanding ones are all offered.
+-- No slot is finished.
 begun-unfinished : finished 0 begun ≡ []
 begun-unfinished =
-    let sound = ready-sound new 8192 (omega arith) in
-    let all : 2048 ∷ [] ≡ finished 0 begun ++ 2048 ∷ [] = sym (ready-offered new 8192) ∙ sound.receive_slots.classes ∙ ap (λ (slots : List ℕ). finished 0 begun ++ slots) (ready-offered new 8192) in
-    front-empty (finished 0 begun) all
-  where
-    front-empty : (xs : List ℕ) → (let one : List ℕ = 2048 ∷ [] in one) ≡ xs ++ 2048 ∷ [] → xs ≡ []
-    front-empty [] all = refl
-    front-empty (x ∷ xs) all =
-        let long = ap length all in
-        absurd (omega (arith, long, length-append xs (2048 ∷ [])))
+    let Open : ℕ → Type 0 = λ d. is_done begun.memory d ≡ false in
+    let fresh : All Open (offered (receive_ring begun)) =
+    subst (λ (slots : List ℕ). All Open slots) (sym (ready-offered 8192 words)) (All-cons Open 2048 [] (zeros-open 8192 2048 (omega arith)) (all-none Open)) in
+    take_while-split (is_done begun.memory) [] (offered (receive_ring begun)) (all-none (λ d. is_done begun.memory d ≡ true)) fresh
 
 begun-fits : FramesFit 0 begun
 begun-fits =
     let Short : List ℕ → Type 0 = λ frame. length frame ≤ 1518 in
-    let frame : List ℕ = replicate 60 0 in
-    let held : frames_held 0 begun ≡ frame ∷ [] =
-    ap (λ (slots : List ℕ). map (λ (d : ℕ). bytes_in begun.memory (named begun.memory d)) slots ++ frame ∷ []) begun-unfinished in
-    record {
-      room = omega arith;
-      short = subst (λ (frames : List (List ℕ)). All Short frames) (sym held) (All-cons Short frame [] (omega arith) (all-none Short));
-    }
+    let held : frames_held 0 begun ≡ [] = ap (λ (slots : List ℕ). map (λ (d : ℕ). bytes_in begun.memory (named begun.memory d)) slots ++ []) begun-unfinished in
+    record { room = omega arith; short = subst (λ (frames : List (List ℕ)). All Short frames) (sym held) (all-none Short) }
 
 begun-spare : (size : ℕ) → IsSpare 0 0 begun (record { address = 4096; size = size })
 begun-spare size =
@@ -52,17 +45,17 @@ begun-spare size =
       receive_slots = inl (omega arith);
       transmit_slots = inl (omega arith);
       buffers =
-          subst (λ (slots : List ℕ). All Away slots) (sym (ready-offered new 8192))
+          subst (λ (slots : List ℕ). All Away slots) (sym (ready-offered 8192 words))
           (All-cons Away 2048 [] (subst (λ (there : Area). AreApart there area) (sym place) (inl (omega arith))) (all-none Away));
-      sources = subst (λ (slots : List ℕ). All Near slots) (sym (ready-idle new 8192)) (all-none Near);
+      sources = subst (λ (slots : List ℕ). All Near slots) (sym (ready-idle 8192 words)) (all-none Near);
     }
 
 pub refill_can : SomeSound LetsRefill
 refill_can =
     let long = length-replicate {A = ℕ} 8192 0 in (
       begun,
-      ready-sound new 8192 (omega arith),
-      ready-runs new 8192,
+      ready-sound 8192 words (omega arith),
+      ready-runs 8192 words (omega arith),
       record {
         base = 2048;
         count = 8;
@@ -84,8 +77,8 @@ pub send_can : SomeSound LetsSend
 send_can =
     let long = length-replicate {A = ℕ} 8192 0 in (
       begun,
-      ready-sound new 8192 (omega arith),
-      ready-runs new 8192,
+      ready-sound 8192 words (omega arith),
+      ready-runs 8192 words (omega arith),
       record {
         base = 2176;
         count = 8;

@@ -1,5 +1,5 @@
 -- The buses of `src/sound_buses.rt`: what their registers say, and that the laws apply to them.
-use Rattle.std.proofs.Common.{◌≡◌, ◌≤◌, inl, inr, ◌++◌, ◌∷◌, [], true, ℕ, Bool, List, length, replicate, slice_index, refl, sym, ap, subst, ◌∙◌, arith}
+use Rattle.std.proofs.Common.{◌≡◌, ◌≤◌, ◌+◌, false, inl, inr, ◌++◌, ◌∷◌, [], true, ℕ, Bool, List, length, replicate, slice_index, refl, sym, ap, subst, ◌∙◌, arith}
 use Rattle.std.specs.List.{All}
 use Rattle.std.proofs.lemmas.List.{length-replicate}
 use Rattle.std.proofs.lemmas.List.Elements.{All-cons}
@@ -7,8 +7,9 @@ use Rattle.std.proofs.lemmas.List.Kept.{AllPairs-cons}
 use Rattle.dma_memory.specs.Areas.{AreApart, Area}
 use Rattle.registers.specs.Bits.{is_set}
 use Rattle.dma_memory.specs.HostMemory.{LiesIn, bytes_at}
-use Rattle.dma_memory.specs.Laws.{bytes_at-stored, length-with_bytes}
+use Rattle.dma_memory.specs.Laws.{bytes_at-stored, bytes_at-zeros, length-with_bytes}
 use Rattle.descriptors.specs.Ring.{owned}
+use Rattle.descriptors.specs.RxDesc.{rx_desc_of}
 use Rattle.descriptors.specs.TxDesc.{tx_desc_of}
 use Rattle.descriptors.specs.TxFields.{command_bits}
 use Rattle.tx_engine.specs.Fetching.{IsTransmittable, descriptor_at, fetched}
@@ -19,6 +20,7 @@ use Rattle.rx_engine.specs.declared.arrival.Fate.{Fate}
 use Rattle.rx_engine.specs.declared.arrival.Fate.TheVariants.{Off, Illegal, Filtered, Missed, Stored}
 use Rattle.rx_filter.specs.Passing.{AcceptsAddress, AcceptsVlan, Passes}
 use Rattle.rx_filter.specs.Registers.{filter_of}
+use Rattle.rx_engine.specs.Descriptors as receive
 use Rattle.adapter.specs.Receiving.{CanMoveFrame, DataAnswers, DoneAnswers, HasFrameAndDescriptor, IsFate}
 use Rattle.adapter.specs.Steps.{Answers}
 use Rattle.adapter.specs.Transmitting.{CanTake, HasNothingToTake, TakeAnswers}
@@ -33,14 +35,26 @@ use Rattle.bus.specs.Frames.{buffer_of, data_of, finished}
 use Rattle.bus.specs.Idle.{IsIdle}
 use Rattle.bus.specs.Law.{Reports, Sound}
 use Rattle.bus.specs.Offering.{CanOffer, CanSend}
+use Rattle.bus.specs.Slots.{is_done, offered}
 use Rattle.bus.specs.SoundBuses.{call, called, ready, reported, request, requested, resting, sending, sent, working}
 use Rattle.bus.specs.Steps.{IsRunning, world_after_arrival, world_after_step}
-use Rattle.bus.specs.World.{World, world_after_write}
-use Rattle.bus.proofs.Examples.{zeros-address, zeros-open}
+use Rattle.bus.specs.World.{World, receive_ring, transmit_ring, world_after_write}
 use Rattle.bus.proofs.Idle.{idle-areas, idle_rings_are_sound, stores_keep_idle}
 use Rattle.bus.proofs.Instances.{arrivals_happen, steps_happen}
 use Rattle.bus.proofs.Lists.{all-none, pairs-none}
 use Rattle.bus.proofs.Offering.{frames_can_be_offered, slots_can_be_offered}
+
+-- Descriptors in a memory of zeros.
+
+zeros-at : (size d : ℕ) → d + 16 ≤ size → bytes_at (replicate size 0) d 16 ≡ replicate 16 0
+zeros-at size d fits = bytes_at-zeros size d 16 (omega (arith, fits, length-replicate {A = ℕ} size 0))
+
+pub zeros-open : (size d : ℕ) → d + 16 ≤ size → is_done (replicate size 0) d ≡ false
+zeros-open size d fits = ap (λ (bytes : List ℕ). is_set (slice_index bytes 12) 0) (zeros-at size d fits)
+
+pub zeros-address : (size d : ℕ) → d + 16 ≤ size → receive.named_address (replicate size 0) d ≡ 0
+unfolding rx_desc_of
+zeros-address size d fits = ap (λ (bytes : List ℕ). (rx_desc_of bytes).address) (zeros-at size d fits)
 
 -- Six writes set up both rings.
 abbrev pub set_up : World → World
@@ -79,7 +93,7 @@ resting-sound size words fits = idle_rings_are_sound (resting size words) (resti
 
 -- The first receive slot is offered.
 
-resting-can_offer : (size : ℕ) (words : List ℕ) → 4096 ≤ size → CanOffer 0 (resting size words)
+pub resting-can_offer : (size : ℕ) (words : List ℕ) → 4096 ≤ size → CanOffer 0 (resting size words)
 resting-can_offer size words fits =
     let w = resting size words in
     let memory = replicate size 0 in
@@ -105,6 +119,16 @@ resting-can_offer size words fits =
 pub ready-sound : (size : ℕ) (words : List ℕ) → 4096 ≤ size → Sound 0 0 (ready size words)
 ready-sound size words fits = (slots_can_be_offered 0 0 (resting size words) (resting-sound size words fits) (resting-can_offer size words fits)).same.sound
 
+-- It alone is offered.
+
+pub ready-offered : (size : ℕ) (words : List ℕ) → offered (receive_ring (ready size words)) ≡ 2048 ∷ []
+unfolding owned
+ready-offered size words = refl
+
+pub ready-idle : (size : ℕ) (words : List ℕ) → offered (transmit_ring (ready size words)) ≡ []
+unfolding owned
+ready-idle size words = refl
+
 pub ready-has_rings : (size : ℕ) (words : List ℕ) → HasRings (ready size words)
 unfolding owned
 ready-has_rings size words = record { receives = omega arith; transmits = omega arith; offers = λ none. absurd (cc) }
@@ -120,7 +144,7 @@ call-passes : (size : ℕ) (words : List ℕ) → Passes (filter_of (ready size 
 unfolding filter_of AcceptsAddress AcceptsVlan
 call-passes size words = record { address = inr (inr (inr (inr (refl, refl)))); vlan = inl refl }
 
-call-legal : IsLegal call
+pub call-legal : IsLegal call
 call-legal = record { least = omega arith; most = omega arith }
 
 pub fate-stored : (size : ℕ) (words : List ℕ) (fate : Fate) → IsFate (ready size words).adapter call fate → fate ≡ Stored
@@ -132,14 +156,14 @@ fate-stored size words Stored is = refl
 
 -- It is moved.
 
-called-has_frame : (size : ℕ) (words : List ℕ) → HasFrameAndDescriptor (called size words).adapter
+pub called-has_frame : (size : ℕ) (words : List ℕ) → HasFrameAndDescriptor (called size words).adapter
 called-has_frame size words = record {
   enabled = refl;
   ready = record { running = refl; free = refl; frames = λ none. absurd (cc) };
   offered = λ same. absurd (omega (arith, same));
 }
 
-called-can_move : (size : ℕ) (words : List ℕ) → 4096 ≤ size → CanMoveFrame (called size words).memory (called size words).adapter
+pub called-can_move : (size : ℕ) (words : List ℕ) → 4096 ≤ size → CanMoveFrame (called size words).memory (called size words).adapter
 called-can_move size words fits =
     let long = length-replicate {A = ℕ} size 0 in
     let named_zero = zeros-address size 2048 (omega (arith, fits)) in
@@ -213,7 +237,7 @@ request-lies size fits = omega (arith, length-replicate {A = ℕ} size 0, fits)
 requested-size : (size : ℕ) (words : List ℕ) → 4096 ≤ size → length (requested size words).memory ≡ length {A = ℕ} (replicate size 0)
 requested-size size words fits = length-with_bytes (replicate size 0) request 2176 (request-lies size fits)
 
-requested-idle : (size : ℕ) (words : List ℕ) → 4096 ≤ size → IsIdle (requested size words)
+pub requested-idle : (size : ℕ) (words : List ℕ) → 4096 ≤ size → IsIdle (requested size words)
 requested-idle size words fits = stores_keep_idle 2176 request (resting size words) (requested-size size words fits) (resting-idle size words fits)
 
 requested-bytes : (size : ℕ) (words : List ℕ) → 4096 ≤ size → bytes_at (requested size words).memory 2176 16 ≡ request
@@ -230,7 +254,7 @@ requested-reports size words fits = ap (λ (bytes : List ℕ). is_set (command_b
 
 -- and its slot offered.
 
-requested-can_send : (size : ℕ) (words : List ℕ) → 4096 ≤ size → CanSend 0 0 (requested size words)
+pub requested-can_send : (size : ℕ) (words : List ℕ) → 4096 ≤ size → CanSend 0 0 (requested size words)
 requested-can_send size words fits =
     let w = requested size words in
     let memory = (requested size words).memory in
@@ -277,7 +301,7 @@ sending-busy size words (inr (inl stopped)) = absurd (cc)
 sending-busy size words (inr (inr (inl full))) = absurd (omega (arith, full))
 sending-busy size words (inr (inr (inr same))) = absurd (omega (arith, same))
 
-sending-fields : (size : ℕ) (words : List ℕ) → 4096 ≤ size → IsTransmittable (requested size words).memory (descriptor_at (requested size words).memory 2176)
+pub sending-fields : (size : ℕ) (words : List ℕ) → 4096 ≤ size → IsTransmittable (requested size words).memory (descriptor_at (requested size words).memory 2176)
 unfolding tx_desc_of
 sending-fields size words fits =
     let memory = (requested size words).memory in
