@@ -1,6 +1,7 @@
 -- Steps that leave memory, rings and slots: ticks, arrivals, and faults.
+use Rattle.std.specs.Fn.{iterate}
 use Rattle.std.specs.List.{All}
-use Rattle.std.proofs.Common.{◌≡◌, ◌++◌, ◌∷◌, [], inl, Bool, true, false, ℕ, List, Option, Some, None, length, map, refl, sym, ap, ◌∙◌, append_assoc, arith}
+use Rattle.std.proofs.Common.{◌≡◌, ◌≤◌, ◌++◌, ◌∷◌, [], inl, Bool, true, false, ℕ, List, Option, Some, None, length, map, refl, sym, ap, ◌∙◌, append_assoc, arith}
 use Rattle.std.proofs.lemmas.List.{append-nil}
 use Rattle.std.proofs.Common.{cond}
 use Rattle.eeprom.specs.Eerd as eeprom
@@ -10,7 +11,8 @@ use Rattle.mdic_phy.specs.Mdic as mdi
 use Rattle.mdic_phy.specs.Phy.{PhyState}
 use Rattle.mdic_phy.specs.Phy as phy
 use Rattle.mdic_phy.specs.declared.mdic.Ticked.{Ticked as Told}
-use Rattle.registers.specs.Bits.{union}
+use Rattle.registers.specs.Bits.{HasBit, union}
+use Rattle.registers.specs.Counting.{greatest_count}
 use Rattle.rx_engine.specs.Held.{held, in_work}
 use Rattle.rx_engine.specs.declared.arrival.Fate.{Fate}
 use Rattle.rx_engine.specs.declared.arrival.Fate.TheVariants.{Off, Illegal, Filtered, Missed, Stored}
@@ -21,7 +23,7 @@ use Rattle.adapter.specs.Steps.{after_phy_told, causes_told}
 use Rattle.adapter.specs.declared.step.StepKind.TheVariants.{EepromTick, PhyTick}
 use Rattle.adapter.specs.declared.step.Stepped.{Stepped}
 use Rattle.bus.specs.Frames.{finished, frames_to_send, named, written_back}
-use Rattle.bus.specs.Law.{Between, Happens, Management, Sound, management_of, phy_ticked}
+use Rattle.bus.specs.Law.{Between, Happens, Management, Sound, Steady, management_of, phy_ticked}
 use Rattle.bus.specs.Past.{Past, nothing}
 use Rattle.bus.specs.Running.{CanRun}
 use Rattle.bus.specs.Steps.{IsRunning, past_of_arrival, past_of_step, world_after_arrival, world_after_step}
@@ -128,85 +130,53 @@ between_stopped o p a receiver transmitter cannot sound =
 
 -- Ticks.
 
-pub eeprom_tick_happens : (a : World) (answer : Stepped) → IsRunning a.adapter → Happens a (world_after_step EepromTick answer a) (past_of_step EepromTick answer)
-eeprom_tick_happens a answer running = record {
-  steady = record {
-    size = refl;
-    image = refl;
-    causes = λ place set. set;
-    mask = refl;
-    receive_ring = refl;
-    transmit_ring = refl;
-    filter = refl;
-    device_control = refl;
-    transmit_control = refl;
-    allocation = refl;
-    missed = omega (arith, running.registers.counters.missed);
-    off = λ off. (refl, refl);
-    receive_head = inl refl;
-    transmit_head = inl refl;
-    legal = all-none IsLegal;
-    eerd = refl;
-    management = refl;
-  };
-  between = λ o p sound.
-      between_quiet o p a (record (unchanged a.adapter) { eerd = eeprom.after_tick a.adapter.image a.adapter.eerd })
-      (record nothing { eeprom_ticks = 1 }) refl (sym (append-nil a.adapter.receiver.buffer)) (going a) sound;
+-- so many move EERD, MDIC and the PHY, and may record causes
+steady_ticked : (a : World) (recorded : ℕ) (eerd : ReadState) (management : Management) (eeprom_ticks phy_ticks : ℕ) → a.adapter.missed_packets ≤ greatest_count → ((place : ℕ) → HasBit a.adapter.causes.recorded place → HasBit recorded place) → eerd ≡ iterate (eeprom.after_tick a.adapter.image) eeprom_ticks a.adapter.eerd → management ≡ iterate phy_ticked phy_ticks (management_of a.adapter) → Steady a (record a { adapter = changed (record (unchanged a.adapter) { recorded = recorded; eerd = eerd; mdic = management.mdic; phy = management.phy }) a.adapter }) (record nothing { eeprom_ticks = eeprom_ticks; phy_ticks = phy_ticks })
+steady_ticked a recorded eerd management eeprom_ticks phy_ticks fits causes read told = record {
+  size = refl;
+  image = refl;
+  causes = causes;
+  mask = refl;
+  receive_ring = refl;
+  transmit_ring = refl;
+  filter = refl;
+  device_control = refl;
+  transmit_control = refl;
+  allocation = refl;
+  missed = omega (arith, fits);
+  off = λ off. (refl, refl);
+  receive_head = inl refl;
+  transmit_head = inl refl;
+  legal = all-none IsLegal;
+  eerd = read;
+  management = told;
 }
+
+pub eeprom_tick_happens : (a : World) (answer : Stepped) → IsRunning a.adapter → Happens a (world_after_step EepromTick answer a) (past_of_step EepromTick answer)
+eeprom_tick_happens a answer running =
+    let read = eeprom.after_tick a.adapter.image a.adapter.eerd in
+    record {
+      steady = steady_ticked a a.adapter.causes.recorded read (management_of a.adapter) 1 0 running.registers.counters.missed (λ place set. set) refl refl;
+      between = λ o p sound.
+          between_quiet o p a (record (unchanged a.adapter) { eerd = read })
+          (record nothing { eeprom_ticks = 1 }) refl (sym (append-nil a.adapter.receiver.buffer)) (going a) sound;
+    }
 
 -- the PHY's tick, by what it tells
 tick_told : (a : World) (tells : Option Told) (answer : Stepped) → told a.adapter.mdic a.adapter.phy ≡ tells → IsRunning a.adapter → (management_of (after_phy_told tells a.adapter) ≡ phy_ticked (management_of a.adapter)) → Happens a (record a { adapter = after_phy_told tells a.adapter }) (past_of_step PhyTick answer)
 tick_told a None answer is running moves = record {
-  steady = record {
-    size = refl;
-    image = refl;
-    causes = λ place set. set;
-    mask = refl;
-    receive_ring = refl;
-    transmit_ring = refl;
-    filter = refl;
-    device_control = refl;
-    transmit_control = refl;
-    allocation = refl;
-    missed = omega (arith, running.registers.counters.missed);
-    off = λ off. (refl, refl);
-    receive_head = inl refl;
-    transmit_head = inl refl;
-    legal = all-none IsLegal;
-    eerd = refl;
-    management = moves;
-  };
+  steady = steady_ticked a a.adapter.causes.recorded a.adapter.eerd (management_of a.adapter) 0 1 running.registers.counters.missed (λ place set. set) refl moves;
   between = λ o p sound. between_quiet o p a (unchanged a.adapter) (record nothing { phy_ticks = 1 }) refl (sym (append-nil a.adapter.receiver.buffer)) (going a) sound;
 }
-tick_told a (Some tells) answer is running moves = record {
-  steady = record {
-    size = refl;
-    image = refl;
-    causes = added a.adapter.causes.recorded (causes_told tells);
-    mask = refl;
-    receive_ring = refl;
-    transmit_ring = refl;
-    filter = refl;
-    device_control = refl;
-    transmit_control = refl;
-    allocation = refl;
-    missed = omega (arith, running.registers.counters.missed);
-    off = λ off. (refl, refl);
-    receive_head = inl refl;
-    transmit_head = inl refl;
-    legal = all-none IsLegal;
-    eerd = refl;
-    management = moves;
-  };
-  between = λ o p sound.
-      between_quiet o p a
-      (record (unchanged a.adapter) {
-        recorded = union a.adapter.causes.recorded (causes_told tells);
-        mdic = mdic_after_tick a.adapter.mdic a.adapter.phy;
-        phy = phy_after_tick a.adapter.mdic a.adapter.phy;
-      })
-      (record nothing { phy_ticks = 1 }) refl (sym (append-nil a.adapter.receiver.buffer)) (going a) sound;
-}
+tick_told a (Some tells) answer is running moves =
+    let recorded = union a.adapter.causes.recorded (causes_told tells) in
+    let after = management_of (after_phy_told (Some tells) a.adapter) in
+    record {
+      steady = steady_ticked a recorded a.adapter.eerd after 0 1 running.registers.counters.missed (added a.adapter.causes.recorded (causes_told tells)) refl moves;
+      between = λ o p sound.
+          between_quiet o p a (record (unchanged a.adapter) { recorded = recorded; mdic = after.mdic; phy = after.phy })
+          (record nothing { phy_ticks = 1 }) refl (sym (append-nil a.adapter.receiver.buffer)) (going a) sound;
+    }
 
 -- It moves MDIC and the PHY exactly where there is something to do.
 management_told : (adapter : AdapterState) (works : Bool) (tells : Told) → management_of (after_phy_told (cond works (Some tells) None) adapter) ≡ cond works (let line : Management = record { mdic = mdic_after_tick adapter.mdic adapter.phy; phy = phy_after_tick adapter.mdic adapter.phy } in line) (management_of adapter)
