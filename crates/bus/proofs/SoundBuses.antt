@@ -27,7 +27,7 @@ use Rattle.adapter.specs.Transmitting.{CanTake, HasNothingToTake, TakeAnswers}
 use Rattle.adapter.specs.declared.step.StepKind.{StepKind}
 use Rattle.adapter.specs.declared.step.StepKind.TheVariants.{RxData, RxDone, TxTake}
 use Rattle.adapter.specs.declared.step.Stepped.{Stepped}
-use Rattle.adapter.specs.declared.step.Stepped.TheVariants.{Took, Put, WireFull, Moved, Done, Ticked, Nothing, Fault}
+use Rattle.adapter.specs.declared.step.Stepped.TheVariants.{Took, Moved, Done, Nothing, Fault}
 use Rattle.adapter.specs.Registers.{new_adapter}
 use Rattle.adapter.specs.Table.{array_register_at, register_at}
 use Rattle.bus.specs.Examples.{HasFinished, HasFramesInBuffer, HasFramesInRing, HasRings, HasWork}
@@ -179,11 +179,7 @@ pub data-moved : (size : ℕ) (words : List ℕ) → 4096 ≤ size → (answer :
 data-moved size words fits Moved answers = refl
 data-moved size words fits Nothing answers = absurd (answers (called-has_frame size words))
 data-moved size words fits Fault answers = absurd (answers.1 (called-can_move size words fits))
-data-moved size words fits Took answers = absurd answers
-data-moved size words fits (Put frame) answers = absurd answers
-data-moved size words fits WireFull answers = absurd answers
-data-moved size words fits Done answers = absurd answers
-data-moved size words fits Ticked answers = absurd answers
+data-moved size words fits _ answers = absurd answers
 
 pub working-has_work : (size : ℕ) (words : List ℕ) → HasWork (working size words)
 working-has_work size words none = absurd (cc)
@@ -193,12 +189,7 @@ working-has_work size words none = absurd (cc)
 pub done-reported : (size : ℕ) (words : List ℕ) (answer : Stepped) → DoneAnswers (working size words).adapter answer → answer ≡ Done
 done-reported size words Done answers = refl
 done-reported size words Nothing answers = absurd (cc)
-done-reported size words Fault answers = absurd answers
-done-reported size words Moved answers = absurd answers
-done-reported size words Took answers = absurd answers
-done-reported size words (Put frame) answers = absurd answers
-done-reported size words WireFull answers = absurd answers
-done-reported size words Ticked answers = absurd answers
+done-reported size words _ answers = absurd answers
 
 pub reported-has_finished : (size : ℕ) (words : List ℕ) → Sound 0 0 (reported size words) → HasFinished (reported size words)
 unfolding owned
@@ -324,11 +315,7 @@ take-took : (size : ℕ) (words : List ℕ) → 4096 ≤ size → (answer : Step
 take-took size words fits Took answers = refl
 take-took size words fits Nothing answers = absurd (sending-busy size words answers)
 take-took size words fits Fault answers = absurd (answers.1 (sending-can_take size words fits))
-take-took size words fits Moved answers = absurd answers
-take-took size words fits Done answers = absurd answers
-take-took size words fits (Put frame) answers = absurd answers
-take-took size words fits WireFull answers = absurd answers
-take-took size words fits Ticked answers = absurd answers
+take-took size words fits _ answers = absurd answers
 
 pub sent-has_frames : (size : ℕ) (words : List ℕ) → HasFramesInBuffer (sent size words)
 sent-has_frames size words none = absurd (cc)

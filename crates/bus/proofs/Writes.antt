@@ -1,7 +1,7 @@
 -- What a write of a register leaves of the adapter, where it doesn't reset it.
 use Rattle.std.proofs.Common.{◌≡◌, ℕ, refl}
 use Rattle.adapter.specs.declared.register.Register.{Register}
-use Rattle.adapter.specs.declared.register.Register.TheVariants.{Ctrl, Status, Eerd, Mdic, Vet, Icr, Ics, Ims, Imc, Rctl, Tctl, Pba, Receive, Transmit, Mpc, Gprc, Gptc, Rnbc, Mta, Ral, Rah, Vfta}
+use Rattle.adapter.specs.declared.register.Register.TheVariants.{Rctl, Tctl, Receive, Transmit}
 use Rattle.adapter.specs.Registers.{by_row}
 use Rattle.adapter.specs.State.{AdapterState}
 use Rattle.adapter.specs.Table.{row_of}
@@ -35,21 +35,4 @@ row-leaves Rctl value state = record { receiver = refl; transmitter = refl; ring
 row-leaves Tctl value state = record { receiver = refl; transmitter = refl; rings = λ other. (refl, refl); controls = λ other. absurd (other tt) }
 row-leaves (Receive part) value state = record { receiver = refl; transmitter = refl; rings = λ other. absurd (other tt); controls = λ other. absurd (other tt) }
 row-leaves (Transmit part) value state = record { receiver = refl; transmitter = refl; rings = λ other. absurd (other tt); controls = λ other. absurd (other tt) }
-row-leaves Ctrl value state = leaves-all Ctrl state _ (λ no. no) refl refl refl refl refl refl
-row-leaves Status value state = leaves-all Status state _ (λ no. no) refl refl refl refl refl refl
-row-leaves Eerd value state = leaves-all Eerd state _ (λ no. no) refl refl refl refl refl refl
-row-leaves Mdic value state = leaves-all Mdic state _ (λ no. no) refl refl refl refl refl refl
-row-leaves Vet value state = leaves-all Vet state _ (λ no. no) refl refl refl refl refl refl
-row-leaves Icr value state = leaves-all Icr state _ (λ no. no) refl refl refl refl refl refl
-row-leaves Ics value state = leaves-all Ics state _ (λ no. no) refl refl refl refl refl refl
-row-leaves Ims value state = leaves-all Ims state _ (λ no. no) refl refl refl refl refl refl
-row-leaves Imc value state = leaves-all Imc state _ (λ no. no) refl refl refl refl refl refl
-row-leaves Pba value state = leaves-all Pba state _ (λ no. no) refl refl refl refl refl refl
-row-leaves Mpc value state = leaves-all Mpc state _ (λ no. no) refl refl refl refl refl refl
-row-leaves Gprc value state = leaves-all Gprc state _ (λ no. no) refl refl refl refl refl refl
-row-leaves Gptc value state = leaves-all Gptc state _ (λ no. no) refl refl refl refl refl refl
-row-leaves Rnbc value state = leaves-all Rnbc state _ (λ no. no) refl refl refl refl refl refl
-row-leaves (Mta word) value state = leaves-all (Mta word) state _ (λ no. no) refl refl refl refl refl refl
-row-leaves (Ral entry) value state = leaves-all (Ral entry) state _ (λ no. no) refl refl refl refl refl refl
-row-leaves (Rah entry) value state = leaves-all (Rah entry) state _ (λ no. no) refl refl refl refl refl refl
-row-leaves (Vfta word) value state = leaves-all (Vfta word) state _ (λ no. no) refl refl refl refl refl refl
+row-leaves _ value state = leaves-all _ state _ (λ no. no) refl refl refl refl refl refl
