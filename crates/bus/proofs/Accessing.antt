@@ -132,6 +132,3 @@ pub size_prepared : (a p : SoloState) → Prepared a p → length p.world.memory
 size_prepared a p prepared =
     let happens = trail_happens prepared.grouped.before.events a.world prepared.middle.world prepared.grouped.before.are prepared.grouped.before.trail in
     ap (λ (s : SoloState). length s.world.memory) prepared.is ∙ happens.steady.size
-
-pub lively_prepared : (a p : SoloState) → Prepared a p → p.lively ≡ a.lively
-lively_prepared a p prepared = ap (λ (s : SoloState). s.lively) prepared.is ∙ prepared.grouped.before.lively

@@ -1,14 +1,14 @@
 -- Idle rings: the conditions of the law hold of them, and they stay idle.
-use Rattle.std.proofs.Common.{◌≡◌, ⊎_elim, ◌+◌, ◌-◌, ◌%◌, ◌⊎◌, inl, inr, ◌++◌, ◌∷◌, [], true, false, ℕ, List, Bool, Option, None, Some, cond, if◌then◌else◌, length, map, refl, sym, ap, subst, ◌∙◌, arith}
+use Rattle.std.proofs.Common.{◌≡◌, ⊎_elim, ◌⊎◌, inl, inr, ◌++◌, ◌∷◌, [], true, false, ℕ, List, Bool, Option, None, Some, cond, if◌then◌else◌, length, map, refl, sym, ap, subst, ◌∙◌, arith}
 use Rattle.std.specs.List.{All, take_while}
-use Rattle.std.proofs.Math.Nat.{mod_self}
 use Rattle.std.proofs.lemmas.Bool.{cases_eq}
 use Rattle.std.proofs.lemmas.List.Elements.{All-cons}
 use Rattle.std.proofs.lemmas.List.Kept.{AllPairs-cons}
 use Rattle.dma_memory.specs.Areas.{AreApart, AreSeparate, Area}
 use Rattle.dma_memory.specs.HostMemory.{LiesIn}
 use Rattle.descriptors.specs.declared.ring.Ring.{Ring}
-use Rattle.descriptors.specs.Ring.{IsSound, address_of, count_of, distance_of, owned, slots_from}
+use Rattle.descriptors.specs.Ring.{IsSound, address_of}
+use Rattle.descriptors.specs.RingLaws.{owned-none}
 use Rattle.rx_engine.specs.declared.engine.Work.{Work}
 use Rattle.tx_engine.specs.Fetching.{fetched}
 use Rattle.rx_engine.specs.Receiver.{Receiver}
@@ -32,16 +32,7 @@ use Rattle.bus.proofs.Writes.{row-leaves}
 
 -- Rings whose head is their tail.
 
-distance-none : (n i : ℕ) → (i + n - i) % n ≡ 0
-distance-none n i = let whole : i + n - i ≡ n = omega arith in ap (λ (k : ℕ). k % n) whole ∙ mod_self n
-
 -- Such a ring offers nothing, and nothing is outstanding from there on.
-pub owned-none : (ring : Ring) → ring.head ≡ ring.tail → owned ring ≡ []
-unfolding owned
-owned-none ring same =
-    let none : distance_of ring ring.head ring.tail ≡ 0 = ap (distance_of ring ring.head) (sym same) ∙ distance-none (count_of ring) ring.head in
-    ap (slots_from (count_of ring) ring.head) none
-
 pub offered-none : (ring : Ring) → ring.head ≡ ring.tail → offered ring ≡ []
 offered-none ring same = ap (map (address_of ring)) (owned-none ring same)
 

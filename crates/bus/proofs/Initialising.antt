@@ -5,7 +5,7 @@ use Rattle.std.specs.List.{All}
 use Rattle.std.proofs.lemmas.List.{append-nil}
 use Rattle.std.proofs.Math.Nat.{mod-add-mod, mod-eq_of_lt}
 use Rattle.descriptors.specs.Ring.{address_of, count_of, next_of, owned, slots_from}
-use Rattle.descriptors.specs.RingLaws.{next-below}
+use Rattle.descriptors.specs.RingLaws.{next-below, owned-none}
 use Rattle.mdic_phy.specs.declared.phy.Link.TheVariants.{Never}
 use Rattle.rx_engine.specs.Receiver.{Receiver}
 use Rattle.tx_engine.specs.Fetching.{fetched, frame_at}
@@ -25,7 +25,7 @@ use Rattle.bus.specs.OwnStores.{LeavesFrames, SameFrames}
 use Rattle.bus.specs.Running.{CanRun, CanTransmit}
 use Rattle.bus.specs.Slots.{offered, outstanding}
 use Rattle.bus.specs.World.{World, receive_ring}
-use Rattle.bus.proofs.Idle.{dealt-idle, offered-none, outstanding-none, owned-none}
+use Rattle.bus.proofs.Idle.{dealt-idle, offered-none, outstanding-none}
 use Rattle.bus.proofs.Lists.{all-none}
 use Rattle.bus.proofs.Offering.{slots_can_be_offered}
 use Rattle.bus.proofs.Writes.{row-leaves}

@@ -39,9 +39,6 @@ pub all-unmapped : {X Y : Type 0} (P : Y → Type 0) (f : X → Y) (xs : List X)
 all-unmapped P f [] all = all-none (λ x. P (f x))
 all-unmapped P f (x ∷ xs) all = All-cons (λ y. P (f y)) x xs (all-head P (f x) (map f xs) all) (all-unmapped P f xs (all-tail P (f x) (map f xs) all))
 
-pub all-both : {X : Type 0} (P Q : X → Type 0) (xs : List X) → All P xs → All Q xs → All (λ x. P x × Q x) xs
-all-both P Q xs one two k d below = (one k d below, two k d below)
-
 -- Functions that agree on each element map alike.
 pub map-same : {X Y : Type 0} (f g : X → Y) (xs : List X) → All (λ x. f x ≡ g x) xs → map f xs ≡ map g xs
 map-same f g [] same = refl

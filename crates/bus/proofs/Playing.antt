@@ -1,6 +1,5 @@
 -- Ticks that a solo bus plays.
-use Rattle.std.proofs.Common.{length-append, length, ◌≡◌, ◌+◌, inl, inr, ◌++◌, ◌∷◌, [], Bool, true, false, ℕ, List, Option, Some, None, drop, min, slice_get, refl, sym, ap, subst, ◌∙◌, append_assoc, arith}
-use Rattle.std.proofs.lemmas.Bool.{true≢false}
+use Rattle.std.proofs.Common.{length-append, length, ◌≡◌, ◌+◌, inl, inr, ◌++◌, ◌∷◌, [], Bool, true, false, ℕ, List, Option, Some, drop, min, slice_get, refl, sym, ap, subst, ◌∙◌, append_assoc, arith}
 use Rattle.std.proofs.lemmas.List.{append-nil}
 use Rattle.std.proofs.lemmas.List.Elements.{All-append, All-cons}
 use Rattle.rx_engine.specs.declared.arrival.Fate.{Fate}
@@ -19,11 +18,8 @@ use Rattle.bus.specs.Steps.{IsRunning, put_by}
 use Rattle.bus.specs.TrailLaws.{past_of-append, trail_joins}
 use Rattle.bus.specs.Trails.{Arrives, IsStep, Steps, past_of}
 use Rattle.bus.specs.declared.solo.SoloTick.{SoloTick}
-use Rattle.bus.specs.declared.solo.SoloTick.TheVariants.{Arrive, Go, Step}
+use Rattle.bus.specs.declared.solo.SoloTick.TheVariants.{Arrive, Step}
 use Rattle.bus.proofs.Lists.{all-none}
-
-pub played_none : (a : SoloState) → Played a a
-played_none a = record { free = tt; events = []; are = all-none IsStep; trail = refl; played = refl; wire = sym (append-nil a.wire); lively = refl; accesses = refl }
 
 pub played_trans : (a b c : SoloState) → Played a b → Played b c → Played a c
 played_trans a b c one two = record {
@@ -45,11 +41,6 @@ played_trans a b c one two = record {
 pub front_rest : {X : Type 0} (xs : List X) (x : X) → slice_get xs 0 ≡ Some x → xs ≡ x ∷ drop 1 xs
 front_rest [] x is = absurd (cc)
 front_rest (y ∷ ys) x is = cc
-
--- An empty list has no front.
-pub front_none : {X : Type 0} (xs : List X) → slice_get xs 0 ≡ None → xs ≡ []
-front_none [] is = refl
-front_none (y ∷ ys) is = absurd (cc)
 
 -- What a step puts is what happened in it.
 put_alone : (kind : StepKind) (wire_free : Bool) (answer : Stepped) (solo : SoloState) → Answers kind wire_free solo.world.memory solo.world.adapter answer → put_by answer ≡ (past_of (Steps kind wire_free answer ∷ [])).put
@@ -108,9 +99,6 @@ without_go-step ticks kind is = ap without_go (front_rest ticks (Step kind) is)
 pub without_go-arrival : (ticks : List SoloTick) (frame : List ℕ) → slice_get ticks 0 ≡ Some (Arrive frame) → without_go ticks ≡ Arrive frame ∷ without_go (drop 1 ticks)
 without_go-arrival ticks frame is = ap without_go (front_rest ticks (Arrive frame) is)
 
-pub without_go-go : (ticks : List SoloTick) → slice_get ticks 0 ≡ Some Go → without_go ticks ≡ without_go (drop 1 ticks)
-without_go-go ticks is = ap without_go (front_rest ticks Go is)
-
 -- A step whose tick was the next, as the code leaves it.
 pub step_on : (a s s' b : SoloState) (kind : StepKind) (answer : Stepped) (next : Option SoloTick) (tick : SoloTick) → Played a s → next ≡ slice_get s.waiting 0 → next ≡ Some tick → tick ≡ Step kind → s' ≡ record s { waiting = drop 1 s.waiting } → IsRunning s'.world.adapter → Answers kind (has_room s') s'.world.memory s'.world.adapter answer → b ≡ solo_after_step kind answer s' → Played a b
 step_on a s s' b kind answer next tick before is some takes left running answers after =
@@ -164,10 +152,6 @@ lives_on a m b first later lively running answers middle running_m answers_m aft
       played = played_trans a m0 (solo_after_step PhyTick later m0) one two;
       ticks = λ _. record { eeprom = omega arith; phy = omega arith };
     })
-
--- A bus that isn't lively takes none.
-pub lives_not : (a b : SoloState) → a.lively ≡ false → b ≡ a → Lives a b
-lives_not a b not_lively same = subst (λ (x : SoloState). Lives a x) (sym same) (record { played = played_none a; ticks = λ lively. absurd (true≢false (sym lively ∙ not_lively)) })
 
 -- All that comes before an access.
 pub prepared_on : (a m g b : SoloState) → Lives a m → Grouped m g → b ≡ record g { accesses = min (g.accesses + 1) most_accesses } → Prepared a b

@@ -1,6 +1,5 @@
 -- Trails join.
 use Rattle.std.proofs.Common.{◌≡◌, ℕ, List, [], ◌∷◌, ◌++◌, refl, sym, ap, subst, ◌∙◌, append_assoc, arith}
-use Rattle.std.proofs.lemmas.List.{append-nil}
 use Rattle.bus.specs.Past.{Access, Past, joined, nothing}
 use Rattle.bus.specs.Trails.{Event, Trail, past_of, past_of_event, world_after}
 use Rattle.bus.specs.World.{World}
@@ -20,9 +19,6 @@ joined_assoc a b c =
 
 pub nothing_joined : (a : Past) → joined nothing a ≡ a
 nothing_joined a = same_past _ _ _ _ _ _ _ _ _ _ _ _ refl refl (omega arith) (omega arith) (omega arith) refl
-
-pub joined_nothing : (a : Past) → joined a nothing ≡ a
-joined_nothing a = same_past _ _ _ _ _ _ _ _ _ _ _ _ (append-nil a.put) (append-nil a.stored) (omega arith) (omega arith) (omega arith) (append-nil a.accesses)
 
 pub past_of-append : (first later : List Event) → past_of (first ++ later) ≡ joined (past_of first) (past_of later)
 past_of-append [] later = sym (nothing_joined (past_of later))

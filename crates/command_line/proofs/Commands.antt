@@ -61,10 +61,6 @@ two_subcommands : (built program_app).subs ≡ built_pass ∷ built_help ∷ []
 unfolding clap_on_literals program_app pass_app built_pass built_help
 two_subcommands = refl
 
-pass_answers : (word : Text) → answers_to word (label_of built_pass) ≡ (bytes_eq (codes "pass") word || false)
-unfolding clap_on_literals program_app pass_app built_pass
-pass_answers word = refl
-
 help_answers : (word : Text) → answers_to word (label_of built_help) ≡ (bytes_eq (codes "help") word || false)
 unfolding clap_on_literals program_app pass_app built_help
 help_answers word = refl

@@ -44,7 +44,7 @@ OwnedBeginsAtHead = (ring : Ring) → IsSound ring → ¬ (ring.head ≡ ring.ta
 
 -- Where head equals tail, the adapter owns none.
 abbrev pub OwnedIsEmpty : Type 0
-OwnedIsEmpty = (ring : Ring) → IsSound ring → ring.head ≡ ring.tail → owned ring ≡ []
+OwnedIsEmpty = (ring : Ring) → ring.head ≡ ring.tail → owned ring ≡ []
 
 -- The adapter owns as many slots as it is from head to tail, fewer than the ring has.
 abbrev pub OwnedIsDistance : Type 0

@@ -98,9 +98,10 @@ owned-head ring sound apart = ap (slots_from (count_of ring) ring.head) (distanc
 -- Where head equals tail there are none.
 pub owned-none : OwnedIsEmpty
 unfolding owned
-owned-none ring sound same =
-    let none : distance_of ring ring.head ring.tail ≡ 0 = distance-forward (count_of ring) ring.head ring.tail sound.tail (omega arith) ∙ omega arith in
-    ap (slots_from (count_of ring) ring.head) none
+owned-none ring same =
+    let n = count_of ring in
+    let round : ring.tail + n - ring.head ≡ n = omega (arith, same) in
+    ap (slots_from n ring.head) (ap (λ (k : ℕ). k % n) round ∙ mod_self n)
 
 -- There are as many as it is from head to tail.
 pub length-owned : OwnedIsDistance

@@ -10,8 +10,7 @@ use Rattle.pcap_trace.specs.Devices.{AppendsFront, Grows}
 use Rattle.pcap_trace.specs.Format.{Timed, packet_of, written, file_header}
 use Rattle.pcap_trace.proofs.Sent.{take-past}
 use Rattle.pcap_trace.proofs.Packets.{written-push}
-use Rattle.pcap_bench.specs.declared.counts.PassCounts.{PassCounts}
-use Rattle.pcap_bench.specs.Passing.{Filter, Fate, illegal, filtered, kept, IsFate, HaveFates, is_illegal, is_filtered, is_kept, kept_from, WritesKept, StopsAmong}
+use Rattle.pcap_bench.specs.Passing.{Filter, Fate, illegal, filtered, kept, IsFate, HaveFates, is_illegal, is_filtered, is_kept, kept_from, StopsAmong}
 
 -- ---- one more frame
 
@@ -40,9 +39,6 @@ count_by-push : (p : Fate → Bool) (ts : List Fate) (t : Fate) → count_by p (
 count_by-push p ts t = sum_by_push (λ x. cond (p x) 1 0) ts t
 
 -- ---- what waits goes out
-
-at_known : (mid : List ℕ) (waiting all xs : List ℕ) → mid ++ waiting ≡ xs ++ all → (out : List ℕ) → out ≡ mid ++ waiting → out ≡ xs ++ all
-at_known mid waiting all xs is out went = went ∙ is
 
 flushed : (before mid after : Option (List ℕ)) (waiting all : List ℕ) → Appends before (append_known mid waiting) all → Appends mid after waiting → Appends before after all
 flushed None mid after waiting all h k = tt
@@ -159,26 +155,7 @@ SoFar-kept keeps frames rest f next dropped turned_away out before mid after goo
       sum = omega (arith, s.sum);
     }
 
--- how many are done
-pub SoFar-bound : (keeps : Filter) (frames rest : List (List ℕ)) (next dropped turned_away out : ℕ) (before after : Option (List ℕ)) → SoFar keeps frames rest next dropped turned_away out before after → next + length rest ≡ length frames
-SoFar-bound keeps frames rest next dropped turned_away out before after s = omega (arith, s.next_is, ap length s.parts, length-append s.done rest)
-
 -- ---- the end
-
--- all frames are done, and nothing waits
-pub SoFar-ends : (keeps : Filter) (frames : List (List ℕ)) (counts : PassCounts) (next : ℕ) (before mid after : Option (List ℕ)) (waiting : List ℕ) → counts.read ≡ length frames
-    → SoFar keeps frames [] next counts.illegal counts.filtered counts.written before (append_known mid waiting) → Appends mid after waiting → WritesKept keeps frames counts before after
-SoFar-ends keeps frames counts next before mid after waiting read s went =
-    let all : s.done ≡ frames = sym (s.parts ∙ append-nil s.done) in
-    record {
-      fates = s.fates;
-      right = subst (λ (x : List (List ℕ)). HaveFates keeps x s.fates) all s.right;
-      went = subst (λ (x : List (List ℕ)). Appends before after (written (kept_from 0 x s.fates))) all (flushed before mid after waiting (written (kept_from 0 s.done s.fates)) s.went went);
-      read_is = read;
-      illegal_is = s.illegal_is;
-      filtered_is = s.filtered_is;
-      written_is = s.written_is;
-    }
 
 -- a front of what waits went out
 pub SoFar-stops : (keeps : Filter) (frames rest : List (List ℕ)) (next dropped turned_away out : ℕ) (before mid after : Option (List ℕ)) (waiting : List ℕ)
