@@ -7,7 +7,7 @@ use Rattle.registers.specs.Kept.{causes_of, status_of_link_up}
 use Rattle.adapter.specs.declared.register.Register.{Register}
 use Rattle.adapter.specs.declared.register.Register.TheVariants.{Ctrl, Status, Icr, Ics, Ims, Imc, Pba}
 use Rattle.adapter.specs.Registers.{answer, answer_at, after_read, after_write, is_reset, new_adapter, read_of, write_of}
-use Rattle.adapter.specs.State.{AdapterState, IsAdapter}
+use Rattle.adapter.specs.State.{AdapterState, HasRegisters}
 use Rattle.adapter.specs.Table.{IsInTable, StandsAt, register_at, row_of}
 
 -- Each register of the table stands at its offset, and no other does.
@@ -39,7 +39,7 @@ OutsideIsIgnored = (offset : ℕ) (state : AdapterState) → ((register : Regist
 abbrev pub PlainReadsBack : Type 0
 PlainReadsBack =
     (register : Register) (kept value : ℕ) (state : AdapterState)
-    → IsAdapter state → IsInTable register → (row_of register).kept ≡ Some kept → is_reset register value ≡ false
+    → HasRegisters state → IsInTable register → (row_of register).kept ≡ Some kept → is_reset register value ≡ false
     → answer register (write_of register value state) ≡ bit_and value kept
 
 -- The registers of which a write of another changes what they read: STATUS by CTRL.SLU, ICR by ICS, IMS by IMC.

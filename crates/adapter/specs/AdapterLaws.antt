@@ -20,7 +20,7 @@ use Rattle.adapter.specs.declared.step.Stepped.TheVariants.{Took, Put, Moved, Do
 use Rattle.adapter.specs.History.{Event, Read, Write, Step, Arrive, after_event, after_events}
 use Rattle.adapter.specs.PacketBuffer.{IsAllocation, allocation_written, is_allocation}
 use Rattle.adapter.specs.Registers.{after_reset, answer, by_row, is_reset, left_by_read, left_by_write, new_adapter, read_of, write_of}
-use Rattle.adapter.specs.State.{AdapterState, CausesAlone, CountersFit, HasTables, IsAdapter}
+use Rattle.adapter.specs.State.{AdapterState, CausesAlone, CountersFit, HasTables, HasRegisters}
 use Rattle.adapter.specs.Receiving.{after_arrive, after_data, after_done, causes_of_moving, no_buffers_counted}
 use Rattle.adapter.specs.Recording.{one_more, with_causes}
 use Rattle.adapter.specs.Steps.{after_phy_told, causes_told, after_step}
@@ -46,7 +46,7 @@ no_causes = record { recorded_causes = refl; masked_causes = refl }
 
 -- By parts.
 
-of-parts : {state : AdapterState} → HasTables state.filter.ral state.filter.rah state.filter.mta state.filter.vfta → IsAllocation state.receive_kilobytes → CausesAlone state.causes.recorded state.causes.mask → CountersFit state.missed_packets state.received_packets state.transmitted_packets state.no_receive_buffers → IsAdapter state
+of-parts : {state : AdapterState} → HasTables state.filter.ral state.filter.rah state.filter.mta state.filter.vfta → IsAllocation state.receive_kilobytes → CausesAlone state.causes.recorded state.causes.mask → CountersFit state.missed_packets state.received_packets state.transmitted_packets state.no_receive_buffers → HasRegisters state
 of-parts tables allocation causes counters = record { tables = tables; allocation = allocation; causes = causes; counters = counters }
 
 of-tables : {ral rah mta vfta : List ℕ} → length ral ≡ 16 → length rah ≡ 16 → length mta ≡ 128 → length vfta ≡ 128 → HasTables ral rah mta vfta
@@ -58,8 +58,8 @@ of-causes recorded masked = record { recorded_causes = recorded; masked_causes =
 of-counters : {mpc gprc gptc rnbc : ℕ} → mpc ≤ greatest_count → gprc ≤ greatest_count → gptc ≤ greatest_count → rnbc ≤ greatest_count → CountersFit mpc gprc gptc rnbc
 of-counters missed received transmitted no_buffers = record { missed = missed; received = received; transmitted = transmitted; no_buffers = no_buffers }
 
-pub IsAdapter-at_reset : (state : AdapterState) → IsAdapter state → IsAdapter (after_reset state)
-IsAdapter-at_reset state adapter =
+pub HasRegisters-at_reset : (state : AdapterState) → HasRegisters state → HasRegisters (after_reset state)
+HasRegisters-at_reset state adapter =
     record {
       tables = record { ral_entries = refl; rah_entries = refl; mta_words = refl; vfta_words = refl };
       allocation = adapter.allocation;
@@ -67,8 +67,8 @@ IsAdapter-at_reset state adapter =
       counters = no_counts;
     }
 
-pub IsAdapter-new : (words : List ℕ) (link : Link) → IsAdapter (new_adapter words link)
-IsAdapter-new words link =
+pub HasRegisters-new : (words : List ℕ) (link : Link) → HasRegisters (new_adapter words link)
+HasRegisters-new words link =
     record {
       tables = record { ral_entries = refl; rah_entries = refl; mta_words = refl; vfta_words = refl };
       allocation = record { least = omega arith; most = omega arith; even = refl };
@@ -76,58 +76,58 @@ IsAdapter-new words link =
       counters = no_counts;
     }
 
-IsAdapter-by_row : (register : Register) (value : ℕ) (state : AdapterState) → IsAdapter state → IsAdapter (by_row (row_of register).kept register value state)
-IsAdapter-by_row Pba value state adapter =
+HasRegisters-by_row : (register : Register) (value : ℕ) (state : AdapterState) → HasRegisters state → HasRegisters (by_row (row_of register).kept register value state)
+HasRegisters-by_row Pba value state adapter =
     of-parts adapter.tables (IsAllocation-written value state.receive_kilobytes adapter.allocation) adapter.causes adapter.counters
-IsAdapter-by_row (Mta word) value state adapter =
+HasRegisters-by_row (Mta word) value state adapter =
     let t = adapter.tables in
     of-parts (of-tables t.ral_entries t.rah_entries (length-set state.filter.mta word _ ∙ t.mta_words) t.vfta_words) adapter.allocation adapter.causes adapter.counters
-IsAdapter-by_row (Ral entry) value state adapter =
+HasRegisters-by_row (Ral entry) value state adapter =
     let t = adapter.tables in
     of-parts (of-tables (length-set state.filter.ral entry _ ∙ t.ral_entries) t.rah_entries t.mta_words t.vfta_words) adapter.allocation adapter.causes adapter.counters
-IsAdapter-by_row (Rah entry) value state adapter =
+HasRegisters-by_row (Rah entry) value state adapter =
     let t = adapter.tables in
     of-parts (of-tables t.ral_entries (length-set state.filter.rah entry _ ∙ t.rah_entries) t.mta_words t.vfta_words) adapter.allocation adapter.causes adapter.counters
-IsAdapter-by_row (Vfta word) value state adapter =
+HasRegisters-by_row (Vfta word) value state adapter =
     let t = adapter.tables in
     of-parts (of-tables t.ral_entries t.rah_entries t.mta_words (length-set state.filter.vfta word _ ∙ t.vfta_words)) adapter.allocation adapter.causes adapter.counters
-IsAdapter-by_row Icr value state adapter =
+HasRegisters-by_row Icr value state adapter =
     let recorded = IsSubset-intersection state.causes.recorded _ all_causes adapter.causes.recorded_causes in
     of-parts adapter.tables adapter.allocation (of-causes recorded adapter.causes.masked_causes) adapter.counters
-IsAdapter-by_row Ics value state adapter =
+HasRegisters-by_row Ics value state adapter =
     let recorded = IsSubset-union state.causes.recorded _ all_causes adapter.causes.recorded_causes (IsSubset-masked value all_causes) in
     of-parts adapter.tables adapter.allocation (of-causes recorded adapter.causes.masked_causes) adapter.counters
-IsAdapter-by_row Ims value state adapter =
+HasRegisters-by_row Ims value state adapter =
     let masked = IsSubset-union state.causes.mask _ all_causes adapter.causes.masked_causes (IsSubset-masked value all_causes) in
     of-parts adapter.tables adapter.allocation (of-causes adapter.causes.recorded_causes masked) adapter.counters
-IsAdapter-by_row Imc value state adapter =
+HasRegisters-by_row Imc value state adapter =
     let masked = IsSubset-intersection state.causes.mask _ all_causes adapter.causes.masked_causes in
     of-parts adapter.tables adapter.allocation (of-causes adapter.causes.recorded_causes masked) adapter.counters
-IsAdapter-by_row _ value state adapter = of-parts adapter.tables adapter.allocation adapter.causes adapter.counters
+HasRegisters-by_row _ value state adapter = of-parts adapter.tables adapter.allocation adapter.causes adapter.counters
 
-pub IsAdapter-written : (register : Register) (value : ℕ) (state : AdapterState) → IsAdapter state → IsAdapter (write_of register value state)
-IsAdapter-written register value state adapter =
+pub HasRegisters-written : (register : Register) (value : ℕ) (state : AdapterState) → HasRegisters state → HasRegisters (write_of register value state)
+HasRegisters-written register value state adapter =
     by_test (is_reset register value)
   where
-    by_test : (test : Bool) → IsAdapter (if test then after_reset state else by_row (row_of register).kept register value state)
-    by_test true = IsAdapter-at_reset state adapter
-    by_test false = IsAdapter-by_row register value state adapter
+    by_test : (test : Bool) → HasRegisters (if test then after_reset state else by_row (row_of register).kept register value state)
+    by_test true = HasRegisters-at_reset state adapter
+    by_test false = HasRegisters-by_row register value state adapter
 
-pub IsAdapter-read : (register : Register) (state : AdapterState) → IsAdapter state → IsAdapter (read_of register state)
-IsAdapter-read Icr state adapter = of-parts adapter.tables adapter.allocation (of-causes refl adapter.causes.masked_causes) adapter.counters
-IsAdapter-read Mpc state adapter =
+pub HasRegisters-read : (register : Register) (state : AdapterState) → HasRegisters state → HasRegisters (read_of register state)
+HasRegisters-read Icr state adapter = of-parts adapter.tables adapter.allocation (of-causes refl adapter.causes.masked_causes) adapter.counters
+HasRegisters-read Mpc state adapter =
     let c = adapter.counters in
     of-parts adapter.tables adapter.allocation adapter.causes (of-counters (omega arith) c.received c.transmitted c.no_buffers)
-IsAdapter-read Gprc state adapter =
+HasRegisters-read Gprc state adapter =
     let c = adapter.counters in
     of-parts adapter.tables adapter.allocation adapter.causes (of-counters c.missed (omega arith) c.transmitted c.no_buffers)
-IsAdapter-read Gptc state adapter =
+HasRegisters-read Gptc state adapter =
     let c = adapter.counters in
     of-parts adapter.tables adapter.allocation adapter.causes (of-counters c.missed c.received (omega arith) c.no_buffers)
-IsAdapter-read Rnbc state adapter =
+HasRegisters-read Rnbc state adapter =
     let c = adapter.counters in
     of-parts adapter.tables adapter.allocation adapter.causes (of-counters c.missed c.received c.transmitted (omega arith))
-IsAdapter-read _ state adapter = of-parts adapter.tables adapter.allocation adapter.causes adapter.counters
+HasRegisters-read _ state adapter = of-parts adapter.tables adapter.allocation adapter.causes adapter.counters
 
 -- what a tick tells are causes
 causes_told-alone : (ticked : Ticked) → IsSubset (causes_told ticked) all_causes
@@ -140,16 +140,16 @@ causes_told-alone ticked = by_tests ticked.link_changed ticked.access_complete
     by_tests false false = refl
 
 -- More causes recorded leave an adapter.
-IsAdapter-with_causes : (causes : ℕ) (state : AdapterState) → IsSubset causes all_causes → IsAdapter state → IsAdapter (with_causes causes state)
-IsAdapter-with_causes causes state alone adapter =
+HasRegisters-with_causes : (causes : ℕ) (state : AdapterState) → IsSubset causes all_causes → HasRegisters state → HasRegisters (with_causes causes state)
+HasRegisters-with_causes causes state alone adapter =
     let recorded = IsSubset-union state.causes.recorded causes all_causes adapter.causes.recorded_causes alone in
     of-parts adapter.tables adapter.allocation (of-causes recorded adapter.causes.masked_causes) adapter.counters
 
-IsAdapter-told : (told : Option Ticked) (state : AdapterState) → IsAdapter state → IsAdapter (after_phy_told told state)
-IsAdapter-told (Some ticked) state adapter =
-    IsAdapter-with_causes (causes_told ticked) _ (causes_told-alone ticked)
+HasRegisters-told : (told : Option Ticked) (state : AdapterState) → HasRegisters state → HasRegisters (after_phy_told told state)
+HasRegisters-told (Some ticked) state adapter =
+    HasRegisters-with_causes (causes_told ticked) _ (causes_told-alone ticked)
     (of-parts adapter.tables adapter.allocation adapter.causes adapter.counters)
-IsAdapter-told None state adapter = adapter
+HasRegisters-told None state adapter = adapter
 
 -- a cause of a test, among all causes
 cause-alone : (test : Bool) (cause : ℕ) → IsSubset cause all_causes → IsSubset (if test then cause else 0) all_causes
@@ -159,82 +159,82 @@ cause-alone false cause alone = refl
 one_more-fits : (count : ℕ) → one_more count ≤ greatest_count
 one_more-fits count = omega arith
 
-no_buffers-fit : (state : AdapterState) → IsAdapter state → no_buffers_counted state ≤ greatest_count
+no_buffers-fit : (state : AdapterState) → HasRegisters state → no_buffers_counted state ≤ greatest_count
 no_buffers-fit state adapter = by_test (state.receive_ring.head == state.receive_ring.tail)
   where
     by_test : (test : Bool) → (if test then one_more state.no_receive_buffers else state.no_receive_buffers) ≤ greatest_count
     by_test true = one_more-fits state.no_receive_buffers
     by_test false = adapter.counters.no_buffers
 
-IsAdapter-took : (answer : Stepped) (memory : List ℕ) (state : AdapterState) → IsAdapter state → IsAdapter (after_take answer memory state)
-IsAdapter-took Took memory state adapter =
-    IsAdapter-with_causes (causes_of_taking state.transmit_ring) _ (cause-alone _ 0x2 refl)
+HasRegisters-took : (answer : Stepped) (memory : List ℕ) (state : AdapterState) → HasRegisters state → HasRegisters (after_take answer memory state)
+HasRegisters-took Took memory state adapter =
+    HasRegisters-with_causes (causes_of_taking state.transmit_ring) _ (cause-alone _ 0x2 refl)
     (of-parts adapter.tables adapter.allocation adapter.causes adapter.counters)
-IsAdapter-took Fault memory state adapter =
+HasRegisters-took Fault memory state adapter =
     of-parts adapter.tables adapter.allocation adapter.causes adapter.counters
-IsAdapter-took _ memory state adapter = adapter
+HasRegisters-took _ memory state adapter = adapter
 
 putting-alone : (buffer : List Queued) → IsSubset (causes_of_putting buffer) all_causes
 putting-alone [] = refl
 putting-alone (queued ∷ later) = cause-alone queued.report 0x1 refl
 
-IsAdapter-put : (answer : Stepped) (state : AdapterState) → IsAdapter state → IsAdapter (after_put answer state)
-IsAdapter-put (Put frame) state adapter =
+HasRegisters-put : (answer : Stepped) (state : AdapterState) → HasRegisters state → HasRegisters (after_put answer state)
+HasRegisters-put (Put frame) state adapter =
     let c = adapter.counters in
-    IsAdapter-with_causes (causes_of_putting state.transmitter.buffer) _ (putting-alone state.transmitter.buffer)
+    HasRegisters-with_causes (causes_of_putting state.transmitter.buffer) _ (putting-alone state.transmitter.buffer)
     (of-parts adapter.tables adapter.allocation adapter.causes (of-counters c.missed c.received (one_more-fits state.transmitted_packets) c.no_buffers))
-IsAdapter-put _ state adapter = adapter
+HasRegisters-put _ state adapter = adapter
 
-IsAdapter-moved : (answer : Stepped) (state : AdapterState) → IsAdapter state → IsAdapter (after_data answer state)
-IsAdapter-moved Moved state adapter =
-    IsAdapter-with_causes (causes_of_moving state.receive_ring) _ (cause-alone _ 0x10 refl)
+HasRegisters-moved : (answer : Stepped) (state : AdapterState) → HasRegisters state → HasRegisters (after_data answer state)
+HasRegisters-moved Moved state adapter =
+    HasRegisters-with_causes (causes_of_moving state.receive_ring) _ (cause-alone _ 0x10 refl)
     (of-parts adapter.tables adapter.allocation adapter.causes adapter.counters)
-IsAdapter-moved Fault state adapter =
+HasRegisters-moved Fault state adapter =
     of-parts adapter.tables adapter.allocation adapter.causes adapter.counters
-IsAdapter-moved _ state adapter = adapter
+HasRegisters-moved _ state adapter = adapter
 
-IsAdapter-done : (answer : Stepped) (state : AdapterState) → IsAdapter state → IsAdapter (after_done answer state)
-IsAdapter-done Done state adapter =
+HasRegisters-done : (answer : Stepped) (state : AdapterState) → HasRegisters state → HasRegisters (after_done answer state)
+HasRegisters-done Done state adapter =
     let c = adapter.counters in
-    IsAdapter-with_causes 0x80 _ refl
+    HasRegisters-with_causes 0x80 _ refl
     (of-parts adapter.tables adapter.allocation adapter.causes (of-counters c.missed (one_more-fits state.received_packets) c.transmitted c.no_buffers))
-IsAdapter-done _ state adapter = adapter
+HasRegisters-done _ state adapter = adapter
 
-pub IsAdapter-arrived : (fate : Fate) (frame : List ℕ) (state : AdapterState) → IsAdapter state → IsAdapter (after_arrive fate frame state)
-IsAdapter-arrived Missed frame state adapter =
+pub HasRegisters-arrived : (fate : Fate) (frame : List ℕ) (state : AdapterState) → HasRegisters state → HasRegisters (after_arrive fate frame state)
+HasRegisters-arrived Missed frame state adapter =
     let c = adapter.counters in
-    IsAdapter-with_causes 0x40 _ refl
+    HasRegisters-with_causes 0x40 _ refl
     (of-parts adapter.tables adapter.allocation adapter.causes (of-counters (one_more-fits state.missed_packets) c.received c.transmitted (no_buffers-fit state adapter)))
-IsAdapter-arrived Stored frame state adapter =
+HasRegisters-arrived Stored frame state adapter =
     let c = adapter.counters in
     of-parts adapter.tables adapter.allocation adapter.causes (of-counters c.missed c.received c.transmitted (no_buffers-fit state adapter))
-IsAdapter-arrived _ frame state adapter = adapter
+HasRegisters-arrived _ frame state adapter = adapter
 
-pub IsAdapter-stepped : (kind : StepKind) (answer : Stepped) (memory : List ℕ) (state : AdapterState) → IsAdapter state
-    → IsAdapter (after_step kind answer memory state)
-IsAdapter-stepped TxTake answer memory state adapter = IsAdapter-took answer memory state adapter
-IsAdapter-stepped TxPut answer memory state adapter = IsAdapter-put answer state adapter
-IsAdapter-stepped RxData answer memory state adapter = IsAdapter-moved answer state adapter
-IsAdapter-stepped RxDone answer memory state adapter = IsAdapter-done answer state adapter
-IsAdapter-stepped EepromTick answer memory state adapter =
+pub HasRegisters-stepped : (kind : StepKind) (answer : Stepped) (memory : List ℕ) (state : AdapterState) → HasRegisters state
+    → HasRegisters (after_step kind answer memory state)
+HasRegisters-stepped TxTake answer memory state adapter = HasRegisters-took answer memory state adapter
+HasRegisters-stepped TxPut answer memory state adapter = HasRegisters-put answer state adapter
+HasRegisters-stepped RxData answer memory state adapter = HasRegisters-moved answer state adapter
+HasRegisters-stepped RxDone answer memory state adapter = HasRegisters-done answer state adapter
+HasRegisters-stepped EepromTick answer memory state adapter =
     of-parts adapter.tables adapter.allocation adapter.causes adapter.counters
-IsAdapter-stepped PhyTick answer memory state adapter = IsAdapter-told (mdi.told state.mdic state.phy) state adapter
+HasRegisters-stepped PhyTick answer memory state adapter = HasRegisters-told (mdi.told state.mdic state.phy) state adapter
 
-pub IsAdapter-after_event : (event : Event) (state : AdapterState) → IsAdapter state → IsAdapter (after_event event state)
-IsAdapter-after_event (Read offset) state adapter = by_case (register_at offset)
+pub HasRegisters-after_event : (event : Event) (state : AdapterState) → HasRegisters state → HasRegisters (after_event event state)
+HasRegisters-after_event (Read offset) state adapter = by_case (register_at offset)
   where
-    by_case : (found : Option Register) → IsAdapter (left_by_read found state)
-    by_case (Some register) = IsAdapter-read register state adapter
+    by_case : (found : Option Register) → HasRegisters (left_by_read found state)
+    by_case (Some register) = HasRegisters-read register state adapter
     by_case None = adapter
-IsAdapter-after_event (Write offset value) state adapter = by_case (register_at offset)
+HasRegisters-after_event (Write offset value) state adapter = by_case (register_at offset)
   where
-    by_case : (found : Option Register) → IsAdapter (left_by_write found value state)
-    by_case (Some register) = IsAdapter-written register value state adapter
+    by_case : (found : Option Register) → HasRegisters (left_by_write found value state)
+    by_case (Some register) = HasRegisters-written register value state adapter
     by_case None = adapter
-IsAdapter-after_event (Step kind answer memory) state adapter = IsAdapter-stepped kind answer memory state adapter
-IsAdapter-after_event (Arrive fate frame) state adapter = IsAdapter-arrived fate frame state adapter
+HasRegisters-after_event (Step kind answer memory) state adapter = HasRegisters-stepped kind answer memory state adapter
+HasRegisters-after_event (Arrive fate frame) state adapter = HasRegisters-arrived fate frame state adapter
 
-pub IsAdapter-after_events : (events : List Event) (state : AdapterState) → IsAdapter state → IsAdapter (after_events events state)
-IsAdapter-after_events [] state adapter = adapter
-IsAdapter-after_events (event ∷ later) state adapter =
-    IsAdapter-after_events later (after_event event state) (IsAdapter-after_event event state adapter)
+pub HasRegisters-after_events : (events : List Event) (state : AdapterState) → HasRegisters state → HasRegisters (after_events events state)
+HasRegisters-after_events [] state adapter = adapter
+HasRegisters-after_events (event ∷ later) state adapter =
+    HasRegisters-after_events later (after_event event state) (HasRegisters-after_event event state adapter)

@@ -15,7 +15,7 @@ use Rattle.adapter.specs.declared.step.StepKind.TheVariants.{TxTake, TxPut, RxDa
 use Rattle.adapter.specs.declared.step.Stepped.{Stepped}
 use Rattle.adapter.specs.declared.step.Stepped.TheVariants.{Took, Put, Moved, Done, Fault}
 use Rattle.adapter.specs.AccessLaws.{Touches, link_shown, causes_set, mask_cleared}
-use Rattle.adapter.specs.AdapterLaws.{IsAdapter-after_events, IsAdapter-new}
+use Rattle.adapter.specs.AdapterLaws.{HasRegisters-after_events, HasRegisters-new}
 use Rattle.adapter.specs.History.{Event, Read, Write, Step, Arrive, after_event, after_events, is_reset_event, moves_head, sets_register, NoneSets, PlainByHistory}
 use Rattle.adapter.specs.Registers.{after_reset, after_write, answer, answer_at, answer_of, by_row, is_reset, left_by_read, left_by_write, new_adapter, read_of, write_of}
 use Rattle.adapter.specs.RegisterLaws.{answer-at_reset, others_stay_at_write, plain_reads_back}
@@ -282,7 +282,7 @@ plain_by_history register kept words link within plain = record {
       ∙ ap (answer register) (after_events-append before (event ∷ after) start)
       ∙ plain-events after register kept (after_event event here) plain none
       ∙ ap (answer register) (ap (λ (r : Option Register). left_by_write r value here) there)
-      ∙ plain_reads_back register kept value here (IsAdapter-after_events before start (IsAdapter-new words link)) within plain
+      ∙ plain_reads_back register kept value here (HasRegisters-after_events before start (HasRegisters-new words link)) within plain
       (no_reset (row_of register).offset value register refl none_resets);
   reset = λ before event after resets none.
       let here = after_events before start in

@@ -18,3 +18,9 @@ pub mod Parts
 pub mod PartsLaws
 pub mod Frames
 pub mod FrameLaws
+pub mod World
+pub mod Slots
+pub mod HostFrames
+pub mod HostAreas
+pub mod Conditions
+pub mod Running

@@ -13,7 +13,7 @@ use Rattle.adapter.specs.declared.ring.RingRegisters.{RingRegisters}
 use Rattle.adapter.specs.AccessLaws.{IsReset, OthersStayAtRead, OthersStayAtWrite, PlainReadsBack, PowerOnByTable, ResetByTable, Touches, TouchedByWrites, link_shown, causes_set, mask_cleared}
 use Rattle.adapter.specs.Registers.{adapter_at_reset, after_reset, answer, by_row, is_reset, with_register, write_of}
 use Rattle.adapter.specs.Rings.{new_ring, ring_answer, with_ring}
-use Rattle.adapter.specs.State.{AdapterState, IsAdapter}
+use Rattle.adapter.specs.State.{AdapterState, HasRegisters}
 use Rattle.adapter.specs.Table.{IsInTable, row_of}
 
 -- A write that is no reset goes by the table's row.
@@ -48,7 +48,7 @@ ring-new Tail = refl
 
 -- A register whose kept bits are its rule reads the number that is put there.
 pub with_register-same : (register : Register) (kept number : ℕ) (state : AdapterState)
-    → IsAdapter state → IsInTable register → (row_of register).kept ≡ Some kept
+    → HasRegisters state → IsInTable register → (row_of register).kept ≡ Some kept
     → answer register (with_register register number state) ≡ number
 with_register-same Ctrl kept number state adapter within plain = refl
 with_register-same Vet kept number state adapter within plain = refl

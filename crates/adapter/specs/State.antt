@@ -8,7 +8,7 @@ use Rattle.registers.specs.Kept.{all_causes}
 use Rattle.registers.specs.Counting.{greatest_count}
 use Rattle.registers.specs.Interrupts.{Interrupts}
 use Rattle.rx_filter.specs.Registers.{FilterRegisters}
-use Rattle.rx_engine.specs.Receiver.{Receiver}
+use Rattle.rx_engine.specs.Receiver.{IsReceiver, Receiver}
 use Rattle.tx_engine.specs.Transmitter.{Transmitter}
 use Rattle.adapter.specs.declared.ring.RingRegisters.{RingRegisters}
 use Rattle.adapter.specs.PacketBuffer.{IsAllocation}
@@ -66,8 +66,14 @@ pub record CausesAlone (recorded mask : ℕ) : Type 0 where
   pub masked_causes : IsSubset mask all_causes
 
 -- What holds of the registers of every adapter.
-pub record IsAdapter (state : AdapterState) : Type 0 where
+pub record HasRegisters (state : AdapterState) : Type 0 where
   pub tables : HasTables state.filter.ral state.filter.rah state.filter.mta state.filter.vfta
   pub allocation : IsAllocation state.receive_kilobytes
   pub causes : CausesAlone state.causes.recorded state.causes.mask
   pub counters : CountersFit state.missed_packets state.received_packets state.transmitted_packets state.no_receive_buffers
+
+-- What holds of every adapter: of its registers, of its receive engine, and of its EEPROM, which has 64 words.
+pub record IsAdapter (state : AdapterState) : Type 0 where
+  pub registers : HasRegisters state
+  pub receiver : IsReceiver state.receiver
+  pub image : length state.image ≡ 64

@@ -4,7 +4,6 @@ use Rattle.adapter.specs.declared.adapter.Adapter.TheInside.{Inside}
 use Rattle.adapter.specs.declared.register_file.RegisterFile.{RegisterFile}
 use Rattle.eeprom.specs.declared.eerd.ReadState.TheVariants.{Idle}
 use Rattle.mdic_phy.specs.Mdic.{new_mdic}
-use Rattle.rx_engine.specs.Receiver.{IsReceiver}
 use Rattle.adapter.specs.Registers.{filter_at_reset}
 use Rattle.adapter.specs.Rings.{new_ring}
 use Rattle.adapter.specs.State.{AdapterState, IsAdapter}
@@ -31,9 +30,8 @@ state_of inside = record {
   transmitter = inside.transmitter;
 }
 
-pub record IsConsistent (inside : Inside) : Type 0 where
-  pub adapter : IsAdapter (state_of inside)
-  pub receiver : IsReceiver inside.receiver
+abbrev pub IsConsistent : Inside → Type 0
+IsConsistent inside = IsAdapter (state_of inside)
 
 -- the registers after a reset
 abbrev pub registers_at_reset : List ℕ → RegisterFile

@@ -52,7 +52,6 @@ impl Model for Adapter {
 }
 
 impl Adapter {
-    ghost use Rattle.rx_engine.specs.Receiver.{IsReceiver};
     ghost use Rattle.adapter.specs.Receiving.{room};
     ghost use Rattle.adapter.specs.Registers.{after_read, after_write, answer_at, new_adapter};
     ghost use Rattle.adapter.specs.State.{IsAdapter};
@@ -144,7 +143,6 @@ impl Adapter {
         ensures only { ChangesAtMost kind self.old memory.old memory.new }
         ensures size { length memory.new ≡ length memory.old }
         ensures adapter { IsAdapter self.old }
-        ensures receiver { IsReceiver self.old.receiver }
     {
         match kind {
             StepKind::TxTake => self.take_frame(memory),
@@ -164,7 +162,6 @@ impl Adapter {
     ghost use Rattle.adapter.specs.State.{IsAdapter};
     ghost use Rattle.adapter.specs.declared.step.Stepped.TheVariants.{Nothing};
     ghost use Rattle.eeprom.specs.Eerd.{is_pending};
-    ghost use Rattle.rx_engine.specs.Receiver.{IsReceiver};
     ghost use Rattle.mdic_phy.specs.Mdic.{has_work};
     ghost use Rattle.adapter.specs.Steps.{after_eeprom_tick, after_phy_tick, ticked};
     ghost use Rattle.adapter.specs.Table.{IsInTable};
@@ -256,7 +253,6 @@ impl Adapter {
     /// A pending read of the EEPROM ends.
     fn tick_eeprom(&mut self) -> Stepped
         ensures state { self.new ≡ after_eeprom_tick self.old }
-        ensures receiver { IsReceiver self.old.receiver }
         ensures answer { result ≡ ticked (is_pending self.old.eerd) }
         ensures nothing { result ≡ Nothing → self.new ≡ self.old }
         ensures adapter { IsAdapter self.old }
@@ -271,7 +267,6 @@ impl Adapter {
     /// A moment of the PHY passes, and the causes that it tells are recorded.
     fn tick_phy(&mut self) -> Stepped
         ensures state { self.new ≡ after_phy_tick self.old }
-        ensures receiver { IsReceiver self.old.receiver }
         ensures answer { result ≡ ticked (has_work self.old.mdic self.old.phy) }
         ensures nothing { result ≡ Nothing → self.new ≡ self.old }
         ensures adapter { IsAdapter self.old }

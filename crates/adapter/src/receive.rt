@@ -3,7 +3,6 @@
 ghost use Rattle.std.specs.Prelude.{◌≡◌, length, if◌then◌else◌};
 ghost use Rattle.registers.specs.Bits.{IsSubset};
 ghost use Rattle.registers.specs.Kept.{all_causes};
-ghost use Rattle.rx_engine.specs.Receiver.{IsReceiver};
 ghost use Rattle.adapter.specs.State.{IsAdapter};
 ghost use Rattle.adapter.specs.Receiving.{DataAnswers, DataChangesOnly, DoneAnswers, DoneChangesOnly, IsFate, after_arrive, after_data, after_done, memory_after_data_step, memory_after_done_step, no_buffers_counted};
 
@@ -25,7 +24,6 @@ impl Adapter {
         ensures fate { IsFate self.old frame.now result }
         ensures state { self.new ≡ after_arrive result frame.now self.old }
         ensures adapter { IsAdapter self.old }
-        ensures receiver { IsReceiver self.old.receiver }
     {
         let room = self.room();
         let file = &mut self.file;
@@ -50,7 +48,6 @@ impl Adapter {
         ensures only { DataChangesOnly self.old memory.old memory.new }
         ensures size { length memory.new ≡ length memory.old }
         ensures adapter { IsAdapter self.old }
-        ensures receiver { IsReceiver self.old.receiver }
     {
         let file = &mut self.file;
         let mut ring = file.receive_ring.ring();
@@ -73,7 +70,6 @@ impl Adapter {
         ensures only { DoneChangesOnly self.old memory.old memory.new }
         ensures size { length memory.new ≡ length memory.old }
         ensures adapter { IsAdapter self.old }
-        ensures receiver { IsReceiver self.old.receiver }
     {
         match rx_done(&mut self.receiver, memory) {
             Done::Nothing => Stepped::Nothing,

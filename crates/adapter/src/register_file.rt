@@ -1,6 +1,6 @@
 // The registers that a reset sets.
 
-ghost use Rattle.std.specs.Prelude.{◌≡◌, ◌<◌, ◌==◌, if◌then◌else◌, slice_index};
+ghost use Rattle.std.specs.Prelude.{◌≡◌, ◌<◌, ◌==◌, if◌then◌else◌, length, slice_index};
 ghost use Rattle.adapter.specs.Recording.{one_more};
 ghost use Rattle.adapter.specs.Registers.{filter_at_reset};
 ghost use Rattle.adapter.specs.Table.{address_high_at_reset, address_low_at_reset};
@@ -40,7 +40,8 @@ impl RegisterFile {
     /// The registers after power-on and after a reset, with the address of the EEPROM in the first
     /// pair of RAL and RAH.
     pub(crate) fn at_reset(image: &Image) -> Self
-        ensures { result ≡ registers_at_reset image.now }
+        ensures registers { result ≡ registers_at_reset image.now }
+        ensures size { length image.now ≡ 64 }
     {
         RegisterFile {
             ctrl: Ctrl(0),
@@ -73,7 +74,8 @@ impl RegisterFile {
 /// is that of IEEE 802.1Q (own).
 #[tactic(auto, using(crate::proofs::Words::and_address_high))]
 fn filter_at_reset(image: &Image) -> Filter
-    ensures { result ≡ filter_at_reset image.now }
+    ensures filter { result ≡ filter_at_reset image.now }
+    ensures size { length image.now ≡ 64 }
 {
     let mut filter = Filter::new();
     filter.write_ral(0, address_low(image));
@@ -95,6 +97,7 @@ fn address_low(image: &Image) -> u32
 fn address_high(image: &Image) -> u32
     ensures high { result ≡ address_high_at_reset 0 image.now }
     ensures word { slice_index image.now 2 < 65536 }
+    ensures size { length image.now ≡ 64 }
 {
     ADDRESS_VALID | u32::from(image.word(2))
 }

@@ -4,7 +4,6 @@ ghost use Rattle.std.specs.Prelude.{◌≡◌, ◌≢◌, [], drop, length, if�
 ghost use Rattle.registers.specs.Bits.{IsSubset};
 ghost use Rattle.registers.specs.Kept.{all_causes};
 ghost use Rattle.tx_engine.specs.Steps.{DiffersAtMostAt, IfFront, status_place};
-ghost use Rattle.rx_engine.specs.Receiver.{IsReceiver};
 ghost use Rattle.adapter.specs.State.{IsAdapter};
 ghost use Rattle.adapter.specs.Transmitting.{PutAnswers, PutChangesOnly, TakeAnswers, after_put, after_take, causes_of_putting, memory_after_put, reported};
 
@@ -23,7 +22,6 @@ impl Adapter {
         ensures answer { TakeAnswers memory.now self.old result }
         ensures state { self.new ≡ after_take result memory.now self.old }
         ensures adapter { IsAdapter self.old }
-        ensures receiver { IsReceiver self.old.receiver }
     {
         let file = &mut self.file;
         let mut ring = file.transmit_ring.ring();
@@ -46,7 +44,6 @@ impl Adapter {
         ensures only { PutChangesOnly self.old memory.old memory.new }
         ensures size { length memory.new ≡ length memory.old }
         ensures adapter { IsAdapter self.old }
-        ensures receiver { IsReceiver self.old.receiver }
     {
         let frame = match self.transmitter.front() {
             None => return Stepped::Nothing,

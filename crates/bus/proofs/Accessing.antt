@@ -9,7 +9,7 @@ use Rattle.bus.specs.SoloLaws.{are_free_joins, are_played_joins}
 use Rattle.bus.specs.TrailLaws.{past_of-append, same_past, trail_joins}
 use Rattle.bus.specs.Trails.{Accesses, Arrives, Event, IsAnswered, IsStep, Steps, past_of, past_of_event, world_after_access}
 use Rattle.adapter.specs.declared.step.StepKind.TheVariants.{TxTake, TxPut, RxData, RxDone, EepromTick, PhyTick}
-use Rattle.bus.specs.World.{World}
+use Rattle.adapter.specs.World.{World}
 use Rattle.bus.specs.declared.solo.SoloTick.{SoloTick}
 use Rattle.bus.proofs.Lists.{all-head, all-tail}
 use Rattle.bus.proofs.Trails.{trail_happens}

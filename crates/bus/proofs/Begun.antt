@@ -5,13 +5,14 @@ use Rattle.std.proofs.lemmas.List.{length-replicate}
 use Rattle.std.proofs.lemmas.List.Elements.{All-cons}
 use Rattle.dma_memory.specs.Areas.{AreApart, Area, bytes_in}
 use Rattle.bus.specs.Examples.{SomeSound}
-use Rattle.bus.specs.Frames.{buffer_of, data_of, finished, frames_held, named}
+use Rattle.adapter.specs.HostAreas.{buffer_of, data_of}
+use Rattle.adapter.specs.Slots.{finished, is_done, offered}
+use Rattle.adapter.specs.HostFrames.{frames_held, named}
 use Rattle.bus.specs.Refilling.{LetsRefill}
 use Rattle.bus.specs.Sending.{LetsSend}
-use Rattle.bus.specs.Slots.{is_done, offered}
 use Rattle.bus.specs.SoundBuses.{ready}
 use Rattle.bus.specs.Spare.{FramesFit, IsSpare}
-use Rattle.bus.specs.World.{World, receive_ring}
+use Rattle.adapter.specs.World.{receive_ring, World}
 use Rattle.bus.proofs.Examples.{ready-runs, words}
 use Rattle.bus.proofs.Lists.{all-none, take_while-split}
 use Rattle.bus.proofs.SoundBuses.{ready-idle, ready-offered, ready-sound, zeros-address, zeros-open}

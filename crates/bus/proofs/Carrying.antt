@@ -18,14 +18,16 @@ use Rattle.descriptors.specs.declared.tx_desc.TxDesc.{TxDesc}
 use Rattle.adapter.specs.Rings.{ring_of}
 use Rattle.adapter.specs.declared.ring.RingRegisters.{RingRegisters}
 use Rattle.rx_engine.specs.Descriptors.{named_address}
-use Rattle.bus.specs.Frames.{buffer_of, data_of, frames_held, frames_to_send, ring_area}
-use Rattle.bus.specs.Law.{Happens, Sound}
+use Rattle.adapter.specs.HostAreas.{buffer_of, data_of, ring_area}
+use Rattle.adapter.specs.HostFrames.{frames_held, frames_to_send}
+use Rattle.adapter.specs.Conditions.{Sound}
+use Rattle.bus.specs.Law.{Happens}
 use Rattle.bus.specs.OwnStores.{IsOwn}
 use Rattle.bus.specs.Past.{Past, joined, nothing}
-use Rattle.bus.specs.Running.{GoOn}
-use Rattle.bus.specs.Slots.{outstanding}
+use Rattle.adapter.specs.Running.{GoOn}
+use Rattle.adapter.specs.Slots.{outstanding}
 use Rattle.bus.specs.Spare.{AreasStayApart, FramesFit, IsSpare}
-use Rattle.bus.specs.World.{World, receive_ring, transmit_ring, world_after_store}
+use Rattle.adapter.specs.World.{receive_ring, transmit_ring, World, world_after_store}
 use Rattle.bus.proofs.Kept.{IsSame, same-apart}
 use Rattle.bus.proofs.Lists.{all-none, all-weaker}
 use Rattle.bus.proofs.Own.{drivers_keep_their_own}

@@ -6,10 +6,12 @@ use Rattle.eeprom.specs.Eerd as eeprom
 use Rattle.registers.specs.Bits.{HasBit}
 use Rattle.rx_filter.specs.Registers.{FilterRegisters}
 use Rattle.adapter.specs.declared.ring.RingRegisters.{RingRegisters}
-use Rattle.bus.specs.Frames.{finished, frames_held, frames_to_send, written_back}
-use Rattle.bus.specs.Law.{Between, Happens, Sound, Steady, management_of, phy_ticked}
+use Rattle.adapter.specs.Slots.{finished, written_back}
+use Rattle.adapter.specs.HostFrames.{frames_held, frames_to_send}
+use Rattle.adapter.specs.Conditions.{Sound}
+use Rattle.bus.specs.Law.{Between, Happens, Steady, management_of, phy_ticked}
 use Rattle.bus.specs.Past.{Past, joined, nothing}
-use Rattle.bus.specs.World.{World}
+use Rattle.adapter.specs.World.{World}
 use Rattle.descriptors.specs.Frames.{IsLegal}
 use Rattle.descriptors.specs.Ring.{IsSound}
 use Rattle.adapter.specs.Rings.{ring_of}

@@ -10,7 +10,7 @@ use Rattle.tx_engine.specs.Transmitter.{Transmitter}
 use Rattle.adapter.specs.State.{AdapterState}
 use Rattle.bus.specs.Law.{Steady, management_of, phy_ticked}
 use Rattle.bus.specs.Past.{Past}
-use Rattle.bus.specs.World.{World}
+use Rattle.adapter.specs.World.{World}
 use Rattle.std.specs.List.{All}
 use Rattle.descriptors.specs.Frames.{IsLegal}
 use Rattle.descriptors.specs.Ring.{IsSound}

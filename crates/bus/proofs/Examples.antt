@@ -10,12 +10,13 @@ use Rattle.rx_engine.specs.declared.engine.Work.{Work}
 use Rattle.tx_engine.specs.Fetching.{fetched}
 use Rattle.tx_engine.specs.Transmitter.{Queued}
 use Rattle.bus.specs.Examples.{HasFinished, HasFramesInBuffer, HasFramesInRing, HasRings, HasWork, HasWrittenBack, SomeSound}
-use Rattle.bus.specs.Frames.{finished, written_back}
-use Rattle.bus.specs.Law.{Between, Sound}
+use Rattle.adapter.specs.Slots.{finished, written_back}
+use Rattle.adapter.specs.Conditions.{Sound}
+use Rattle.bus.specs.Law.{Between}
 use Rattle.bus.specs.Past.{Past, nothing}
-use Rattle.bus.specs.Running.{CanRun, CanTransmit}
+use Rattle.adapter.specs.Running.{CanRun, CanTransmit}
 use Rattle.bus.specs.SoundBuses.{call, called, ready, requested, resting, sending, working}
-use Rattle.bus.specs.World.{World, transmit_ring}
+use Rattle.adapter.specs.World.{transmit_ring, World}
 use Rattle.bus.proofs.Finishing.{between_done, done_adapter}
 use Rattle.bus.proofs.Idle.{idle_rings_are_sound, offered-none}
 use Rattle.bus.proofs.Lists.{all-none}

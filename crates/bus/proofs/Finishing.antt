@@ -24,12 +24,15 @@ use Rattle.adapter.specs.State.{AdapterState}
 use Rattle.adapter.specs.declared.step.StepKind.TheVariants.{RxDone}
 use Rattle.adapter.specs.declared.step.Stepped.{Stepped}
 use Rattle.adapter.specs.declared.step.Stepped.TheVariants.{Took, Put, WireFull, Moved, Done, Ticked, Nothing, Fault}
-use Rattle.bus.specs.Frames.{areas, buffer_of, buffered, data_of, finished, frame_areas, frames_held, in_work, named, offered_buffers, receives, reported_half, ring_area, status_byte, written_back}
-use Rattle.bus.specs.Law.{AreWhole, Between, Happens, IsWhole, Reports, Sound}
+use Rattle.adapter.specs.HostAreas.{areas, buffer_of, data_of, frame_areas, offered_buffers, receives, reported_half, ring_area, status_byte}
+use Rattle.adapter.specs.Slots.{buffered, done_slots, finished, in_work, is_done, offered, written_back}
+use Rattle.adapter.specs.HostFrames.{frames_held, named}
+use Rattle.adapter.specs.Conditions.{AreWhole, IsWhole, Reports, Sound}
+use Rattle.bus.specs.Law.{Between, Happens}
 use Rattle.bus.specs.Past.{nothing}
-use Rattle.bus.specs.Slots.{done_slots, is_done, offered}
-use Rattle.bus.specs.Steps.{IsRunning, world_after_step}
-use Rattle.bus.specs.World.{World, receive_ring, transmit_ring}
+use Rattle.bus.specs.Steps.{world_after_step}
+use Rattle.adapter.specs.State.{IsAdapter}
+use Rattle.adapter.specs.World.{receive_ring, transmit_ring, World}
 use Rattle.bus.proofs.Areas.{separate-same}
 use Rattle.bus.proofs.Composing.{happens_none}
 use Rattle.bus.proofs.Engines.{added, steady_moves, still}
@@ -199,7 +202,7 @@ length-back memory work = by-test (nat_le (work.descriptor + 16) (length memory)
         let below : work.descriptor + 16 ≤ length memory = grind (arith, nat_tests, is) in
         length-with_bytes memory (finished_bytes work.length) (work.descriptor + 8) (omega (arith, below))
 
-done_work : (work : Option Work) (a : World) → IsRunning (with_work work a).adapter → DoneAnswers (with_work work a).adapter Done → Happens (with_work work a) (world_after_step RxDone Done (with_work work a)) nothing
+done_work : (work : Option Work) (a : World) → IsAdapter (with_work work a).adapter → DoneAnswers (with_work work a).adapter Done → Happens (with_work work a) (world_after_step RxDone Done (with_work work a)) nothing
 done_work None a running answers = absurd (answers refl)
 done_work (Some work) a running answers =
     let w = with_work (Some work) a in
@@ -219,7 +222,7 @@ done_work (Some work) a running answers =
     }
 
 -- Any answer of a done step.
-pub done_happens : (a : World) (answer : Stepped) → IsRunning a.adapter → DoneAnswers a.adapter answer → Happens a (world_after_step RxDone answer a) nothing
+pub done_happens : (a : World) (answer : Stepped) → IsAdapter a.adapter → DoneAnswers a.adapter answer → Happens a (world_after_step RxDone answer a) nothing
 done_happens a Done running answers = done_work a.adapter.receiver.work a running answers
 done_happens a Nothing running answers =
     let still_so : memory_after_done a.adapter.receiver.work a.memory ≡ a.memory = ap (λ (work : Option Work). memory_after_done work a.memory) answers in

@@ -12,13 +12,15 @@ use Rattle.descriptors.specs.declared.rx_desc.RxDesc.{RxDesc}
 use Rattle.adapter.specs.Rings.{ring_of}
 use Rattle.adapter.specs.declared.ring.RingRegisters.{RingRegisters}
 use Rattle.rx_engine.specs.Descriptors.{descriptor_at}
-use Rattle.bus.specs.Frames.{IsForeign, finished, frames_held, named}
-use Rattle.bus.specs.Law.{Acts, AreWhole, Happens, IsWhole, Sound}
+use Rattle.adapter.specs.HostAreas.{IsForeign}
+use Rattle.adapter.specs.Slots.{finished, is_done, outstanding}
+use Rattle.adapter.specs.HostFrames.{frames_held, named}
+use Rattle.adapter.specs.Conditions.{AreWhole, IsWhole, Sound}
+use Rattle.bus.specs.Law.{Acts, Happens}
 use Rattle.bus.specs.FirstFrame.{IsFirstHeld, Looked, StandsFirst}
 use Rattle.bus.specs.Past.{Loads, Past, joined}
-use Rattle.bus.specs.Slots.{is_done, outstanding}
 use Rattle.bus.specs.TakingSlots.{next_received}
-use Rattle.bus.specs.World.{World, receive_ring}
+use Rattle.adapter.specs.World.{receive_ring, World}
 use Rattle.bus.proofs.Composing.{happens_trans}
 use Rattle.bus.proofs.EachArea.{of-areas}
 use Rattle.bus.proofs.Kept.{named-same}

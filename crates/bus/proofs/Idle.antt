@@ -20,11 +20,12 @@ use Rattle.adapter.specs.Registers.{after_reset, by_row, is_reset, left_by_read,
 use Rattle.adapter.specs.Rings.{ring_of}
 use Rattle.adapter.specs.State.{AdapterState}
 use Rattle.adapter.specs.Table.{register_at, row_of}
-use Rattle.bus.specs.Frames.{areas, buffer_of, buffered, data_of, finished, in_work, named, ring_area, slot_of_work, work_areas}
+use Rattle.adapter.specs.HostAreas.{areas, buffer_of, data_of, ring_area, work_areas}
+use Rattle.adapter.specs.Slots.{buffered, done_slots, finished, in_work, is_done, IsDealt, offered, outstanding, slot_of_work}
+use Rattle.adapter.specs.HostFrames.{named}
 use Rattle.bus.specs.Idle.{HappeningsKeepIdle, IdleAfterPowerOn, IdleAfterReset, IdleRingsAreSound, IsIdle, OtherWritesKeepIdle, ReadsKeepIdle, StoresKeepIdle, WritesKeepIdle}
-use Rattle.bus.specs.Law.{Reports, Sound}
-use Rattle.bus.specs.Slots.{IsDealt, done_slots, is_done, offered, outstanding}
-use Rattle.bus.specs.World.{World, receive_ring, transmit_ring, world_after_write}
+use Rattle.adapter.specs.Conditions.{Reports, Sound}
+use Rattle.adapter.specs.World.{receive_ring, transmit_ring, World, world_after_write}
 use Rattle.bus.proofs.Lists.{all-head, all-left, all-none, all-weaker, append-empty, map-empty, pairs-head, pairs-none}
 use Rattle.bus.proofs.Putting.{areas-same}
 use Rattle.bus.proofs.Rings.{offered-head}

@@ -17,14 +17,14 @@ use Rattle.adapter.specs.declared.ring.RingRegisters.{RingRegisters}
 use Rattle.adapter.specs.Registers.{after_reset, by_row, is_reset, left_by_read, new_adapter, read_of}
 use Rattle.adapter.specs.Rings.{ring_of}
 use Rattle.adapter.specs.Table.{register_at, row_of}
-use Rattle.bus.specs.Frames.{finished, frames_held, frames_to_send, written_back}
+use Rattle.adapter.specs.Slots.{finished, offered, outstanding, written_back}
+use Rattle.adapter.specs.HostFrames.{frames_held, frames_to_send}
 use Rattle.bus.specs.Initialising.{CanOfferMany, ManySlotsCanBeOffered, OfferedMany, OtherWritesLeaveFrames, ReadsLeaveFrames, ReceiverCanBeSet, TransmitRingCanBeSet, TransmitterCanBeSet, with_tail}
-use Rattle.bus.specs.Law.{AreWhole, Reports, Sound}
+use Rattle.adapter.specs.Conditions.{AreWhole, Reports, Sound}
 use Rattle.bus.specs.Offering.{offering}
 use Rattle.bus.specs.OwnStores.{LeavesFrames, SameFrames}
-use Rattle.bus.specs.Running.{CanRun, CanTransmit}
-use Rattle.bus.specs.Slots.{offered, outstanding}
-use Rattle.bus.specs.World.{World, receive_ring}
+use Rattle.adapter.specs.Running.{CanRun, CanTransmit}
+use Rattle.adapter.specs.World.{receive_ring, World}
 use Rattle.bus.proofs.Idle.{dealt-idle, offered-none, outstanding-none}
 use Rattle.bus.proofs.Lists.{all-none}
 use Rattle.bus.proofs.Offering.{slots_can_be_offered}

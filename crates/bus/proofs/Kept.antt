@@ -18,10 +18,11 @@ use Rattle.tx_engine.specs.Fetching as transmit
 use Rattle.tx_engine.specs.Fetching.{as_sent, fetched, frame_at}
 use Rattle.tx_engine.specs.ToSend.{to_send}
 use Rattle.tx_engine.specs.Transmitter.{Queued}
-use Rattle.bus.specs.Frames.{buffered, data_of, finished, frames_to_send, in_work, named, ring_area, slot_of_work, work_areas, written_back}
-use Rattle.bus.specs.Law.{AreWhole, IsWhole}
-use Rattle.bus.specs.Slots.{IsDealt, done_slots, is_done, offered, outstanding}
-use Rattle.bus.specs.World.{World, receive_ring, transmit_ring}
+use Rattle.adapter.specs.Slots.{buffered, done_slots, finished, in_work, is_done, IsDealt, offered, outstanding, slot_of_work, written_back}
+use Rattle.adapter.specs.HostAreas.{data_of, ring_area, work_areas}
+use Rattle.adapter.specs.HostFrames.{frames_to_send, named}
+use Rattle.adapter.specs.Conditions.{AreWhole, IsWhole}
+use Rattle.adapter.specs.World.{receive_ring, transmit_ring, World}
 use Rattle.bus.proofs.Lists.{all-head, all-left, all-right, all-unmapped, map-same}
 use Rattle.bus.proofs.Rings.{dealt-left, dealt-right, dealt-same, done-same, outstanding-inside}
 

@@ -24,12 +24,15 @@ use Rattle.adapter.specs.Transmitting.{moved_on}
 use Rattle.adapter.specs.declared.step.StepKind.TheVariants.{RxData}
 use Rattle.adapter.specs.declared.step.Stepped.{Stepped}
 use Rattle.adapter.specs.declared.step.Stepped.TheVariants.{Took, Put, WireFull, Moved, Done, Ticked, Nothing, Fault}
-use Rattle.bus.specs.Frames.{areas, buffer_of, buffered, data_of, finished, frames_held, named, offered_buffers, receives, reported_half, ring_area, status_byte, work_areas, written_back}
-use Rattle.bus.specs.Law.{AreWhole, Between, Happens, Reports, Sound}
+use Rattle.adapter.specs.HostAreas.{areas, buffer_of, data_of, offered_buffers, receives, reported_half, ring_area, status_byte, work_areas}
+use Rattle.adapter.specs.Slots.{buffered, done_slots, finished, is_done, IsDealt, offered, outstanding, written_back}
+use Rattle.adapter.specs.HostFrames.{frames_held, named}
+use Rattle.adapter.specs.Conditions.{AreWhole, Reports, Sound}
+use Rattle.bus.specs.Law.{Between, Happens}
 use Rattle.bus.specs.Past.{nothing}
-use Rattle.bus.specs.Slots.{IsDealt, done_slots, is_done, offered, outstanding}
-use Rattle.bus.specs.Steps.{IsRunning, world_after_step}
-use Rattle.bus.specs.World.{World, receive_ring, transmit_ring}
+use Rattle.bus.specs.Steps.{world_after_step}
+use Rattle.adapter.specs.State.{IsAdapter}
+use Rattle.adapter.specs.World.{receive_ring, transmit_ring, World}
 use Rattle.bus.proofs.Areas.{separate-same, separate-shorter}
 use Rattle.bus.proofs.Composing.{happens_none}
 use Rattle.bus.proofs.Engines.{added, steady_moves, still}
@@ -154,7 +157,7 @@ between_moved o p a0 has can sound =
     }
 
 -- Any answer of a data step.
-pub data_happens : (a : World) (answer : Stepped) → IsRunning a.adapter → DataAnswers a.memory a.adapter answer → Happens a (world_after_step RxData answer a) nothing
+pub data_happens : (a : World) (answer : Stepped) → IsAdapter a.adapter → DataAnswers a.memory a.adapter answer → Happens a (world_after_step RxData answer a) nothing
 data_happens a Moved running answers = record {
   steady =
       steady_moves a (world_after_step RxData Moved a).memory

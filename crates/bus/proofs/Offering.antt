@@ -10,12 +10,13 @@ use Rattle.descriptors.specs.declared.ring.Ring.{Ring}
 use Rattle.descriptors.specs.Ring.{IsSound, address_of, count_of, distance_of, next_of, owned}
 use Rattle.descriptors.specs.RingLaws.{distance-grows, length-owned, next-below, owned-tail}
 use Rattle.rx_engine.specs.Held.{held}
-use Rattle.bus.specs.Frames.{areas, buffer_of, buffered, data_of, finished, in_work, IsForeign, named, offered_buffers, receives, reported_half, ring_area, status_byte, work_areas}
-use Rattle.bus.specs.Law.{AreWhole, Reports}
+use Rattle.adapter.specs.HostAreas.{areas, buffer_of, data_of, IsForeign, offered_buffers, receives, reported_half, ring_area, status_byte, work_areas}
+use Rattle.adapter.specs.Slots.{buffered, done_slots, finished, in_work, is_done, IsDealt, offered, outstanding}
+use Rattle.adapter.specs.HostFrames.{named}
+use Rattle.adapter.specs.Conditions.{AreWhole, Reports}
 use Rattle.bus.specs.Offering.{FramesCanBeOffered, SlotsCanBeOffered, offering, offering_frame}
-use Rattle.bus.specs.Running.{CanTransmit}
-use Rattle.bus.specs.Slots.{IsDealt, done_slots, is_done, offered, outstanding}
-use Rattle.bus.specs.World.{World, receive_ring, transmit_ring}
+use Rattle.adapter.specs.Running.{CanTransmit}
+use Rattle.adapter.specs.World.{receive_ring, transmit_ring, World}
 use Rattle.bus.proofs.Lists.{all-head, all-left, all-none, all-right, all-tail, all-unmapped, pairs-head, pairs-tail, take_while-passes, take_while-split}
 use Rattle.std.proofs.lemmas.List.Kept.{AllPairs-cons}
 use Rattle.dma_memory.specs.Areas.{AreApart, AreSeparate, Area, bytes_in}

@@ -19,11 +19,12 @@ use Rattle.descriptors.specs.Ring.{address_of, count_of}
 use Rattle.adapter.specs.Rings.{ring_of}
 use Rattle.adapter.specs.declared.ring.RingRegisters.{RingRegisters}
 use Rattle.rx_engine.specs.Descriptors as receive
-use Rattle.bus.specs.Frames.{buffered, data_of, finished, frame_areas, in_work, IsForeign, named, offered_buffers, reported_half, ring_area, status_byte, work_areas, written_back}
-use Rattle.bus.specs.Law.{Sound}
+use Rattle.adapter.specs.Slots.{buffered, finished, in_work, offered, outstanding, written_back}
+use Rattle.adapter.specs.HostAreas.{data_of, frame_areas, IsForeign, offered_buffers, reported_half, ring_area, status_byte, work_areas}
+use Rattle.adapter.specs.HostFrames.{named}
+use Rattle.adapter.specs.Conditions.{Sound}
 use Rattle.bus.specs.Own.{DriversKeepTheirOwn, IsOwnSlot, frame_named}
-use Rattle.bus.specs.Slots.{offered, outstanding}
-use Rattle.bus.specs.World.{World, receive_ring, transmit_ring}
+use Rattle.adapter.specs.World.{receive_ring, transmit_ring, World}
 use Rattle.bus.proofs.Kept.{named-same}
 use Rattle.bus.proofs.Lists.{all-head, all-left, all-none, all-right, all-tail, all-unmapped, map-same, pairs-head, pairs-right, pairs-tail}
 use Rattle.bus.proofs.Rings.{dealt-left, dealt-right, each-outstanding, far-apart, outstanding-apart, outstanding-inside, slot-inside}

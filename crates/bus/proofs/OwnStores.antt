@@ -7,11 +7,12 @@ use Rattle.dma_memory.specs.HostMemory.{LiesIn, with_bytes}
 use Rattle.dma_memory.specs.Laws.{length-with_bytes}
 use Rattle.rx_engine.specs.Held as engine
 use Rattle.tx_engine.specs.Transmitter.{Queued}
-use Rattle.bus.specs.Frames.{areas, buffer_of, buffered, data_of, finished, in_work, named, offered_buffers, receives, reported_half, ring_area, status_byte, work_areas}
-use Rattle.bus.specs.Law.{Reports, Sound}
+use Rattle.adapter.specs.HostAreas.{areas, buffer_of, data_of, offered_buffers, receives, reported_half, ring_area, status_byte, work_areas}
+use Rattle.adapter.specs.Slots.{buffered, finished, in_work, offered, outstanding}
+use Rattle.adapter.specs.HostFrames.{named}
+use Rattle.adapter.specs.Conditions.{Reports, Sound}
 use Rattle.bus.specs.OwnStores.{IsOwn, OwnStoresLeaveForeign, OwnStoresLeaveFrames}
-use Rattle.bus.specs.Slots.{offered, outstanding}
-use Rattle.bus.specs.World.{World, receive_ring, transmit_ring, world_after_store}
+use Rattle.adapter.specs.World.{receive_ring, transmit_ring, World, world_after_store}
 use Rattle.bus.proofs.Areas.{separate-same}
 use Rattle.bus.proofs.Kept.{IsSame, buffers-kept, frame_of, receive_kept_by_slots, same-apart, transmit_kept_by_slots}
 use Rattle.bus.proofs.Lists.{all-left, all-right}

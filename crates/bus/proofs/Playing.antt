@@ -14,7 +14,8 @@ use Rattle.adapter.specs.declared.step.Stepped.TheVariants.{Put}
 use Rattle.bus.specs.Past.{Past}
 use Rattle.bus.specs.Solo.{ArePlayed, Grouped, Lives, Played, Prepared, SoloState, Takes, has_room, most_accesses, solo_after_arrival, solo_after_step, without_go}
 use Rattle.bus.specs.SoloLaws.{are_free_joins, are_played_joins}
-use Rattle.bus.specs.Steps.{IsRunning, put_by}
+use Rattle.bus.specs.Steps.{put_by}
+use Rattle.adapter.specs.State.{IsAdapter}
 use Rattle.bus.specs.TrailLaws.{past_of-append, trail_joins}
 use Rattle.bus.specs.Trails.{Arrives, IsStep, Steps, past_of}
 use Rattle.bus.specs.declared.solo.SoloTick.{SoloTick}
@@ -63,7 +64,7 @@ put_alone PhyTick wire_free answer solo answers = ap put_by answers ∙ put_none
     put_none false = refl
 
 -- A step, with the ticks that wait behind it.
-pub played_step : (a : SoloState) (kind : StepKind) (answer : Stepped) (after : List SoloTick) → Takes a.lively (Steps kind (has_room a) answer) a.waiting after → IsRunning a.world.adapter → Answers kind (has_room a) a.world.memory a.world.adapter answer → Played a (solo_after_step kind answer (record a { waiting = after }))
+pub played_step : (a : SoloState) (kind : StepKind) (answer : Stepped) (after : List SoloTick) → Takes a.lively (Steps kind (has_room a) answer) a.waiting after → IsAdapter a.world.adapter → Answers kind (has_room a) a.world.memory a.world.adapter answer → Played a (solo_after_step kind answer (record a { waiting = after }))
 played_step a kind answer after takes running answers =
     let event = Steps kind (has_room a) answer in
     record {
@@ -78,7 +79,7 @@ played_step a kind answer after takes running answers =
     }
 
 -- A delivery.
-pub played_arrival : (a : SoloState) (frame : List ℕ) (fate : Fate) (after : List SoloTick) → a.waiting ≡ Arrive frame ∷ after → IsRunning a.world.adapter → IsFate a.world.adapter frame fate → Played a (solo_after_arrival fate frame (record a { waiting = after }))
+pub played_arrival : (a : SoloState) (frame : List ℕ) (fate : Fate) (after : List SoloTick) → a.waiting ≡ Arrive frame ∷ after → IsAdapter a.world.adapter → IsFate a.world.adapter frame fate → Played a (solo_after_arrival fate frame (record a { waiting = after }))
 played_arrival a frame fate after takes running is =
     let event = Arrives frame fate in
     record {
@@ -100,19 +101,19 @@ pub without_go-arrival : (ticks : List SoloTick) (frame : List ℕ) → slice_ge
 without_go-arrival ticks frame is = ap without_go (front_rest ticks (Arrive frame) is)
 
 -- A step whose tick was the next, as the code leaves it.
-pub step_on : (a s s' b : SoloState) (kind : StepKind) (answer : Stepped) (next : Option SoloTick) (tick : SoloTick) → Played a s → next ≡ slice_get s.waiting 0 → next ≡ Some tick → tick ≡ Step kind → s' ≡ record s { waiting = drop 1 s.waiting } → IsRunning s'.world.adapter → Answers kind (has_room s') s'.world.memory s'.world.adapter answer → b ≡ solo_after_step kind answer s' → Played a b
+pub step_on : (a s s' b : SoloState) (kind : StepKind) (answer : Stepped) (next : Option SoloTick) (tick : SoloTick) → Played a s → next ≡ slice_get s.waiting 0 → next ≡ Some tick → tick ≡ Step kind → s' ≡ record s { waiting = drop 1 s.waiting } → IsAdapter s'.world.adapter → Answers kind (has_room s') s'.world.memory s'.world.adapter answer → b ≡ solo_after_step kind answer s' → Played a b
 step_on a s s' b kind answer next tick before is some takes left running answers after =
     let front : s.waiting ≡ Step kind ∷ drop 1 s.waiting = front_rest s.waiting (Step kind) (sym is ∙ some ∙ ap Some takes) in
-    let running_s : IsRunning s.world.adapter = subst (λ (x : SoloState). IsRunning x.world.adapter) left running in
+    let running_s : IsAdapter s.world.adapter = subst (λ (x : SoloState). IsAdapter x.world.adapter) left running in
     let answers_s : Answers kind (has_room s) s.world.memory s.world.adapter answer = subst (λ (x : SoloState). Answers kind (has_room x) x.world.memory x.world.adapter answer) left answers in
     let step = played_step s kind answer (drop 1 s.waiting) (inl front) running_s answers_s in
     let at : b ≡ solo_after_step kind answer (record s { waiting = drop 1 s.waiting }) = after ∙ ap (solo_after_step kind answer) left in
     subst (λ (x : SoloState). Played a x) (sym at) (played_trans a s _ before step)
 
-pub arrive_on : (a s s' b : SoloState) (frame bytes : List ℕ) (fate : Fate) (next : Option SoloTick) (tick : SoloTick) → Played a s → next ≡ slice_get s.waiting 0 → next ≡ Some tick → tick ≡ Arrive frame → bytes ≡ frame → s' ≡ record s { waiting = drop 1 s.waiting } → IsRunning s'.world.adapter → IsFate s'.world.adapter bytes fate → b ≡ solo_after_arrival fate bytes s' → Played a b
+pub arrive_on : (a s s' b : SoloState) (frame bytes : List ℕ) (fate : Fate) (next : Option SoloTick) (tick : SoloTick) → Played a s → next ≡ slice_get s.waiting 0 → next ≡ Some tick → tick ≡ Arrive frame → bytes ≡ frame → s' ≡ record s { waiting = drop 1 s.waiting } → IsAdapter s'.world.adapter → IsFate s'.world.adapter bytes fate → b ≡ solo_after_arrival fate bytes s' → Played a b
 arrive_on a s s' b frame bytes fate next tick before is some takes same left running fates after =
     let front : s.waiting ≡ Arrive frame ∷ drop 1 s.waiting = front_rest s.waiting (Arrive frame) (sym is ∙ some ∙ ap Some takes) in
-    let running_s : IsRunning s.world.adapter = subst (λ (x : SoloState). IsRunning x.world.adapter) left running in
+    let running_s : IsAdapter s.world.adapter = subst (λ (x : SoloState). IsAdapter x.world.adapter) left running in
     let fates_s : IsFate s.world.adapter frame fate = subst (λ (x : List ℕ). IsFate s.world.adapter x fate) same (subst (λ (x : SoloState). IsFate x.world.adapter bytes fate) left fates) in
     let step = played_arrival s frame fate (drop 1 s.waiting) front running_s fates_s in
     let at : b ≡ solo_after_arrival fate frame (record s { waiting = drop 1 s.waiting }) = after ∙ ap (solo_after_arrival fate bytes) left ∙ ap (λ (x : List ℕ). solo_after_arrival fate x (record s { waiting = drop 1 s.waiting })) same in
@@ -122,31 +123,31 @@ arrive_on a s s' b frame bytes fate next tick before is some takes same left run
 abbrev pub gone : SoloState → SoloState
 gone solo = record solo { waiting = without_go solo.waiting }
 
-pub step_gone : (a s s' b : SoloState) (kind : StepKind) (answer : Stepped) (next : Option SoloTick) (tick : SoloTick) → Played a (gone s) → next ≡ slice_get s.waiting 0 → next ≡ Some tick → tick ≡ Step kind → s' ≡ record s { waiting = drop 1 s.waiting } → IsRunning s'.world.adapter → Answers kind (has_room s') s'.world.memory s'.world.adapter answer → b ≡ solo_after_step kind answer s' → Played a (gone b)
+pub step_gone : (a s s' b : SoloState) (kind : StepKind) (answer : Stepped) (next : Option SoloTick) (tick : SoloTick) → Played a (gone s) → next ≡ slice_get s.waiting 0 → next ≡ Some tick → tick ≡ Step kind → s' ≡ record s { waiting = drop 1 s.waiting } → IsAdapter s'.world.adapter → Answers kind (has_room s') s'.world.memory s'.world.adapter answer → b ≡ solo_after_step kind answer s' → Played a (gone b)
 step_gone a s s' b kind answer next tick before is some takes left running answers after =
     let front = without_go-step s.waiting kind (sym is ∙ some ∙ ap Some takes) in
-    let running_s : IsRunning s.world.adapter = subst (λ (x : SoloState). IsRunning x.world.adapter) left running in
+    let running_s : IsAdapter s.world.adapter = subst (λ (x : SoloState). IsAdapter x.world.adapter) left running in
     let answers_s : Answers kind (has_room s) s.world.memory s.world.adapter answer = subst (λ (x : SoloState). Answers kind (has_room x) x.world.memory x.world.adapter answer) left answers in
     let step = played_step (gone s) kind answer (without_go (drop 1 s.waiting)) (inl front) running_s answers_s in
     let at : b ≡ solo_after_step kind answer (record s { waiting = drop 1 s.waiting }) = after ∙ ap (solo_after_step kind answer) left in
     subst (λ (x : SoloState). Played a (gone x)) (sym at) (played_trans a (gone s) _ before step)
 
-pub arrive_gone : (a s s' b : SoloState) (frame bytes : List ℕ) (fate : Fate) (next : Option SoloTick) (tick : SoloTick) → Played a (gone s) → next ≡ slice_get s.waiting 0 → next ≡ Some tick → tick ≡ Arrive frame → bytes ≡ frame → s' ≡ record s { waiting = drop 1 s.waiting } → IsRunning s'.world.adapter → IsFate s'.world.adapter bytes fate → b ≡ solo_after_arrival fate bytes s' → Played a (gone b)
+pub arrive_gone : (a s s' b : SoloState) (frame bytes : List ℕ) (fate : Fate) (next : Option SoloTick) (tick : SoloTick) → Played a (gone s) → next ≡ slice_get s.waiting 0 → next ≡ Some tick → tick ≡ Arrive frame → bytes ≡ frame → s' ≡ record s { waiting = drop 1 s.waiting } → IsAdapter s'.world.adapter → IsFate s'.world.adapter bytes fate → b ≡ solo_after_arrival fate bytes s' → Played a (gone b)
 arrive_gone a s s' b frame bytes fate next tick before is some takes same left running fates after =
     let front = without_go-arrival s.waiting frame (sym is ∙ some ∙ ap Some takes) in
-    let running_s : IsRunning s.world.adapter = subst (λ (x : SoloState). IsRunning x.world.adapter) left running in
+    let running_s : IsAdapter s.world.adapter = subst (λ (x : SoloState). IsAdapter x.world.adapter) left running in
     let fates_s : IsFate s.world.adapter frame fate = subst (λ (x : List ℕ). IsFate s.world.adapter x fate) same (subst (λ (x : SoloState). IsFate x.world.adapter bytes fate) left fates) in
     let step = played_arrival (gone s) frame fate (without_go (drop 1 s.waiting)) front running_s fates_s in
     let at : b ≡ solo_after_arrival fate frame (record s { waiting = drop 1 s.waiting }) = after ∙ ap (solo_after_arrival fate bytes) left ∙ ap (λ (x : List ℕ). solo_after_arrival fate x (record s { waiting = drop 1 s.waiting })) same in
     subst (λ (x : SoloState). Played a (gone x)) (sym at) (played_trans a (gone s) _ before step)
 
 -- Both ticks of a lively bus.
-pub lives_on : (a m b : SoloState) (first later : Stepped) → a.lively ≡ true → IsRunning a.world.adapter → Answers EepromTick (has_room a) a.world.memory a.world.adapter first → m ≡ solo_after_step EepromTick first a → IsRunning m.world.adapter → Answers PhyTick (has_room m) m.world.memory m.world.adapter later → b ≡ solo_after_step PhyTick later m → Lives a b
+pub lives_on : (a m b : SoloState) (first later : Stepped) → a.lively ≡ true → IsAdapter a.world.adapter → Answers EepromTick (has_room a) a.world.memory a.world.adapter first → m ≡ solo_after_step EepromTick first a → IsAdapter m.world.adapter → Answers PhyTick (has_room m) m.world.memory m.world.adapter later → b ≡ solo_after_step PhyTick later m → Lives a b
 unfolding played_trans played_step
 lives_on a m b first later lively running answers middle running_m answers_m after =
     let m0 = solo_after_step EepromTick first a in
     let one = played_step a EepromTick first a.waiting (inr (lively, tt, refl)) running answers in
-    let two = played_step m0 PhyTick later m0.waiting (inr (lively, tt, refl)) (subst (λ (x : SoloState). IsRunning x.world.adapter) middle running_m) (subst (λ (x : SoloState). Answers PhyTick (has_room x) x.world.memory x.world.adapter later) middle answers_m) in
+    let two = played_step m0 PhyTick later m0.waiting (inr (lively, tt, refl)) (subst (λ (x : SoloState). IsAdapter x.world.adapter) middle running_m) (subst (λ (x : SoloState). Answers PhyTick (has_room x) x.world.memory x.world.adapter later) middle answers_m) in
     let at : b ≡ solo_after_step PhyTick later m0 = after ∙ ap (solo_after_step PhyTick later) middle in
     subst (λ (x : SoloState). Lives a x) (sym at) (record {
       played = played_trans a m0 (solo_after_step PhyTick later m0) one two;

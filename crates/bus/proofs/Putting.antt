@@ -19,12 +19,15 @@ use Rattle.adapter.specs.Transmitting.{PutAnswers, after_put, causes_of_putting}
 use Rattle.adapter.specs.declared.step.StepKind.TheVariants.{TxPut}
 use Rattle.adapter.specs.declared.step.Stepped.{Stepped}
 use Rattle.adapter.specs.declared.step.Stepped.TheVariants.{Took, Put, WireFull, Moved, Done, Ticked, Nothing, Fault}
-use Rattle.bus.specs.Frames.{areas, buffer_of, buffered, data_of, finished, frame_areas, frames_held, in_work, named, offered_buffers, receives, reported_half, ring_area, status_byte, work_areas}
-use Rattle.bus.specs.Law.{Between, Happens, Reports, Sound}
+use Rattle.adapter.specs.HostAreas.{areas, buffer_of, data_of, frame_areas, offered_buffers, receives, reported_half, ring_area, status_byte, work_areas}
+use Rattle.adapter.specs.Slots.{buffered, finished, in_work, is_done, offered}
+use Rattle.adapter.specs.HostFrames.{frames_held, named}
+use Rattle.adapter.specs.Conditions.{Reports, Sound}
+use Rattle.bus.specs.Law.{Between, Happens}
 use Rattle.bus.specs.Past.{nothing}
-use Rattle.bus.specs.Slots.{is_done, offered}
-use Rattle.bus.specs.Steps.{IsRunning, past_of_step, world_after_step}
-use Rattle.bus.specs.World.{World, receive_ring, transmit_ring}
+use Rattle.bus.specs.Steps.{past_of_step, world_after_step}
+use Rattle.adapter.specs.State.{IsAdapter}
+use Rattle.adapter.specs.World.{receive_ring, transmit_ring, World}
 use Rattle.bus.proofs.Areas.{separate-same}
 use Rattle.bus.proofs.Composing.{happens_none}
 use Rattle.bus.proofs.Engines.{added, steady_moves, still}
@@ -181,7 +184,7 @@ length-reported memory queued = by-tests queued.report (nat_lt (queued.descripto
         let below : queued.descriptor + 12 < length memory = grind (arith, nat_tests, is) in
         length-with_bytes memory (1 ∷ []) (queued.descriptor + 12) (omega (arith, below))
 
-put_queue : (queue : List Queued) (a : World) (wire_free : Bool) (frame : List ℕ) → IsRunning a.adapter → PutAnswers wire_free (with_queue queue a).adapter (Put frame) → Happens (with_queue queue a) (world_after_step TxPut (Put frame) (with_queue queue a)) (past_of_step TxPut (Put frame))
+put_queue : (queue : List Queued) (a : World) (wire_free : Bool) (frame : List ℕ) → IsAdapter a.adapter → PutAnswers wire_free (with_queue queue a).adapter (Put frame) → Happens (with_queue queue a) (world_after_step TxPut (Put frame) (with_queue queue a)) (past_of_step TxPut (Put frame))
 put_queue [] a wire_free frame running answers = absurd answers.1
 put_queue (queued ∷ later) a wire_free frame running answers =
     let w = with_queue (queued ∷ later) a in
@@ -202,7 +205,7 @@ put_queue (queued ∷ later) a wire_free frame running answers =
     }
 
 -- Any answer of a step that puts.
-pub put_happens : (a : World) (wire_free : Bool) (answer : Stepped) → IsRunning a.adapter → PutAnswers wire_free a.adapter answer → Happens a (world_after_step TxPut answer a) (past_of_step TxPut answer)
+pub put_happens : (a : World) (wire_free : Bool) (answer : Stepped) → IsAdapter a.adapter → PutAnswers wire_free a.adapter answer → Happens a (world_after_step TxPut answer a) (past_of_step TxPut answer)
 put_happens a wire_free (Put frame) running answers = put_queue a.adapter.transmitter.buffer a wire_free frame running answers
 put_happens a wire_free Nothing running answers = happens_none a
 put_happens a wire_free WireFull running answers = happens_none a

@@ -22,12 +22,15 @@ use Rattle.adapter.specs.State.{AdapterState}
 use Rattle.adapter.specs.Steps.{after_phy_told, causes_told}
 use Rattle.adapter.specs.declared.step.StepKind.TheVariants.{EepromTick, PhyTick}
 use Rattle.adapter.specs.declared.step.Stepped.{Stepped}
-use Rattle.bus.specs.Frames.{finished, frames_to_send, named, written_back}
-use Rattle.bus.specs.Law.{Between, Happens, Management, Sound, Steady, management_of, phy_ticked}
+use Rattle.adapter.specs.Slots.{finished, written_back}
+use Rattle.adapter.specs.HostFrames.{frames_to_send, named}
+use Rattle.adapter.specs.Conditions.{Sound}
+use Rattle.bus.specs.Law.{Between, Happens, Management, Steady, management_of, phy_ticked}
 use Rattle.bus.specs.Past.{Past, nothing}
-use Rattle.bus.specs.Running.{CanRun}
-use Rattle.bus.specs.Steps.{IsRunning, past_of_arrival, past_of_step, world_after_arrival, world_after_step}
-use Rattle.bus.specs.World.{World}
+use Rattle.adapter.specs.Running.{CanRun}
+use Rattle.bus.specs.Steps.{past_of_arrival, past_of_step, world_after_arrival, world_after_step}
+use Rattle.adapter.specs.State.{IsAdapter}
+use Rattle.adapter.specs.World.{World}
 use Rattle.bus.proofs.Composing.{happens_none}
 use Rattle.bus.proofs.Engines.{added, steady_moves, still}
 use Rattle.descriptors.specs.Frames.{IsLegal}
@@ -152,7 +155,7 @@ steady_ticked a recorded eerd management eeprom_ticks phy_ticks fits causes read
   management = told;
 }
 
-pub eeprom_tick_happens : (a : World) (answer : Stepped) → IsRunning a.adapter → Happens a (world_after_step EepromTick answer a) (past_of_step EepromTick answer)
+pub eeprom_tick_happens : (a : World) (answer : Stepped) → IsAdapter a.adapter → Happens a (world_after_step EepromTick answer a) (past_of_step EepromTick answer)
 eeprom_tick_happens a answer running =
     let read = eeprom.after_tick a.adapter.image a.adapter.eerd in
     record {
@@ -163,7 +166,7 @@ eeprom_tick_happens a answer running =
     }
 
 -- the PHY's tick, by what it tells
-tick_told : (a : World) (tells : Option Told) (answer : Stepped) → told a.adapter.mdic a.adapter.phy ≡ tells → IsRunning a.adapter → (management_of (after_phy_told tells a.adapter) ≡ phy_ticked (management_of a.adapter)) → Happens a (record a { adapter = after_phy_told tells a.adapter }) (past_of_step PhyTick answer)
+tick_told : (a : World) (tells : Option Told) (answer : Stepped) → told a.adapter.mdic a.adapter.phy ≡ tells → IsAdapter a.adapter → (management_of (after_phy_told tells a.adapter) ≡ phy_ticked (management_of a.adapter)) → Happens a (record a { adapter = after_phy_told tells a.adapter }) (past_of_step PhyTick answer)
 tick_told a None answer is running moves = record {
   steady = steady_ticked a a.adapter.causes.recorded a.adapter.eerd (management_of a.adapter) 0 1 running.registers.counters.missed (λ place set. set) refl moves;
   between = λ o p sound. between_quiet o p a (unchanged a.adapter) (record nothing { phy_ticks = 1 }) refl (sym (append-nil a.adapter.receiver.buffer)) (going a) sound;
@@ -183,14 +186,14 @@ management_told : (adapter : AdapterState) (works : Bool) (tells : Told) → man
 management_told adapter true tells = refl
 management_told adapter false tells = refl
 
-pub phy_tick_happens : (a : World) (answer : Stepped) → IsRunning a.adapter → Happens a (world_after_step PhyTick answer a) (past_of_step PhyTick answer)
+pub phy_tick_happens : (a : World) (answer : Stepped) → IsAdapter a.adapter → Happens a (world_after_step PhyTick answer a) (past_of_step PhyTick answer)
 phy_tick_happens a answer running =
     tick_told a (told a.adapter.mdic a.adapter.phy) answer refl running
     (management_told a.adapter (has_work a.adapter.mdic a.adapter.phy) (record { link_changed = phy.comes_up a.adapter.phy; access_complete = mdi.tells_end a.adapter.mdic }))
 
 -- Arrivals.
 
-pub arrival_happens : (a : World) (fate : Fate) (frame : List ℕ) → IsRunning a.adapter → IsFate a.adapter frame fate → Happens a (world_after_arrival fate frame a) (past_of_arrival fate frame)
+pub arrival_happens : (a : World) (fate : Fate) (frame : List ℕ) → IsAdapter a.adapter → IsFate a.adapter frame fate → Happens a (world_after_arrival fate frame a) (past_of_arrival fate frame)
 arrival_happens a Off frame running is = happens_none a
 arrival_happens a Illegal frame running is = happens_none a
 arrival_happens a Filtered frame running is = happens_none a

@@ -18,15 +18,17 @@ use Rattle.descriptors.specs.RxDesc.{rx_desc_of}
 use Rattle.descriptors.specs.RxStatus.{status_bits, status_of}
 use Rattle.descriptors.specs.RingLaws.{next-below}
 use Rattle.rx_engine.specs.Descriptors.{named_address}
-use Rattle.bus.specs.Frames.{areas, buffer_of, buffer_size, frames_held, frames_to_send}
-use Rattle.bus.specs.Law.{Acts, Happens, Sound}
+use Rattle.adapter.specs.HostAreas.{areas, buffer_of, buffer_size}
+use Rattle.adapter.specs.HostFrames.{frames_held, frames_to_send}
+use Rattle.adapter.specs.Conditions.{Sound}
+use Rattle.bus.specs.Law.{Acts, Happens}
 use Rattle.bus.specs.Offering.{CanOffer, Offered, offering}
 use Rattle.bus.specs.OwnStores.{IsOwn}
 use Rattle.bus.specs.Past.{Access, Past, Stores, Writes, joined, nothing}
 use Rattle.bus.specs.Refilling.{CanRefill, IsRefilled, KnowsRing, Refilled, empty_descriptor}
-use Rattle.bus.specs.Slots.{is_done, outstanding}
+use Rattle.adapter.specs.Slots.{is_done, outstanding}
 use Rattle.bus.specs.Spare.{FramesFit}
-use Rattle.bus.specs.World.{World, receive_ring, world_after_store, world_after_write}
+use Rattle.adapter.specs.World.{receive_ring, World, world_after_store, world_after_write}
 use Rattle.bus.proofs.Carrying.{Carries, carried-by_happening, carried-by_store, carries_trans, fit-carried, same_outstanding, spare-carried}
 use Rattle.bus.proofs.Lists.{all-none}
 use Rattle.bus.proofs.Offering.{slots_can_be_offered}

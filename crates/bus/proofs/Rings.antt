@@ -10,8 +10,8 @@ use Rattle.dma_memory.specs.AreaLaws.{apart-sym}
 use Rattle.descriptors.specs.declared.ring.Ring.{Ring}
 use Rattle.descriptors.specs.Ring.{IsSound, address_of, count_of, distance_of, next_of, owned, slots_from}
 use Rattle.descriptors.specs.RingLaws.{distance-around, distance-forward, distance-step, next-below, next-inner, next-last, owned-head}
-use Rattle.bus.specs.Frames.{ring_area}
-use Rattle.bus.specs.Slots.{IsDealt, done_slots, is_done, offered, outstanding}
+use Rattle.adapter.specs.HostAreas.{ring_area}
+use Rattle.adapter.specs.Slots.{done_slots, is_done, IsDealt, offered, outstanding}
 use Rattle.bus.proofs.Lists.{all-left, all-none, all-right, all-tail, pairs-before, pairs-behind, pairs-mapped, pairs-none, take_while-passes, take_while-same, take_while-split}
 
 -- Slots by number.

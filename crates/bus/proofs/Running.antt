@@ -19,11 +19,11 @@ use Rattle.adapter.specs.declared.step.StepKind.TheVariants.{TxTake, TxPut, RxDa
 use Rattle.adapter.specs.declared.step.Stepped.{Stepped}
 use Rattle.adapter.specs.declared.step.Stepped.TheVariants.{Fault}
 use Rattle.bus.specs.Faults.{FaultsNeverCome}
-use Rattle.bus.specs.Frames.{buffer_of, buffered, in_work, receives, ring_area}
-use Rattle.bus.specs.Law.{Sound}
-use Rattle.bus.specs.Running.{CanRun, CanTransmit}
-use Rattle.bus.specs.Slots.{offered}
-use Rattle.bus.specs.World.{World, receive_ring, transmit_ring}
+use Rattle.adapter.specs.HostAreas.{buffer_of, receives, ring_area}
+use Rattle.adapter.specs.Slots.{buffered, in_work, offered}
+use Rattle.adapter.specs.Conditions.{Sound}
+use Rattle.adapter.specs.Running.{CanRun, CanTransmit}
+use Rattle.adapter.specs.World.{receive_ring, transmit_ring, World}
 use Rattle.bus.proofs.EachArea.{of-areas}
 use Rattle.bus.proofs.Kept.{IsSame}
 use Rattle.bus.proofs.Lists.{all-head, all-none, all-right, all-tail}

@@ -14,17 +14,19 @@ use Rattle.descriptors.specs.Ring.{address_of, count_of}
 use Rattle.descriptors.specs.TxDesc.{tx_desc_of}
 use Rattle.descriptors.specs.TxFields.{command_bits, command_of, sent_bits, sent_of}
 use Rattle.tx_engine.specs.Fetching.{IsTransmittable, descriptor_at, fetched, frame_at}
-use Rattle.bus.specs.Frames.{areas, data_of, frame_areas, frames_to_send, ring_area}
-use Rattle.bus.specs.Law.{Acts, Happens, Sound}
+use Rattle.adapter.specs.HostAreas.{areas, data_of, frame_areas, ring_area}
+use Rattle.adapter.specs.HostFrames.{frames_to_send}
+use Rattle.adapter.specs.Conditions.{Sound}
+use Rattle.bus.specs.Law.{Acts, Happens}
 use Rattle.bus.specs.Offering.{CanSend, OfferedFrame, offering_frame}
 use Rattle.bus.specs.OwnStores.{IsOwn}
 use Rattle.bus.specs.Past.{Access, Past, Stores, Writes, joined, nothing}
 use Rattle.bus.specs.Refilling.{KnowsRing}
 use Rattle.bus.specs.Sending.{CanSendBy, IsSent, Sent, whole_descriptor}
-use Rattle.bus.specs.Running.{CanTransmit}
-use Rattle.bus.specs.Slots.{is_done, outstanding}
+use Rattle.adapter.specs.Running.{CanTransmit}
+use Rattle.adapter.specs.Slots.{is_done, outstanding}
 use Rattle.bus.specs.Spare.{FramesFit, IsSpare}
-use Rattle.bus.specs.World.{World, receive_ring, transmit_ring, world_after_store, world_after_write}
+use Rattle.adapter.specs.World.{receive_ring, transmit_ring, World, world_after_store, world_after_write}
 use Rattle.bus.proofs.Lists.{all-tail, all-none}
 use Rattle.bus.proofs.Carrying.{Carries, carried-by_happening, carried-by_store, carries_trans, fit-carried, same_outstanding, spare-carried}
 use Rattle.bus.proofs.Offering.{frames_can_be_offered}

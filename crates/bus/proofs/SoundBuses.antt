@@ -31,14 +31,15 @@ use Rattle.adapter.specs.declared.step.Stepped.TheVariants.{Took, Moved, Done, N
 use Rattle.adapter.specs.Registers.{new_adapter}
 use Rattle.adapter.specs.Table.{array_register_at, register_at}
 use Rattle.bus.specs.Examples.{HasFinished, HasFramesInBuffer, HasFramesInRing, HasRings, HasWork}
-use Rattle.bus.specs.Frames.{buffer_of, data_of, finished}
+use Rattle.adapter.specs.HostAreas.{buffer_of, data_of}
+use Rattle.adapter.specs.Slots.{finished, is_done, offered}
 use Rattle.bus.specs.Idle.{IsIdle}
-use Rattle.bus.specs.Law.{Reports, Sound}
+use Rattle.adapter.specs.Conditions.{Reports, Sound}
 use Rattle.bus.specs.Offering.{CanOffer, CanSend}
-use Rattle.bus.specs.Slots.{is_done, offered}
 use Rattle.bus.specs.SoundBuses.{call, called, ready, reported, request, requested, resting, sending, sent, working}
-use Rattle.bus.specs.Steps.{IsRunning, world_after_arrival, world_after_step}
-use Rattle.bus.specs.World.{World, receive_ring, transmit_ring, world_after_write}
+use Rattle.bus.specs.Steps.{world_after_arrival, world_after_step}
+use Rattle.adapter.specs.State.{IsAdapter}
+use Rattle.adapter.specs.World.{receive_ring, transmit_ring, World, world_after_write}
 use Rattle.bus.proofs.Idle.{idle-areas, idle_rings_are_sound, stores_keep_idle}
 use Rattle.bus.proofs.Instances.{arrivals_happen, steps_happen}
 use Rattle.bus.proofs.Lists.{all-none, pairs-none}
@@ -200,10 +201,10 @@ reported-has_finished size words sound none =
 
 -- By the law any step keeps the conditions, and so does any arrival.
 
-pub stepped-sound : (kind : StepKind) (free : Bool) (answer : Stepped) (world : World) → IsRunning world.adapter → Answers kind free world.memory world.adapter answer → Sound 0 0 world → Sound 0 0 (world_after_step kind answer world)
+pub stepped-sound : (kind : StepKind) (free : Bool) (answer : Stepped) (world : World) → IsAdapter world.adapter → Answers kind free world.memory world.adapter answer → Sound 0 0 world → Sound 0 0 (world_after_step kind answer world)
 stepped-sound kind free answer world running answers sound = ((steps_happen world kind free answer running answers).between 0 0 sound).sound
 
-pub arrived-sound : (fate : Fate) (frame : List ℕ) (world : World) → IsRunning world.adapter → IsFate world.adapter frame fate → Sound 0 0 world → Sound 0 0 (world_after_arrival fate frame world)
+pub arrived-sound : (fate : Fate) (frame : List ℕ) (world : World) → IsAdapter world.adapter → IsFate world.adapter frame fate → Sound 0 0 world → Sound 0 0 (world_after_arrival fate frame world)
 arrived-sound fate frame world running is sound = ((arrivals_happen world fate frame running is).between 0 0 sound).sound
 
 -- What a call leaves, by what the adapter answers.

@@ -9,11 +9,12 @@ use Rattle.dma_memory.specs.Laws.{length-bytes_at}
 use Rattle.rx_engine.specs.Descriptors as receive
 use Rattle.rx_engine.specs.Held as engine
 use Rattle.rx_engine.specs.declared.engine.Work.{Work}
-use Rattle.bus.specs.Frames.{IsForeign, areas, buffer_of, buffer_size, buffered, data_of, finished, in_work, named, offered_buffers, receives, reported_half, ring_area, slot_of_work, status_byte, work_areas}
-use Rattle.bus.specs.Law.{Sound}
-use Rattle.bus.specs.Slots.{offered}
+use Rattle.adapter.specs.HostAreas.{areas, buffer_of, buffer_size, data_of, IsForeign, offered_buffers, receives, reported_half, ring_area, status_byte, work_areas}
+use Rattle.adapter.specs.Slots.{buffered, finished, in_work, offered, slot_of_work}
+use Rattle.adapter.specs.HostFrames.{named}
+use Rattle.adapter.specs.Conditions.{Sound}
 use Rattle.bus.specs.Spare.{FramesFit, IsSpare}
-use Rattle.bus.specs.World.{World, receive_ring, transmit_ring}
+use Rattle.adapter.specs.World.{receive_ring, transmit_ring, World}
 use Rattle.bus.proofs.EachArea.{all-areas, of-areas}
 use Rattle.bus.proofs.Kept.{frame_of}
 use Rattle.bus.proofs.Lists.{all-head, all-left, all-none, all-right, all-unmapped}

@@ -15,12 +15,12 @@ use Rattle.adapter.specs.declared.ring.RingRegisters.{RingRegisters}
 use Rattle.adapter.specs.Registers.{left_by_write}
 use Rattle.adapter.specs.Rings.{ring_of}
 use Rattle.adapter.specs.TableLaws.{register_at-there}
-use Rattle.bus.specs.Frames.{buffered, in_work, IsForeign, ring_area}
-use Rattle.bus.specs.Law.{Sound}
+use Rattle.adapter.specs.Slots.{buffered, in_work, outstanding}
+use Rattle.adapter.specs.HostAreas.{IsForeign, ring_area}
+use Rattle.adapter.specs.Conditions.{Sound}
 use Rattle.bus.specs.OwnStores.{IsOwn}
 use Rattle.bus.specs.Refilling.{KnowsRing}
-use Rattle.bus.specs.Slots.{outstanding}
-use Rattle.bus.specs.World.{World, receive_ring, transmit_ring, world_after_write}
+use Rattle.adapter.specs.World.{receive_ring, transmit_ring, World, world_after_write}
 use Rattle.bus.proofs.Carrying.{head-slot}
 use Rattle.bus.proofs.Own.{byte-apart, foreign-in_ring, foreign-in_transmit, half-apart, parts-of}
 use Rattle.bus.proofs.Rings.{dealt-right, far-apart, outstanding-inside, slot-inside, slots-other}

@@ -14,13 +14,16 @@ use Rattle.adapter.specs.Transmitting.{CanTake, HasNothingToTake, TakeAnswers, c
 use Rattle.adapter.specs.declared.step.StepKind.TheVariants.{TxTake}
 use Rattle.adapter.specs.declared.step.Stepped.{Stepped}
 use Rattle.adapter.specs.declared.step.Stepped.TheVariants.{Took, Put, WireFull, Moved, Done, Ticked, Nothing, Fault}
-use Rattle.bus.specs.Frames.{buffered, data_of, finished, frames_held, in_work, named, offered_buffers, reported_half, ring_area, status_byte, work_areas, written_back}
-use Rattle.bus.specs.Law.{Between, Happens, Reports, Sound}
+use Rattle.adapter.specs.Slots.{buffered, finished, in_work, IsDealt, offered, written_back}
+use Rattle.adapter.specs.HostAreas.{data_of, offered_buffers, reported_half, ring_area, status_byte, work_areas}
+use Rattle.adapter.specs.HostFrames.{frames_held, named}
+use Rattle.adapter.specs.Conditions.{Reports, Sound}
+use Rattle.bus.specs.Law.{Between, Happens}
 use Rattle.bus.specs.Past.{nothing}
-use Rattle.bus.specs.Running.{CanTransmit}
-use Rattle.bus.specs.Slots.{IsDealt, offered}
-use Rattle.bus.specs.Steps.{IsRunning, world_after_step}
-use Rattle.bus.specs.World.{World, receive_ring, transmit_ring}
+use Rattle.adapter.specs.Running.{CanTransmit}
+use Rattle.bus.specs.Steps.{world_after_step}
+use Rattle.adapter.specs.State.{IsAdapter}
+use Rattle.adapter.specs.World.{receive_ring, transmit_ring, World}
 use Rattle.bus.proofs.Areas.{separate-without}
 use Rattle.bus.proofs.Composing.{happens_none}
 use Rattle.bus.proofs.Quiet.{between_stopped}
@@ -101,7 +104,7 @@ between_taken o p a not_idle can sound =
     subst (λ (pad : Bool). Between o p a (taken pad a) nothing) (sym padded) (between_padded o p a can.sound differ sound)
 
 -- Any answer of a step that takes.
-pub take_happens : (a : World) (answer : Stepped) → IsRunning a.adapter → TakeAnswers a.memory a.adapter answer → Happens a (world_after_step TxTake answer a) nothing
+pub take_happens : (a : World) (answer : Stepped) → IsAdapter a.adapter → TakeAnswers a.memory a.adapter answer → Happens a (world_after_step TxTake answer a) nothing
 take_happens a Took running answers = record {
   steady =
       steady_moves a a.memory

@@ -11,12 +11,13 @@ use Rattle.descriptors.specs.Ring.{address_of, count_of, distance_of, next_of, o
 use Rattle.descriptors.specs.RingLaws.{next-below, next-inner, next-last}
 use Rattle.rx_engine.specs.Descriptors.{descriptor_at}
 use Rattle.rx_engine.specs.Held.{held}
-use Rattle.bus.specs.Frames.{buffered, data_of, in_work, IsForeign, named, offered_buffers, ring_area, work_areas}
-use Rattle.bus.specs.Law.{IsWhole}
+use Rattle.adapter.specs.Slots.{buffered, done_slots, in_work, is_done, IsDealt, offered, outstanding}
+use Rattle.adapter.specs.HostAreas.{data_of, IsForeign, offered_buffers, ring_area, work_areas}
+use Rattle.adapter.specs.HostFrames.{named}
+use Rattle.adapter.specs.Conditions.{IsWhole}
 use Rattle.bus.specs.Own.{IsOwnSlot, frame_named}
-use Rattle.bus.specs.Slots.{IsDealt, done_slots, is_done, offered, outstanding}
 use Rattle.bus.specs.TakingSlots.{FinishedSlotsCanBeTaken, WrittenSlotsCanBeFreed, next_received}
-use Rattle.bus.specs.World.{receive_ring, transmit_ring}
+use Rattle.adapter.specs.World.{receive_ring, transmit_ring}
 use Rattle.bus.proofs.Areas.{separate-without}
 use Rattle.bus.proofs.Lists.{all-head, all-tail, all-weaker, pairs-head, take_while-passes}
 use Rattle.bus.proofs.Own.{foreign-named}

@@ -8,11 +8,11 @@ use Rattle.rx_engine.specs.declared.engine.Work.{Work}
 use Rattle.tx_engine.specs.Transmitter.{Queued}
 use Rattle.adapter.specs.declared.ring.RingRegisters.{RingRegisters}
 use Rattle.adapter.specs.Rings.{ring_of}
-use Rattle.bus.specs.Frames.{buffered, finished, frames_held, in_work, named, slot_of_work}
+use Rattle.adapter.specs.Slots.{buffered, finished, in_work, offered, outstanding, slot_of_work}
+use Rattle.adapter.specs.HostFrames.{frames_held, named}
 use Rattle.bus.specs.Initialising.{OffersWait, TransmitStaysIdle}
-use Rattle.bus.specs.Law.{Sound}
-use Rattle.bus.specs.Slots.{offered, outstanding}
-use Rattle.bus.specs.World.{World, receive_ring, transmit_ring}
+use Rattle.adapter.specs.Conditions.{Sound}
+use Rattle.adapter.specs.World.{receive_ring, transmit_ring, World}
 use Rattle.bus.proofs.Idle.{none-dealt, still-idle}
 use Rattle.bus.proofs.Lists.{append-empty, map-empty}
 use Rattle.bus.proofs.Own.{drivers_keep_their_own}

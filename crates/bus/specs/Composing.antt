@@ -1,8 +1,9 @@
 -- What may happen between two accesses composes.
 use Rattle.std.specs.Prelude.{ℕ}
-use Rattle.bus.specs.Law.{Happens, Sound}
+use Rattle.adapter.specs.Conditions.{Sound}
+use Rattle.bus.specs.Law.{Happens}
 use Rattle.bus.specs.Past.{Past, joined, nothing}
-use Rattle.bus.specs.World.{World}
+use Rattle.adapter.specs.World.{World}
 
 -- What happens in two stretches happens in both together.
 abbrev pub HappeningsJoin : Type 0

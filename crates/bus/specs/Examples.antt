@@ -1,11 +1,11 @@
 -- The conditions of the law hold of some worlds whose engines can run: it isn't empty.
 use Rattle.std.specs.Prelude.{◌≢◌, ◌<◌, []}
 use Rattle.descriptors.specs.Ring.{count_of}
-use Rattle.bus.specs.Frames.{buffered, finished, frames_to_send, in_work, written_back}
-use Rattle.bus.specs.Law.{Sound}
-use Rattle.bus.specs.Running.{CanRun}
-use Rattle.bus.specs.Slots.{offered}
-use Rattle.bus.specs.World.{World, receive_ring, transmit_ring}
+use Rattle.adapter.specs.Slots.{buffered, finished, in_work, offered, written_back}
+use Rattle.adapter.specs.HostFrames.{frames_to_send}
+use Rattle.adapter.specs.Conditions.{Sound}
+use Rattle.adapter.specs.Running.{CanRun}
+use Rattle.adapter.specs.World.{receive_ring, transmit_ring, World}
 
 -- A world of which the conditions hold, with the first slot of each ring as the oldest, and whose engines can run, has this.
 abbrev pub SomeSound : (World → Type 0) → Type 0

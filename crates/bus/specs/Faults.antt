@@ -4,9 +4,9 @@ use Rattle.adapter.specs.Steps.{Answers}
 use Rattle.adapter.specs.declared.step.StepKind.{StepKind}
 use Rattle.adapter.specs.declared.step.Stepped.{Stepped}
 use Rattle.adapter.specs.declared.step.Stepped.TheVariants.{Fault}
-use Rattle.bus.specs.Law.{Sound}
-use Rattle.bus.specs.Running.{CanRun}
-use Rattle.bus.specs.World.{World}
+use Rattle.adapter.specs.Conditions.{Sound}
+use Rattle.adapter.specs.Running.{CanRun}
+use Rattle.adapter.specs.World.{World}
 
 -- Where the conditions of the law hold and the engines can run, no answer of a step is a fault.
 abbrev pub FaultsNeverCome : Type 0

@@ -1,11 +1,12 @@
 -- A look of a small driver at its oldest receive slot, as the tests have one (own).
 use Rattle.std.specs.Prelude.{◌≡◌, ◌≤◌, ◌∷◌, ℕ, List, [], IfSome, Option, None, length, take}
-use Rattle.bus.specs.Frames.{finished, frames_held}
-use Rattle.bus.specs.Law.{AreWhole, Happens, Sound}
+use Rattle.adapter.specs.Slots.{finished, outstanding}
+use Rattle.adapter.specs.HostFrames.{frames_held}
+use Rattle.adapter.specs.Conditions.{AreWhole, Sound}
+use Rattle.bus.specs.Law.{Happens}
 use Rattle.bus.specs.Past.{Past}
-use Rattle.bus.specs.Slots.{outstanding}
 use Rattle.bus.specs.TakingSlots.{next_received}
-use Rattle.bus.specs.World.{World, receive_ring}
+use Rattle.adapter.specs.World.{receive_ring, World}
 
 -- the descriptor at this address is that of the oldest slot, which is outstanding
 pub record StandsFirst (descriptor oldest : ℕ) (world : World) : Type 0 where

@@ -6,10 +6,11 @@ use Rattle.mdic_phy.specs.declared.phy.Link.{Link}
 use Rattle.adapter.specs.Registers.{after_reset, new_adapter, write_of}
 use Rattle.adapter.specs.declared.register.Register.{Register}
 use Rattle.adapter.specs.declared.register.Register.TheVariants.{Receive, Transmit}
-use Rattle.bus.specs.Frames.{ring_area}
-use Rattle.bus.specs.Law.{Happens, Sound}
+use Rattle.adapter.specs.HostAreas.{ring_area}
+use Rattle.adapter.specs.Conditions.{Sound}
+use Rattle.bus.specs.Law.{Happens}
 use Rattle.bus.specs.Past.{Past}
-use Rattle.bus.specs.World.{World, receive_ring, transmit_ring, world_after_read, world_after_store, world_after_write}
+use Rattle.adapter.specs.World.{receive_ring, transmit_ring, World, world_after_read, world_after_store, world_after_write}
 
 -- Head equals tail in both rings, and their descriptors lie in memory and apart from each other. A ring without descriptors is an empty area.
 pub record HasIdleRings (world : World) : Type 0 where

@@ -9,14 +9,16 @@ use Rattle.adapter.specs.Registers.{is_reset, write_of}
 use Rattle.adapter.specs.declared.register.Register.{Register}
 use Rattle.adapter.specs.declared.register.Register.TheVariants.{Rctl, Receive, Tctl, Transmit}
 use Rattle.adapter.specs.declared.ring.RingRegisters.{RingRegisters}
-use Rattle.bus.specs.Frames.{areas, buffer_size, finished, frames_held, frames_to_send}
-use Rattle.bus.specs.Law.{Happens, Sound}
+use Rattle.adapter.specs.HostAreas.{areas, buffer_size}
+use Rattle.adapter.specs.Slots.{finished, offered, outstanding}
+use Rattle.adapter.specs.HostFrames.{frames_held, frames_to_send}
+use Rattle.adapter.specs.Conditions.{Sound}
+use Rattle.bus.specs.Law.{Happens}
 use Rattle.bus.specs.Offering.{CanOffer, offering}
 use Rattle.bus.specs.OwnStores.{LeavesFrames, SameFrames}
 use Rattle.bus.specs.Past.{Past}
-use Rattle.bus.specs.Running.{GoOn}
-use Rattle.bus.specs.Slots.{offered, outstanding}
-use Rattle.bus.specs.World.{World, receive_ring, transmit_ring, world_after_read}
+use Rattle.adapter.specs.Running.{GoOn}
+use Rattle.adapter.specs.World.{receive_ring, transmit_ring, World, world_after_read}
 
 -- Many slots are offered at once.
 

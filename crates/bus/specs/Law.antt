@@ -1,26 +1,23 @@
 -- The bus law: what may happen to an adapter and its memory between two accesses of a driver (own).
-use Rattle.std.specs.Prelude.{◌≡◌, ◌≤◌, ◌+◌, ◌⊎◌, ◌++◌, ℕ, true, List, [], ◌∷◌, All, length, map, max, min, if◌then◌else◌}
+use Rattle.std.specs.Prelude.{◌≡◌, ◌≤◌, ◌+◌, ◌⊎◌, ◌++◌, ℕ, List, [], ◌∷◌, All, length, max, min, if◌then◌else◌}
 use Rattle.std.specs.Fn.{iterate}
-use Rattle.dma_memory.specs.Areas.{AreSeparate, Area, bytes_in}
+use Rattle.dma_memory.specs.Areas.{Area, bytes_in}
 use Rattle.eeprom.specs.Eerd as eeprom
 use Rattle.mdic_phy.specs.Mdic.{MdicState, has_work, mdic_after_tick, phy_after_tick}
 use Rattle.mdic_phy.specs.Phy.{PhyState}
 use Rattle.registers.specs.Bits.{HasBit}
 use Rattle.registers.specs.Counting.{greatest_count}
-use Rattle.descriptors.specs.declared.rx_desc.RxDesc.{RxDesc}
 use Rattle.descriptors.specs.Frames.{IsLegal}
 use Rattle.descriptors.specs.Ring.{IsSound}
-use Rattle.descriptors.specs.RxStatus.{status_bits}
-use Rattle.rx_engine.specs.Descriptors.{descriptor_at}
-use Rattle.tx_engine.specs.Fetching.{fetched}
-use Rattle.tx_engine.specs.Transmitter.{Queued}
+use Rattle.adapter.specs.Conditions.{AreWhole, Sound}
+use Rattle.adapter.specs.HostAreas.{IsForeign}
+use Rattle.adapter.specs.HostFrames.{frames_held, frames_to_send}
 use Rattle.adapter.specs.Rings.{ring_of}
+use Rattle.adapter.specs.Running.{CanRun}
+use Rattle.adapter.specs.Slots.{finished, written_back}
 use Rattle.adapter.specs.State.{AdapterState}
-use Rattle.bus.specs.Frames.{areas, buffered, finished, frames_held, frames_to_send, in_work, IsForeign, written_back}
+use Rattle.adapter.specs.World.{World}
 use Rattle.bus.specs.Past.{Access, Past}
-use Rattle.bus.specs.Running.{CanRun}
-use Rattle.bus.specs.Slots.{IsDealt, offered}
-use Rattle.bus.specs.World.{World, receive_ring, transmit_ring}
 
 -- Registers.
 
@@ -64,30 +61,6 @@ pub record Steady (a b : World) (past : Past) : Type 0 where
   pub management : management_of b.adapter ≡ iterate phy_ticked past.phy_ticks (management_of a.adapter)
 
 -- Frames.
-
--- a frame's descriptor asks for a report, RS
-abbrev pub Reports : Queued → Type 0
-Reports queued = queued.report ≡ true
-
--- The conditions of the law, for the slots that the driver counts as its oldest.
-pub record Sound (oldest_received oldest_sent : ℕ) (world : World) : Type 0 where
-  pub receive_slots : IsDealt world.memory (receive_ring world) oldest_received (in_work world)
-  pub transmit_slots : IsDealt world.memory (transmit_ring world) oldest_sent (buffered world)
-  pub separate : AreSeparate world.memory (areas oldest_received world)
-  -- every frame to be sent asks for a report
-  pub reports : All Reports (world.adapter.transmitter.buffer ++ map (fetched true world.memory) (offered (transmit_ring world)))
-  -- TCTL.PSP
-  pub pads : ¬ (world.adapter.transmit_ring.head ≡ world.adapter.transmit_ring.tail) → HasBit world.adapter.transmit_control 3
-
--- a descriptor as this adapter finishes one: EOP, no errors, and the length of a legal frame
-pub record IsWhole (descriptor : RxDesc) : Type 0 where
-  pub ended : HasBit (status_bits descriptor.status) 1
-  pub unharmed : descriptor.errors ≡ 0
-  pub least : 60 ≤ descriptor.length
-  pub most : descriptor.length ≤ 1518
-
-abbrev pub AreWhole : List ℕ → List ℕ → Type 0
-AreWhole memory slots = All (λ slot. IsWhole (descriptor_at memory slot)) slots
 
 -- What happens to frames, slots and memory.
 pub record Between (oldest_received oldest_sent : ℕ) (a b : World) (past : Past) : Type 0 where

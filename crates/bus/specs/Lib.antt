@@ -1,8 +1,4 @@
-pub mod World
 pub mod Past
-pub mod Slots
-pub mod Frames
-pub mod Running
 pub mod Law
 pub mod Composing
 pub mod Steps

@@ -5,12 +5,13 @@ use Rattle.dma_memory.specs.HostMemory.{LiesIn}
 use Rattle.registers.specs.Bits.{HasBit}
 use Rattle.descriptors.specs.Ring.{address_of, count_of, next_of}
 use Rattle.tx_engine.specs.Fetching.{fetched, frame_at}
-use Rattle.bus.specs.Frames.{areas, buffer_of, data_of, finished, frames_held, frames_to_send, IsForeign, reported_half, status_byte, written_back}
-use Rattle.bus.specs.Law.{AreWhole, Reports, Sound}
+use Rattle.adapter.specs.HostAreas.{areas, buffer_of, data_of, IsForeign, reported_half, status_byte}
+use Rattle.adapter.specs.Slots.{finished, is_done, outstanding, written_back}
+use Rattle.adapter.specs.HostFrames.{frames_held, frames_to_send}
+use Rattle.adapter.specs.Conditions.{AreWhole, Reports, Sound}
 use Rattle.bus.specs.OwnStores.{SameFrames}
-use Rattle.bus.specs.Running.{CanTransmit, GoOn}
-use Rattle.bus.specs.Slots.{is_done, outstanding}
-use Rattle.bus.specs.World.{World, receive_ring, transmit_ring}
+use Rattle.adapter.specs.Running.{CanTransmit, GoOn}
+use Rattle.adapter.specs.World.{receive_ring, transmit_ring, World}
 
 -- A driver offers its next receive slot: it moves RDT on by one ("3.2.6 Receive Descriptor Queue Structure").
 

@@ -5,11 +5,12 @@ use Rattle.descriptors.specs.declared.ring.Ring.{Ring}
 use Rattle.descriptors.specs.Ring.{address_of, count_of}
 use Rattle.rx_engine.specs.Descriptors.{named_address}
 use Rattle.tx_engine.specs.Fetching.{descriptor_at}
-use Rattle.bus.specs.Frames.{finished, named, written_back}
-use Rattle.bus.specs.Law.{Between, Happens, Sound}
+use Rattle.adapter.specs.Slots.{finished, outstanding, written_back}
+use Rattle.adapter.specs.HostFrames.{named}
+use Rattle.adapter.specs.Conditions.{Sound}
+use Rattle.bus.specs.Law.{Between, Happens}
 use Rattle.bus.specs.Past.{Past}
-use Rattle.bus.specs.Slots.{outstanding}
-use Rattle.bus.specs.World.{World, receive_ring, transmit_ring}
+use Rattle.adapter.specs.World.{receive_ring, transmit_ring, World}
 
 -- these slots have the same bytes in both worlds
 abbrev pub SlotsStay : World → World → List ℕ → Type 0

@@ -2,11 +2,12 @@
 use Rattle.std.specs.Prelude.{◌≡◌, ℕ, List, All, length}
 use Rattle.dma_memory.specs.Areas.{AreApart, Area, descriptor_area}
 use Rattle.dma_memory.specs.HostMemory.{LiesIn}
-use Rattle.bus.specs.Frames.{finished, frame_areas, frames_held, frames_to_send, IsForeign, written_back}
-use Rattle.bus.specs.Law.{AreWhole, Sound}
-use Rattle.bus.specs.Running.{GoOn}
-use Rattle.bus.specs.Slots.{outstanding}
-use Rattle.bus.specs.World.{World, receive_ring, transmit_ring, world_after_store}
+use Rattle.adapter.specs.Slots.{finished, outstanding, written_back}
+use Rattle.adapter.specs.HostAreas.{frame_areas, IsForeign}
+use Rattle.adapter.specs.HostFrames.{frames_held, frames_to_send}
+use Rattle.adapter.specs.Conditions.{AreWhole, Sound}
+use Rattle.adapter.specs.Running.{GoOn}
+use Rattle.adapter.specs.World.{receive_ring, transmit_ring, World, world_after_store}
 
 -- An area is apart from all outstanding descriptors, and from all frames and buffers that the conditions name.
 pub record IsOwn (oldest_received oldest_sent : ℕ) (world : World) (area : Area) : Type 0 where

@@ -6,13 +6,14 @@ use Rattle.descriptors.specs.declared.ring.Ring.{Ring}
 use Rattle.descriptors.specs.Ring.{count_of}
 use Rattle.descriptors.specs.RxDesc.{rx_desc_bytes}
 use Rattle.descriptors.specs.RxStatus.{status_of}
-use Rattle.bus.specs.Frames.{buffer_of, buffer_size, frames_held, frames_to_send}
-use Rattle.bus.specs.Law.{Sound}
+use Rattle.adapter.specs.HostAreas.{buffer_of, buffer_size}
+use Rattle.adapter.specs.HostFrames.{frames_held, frames_to_send}
+use Rattle.adapter.specs.Conditions.{Sound}
 use Rattle.bus.specs.Past.{Access, Past, Stores, Writes}
-use Rattle.bus.specs.Running.{GoOn}
-use Rattle.bus.specs.Slots.{outstanding}
+use Rattle.adapter.specs.Running.{GoOn}
+use Rattle.adapter.specs.Slots.{outstanding}
 use Rattle.bus.specs.Spare.{FramesFit, IsSpare}
-use Rattle.bus.specs.World.{World, receive_ring, transmit_ring}
+use Rattle.adapter.specs.World.{receive_ring, transmit_ring, World}
 
 -- The driver knows its ring: where it begins, how many slots it has, and which one stands at the tail; and one of them stands at the head.
 pub record KnowsRing (ring : Ring) (base count tail : ℕ) : Type 0 where

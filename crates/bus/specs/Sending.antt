@@ -5,14 +5,14 @@ use Rattle.registers.specs.Bits.{HasBit}
 use Rattle.descriptors.specs.Frames.{padded}
 use Rattle.descriptors.specs.TxDesc.{tx_desc_bytes}
 use Rattle.descriptors.specs.TxFields.{command_of, sent_of}
-use Rattle.bus.specs.Frames.{frames_held, frames_to_send}
-use Rattle.bus.specs.Law.{Sound}
+use Rattle.adapter.specs.HostFrames.{frames_held, frames_to_send}
+use Rattle.adapter.specs.Conditions.{Sound}
 use Rattle.bus.specs.Past.{Access, Past, Stores, Writes}
 use Rattle.bus.specs.Refilling.{KnowsRing, StaysReady}
-use Rattle.bus.specs.Running.{GoOn}
-use Rattle.bus.specs.Slots.{outstanding}
+use Rattle.adapter.specs.Running.{GoOn}
+use Rattle.adapter.specs.Slots.{outstanding}
 use Rattle.bus.specs.Spare.{FramesFit, IsSpare}
-use Rattle.bus.specs.World.{World, receive_ring, transmit_ring}
+use Rattle.adapter.specs.World.{receive_ring, transmit_ring, World}
 
 -- A frame can be sent by the slot at the tail of the transmit ring, through a buffer: behind the slot there is room, the buffer lies in
 -- memory, no outstanding slot uses it, and TCTL.PSP is set.

@@ -8,7 +8,7 @@ use Rattle.adapter.specs.declared.step.StepKind.TheVariants.{RxData, RxDone, TxT
 use Rattle.adapter.specs.declared.step.Stepped.TheVariants.{Done, Moved, Took}
 use Rattle.bus.specs.Offering.{offering, offering_frame}
 use Rattle.bus.specs.Steps.{world_after_arrival, world_after_step}
-use Rattle.bus.specs.World.{World, world_after_store}
+use Rattle.adapter.specs.World.{World, world_after_store}
 
 -- both rings set up and nothing offered: RCTL.EN and BAM, with buffers of 2,048 bytes, and TCTL.EN and PSP
 abbrev pub resting : ℕ → List ℕ → World

@@ -1,11 +1,13 @@
 -- Memory that no outstanding slot uses (own).
 use Rattle.std.specs.Prelude.{◌≤◌, ℕ, All, length}
 use Rattle.dma_memory.specs.Areas.{AreApart, Area}
-use Rattle.bus.specs.Frames.{areas, buffer_of, buffer_size, data_of, frames_held, IsForeign, ring_area}
-use Rattle.bus.specs.Law.{Happens, Sound}
+use Rattle.adapter.specs.HostAreas.{areas, buffer_of, buffer_size, data_of, IsForeign, ring_area}
+use Rattle.adapter.specs.HostFrames.{frames_held}
+use Rattle.adapter.specs.Conditions.{Sound}
+use Rattle.bus.specs.Law.{Happens}
 use Rattle.bus.specs.Past.{Past}
-use Rattle.bus.specs.Slots.{outstanding}
-use Rattle.bus.specs.World.{World, receive_ring, transmit_ring}
+use Rattle.adapter.specs.Slots.{outstanding}
+use Rattle.adapter.specs.World.{receive_ring, transmit_ring, World}
 
 -- The frames held have 1,518 bytes at most, and each receive buffer has room for as many.
 pub record FramesFit (oldest : ℕ) (world : World) : Type 0 where

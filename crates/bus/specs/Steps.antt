@@ -1,7 +1,6 @@
 -- Adapter steps and deliveries as what may happen between two accesses.
 use Rattle.std.specs.Prelude.{ℕ, Bool, List, [], ◌∷◌}
 use Rattle.rx_engine.specs.Arriving.{kept}
-use Rattle.rx_engine.specs.Receiver.{IsReceiver}
 use Rattle.rx_engine.specs.declared.arrival.Fate.{Fate}
 use Rattle.rx_engine.specs.declared.arrival.Fate.TheVariants.{Off, Illegal, Filtered, Missed, Stored}
 use Rattle.adapter.specs.Receiving.{IsFate, after_arrive}
@@ -13,7 +12,7 @@ use Rattle.adapter.specs.declared.step.Stepped.{Stepped}
 use Rattle.adapter.specs.declared.step.Stepped.TheVariants.{Put}
 use Rattle.bus.specs.Law.{Happens}
 use Rattle.bus.specs.Past.{Past, nothing}
-use Rattle.bus.specs.World.{World}
+use Rattle.adapter.specs.World.{World}
 
 -- the frame that a step put
 abbrev pub put_by : Stepped → List (List ℕ)
@@ -49,21 +48,16 @@ past_of_arrival fate frame = record nothing { stored = kept fate frame; missed =
 abbrev pub world_after_arrival : Fate → List ℕ → World → World
 world_after_arrival fate frame world = record world { adapter = after_arrive fate frame world.adapter }
 
--- What holds of every adapter.
-pub record IsRunning (adapter : AdapterState) : Type 0 where
-  pub registers : IsAdapter adapter
-  pub receiver : IsReceiver adapter.receiver
-
 -- Each step is one of the things that may happen.
 abbrev pub StepsHappen : Type 0
 StepsHappen =
     (world : World) (kind : StepKind) (wire_free : Bool) (answer : Stepped)
-    → IsRunning world.adapter → Answers kind wire_free world.memory world.adapter answer
+    → IsAdapter world.adapter → Answers kind wire_free world.memory world.adapter answer
     → Happens world (world_after_step kind answer world) (past_of_step kind answer)
 
 -- Each delivery is.
 abbrev pub ArrivalsHappen : Type 0
 ArrivalsHappen =
     (world : World) (fate : Fate) (frame : List ℕ)
-    → IsRunning world.adapter → IsFate world.adapter frame fate
+    → IsAdapter world.adapter → IsFate world.adapter frame fate
     → Happens world (world_after_arrival fate frame world) (past_of_arrival fate frame)

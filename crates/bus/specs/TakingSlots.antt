@@ -2,11 +2,12 @@
 use Rattle.std.specs.Prelude.{◌≡◌, ◌∷◌, ℕ, List}
 use Rattle.descriptors.specs.Ring.{address_of, next_of}
 use Rattle.rx_engine.specs.Descriptors.{descriptor_at}
-use Rattle.bus.specs.Frames.{finished, frames_held, IsForeign, named, written_back}
-use Rattle.bus.specs.Law.{AreWhole, IsWhole, Sound}
+use Rattle.adapter.specs.Slots.{finished, outstanding, written_back}
+use Rattle.adapter.specs.HostFrames.{frames_held, named}
+use Rattle.adapter.specs.HostAreas.{IsForeign}
+use Rattle.adapter.specs.Conditions.{AreWhole, IsWhole, Sound}
 use Rattle.bus.specs.Own.{IsOwnSlot, frame_named}
-use Rattle.bus.specs.Slots.{outstanding}
-use Rattle.bus.specs.World.{World, receive_ring, transmit_ring}
+use Rattle.adapter.specs.World.{receive_ring, transmit_ring, World}
 
 -- A finished slot.
 

@@ -8,8 +8,9 @@ use Rattle.adapter.specs.declared.step.StepKind.{StepKind}
 use Rattle.adapter.specs.declared.step.Stepped.{Stepped}
 use Rattle.bus.specs.Law.{Happens}
 use Rattle.bus.specs.Past.{Access, Loads, Past, Reads, Stores, Writes, joined, nothing}
-use Rattle.bus.specs.Steps.{IsRunning, past_of_arrival, past_of_step, world_after_arrival, world_after_step}
-use Rattle.bus.specs.World.{World, world_after_read, world_after_store, world_after_write}
+use Rattle.bus.specs.Steps.{past_of_arrival, past_of_step, world_after_arrival, world_after_step}
+use Rattle.adapter.specs.State.{IsAdapter}
+use Rattle.adapter.specs.World.{World, world_after_read, world_after_store, world_after_write}
 
 pub data Event : Type 0 where
   -- the adapter took a step of this kind, with or without room on its wire, and answered so
@@ -33,8 +34,8 @@ world_after_access (Stores address bytes) world = world_after_store address byte
 
 -- the event can happen in this world
 abbrev pub Occurs : Event → World → Type 0
-Occurs (Steps kind wire_free answer) world = IsRunning world.adapter × Answers kind wire_free world.memory world.adapter answer
-Occurs (Arrives frame fate) world = IsRunning world.adapter × IsFate world.adapter frame fate
+Occurs (Steps kind wire_free answer) world = IsAdapter world.adapter × Answers kind wire_free world.memory world.adapter answer
+Occurs (Arrives frame fate) world = IsAdapter world.adapter × IsFate world.adapter frame fate
 Occurs (Accesses access) world = IsAnswered access world
 
 abbrev pub world_after : Event → World → World

@@ -58,8 +58,8 @@ impl SoloBus {
     ghost use Rattle.adapter.specs.Registers.{answer_at};
     ghost use Rattle.adapter.specs.Steps.{Answers};
     ghost use Rattle.bus.specs.Solo.{Finished, Grouped, Lives, Prepared, has_room, most_accesses, solo_after_arrival, solo_after_step};
-    ghost use Rattle.bus.specs.Steps.{IsRunning};
-    ghost use Rattle.bus.specs.World.{world_after_read, world_after_store, world_after_write};
+    ghost use Rattle.adapter.specs.State.{IsAdapter};
+    ghost use Rattle.adapter.specs.World.{world_after_read, world_after_store, world_after_write};
     ghost use Rattle.dma_memory.specs.HostMemory.{bytes_at, LiesIn};
 
     /// A bus with no ticks to be played and an empty wire. A lively one plays a tick of the EEPROM and
@@ -97,7 +97,7 @@ impl SoloBus {
     pub fn step(&mut self, kind: StepKind) -> Stepped
         ensures answer { Answers kind (has_room self.old) self.old.world.memory self.old.world.adapter result }
         ensures state { self.new ≡ solo_after_step kind result self.old }
-        ensures running { IsRunning self.old.world.adapter }
+        ensures running { IsAdapter self.old.world.adapter }
     {
         let wire_free = self.wire.len() < WIRE_FRAMES;
         let stepped = self.adapter.step(kind, &mut self.memory, wire_free);
@@ -111,7 +111,7 @@ impl SoloBus {
     pub fn arrive(&mut self, frame: &[u8]) -> Fate
         ensures fate { IsFate self.old.world.adapter frame.now result }
         ensures state { self.new ≡ solo_after_arrival result frame.now self.old }
-        ensures running { IsRunning self.old.world.adapter }
+        ensures running { IsAdapter self.old.world.adapter }
     {
         self.adapter.arrive(frame)
     }

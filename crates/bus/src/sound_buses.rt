@@ -6,7 +6,7 @@
 
 ghost use Rattle.std.specs.Prelude.{◌≡◌, IfOk};
 ghost use Rattle.bus.specs.Examples.{HasFinished, HasFramesInBuffer, HasFramesInRing, HasRings, HasWork};
-ghost use Rattle.bus.specs.Law.{Sound};
+ghost use Rattle.adapter.specs.Conditions.{Sound};
 ghost use Rattle.bus.specs.SoundBuses.{ready, reported, resting, sending, sent, working};
 
 use crate::SoloBus;

@@ -1,7 +1,7 @@
 use Rattle.std.proofs.Common.{◌≡◌, ℕ, List, ap, ◌∙◌, replicate}
 use Rattle.adapter.specs.State.{AdapterState}
 use Rattle.bus.specs.Solo.{SoloState}
-use Rattle.bus.specs.World.{World, world_after_write}
+use Rattle.adapter.specs.World.{World, world_after_write}
 use Rattle.bus.proofs.SoundBuses.{set_up, set_up-rests}
 use Rattle.bus.proofs.sound_buses.at_rest.Goals as goal
 

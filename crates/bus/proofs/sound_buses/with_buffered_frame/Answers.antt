@@ -1,10 +1,10 @@
 use Rattle.std.proofs.Common.{◌≡◌, ap, sym, subst, arith}
 use Rattle.adapter.specs.declared.step.StepKind.TheVariants.{TxTake}
 use Rattle.bus.specs.Examples.{HasFramesInBuffer}
-use Rattle.bus.specs.Law.{Sound}
+use Rattle.adapter.specs.Conditions.{Sound}
 use Rattle.bus.specs.Solo.{SoloState, has_room}
 use Rattle.bus.specs.SoundBuses.{sent}
-use Rattle.bus.specs.World.{World}
+use Rattle.adapter.specs.World.{World}
 use Rattle.bus.proofs.SoundBuses.{sent-found, sent-has_frames, stepped-sound}
 use Rattle.bus.proofs.sound_buses.with_buffered_frame.Goals as goal
 

@@ -1,10 +1,10 @@
 use Rattle.std.proofs.Common.{◌≡◌, ap, sym, subst}
 use Rattle.adapter.specs.declared.step.StepKind.TheVariants.{RxDone}
 use Rattle.bus.specs.Examples.{HasFinished}
-use Rattle.bus.specs.Law.{Sound}
+use Rattle.adapter.specs.Conditions.{Sound}
 use Rattle.bus.specs.Solo.{SoloState, has_room}
 use Rattle.bus.specs.SoundBuses.{reported}
-use Rattle.bus.specs.World.{World}
+use Rattle.adapter.specs.World.{World}
 use Rattle.bus.proofs.SoundBuses.{reported-found, reported-has_finished, stepped-sound}
 use Rattle.bus.proofs.sound_buses.with_finished_slot.Goals as goal
 

@@ -1,9 +1,9 @@
 use Rattle.std.proofs.Common.{◌≡◌, ℕ, ap, ◌∙◌, sym, subst, arith}
 use Rattle.bus.specs.Examples.{HasFramesInRing}
-use Rattle.bus.specs.Law.{Sound}
+use Rattle.adapter.specs.Conditions.{Sound}
 use Rattle.bus.specs.Solo.{SoloState}
 use Rattle.bus.specs.SoundBuses.{request, sending}
-use Rattle.bus.specs.World.{World, world_after_store, world_after_write}
+use Rattle.adapter.specs.World.{World, world_after_store, world_after_write}
 use Rattle.bus.proofs.SoundBuses.{sending-has_frames, sending-sound, sending-written}
 use Rattle.bus.proofs.sound_buses.with_frame_to_send.Goals as goal
 

@@ -1,9 +1,9 @@
 use Rattle.std.proofs.Common.{◌≡◌, ap, ◌∙◌, sym, subst, arith}
 use Rattle.bus.specs.Examples.{HasRings}
-use Rattle.bus.specs.Law.{Sound}
+use Rattle.adapter.specs.Conditions.{Sound}
 use Rattle.bus.specs.Solo.{SoloState}
 use Rattle.bus.specs.SoundBuses.{ready}
-use Rattle.bus.specs.World.{world_after_write}
+use Rattle.adapter.specs.World.{world_after_write}
 use Rattle.bus.proofs.SoundBuses.{ready-has_rings, ready-sound, ready-written}
 use Rattle.bus.proofs.sound_buses.with_rings.Goals as goal
 

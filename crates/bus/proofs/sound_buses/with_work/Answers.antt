@@ -1,10 +1,10 @@
 use Rattle.std.proofs.Common.{◌≡◌, ap, sym, subst, arith}
 use Rattle.adapter.specs.declared.step.StepKind.TheVariants.{RxData}
 use Rattle.bus.specs.Examples.{HasWork}
-use Rattle.bus.specs.Law.{Sound}
+use Rattle.adapter.specs.Conditions.{Sound}
 use Rattle.bus.specs.Solo.{SoloState, has_room}
 use Rattle.bus.specs.SoundBuses.{call, working}
-use Rattle.bus.specs.World.{World}
+use Rattle.adapter.specs.World.{World}
 use Rattle.bus.proofs.SoundBuses.{arrived-sound, stepped-sound, working-found, working-has_work}
 use Rattle.bus.proofs.sound_buses.with_work.Goals as goal
 

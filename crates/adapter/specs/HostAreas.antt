@@ -1,62 +1,16 @@
--- What a world holds: the frames of both rings, and the areas of memory that they need.
-use Rattle.std.specs.Prelude.{◌+◌, ◌*◌, ◌++◌, ℕ, Bool, true, List, [], ◌∷◌, All, Option, None, Some, map, if◌then◌else◌}
-use Rattle.dma_memory.specs.Areas.{AreApart, Area, bytes_in}
+-- The areas of a host's memory that its rings and frames need, and those that its adapter may write (own).
+use Rattle.std.specs.Prelude.{◌+◌, ◌*◌, ◌++◌, ℕ, Bool, List, [], ◌∷◌, All, Option, None, Some, map, if◌then◌else◌}
+use Rattle.dma_memory.specs.Areas.{AreApart, Area}
 use Rattle.registers.specs.Bits.{field, is_set}
 use Rattle.registers.specs.ReceiveControl.{buffer_size_of}
 use Rattle.descriptors.specs.declared.ring.Ring.{Ring}
 use Rattle.descriptors.specs.Ring.{count_of}
 use Rattle.rx_engine.specs.declared.engine.Work.{Work}
 use Rattle.rx_engine.specs.Descriptors as receive
-use Rattle.rx_engine.specs.Held.{held}
 use Rattle.tx_engine.specs.Fetching as transmit
-use Rattle.tx_engine.specs.ToSend.{to_send}
-use Rattle.tx_engine.specs.Transmitter.{Queued}
-use Rattle.bus.specs.Slots.{done_slots, offered}
-use Rattle.bus.specs.World.{World, receive_ring, transmit_ring}
-
--- Slots.
-
--- the slot of the frame in work
-abbrev pub slot_of_work : Option Work → List ℕ
-slot_of_work None = []
-slot_of_work (Some work) = work.descriptor ∷ []
-
--- the slots of the receive ring whose frame is in work
-abbrev pub in_work : World → List ℕ
-in_work world = slot_of_work world.adapter.receiver.work
-
--- the slots of the frames in the transmit packet buffer
-abbrev pub buffered : World → List ℕ
-buffered world = map (λ (queued : Queued). queued.descriptor) world.adapter.transmitter.buffer
-
--- the finished slots of the receive ring, from the driver's oldest on
-abbrev pub finished : ℕ → World → List ℕ
-finished oldest world = done_slots world.memory (receive_ring world) oldest
-
--- the written-back slots of the transmit ring, from the driver's oldest on
-abbrev pub written_back : ℕ → World → List ℕ
-written_back oldest world = done_slots world.memory (transmit_ring world) oldest
-
--- Frames.
-
--- the bytes that a finished descriptor's address and length name
-abbrev pub named : List ℕ → ℕ → Area
-named memory descriptor = record {
-  address = (receive.descriptor_at memory descriptor).address;
-  size = (receive.descriptor_at memory descriptor).length;
-}
-
--- the frames on the host's side: of each finished slot, then the frame in work, then the packet buffer, oldest first
-abbrev pub frames_held : ℕ → World → List (List ℕ)
-frames_held oldest world =
-    map (λ (descriptor : ℕ). bytes_in world.memory (named world.memory descriptor)) (finished oldest world)
-    ++ held world.memory world.adapter.receiver
-
--- the frames that the host has still to send: in the packet buffer, then of each descriptor from TDH to TDT, padded
-abbrev pub frames_to_send : World → List (List ℕ)
-frames_to_send world = to_send world.memory (transmit_ring world) true world.adapter.transmitter.buffer
-
--- Areas.
+use Rattle.adapter.specs.HostFrames.{named}
+use Rattle.adapter.specs.Slots.{buffered, finished, in_work, offered}
+use Rattle.adapter.specs.World.{World, receive_ring, transmit_ring}
 
 -- a ring's descriptors
 abbrev pub ring_area : Ring → Area

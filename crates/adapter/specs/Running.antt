@@ -4,9 +4,9 @@ use Rattle.registers.specs.Bits.{HasBit}
 use Rattle.descriptors.specs.Frames.{IsLegal}
 use Rattle.descriptors.specs.Ring.{IsSound}
 use Rattle.tx_engine.specs.Fetching.{IsTransmittable, descriptor_at}
-use Rattle.bus.specs.Frames.{buffer_size}
-use Rattle.bus.specs.Slots.{offered}
-use Rattle.bus.specs.World.{World, receive_ring, transmit_ring}
+use Rattle.adapter.specs.HostAreas.{buffer_size}
+use Rattle.adapter.specs.Slots.{offered}
+use Rattle.adapter.specs.World.{World, receive_ring, transmit_ring}
 
 -- the descriptor at an address can be transmitted: it has EOP and the legacy format, and names 1 to 1,518 bytes of memory
 abbrev pub CanTransmit : List ℕ → ℕ → Type 0

@@ -1,10 +1,13 @@
 -- The slots of a descriptor ring as a driver counts them, from its oldest one on ("3.2.6 Receive Descriptor Queue Structure", "3.4
 -- Transmit Descriptor Ring Structure"). A slot is told by the address of its descriptor.
-use Rattle.std.specs.Prelude.{◌≡◌, ◌<◌, ◌⊎◌, ◌++◌, ℕ, Bool, false, List, [], All, map, slice_index, take_while}
+use Rattle.std.specs.Prelude.{◌≡◌, ◌<◌, ◌⊎◌, ◌++◌, ℕ, Bool, false, List, [], ◌∷◌, All, Option, None, Some, map, slice_index, take_while}
 use Rattle.dma_memory.specs.HostMemory.{bytes_at}
 use Rattle.registers.specs.Bits.{is_set}
 use Rattle.descriptors.specs.declared.ring.Ring.{Ring}
 use Rattle.descriptors.specs.Ring.{address_of, count_of, owned}
+use Rattle.rx_engine.specs.declared.engine.Work.{Work}
+use Rattle.tx_engine.specs.Transmitter.{Queued}
+use Rattle.adapter.specs.World.{World, receive_ring, transmit_ring}
 
 -- the slots that the adapter owns: from head up to, not including, tail
 abbrev pub offered : Ring → List ℕ
@@ -28,3 +31,26 @@ pub record IsDealt (memory : List ℕ) (ring : Ring) (oldest : ℕ) (taken : Lis
   pub slot : (oldest < count_of ring) ⊎ (outstanding ring oldest ≡ [])
   pub classes : outstanding ring oldest ≡ done_slots memory ring oldest ++ (taken ++ offered ring)
   pub not_done : All (λ descriptor. is_done memory descriptor ≡ false) (taken ++ offered ring)
+
+-- The slots of a world.
+
+-- the slot of the frame in work
+abbrev pub slot_of_work : Option Work → List ℕ
+slot_of_work None = []
+slot_of_work (Some work) = work.descriptor ∷ []
+
+-- the slots of the receive ring whose frame is in work
+abbrev pub in_work : World → List ℕ
+in_work world = slot_of_work world.adapter.receiver.work
+
+-- the slots of the frames in the transmit packet buffer
+abbrev pub buffered : World → List ℕ
+buffered world = map (λ (queued : Queued). queued.descriptor) world.adapter.transmitter.buffer
+
+-- the finished slots of the receive ring, from the driver's oldest on
+abbrev pub finished : ℕ → World → List ℕ
+finished oldest world = done_slots world.memory (receive_ring world) oldest
+
+-- the written-back slots of the transmit ring, from the driver's oldest on
+abbrev pub written_back : ℕ → World → List ℕ
+written_back oldest world = done_slots world.memory (transmit_ring world) oldest

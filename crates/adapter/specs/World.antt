@@ -1,4 +1,4 @@
--- What a bus shows its driver: a host's memory and the adapter, and what the driver's accesses do to them.
+-- A host's memory and its adapter together, and what a driver's accesses do to them.
 use Rattle.std.specs.Prelude.{ℕ, List}
 use Rattle.dma_memory.specs.HostMemory.{with_bytes}
 use Rattle.descriptors.specs.declared.ring.Ring.{Ring}

@@ -1,0 +1,42 @@
+-- The conditions under which a driver and its adapter share memory: without them no frame can be told from another (own).
+use Rattle.std.specs.Prelude.{◌≡◌, ◌≤◌, ◌++◌, ℕ, true, List, All, map}
+use Rattle.dma_memory.specs.Areas.{AreSeparate}
+use Rattle.registers.specs.Bits.{HasBit}
+use Rattle.descriptors.specs.declared.rx_desc.RxDesc.{RxDesc}
+use Rattle.descriptors.specs.RxStatus.{status_bits}
+use Rattle.rx_engine.specs.Descriptors.{descriptor_at}
+use Rattle.tx_engine.specs.Fetching.{fetched}
+use Rattle.tx_engine.specs.Transmitter.{Queued}
+use Rattle.adapter.specs.HostAreas.{areas, buffer_size, work_areas}
+use Rattle.adapter.specs.HostFrames.{named}
+use Rattle.adapter.specs.Slots.{IsDealt, buffered, finished, in_work, offered}
+use Rattle.adapter.specs.World.{World, receive_ring, transmit_ring}
+
+-- a frame's descriptor asks for a report, RS
+abbrev pub Reports : Queued → Type 0
+Reports queued = queued.report ≡ true
+
+-- The conditions, for the slots that the driver counts as its oldest.
+pub record Sound (oldest_received oldest_sent : ℕ) (world : World) : Type 0 where
+  pub receive_slots : IsDealt world.memory (receive_ring world) oldest_received (in_work world)
+  pub transmit_slots : IsDealt world.memory (transmit_ring world) oldest_sent (buffered world)
+  pub separate : AreSeparate world.memory (areas oldest_received world)
+  -- every frame to be sent asks for a report
+  pub reports : All Reports (world.adapter.transmitter.buffer ++ map (fetched true world.memory) (offered (transmit_ring world)))
+  -- TCTL.PSP
+  pub pads : ¬ (world.adapter.transmit_ring.head ≡ world.adapter.transmit_ring.tail) → HasBit world.adapter.transmit_control 3
+
+-- a descriptor as this adapter finishes one: EOP, no errors, and the length of a legal frame
+pub record IsWhole (descriptor : RxDesc) : Type 0 where
+  pub ended : HasBit (status_bits descriptor.status) 1
+  pub unharmed : descriptor.errors ≡ 0
+  pub least : 60 ≤ descriptor.length
+  pub most : descriptor.length ≤ 1518
+
+abbrev pub AreWhole : List ℕ → List ℕ → Type 0
+AreWhole memory slots = All (λ slot. IsWhole (descriptor_at memory slot)) slots
+
+-- Each finished frame, and the one in work, has at most as many bytes as a receive buffer, by RCTL.BSIZE.
+pub record FitBuffers (oldest_received : ℕ) (world : World) : Type 0 where
+  pub finished_fit : All (λ slot. (named world.memory slot).size ≤ buffer_size world) (finished oldest_received world)
+  pub work_fits : All (λ area. area.size ≤ buffer_size world) (work_areas world.memory world.adapter.receiver.work)
