@@ -32,3 +32,5 @@ pub mod SoundBuses
 pub mod Initialising
 pub mod Waiting
 pub mod Begun
+pub mod Settings
+pub mod Rest

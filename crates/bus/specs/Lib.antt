@@ -20,3 +20,5 @@ pub mod Sending
 pub mod Idle
 pub mod SoundBuses
 pub mod Initialising
+pub mod Settings
+pub mod Rest

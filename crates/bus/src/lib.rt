@@ -6,6 +6,7 @@
 
 mod bus;
 mod law;
+mod settings_law;
 mod solo;
 mod solo_bus;
 pub mod sound_buses;
@@ -18,6 +19,7 @@ pub use law::{
     registers_can_be_set, rings_wait, slots_can_be_offered, steps_are_instances,
     written_slots_can_be_freed,
 };
+pub use settings_law::{adapters_rest, writes_alone_set};
 pub use solo::{MOST_TICKS, SoloBus, SoloTick, WIRE_FRAMES};
 
 #[cfg(test)]

@@ -1,0 +1,44 @@
+//! The EEPROM, word by word ("13.4.4 EEPROM Read Register").
+
+use crate::MOST_READS;
+use crate::init_error::InitError;
+use adapter::offsets::EERD;
+use bus::Bus;
+use eeprom::{Image, WORDS};
+
+/// START, bit 0 of EERD: a write with it begins a read.
+const START: u32 = 1 << 0;
+
+/// DONE, bit 4 of EERD: the word is there.
+const DONE: u32 = 1 << 4;
+
+/// The lowest bit of ADDR, bits 15:8 of EERD.
+const ADDR_SHIFT: u32 = 8;
+
+/// The lowest bit of DATA, bits 31:16 of EERD.
+const DATA_SHIFT: u32 = 16;
+
+/// Reads the 64 words of the EEPROM.
+///
+/// # Errors
+///
+/// [`EepromTimeout`](InitError::EepromTimeout) where 1,000 reads of EERD for one word didn't show DONE.
+pub fn read_image<B: Bus>(bus: &mut B) -> Result<Image, InitError> {
+    let mut words = [0; WORDS];
+    for address in 0..WORDS {
+        words[address] = read_word(bus, address as u8)?;
+    }
+    Ok(Image::from_words(words))
+}
+
+/// Reads one word of the EEPROM.
+fn read_word<B: Bus>(bus: &mut B, address: u8) -> Result<u16, InitError> {
+    bus.write(EERD, u32::from(address) << ADDR_SHIFT | START);
+    for _ in 0..MOST_READS {
+        let answer = bus.read(EERD);
+        if answer & DONE != 0 {
+            return Ok((answer >> DATA_SHIFT) as u16);
+        }
+    }
+    Err(InitError::EepromTimeout)
+}
