@@ -1,13 +1,11 @@
 -- An adapter at rest stays so while a driver sets it up.
-use Rattle.std.proofs.Common.{◌≡◌, ◌≤◌, ◌++◌, [], true, false, ℕ, Bool, List, Option, None, Some, map, if◌then◌else◌, refl, sym, ap, subst, ◌∙◌, arith}
+use Rattle.std.proofs.Common.{◌≡◌, ◌≤◌, ◌++◌, [], true, false, ℕ, Bool, List, Option, None, Some, length, map, if◌then◌else◌, refl, sym, ap, subst, ◌∙◌}
 use Rattle.std.specs.List.{All, take_while}
 use Rattle.dma_memory.specs.Areas.{bytes_in}
 use Rattle.descriptors.specs.declared.ring.Ring.{Ring}
 use Rattle.descriptors.specs.Ring.{address_of, owned}
 use Rattle.descriptors.specs.RingLaws.{owned-none}
-use Rattle.registers.specs.Bits.{HasBit, field}
-use Rattle.registers.specs.ReceiveControl.{buffer_size_of}
-use Rattle.descriptors.specs.Frames.{IsLegal}
+use Rattle.registers.specs.Bits.{HasBit}
 use Rattle.registers.specs.Laws.{HasBit-zero}
 use Rattle.rx_engine.specs.Held.{held, in_work}
 use Rattle.rx_engine.specs.Receiver.{Receiver, new_receiver}
@@ -17,7 +15,8 @@ use Rattle.tx_engine.specs.ToSend.{to_send}
 use Rattle.tx_engine.specs.Transmitter.{Queued, Transmitter, new_transmitter}
 use Rattle.adapter.specs.declared.register.Register.{Register}
 use Rattle.adapter.specs.declared.register.Register.TheVariants.{Icr, Mpc, Gprc, Gptc, Rctl, Receive, Rnbc, Transmit}
-use Rattle.adapter.specs.HostFrames.{frames_held, frames_to_send, named}
+use Rattle.adapter.specs.HostAreas.{buffer_size}
+use Rattle.adapter.specs.HostFrames.{AreWithin, frames_held, frames_to_send, named}
 use Rattle.adapter.specs.Registers.{after_reset, by_row, is_reset, left_by_read, left_by_write, read_of, write_of}
 use Rattle.adapter.specs.Running.{CanRun, CanTransmit}
 use Rattle.adapter.specs.Slots.{done_slots, is_done}
@@ -45,8 +44,7 @@ runs-of world rest = record {
   receive_indices = λ differ. absurd (differ rest.rings.receive);
   transmit_indices = λ differ. absurd (differ rest.rings.transmit);
   not_extended = subst (λ (control : ℕ). ¬ (HasBit control 25)) (sym rest.control) (HasBit-zero 25);
-  size = subst (λ (control : ℕ). 1518 ≤ buffer_size_of (field control 16 2)) (sym rest.control) (omega arith);
-  frames = subst (λ (receiver : Receiver). All IsLegal receiver.buffer) (sym rest.receiver) (all-none IsLegal);
+  frames = subst (λ (receiver : Receiver). AreWithin (buffer_size world) receiver.buffer) (sym rest.receiver) (all-none (λ frame. length frame ≤ buffer_size world));
   transmittable = subst (λ (slots : List ℕ). All (CanTransmit world.memory) slots) (sym (offered-none (transmit_ring world) rest.rings.transmit)) (all-none (CanTransmit world.memory));
 }
 
@@ -93,7 +91,7 @@ happenings_keep_rest a b past happens rest =
     let empty : frames_held o b ≡ [] = between.holds ∙ ap (λ (frames : List (List ℕ)). frames ++ past.stored) (none-held a rest) ∙ off.0 in
     let held_none = append-empty (map (λ (slot : ℕ). bytes_in b.memory (named b.memory slot)) (done_slots b.memory (receive_ring b) o)) (held b.memory b.adapter.receiver) empty in
     let buffer_none = append-empty (in_work b.memory b.adapter.receiver.work) b.adapter.receiver.buffer held_none.1 in
-    let runs = between.runs (runs-of a rest) in
+    let runs = between.runs (subst (AreWithin (buffer_size a)) (sym off.0) (all-none (λ frame. length frame ≤ buffer_size a))) (runs-of a rest) in
     let sent = append-empty past.put (frames_to_send b) (between.sends ∙ none-to-send a idle) in (
       record {
         rings = after.rings;
