@@ -71,7 +71,7 @@ writes-set offset value adapter = by_case (register_at offset)
     by_case (Some register) = by_test register (is_reset register value)
 
 -- Stretches join.
-settings-append : (first later : List Write) (settings : Settings) → settings_after_all (first ++ later) settings ≡ settings_after_all later (settings_after_all first settings)
+pub settings-append : (first later : List Write) (settings : Settings) → settings_after_all (first ++ later) settings ≡ settings_after_all later (settings_after_all first settings)
 settings-append [] later settings = refl
 settings-append (write ∷ first) later settings = settings-append first later _
 
