@@ -1,7 +1,7 @@
 -- Accesses of bring-up, one behind the other.
 use Rattle.std.proofs.Common.{◌≡◌, ◌++◌, ◌∷◌, [], ℕ, List, length, refl, sym, ap, subst, ◌∙◌}
 use Rattle.std.specs.List.{All}
-use Rattle.std.proofs.lemmas.List.{append-nil}
+use Rattle.std.proofs.lemmas.List.Elements.{All-append}
 use Rattle.adapter.specs.State.{AdapterState}
 use Rattle.adapter.specs.World.{World, world_after_read, world_after_store, world_after_write}
 use Rattle.bus.specs.Law.{Acts, Happens}
@@ -11,7 +11,7 @@ use Rattle.bus.specs.Settings.{Settings, Write, settings_after_all, settings_of,
 use Rattle.bus.proofs.Lists.{all-head, all-left, all-none, all-right}
 use Rattle.bus.proofs.Rest.{accesses_keep_rest, happenings_keep_rest}
 use Rattle.bus.proofs.Settings.{happenings_leave_settings, reads-leave, settings-append, writes-append, writes-set}
-use Rattle.bring_up.specs.Sets.{IsAside, Sets}
+use Rattle.bring_up.specs.Sets.{Asks, IsAside, Sets}
 
 -- Nothing is done.
 pub sets-nothing : {B : Type 0} (world : B → World) (happened : B → B → Past → Type 0) → ((b : B) → happened b b nothing) → (b : B) → Sets world happened b b []
@@ -79,3 +79,42 @@ pub sets-word : {B : Type 0} (world : B → World) (happened : B → B → Past 
     → Acts world happened lively old new (Writes offset value) (λ before after. after ≡ world_after_write offset value before) → Sets world happened old new (record { offset = offset; value = word } ∷ [])
 sets-word world happened lively old new offset value word is acts =
     subst (λ (v : ℕ). Sets world happened old new (record { offset = offset; value = v } ∷ [])) is (sets-write world happened lively old new offset value acts)
+
+-- What is asked by one register that isn't set.
+
+-- Nothing is asked.
+pub asks-nothing : {B : Type 0} (world : B → World) (happened : B → B → Past → Type 0) → ((b : B) → happened b b nothing) → (b : B) (offset : ℕ) → Asks world happened b b offset
+asks-nothing world happened stays b offset = record {
+  past = nothing;
+  told = stays b;
+  only = all-none (λ write. write.offset ≡ offset);
+  settings = refl;
+  rests = λ rest. (rest, record { none_put = refl; none_stored = refl; none_missed = refl });
+}
+
+-- A step that sets is one that asks, where it writes that register alone and leaves the settings.
+pub asks-of : {B : Type 0} (world : B → World) (happened : B → B → Past → Type 0) (old new : B) (offset : ℕ) (writes : List Write) → Sets world happened old new writes
+    → All (λ write. write.offset ≡ offset) writes → All IsAside writes → ((settings : Settings) → settings_after_all writes settings ≡ settings) → Asks world happened old new offset
+asks-of world happened old new offset writes sets only aside same = record {
+  past = sets.past;
+  told = sets.told;
+  only = subst (All (λ write. write.offset ≡ offset)) (sym sets.writes_are) only;
+  settings = sets.settings ∙ same (settings_of (world old).adapter);
+  rests = sets.rests aside;
+}
+
+-- Two such steps are one.
+pub asks-join : {B : Type 0} (world : B → World) (happened : B → B → Past → Type 0) → ((a b c : B) (s t : Past) → happened a b s → happened b c t → happened a c (joined s t))
+    → (a b c : B) (offset : ℕ) → Asks world happened a b offset → Asks world happened b c offset → Asks world happened a c offset
+asks-join world happened joins a b c offset one two = record {
+  past = joined one.past two.past;
+  told = joins a b c one.past two.past one.told two.told;
+  only =
+      subst (All (λ write. write.offset ≡ offset)) (sym (writes-append one.past.accesses two.past.accesses))
+      (All-append (λ write. write.offset ≡ offset) (writes_in one.past.accesses) (writes_in two.past.accesses) one.only two.only);
+  settings = two.settings ∙ one.settings;
+  rests = λ rest.
+      let middle = one.rests rest in
+      let end = two.rests middle.0 in
+      (end.0, no-frames one.past two.past middle.1 end.1);
+}

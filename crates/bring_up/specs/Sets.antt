@@ -1,5 +1,5 @@
 -- What a step of bring-up does over a bus: it writes registers (own).
-use Rattle.std.specs.Prelude.{◌≡◌, List, All}
+use Rattle.std.specs.Prelude.{◌≡◌, ℕ, List, All}
 use Rattle.adapter.specs.Table.{register_at}
 use Rattle.adapter.specs.World.{World}
 use Rattle.bus.specs.Past.{Past}
@@ -18,3 +18,11 @@ pub record Sets {B : Type 0} (world : B → World) (happened : B → B → Past 
   pub writes_are : writes_in past.accesses ≡ writes
   pub settings : settings_of (world new).adapter ≡ settings_after_all writes (settings_of (world old).adapter)
   pub rests : All IsAside writes → IsAtRest (world old) → IsAtRest (world new) × NoFrame past
+
+-- A step that only asks: of the registers it writes one alone, which is no part of the settings, and leaves these as they are.
+pub record Asks {B : Type 0} (world : B → World) (happened : B → B → Past → Type 0) (old new : B) (offset : ℕ) : Type 0 where
+  pub past : Past
+  pub told : happened old new past
+  pub only : All (λ write. write.offset ≡ offset) (writes_in past.accesses)
+  pub settings : settings_of (world new).adapter ≡ settings_of (world old).adapter
+  pub rests : IsAtRest (world old) → IsAtRest (world new) × NoFrame past
