@@ -118,3 +118,19 @@ asks-join world happened joins a b c offset one two = record {
       let end = two.rests middle.0 in
       (end.0, no-frames one.past two.past middle.1 end.1);
 }
+
+-- A write at an offset that is known.
+pub sets-at : {B : Type 0} (world : B → World) (happened : B → B → Past → Type 0) (lively : B → Type 0) (old new : B) (offset place value : ℕ) → offset ≡ place
+    → Acts world happened lively old new (Writes offset value) (λ before after. after ≡ world_after_write offset value before) → Sets world happened old new (record { offset = place; value = value } ∷ [])
+sets-at world happened lively old new offset place value is acts =
+    subst (λ (at : ℕ). Sets world happened old new (record { offset = at; value = value } ∷ [])) is (sets-write world happened lively old new offset value acts)
+
+-- Five writes are one step.
+pub sets-five : {B : Type 0} (world : B → World) (happened : B → B → Past → Type 0) → ((a b c : B) (s t : Past) → happened a b s → happened b c t → happened a c (joined s t))
+    → (b0 b1 b2 b3 b4 b5 : B) (w1 w2 w3 w4 w5 : Write) → Sets world happened b0 b1 (w1 ∷ []) → Sets world happened b1 b2 (w2 ∷ []) → Sets world happened b2 b3 (w3 ∷ [])
+    → Sets world happened b3 b4 (w4 ∷ []) → Sets world happened b4 b5 (w5 ∷ []) → Sets world happened b0 b5 (w1 ∷ w2 ∷ w3 ∷ w4 ∷ w5 ∷ [])
+sets-five world happened joins b0 b1 b2 b3 b4 b5 w1 w2 w3 w4 w5 one two three four five =
+    sets-join world happened joins b0 b1 b5 (w1 ∷ []) _ one
+    (sets-join world happened joins b1 b2 b5 (w2 ∷ []) _ two
+    (sets-join world happened joins b2 b3 b5 (w3 ∷ []) _ three
+    (sets-join world happened joins b3 b4 b5 (w4 ∷ []) (w5 ∷ []) four five)))

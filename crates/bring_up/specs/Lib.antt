@@ -1,2 +1,4 @@
 pub mod Sets
 pub mod Table
+pub mod FilterTables
+pub mod RingRegisters

@@ -17,7 +17,7 @@ mod ring_registers;
 pub use config::{Config, MOST_GROUPS, MOST_VLANS};
 pub use controls::{allocate_packet_buffer, reset_device, set_link_up, unmask_interrupts};
 pub use eeprom_reading::read_image;
-pub use filter_tables::{write_addresses, write_tables};
+pub use filter_tables::{group_table, vlan_table, write_addresses, write_groups, write_vlans};
 pub use init_error::InitError;
 pub use link::{await_link, negotiate};
 pub use ring_registers::{RingPlace, enable_receiver, enable_transmitter, set_receive_ring, set_transmit_ring};
