@@ -1,6 +1,6 @@
 -- What bring-up writes into the tables of the receive filter ("13.5.1 Multicast Table Array", "13.5.2 Receive Address Low", "13.5.3 Receive
 -- Address High", "13.5.4 VLAN Filter Table Array").
-use Rattle.std.specs.Prelude.{◌≡◌, ◌<◌, ◌↔◌, ◌+◌, ◌*◌, ◌^◌, ◌++◌, ℕ, zero, suc, List, [], ◌∷◌, Option, None, Some, length, map}
+use Rattle.std.specs.Prelude.{◌≡◌, ◌<◌, ◌↔◌, ◌+◌, ◌*◌, ◌^◌, ◌++◌, ℕ, zero, suc, List, [], ◌∷◌, length, map}
 use Rattle.std.specs.List.{Contains}
 use Rattle.rx_filter.specs.Addresses.{group_number, high_word, low_word}
 use Rattle.rx_filter.specs.Registers.{HasTableBit}
@@ -15,11 +15,6 @@ pub record HasNumbers (table numbers : List ℕ) : Type 0 where
 -- the numbers of groups, by RCTL.MO 00
 abbrev pub numbers_of_groups : List (List ℕ) → List ℕ
 numbers_of_groups groups = map (group_number 4) groups
-
--- the VLANs that are named
-abbrev pub named_vlans : Option (List ℕ) → List ℕ
-named_vlans None = []
-named_vlans (Some vlans) = vlans
 
 -- the words of a table, from an offset on
 abbrev pub table_writes : ℕ → List ℕ → List Write

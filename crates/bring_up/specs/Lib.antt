@@ -2,3 +2,4 @@ pub mod Sets
 pub mod Table
 pub mod FilterTables
 pub mod RingRegisters
+pub mod Configuration

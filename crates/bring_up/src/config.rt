@@ -1,5 +1,8 @@
 //! What an adapter is brought up with.
 
+ghost use Rattle.std.specs.Prelude.{◌≡◌, ◌↔◌, IfErr, IfOk, IsOk, IsTrue};
+ghost use Rattle.adapter.specs.PacketBuffer.{IsAllocation};
+
 use crate::init_error::InitError;
 use arrayvec::ArrayVec;
 use dma_memory::Layout;
@@ -36,12 +39,19 @@ pub struct Config {
 }
 
 impl Config {
+    ghost use Rattle.bring_up.specs.Configuration.{CanBeHad, HasRightNumbers, counts_of};
+    ghost use Rattle.bring_up.specs.declared.init_error.InitError.TheVariants as InitError;
+
     /// Where rings and buffers stand in a memory of `size` bytes.
     ///
     /// # Errors
     ///
     /// [`Config`](InitError::Config) exactly where the configuration can't be had there.
-    pub fn layout(&self, size: u64) -> Result<Layout, InitError> {
+    pub fn layout(&self, size: u64) -> Result<Layout, InitError>
+        ensures ok { IsOk result ↔ CanBeHad self.now size }
+        ensures counts { IfOk result (λ layout. layout ≡ counts_of self.now) }
+        ensures err { IfErr result (λ error. error ≡ InitError.Config) }
+    {
         if !self.has_right_numbers() {
             return Err(InitError::Config);
         }
@@ -55,7 +65,9 @@ impl Config {
     }
 
     /// Whether RXA, the groups and the VLANs are allowed.
-    fn has_right_numbers(&self) -> bool {
+    fn has_right_numbers(&self) -> bool
+        ensures { IsTrue result ↔ HasRightNumbers self.now }
+    {
         is_allocation(self.rxa)
             && self.groups.iter().all(|group| group[0] % 2 == 1)
             && match &self.vlans {
@@ -66,6 +78,8 @@ impl Config {
 }
 
 /// Whether PBA takes this as RXA.
-fn is_allocation(kilobytes: u8) -> bool {
+fn is_allocation(kilobytes: u8) -> bool
+    ensures { IsTrue result ↔ IsAllocation kilobytes }
+{
     kilobytes % 2 == 0 && 2 <= kilobytes && kilobytes <= MOST_RECEIVE_KILOBYTES
 }

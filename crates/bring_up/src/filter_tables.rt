@@ -2,7 +2,7 @@
 
 ghost use Rattle.std.specs.Prelude.{◌≡◌, ◌<◌, ◌^◌, All, replicate};
 ghost use Rattle.rx_filter.specs.Writing.{with_number};
-ghost use Rattle.bring_up.specs.FilterTables.{HasNumbers, address_writes, entry_writes, named_vlans, numbers_of_groups, table_writes};
+ghost use Rattle.bring_up.specs.FilterTables.{HasNumbers, address_writes, entry_writes, numbers_of_groups, table_writes};
 ghost use Rattle.bring_up.specs.Sets.{Sets};
 
 use adapter::offsets::{ADDRESS_PAIR_BYTES, MTA, RAL, REGISTER_BYTES, VFTA};
