@@ -25,14 +25,6 @@ use Rattle.bus.proofs.Spare.{spare-apart, spare-foreign}
 same_ring_area : (a b : RingRegisters) → b ≡ record a { head = b.head } → ring_area (ring_of b) ≡ ring_area (ring_of a)
 same_ring_area a b same = ap (λ (registers : RingRegisters). ring_area (ring_of registers)) same
 
-pub head-slot : (a b : RingRegisters) → b ≡ record a { head = b.head } → (b.head ≡ a.head) ⊎ IsSound (ring_of b) → a.head < count_of (ring_of a) → b.head < count_of (ring_of a)
-head-slot a b same moved below =
-    let count : count_of (ring_of b) ≡ count_of (ring_of a) = ap (λ (registers : RingRegisters). count_of (ring_of registers)) same in
-    ⊎_elim
-    (λ (still : b.head ≡ a.head). subst (λ (head : ℕ). head < count_of (ring_of a)) (sym still) below)
-    (λ (slot : IsSound (ring_of b)). subst (λ (n : ℕ). b.head < n) count slot.head)
-    moved
-
 -- Spare memory.
 
 spare-stays : (o p : ℕ) (a b : World) (past : Past) (area : Area) → Sound o p a → Happens a b past → IsSpare o p a area → IsSpare o p b area

@@ -18,11 +18,12 @@ pub mod Playing
 pub mod Accessing
 pub mod Own
 pub mod OwnStores
+pub mod OwnSlots
 pub mod Offering
 pub mod TakingSlots
 pub mod Spare
 pub mod Carrying
-pub mod Tails
+pub mod KnownRings
 pub mod Writes
 pub mod Idle
 pub mod SoundBuses

@@ -11,6 +11,8 @@ pub mod SoloView
 pub mod SoloLaws
 pub mod Own
 pub mod OwnStores
+pub mod OwnSlots
+pub mod KnownRings
 pub mod Offering
 pub mod TakingSlots
 pub mod Spare
