@@ -51,10 +51,10 @@ byte-inside : (t : Area) (d : ℕ) → IsInside (descriptor_area d) t → IsInsi
 byte-inside t d inside = record { from = omega (arith, inside.from); to = omega (arith, inside.to) }
 
 -- What is apart from a descriptor is apart from what is reported in it.
-pub half-apart : (x y : ℕ) → AreApart (descriptor_area x) (descriptor_area y) → AreApart (descriptor_area x) (reported_half y)
+half-apart : (x y : ℕ) → AreApart (descriptor_area x) (descriptor_area y) → AreApart (descriptor_area x) (reported_half y)
 half-apart x y apart = inside-apart (descriptor_area x) (reported_half y) (descriptor_area y) (half-inside (descriptor_area y) y (record { from = omega arith; to = omega arith })) apart
 
-pub byte-apart : (x y : ℕ) → AreApart (descriptor_area x) (descriptor_area y) → AreApart (descriptor_area x) (status_byte y)
+byte-apart : (x y : ℕ) → AreApart (descriptor_area x) (descriptor_area y) → AreApart (descriptor_area x) (status_byte y)
 byte-apart x y apart = inside-apart (descriptor_area x) (status_byte y) (descriptor_area y) (byte-inside (descriptor_area y) y (record { from = omega arith; to = omega arith })) apart
 
 pub parts-of : (o p : ℕ) (a : World) → Sound o p a → Parts o a
@@ -75,14 +75,14 @@ parts-of o p a sound =
     }
 
 -- The last of the areas of frames are the offered buffers.
-pub last-buffers : (P : Area → Type 0) (o : ℕ) (a : World) → All P (frame_areas o a) → All P (offered_buffers a)
+last-buffers : (P : Area → Type 0) (o : ℕ) (a : World) → All P (frame_areas o a) → All P (offered_buffers a)
 last-buffers P o a all =
     let names = map (named a.memory) (finished o a) in
     let work = work_areas a.memory a.adapter.receiver.work in
     all-right P work (offered_buffers a) (all-right P names (work ++ offered_buffers a) (all-right P (map (data_of a.memory) (offered (transmit_ring a))) (names ++ (work ++ offered_buffers a)) all))
 
 -- An area of the receive ring that is apart from the halves that are reported in isn't the adapter's.
-pub foreign-in_ring : (o p : ℕ) (a : World) (area : Area) → Sound o p a → IsInside area (ring_area (receive_ring a)) → All (λ d. AreApart area (reported_half d)) (in_work a ++ offered (receive_ring a)) → IsForeign a area
+foreign-in_ring : (o p : ℕ) (a : World) (area : Area) → Sound o p a → IsInside area (ring_area (receive_ring a)) → All (λ d. AreApart area (reported_half d)) (in_work a ++ offered (receive_ring a)) → IsForeign a area
 foreign-in_ring o p a area sound inside apart =
     let parts = parts-of o p a sound in
     let r = ring_area (receive_ring a) in
@@ -96,7 +96,7 @@ foreign-in_ring o p a area sound inside apart =
     (All-append (AreApart area) (map status_byte (buffered a ++ offered (transmit_ring a))) (offered_buffers a) bytes buffers)
 
 -- Descriptors of finished slots.
-pub foreign-finished : (o p : ℕ) (a : World) → Sound o p a → All (λ d. IsForeign a (descriptor_area d)) (finished o a)
+foreign-finished : (o p : ℕ) (a : World) → Sound o p a → All (λ d. IsForeign a (descriptor_area d)) (finished o a)
 foreign-finished o p a sound =
     let ring = receive_ring a in
     let slots = sound.receive_slots in
@@ -133,7 +133,7 @@ foreign-named o p a sound =
     all-unmapped (λ area. IsForeign a area) (named a.memory) (finished o a) each
 
 -- The same of the transmit ring, and of status bytes.
-pub foreign-in_transmit : (o p : ℕ) (a : World) (area : Area) → Sound o p a → IsInside area (ring_area (transmit_ring a)) → All (λ d. AreApart area (status_byte d)) (buffered a ++ offered (transmit_ring a)) → IsForeign a area
+foreign-in_transmit : (o p : ℕ) (a : World) (area : Area) → Sound o p a → IsInside area (ring_area (transmit_ring a)) → All (λ d. AreApart area (status_byte d)) (buffered a ++ offered (transmit_ring a)) → IsForeign a area
 foreign-in_transmit o p a area sound inside apart =
     let parts = parts-of o p a sound in
     let r = ring_area (receive_ring a) in
@@ -149,7 +149,7 @@ foreign-in_transmit o p a area sound inside apart =
     buffers)
 
 -- Descriptors of written-back slots.
-pub foreign-written : (o p : ℕ) (a : World) → Sound o p a → All (λ d. IsForeign a (descriptor_area d)) (written_back p a)
+foreign-written : (o p : ℕ) (a : World) → Sound o p a → All (λ d. IsForeign a (descriptor_area d)) (written_back p a)
 foreign-written o p a sound =
     let ring = transmit_ring a in
     let slots = sound.transmit_slots in
