@@ -9,6 +9,7 @@ mod law;
 mod solo;
 mod solo_bus;
 pub mod sound_buses;
+mod trail_law;
 
 pub use bus::{Bus, HonestBus};
 pub use law::{
@@ -19,6 +20,9 @@ pub use law::{
     written_slots_can_be_freed,
 };
 pub use solo::{MOST_TICKS, SoloBus, SoloTick, WIRE_FRAMES};
+pub use trail_law::{
+    causes_are_those_of_steps, faults_stay_visible, quiet_accesses_leave_adapters,
+};
 
 #[cfg(test)]
 mod driver_tests;
