@@ -11,7 +11,7 @@ use Rattle.bus.specs.Trails.{world_after_access}
 
 -- Quiet accesses.
 
--- a read clears the register: ICR and the counters
+-- a read clears it: ICR and the counters
 abbrev pub IsClearedByRead : Register → Type 0
 IsClearedByRead Icr = ⊤
 IsClearedByRead Mpc = ⊤
@@ -20,9 +20,12 @@ IsClearedByRead Gptc = ⊤
 IsClearedByRead Rnbc = ⊤
 IsClearedByRead register = ⊥
 
+abbrev pub StaysAtRead : Register → Type 0
+StaysAtRead register = ¬ (IsClearedByRead register)
+
 -- a load, a store, and a read that clears nothing
 abbrev pub IsQuiet : Access → Type 0
-IsQuiet (Reads offset value) = IfSome (register_at offset) (λ register. ¬ (IsClearedByRead register))
+IsQuiet (Reads offset value) = IfSome (register_at offset) StaysAtRead
 IsQuiet (Writes offset value) = ⊥
 IsQuiet (Loads address size) = ⊤
 IsQuiet (Stores address bytes) = ⊤
@@ -41,38 +44,52 @@ QuietAccessesLeaveAdapters = (access : Access) (world : World) → IsQuiet acces
 abbrev pub QuietAccessesLeaveWorlds : Type 0
 QuietAccessesLeaveWorlds = (access : Access) (world : World) → IsQuiet access → ¬ (IsStore access) → world_after_access access world ≡ world
 
--- Accesses that leave engines and causes.
+-- Writes.
 
--- it isn't a write of CTRL with RST
-abbrev pub IsNoReset : Access → Type 0
-IsNoReset (Reads offset value) = ⊤
-IsNoReset (Writes offset value) = IfSome (register_at offset) (λ register. is_reset register value ≡ false)
-IsNoReset (Loads address size) = ⊤
-IsNoReset (Stores address bytes) = ⊤
-
--- a write moves the recorded causes: ICR and ICS
+-- a write of it moves the recorded causes: ICR and ICS
 abbrev pub MovesCauses : Register → Type 0
 MovesCauses Icr = ⊤
 MovesCauses Ics = ⊤
 MovesCauses register = ⊥
 
--- a write moves their mask: IMS and IMC
+-- a write of it moves their mask: IMS and IMC
 abbrev pub MovesMask : Register → Type 0
 MovesMask Ims = ⊤
 MovesMask Imc = ⊤
 MovesMask register = ⊥
 
--- neither a read of ICR, nor a write of ICR or ICS, nor a reset
+-- a write of this word is no reset
+abbrev pub ResetsNothing : ℕ → Register → Type 0
+ResetsNothing value register = is_reset register value ≡ false
+
+-- nor does it move the recorded causes
+abbrev pub WriteLeavesCauses : ℕ → Register → Type 0
+WriteLeavesCauses value register = (¬ (MovesCauses register)) × ResetsNothing value register
+
+-- nor their mask
+abbrev pub WriteLeavesMask : ℕ → Register → Type 0
+WriteLeavesMask value register = (¬ (MovesMask register)) × ResetsNothing value register
+
+-- Accesses.
+
+-- it isn't a write of CTRL with RST
+abbrev pub IsNoReset : Access → Type 0
+IsNoReset (Reads offset value) = ⊤
+IsNoReset (Writes offset value) = IfSome (register_at offset) (ResetsNothing value)
+IsNoReset (Loads address size) = ⊤
+IsNoReset (Stores address bytes) = ⊤
+
+-- it is neither a read of ICR, nor a write of ICR or ICS, nor a reset
 abbrev pub LeavesCauses : Access → Type 0
 LeavesCauses (Reads offset value) = register_at offset ≢ Some Icr
-LeavesCauses (Writes offset value) = IfSome (register_at offset) (λ register. (¬ (MovesCauses register)) × (is_reset register value ≡ false))
+LeavesCauses (Writes offset value) = IfSome (register_at offset) (WriteLeavesCauses value)
 LeavesCauses (Loads address size) = ⊤
 LeavesCauses (Stores address bytes) = ⊤
 
--- neither a write of IMS or IMC, nor a reset
+-- it is neither a write of IMS or IMC, nor a reset
 abbrev pub LeavesMask : Access → Type 0
 LeavesMask (Reads offset value) = ⊤
-LeavesMask (Writes offset value) = IfSome (register_at offset) (λ register. (¬ (MovesMask register)) × (is_reset register value ≡ false))
+LeavesMask (Writes offset value) = IfSome (register_at offset) (WriteLeavesMask value)
 LeavesMask (Loads address size) = ⊤
 LeavesMask (Stores address bytes) = ⊤
 

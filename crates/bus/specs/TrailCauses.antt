@@ -1,4 +1,4 @@
--- Which interrupt causes the events of a trail record, each as the adapter's steps and arrivals do (13.4.17 "Interrupt Cause Read Register").
+-- Which interrupt causes the events of a trail record, each as the adapter does by itself (13.4.17 "Interrupt Cause Read Register").
 use Rattle.std.specs.Prelude.{◌≡◌, ℕ, Bool, true, List, [], ◌∷◌, Option, Some, None, All}
 use Rattle.mdic_phy.specs.declared.mdic.Ticked.{Ticked}
 use Rattle.mdic_phy.specs.Mdic.{told}
@@ -60,7 +60,8 @@ CausesAreThoseOfSteps =
 -- Their mask stays, where no access moves it.
 abbrev pub MasksStay : Type 0
 MasksStay =
-    (events : List Event) (a b : World) → All LeavesMask (past_of events).accesses → Trail events a b → b.adapter.causes.mask ≡ a.adapter.causes.mask
+    (events : List Event) (a b : World) → All LeavesMask (past_of events).accesses → Trail events a b
+    → b.adapter.causes.mask ≡ a.adapter.causes.mask
 
 -- What the first event of a trail from a to b records is still recorded at its end.
 pub record IsRecorded (later : List Event) (a b : World) : Type 0 where
@@ -72,7 +73,8 @@ pub record IsRecorded (later : List Event) (a b : World) : Type 0 where
       → (moved_on a.adapter.transmit_ring).head ≡ a.adapter.transmit_ring.tail → HasBit b.adapter.causes.recorded 1
   -- LSC, bit 2: the link came up at a tick of the PHY.
   pub link : (wire_free : Bool) (answer : Stepped) → Trail (Steps PhyTick wire_free answer ∷ later) a b
-      → (ticked : Ticked) → told a.adapter.mdic a.adapter.phy ≡ Some ticked → ticked.link_changed ≡ true → HasBit b.adapter.causes.recorded 2
+      → (ticked : Ticked) → told a.adapter.mdic a.adapter.phy ≡ Some ticked → ticked.link_changed ≡ true
+      → HasBit b.adapter.causes.recorded 2
   -- RXDMT0, bit 4: the descriptors from RDH to RDT became half the ring as a frame was moved.
   pub moved : (wire_free : Bool) → Trail (Steps RxData wire_free Moved ∷ later) a b
       → is_half_free (ring_of (moved_on a.adapter.receive_ring)) ≡ true → HasBit b.adapter.causes.recorded 4
@@ -82,7 +84,8 @@ pub record IsRecorded (later : List Event) (a b : World) : Type 0 where
   pub done : (wire_free : Bool) → Trail (Steps RxDone wire_free Done ∷ later) a b → HasBit b.adapter.causes.recorded 7
   -- MDAC, bit 9: a command of MDIC whose end is told ended at a tick of the PHY.
   pub management : (wire_free : Bool) (answer : Stepped) → Trail (Steps PhyTick wire_free answer ∷ later) a b
-      → (ticked : Ticked) → told a.adapter.mdic a.adapter.phy ≡ Some ticked → ticked.access_complete ≡ true → HasBit b.adapter.causes.recorded 9
+      → (ticked : Ticked) → told a.adapter.mdic a.adapter.phy ≡ Some ticked → ticked.access_complete ≡ true
+      → HasBit b.adapter.causes.recorded 9
 
 -- It is, where no access behind it moves causes; accesses in front of it may.
 abbrev pub RecordedCausesStay : Type 0

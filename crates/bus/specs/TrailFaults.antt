@@ -24,9 +24,11 @@ IsNoFault (Accesses access) = ⊤
 
 -- Along a trail without a reset a stopped engine stays stopped.
 abbrev pub FaultsStay : Type 0
-FaultsStay = (events : List Event) (a b : World) → All IsNoReset (past_of events).accesses → Trail events a b → StaysStopped a.adapter b.adapter
+FaultsStay =
+    (events : List Event) (a b : World) → All IsNoReset (past_of events).accesses → Trail events a b → StaysStopped a.adapter b.adapter
 
 -- So where both engines run at its end, no answer of a step was a fault.
 abbrev pub RunningEnginesMetNoFault : Type 0
 RunningEnginesMetNoFault =
-    (events : List Event) (a b : World) → All IsNoReset (past_of events).accesses → Trail events a b → EnginesRun b.adapter → All IsNoFault events
+    (events : List Event) (a b : World) → All IsNoReset (past_of events).accesses → Trail events a b
+    → EnginesRun b.adapter → All IsNoFault events

@@ -1,24 +1,26 @@
 // Laws of trails: runs of adapter steps, deliveries and accesses.
 
-ghost use Rattle.bus.specs.Accesses.{QuietAccessesLeaveAdapters, QuietAccessesLeaveInterrupts, QuietAccessesLeaveWorlds, RingWritesLeaveInterrupts};
+ghost use Rattle.bus.specs.Accesses.{QuietAccessesLeaveAdapters, QuietAccessesLeaveInterrupts};
+ghost use Rattle.bus.specs.Accesses.{QuietAccessesLeaveWorlds, RingWritesLeaveInterrupts};
 ghost use Rattle.bus.specs.TrailCauses.{CausesAreThoseOfSteps, MasksStay, RecordedCausesStay};
 ghost use Rattle.bus.specs.TrailFaults.{FaultsStay, RunningEnginesMetNoFault};
 
 /// A fault stays visible until the next reset.
-/// - `stays`: behind any steps, deliveries and accesses without a reset an engine that was stopped is still
-///   stopped.
+/// - `stays`: behind any steps, deliveries and accesses without a reset, an engine that was stopped is
+///   still stopped.
 /// - `none`: where both engines run there, no answer of a step was a fault.
 pub fn faults_stay_visible()
     ensures stays { FaultsStay }
     ensures none { RunningEnginesMetNoFault }
 {}
 
-/// The interrupt causes that are recorded are those of before, and those that each step and each arrival
-/// records.
-/// - `recorded`: behind any steps, deliveries and accesses, where no access reads or writes ICR, writes ICS or
-///   resets.
+/// Which interrupt causes are recorded, and which are in the mask, behind any steps, deliveries and
+/// accesses.
+/// - `recorded`: those that were recorded, and those that each step and each delivery records, where no
+///   access reads or writes ICR, writes ICS or resets.
 /// - `mask`: the mask stays, where no access writes IMS or IMC or resets.
-/// - `stay`: a cause that a step or an arrival records is still recorded behind such events.
+/// - `stay`: a cause that a step or a delivery records is recorded at the end, where no access behind it
+///   reads or writes ICR, writes ICS or resets.
 pub fn causes_are_those_of_steps()
     ensures recorded { CausesAreThoseOfSteps }
     ensures mask { MasksStay }
