@@ -12,7 +12,8 @@ use Rattle.bus.specs.Accesses.{LeavesCauses, LeavesInterrupts, LeavesMask}
 use Rattle.bus.specs.Accesses.{MovesCauses, MovesMask, ResetsNothing, StaysAtRead, WriteLeavesCauses, WriteLeavesMask}
 use Rattle.bus.specs.Accesses.{QuietAccessesLeaveAdapters, QuietAccessesLeaveInterrupts, QuietAccessesLeaveWorlds}
 use Rattle.bus.specs.Accesses.{RingWritesLeaveInterrupts}
-use Rattle.bus.specs.Past.{Access, Loads, Reads, Stores, Writes}
+use Rattle.bus.specs.declared.event.Access.{Access}
+use Rattle.bus.specs.declared.event.Access.TheVariants.{Loads, Reads, Stores, Writes}
 use Rattle.bus.specs.Trails.{world_after_access}
 
 -- What is so of a register is so of the one that stands at its offset.

@@ -18,7 +18,8 @@ use Rattle.adapter.specs.HostFrames.{frames_held, named}
 use Rattle.adapter.specs.Conditions.{AreWhole, IsWhole, Sound}
 use Rattle.bus.specs.Law.{Acts, Happens}
 use Rattle.bus.specs.FirstFrame.{IsFirstHeld, Looked, StandsFirst}
-use Rattle.bus.specs.Past.{Loads, Past, joined}
+use Rattle.bus.specs.Past.{Past, joined}
+use Rattle.bus.specs.declared.event.Access.TheVariants.{Loads}
 use Rattle.bus.specs.TakingSlots.{next_received}
 use Rattle.adapter.specs.World.{receive_ring, World}
 use Rattle.bus.proofs.Composing.{happens_trans}

@@ -24,7 +24,9 @@ use Rattle.adapter.specs.Conditions.{Sound}
 use Rattle.bus.specs.Law.{Acts, Happens}
 use Rattle.bus.specs.Offering.{CanOffer, Offered, offering}
 use Rattle.bus.specs.OwnStores.{IsOwn}
-use Rattle.bus.specs.Past.{Access, Past, Stores, Writes, joined, nothing}
+use Rattle.bus.specs.Past.{Past, joined, nothing}
+use Rattle.bus.specs.declared.event.Access.{Access}
+use Rattle.bus.specs.declared.event.Access.TheVariants.{Stores, Writes}
 use Rattle.bus.specs.Refilling.{CanRefill, IsRefilled, KnowsRing, Refilled, empty_descriptor}
 use Rattle.adapter.specs.Slots.{is_done, outstanding}
 use Rattle.bus.specs.Spare.{FramesFit}

@@ -20,7 +20,9 @@ use Rattle.adapter.specs.Conditions.{Sound}
 use Rattle.bus.specs.Law.{Acts, Happens}
 use Rattle.bus.specs.Offering.{CanSend, OfferedFrame, offering_frame}
 use Rattle.bus.specs.OwnStores.{IsOwn}
-use Rattle.bus.specs.Past.{Access, Past, Stores, Writes, joined, nothing}
+use Rattle.bus.specs.Past.{Past, joined, nothing}
+use Rattle.bus.specs.declared.event.Access.{Access}
+use Rattle.bus.specs.declared.event.Access.TheVariants.{Stores, Writes}
 use Rattle.bus.specs.Refilling.{KnowsRing}
 use Rattle.bus.specs.Sending.{CanSendBy, IsSent, Sent, whole_descriptor}
 use Rattle.adapter.specs.Running.{CanTransmit}

@@ -29,7 +29,9 @@ use Rattle.bus.specs.Accesses.{LeavesCauses, LeavesMask}
 use Rattle.bus.specs.Steps.{world_after_step}
 use Rattle.bus.specs.TrailCauses.{CausesAreThoseOfSteps, MasksStay, RecordedCausesStay}
 use Rattle.bus.specs.TrailCauses.{causes_by, causes_by_arrival, causes_by_step, causes_by_tick, causes_in}
-use Rattle.bus.specs.Trails.{Accesses, Arrives, Event, Steps, Trail, past_of, past_of_event, world_after}
+use Rattle.bus.specs.Trails.{Trail, past_of, past_of_event, world_after}
+use Rattle.bus.specs.declared.event.Event.{Event}
+use Rattle.bus.specs.declared.event.Event.TheVariants.{Accesses, Arrives, Steps}
 use Rattle.bus.proofs.Accesses.{access_leaves_causes, access_leaves_mask}
 use Rattle.bus.proofs.Lists.{all-head, all-left, all-right}
 

@@ -9,7 +9,9 @@ use Rattle.descriptors.specs.RxStatus.{status_of}
 use Rattle.adapter.specs.HostAreas.{buffer_of, buffer_size}
 use Rattle.adapter.specs.HostFrames.{frames_held, frames_to_send}
 use Rattle.adapter.specs.Conditions.{Sound}
-use Rattle.bus.specs.Past.{Access, Past, Stores, Writes}
+use Rattle.bus.specs.Past.{Past}
+use Rattle.bus.specs.declared.event.Access.{Access}
+use Rattle.bus.specs.declared.event.Access.TheVariants.{Stores, Writes}
 use Rattle.adapter.specs.Running.{GoOn}
 use Rattle.adapter.specs.Slots.{outstanding}
 use Rattle.bus.specs.Spare.{FramesFit, IsSpare}

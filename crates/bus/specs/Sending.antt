@@ -7,7 +7,9 @@ use Rattle.descriptors.specs.TxDesc.{tx_desc_bytes}
 use Rattle.descriptors.specs.TxFields.{command_of, sent_of}
 use Rattle.adapter.specs.HostFrames.{frames_held, frames_to_send}
 use Rattle.adapter.specs.Conditions.{Sound}
-use Rattle.bus.specs.Past.{Access, Past, Stores, Writes}
+use Rattle.bus.specs.Past.{Past}
+use Rattle.bus.specs.declared.event.Access.{Access}
+use Rattle.bus.specs.declared.event.Access.TheVariants.{Stores, Writes}
 use Rattle.bus.specs.Refilling.{KnowsRing, StaysReady}
 use Rattle.adapter.specs.Running.{GoOn}
 use Rattle.adapter.specs.Slots.{outstanding}

@@ -18,7 +18,9 @@ use Rattle.adapter.specs.declared.step.StepKind.TheVariants.{TxTake, TxPut, RxDa
 use Rattle.adapter.specs.declared.step.Stepped.{Stepped}
 use Rattle.adapter.specs.declared.step.Stepped.TheVariants.{Took, Put, Moved, Done}
 use Rattle.bus.specs.Accesses.{LeavesCauses, LeavesMask}
-use Rattle.bus.specs.Trails.{Accesses, Arrives, Event, Steps, Trail, past_of, world_after}
+use Rattle.bus.specs.Trails.{Trail, past_of, world_after}
+use Rattle.bus.specs.declared.event.Event.{Event}
+use Rattle.bus.specs.declared.event.Event.TheVariants.{Accesses, Arrives, Steps}
 
 -- What one event records.
 

@@ -4,7 +4,9 @@ use Rattle.adapter.specs.State.{AdapterState}
 use Rattle.adapter.specs.World.{World}
 use Rattle.adapter.specs.declared.step.Stepped.TheVariants.{Fault}
 use Rattle.bus.specs.Accesses.{IsNoReset}
-use Rattle.bus.specs.Trails.{Accesses, Arrives, Event, Steps, Trail, past_of}
+use Rattle.bus.specs.Trails.{Trail, past_of}
+use Rattle.bus.specs.declared.event.Event.{Event}
+use Rattle.bus.specs.declared.event.Event.TheVariants.{Accesses, Arrives, Steps}
 
 -- no fault has stopped an engine
 pub record EnginesRun (adapter : AdapterState) : Type 0 where

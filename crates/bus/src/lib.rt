@@ -5,6 +5,7 @@
 #![tactic(auto)]
 
 mod bus;
+mod event;
 mod law;
 mod solo;
 mod solo_bus;
@@ -12,6 +13,7 @@ pub mod sound_buses;
 mod trail_law;
 
 pub use bus::{Bus, HonestBus};
+pub use event::{Access, Event, StoredBytes};
 pub use law::{
     any_steps_may_happen, areas_stay_apart, between_composes, conditions_can_be_met,
     drivers_keep_their_own, faults_never_come, finished_slots_can_be_taken, frames_can_be_offered,
@@ -26,6 +28,8 @@ pub use trail_law::{
 
 #[cfg(test)]
 mod driver_tests;
+#[cfg(test)]
+mod event_tests;
 #[cfg(test)]
 mod looking;
 #[cfg(test)]
