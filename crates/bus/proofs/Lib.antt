@@ -13,6 +13,9 @@ pub mod Moving
 pub mod Finishing
 pub mod Instances
 pub mod Trails
+pub mod Accesses
+pub mod TrailFaults
+pub mod TrailCauses
 pub mod Examples
 pub mod Playing
 pub mod Accessing

@@ -1,16 +1,12 @@
 -- The driver's own slots can be written, and the slots from the tail on are its own.
-use Rattle.std.proofs.Common.{◌≡◌, ◌≢◌, ◌≤◌, ◌<◌, ◌⊎◌, ◌*◌, ◌+◌, ℕ, ap, arith}
-use Rattle.std.specs.List.{All}
+use Rattle.std.proofs.Common.{◌≡◌, ◌≢◌, ◌*◌, ◌+◌, ℕ, arith}
 use Rattle.std.proofs.lemmas.List.Elements.{All-map}
-use Rattle.dma_memory.specs.Areas.{AreApart, descriptor_area}
+use Rattle.dma_memory.specs.Areas.{descriptor_area}
 use Rattle.dma_memory.specs.AreaLaws.{apart-inside, apart-sym, inside-apart, lies-inside}
 use Rattle.dma_memory.specs.HostMemory.{LiesIn}
-use Rattle.descriptors.specs.declared.ring.Ring.{Ring}
 use Rattle.descriptors.specs.Ring.{address_of, count_of, distance_of, owned, slots_from}
-use Rattle.adapter.specs.Slots.{outstanding}
 use Rattle.adapter.specs.HostAreas.{ring_area}
 use Rattle.adapter.specs.World.{receive_ring, transmit_ring}
-use Rattle.bus.specs.Own.{IsOwnSlot}
 use Rattle.bus.specs.OwnSlots.{OwnReceiveSlotsCanBeWritten, OwnTransmitSlotsCanBeWritten, SlotsFromTailAreOwn, TailSlotsAreOwn}
 use Rattle.bus.proofs.EachArea.{of-areas}
 use Rattle.bus.proofs.Own.{foreign-own, foreign-own_sent, own-apart, parts-of}

@@ -32,14 +32,14 @@ use Rattle.adapter.specs.Registers.{new_adapter}
 use Rattle.adapter.specs.Table.{array_register_at, register_at}
 use Rattle.bus.specs.Examples.{HasFinished, HasFramesInBuffer, HasFramesInRing, HasRings, HasWork}
 use Rattle.adapter.specs.HostAreas.{buffer_of, data_of}
-use Rattle.adapter.specs.Slots.{finished, is_done, offered}
+use Rattle.adapter.specs.Slots.{finished, is_done}
 use Rattle.bus.specs.Idle.{IsIdle}
 use Rattle.adapter.specs.Conditions.{Reports, Sound}
 use Rattle.bus.specs.Offering.{CanOffer, CanSend}
 use Rattle.bus.specs.SoundBuses.{call, called, ready, reported, request, requested, resting, sending, sent, working}
 use Rattle.bus.specs.Steps.{world_after_arrival, world_after_step}
 use Rattle.adapter.specs.State.{IsAdapter}
-use Rattle.adapter.specs.World.{receive_ring, World, world_after_write}
+use Rattle.adapter.specs.World.{World, world_after_write}
 use Rattle.bus.proofs.Idle.{idle-areas, idle_rings_are_sound, stores_keep_idle}
 use Rattle.bus.proofs.Instances.{arrivals_happen, steps_happen}
 use Rattle.bus.proofs.Lists.{all-none, pairs-none}

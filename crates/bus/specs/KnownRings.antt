@@ -2,7 +2,7 @@
 use Rattle.std.specs.Prelude.{◌≡◌, ◌<◌, ℕ}
 use Rattle.descriptors.specs.declared.ring.Ring.{Ring}
 use Rattle.adapter.specs.KnownRing.{KnowsRing}
-use Rattle.adapter.specs.World.{receive_ring, transmit_ring, World, world_after_write}
+use Rattle.adapter.specs.World.{World, world_after_write}
 use Rattle.bus.specs.Law.{Steady}
 use Rattle.bus.specs.Past.{Past}
 

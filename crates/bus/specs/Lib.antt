@@ -5,6 +5,9 @@ pub mod Steps
 pub mod Trails
 pub mod Faults
 pub mod TrailLaws
+pub mod Accesses
+pub mod TrailFaults
+pub mod TrailCauses
 pub mod Examples
 pub mod Solo
 pub mod SoloView
