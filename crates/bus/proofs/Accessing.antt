@@ -3,11 +3,14 @@ use Rattle.std.proofs.Common.{◌≡◌, ◌+◌, ◌++◌, ◌∷◌, [], true,
 use Rattle.std.specs.List.{All}
 use Rattle.std.proofs.lemmas.List.{append-nil}
 use Rattle.bus.specs.Law.{Acts, Happens}
-use Rattle.bus.specs.Past.{Access, Past}
+use Rattle.bus.specs.Past.{Past}
+use Rattle.bus.specs.declared.event.Access.{Access}
 use Rattle.bus.specs.Solo.{ArePlayed, Prepared, Recounts, SoloState, most_accesses}
 use Rattle.bus.specs.SoloLaws.{are_free_joins, are_played_joins}
 use Rattle.bus.specs.TrailLaws.{past_of-append, same_past, trail_joins}
-use Rattle.bus.specs.Trails.{Accesses, Arrives, Event, IsAnswered, IsStep, Steps, past_of, past_of_event, world_after_access}
+use Rattle.bus.specs.Trails.{IsAnswered, IsStep, past_of, past_of_event, world_after_access}
+use Rattle.bus.specs.declared.event.Event.{Event}
+use Rattle.bus.specs.declared.event.Event.TheVariants.{Accesses, Arrives, Steps}
 use Rattle.adapter.specs.declared.step.StepKind.TheVariants.{TxTake, TxPut, RxData, RxDone, EepromTick, PhyTick}
 use Rattle.adapter.specs.State.{IsAdapter}
 use Rattle.adapter.specs.World.{World}

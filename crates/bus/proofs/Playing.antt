@@ -17,7 +17,8 @@ use Rattle.bus.specs.SoloLaws.{are_free_joins, are_played_joins}
 use Rattle.bus.specs.Steps.{put_by}
 use Rattle.adapter.specs.State.{IsAdapter}
 use Rattle.bus.specs.TrailLaws.{past_of-append, trail_joins}
-use Rattle.bus.specs.Trails.{Arrives, IsStep, Steps, past_of}
+use Rattle.bus.specs.Trails.{IsStep, past_of}
+use Rattle.bus.specs.declared.event.Event.TheVariants.{Arrives, Steps}
 use Rattle.bus.specs.declared.solo.SoloTick.{SoloTick}
 use Rattle.bus.specs.declared.solo.SoloTick.TheVariants.{Arrive, Step}
 use Rattle.bus.proofs.Lists.{all-none}

@@ -5,12 +5,17 @@ pub mod Steps
 pub mod Trails
 pub mod Faults
 pub mod TrailLaws
+pub mod Accesses
+pub mod TrailFaults
+pub mod TrailCauses
 pub mod Examples
 pub mod Solo
 pub mod SoloView
 pub mod SoloLaws
 pub mod Own
 pub mod OwnStores
+pub mod OwnSlots
+pub mod KnownRings
 pub mod Offering
 pub mod TakingSlots
 pub mod Spare

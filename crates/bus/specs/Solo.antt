@@ -7,7 +7,9 @@ use Rattle.adapter.specs.declared.step.Stepped.{Stepped}
 use Rattle.bus.specs.Law.{HasTicks}
 use Rattle.bus.specs.Past.{Past}
 use Rattle.bus.specs.Steps.{past_of_step, put_by, world_after_arrival, world_after_step}
-use Rattle.bus.specs.Trails.{Accesses, Arrives, Event, IsStep, Steps, Trail, past_of}
+use Rattle.bus.specs.Trails.{IsStep, Trail, past_of}
+use Rattle.bus.specs.declared.event.Event.{Event}
+use Rattle.bus.specs.declared.event.Event.TheVariants.{Accesses, Arrives, Steps}
 use Rattle.adapter.specs.World.{World}
 use Rattle.bus.specs.declared.solo.SoloTick.{SoloTick}
 use Rattle.bus.specs.declared.solo.SoloTick.TheVariants.{Arrive, Go, Step}

@@ -5,7 +5,9 @@ use Rattle.bus.specs.Past.{Past, joined, nothing}
 use Rattle.bus.specs.Solo.{ArePlayed, AreFree, Recounts, SoloState, most_accesses}
 use Rattle.bus.specs.TrailLaws.{past_of-append, trail_joins}
 use Rattle.bus.specs.Steps.{past_of_step}
-use Rattle.bus.specs.Trails.{Accesses, Arrives, Event, Steps, past_of}
+use Rattle.bus.specs.Trails.{past_of}
+use Rattle.bus.specs.declared.event.Event.{Event}
+use Rattle.bus.specs.declared.event.Event.TheVariants.{Accesses, Arrives, Steps}
 use Rattle.bus.specs.declared.solo.SoloTick.{SoloTick}
 
 pub are_played_joins : (lively : Bool) (first later : List Event) (a b c : List SoloTick) → ArePlayed lively first a b → ArePlayed lively later b c → ArePlayed lively (first ++ later) a c
