@@ -24,7 +24,7 @@ use Rattle.adapter.specs.State.{AdapterState}
 use Rattle.adapter.specs.Table.{register_at, row_of}
 use Rattle.adapter.specs.World.{World, receive_ring, transmit_ring}
 use Rattle.bus.specs.Idle.{IsIdle, IsOfRing}
-use Rattle.bus.specs.Past.{Loads, Reads, Stores, Writes}
+use Rattle.bus.specs.declared.event.Access.TheVariants.{Loads, Reads, Stores, Writes}
 use Rattle.bus.specs.Rest.{AccessesKeepRest, HappeningsKeepRest, IsAtRest, IsElsewhere, RestAfterReset, RestIsIdle}
 use Rattle.bus.proofs.Idle.{happenings_keep_idle, idle_after_reset, idle_rings_are_sound, offered-none, other_writes_keep_idle, outstanding-none, reads_keep_idle, stores_keep_idle}
 use Rattle.bus.proofs.Lists.{all-none, append-empty}

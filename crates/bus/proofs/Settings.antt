@@ -7,7 +7,8 @@ use Rattle.adapter.specs.declared.ring.RingRegisters.{RingRegisters}
 use Rattle.adapter.specs.Registers.{after_read, after_reset, by_row, is_reset, left_by_read, left_by_write, read_of}
 use Rattle.adapter.specs.State.{AdapterState}
 use Rattle.adapter.specs.Table.{register_at, row_of}
-use Rattle.bus.specs.Past.{Access, Loads, Reads, Stores, Writes}
+use Rattle.bus.specs.declared.event.Access.{Access}
+use Rattle.bus.specs.declared.event.Access.TheVariants.{Loads, Reads, Stores, Writes}
 use Rattle.bus.specs.Settings.{HappeningsLeaveSettings, Settings, SettingsJoin, Write, WritesSet, adapter_with, settings_after_all, settings_of, writes_in}
 
 -- Equal parts are equal settings.

@@ -10,7 +10,9 @@ use Rattle.adapter.specs.declared.register.Register.{Register}
 use Rattle.adapter.specs.declared.register.Register.TheVariants.{Rctl, Receive, Transmit}
 use Rattle.bus.specs.Idle.{HasIdleRings, IsIdle}
 use Rattle.bus.specs.Law.{Happens}
-use Rattle.bus.specs.Past.{Access, Loads, Past, Reads, Stores, Writes}
+use Rattle.bus.specs.Past.{Past}
+use Rattle.bus.specs.declared.event.Access.{Access}
+use Rattle.bus.specs.declared.event.Access.TheVariants.{Loads, Reads, Stores, Writes}
 use Rattle.bus.specs.Trails.{world_after_access}
 
 -- Its rings offer nothing, its engines hold no frame and no fault has stopped them, and RCTL is 0.

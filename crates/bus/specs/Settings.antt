@@ -8,7 +8,9 @@ use Rattle.adapter.specs.Registers.{adapter_at_reset, after_write}
 use Rattle.adapter.specs.State.{AdapterState}
 use Rattle.adapter.specs.World.{World}
 use Rattle.bus.specs.Law.{Happens}
-use Rattle.bus.specs.Past.{Access, Loads, Past, Reads, Stores, Writes, joined}
+use Rattle.bus.specs.Past.{Past, joined}
+use Rattle.bus.specs.declared.event.Access.{Access}
+use Rattle.bus.specs.declared.event.Access.TheVariants.{Loads, Reads, Stores, Writes}
 
 pub record Settings : Type 0 where
   pub image : List ℕ
