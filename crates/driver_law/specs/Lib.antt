@@ -1,0 +1,3 @@
+pub mod DriverState
+pub mod Ready
+pub mod Goes

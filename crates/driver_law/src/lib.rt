@@ -1,0 +1,7 @@
+//! The layer that drivers stand on: what a driver knows of its adapter and memory, and what a stretch
+//! of its run does.
+#![tactic(auto)]
+
+mod law;
+
+pub use law::stretches_join;
