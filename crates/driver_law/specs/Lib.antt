@@ -1,3 +1,5 @@
 pub mod DriverState
 pub mod Ready
 pub mod Goes
+pub mod Beginnings
+pub mod Readings

@@ -54,10 +54,9 @@ pub record TransmitIsUp (counts : Counts) (oldest sending : ℕ) (memory : List 
   pub knows : KnowsRing ring (16 * counts.rx) counts.tx (place counts.tx oldest sending)
   pub sources : All (λ slot. IsInside (data_of memory (transmit_slot counts slot)) (area_of counts (TransmitBuffer slot))) (slots_from counts.tx oldest sending)
 
--- The transmit side isn't set up yet, as in initialisation: its ring has no slots, and no frame is in the packet buffer.
+-- The transmit side isn't set up yet, as in initialisation: its ring ends before the buffers, nothing of it is outstanding, and no frame is in the packet buffer.
 pub record TransmitIsOff (counts : Counts) (oldest sending : ℕ) (ring : Ring) (buffer : List Queued) : Type 0 where
-  pub none : count_of ring ≡ 0
-  pub begins : ring.base ≤ 16 * counts.rx
+  pub ends : ring.base + 16 * count_of ring ≤ 16 * counts.rx + 16 * counts.tx
   pub idle : ring.head ≡ ring.tail
   pub last : ring.tail ≡ oldest
   pub nothing : sending ≡ 0

@@ -2,6 +2,8 @@
 //! of its run does.
 #![tactic(auto)]
 
+mod beginning_law;
 mod law;
 
+pub use beginning_law::drivers_begin;
 pub use law::stretches_join;

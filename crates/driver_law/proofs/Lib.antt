@@ -1,0 +1,4 @@
+pub mod Steps
+pub mod Beginnings
+pub mod Parts
+pub mod RegisterReads
