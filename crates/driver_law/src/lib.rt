@@ -4,6 +4,8 @@
 
 mod beginning_law;
 mod law;
+mod register_law;
 
 pub use beginning_law::drivers_begin;
 pub use law::stretches_join;
+pub use register_law::registers_are_read;
