@@ -1,4 +1,5 @@
-pub mod Steps
+pub mod Rests
 pub mod Beginnings
 pub mod Parts
 pub mod RegisterReads
+pub mod Controls

@@ -15,7 +15,7 @@ use Rattle.bus.specs.Refilling.{KnowsRing}
 use Rattle.bus.specs.Spare.{FramesFit}
 use Rattle.driver_law.specs.DriverState.{DriverState, buffer_at, receive_tail}
 use Rattle.driver_law.specs.Ready.{AreStored, ReadyWith, Stands, TransmitIs}
-use Rattle.driver_law.proofs.Steps.{Rests}
+use Rattle.driver_law.proofs.Rests.{Rests}
 
 -- Memory, both rings, RCTL, TCTL and the transmit packet buffer are the same.
 pub record SameParts (a b : World) : Type 0 where

@@ -18,7 +18,7 @@ use Rattle.driver_law.specs.Goes.{FlowsTo, GoesTo}
 use Rattle.driver_law.specs.Readings.{CausesAreRead, MissesAreRead, OthersAreRead, with_missed}
 use Rattle.driver_law.specs.Ready.{ReadyWith}
 use Rattle.driver_law.proofs.Parts.{SameParts, ready-left}
-use Rattle.driver_law.proofs.Steps.{goes-rests}
+use Rattle.driver_law.proofs.Rests.{goes-rests}
 
 -- What a read leaves, and that it leaves the mask.
 record Read (a b : World) : Type 0 where

@@ -1,9 +1,17 @@
 // Laws of a driver's beginning, and of the registers that it writes up to the end of its initialisation.
 
-ghost use Rattle.driver_law.specs.Beginnings.{DriversBegin};
+ghost use Rattle.driver_law.specs.Beginnings.{CausesAreUnmasked, DriversBegin, ReceiverIsEnabled, StagedSlotsAreOffered, TransmitRingIsWritten, TransmitterIsEnabled};
 
 /// A driver whose receive ring is set up, whose transmit ring is or isn't, and that has offered no slot of
 /// either, is ready.
 pub fn drivers_begin()
     ensures { DriversBegin }
+{}
+
+/// A driver that is ready stays so at each write of a register in its initialisation.
+/// - `transmitter`: of TCTL, with PSP, behind which its transmit side is set up.
+/// - `causes`: of IMS, which changes the mask alone.
+pub fn registers_are_set()
+    ensures transmitter { TransmitterIsEnabled }
+    ensures causes { CausesAreUnmasked }
 {}

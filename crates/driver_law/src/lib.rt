@@ -6,6 +6,6 @@ mod beginning_law;
 mod law;
 mod register_law;
 
-pub use beginning_law::drivers_begin;
+pub use beginning_law::{drivers_begin, registers_are_set};
 pub use law::stretches_join;
 pub use register_law::registers_are_read;

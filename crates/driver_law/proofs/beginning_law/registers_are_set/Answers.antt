@@ -1,0 +1,6 @@
+-- As the lemmas say.
+use Rattle.driver_law.proofs.Controls.{causes_are_unmasked, transmitter_is_enabled}
+use Rattle.driver_law.proofs.beginning_law.registers_are_set.Goals as goal
+
+pub returns : goal.returns
+returns c = record { transmitter = transmitter_is_enabled; causes = causes_are_unmasked }
