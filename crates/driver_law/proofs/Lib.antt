@@ -1,0 +1,8 @@
+pub mod Places
+pub mod Owners
+pub mod OwnSlots
+pub mod Buffers
+pub mod Stretches
+pub mod Fit
+pub mod Readiness
+pub mod Steps
