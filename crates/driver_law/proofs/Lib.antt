@@ -1,3 +1,11 @@
+pub mod Places
+pub mod Owners
+pub mod OwnSlots
+pub mod Buffers
+pub mod Stretches
+pub mod Fit
+pub mod Readiness
+pub mod Steps
 pub mod Rests
 pub mod Beginnings
 pub mod Parts

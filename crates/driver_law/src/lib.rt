@@ -7,5 +7,5 @@ mod law;
 mod register_law;
 
 pub use beginning_law::{drivers_begin, registers_are_set};
-pub use law::stretches_join;
+pub use law::{drivers_go_on, stretches_join};
 pub use register_law::registers_are_read;
