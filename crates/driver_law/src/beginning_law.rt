@@ -9,9 +9,12 @@ pub fn drivers_begin()
 {}
 
 /// A driver that is ready stays so at each write of a register in its initialisation.
+/// - `transmit_ring`: of one of the transmit ring's, while it has nothing to send: behind each the ring
+///   is where the layout has it, and the side off still.
 /// - `transmitter`: of TCTL, with PSP, behind which its transmit side is set up.
 /// - `causes`: of IMS, which changes the mask alone.
 pub fn registers_are_set()
+    ensures transmit_ring { TransmitRingIsWritten }
     ensures transmitter { TransmitterIsEnabled }
     ensures causes { CausesAreUnmasked }
 {}
