@@ -3,6 +3,5 @@ pub mod Owners
 pub mod OwnSlots
 pub mod Buffers
 pub mod Stretches
-pub mod Fit
 pub mod Readiness
 pub mod Steps
