@@ -1,4 +1,5 @@
 pub mod Rings
+pub mod KnownRing
 pub mod PacketBuffer
 pub mod State
 pub mod Table

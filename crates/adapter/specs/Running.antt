@@ -1,10 +1,10 @@
 -- When both engines of an adapter go on: what a step needs so that no fault stops its engine (that a fault stops an engine is own).
-use Rattle.std.specs.Prelude.{◌≡◌, ◌≢◌, ◌≤◌, ℕ, false, List, All}
+use Rattle.std.specs.Prelude.{◌≡◌, ◌≢◌, ℕ, false, List, All}
 use Rattle.registers.specs.Bits.{HasBit}
-use Rattle.descriptors.specs.Frames.{IsLegal}
 use Rattle.descriptors.specs.Ring.{IsSound}
 use Rattle.tx_engine.specs.Fetching.{IsTransmittable, descriptor_at}
 use Rattle.adapter.specs.HostAreas.{buffer_size}
+use Rattle.adapter.specs.HostFrames.{AreWithin}
 use Rattle.adapter.specs.Slots.{offered}
 use Rattle.adapter.specs.World.{World, receive_ring, transmit_ring}
 
@@ -19,11 +19,9 @@ pub record CanRun (world : World) : Type 0 where
   -- Where head isn't tail, both are slots of their ring.
   pub receive_indices : world.adapter.receive_ring.head ≢ world.adapter.receive_ring.tail → IsSound (receive_ring world)
   pub transmit_indices : world.adapter.transmit_ring.head ≢ world.adapter.transmit_ring.tail → IsSound (transmit_ring world)
-  -- RCTL.BSEX is 0, and a buffer of the size that RCTL.BSIZE names has room for every legal frame.
+  -- RCTL.BSEX is 0, and each frame in the receive packet buffer fits into a buffer of the size that RCTL.BSIZE names.
   pub not_extended : ¬ (HasBit world.adapter.filter.rctl 25)
-  pub size : 1518 ≤ buffer_size world
-  -- The frames in the receive packet buffer are legal.
-  pub frames : All IsLegal world.adapter.receiver.buffer
+  pub frames : AreWithin (buffer_size world) world.adapter.receiver.buffer
   -- The descriptors from TDH to TDT can be transmitted.
   pub transmittable : All (CanTransmit world.memory) (offered (transmit_ring world))
 

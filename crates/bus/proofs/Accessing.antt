@@ -9,6 +9,7 @@ use Rattle.bus.specs.SoloLaws.{are_free_joins, are_played_joins}
 use Rattle.bus.specs.TrailLaws.{past_of-append, same_past, trail_joins}
 use Rattle.bus.specs.Trails.{Accesses, Arrives, Event, IsAnswered, IsStep, Steps, past_of, past_of_event, world_after_access}
 use Rattle.adapter.specs.declared.step.StepKind.TheVariants.{TxTake, TxPut, RxData, RxDone, EepromTick, PhyTick}
+use Rattle.adapter.specs.State.{IsAdapter}
 use Rattle.adapter.specs.World.{World}
 use Rattle.bus.specs.declared.solo.SoloTick.{SoloTick}
 use Rattle.bus.proofs.Lists.{all-head, all-tail}
@@ -49,6 +50,7 @@ happens_accesses a b past accesses happens =
             more = between.more;
             done = between.done;
             told = between.told;
+            fits = between.fits;
             whole = between.whole;
             untouched = between.untouched;
             foreign = between.foreign;
@@ -89,8 +91,8 @@ solo_world solo = solo.world
 abbrev pub is_lively : SoloState → Type 0
 is_lively solo = solo.lively ≡ true
 
-pub acts_on : (a p b : SoloState) (access : Access) (effect : World → World → Type 0) → Prepared a p → b ≡ record p { world = world_after_access access p.world } → IsAnswered access p.world → effect p.world b.world → Acts solo_world Recounts is_lively a b access effect
-acts_on a p b access effect prepared after answered does =
+pub acts_on : (a p b : SoloState) (access : Access) (effect : World → World → Type 0) → Prepared a p → b ≡ record p { world = world_after_access access p.world } → IsAnswered access p.world → IsAdapter p.world.adapter → effect p.world b.world → Acts solo_world Recounts is_lively a b access effect
+acts_on a p b access effect prepared after answered adapter does =
     let events = prepared.grouped.before.events in
     let are = prepared.grouped.before.are in
     let middle = p.world in
@@ -124,6 +126,7 @@ acts_on a p b access effect prepared after answered does =
       };
       ticks = λ lively. let fall = prepared.ticks lively in record { eeprom = fall.eeprom; phy = fall.phy };
       before = happens_accesses a.world middle (past_of events) (access ∷ []) (trail_happens events a.world middle are trail);
+      adapter = adapter;
       effect_is = does;
     }
 

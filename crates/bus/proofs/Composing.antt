@@ -1,13 +1,15 @@
 -- What may happen between two accesses composes, and nothing at all is one of its cases.
-use Rattle.std.proofs.Common.{◌≡◌, ◌⊎◌, ◌+◌, ℕ, zero, suc, List, [], ◌++◌, refl, sym, ap, subst, ◌∙◌, inl, inr, append_assoc, arith, length-append}
+use Rattle.std.proofs.Common.{◌≡◌, ◌≤◌, ◌⊎◌, ◌+◌, ℕ, zero, suc, List, length, [], ◌++◌, refl, sym, ap, subst, ◌∙◌, inl, inr, append_assoc, arith, length-append}
 use Rattle.std.proofs.lemmas.List.{append-nil}
 use Rattle.std.specs.Fn.{iterate}
 use Rattle.eeprom.specs.Eerd as eeprom
-use Rattle.registers.specs.Bits.{HasBit}
+use Rattle.registers.specs.Bits.{HasBit, field}
+use Rattle.registers.specs.ReceiveControl.{buffer_size_of}
 use Rattle.rx_filter.specs.Registers.{FilterRegisters}
 use Rattle.adapter.specs.declared.ring.RingRegisters.{RingRegisters}
 use Rattle.adapter.specs.Slots.{finished, written_back}
-use Rattle.adapter.specs.HostFrames.{frames_held, frames_to_send}
+use Rattle.adapter.specs.HostAreas.{buffer_size}
+use Rattle.adapter.specs.HostFrames.{AreWithin, frames_held, frames_to_send}
 use Rattle.adapter.specs.Conditions.{Sound}
 use Rattle.bus.specs.Law.{Between, Happens, Steady, management_of, phy_ticked}
 use Rattle.bus.specs.Past.{Past, joined, nothing}
@@ -16,7 +18,7 @@ use Rattle.descriptors.specs.Frames.{IsLegal}
 use Rattle.descriptors.specs.Ring.{IsSound}
 use Rattle.adapter.specs.Rings.{ring_of}
 use Rattle.std.proofs.lemmas.List.Elements.{All-append}
-use Rattle.bus.proofs.Lists.{all-none}
+use Rattle.bus.proofs.Lists.{all-left, all-none, all-right}
 
 -- As often as two numbers say together is as often as the one says, and then as the other does.
 pub iterate-add : {A : Type 0} (h : A → A) (m n : ℕ) (x : A) → iterate h (m + n) x ≡ iterate h n (iterate h m x)
@@ -95,8 +97,8 @@ told-joined m1 m2 b c (inr set) two keeps = inr (keeps 7 set)
 told-joined m1 m2 b c (inl none) (inr set) keeps = inr set
 told-joined m1 m2 b c (inl none) (inl still) keeps = inl (rw (none, still) refl)
 
-pub between_trans : (o p : ℕ) (a b c : World) (first later : Past) → Steady b c later → Between o p a b first → Between o p b c later → Between o p a c (joined first later)
-between_trans o p a b c first later steady one two = record {
+pub between_trans : (o p : ℕ) (a b c : World) (first later : Past) → Steady a b first → Steady b c later → Between o p a b first → Between o p b c later → Between o p a c (joined first later)
+between_trans o p a b c first later earlier steady one two = record {
   sends = append_assoc first.put later.put (frames_to_send c) ∙ ap (λ (behind : List (List ℕ)). first.put ++ behind) two.sends ∙ one.sends;
   reported = one.reported ++ two.reported;
   written = two.written ∙ ap (λ (slots : List ℕ). slots ++ two.reported) one.written ∙ append_assoc (written_back p a) one.reported two.reported;
@@ -105,10 +107,15 @@ between_trans o p a b c first later steady one two = record {
   more = one.more ++ two.more;
   done = two.done ∙ ap (λ (slots : List ℕ). slots ++ two.more) one.done ∙ append_assoc (finished o a) one.more two.more;
   told = told-joined one.more two.more b c one.told two.told steady.causes;
+  fits = λ fit. two.fits (one.fits fit);
   whole = λ are. two.whole (one.whole are);
   untouched = λ area apart. two.untouched area (one.foreign area apart) ∙ one.untouched area apart;
   foreign = λ area apart. two.foreign area (one.foreign area apart);
-  runs = λ can. two.runs (one.runs can);
+  runs = λ short can.
+      let Short : List ℕ → Type 0 = λ frame. length frame ≤ buffer_size a in
+      let late = all-right Short first.stored later.stored short in
+      two.runs (subst (λ (filter : FilterRegisters). AreWithin (buffer_size_of (field filter.rctl 16 2)) later.stored) (sym earlier.filter) late)
+      (one.runs (all-left Short first.stored later.stored short) can);
   sound = two.sound;
 }
 
@@ -122,10 +129,11 @@ between_refl o p a sound = record {
   more = [];
   done = sym (append-nil (finished o a));
   told = inl refl;
+  fits = λ fit. fit;
   whole = λ are. are;
   untouched = λ area apart. refl;
   foreign = λ area apart. apart;
-  runs = λ can. can;
+  runs = λ short can. can;
   sound = sound;
 }
 
@@ -136,7 +144,7 @@ happens_trans a b c first later one two = record {
   steady = steady_trans a b c first later one.steady two.steady;
   between = λ o p sound.
       let before = one.between o p sound in
-      between_trans o p a b c first later two.steady before (two.between o p before.sound);
+      between_trans o p a b c first later one.steady two.steady before (two.between o p before.sound);
 }
 
 pub happens_none : (a : World) → Happens a a nothing

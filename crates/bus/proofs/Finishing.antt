@@ -24,7 +24,7 @@ use Rattle.adapter.specs.State.{AdapterState}
 use Rattle.adapter.specs.declared.step.StepKind.TheVariants.{RxDone}
 use Rattle.adapter.specs.declared.step.Stepped.{Stepped}
 use Rattle.adapter.specs.declared.step.Stepped.TheVariants.{Took, Put, WireFull, Moved, Done, Ticked, Nothing, Fault}
-use Rattle.adapter.specs.HostAreas.{areas, buffer_of, data_of, frame_areas, offered_buffers, receives, reported_half, ring_area, status_byte}
+use Rattle.adapter.specs.HostAreas.{areas, buffer_of, buffer_size, data_of, frame_areas, offered_buffers, receives, reported_half, ring_area, status_byte}
 use Rattle.adapter.specs.Slots.{buffered, done_slots, finished, in_work, is_done, offered, written_back}
 use Rattle.adapter.specs.HostFrames.{frames_held, named}
 use Rattle.adapter.specs.Conditions.{AreWhole, IsWhole, Reports, Sound}
@@ -36,7 +36,7 @@ use Rattle.adapter.specs.World.{receive_ring, transmit_ring, World}
 use Rattle.bus.proofs.Areas.{separate-same}
 use Rattle.bus.proofs.Composing.{happens_none}
 use Rattle.bus.proofs.Engines.{added, steady_moves, still}
-use Rattle.bus.proofs.Kept.{IsSame, buffers-kept, frame_of, frames-kept, is_done-same, named-kept, same-apart, transmit_kept, whole-kept}
+use Rattle.bus.proofs.Kept.{IsSame, buffers-kept, frame_of, frames-kept, is_done-same, named-kept, names_fit-kept, NamesFit, same-apart, transmit_kept, whole-kept}
 use Rattle.bus.proofs.Lists.{all-head, all-left, all-none, all-right, all-tail, all-weaker, pairs-head}
 use Rattle.bus.proofs.Moving.{with_work}
 use Rattle.bus.proofs.Running.{transmittable-kept}
@@ -160,6 +160,14 @@ between_done o p work a0 least most sound =
       more = d ∷ [];
       done = receiving.grown;
       told = inr ((HasBit-union a.adapter.causes.recorded 0x80 7).1 (inr refl));
+      fits = λ fit.
+          let last : NamesFit memory' (buffer_size a) (d ∷ []) = All-cons (λ slot. (named memory' slot).size ≤ buffer_size a) d []
+          (subst (λ (there : Area). there.size ≤ buffer_size a) (sym named_done) (all-head (λ (there : Area). there.size ≤ buffer_size a) place [] fit.work_fits)) (all-none (λ slot. (named memory' slot).size ≤ buffer_size a)) in
+          let all = All-append (λ slot. (named memory' slot).size ≤ buffer_size a) (finished o a) (d ∷ []) (names_fit-kept memory memory' (buffer_size a) (finished o a) same_done fit.finished_fit) last in
+          record {
+            finished_fit = subst (λ (list : List ℕ). NamesFit memory' (buffer_size a) list) (sym receiving.grown) all;
+            work_fits = all-none (λ (there : Area). there.size ≤ buffer_size a);
+          };
       whole = λ are.
           let last : AreWhole memory' (d ∷ []) = All-cons (λ slot. IsWhole (receive.descriptor_at memory' slot)) d [] (is_whole-finished memory' d n frame count least most finishes) (all-none (λ slot. IsWhole (receive.descriptor_at memory' slot))) in
           let all = All-append (λ slot. IsWhole (receive.descriptor_at memory' slot)) (finished o a) (d ∷ []) (whole-kept memory memory' (finished o a) same_done are) last in
@@ -167,13 +175,12 @@ between_done o p work a0 least most sound =
       untouched = λ other foreign. keeps.others other (apart-sym other area (all-head (AreApart other) area (halves ++ (bytes ++ buffers)) foreign));
       foreign = λ other foreign.
           subst (λ (there : List Area). All (AreApart other) (halves ++ (bytes ++ there))) (sym left) (all-tail (AreApart other) area (halves ++ (bytes ++ buffers)) foreign);
-      runs = λ can. record {
+      runs = λ short can. record {
         receiver_runs = can.receiver_runs;
         transmitter_runs = can.transmitter_runs;
         receive_indices = can.receive_indices;
         transmit_indices = can.transmit_indices;
         not_extended = can.not_extended;
-        size = can.size;
         frames = can.frames;
         transmittable = transmittable-kept memory memory' (offered (transmit_ring a)) size transmitting.same_offered can.transmittable;
       };

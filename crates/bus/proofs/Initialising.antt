@@ -1,5 +1,5 @@
 -- Accesses that keep the conditions of the law.
-use Rattle.std.proofs.Common.{◌≡◌, ◌<◌, ◌+◌, ◌%◌, ◌++◌, ◌∷◌, [], true, false, ℕ, Bool, List, Option, None, Some, zero, suc, if◌then◌else◌, map, refl, sym, ap, subst, ◌∙◌, append_assoc, arith}
+use Rattle.std.proofs.Common.{◌≡◌, ◌≤◌, ◌<◌, ◌+◌, ◌%◌, ◌++◌, ◌∷◌, [], true, false, ℕ, Bool, List, Option, None, Some, zero, suc, if◌then◌else◌, map, refl, sym, ap, subst, ◌∙◌, append_assoc, arith}
 use Rattle.std.specs.Fn.{iterate}
 use Rattle.std.specs.List.{All}
 use Rattle.std.proofs.lemmas.List.{append-nil}
@@ -18,9 +18,10 @@ use Rattle.adapter.specs.Registers.{after_reset, by_row, is_reset, left_by_read,
 use Rattle.adapter.specs.Rings.{ring_of}
 use Rattle.adapter.specs.Table.{register_at, row_of}
 use Rattle.adapter.specs.Slots.{finished, offered, outstanding, written_back}
+use Rattle.adapter.specs.HostAreas.{buffer_size}
 use Rattle.adapter.specs.HostFrames.{frames_held, frames_to_send}
-use Rattle.bus.specs.Initialising.{CanOfferMany, ManySlotsCanBeOffered, OfferedMany, OtherWritesLeaveFrames, ReadsLeaveFrames, ReceiverCanBeSet, TransmitRingCanBeSet, TransmitterCanBeSet, with_tail}
-use Rattle.adapter.specs.Conditions.{AreWhole, Reports, Sound}
+use Rattle.bus.specs.Initialising.{CanOfferMany, ManySlotsCanBeOffered, OfferedMany, OtherWritesLeaveFrames, ReadsLeaveFrames, ReceiverCanBeSet, TransmitRingCanBeSet, TransmitterCanBeSet, with_receive_control, with_tail}
+use Rattle.adapter.specs.Conditions.{AreWhole, FitBuffers, Reports, Sound}
 use Rattle.bus.specs.Offering.{offering}
 use Rattle.bus.specs.OwnStores.{LeavesFrames, SameFrames}
 use Rattle.adapter.specs.Running.{CanRun, CanTransmit}
@@ -47,15 +48,20 @@ receiver_can_be_set o p control world sound separate = record {
     finished_same = refl;
     written_same = refl;
     whole = λ are. are;
+    fits = λ larger fit.
+        let within : (n : ℕ) → n ≤ buffer_size world → n ≤ buffer_size (with_receive_control control world) = λ n small. omega (arith, small, larger) in
+        record {
+          finished_fit = λ k d below. within _ (fit.finished_fit k d below);
+          work_fits = λ k place below. within _ (fit.work_fits k place below);
+        };
   };
-  runs = λ not_extended size can. record {
+  runs = λ not_extended short can. record {
     receiver_runs = can.receiver_runs;
     transmitter_runs = can.transmitter_runs;
     receive_indices = can.receive_indices;
     transmit_indices = can.transmit_indices;
     not_extended = not_extended;
-    size = size;
-    frames = can.frames;
+    frames = short;
     transmittable = can.transmittable;
   };
 }
@@ -75,6 +81,7 @@ transmitter_can_be_set o p control world sound pads = record {
     finished_same = refl;
     written_same = refl;
     whole = λ are. are;
+    fits = λ larger fit. record { finished_fit = fit.finished_fit; work_fits = fit.work_fits };
   };
   runs = λ can. record {
     receiver_runs = can.receiver_runs;
@@ -82,7 +89,6 @@ transmitter_can_be_set o p control world sound pads = record {
     receive_indices = can.receive_indices;
     transmit_indices = can.transmit_indices;
     not_extended = can.not_extended;
-    size = can.size;
     frames = can.frames;
     transmittable = can.transmittable;
   };
@@ -114,13 +120,13 @@ transmit_ring_can_be_set o p ring world sound none same separate =
       none_to_send = none-sent memory ring world.adapter.transmitter.buffer none same;
       held = refl;
       finished_same = refl;
+      fits = λ fit. record { finished_fit = fit.finished_fit; work_fits = fit.work_fits };
       runs = λ can. record {
         receiver_runs = can.receiver_runs;
         transmitter_runs = can.transmitter_runs;
         receive_indices = can.receive_indices;
         transmit_indices = λ differ. absurd (differ same);
         not_extended = can.not_extended;
-        size = can.size;
         frames = can.frames;
         transmittable = subst (λ (slots : List ℕ). All (CanTransmit memory) slots) (sym unsent) (all-none (CanTransmit memory));
       };
@@ -172,7 +178,6 @@ running_to_parts world can = record {
   receive_indices = can.receive_indices;
   transmit_indices = can.transmit_indices;
   not_extended = can.not_extended;
-  size = can.size;
   frames = can.frames;
   transmittable = can.transmittable;
 }
@@ -184,10 +189,15 @@ running_from_parts world can = record {
   receive_indices = can.receive_indices;
   transmit_indices = can.transmit_indices;
   not_extended = can.not_extended;
-  size = can.size;
   frames = can.frames;
   transmittable = can.transmittable;
 }
+
+fit_to_parts : (o : ℕ) (world : World) → FitBuffers o world → FitBuffers o (parts world)
+fit_to_parts o world fit = record { finished_fit = fit.finished_fit; work_fits = fit.work_fits }
+
+fit_from_parts : (o : ℕ) (world : World) → FitBuffers o (parts world) → FitBuffers o world
+fit_from_parts o world fit = record { finished_fit = fit.finished_fit; work_fits = fit.work_fits }
 
 by-parts : (o p : ℕ) (a b : World) → parts b ≡ parts a → Sound o p a → LeavesFrames o p a b
 by-parts o p a b same sound = record {
@@ -198,6 +208,7 @@ by-parts o p a b same sound = record {
     finished_same = ap (finished o) same;
     written_same = ap (written_back p) same;
     whole = λ are. subst (λ (world : World). AreWhole world.memory (finished o world)) (sym same) are;
+    fits = λ larger fit. fit_from_parts o b (subst (FitBuffers o) (sym same) (fit_to_parts o a fit));
   };
   runs = λ can. running_from_parts b (subst CanRun (sym same) (running_to_parts a can));
 }
@@ -230,14 +241,15 @@ other_writes_leave_frames o p register value world sound other none = by_test (i
 
 -- Many slots.
 
-same_trans : (o p : ℕ) (a b d : World) → SameFrames o p a b → SameFrames o p b d → SameFrames o p a d
-same_trans o p a b d one two = record {
+same_trans : (o p : ℕ) (a b d : World) → buffer_size b ≡ buffer_size a → SameFrames o p a b → SameFrames o p b d → SameFrames o p a d
+same_trans o p a b d size one two = record {
   sound = two.sound;
   held = two.held ∙ one.held;
   to_send = two.to_send ∙ one.to_send;
   finished_same = two.finished_same ∙ one.finished_same;
   written_same = two.written_same ∙ one.written_same;
   whole = λ are. two.whole (one.whole are);
+  fits = λ larger fit. two.fits (omega (arith, size, larger)) (one.fits (omega (arith, size)) fit);
 }
 
 -- one by one
@@ -249,7 +261,7 @@ offered_each o p (suc k) world sound can =
     let ring = receive_ring world in
     let later = map (address_of ring) (slots_from (count_of ring) (next_of ring ring.tail) k) in
     record {
-      same = same_trans o p world (offering world) (iterate offering k (offering world)) one.same rest.same;
+      same = same_trans o p world (offering world) (iterate offering k (offering world)) refl one.same rest.same;
       runs = λ can. rest.runs (one.runs can);
       last = rest.last ∙ ap (λ (slots : List ℕ). slots ++ later) one.last ∙ append_assoc (outstanding ring o) (address_of ring ring.tail ∷ []) later;
     }

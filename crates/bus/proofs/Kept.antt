@@ -1,5 +1,5 @@
 -- What stays of both rings where one area of memory is written.
-use Rattle.std.proofs.Common.{◌≡◌, ◌++◌, ◌∷◌, [], true, ℕ, List, Option, Some, None, map, slice_index, refl, sym, ap, subst, ◌∙◌}
+use Rattle.std.proofs.Common.{◌≡◌, ◌≤◌, ◌++◌, ◌∷◌, [], true, ℕ, List, Option, Some, None, map, slice_index, refl, sym, ap, subst, ◌∙◌}
 use Rattle.std.specs.List.{All}
 use Rattle.dma_memory.specs.Areas.{AreApart, Area, ChangesOnly, bytes_in, descriptor_area}
 use Rattle.dma_memory.specs.AreaLaws.{inside-apart}
@@ -19,9 +19,9 @@ use Rattle.tx_engine.specs.Fetching.{as_sent, fetched, frame_at}
 use Rattle.tx_engine.specs.ToSend.{to_send}
 use Rattle.tx_engine.specs.Transmitter.{Queued}
 use Rattle.adapter.specs.Slots.{buffered, done_slots, finished, in_work, is_done, IsDealt, offered, outstanding, slot_of_work, written_back}
-use Rattle.adapter.specs.HostAreas.{data_of, ring_area, work_areas}
+use Rattle.adapter.specs.HostAreas.{buffer_size, data_of, ring_area, work_areas}
 use Rattle.adapter.specs.HostFrames.{frames_to_send, named}
-use Rattle.adapter.specs.Conditions.{AreWhole, IsWhole}
+use Rattle.adapter.specs.Conditions.{AreWhole, FitBuffers, IsWhole}
 use Rattle.adapter.specs.World.{receive_ring, transmit_ring, World}
 use Rattle.bus.proofs.Lists.{all-head, all-left, all-right, all-unmapped, map-same}
 use Rattle.bus.proofs.Rings.{dealt-left, dealt-right, dealt-same, done-same, outstanding-inside}
@@ -77,6 +77,14 @@ pub whole-kept : (memory memory' : List ℕ) (slots : List ℕ) → All (IsSame 
 whole-kept memory memory' slots same whole = λ k d below.
     let desc : receive.descriptor_at memory' _ ≡ receive.descriptor_at memory _ = ap rx_desc_of (same k d below) in
     subst IsWhole (sym desc) (whole k d below)
+
+-- the frames that these finished slots name have at most so many bytes
+abbrev pub NamesFit : List ℕ → ℕ → List ℕ → Type 0
+NamesFit memory size slots = All (λ slot. (named memory slot).size ≤ size) slots
+
+pub names_fit-kept : (memory memory' : List ℕ) (size : ℕ) (slots : List ℕ) → All (IsSame memory memory') slots → NamesFit memory size slots → NamesFit memory' size slots
+names_fit-kept memory memory' size slots same fit = λ k d below.
+    subst (λ (area : Area). area.size ≤ size) (sym (named-same memory memory' _ (same k d below))) (fit k d below)
 
 pub work-kept : (memory memory' : List ℕ) (work : Option Work) → All (IsSame memory memory') (slot_of_work work) → work_areas memory' work ≡ work_areas memory work
 work-kept memory memory' None same = refl
@@ -160,6 +168,7 @@ pub record ReceiveKept (world : World) (memory' : List ℕ) (oldest : ℕ) : Typ
   pub named_areas : map (named memory') (done_slots memory' (receive_ring world) oldest) ≡ map (named world.memory) (finished oldest world)
   pub frames : map (frame_of memory') (done_slots memory' (receive_ring world) oldest) ≡ map (frame_of world.memory) (finished oldest world)
   pub whole : AreWhole world.memory (finished oldest world) → AreWhole memory' (done_slots memory' (receive_ring world) oldest)
+  pub fits : FitBuffers oldest world → FitBuffers oldest (record world { memory = memory' })
   pub areas_of_work : work_areas memory' world.adapter.receiver.work ≡ work_areas world.memory world.adapter.receiver.work
   pub frame_in_work : engine.in_work memory' world.adapter.receiver.work ≡ engine.in_work world.memory world.adapter.receiver.work
 
@@ -173,6 +182,7 @@ receive_kept_by_slots world memory' oldest area keeps dealt same named_apart wor
     let same_done = dealt-left memory ring oldest (in_work world) (IsSame memory memory') dealt same in
     let same_work = all-left (IsSame memory memory') (in_work world) (offered ring) right in
     let done : done_slots memory' ring oldest ≡ finished oldest world = done-same memory memory' ring oldest done_as in
+    let areas_of_work = work-kept memory memory' work same_work in
     record {
       same_offered = all-right (IsSame memory memory') (in_work world) (offered ring) right;
       dealt = dealt-same memory memory' ring oldest (in_work world) done_as dealt;
@@ -180,7 +190,11 @@ receive_kept_by_slots world memory' oldest area keeps dealt same named_apart wor
       named_areas = ap (map (named memory')) done ∙ named-kept memory memory' (finished oldest world) same_done;
       frames = ap (map (frame_of memory')) done ∙ frames-kept memory memory' area (finished oldest world) keeps same_done named_apart;
       whole = λ are. subst (λ (slots : List ℕ). AreWhole memory' slots) (sym done) (whole-kept memory memory' (finished oldest world) same_done are);
-      areas_of_work = work-kept memory memory' work same_work;
+      fits = λ fit. record {
+        finished_fit = subst (λ (slots : List ℕ). NamesFit memory' (buffer_size world) slots) (sym done) (names_fit-kept memory memory' (buffer_size world) (finished oldest world) same_done fit.finished_fit);
+        work_fits = subst (λ (places : List Area). All (λ place. place.size ≤ buffer_size world) places) (sym areas_of_work) fit.work_fits;
+      };
+      areas_of_work = areas_of_work;
       frame_in_work = work_frame-kept memory memory' area work keeps same_work work_apart;
     }
 

@@ -1,9 +1,9 @@
 -- A frame is moved from the receive packet buffer to memory.
-use Rattle.std.proofs.Common.{inr, ◌≡◌, inl, ◌++◌, ◌∷◌, [], Bool, true, cond, ℕ, List, Option, None, length, map, refl, sym, ap, subst, ◌∙◌, append_assoc, arith}
+use Rattle.std.proofs.Common.{inr, ◌≡◌, ◌≤◌, inl, ◌++◌, ◌∷◌, [], Bool, true, cond, ℕ, List, Option, None, length, map, refl, sym, ap, subst, ◌∙◌, append_assoc, arith}
 use Rattle.std.specs.List.{All}
 use Rattle.std.proofs.lemmas.Bool.{eq-eqb}
 use Rattle.std.proofs.lemmas.List.{append-nil}
-use Rattle.std.proofs.lemmas.List.Elements.{All-append}
+use Rattle.std.proofs.lemmas.List.Elements.{All-append, All-cons}
 use Rattle.dma_memory.specs.Areas.{AreApart, AreSeparate, Area, ChangesOnly, IsInside, descriptor_area}
 use Rattle.dma_memory.specs.AreaLaws.{apart-inside, apart-sym, changes_only_stored, inside-apart}
 use Rattle.registers.specs.Bits.{union}
@@ -36,14 +36,14 @@ use Rattle.adapter.specs.World.{receive_ring, transmit_ring, World}
 use Rattle.bus.proofs.Areas.{separate-same, separate-shorter}
 use Rattle.bus.proofs.Composing.{happens_none}
 use Rattle.bus.proofs.Engines.{added, steady_moves, still}
-use Rattle.bus.proofs.Kept.{IsSame, buffers-kept, frame_of, frames-kept, is_done-same, named-kept, same-outstanding, transmit_kept, whole-kept}
+use Rattle.bus.proofs.Kept.{IsSame, buffers-kept, frame_of, frames-kept, is_done-same, named-kept, names_fit-kept, NamesFit, same-outstanding, transmit_kept, whole-kept}
 use Rattle.bus.proofs.Lists.{all-head, all-left, all-right, all-tail, all-weaker, all-without, pairs-before}
 use Rattle.bus.proofs.Putting.{areas-same}
 use Rattle.bus.proofs.Quiet.{between_stopped}
 use Rattle.bus.proofs.Rings.{dealt-left, dealt-moved, dealt-right, dealt-same, done-same, offered-head, outstanding-inside}
 use Rattle.descriptors.specs.Frames.{IsLegal}
 use Rattle.bus.proofs.Lists.{all-none}
-use Rattle.bus.proofs.Running.{all-later, can_move, transmittable-kept}
+use Rattle.bus.proofs.Running.{can_move, later-fit, transmittable-kept}
 use Rattle.descriptors.specs.RingLaws.{next-below}
 use Rattle.descriptors.specs.Ring.{count_of}
 
@@ -123,6 +123,10 @@ between_moved o p a0 has can sound =
       more = [];
       done = done ∙ sym (append-nil (finished o a));
       told = inl refl;
+      fits = λ fit. record {
+        finished_fit = subst (λ (list : List ℕ). NamesFit memory' bsize list) (sym done) (names_fit-kept memory memory' bsize (finished o a) same_done fit.finished_fit);
+        work_fits = subst (λ (places : List Area). All (λ there. there.size ≤ bsize) places) (sym working) (All-cons (λ (there : Area). there.size ≤ bsize) area [] can.size (all-none (λ (there : Area). there.size ≤ bsize)));
+      };
       whole = λ are. subst (λ (list : List ℕ). AreWhole memory' list) (sym done) (whole-kept memory memory' (finished o a) same_done are);
       untouched = λ other foreign.
           let there = subst (λ (list : List Area). All (AreApart other) (map reported_half (offered ring) ++ (bytes ++ list))) buffers foreign in
@@ -134,14 +138,13 @@ between_moved o p a0 has can sound =
           let behind = all-without (AreApart other) bytes whole_buffer others (all-right (AreApart other) (map reported_half (offered ring)) (bytes ++ whole_buffer ∷ others) there) in
           let all = All-append (AreApart other) (map reported_half (head ∷ rest)) (bytes ++ others) halves behind in
           subst (λ (list : List Area). All (AreApart other) (map reported_half (head ∷ rest) ++ (bytes ++ list))) (sym left) all;
-      runs = λ run. record {
+      runs = λ short run. record {
         receiver_runs = run.receiver_runs;
         transmitter_runs = run.transmitter_runs;
         receive_indices = λ still_more. record { head = next-below (count_of ring) ring.head can.indices.head; tail = can.indices.tail };
         transmit_indices = run.transmit_indices;
         not_extended = run.not_extended;
-        size = run.size;
-        frames = all-later a.adapter.receiver.buffer run.frames;
+        frames = later-fit bsize a.adapter.receiver.buffer run.frames;
         transmittable = transmittable-kept memory memory' (offered (transmit_ring a)) size transmitting.same_offered run.transmittable;
       };
       sound = record {

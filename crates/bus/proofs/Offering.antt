@@ -10,13 +10,14 @@ use Rattle.descriptors.specs.declared.ring.Ring.{Ring}
 use Rattle.descriptors.specs.Ring.{IsSound, address_of, count_of, distance_of, next_of, owned}
 use Rattle.descriptors.specs.RingLaws.{distance-grows, length-owned, next-below, owned-tail}
 use Rattle.rx_engine.specs.Held.{held}
-use Rattle.adapter.specs.HostAreas.{areas, buffer_of, data_of, IsForeign, offered_buffers, receives, reported_half, ring_area, status_byte, work_areas}
+use Rattle.adapter.specs.HostAreas.{areas, buffer_of, buffer_size, data_of, IsForeign, offered_buffers, receives, reported_half, ring_area, status_byte, work_areas}
 use Rattle.adapter.specs.Slots.{buffered, done_slots, finished, in_work, is_done, IsDealt, offered, outstanding}
 use Rattle.adapter.specs.HostFrames.{named}
 use Rattle.adapter.specs.Conditions.{AreWhole, Reports}
 use Rattle.bus.specs.Offering.{FramesCanBeOffered, SlotsCanBeOffered, offering, offering_frame}
 use Rattle.adapter.specs.Running.{CanTransmit}
 use Rattle.adapter.specs.World.{receive_ring, transmit_ring, World}
+use Rattle.bus.proofs.Kept.{NamesFit}
 use Rattle.bus.proofs.Lists.{all-head, all-left, all-none, all-right, all-tail, all-unmapped, pairs-head, pairs-tail, take_while-passes, take_while-split}
 use Rattle.std.proofs.lemmas.List.Kept.{AllPairs-cons}
 use Rattle.dma_memory.specs.Areas.{AreApart, AreSeparate, Area, bytes_in}
@@ -167,6 +168,10 @@ slots_can_be_offered o p a sound can =
         finished_same = grown.done;
         written_same = refl;
         whole = subst (λ (slots : List ℕ). AreWhole a.memory slots) (sym grown.done);
+        fits = λ larger fit. record {
+          finished_fit = subst (λ (slots : List ℕ). NamesFit a.memory (buffer_size a) slots) (sym grown.done) fit.finished_fit;
+          work_fits = fit.work_fits;
+        };
       };
       runs = λ run. record {
         receiver_runs = run.receiver_runs;
@@ -174,7 +179,6 @@ slots_can_be_offered o p a sound can =
         receive_indices = λ some. record { head = can.head_slot; tail = next-below (count_of ring) ring.tail can.tail_slot };
         transmit_indices = run.transmit_indices;
         not_extended = run.not_extended;
-        size = run.size;
         frames = run.frames;
         transmittable = run.transmittable;
       };
@@ -255,6 +259,7 @@ frames_can_be_offered o p a sound can =
       finished_same = refl;
       written_same = grown.done;
       whole = λ are. are;
+      fits = λ fit. record { finished_fit = fit.finished_fit; work_fits = fit.work_fits };
       last = grown.outstanding_grown;
       runs = λ new run. record {
         receiver_runs = run.receiver_runs;
@@ -262,7 +267,6 @@ frames_can_be_offered o p a sound can =
         receive_indices = run.receive_indices;
         transmit_indices = λ some. record { head = can.head_slot; tail = next-below (count_of ring) ring.tail can.tail_slot };
         not_extended = run.not_extended;
-        size = run.size;
         frames = run.frames;
         transmittable =
             subst (λ (slots : List ℕ). All (CanTransmit a.memory) slots) (sym grown.offered_grown)

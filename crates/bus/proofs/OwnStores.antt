@@ -69,6 +69,7 @@ own_stores_leave_frames o p a address bytes sound lies own =
         finished_same = receiving.done;
         written_same = transmitting.done;
         whole = receiving.whole;
+        fits = λ larger fit. receiving.fits fit;
       };
       runs = λ can. record {
         receiver_runs = can.receiver_runs;
@@ -76,7 +77,6 @@ own_stores_leave_frames o p a address bytes sound lies own =
         receive_indices = can.receive_indices;
         transmit_indices = can.transmit_indices;
         not_extended = can.not_extended;
-        size = can.size;
         frames = can.frames;
         transmittable = transmittable-kept memory memory' (offered (transmit_ring a)) size transmitting.same_offered can.transmittable;
       };

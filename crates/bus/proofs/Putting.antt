@@ -137,19 +137,19 @@ between_put o p queued later a0 sound =
       more = [];
       done = receiving.done ∙ sym (append-nil (finished o a));
       told = inl refl;
+      fits = λ fit. let kept = receiving.fits fit in record { finished_fit = kept.finished_fit; work_fits = kept.work_fits };
       whole = receiving.whole;
       untouched = λ other foreign.
           let reports = all-left (AreApart other) (status_byte d ∷ bytes) (offered_buffers a) (all-right (AreApart other) halves ((status_byte d ∷ bytes) ++ offered_buffers a) foreign) in
           keeps.others other (apart-sym other area (all-head (AreApart other) area bytes reports));
       foreign = λ other foreign.
           subst (λ (there : List Area). All (AreApart other) (halves ++ (bytes ++ there))) (sym buffers) (all-without (AreApart other) halves area (bytes ++ offered_buffers a) foreign);
-      runs = λ can. record {
+      runs = λ short can. record {
         receiver_runs = can.receiver_runs;
         transmitter_runs = can.transmitter_runs;
         receive_indices = can.receive_indices;
         transmit_indices = can.transmit_indices;
         not_extended = can.not_extended;
-        size = can.size;
         frames = can.frames;
         transmittable = transmittable-kept memory memory' offers size same_offers can.transmittable;
       };

@@ -1,7 +1,7 @@
 -- Steps that leave memory, rings and slots: ticks, arrivals, and faults.
 use Rattle.std.specs.Fn.{iterate}
 use Rattle.std.specs.List.{All}
-use Rattle.std.proofs.Common.{◌≡◌, ◌≤◌, ◌++◌, ◌∷◌, [], inl, Bool, true, false, ℕ, List, Option, Some, None, length, map, refl, sym, ap, ◌∙◌, append_assoc, arith}
+use Rattle.std.proofs.Common.{◌≡◌, ◌≤◌, ◌++◌, [], inl, Bool, true, false, ℕ, List, Option, Some, None, length, map, refl, sym, ap, subst, ◌∙◌, append_assoc, arith}
 use Rattle.std.proofs.lemmas.List.{append-nil}
 use Rattle.std.proofs.Common.{cond}
 use Rattle.eeprom.specs.Eerd as eeprom
@@ -23,6 +23,7 @@ use Rattle.adapter.specs.Steps.{after_phy_told, causes_told}
 use Rattle.adapter.specs.declared.step.StepKind.TheVariants.{EepromTick, PhyTick}
 use Rattle.adapter.specs.declared.step.Stepped.{Stepped}
 use Rattle.adapter.specs.Slots.{finished, written_back}
+use Rattle.adapter.specs.HostAreas.{buffer_size}
 use Rattle.adapter.specs.HostFrames.{frames_to_send, named}
 use Rattle.adapter.specs.Conditions.{Sound}
 use Rattle.bus.specs.Law.{Between, Happens, Management, Steady, management_of, phy_ticked}
@@ -76,16 +77,15 @@ unchanged adapter = record {
   transmitter_stopped = adapter.transmitter.stopped;
 }
 
--- engines with this packet buffer, stopped or not, go on
-pub record GoOn (buffer : List (List ℕ)) (receiver_stopped transmitter_stopped : Bool) : Type 0 where
+-- engines that are stopped, or not, go on
+pub record GoOn (receiver_stopped transmitter_stopped : Bool) : Type 0 where
   pub receiver_runs : receiver_stopped ≡ false
   pub transmitter_runs : transmitter_stopped ≡ false
-  pub frames : All IsLegal buffer
 
-pub going : (a : World) → CanRun a → GoOn a.adapter.receiver.buffer a.adapter.receiver.stopped a.adapter.transmitter.stopped
-going a can = record { receiver_runs = can.receiver_runs; transmitter_runs = can.transmitter_runs; frames = can.frames }
+pub going : (a : World) → CanRun a → GoOn a.adapter.receiver.stopped a.adapter.transmitter.stopped
+going a can = record { receiver_runs = can.receiver_runs; transmitter_runs = can.transmitter_runs }
 
-pub between_quiet : (o p : ℕ) (a : World) (c : Changes) (past : Past) → past.put ≡ [] → c.buffer ≡ a.adapter.receiver.buffer ++ past.stored → (CanRun a → GoOn c.buffer c.receiver_stopped c.transmitter_stopped) → Sound o p a → Between o p a (record a { adapter = changed c a.adapter }) past
+pub between_quiet : (o p : ℕ) (a : World) (c : Changes) (past : Past) → past.put ≡ [] → c.buffer ≡ a.adapter.receiver.buffer ++ past.stored → (CanRun a → GoOn c.receiver_stopped c.transmitter_stopped) → Sound o p a → Between o p a (record a { adapter = changed c a.adapter }) past
 between_quiet o p a c past no_put stored goes sound =
     let frames = map (λ (descriptor : ℕ). bytes_in a.memory (named a.memory descriptor)) (finished o a) in
     let work = in_work a.memory a.adapter.receiver.work in
@@ -102,19 +102,20 @@ between_quiet o p a c past no_put stored goes sound =
       more = [];
       done = sym (append-nil (finished o a));
       told = inl refl;
+      fits = λ fit. record { finished_fit = fit.finished_fit; work_fits = fit.work_fits };
       whole = λ are. are;
       untouched = λ area apart. refl;
       foreign = λ area apart. apart;
-      runs = λ can.
+      runs = λ short can.
           let on = goes can in
+          let Short : List ℕ → Type 0 = λ frame. length frame ≤ buffer_size a in
           record {
             receiver_runs = on.receiver_runs;
             transmitter_runs = on.transmitter_runs;
             receive_indices = can.receive_indices;
             transmit_indices = can.transmit_indices;
             not_extended = can.not_extended;
-            size = can.size;
-            frames = on.frames;
+            frames = subst (λ (buffer : List (List ℕ)). All Short buffer) (sym stored) (All-append Short a.adapter.receiver.buffer past.stored can.frames short);
             transmittable = can.transmittable;
           };
       sound = record {
@@ -230,10 +231,5 @@ arrival_happens a Stored frame running is = record {
         buffer = (world_after_arrival Stored frame a).adapter.receiver.buffer;
       })
       (past_of_arrival Stored frame) refl refl
-      (λ can. record {
-        receiver_runs = can.receiver_runs;
-        transmitter_runs = can.transmitter_runs;
-        frames = All-append IsLegal a.adapter.receiver.buffer (frame ∷ []) can.frames (All-cons IsLegal frame [] is.0.legal (all-none IsLegal));
-      })
-      sound;
+      (going a) sound;
 }

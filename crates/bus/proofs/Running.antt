@@ -6,7 +6,6 @@ use Rattle.dma_memory.specs.Areas.{Area, IsInside, descriptor_area}
 use Rattle.dma_memory.specs.AreaLaws.{lies-inside}
 use Rattle.dma_memory.specs.HostMemory.{LiesIn}
 use Rattle.descriptors.specs.declared.tx_desc.TxDesc.{TxDesc}
-use Rattle.descriptors.specs.Frames.{IsLegal}
 use Rattle.descriptors.specs.Ring.{address_of}
 use Rattle.descriptors.specs.TxDesc.{tx_desc_of}
 use Rattle.rx_engine.specs.Receiver.{oldest}
@@ -19,7 +18,8 @@ use Rattle.adapter.specs.declared.step.StepKind.TheVariants.{TxTake, TxPut, RxDa
 use Rattle.adapter.specs.declared.step.Stepped.{Stepped}
 use Rattle.adapter.specs.declared.step.Stepped.TheVariants.{Fault}
 use Rattle.bus.specs.Faults.{FaultsNeverCome}
-use Rattle.adapter.specs.HostAreas.{buffer_of, receives, ring_area}
+use Rattle.adapter.specs.HostAreas.{buffer_of, buffer_size, receives, ring_area}
+use Rattle.adapter.specs.HostFrames.{AreWithin}
 use Rattle.adapter.specs.Slots.{buffered, in_work, offered}
 use Rattle.adapter.specs.Conditions.{Sound}
 use Rattle.adapter.specs.Running.{CanRun, CanTransmit}
@@ -55,10 +55,10 @@ can_take o p a sound can not_idle =
       transmittable = all-head (CanTransmit a.memory) head _ (subst (λ (list : List ℕ). All (CanTransmit a.memory) list) first can.transmittable);
     }
 
--- The oldest of legal frames has at most 1,518 bytes.
-oldest-fits : (buffer : List (List ℕ)) → All IsLegal buffer → length (oldest buffer) ≤ 1518
-oldest-fits [] legal = omega arith
-oldest-fits (frame ∷ later) legal = (all-head IsLegal frame later legal).most
+-- The oldest of frames within a size has at most as many bytes.
+oldest-fits : (size : ℕ) (buffer : List (List ℕ)) → AreWithin size buffer → length (oldest buffer) ≤ size
+oldest-fits size [] short = omega arith
+oldest-fits size (frame ∷ later) short = all-head (λ (f : List ℕ). length f ≤ size) frame later short
 
 -- What a data step finds.
 pub can_move : (o p : ℕ) (a : World) → Sound o p a → CanRun a → HasFrameAndDescriptor a.adapter → CanMoveFrame a.memory a.adapter
@@ -77,13 +77,13 @@ can_move o p a sound can has =
     let enabled : receives a ≡ true = eq-eqb _ _ has.enabled in
     let on : All (Lies a.memory) (map (buffer_of a) (offered ring)) = subst (λ (set : Bool). All (Lies a.memory) (cond set (map (buffer_of a) (offered ring)) [])) enabled lie.buffers in
     let place : LiesIn a.memory buffer.address buffer.size = all-head (Lies a.memory) buffer _ (subst (λ (list : List ℕ). All (Lies a.memory) (map (buffer_of a) list)) first on) in
-    let least = oldest-fits a.adapter.receiver.buffer can.frames in
+    let short = oldest-fits (buffer_size a) a.adapter.receiver.buffer can.frames in
     record {
       indices = in_ring;
       descriptor = lies-inside a.memory (descriptor_area head) r inside lie.received;
-      place = omega (arith, place, least, can.size);
+      place = omega (arith, place, short);
       not_extended = can.not_extended;
-      size = omega (arith, least, can.size);
+      size = short;
     }
 
 -- A tick is no fault.
@@ -113,6 +113,6 @@ transmittable-kept memory memory' slots size same can = λ k d below.
     subst (λ (desc : TxDesc). IsTransmittable memory' desc) (sym (ap tx_desc_of (same k d below))) there
 
 -- Frames without the oldest.
-pub all-later : (buffer : List (List ℕ)) → All IsLegal buffer → All IsLegal (drop 1 buffer)
-all-later [] legal = all-none IsLegal
-all-later (frame ∷ later) legal = all-tail IsLegal frame later legal
+pub later-fit : (size : ℕ) (buffer : List (List ℕ)) → AreWithin size buffer → AreWithin size (drop 1 buffer)
+later-fit size [] short = all-none (λ (f : List ℕ). length f ≤ size)
+later-fit size (frame ∷ later) short = all-tail (λ (f : List ℕ). length f ≤ size) frame later short

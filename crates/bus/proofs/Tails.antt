@@ -19,7 +19,7 @@ use Rattle.adapter.specs.Slots.{buffered, in_work, outstanding}
 use Rattle.adapter.specs.HostAreas.{IsForeign, ring_area}
 use Rattle.adapter.specs.Conditions.{Sound}
 use Rattle.bus.specs.OwnStores.{IsOwn}
-use Rattle.bus.specs.Refilling.{KnowsRing}
+use Rattle.adapter.specs.KnownRing.{KnowsRing}
 use Rattle.adapter.specs.World.{receive_ring, transmit_ring, World, world_after_write}
 use Rattle.bus.proofs.Carrying.{head-slot}
 use Rattle.bus.proofs.Own.{byte-apart, foreign-in_ring, foreign-in_transmit, half-apart, parts-of}

@@ -72,17 +72,17 @@ between_padded o p a in_ring differ sound =
       more = [];
       done = sym (append-nil (finished o a));
       told = inl refl;
+      fits = λ fit. record { finished_fit = fit.finished_fit; work_fits = fit.work_fits };
       whole = λ are. are;
       untouched = λ area apart. refl;
       foreign = λ area apart.
           subst (λ (slots : List ℕ). All (AreApart area) (map reported_half (in_work a ++ offered (receive_ring a)) ++ (map status_byte slots ++ offered_buffers a))) (sym same) apart;
-      runs = λ can. record {
+      runs = λ short can. record {
         receiver_runs = can.receiver_runs;
         transmitter_runs = can.transmitter_runs;
         receive_indices = can.receive_indices;
         transmit_indices = λ still_more. record { head = next-below (count_of ring) ring.head in_ring.head; tail = in_ring.tail };
         not_extended = can.not_extended;
-        size = can.size;
         frames = can.frames;
         transmittable = all-tail (CanTransmit a.memory) head rest (subst (λ (slots : List ℕ). All (CanTransmit a.memory) slots) first can.transmittable);
       };

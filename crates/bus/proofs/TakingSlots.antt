@@ -1,5 +1,5 @@
 -- A driver counts the slot behind its oldest as its oldest.
-use Rattle.std.proofs.Common.{◌≡◌, ◌≢◌, ◌<◌, ◌+◌, ◌-◌, ◌%◌, inl, inr, ⊎_elim, ◌++◌, ◌∷◌, [], true, ℕ, zero, suc, List, length, map, refl, sym, ap, subst, ◌∙◌, arith}
+use Rattle.std.proofs.Common.{◌≡◌, ◌≢◌, ◌≤◌, ◌<◌, ◌+◌, ◌-◌, ◌%◌, inl, inr, ⊎_elim, ◌++◌, ◌∷◌, [], true, ℕ, zero, suc, List, length, map, refl, sym, ap, subst, ◌∙◌, arith}
 use Rattle.std.specs.List.{All, AllPairs, take_while}
 use Rattle.std.proofs.lemmas.Bool.{cases_eq}
 use Rattle.std.proofs.lemmas.List.Sums.{take_while-cons}
@@ -12,7 +12,7 @@ use Rattle.descriptors.specs.RingLaws.{next-below, next-inner, next-last}
 use Rattle.rx_engine.specs.Descriptors.{descriptor_at}
 use Rattle.rx_engine.specs.Held.{held}
 use Rattle.adapter.specs.Slots.{buffered, done_slots, in_work, is_done, IsDealt, offered, outstanding}
-use Rattle.adapter.specs.HostAreas.{data_of, IsForeign, offered_buffers, ring_area, work_areas}
+use Rattle.adapter.specs.HostAreas.{buffer_size, data_of, IsForeign, offered_buffers, ring_area, work_areas}
 use Rattle.adapter.specs.HostFrames.{named}
 use Rattle.adapter.specs.Conditions.{IsWhole}
 use Rattle.bus.specs.Own.{IsOwnSlot, frame_named}
@@ -164,6 +164,10 @@ finished_slots_can_be_taken o p a slot later sound done =
       foreign =
           all-head (λ d. IsForeign a (named a.memory d)) slot later
           (subst (λ (slots : List ℕ). All (λ d. IsForeign a (named a.memory d)) slots) done (foreign-named o p a sound));
+      fits = λ fit.
+          let Fits : ℕ → Type 0 = λ d. (named a.memory d).size ≤ buffer_size a in
+          let each = subst (λ (slots : List ℕ). All Fits slots) done fit.finished_fit in
+          record { finished_fit = subst (λ (slots : List ℕ). All Fits slots) (sym ahead.behind) (all-tail Fits slot later each); work_fits = fit.work_fits };
       whole = λ are.
           let each = subst (λ (slots : List ℕ). All (λ d. IsWhole (descriptor_at a.memory d)) slots) done are in
           (all-head (λ d. IsWhole (descriptor_at a.memory d)) slot later each, all-tail (λ d. IsWhole (descriptor_at a.memory d)) slot later each);

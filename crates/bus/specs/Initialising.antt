@@ -1,6 +1,6 @@
 -- What a driver does while the conditions of the law hold, besides offering slots one by one and storing to memory of its own: it writes and reads
 -- registers, as in initialisation behind the first slot offered (own).
-use Rattle.std.specs.Prelude.{⊤, ◌≡◌, ◌≤◌, ◌<◌, ◌+◌, ◌%◌, ◌++◌, ℕ, zero, suc, [], false, All, None, map}
+use Rattle.std.specs.Prelude.{⊤, ◌≡◌, ◌<◌, ◌+◌, ◌%◌, ◌++◌, ℕ, zero, suc, [], false, All, None, map}
 use Rattle.dma_memory.specs.Areas.{AreSeparate}
 use Rattle.registers.specs.Bits.{HasBit}
 use Rattle.descriptors.specs.Ring.{address_of, count_of, slots_from}
@@ -11,8 +11,8 @@ use Rattle.adapter.specs.declared.register.Register.TheVariants.{Rctl, Receive, 
 use Rattle.adapter.specs.declared.ring.RingRegisters.{RingRegisters}
 use Rattle.adapter.specs.HostAreas.{areas, buffer_size}
 use Rattle.adapter.specs.Slots.{finished, offered, outstanding}
-use Rattle.adapter.specs.HostFrames.{frames_held, frames_to_send}
-use Rattle.adapter.specs.Conditions.{Sound}
+use Rattle.adapter.specs.HostFrames.{AreWithin, frames_held, frames_to_send}
+use Rattle.adapter.specs.Conditions.{FitBuffers, Sound}
 use Rattle.bus.specs.Law.{Happens}
 use Rattle.bus.specs.Offering.{CanOffer, offering}
 use Rattle.bus.specs.OwnStores.{LeavesFrames, SameFrames}
@@ -51,10 +51,11 @@ ManySlotsCanBeOffered =
 abbrev pub with_receive_control : ℕ → World → World
 with_receive_control control world = record world { adapter = record world.adapter { filter = record world.adapter.filter { rctl = control } } }
 
--- The conditions hold, and frames are the same; where BSEX is 0 and BSIZE names room for every legal frame, engines that could run still can.
+-- The conditions hold, and frames are the same; where BSEX is 0 and BSIZE names room for each frame in the receive packet buffer, engines that
+-- could run still can.
 pub record ReceiverSet (oldest_received oldest_sent : ℕ) (a b : World) : Type 0 where
   pub same : SameFrames oldest_received oldest_sent a b
-  pub runs : ¬ (HasBit b.adapter.filter.rctl 25) → 1518 ≤ buffer_size b → GoOn a b
+  pub runs : ¬ (HasBit b.adapter.filter.rctl 25) → AreWithin (buffer_size b) b.adapter.receiver.buffer → GoOn a b
 
 -- RCTL may be written where the rings, the frames and the buffers that then count are apart, in memory.
 abbrev pub ReceiverCanBeSet : Type 0
@@ -87,6 +88,7 @@ pub record TransmitRingSet (oldest_received : ℕ) (a b : World) : Type 0 where
   pub none_to_send : frames_to_send b ≡ []
   pub held : frames_held oldest_received b ≡ frames_held oldest_received a
   pub finished_same : finished oldest_received b ≡ finished oldest_received a
+  pub fits : FitBuffers oldest_received a → FitBuffers oldest_received b
   pub runs : GoOn a b
 
 -- While no frame is in the transmit packet buffer the transmit ring may be set up, with TDH equal to TDT, where it is apart from all else.

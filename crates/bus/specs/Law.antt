@@ -9,13 +9,13 @@ use Rattle.registers.specs.Bits.{HasBit}
 use Rattle.registers.specs.Counting.{greatest_count}
 use Rattle.descriptors.specs.Frames.{IsLegal}
 use Rattle.descriptors.specs.Ring.{IsSound}
-use Rattle.adapter.specs.Conditions.{AreWhole, Sound}
-use Rattle.adapter.specs.HostAreas.{IsForeign}
-use Rattle.adapter.specs.HostFrames.{frames_held, frames_to_send}
+use Rattle.adapter.specs.Conditions.{AreWhole, FitBuffers, Sound}
+use Rattle.adapter.specs.HostAreas.{IsForeign, buffer_size}
+use Rattle.adapter.specs.HostFrames.{AreWithin, frames_held, frames_to_send}
 use Rattle.adapter.specs.Rings.{ring_of}
 use Rattle.adapter.specs.Running.{CanRun}
 use Rattle.adapter.specs.Slots.{finished, written_back}
-use Rattle.adapter.specs.State.{AdapterState}
+use Rattle.adapter.specs.State.{AdapterState, IsAdapter}
 use Rattle.adapter.specs.World.{World}
 use Rattle.bus.specs.Past.{Access, Past}
 
@@ -75,13 +75,15 @@ pub record Between (oldest_received oldest_sent : ℕ) (a b : World) (past : Pas
   pub more : List ℕ
   pub done : finished oldest_received b ≡ finished oldest_received a ++ more
   pub told : (more ≡ []) ⊎ HasBit b.adapter.causes.recorded 7
+  -- Frames that fit into their buffers still do, and new ones do.
+  pub fits : FitBuffers oldest_received a → FitBuffers oldest_received b
   -- Finished slots that are whole stay whole, and new ones are.
   pub whole : AreWhole a.memory (finished oldest_received a) → AreWhole b.memory (finished oldest_received b)
   -- What isn't the adapter's stays as it is, and stays not the adapter's.
   pub untouched : (area : Area) → IsForeign a area → bytes_in b.memory area ≡ bytes_in a.memory area
   pub foreign : (area : Area) → IsForeign a area → IsForeign b area
-  -- Engines that can run can run further: no fault stops them.
-  pub runs : CanRun a → CanRun b
+  -- Where the frames stored fit into a buffer, engines that can run can run further: no fault stops them.
+  pub runs : AreWithin (buffer_size a) past.stored → CanRun a → CanRun b
   pub sound : Sound oldest_received oldest_sent b
 
 -- Any adapter steps and deliveries, whichever slots the driver counts as its oldest.
@@ -104,4 +106,5 @@ pub record Acts {B : Type 0} (world : B → World) (happened : B → B → Past 
   pub told : happened old new past
   pub ticks : lively old → HasTicks past
   pub before : Happens (world old) middle past
+  pub adapter : IsAdapter middle.adapter
   pub effect_is : effect middle (world new)

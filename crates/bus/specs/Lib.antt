@@ -10,13 +10,10 @@ pub mod Solo
 pub mod SoloView
 pub mod SoloLaws
 pub mod Own
-pub mod FirstFrame
 pub mod OwnStores
 pub mod Offering
 pub mod TakingSlots
 pub mod Spare
-pub mod Refilling
-pub mod Sending
 pub mod Idle
 pub mod SoundBuses
 pub mod Initialising

@@ -8,7 +8,7 @@ use Rattle.tx_engine.specs.Fetching.{fetched, frame_at}
 use Rattle.adapter.specs.HostAreas.{areas, buffer_of, data_of, IsForeign, reported_half, status_byte}
 use Rattle.adapter.specs.Slots.{finished, is_done, outstanding, written_back}
 use Rattle.adapter.specs.HostFrames.{frames_held, frames_to_send}
-use Rattle.adapter.specs.Conditions.{AreWhole, Reports, Sound}
+use Rattle.adapter.specs.Conditions.{AreWhole, FitBuffers, Reports, Sound}
 use Rattle.bus.specs.OwnStores.{SameFrames}
 use Rattle.adapter.specs.Running.{CanTransmit, GoOn}
 use Rattle.adapter.specs.World.{receive_ring, transmit_ring, World}
@@ -83,6 +83,7 @@ pub record OfferedFrame (oldest_received oldest_sent : ℕ) (a b : World) : Type
   pub finished_same : finished oldest_received b ≡ finished oldest_received a
   pub written_same : written_back oldest_sent b ≡ written_back oldest_sent a
   pub whole : AreWhole a.memory (finished oldest_received a) → AreWhole b.memory (finished oldest_received b)
+  pub fits : FitBuffers oldest_received a → FitBuffers oldest_received b
   pub last : outstanding (transmit_ring b) oldest_sent ≡ outstanding (transmit_ring a) oldest_sent ++ address_of (transmit_ring a) a.adapter.transmit_ring.tail ∷ []
   pub runs : CanTransmit a.memory (address_of (transmit_ring a) a.adapter.transmit_ring.tail) → GoOn a b
   pub foreign : (area : Area) → IsForeign a area → AreApart area (status_byte (address_of (transmit_ring a) a.adapter.transmit_ring.tail)) → IsForeign b area

@@ -1,11 +1,11 @@
 -- A driver's store to memory of its own leaves what the law speaks of.
-use Rattle.std.specs.Prelude.{◌≡◌, ℕ, List, All, length}
+use Rattle.std.specs.Prelude.{◌≡◌, ◌≤◌, ℕ, List, All, length}
 use Rattle.dma_memory.specs.Areas.{AreApart, Area, descriptor_area}
 use Rattle.dma_memory.specs.HostMemory.{LiesIn}
 use Rattle.adapter.specs.Slots.{finished, outstanding, written_back}
-use Rattle.adapter.specs.HostAreas.{frame_areas, IsForeign}
+use Rattle.adapter.specs.HostAreas.{buffer_size, frame_areas, IsForeign}
 use Rattle.adapter.specs.HostFrames.{frames_held, frames_to_send}
-use Rattle.adapter.specs.Conditions.{AreWhole, Sound}
+use Rattle.adapter.specs.Conditions.{AreWhole, FitBuffers, Sound}
 use Rattle.adapter.specs.Running.{GoOn}
 use Rattle.adapter.specs.World.{receive_ring, transmit_ring, World, world_after_store}
 
@@ -23,6 +23,8 @@ pub record SameFrames (oldest_received oldest_sent : ℕ) (a b : World) : Type 0
   pub finished_same : finished oldest_received b ≡ finished oldest_received a
   pub written_same : written_back oldest_sent b ≡ written_back oldest_sent a
   pub whole : AreWhole a.memory (finished oldest_received a) → AreWhole b.memory (finished oldest_received b)
+  -- and frames that fit into their buffers still do, where these are no smaller
+  pub fits : buffer_size a ≤ buffer_size b → FitBuffers oldest_received a → FitBuffers oldest_received b
 
 -- And engines that could run still can.
 pub record LeavesFrames (oldest_received oldest_sent : ℕ) (a b : World) : Type 0 where

@@ -1,18 +1,12 @@
 -- Memory that no outstanding slot uses (own).
-use Rattle.std.specs.Prelude.{◌≤◌, ℕ, All, length}
+use Rattle.std.specs.Prelude.{ℕ, All}
 use Rattle.dma_memory.specs.Areas.{AreApart, Area}
-use Rattle.adapter.specs.HostAreas.{areas, buffer_of, buffer_size, data_of, IsForeign, ring_area}
-use Rattle.adapter.specs.HostFrames.{frames_held}
-use Rattle.adapter.specs.Conditions.{Sound}
+use Rattle.adapter.specs.HostAreas.{areas, buffer_of, data_of, IsForeign, ring_area}
+use Rattle.adapter.specs.Conditions.{FitBuffers, Sound}
 use Rattle.bus.specs.Law.{Happens}
 use Rattle.bus.specs.Past.{Past}
 use Rattle.adapter.specs.Slots.{outstanding}
 use Rattle.adapter.specs.World.{receive_ring, transmit_ring, World}
-
--- The frames held have 1,518 bytes at most, and each receive buffer has room for as many.
-pub record FramesFit (oldest : ℕ) (world : World) : Type 0 where
-  pub room : 1518 ≤ buffer_size world
-  pub short : All (λ frame. length frame ≤ 1518) (frames_held oldest world)
 
 -- An area is apart from both rings, and from the buffers and the data that outstanding slots name.
 pub record IsSpare (oldest_received oldest_sent : ℕ) (world : World) (area : Area) : Type 0 where
@@ -23,14 +17,14 @@ pub record IsSpare (oldest_received oldest_sent : ℕ) (world : World) (area : A
 
 -- Then it is apart from all that the conditions of the law name, and not the adapter's to write.
 pub record StaysApart (oldest_received oldest_sent : ℕ) (world : World) (area : Area) : Type 0 where
-  pub fit : FramesFit oldest_received world
+  pub fit : FitBuffers oldest_received world
   pub spare : IsSpare oldest_received oldest_sent world area
   pub apart : All (λ other. AreApart other area) (areas oldest_received world)
   pub foreign : IsForeign world area
 
--- It stays so, whatever happens between two accesses, while the frames held fit; and these still fit.
+-- It stays so, whatever happens between two accesses, where frames fit into their buffers; and these still fit.
 abbrev pub AreasStayApart : Type 0
 AreasStayApart =
     (oldest_received oldest_sent : ℕ) (a b : World) (past : Past) (area : Area)
-    → Sound oldest_received oldest_sent a → FramesFit oldest_received a → IsSpare oldest_received oldest_sent a area → Happens a b past
+    → Sound oldest_received oldest_sent a → FitBuffers oldest_received a → IsSpare oldest_received oldest_sent a area → Happens a b past
     → StaysApart oldest_received oldest_sent b area

@@ -5,7 +5,7 @@ use Rattle.rx_engine.specs.Descriptors.{descriptor_at}
 use Rattle.adapter.specs.Slots.{finished, outstanding, written_back}
 use Rattle.adapter.specs.HostFrames.{frames_held, named}
 use Rattle.adapter.specs.HostAreas.{IsForeign}
-use Rattle.adapter.specs.Conditions.{AreWhole, IsWhole, Sound}
+use Rattle.adapter.specs.Conditions.{AreWhole, FitBuffers, IsWhole, Sound}
 use Rattle.bus.specs.Own.{IsOwnSlot, frame_named}
 use Rattle.adapter.specs.World.{receive_ring, transmit_ring, World}
 
@@ -25,6 +25,7 @@ pub record Taken (oldest_received oldest_sent : ℕ) (world : World) (slot : ℕ
   pub first : outstanding (receive_ring world) oldest_received ≡ slot ∷ outstanding (receive_ring world) (next_received oldest_received world)
   pub own : IsOwnSlot (receive_ring world) (next_received oldest_received world) oldest_received
   pub foreign : IsForeign world (named world.memory slot)
+  pub fits : FitBuffers oldest_received world → FitBuffers (next_received oldest_received world) world
   pub whole : AreWhole world.memory (finished oldest_received world) → IsWhole (descriptor_at world.memory slot) × AreWhole world.memory later
 
 abbrev pub FinishedSlotsCanBeTaken : Type 0

@@ -58,7 +58,8 @@ pub fn drivers_keep_their_own()
 /// A driver's store to memory of its own, apart from all outstanding descriptors and from the frames and
 /// buffers that the conditions of the law name.
 /// - `frames`: it leaves these conditions, the slots, and the frames held and to be sent; finished slots
-///   that are whole stay whole, and engines that could run still can.
+///   that are whole stay whole, frames that fit into their buffers still do, and engines that could run
+///   still can.
 /// - `foreign`: what isn't the adapter's stays not the adapter's.
 pub fn own_stores_leave_frames()
     ensures frames { OwnStoresLeaveFrames }
@@ -97,8 +98,8 @@ pub fn written_slots_can_be_freed()
 
 /// Memory that no outstanding slot uses, apart from both rings and from all buffers and data that
 /// outstanding slots name, stays so whatever happens, is apart from all that the conditions of the law
-/// name, and isn't the adapter's to write, while the frames held are no longer than 1,518 bytes and
-/// receive buffers have room for them; and frames held stay so.
+/// name, and isn't the adapter's to write, where finished frames and the one in work fit into a receive
+/// buffer; and these still fit.
 pub fn areas_stay_apart()
     ensures { AreasStayApart }
 {}
@@ -124,10 +125,6 @@ pub fn idle_rings_stay_idle()
     ensures writes { WritesKeepIdle }
 {}
 
-/// The conditions of the law can be met, and both engines run: in a world whose rings are both set up and
-/// whose receive ring offers slots; in one with a frame in work, in one with a finished slot, in one with a
-/// written-back slot, in one with frames to be sent in the transmit ring, and in one with frames in the
-/// transmit packet buffer.
 /// A driver may offer many receive slots by one write of RDT, where each could be offered behind the one
 /// before it.
 pub fn many_slots_can_be_offered()
@@ -157,9 +154,10 @@ pub fn rings_wait()
     ensures transmit_ring { TransmitStaysIdle }
 {}
 
-/// The conditions of the law can be met: of a world whose rings are both set up and whose receive ring
-/// offers slots; of one with a frame in work, of one with a finished slot, of one with frames to be
-/// sent in the transmit ring, and of one with frames in the transmit packet buffer.
+/// The conditions of the law can be met, with frames that fit into their buffers and both engines
+/// running: in a world whose rings are both set up and whose receive ring offers slots; in one with a
+/// frame in work, in one with a finished slot, in one with a written-back slot, in one with frames to be
+/// sent in the transmit ring, and in one with frames in the transmit packet buffer.
 pub fn conditions_can_be_met()
     ensures rings { SomeSound HasRings }
     ensures work { SomeSound HasWork }

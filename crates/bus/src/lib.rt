@@ -21,18 +21,6 @@ pub use law::{
 pub use solo::{MOST_TICKS, SoloBus, SoloTick, WIRE_FRAMES};
 
 #[cfg(test)]
-mod driver_tests;
-#[cfg(test)]
-mod looking;
-#[cfg(test)]
-mod premises;
-#[cfg(test)]
-mod refilling;
-#[cfg(test)]
-mod ring_slots;
-#[cfg(test)]
-mod sending;
-#[cfg(test)]
 mod sound_bus_tests;
 #[cfg(test)]
 mod tests;

@@ -231,6 +231,7 @@ impl SoloBus {
     pub(crate) fn read_now(&mut self, offset: u32) -> u32
         ensures answer { result ≡ answer_at offset self.old.world.adapter }
         ensures state { self.new ≡ record self.old { world = world_after_read offset self.old.world } }
+        ensures adapter { IsAdapter self.old.world.adapter }
     {
         self.adapter.read(offset)
     }
@@ -238,6 +239,7 @@ impl SoloBus {
     /// Writes a register, with nothing before it.
     pub(crate) fn write_now(&mut self, offset: u32, value: u32)
         ensures state { self.new ≡ record self.old { world = world_after_write offset value self.old.world } }
+        ensures adapter { IsAdapter self.old.world.adapter }
     {
         self.adapter.write(offset, value);
     }
@@ -246,7 +248,10 @@ impl SoloBus {
     pub(crate) fn load_now(&self, address: u64, into: &mut [u8])
         requires lies { LiesIn self.now.world.memory address (length into.old) }
         ensures loaded { into.new ≡ bytes_at self.now.world.memory address (length into.old) }
+        ensures adapter { IsAdapter self.now.world.adapter }
     {
+        // A call of the adapter, so that the clause `adapter` may say what holds of every one.
+        let _line = self.adapter.line();
         let _ = self.memory.load(address, into);
     }
 
@@ -254,7 +259,10 @@ impl SoloBus {
     pub(crate) fn store_now(&mut self, address: u64, bytes: &[u8])
         requires lies { LiesIn self.old.world.memory address (length bytes.now) }
         ensures state { self.new ≡ record self.old { world = world_after_store address bytes.now self.old.world } }
+        ensures adapter { IsAdapter self.old.world.adapter }
     {
+        // A call of the adapter, so that the clause `adapter` may say what holds of every one.
+        let _line = self.adapter.line();
         let _ = self.memory.store(address, bytes);
     }
 

@@ -1,6 +1,5 @@
 //! Worked examples over a solo bus.
 
-use crate::looking::look;
 use crate::{
     Bus, HonestBus, MOST_TICKS, SoloBus, SoloTick, any_steps_may_happen, areas_stay_apart,
     between_composes, conditions_can_be_met, drivers_keep_their_own, faults_never_come,
@@ -24,19 +23,19 @@ const RECEIVE: u32 = 0x0000_8002;
 const TRANSMIT: u32 = 0x0000_000A;
 
 /// A frame that every receiver with BAM accepts.
-pub(crate) const BROADCAST: [u8; 60] = [0xFF; 60];
+const BROADCAST: [u8; 60] = [0xFF; 60];
 
 /// The bytes of the memory: a receive ring of 8 at 0, a transmit ring of 8 at 0x80, and buffers.
 const MEMORY_BYTES: u64 = 0x5000;
 
-pub(crate) const TRANSMIT_RING: u64 = 0x80;
+const TRANSMIT_RING: u64 = 0x80;
 
-pub(crate) const TRANSMIT_BUFFER: u64 = 0x800;
+const TRANSMIT_BUFFER: u64 = 0x800;
 
 const RECEIVE_BUFFER: u64 = 0x1000;
 
 /// A solo bus whose adapter is new.
-pub(crate) fn new_bus(alloc: Global, link: Link, lively: bool) -> Result<SoloBus, Fail> {
+fn new_bus(alloc: Global, link: Link, lively: bool) -> Result<SoloBus, Fail> {
     let image = Image::with_address([0x02, 0, 0, 0, 0, 0x01]);
     let adapter = Adapter::new(alloc, &image, link)?;
     let memory = HostMemory::new(alloc, MEMORY_BYTES)?;
@@ -65,22 +64,15 @@ fn load(rt: &impl Abort, bus: &mut SoloBus, address: u64, into: &mut [u8]) {
     bus.load(address, into);
 }
 
-/// Takes a look at the descriptor at address 0.
-fn look_at_first(rt: &impl Abort, bus: &mut SoloBus, into: &mut [u8]) -> Option<usize> {
-    let size = bus.size();
-    assert!(rt; 16 <= size);
-    look(bus, 0, into)
-}
-
 /// Lets ticks be played, for which there is room.
-pub(crate) fn play(rt: &impl Abort, bus: &mut SoloBus, ticks: &[SoloTick]) {
+fn play(rt: &impl Abort, bus: &mut SoloBus, ticks: &[SoloTick]) {
     let waiting = bus.waiting();
     assert!(rt; ticks.len() <= MOST_TICKS - waiting);
     bus.play(ticks);
 }
 
 /// Sets up both rings, with two receive slots offered, in eight accesses.
-pub(crate) fn set_up(rt: &impl Abort, bus: &mut SoloBus) {
+fn set_up(rt: &impl Abort, bus: &mut SoloBus) {
     store(rt, bus, 0, &RECEIVE_BUFFER.to_le_bytes());
     store(rt, bus, 16, &(RECEIVE_BUFFER + 2048).to_le_bytes());
     bus.write(RDLEN, 128);
@@ -201,29 +193,6 @@ fn the_rest_is_played_at_the_end(rt: HostRuntime) -> Result<(), Fail> {
     load(&rt, &mut bus, 12, &mut status);
     assert_eq!(rt; status, [3]);
     check(&rt, &mut bus, ICR, 0x80);
-    Ok(())
-}
-
-#[test]
-fn a_look_finds_the_first_frame_held(rt: HostRuntime) -> Result<(), Fail> {
-    let mut bus = new_bus(rt.alloc(), Link::Never, false)?;
-    set_up(&rt, &mut bus);
-    let mut bytes = [0; 1518];
-    assert_eq!(rt; look_at_first(&rt, &mut bus, &mut bytes), None);
-    assert_eq!(rt; bus.arrive(&BROADCAST), Fate::Stored);
-    play(
-        &rt,
-        &mut bus,
-        &[
-            SoloTick::Step(StepKind::RxData),
-            SoloTick::Go,
-            SoloTick::Step(StepKind::RxDone),
-            SoloTick::Go,
-        ],
-    );
-    assert_eq!(rt; look_at_first(&rt, &mut bus, &mut bytes), None);
-    assert_eq!(rt; look_at_first(&rt, &mut bus, &mut bytes), Some(60));
-    assert_eq!(rt; bytes.iter().filter(|byte| **byte == 0xFF).count(), 60);
     Ok(())
 }
 

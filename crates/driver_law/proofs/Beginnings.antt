@@ -1,42 +1,29 @@
 -- A driver begins ready.
 use Rattle.std.proofs.Common.{Bool, true, false, ◌≡◌, ◌≤◌, ◌++◌, [], ℕ, List, Option, None, length, map, sym, ap, subst, ◌∙◌}
 use Rattle.std.specs.List.{All, take_while}
-use Rattle.dma_memory.specs.Areas.{bytes_in}
 use Rattle.dma_memory.specs.Layout.{Counts}
-use Rattle.descriptors.specs.Frames.{IsLegal}
 use Rattle.rx_engine.specs.Descriptors.{named_address}
-use Rattle.rx_engine.specs.Held.{held, in_work}
 use Rattle.rx_engine.specs.declared.engine.Work.{Work}
-use Rattle.adapter.specs.Conditions.{AreWhole, Sound}
-use Rattle.adapter.specs.HostFrames.{frames_held, named}
+use Rattle.adapter.specs.Conditions.{AreWhole, FitBuffers, Sound}
+use Rattle.adapter.specs.HostAreas.{buffer_size, work_areas}
+use Rattle.adapter.specs.HostFrames.{named}
 use Rattle.adapter.specs.Slots.{finished, is_done, outstanding}
 use Rattle.adapter.specs.World.{World, receive_ring, transmit_ring}
 use Rattle.bus.proofs.Idle.{idle_rings_are_sound, outstanding-none}
-use Rattle.bus.proofs.Lists.{all-none, all-weaker}
-use Rattle.bus.specs.Spare.{FramesFit}
-use Rattle.driver_law.specs.Beginnings.{DriversBegin, HasBegun}
+use Rattle.bus.proofs.Lists.{all-none}
+use Rattle.driver_law.specs.Beginnings.{DriversBegin}
 use Rattle.driver_law.specs.Ready.{TransmitIs}
 
 tail-known : (up : Bool) (counts : Counts) (world : World) → TransmitIs up counts 0 0 world.memory (transmit_ring world) world.adapter.transmit_control world.adapter.transmitter.buffer → world.adapter.transmit_ring.tail ≡ 0
 tail-known true counts world known = known.knows.last
 tail-known false counts world off = off.last
 
--- Only frames in the packet buffer are held.
-buffered-alone : (world : World) → finished 0 world ≡ [] → world.adapter.receiver.work ≡ None → frames_held 0 world ≡ world.adapter.receiver.buffer
-buffered-alone world none idle =
-    let memory = world.memory in
-    ap (λ (slots : List ℕ). map (λ (slot : ℕ). bytes_in memory (named memory slot)) slots ++ held memory world.adapter.receiver) none
-    ∙ ap (λ (work : Option Work). in_work memory work ++ world.adapter.receiver.buffer) idle
-
-begun-fits : (up : Bool) (counts : Counts) (pool : List ℕ) (world : World) → HasBegun up counts pool world → finished 0 world ≡ [] → FramesFit 0 world
-begun-fits up counts pool world begun none =
-    let Short : List ℕ → Type 0 = λ frame. length frame ≤ 1518 in
-    record {
-      room = begun.runs.size;
-      short =
-          subst (λ (frames : List (List ℕ)). All Short frames) (sym (buffered-alone world none begun.idle.work))
-          (all-weaker IsLegal Short world.adapter.receiver.buffer (λ frame legal. legal.most) begun.runs.frames);
-    }
+-- Nothing is finished or in work.
+begun-fits : (world : World) → finished 0 world ≡ [] → world.adapter.receiver.work ≡ None → FitBuffers 0 world
+begun-fits world none idle = record {
+  finished_fit = subst (λ (slots : List ℕ). All (λ slot. (named world.memory slot).size ≤ buffer_size world) slots) (sym none) (all-none _);
+  work_fits = subst (λ (work : Option Work). All (λ area. area.size ≤ buffer_size world) (work_areas world.memory work)) (sym idle) (all-none _);
+}
 
 pub drivers_begin : DriversBegin
 drivers_begin up counts pool world begun =
@@ -49,7 +36,7 @@ drivers_begin up counts pool world begun =
       driver_is = record { oldest_slot = begun.slots; room = begun.slots; one_owner = begun.one_owner; addresses = begun.addresses };
       sound = subst (λ (oldest : ℕ). Sound 0 oldest world) last own;
       runs = begun.runs;
-      fit = begun-fits up counts pool world begun none;
+      fit = begun-fits world none begun.idle.work;
       whole = subst (AreWhole world.memory) (sym none) (all-none _);
       lies = begun.lies;
       size = begun.size;

@@ -15,7 +15,7 @@ use Rattle.rx_engine.specs.Descriptors.{named_address}
 use Rattle.adapter.specs.HostAreas.{IsForeign, areas, buffer_size, data_of, ring_area}
 use Rattle.adapter.specs.Slots.{outstanding}
 use Rattle.adapter.specs.World.{World, receive_ring, transmit_ring}
-use Rattle.bus.specs.Refilling.{KnowsRing}
+use Rattle.adapter.specs.KnownRing.{KnowsRing}
 use Rattle.bus.specs.Spare.{IsSpare}
 use Rattle.bus.proofs.Idle.{outstanding-none}
 use Rattle.bus.proofs.Lists.{all-head, all-none, all-tail, all-unmapped}
@@ -52,8 +52,8 @@ transmit-away true counts p sending world number known side =
 transmit-away false counts p sending world number known side =
     let area = area_of counts (ReceiveBuffer number) in
     let none : outstanding (transmit_ring world) p ≡ [] = subst (λ (oldest : ℕ). outstanding (transmit_ring world) oldest ≡ []) side.last (outstanding-none (transmit_ring world)) in
-    let rings = (begins counts).behind_rings in
-    let before : (transmit_ring world).base + 16 * count_of (transmit_ring world) ≤ area.address = omega (arith, side.ends, rings) in
+    let behind = begins counts in
+    let before : (transmit_ring world).base + 16 * count_of (transmit_ring world) ≤ area.address = omega (arith, side.ends, behind.behind_rings) in
     record {
       ring = inl before;
       sources = subst (λ (list : List ℕ). All (λ slot. AreApart (data_of world.memory slot) area) list) (sym none) (all-none _);

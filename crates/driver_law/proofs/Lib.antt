@@ -3,7 +3,6 @@ pub mod Owners
 pub mod OwnSlots
 pub mod Buffers
 pub mod Stretches
-pub mod Fit
 pub mod Readiness
 pub mod Steps
 pub mod Rests

@@ -9,7 +9,7 @@ use Rattle.descriptors.specs.Ring.{address_of, count_of, distance_of, owned, slo
 use Rattle.descriptors.specs.RingLaws.{distance-around, distance-forward, next-below, place}
 use Rattle.adapter.specs.Slots.{outstanding}
 use Rattle.bus.specs.Own.{IsOwnSlot}
-use Rattle.bus.specs.Refilling.{KnowsRing}
+use Rattle.adapter.specs.KnownRing.{KnowsRing}
 use Rattle.bus.proofs.Rings.{slots-other}
 
 -- One walk, and then another.

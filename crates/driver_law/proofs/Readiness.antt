@@ -1,35 +1,40 @@
 -- A driver stays ready from one world to another, where slots keep what they name.
-use Rattle.std.proofs.Common.{true, false, Bool, ⊎_elim, ◌≡◌, ◌≤◌, ◌<◌, ◌+◌, ◌*◌, ◌%◌, ◌++◌, ◌∷◌, [], ℕ, suc, List, length, get_or, map, sym, ap, subst, ◌∙◌, arith}
+use Rattle.std.proofs.Common.{true, ◌⊎◌, false, Bool, ◌≡◌, ◌≤◌, ◌<◌, ◌+◌, ◌*◌, ◌%◌, ◌++◌, ◌∷◌, [], ℕ, suc, List, length, get_or, map, sym, ap, subst, ◌∙◌, arith}
 use Rattle.std.specs.List.{All}
 use Rattle.registers.specs.Bits.{HasBit, field}
 use Rattle.registers.specs.ReceiveControl.{buffer_size_of}
 use Rattle.rx_filter.specs.Registers.{FilterRegisters}
-use Rattle.dma_memory.specs.Areas.{Area, IsInside}
+use Rattle.dma_memory.specs.Areas.{Area, IsInside, area_at}
 use Rattle.dma_memory.specs.HostMemory.{bytes_at}
 use Rattle.dma_memory.specs.Layout.{Counts, TransmitBuffer, area_of, size_of}
 use Rattle.descriptors.specs.declared.ring.Ring.{Ring}
-use Rattle.descriptors.specs.Ring.{address_of, count_of, owned, slots_from}
+use Rattle.descriptors.specs.declared.tx_desc.TxDesc.{TxDesc}
+use Rattle.descriptors.specs.Frames.{IsLegal}
+use Rattle.descriptors.specs.Ring.{IsSound, address_of, owned, slots_from}
 use Rattle.descriptors.specs.RingLaws.{owned-none, place}
 use Rattle.rx_engine.specs.Descriptors.{named_address}
 use Rattle.tx_engine.specs.Fetching.{frame_at}
 use Rattle.tx_engine.specs.ToSend.{to_send}
 use Rattle.tx_engine.specs.Transmitter.{Queued}
-use Rattle.adapter.specs.Conditions.{AreWhole}
-use Rattle.adapter.specs.HostAreas.{data_of}
+use Rattle.adapter.specs.Conditions.{AreWhole, FitBuffers, Sound}
+use Rattle.adapter.specs.HostAreas.{buffer_size, data_of}
 use Rattle.adapter.specs.HostFrames.{frames_to_send}
 use Rattle.adapter.specs.Rings.{ring_of}
+use Rattle.adapter.specs.Running.{CanRun}
 use Rattle.adapter.specs.Slots.{finished, offered, outstanding}
 use Rattle.adapter.specs.World.{World, receive_ring, transmit_ring}
 use Rattle.adapter.specs.declared.ring.RingRegisters.{RingRegisters}
+use Rattle.bus.specs.Law.{Happens}
 use Rattle.bus.specs.Own.{IsOwnSlot}
 use Rattle.bus.specs.Past.{Past}
-use Rattle.bus.proofs.Carrying.{Carries, fit-carried, same_outstanding}
 use Rattle.bus.proofs.Idle.{still-idle}
-use Rattle.bus.proofs.Lists.{all-unmapped, append-empty, map-empty, map-same}
+use Rattle.bus.proofs.Lists.{all-unmapped, all-weaker, append-empty, map-empty, map-same}
+use Rattle.bus.proofs.Own.{drivers_keep_their_own}
+use Rattle.bus.proofs.Rings.{each-outstanding}
 use Rattle.bus.proofs.Tails.{knows-carried}
 use Rattle.driver_law.proofs.Places.{outstanding-known, own-behind}
 use Rattle.driver_law.specs.DriverState.{DriverState, HandedOut, receive_slot, receive_tail, transmit_slot}
-use Rattle.driver_law.specs.Ready.{AreStored, IsDriver, ReadyWith, Stands, TransmitIs}
+use Rattle.driver_law.specs.Ready.{AreStored, IsDriver, ReadyWith, Stands, TransmitIs, TransmitIsOff}
 
 -- The same driver, but for who owns which buffer.
 abbrev pub with_owners : DriverState → (buffers staged pool : List ℕ) → List HandedOut → DriverState
@@ -52,6 +57,23 @@ stored-kept memory memory' counts slot (number ∷ later) same stored =
 pub own-staged : {up : Bool} (d : DriverState) (world : World) (i : ℕ) → ReadyWith up d world → length d.buffers + i < d.counts.rx → IsOwnSlot (receive_ring world) d.oldest_received (place d.counts.rx (receive_tail d) i)
 own-staged {up} d world i ready below = own-behind (receive_ring world) 0 d.counts.rx d.oldest_received (length d.buffers) i ready.receive ready.driver_is.oldest_slot below
 
+-- What a driver rests on stays from the first world to the second: the conditions, and what outstanding slots name; registers but the heads.
+pub record Keeps (o p : ℕ) (a b : World) : Type 0 where
+  pub sound : Sound o p b
+  pub runs : CanRun b
+  pub fit : FitBuffers o b
+  pub whole : AreWhole b.memory (finished o b)
+  pub size : length b.memory ≡ length a.memory
+  pub filter : b.adapter.filter ≡ a.adapter.filter
+  pub control : b.adapter.transmit_control ≡ a.adapter.transmit_control
+  pub receives : b.adapter.receive_ring ≡ record a.adapter.receive_ring { head = b.adapter.receive_ring.head }
+  pub transmits : b.adapter.transmit_ring ≡ record a.adapter.transmit_ring { head = b.adapter.transmit_ring.head }
+  pub receive_head : (b.adapter.receive_ring.head ≡ a.adapter.receive_ring.head) ⊎ IsSound (receive_ring b)
+  pub transmit_head : (b.adapter.transmit_ring.head ≡ a.adapter.transmit_ring.head) ⊎ IsSound (transmit_ring b)
+  pub addresses : All (λ slot. named_address b.memory slot ≡ named_address a.memory slot) (outstanding (receive_ring a) o)
+  pub sources : All (λ slot. data_of b.memory slot ≡ data_of a.memory slot) (outstanding (transmit_ring a) p)
+  pub none_to_send : frames_to_send a ≡ [] → frames_to_send b ≡ []
+
 -- The transmit side.
 
 pub none-to_send : (memory : List ℕ) (ring : Ring) (buffer : List Queued) → buffer ≡ [] → ring.head ≡ ring.tail → to_send memory ring true buffer ≡ []
@@ -61,62 +83,86 @@ none-to_send memory ring buffer none same =
     ap (λ (queue : List Queued). map (λ (queued : Queued). queued.frame) queue ++ behind) none
     ∙ ap (map (λ (slot : ℕ). frame_at true memory (address_of ring slot))) (owned-none ring same)
 
-none-buffered : (memory : List ℕ) (ring : Ring) (buffer : List Queued) → to_send memory ring true buffer ≡ [] → buffer ≡ []
+none-left : (memory : List ℕ) (ring : Ring) (buffer : List Queued) → to_send memory ring true buffer ≡ [] → (buffer ≡ []) × (offered ring ≡ [])
 unfolding to_send
-none-buffered memory ring buffer none = map-empty (λ (queued : Queued). queued.frame) buffer (append-empty _ _ none).0
+none-left memory ring buffer none =
+    let parts = append-empty _ _ none in
+    (map-empty (λ (queued : Queued). queued.frame) buffer parts.0, ap (map (address_of ring)) (map-empty _ (owned ring) parts.1))
 
-none-offered : (memory : List ℕ) (ring : Ring) (buffer : List Queued) → to_send memory ring true buffer ≡ [] → offered ring ≡ []
-unfolding to_send
-none-offered memory ring buffer none = ap (map (address_of ring)) (map-empty (λ (slot : ℕ). frame_at true memory (address_of ring slot)) (owned ring) (append-empty _ _ none).1)
-
-pub transmit-carried : (up : Bool) (o : ℕ) (counts : Counts) (p sending : ℕ) (a b : World) (past : Past) → Carries o p a b past
+transmit-kept : (up : Bool) (o : ℕ) (counts : Counts) (p sending : ℕ) (a b : World) → Keeps o p a b
     → TransmitIs up counts p sending a.memory (transmit_ring a) a.adapter.transmit_control a.adapter.transmitter.buffer
     → TransmitIs up counts p sending b.memory (transmit_ring b) b.adapter.transmit_control b.adapter.transmitter.buffer
-transmit-carried true o counts p sending a b past carries side =
+transmit-kept true o counts p sending a b keeps side =
     let slots = slots_from counts.tx p sending in
     let Same : ℕ → Type 0 = λ slot. data_of b.memory slot ≡ data_of a.memory slot in
     let known = outstanding-known (transmit_ring a) (16 * counts.rx) counts.tx p sending side.knows side.oldest_slot side.room in
-    let same : All (λ slot. Same (transmit_slot counts slot)) slots = all-unmapped Same (transmit_slot counts) slots (subst (λ (list : List ℕ). All Same list) known carries.sources) in
+    let same : All (λ slot. Same (transmit_slot counts slot)) slots = all-unmapped Same (transmit_slot counts) slots (subst (λ (list : List ℕ). All Same list) known keeps.sources) in
     record {
       oldest_slot = side.oldest_slot;
       room = side.room;
-      pads = subst (λ (control : ℕ). HasBit control 3) (sym carries.control) side.pads;
-      knows = knows-carried a.adapter.transmit_ring b.adapter.transmit_ring (16 * counts.rx) counts.tx _ carries.transmits carries.transmit_head side.knows;
+      pads = subst (λ (control : ℕ). HasBit control 3) (sym keeps.control) side.pads;
+      knows = knows-carried a.adapter.transmit_ring b.adapter.transmit_ring (16 * counts.rx) counts.tx _ keeps.transmits keeps.transmit_head side.knows;
       sources = λ k d below. subst (λ (area : Area). IsInside area (area_of counts (TransmitBuffer (get_or slots k d)))) (sym (same k d below)) (side.sources k d below);
     }
-transmit-carried false o counts p sending a b past carries side =
-    let none = (append-empty past.put (frames_to_send b) (carries.sends ∙ none-to_send a.memory (transmit_ring a) a.adapter.transmitter.buffer side.empty side.idle)).1 in
-    let count : count_of (transmit_ring b) ≡ count_of (transmit_ring a) = ap (λ (registers : RingRegisters). count_of (ring_of registers)) carries.transmits in
-    let base : (transmit_ring b).base ≡ (transmit_ring a).base = ap (λ (registers : RingRegisters). (ring_of registers).base) carries.transmits in
-    record {
-      ends = omega (arith, side.ends, count, base);
-      idle =
-          still-idle a.adapter.transmit_ring b.adapter.transmit_ring carries.transmits carries.transmit_head side.idle
-          (none-offered b.memory (transmit_ring b) b.adapter.transmitter.buffer none);
-      last = ap (λ (registers : RingRegisters). registers.tail) carries.transmits ∙ side.last;
-      nothing = side.nothing;
-      empty = none-buffered b.memory (transmit_ring b) b.adapter.transmitter.buffer none;
-    }
+transmit-kept false o counts p sending a b keeps side =
+    let before = a.adapter.transmit_ring in
+    let behind = b.adapter.transmit_ring in
+    let none = none-left b.memory (transmit_ring b) b.adapter.transmitter.buffer (keeps.none_to_send (none-to_send a.memory (transmit_ring a) a.adapter.transmitter.buffer side.empty side.idle)) in
+    let tail : behind.tail ≡ before.tail = ap (λ (ring : RingRegisters). ring.tail) keeps.transmits in
+    let head : behind.head ≡ before.head = still-idle before behind keeps.transmits keeps.transmit_head side.idle none.1 ∙ tail ∙ sym side.idle in
+    let same : behind ≡ before = keeps.transmits ∙ ap (λ (index : ℕ). let ring : RingRegisters = record before { head = index } in ring) head in
+    subst (λ (ring : RingRegisters). TransmitIsOff counts p sending (ring_of ring) b.adapter.transmitter.buffer) (sym same)
+    (record { ends = side.ends; idle = side.idle; last = side.last; nothing = side.nothing; empty = none.0 })
 
 -- All of it.
-pub ready-carried : {up : Bool} (d : DriverState) (staged pool : List ℕ) (a b : World) (past : Past) → ReadyWith up d a → Carries d.oldest_received d.oldest_sent a b past
-    → (AreWhole a.memory (finished d.oldest_received a) → AreWhole b.memory (finished d.oldest_received b))
+pub ready-kept : {up : Bool} (d : DriverState) (staged pool : List ℕ) (a b : World) → ReadyWith up d a → Keeps d.oldest_received d.oldest_sent a b
     → IsDriver (with_staged d staged pool) → AreStored b.memory d.counts (receive_tail d) staged → All (Stands d.counts b.memory) d.handed_out
     → ReadyWith up (with_staged d staged pool) b
-ready-carried {up} d staged pool a b past ready carries whole driver stored stand = record {
-  driver_is = driver;
-  sound = carries.sound;
-  runs = carries.runs ready.runs;
-  fit = fit-carried d.oldest_received d.oldest_sent a b past carries ready.fit;
-  whole = whole ready.whole;
-  lies = subst (λ (n : ℕ). size_of d.counts ≤ n) (sym carries.size) ready.lies;
-  size = ap (λ (filter : FilterRegisters). buffer_size_of (field filter.rctl 16 2)) carries.filter ∙ ready.size;
-  receive = knows-carried a.adapter.receive_ring b.adapter.receive_ring 0 d.counts.rx (receive_tail d) carries.receives carries.receive_head ready.receive;
-  transmit = transmit-carried up d.oldest_received d.counts d.oldest_sent d.sending a b past carries ready.transmit;
-  names =
-      ap (map (named_address b.memory)) (same_outstanding a.adapter.receive_ring b.adapter.receive_ring d.oldest_received carries.receives)
-      ∙ map-same (named_address b.memory) (named_address a.memory) (outstanding (receive_ring a) d.oldest_received) carries.addresses
-      ∙ ready.names;
-  stored = stored;
-  stand = stand;
-}
+ready-kept {up} d staged pool a b ready keeps driver stored stand =
+    let before = a.adapter.receive_ring in
+    let behind = b.adapter.receive_ring in
+    record {
+      driver_is = driver;
+      sound = keeps.sound;
+      runs = keeps.runs;
+      fit = keeps.fit;
+      whole = keeps.whole;
+      lies = subst (λ (n : ℕ). size_of d.counts ≤ n) (sym keeps.size) ready.lies;
+      size = ap (λ (filter : FilterRegisters). buffer_size_of (field filter.rctl 16 2)) keeps.filter ∙ ready.size;
+      receive = knows-carried before behind 0 d.counts.rx (receive_tail d) keeps.receives keeps.receive_head ready.receive;
+      transmit = transmit-kept up d.oldest_received d.counts d.oldest_sent d.sending a b keeps ready.transmit;
+      names =
+          ap (λ (ring : RingRegisters). map (named_address b.memory) (outstanding (ring_of ring) d.oldest_received)) keeps.receives
+          ∙ map-same (named_address b.memory) (named_address a.memory) (outstanding (receive_ring a) d.oldest_received) keeps.addresses
+          ∙ ready.names;
+      stored = stored;
+      stand = stand;
+    }
+
+-- What happens keeps it.
+pub keeps-happening : {up : Bool} (d : DriverState) (a b : World) (past : Past) → ReadyWith up d a → Happens a b past → Keeps d.oldest_received d.oldest_sent a b
+keeps-happening {up} d a b past ready happens =
+    let o = d.oldest_received in
+    let p = d.oldest_sent in
+    let steady = happens.steady in
+    let between = happens.between o p ready.sound in
+    let own = drivers_keep_their_own o p a b past ready.sound happens in
+    let Fits : List ℕ → Type 0 = λ frame. length frame ≤ buffer_size a in
+    record {
+      sound = between.sound;
+      runs = between.runs (all-weaker IsLegal Fits past.stored (λ frame legal. omega (arith, legal.most, ready.size)) steady.legal) ready.runs;
+      fit = between.fits ready.fit;
+      whole = between.whole ready.whole;
+      size = steady.size;
+      filter = steady.filter;
+      control = steady.transmit_control;
+      receives = steady.receive_ring;
+      transmits = steady.transmit_ring;
+      receive_head = steady.receive_head;
+      transmit_head = steady.transmit_head;
+      addresses = each-outstanding (receive_ring a) o (λ slot. named_address b.memory slot ≡ named_address a.memory slot) ready.sound.receive_slots.slot own.addresses;
+      sources =
+          each-outstanding (transmit_ring a) p (λ slot. data_of b.memory slot ≡ data_of a.memory slot) ready.sound.transmit_slots.slot
+          (λ slot below. ap (λ (desc : TxDesc). area_at desc.address desc.length) (own.requests slot below).fields);
+      none_to_send = λ none. (append-empty past.put (frames_to_send b) (between.sends ∙ none)).1;
+    }

@@ -15,10 +15,9 @@ use Rattle.adapter.specs.World.{World, receive_ring}
 use Rattle.bus.specs.Law.{Happens}
 use Rattle.bus.specs.OwnStores.{SameFrames}
 use Rattle.bus.specs.Past.{Past, nothing}
-use Rattle.bus.proofs.Carrying.{carried-by_happening}
 use Rattle.bus.proofs.Own.{drivers_keep_their_own}
 use Rattle.driver_law.proofs.Buffers.{buffer-aside, stand-kept}
-use Rattle.driver_law.proofs.Readiness.{own-staged, ready-carried, stored-kept, with_owners}
+use Rattle.driver_law.proofs.Readiness.{keeps-happening, own-staged, ready-kept, stored-kept, with_owners}
 use Rattle.driver_law.specs.DriverState.{DriverState, HandedOut, receive_slot, receive_tail}
 use Rattle.driver_law.specs.Goes.{GoesTo}
 use Rattle.driver_law.specs.Ready.{ReadyWith, Stands}
@@ -82,7 +81,7 @@ pub goes-stays : {up : Bool} (d : DriverState) (a : World) → ReadyWith up d a 
 goes-stays {up} d a ready =
     goes-passes d d.buffers d.staged d.pool d.handed_out a a nothing
     (passes-same d.oldest_received d.oldest_sent a a
-    (record { sound = ready.sound; held = refl; to_send = refl; finished_same = refl; written_same = refl; whole = λ whole. whole }) refl refl)
+    (record { sound = ready.sound; held = refl; to_send = refl; finished_same = refl; written_same = refl; whole = λ whole. whole; fits = λ size fits. fits }) refl refl)
     ready
 
 -- Something happens.
@@ -114,7 +113,7 @@ goes-happens {up} d a b past ready happens =
       causes = happens.steady.causes;
       missed = λ fits. let same = grown a.adapter.missed_packets past.missed fits in omega (arith, same, happens.steady.missed);
     })
-    (ready-carried d d.staged d.pool a b past ready (carried-by_happening o p a b past ready.sound happens) between.whole ready.driver_is
+    (ready-kept d d.staged d.pool a b ready (keeps-happening d a b past ready happens) ready.driver_is
     (stored-kept a.memory b.memory d.counts (receive_tail d) d.staged kept ready.stored) stand)
   where
     grown : (x y : ℕ) → x + y ≤ greatest_count → max x (min (x + y) greatest_count) ≡ x + y

@@ -10,7 +10,7 @@ use Rattle.dma_memory.specs.Layout.{ReceiveBuffer, ReceiveRing, TransmitRing, ar
 use Rattle.dma_memory.specs.LayoutLaws.{place-below_size, places-apart}
 use Rattle.dma_memory.specs.Owners.{copies}
 use Rattle.rx_engine.specs.Descriptors.{named_address}
-use Rattle.adapter.specs.Conditions.{Sound}
+use Rattle.adapter.specs.Conditions.{FitBuffers, Sound}
 use Rattle.adapter.specs.HostAreas.{areas, buffer_of, buffer_size, data_of, frame_areas, offered_buffers, ring_area, work_areas}
 use Rattle.adapter.specs.HostFrames.{frames_held, frames_to_send, named}
 use Rattle.adapter.specs.Rings.{new_ring, ring_of}
@@ -22,7 +22,7 @@ use Rattle.bus.proofs.Initialising.{transmit_ring_can_be_set}
 use Rattle.bus.proofs.Lists.{all-head, all-none, all-tail, all-unmapped, all-weaker, pairs-head, pairs-tail}
 use Rattle.bus.proofs.Spare.{spare-apart}
 use Rattle.bus.specs.Initialising.{TransmitRingSet, with_transmit_ring}
-use Rattle.bus.specs.Spare.{FramesFit, IsSpare}
+use Rattle.bus.specs.Spare.{IsSpare}
 use Rattle.driver_law.specs.Beginnings.{TransmitRingIsWritten}
 use Rattle.driver_law.specs.DriverState.{DriverState, buffer_at}
 use Rattle.driver_law.specs.Ready.{ReadyWith}
@@ -99,7 +99,7 @@ place-away driver world ready =
       buffers = outstanding-buffers driver world area ready (λ number known. places-apart driver.counts (ReceiveBuffer number) TransmitRing known tt (λ same. absurd (cc)));
       sources = subst (λ (slots : List ℕ). All (λ slot. AreApart (data_of world.memory slot) area) slots) (sym set.none_outstanding) (all-none _);
     } in
-    let fit : FramesFit o bare = record { room = ready.fit.room; short = ready.fit.short } in
+    let fit : FitBuffers o bare = record { finished_fit = ready.fit.finished_fit; work_fits = ready.fit.work_fits } in
     let all = spare-apart o 0 bare area set.sound fit spare in
     let behind = all-tail Apart (ring_area (transmit_ring bare)) (frame_areas o bare) (all-tail Apart (ring_area (receive_ring bare)) (ring_area (transmit_ring bare) ∷ frame_areas o bare) all) in
     subst (λ (list : List Area). All Apart list) (areas-idle o bare refl) behind
@@ -120,7 +120,7 @@ transmit_ring_is_written driver ring world ready idle inside =
       driver_is = record { oldest_slot = ready.driver_is.oldest_slot; room = ready.driver_is.room; one_owner = ready.driver_is.one_owner; addresses = ready.driver_is.addresses };
       sound = set.sound;
       runs = set.runs ready.runs;
-      fit = record { room = ready.fit.room; short = ready.fit.short };
+      fit = record { finished_fit = ready.fit.finished_fit; work_fits = ready.fit.work_fits };
       whole = ready.whole;
       lies = ready.lies;
       size = ready.size;

@@ -15,7 +15,7 @@ use Rattle.adapter.specs.declared.ring.RingRegisters.{RingRegisters}
 use Rattle.bus.specs.Idle.{IsIdle}
 use Rattle.bus.specs.Initialising.{with_receive_control, with_tail, with_transmit_control, with_transmit_ring}
 use Rattle.bus.specs.Past.{nothing}
-use Rattle.bus.specs.Refilling.{KnowsRing}
+use Rattle.adapter.specs.KnownRing.{KnowsRing}
 use Rattle.driver_law.specs.DriverState.{DriverState, next_received, transmit_tail}
 use Rattle.driver_law.specs.Goes.{Goes, GoesTo}
 use Rattle.driver_law.specs.Ready.{ReadyWith, TransmitIs}

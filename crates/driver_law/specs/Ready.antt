@@ -12,13 +12,12 @@ use Rattle.descriptors.specs.RxDesc.{rx_desc_bytes}
 use Rattle.descriptors.specs.RxStatus.{status_of}
 use Rattle.rx_engine.specs.Descriptors.{named_address}
 use Rattle.tx_engine.specs.Transmitter.{Queued}
-use Rattle.adapter.specs.Conditions.{AreWhole, Sound}
+use Rattle.adapter.specs.Conditions.{AreWhole, FitBuffers, Sound}
 use Rattle.adapter.specs.HostAreas.{buffer_size, data_of}
+use Rattle.adapter.specs.KnownRing.{KnowsRing}
 use Rattle.adapter.specs.Running.{CanRun}
 use Rattle.adapter.specs.Slots.{finished, outstanding}
 use Rattle.adapter.specs.World.{World, receive_ring, transmit_ring}
-use Rattle.bus.specs.Refilling.{KnowsRing}
-use Rattle.bus.specs.Spare.{FramesFit}
 use Rattle.driver_law.specs.DriverState.{DriverState, HandedOut, buffer_at, owners, receive_slot, receive_tail, transmit_slot}
 
 -- What the driver's own state always is: one slot at least isn't outstanding, and each buffer has one owner.
@@ -73,7 +72,7 @@ pub record ReadyWith (up : Bool) (driver : DriverState) (world : World) : Type 0
   -- the conditions of the law, and engines that can run
   pub sound : Sound driver.oldest_received driver.oldest_sent world
   pub runs : CanRun world
-  pub fit : FramesFit driver.oldest_received world
+  pub fit : FitBuffers driver.oldest_received world
   pub whole : AreWhole world.memory (finished driver.oldest_received world)
   pub lies : size_of driver.counts ≤ length world.memory
   pub size : buffer_size world ≡ 2048

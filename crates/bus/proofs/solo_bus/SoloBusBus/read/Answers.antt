@@ -9,5 +9,5 @@ returns-clause-extent c = ap (λ (s : SoloState). length s.world.memory) c.read_
 
 pub returns-clause-acts : goal.returns-clause-acts
 returns-clause-acts c honest =
-    acts_on c.args.self.now c.prepare.new.self c.read_now.new.self (Reads c.args.offset c.read_now.result) _ c.prepare.ensures c.read_now.ensures.state c.read_now.ensures.answer
+    acts_on c.args.self.now c.prepare.new.self c.read_now.new.self (Reads c.args.offset c.read_now.result) _ c.prepare.ensures c.read_now.ensures.state c.read_now.ensures.answer c.read_now.ensures.adapter
     (c.read_now.ensures.answer, ap (λ (s : SoloState). s.world) c.read_now.ensures.state)

@@ -16,5 +16,5 @@ returns-clause-extent c =
 
 pub returns-clause-acts : goal.returns-clause-acts
 returns-clause-acts c honest =
-    acts_on c.args.self.now c.prepare.new.self c.store_now.new.self (Stores c.args.address c.args.bytes.now) _ c.prepare.ensures c.store_now.ensures.state tt
+    acts_on c.args.self.now c.prepare.new.self c.store_now.new.self (Stores c.args.address c.args.bytes.now) _ c.prepare.ensures c.store_now.ensures.state tt c.store_now.ensures.adapter
     (ap (λ (s : SoloState). s.world) c.store_now.ensures.state)

@@ -9,5 +9,5 @@ returns-clause-extent c = ap (λ (s : SoloState). length s.world.memory) c.write
 
 pub returns-clause-acts : goal.returns-clause-acts
 returns-clause-acts c honest =
-    acts_on c.args.self.now c.prepare.new.self c.write_now.new.self (Writes c.args.offset c.args.value) _ c.prepare.ensures c.write_now.ensures.state tt
+    acts_on c.args.self.now c.prepare.new.self c.write_now.new.self (Writes c.args.offset c.args.value) _ c.prepare.ensures c.write_now.ensures.state tt c.write_now.ensures.adapter
     (ap (λ (s : SoloState). s.world) c.write_now.ensures.state)

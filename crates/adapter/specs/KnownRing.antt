@@ -1,0 +1,11 @@
+-- A descriptor ring as its driver knows it (own).
+use Rattle.std.specs.Prelude.{◌≡◌, ◌<◌, ℕ}
+use Rattle.descriptors.specs.declared.ring.Ring.{Ring}
+use Rattle.descriptors.specs.Ring.{count_of}
+
+-- The driver knows where its ring begins, how many slots it has, and which one stands at the tail; and one of them stands at the head.
+pub record KnowsRing (ring : Ring) (base count tail : ℕ) : Type 0 where
+  pub begins : ring.base ≡ base
+  pub slots : count_of ring ≡ count
+  pub last : ring.tail ≡ tail
+  pub head_slot : ring.head < count
