@@ -28,7 +28,7 @@ transmitter_is_enabled driver control world ready below knows pads =
       driver_is = ready.driver_is;
       sound = leaves.same.sound;
       runs = leaves.runs ready.runs;
-      fit = record { finished_fit = ready.fit.finished_fit; work_fits = ready.fit.work_fits };
+      fit = leaves.same.fits (omega arith) ready.fit;
       whole = ready.whole;
       lies = ready.lies;
       size = ready.size;
@@ -61,7 +61,7 @@ unfolding register_at
 causes_are_unmasked up driver causes world ready =
     let b = world_after_write 0xD0 causes world in
     let leaves : LeavesFrames driver.oldest_received driver.oldest_sent world b = other_writes_leave_frames driver.oldest_received driver.oldest_sent Ims causes world ready.sound (λ no. no) refl in
-    let same : SameParts world b = record { memory = refl; receives = refl; transmits = refl; receive_control = refl; transmit_control = refl; work = refl; buffer = refl } in
+    let same : SameParts world b = record { memory = refl; receives = refl; transmits = refl; receive_control = refl; transmit_control = refl; buffer = refl } in
     record {
       ready = ready-left driver world b ready leaves same;
       to_send = leaves.same.to_send;

@@ -11,3 +11,4 @@ pub mod Parts
 pub mod RegisterReads
 pub mod Controls
 pub mod TransmitRing
+pub mod ReceiveControl

@@ -26,14 +26,14 @@ record Read (a b : World) : Type 0 where
   mask : b.adapter.causes.mask ≡ a.adapter.causes.mask
 
 same-all : (world : World) → SameParts world world
-same-all world = record { memory = refl; receives = refl; transmits = refl; receive_control = refl; transmit_control = refl; work = refl; buffer = refl }
+same-all world = record { memory = refl; receives = refl; transmits = refl; receive_control = refl; transmit_control = refl; buffer = refl }
 
 read-register : (register : Register) (world : World) → Read world (record world { adapter = read_of register world.adapter })
-read-register Icr world = record { parts = record { memory = refl; receives = refl; transmits = refl; receive_control = refl; transmit_control = refl; work = refl; buffer = refl }; mask = refl }
-read-register Mpc world = record { parts = record { memory = refl; receives = refl; transmits = refl; receive_control = refl; transmit_control = refl; work = refl; buffer = refl }; mask = refl }
-read-register Gprc world = record { parts = record { memory = refl; receives = refl; transmits = refl; receive_control = refl; transmit_control = refl; work = refl; buffer = refl }; mask = refl }
-read-register Gptc world = record { parts = record { memory = refl; receives = refl; transmits = refl; receive_control = refl; transmit_control = refl; work = refl; buffer = refl }; mask = refl }
-read-register Rnbc world = record { parts = record { memory = refl; receives = refl; transmits = refl; receive_control = refl; transmit_control = refl; work = refl; buffer = refl }; mask = refl }
+read-register Icr world = record { parts = record { memory = refl; receives = refl; transmits = refl; receive_control = refl; transmit_control = refl; buffer = refl }; mask = refl }
+read-register Mpc world = record { parts = record { memory = refl; receives = refl; transmits = refl; receive_control = refl; transmit_control = refl; buffer = refl }; mask = refl }
+read-register Gprc world = record { parts = record { memory = refl; receives = refl; transmits = refl; receive_control = refl; transmit_control = refl; buffer = refl }; mask = refl }
+read-register Gptc world = record { parts = record { memory = refl; receives = refl; transmits = refl; receive_control = refl; transmit_control = refl; buffer = refl }; mask = refl }
+read-register Rnbc world = record { parts = record { memory = refl; receives = refl; transmits = refl; receive_control = refl; transmit_control = refl; buffer = refl }; mask = refl }
 read-register _ world = record { parts = same-all world; mask = refl }
 
 read-offset : (offset : ℕ) (world : World) → Read world (world_after_read offset world)

@@ -10,7 +10,7 @@ use Rattle.dma_memory.specs.Layout.{ReceiveBuffer, ReceiveRing, TransmitRing, ar
 use Rattle.dma_memory.specs.LayoutLaws.{place-below_size, places-apart}
 use Rattle.dma_memory.specs.Owners.{copies}
 use Rattle.rx_engine.specs.Descriptors.{named_address}
-use Rattle.adapter.specs.Conditions.{FitBuffers, Sound}
+use Rattle.adapter.specs.Conditions.{Sound}
 use Rattle.adapter.specs.HostAreas.{areas, buffer_of, buffer_size, data_of, frame_areas, offered_buffers, ring_area, work_areas}
 use Rattle.adapter.specs.HostFrames.{frames_held, frames_to_send, named}
 use Rattle.adapter.specs.Rings.{new_ring, ring_of}
@@ -99,8 +99,7 @@ place-away driver world ready =
       buffers = outstanding-buffers driver world area ready (λ number known. places-apart driver.counts (ReceiveBuffer number) TransmitRing known tt (λ same. absurd (cc)));
       sources = subst (λ (slots : List ℕ). All (λ slot. AreApart (data_of world.memory slot) area) slots) (sym set.none_outstanding) (all-none _);
     } in
-    let fit : FitBuffers o bare = record { finished_fit = ready.fit.finished_fit; work_fits = ready.fit.work_fits } in
-    let all = spare-apart o 0 bare area set.sound fit spare in
+    let all = spare-apart o 0 bare area set.sound (set.fits ready.fit) spare in
     let behind = all-tail Apart (ring_area (transmit_ring bare)) (frame_areas o bare) (all-tail Apart (ring_area (receive_ring bare)) (ring_area (transmit_ring bare) ∷ frame_areas o bare) all) in
     subst (λ (list : List Area). All Apart list) (areas-idle o bare refl) behind
 
@@ -120,7 +119,7 @@ transmit_ring_is_written driver ring world ready idle inside =
       driver_is = record { oldest_slot = ready.driver_is.oldest_slot; room = ready.driver_is.room; one_owner = ready.driver_is.one_owner; addresses = ready.driver_is.addresses };
       sound = set.sound;
       runs = set.runs ready.runs;
-      fit = record { finished_fit = ready.fit.finished_fit; work_fits = ready.fit.work_fits };
+      fit = set.fits ready.fit;
       whole = ready.whole;
       lies = ready.lies;
       size = ready.size;
