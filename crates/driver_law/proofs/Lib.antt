@@ -12,3 +12,4 @@ pub mod RegisterReads
 pub mod Controls
 pub mod TransmitRing
 pub mod ReceiveControl
+pub mod OwnStores
