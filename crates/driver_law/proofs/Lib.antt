@@ -13,3 +13,4 @@ pub mod Controls
 pub mod TransmitRing
 pub mod ReceiveControl
 pub mod OwnStores
+pub mod TransmitSlots

@@ -3,3 +3,4 @@ pub mod Ready
 pub mod Goes
 pub mod Beginnings
 pub mod Readings
+pub mod Transmit
