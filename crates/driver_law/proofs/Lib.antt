@@ -14,3 +14,4 @@ pub mod TransmitRing
 pub mod ReceiveControl
 pub mod OwnStores
 pub mod TransmitSlots
+pub mod FramesToSend
