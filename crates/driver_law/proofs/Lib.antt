@@ -5,3 +5,5 @@ pub mod Buffers
 pub mod Stretches
 pub mod Readiness
 pub mod Steps
+pub mod Stores
+pub mod Offers

@@ -1,3 +1,4 @@
 pub mod DriverState
 pub mod Ready
 pub mod Goes
+pub mod Accesses
