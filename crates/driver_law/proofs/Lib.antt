@@ -7,3 +7,4 @@ pub mod Readiness
 pub mod Steps
 pub mod Stores
 pub mod Offers
+pub mod Takes

@@ -21,13 +21,13 @@ use Rattle.bus.proofs.Offering.{slots_can_be_offered}
 use Rattle.driver_law.proofs.Buffers.{buffer-aside}
 use Rattle.driver_law.proofs.Owners.{elsewhere-number, one_owner-dealt}
 use Rattle.driver_law.proofs.Places.{place-below, place-next, places-differ}
-use Rattle.driver_law.proofs.Readiness.{with_owners}
 use Rattle.driver_law.proofs.Steps.{goes-passes, goes-stays, passes-same}
 use Rattle.driver_law.proofs.Stores.{empty-stored}
 use Rattle.driver_law.proofs.Stretches.{goes_join}
-use Rattle.driver_law.specs.DriverState.{DriverState, buffer_at, next_received, receive_slot, receive_tail}
+use Rattle.driver_law.specs.DriverState.{DriverState, buffer_at, next_received, receive_slot, receive_tail, with_owners}
 use Rattle.driver_law.specs.Goes.{GoesTo}
 use Rattle.driver_law.specs.Ready.{AreStored, ReadyWith}
+use Rattle.driver_law.specs.ReceiveSteps.{StagedCanBeOffered}
 
 -- the driver with these buffers offered, and these still staged
 abbrev pub with_offered : DriverState → (numbers staged : List ℕ) → DriverState
@@ -109,7 +109,7 @@ goes-offers_one {up} d m rest a staged ready =
       stand = ready.stand;
     })
 
-pub goes-offers : {up : Bool} (numbers : List ℕ) (d : DriverState) (a : World) → d.staged ≡ numbers → ReadyWith up d a → GoesTo up d a (with_offered d numbers []) (with_tail (next_received d) a) [] [] nothing
+goes-offers : {up : Bool} (numbers : List ℕ) (d : DriverState) (a : World) → d.staged ≡ numbers → ReadyWith up d a → GoesTo up d a (with_offered d numbers []) (with_tail (next_received d) a) [] [] nothing
 goes-offers {up} [] d a staged ready =
     let driver : d ≡ with_offered d [] [] =
     ap (λ (list : List ℕ). with_owners d d.buffers list d.pool d.handed_out) staged ∙ ap (λ (list : List ℕ). with_owners d list [] d.pool d.handed_out) (sym (append-nil d.buffers)) in
@@ -127,3 +127,6 @@ goes-offers {up} (m ∷ numbers) d a staged ready =
     let next : next_received d1 ≡ next_received d = ap (place d.counts.rx d.oldest_received) count in
     subst (λ (d' : DriverState). GoesTo up d a d' (with_tail (next_received d) a) [] [] nothing) driver
     (subst (λ (tail : ℕ). GoesTo up d a (with_offered d1 numbers []) (with_tail tail a) [] [] nothing) next both)
+
+pub staged_can_be_offered : StagedCanBeOffered
+staged_can_be_offered up d a ready = goes-offers d.staged d a refl ready

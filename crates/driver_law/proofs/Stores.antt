@@ -7,7 +7,6 @@ use Rattle.dma_memory.specs.HostMemory.{LiesIn, bytes_at, with_bytes}
 use Rattle.dma_memory.specs.Laws.{bytes_at-elsewhere, bytes_at-stored, length-with_bytes}
 use Rattle.dma_memory.specs.Layout.{Counts, ReceiveBuffer, ReceiveRing, area_of}
 use Rattle.dma_memory.specs.LayoutLaws.{places-apart}
-use Rattle.dma_memory.specs.Owners.{HaveSameNumbers}
 use Rattle.dma_memory.specs.OwnersLaws.{copies-cons, copies-push}
 use Rattle.descriptors.specs.declared.rx_desc.RxDesc.{RxDesc}
 use Rattle.descriptors.specs.Laws.{length-rx_desc_bytes, rx_desc_of-rx_desc_bytes}
@@ -34,6 +33,7 @@ use Rattle.driver_law.proofs.Steps.{goes-passes, passes-same}
 use Rattle.driver_law.specs.DriverState.{DriverState, buffer_at, next_received, receive_slot, receive_tail}
 use Rattle.driver_law.specs.Goes.{GoesTo}
 use Rattle.driver_law.specs.Ready.{AreStored, IsDriver, ReadyWith, empty_descriptor}
+use Rattle.driver_law.specs.ReceiveSteps.{SlotsCanBeStaged}
 
 -- It keeps what the driver rests on.
 keeps-store : {up : Bool} (d : DriverState) (a : World) (address : ℕ) (bytes : List ℕ) → ReadyWith up d a → LiesIn a.memory address (length bytes)
@@ -120,9 +120,8 @@ slots-apart x y size long differ =
     (subst (λ (at : ℕ). AreApart (area_at (receive_slot x) 16) (area_at at 16)) (base y)
     (subst (λ (at : ℕ). AreApart (area_at at 16) (area_at (0 + 16 * y) 16)) (base x) (far-apart 0 x y differ)))
 
-pub goes-stages : {up : Bool} (d : DriverState) (m : ℕ) (pool : List ℕ) (a : World) → ReadyWith up d a → length d.buffers + length d.staged + 1 < d.counts.rx → m < d.counts.buffers → HaveSameNumbers d.pool (m ∷ pool)
-    → GoesTo up d a (with_staged d (d.staged ++ m ∷ []) pool) (world_after_store (receive_slot (next_received d)) (empty_descriptor (buffer_at d.counts m)) a) [] [] nothing
-goes-stages {up} d m pool a ready room known moves =
+pub slots_can_be_staged : SlotsCanBeStaged
+slots_can_be_staged up d m pool a ready room known moves =
     let n = d.counts.rx in
     let i = length d.buffers in
     let j = length d.staged in

@@ -2,3 +2,4 @@ pub mod DriverState
 pub mod Ready
 pub mod Goes
 pub mod Accesses
+pub mod ReceiveSteps

@@ -4,4 +4,4 @@
 
 mod law;
 
-pub use law::{drivers_go_on, stretches_join};
+pub use law::{drivers_go_on, receive_slots_go_round, stretches_join};
