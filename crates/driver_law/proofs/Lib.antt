@@ -12,6 +12,8 @@ pub mod RegisterReads
 pub mod Controls
 pub mod TransmitRing
 pub mod ReceiveControl
-pub mod OwnStores
+pub mod Stores
+pub mod Offers
+pub mod Takes
 pub mod TransmitSlots
 pub mod FramesToSend

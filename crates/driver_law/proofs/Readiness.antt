@@ -33,14 +33,10 @@ use Rattle.bus.proofs.Own.{drivers_keep_their_own}
 use Rattle.bus.proofs.Rings.{each-outstanding}
 use Rattle.bus.proofs.Tails.{knows-carried}
 use Rattle.driver_law.proofs.Places.{outstanding-known, own-behind}
-use Rattle.driver_law.specs.DriverState.{DriverState, HandedOut, receive_slot, receive_tail, transmit_slot}
+use Rattle.driver_law.specs.DriverState.{DriverState, receive_slot, receive_tail, transmit_slot, with_owners}
 use Rattle.driver_law.specs.Ready.{AreStored, IsDriver, ReadyWith, Stands, TransmitIs, TransmitIsOff}
 
--- The same driver, but for who owns which buffer.
-abbrev pub with_owners : DriverState → (buffers staged pool : List ℕ) → List HandedOut → DriverState
-with_owners d buffers staged pool handed_out = record d { buffers = buffers; staged = staged; pool = pool; handed_out = handed_out }
-
--- The same driver, but for what is staged and what is free.
+-- the same driver, but for what is staged and what is free
 abbrev pub with_staged : DriverState → (staged pool : List ℕ) → DriverState
 with_staged d staged pool = with_owners d d.buffers staged pool d.handed_out
 

@@ -17,8 +17,8 @@ use Rattle.bus.specs.OwnStores.{SameFrames}
 use Rattle.bus.specs.Past.{Past, nothing}
 use Rattle.bus.proofs.Own.{drivers_keep_their_own}
 use Rattle.driver_law.proofs.Buffers.{buffer-aside, stand-kept}
-use Rattle.driver_law.proofs.Readiness.{keeps-happening, own-staged, ready-kept, stored-kept, with_owners}
-use Rattle.driver_law.specs.DriverState.{DriverState, HandedOut, receive_slot, receive_tail}
+use Rattle.driver_law.proofs.Readiness.{keeps-happening, own-staged, ready-kept, stored-kept}
+use Rattle.driver_law.specs.DriverState.{DriverState, HandedOut, receive_slot, receive_tail, with_owners}
 use Rattle.driver_law.specs.Goes.{GoesTo}
 use Rattle.driver_law.specs.Ready.{ReadyWith, Stands}
 

@@ -1,10 +1,11 @@
 -- A transmit slot of the driver's own: what it stores into its buffer and its descriptor.
-use Rattle.std.proofs.Common.{true, ◌≡◌, ◌≢◌, ◌≤◌, ◌<◌, ◌+◌, ◌*◌, ◌∷◌, [], ℕ, List, length, get_or, map, sym, ap, subst, ◌∙◌, arith}
+use Rattle.std.proofs.Common.{Bool, true, ◌≡◌, ◌≢◌, ◌≤◌, ◌<◌, ◌+◌, ◌*◌, ◌∷◌, [], ℕ, List, length, get_or, map, sym, ap, subst, ◌∙◌, arith}
 use Rattle.std.specs.List.{All}
 use Rattle.std.proofs.lemmas.List.Elements.{All-map}
 use Rattle.dma_memory.specs.Areas.{AreApart, Area, IsInside, area_at, bytes_in, descriptor_area}
 use Rattle.dma_memory.specs.AreaLaws.{apart-inside, apart-sym, inside-apart}
-use Rattle.dma_memory.specs.HostMemory.{LiesIn}
+use Rattle.dma_memory.specs.HostMemory.{LiesIn, with_bytes}
+use Rattle.dma_memory.specs.Laws.{bytes_at-elsewhere}
 use Rattle.dma_memory.specs.Layout.{ReceiveBuffer, ReceiveRing, TransmitBuffer, TransmitRing, area_of}
 use Rattle.dma_memory.specs.LayoutLaws.{place-below_size, places-apart}
 use Rattle.descriptors.specs.Ring.{address_of, slots_from}
@@ -21,13 +22,14 @@ use Rattle.bus.specs.Own.{IsOwnSlot}
 use Rattle.bus.specs.OwnStores.{IsOwn}
 use Rattle.bus.specs.Past.{nothing}
 use Rattle.bus.specs.Spare.{IsSpare}
-use Rattle.driver_law.specs.DriverState.{DriverState, transmit_slot, transmit_tail}
-use Rattle.driver_law.specs.Ready.{Ready}
+use Rattle.driver_law.specs.DriverState.{DriverState, receive_slot, receive_tail, transmit_slot, transmit_tail}
+use Rattle.driver_law.specs.Ready.{AreStored, Ready, ReadyWith}
 use Rattle.driver_law.specs.Transmit.{DataIsStored, DescriptorIsStored, NextSlotIsOwn, SlotsKeepBytes, transmit_buffer}
 use Rattle.driver_law.proofs.Buffers.{known-area}
 use Rattle.driver_law.proofs.OwnSlots.{own-transmit}
-use Rattle.driver_law.proofs.OwnStores.{goes-stores, stored-elsewhere}
-use Rattle.driver_law.proofs.Places.{outstanding-known, own-behind}
+use Rattle.driver_law.proofs.Places.{outstanding-known, own-behind, place-below}
+use Rattle.driver_law.proofs.Readiness.{stored-kept}
+use Rattle.driver_law.proofs.Stores.{goes-stores}
 use Rattle.driver_law.proofs.TransmitRing.{outstanding-buffers}
 
 pub next_slot_is_own : NextSlotIsOwn
@@ -128,6 +130,18 @@ buffer-own driver slot size world ready buffer short =
     }
 
 -- Stores.
+
+-- Where nothing of the receive ring is stored to, what is staged stays.
+stored-elsewhere : {up : Bool} (d : DriverState) (a : World) (address : ℕ) (bytes : List ℕ) → ReadyWith up d a → LiesIn a.memory address (length bytes)
+    → AreApart (area_of d.counts ReceiveRing) (area_at address (length bytes)) → AreStored (with_bytes a.memory address bytes) d.counts (receive_tail d) d.staged
+stored-elsewhere d a address bytes ready lies apart =
+    stored-kept a.memory (with_bytes a.memory address bytes) d.counts (receive_tail d) d.staged
+    (λ i below.
+    let index = place-below d.counts.rx (receive_tail d) i (place-below d.counts.rx d.oldest_received (length d.buffers) ready.driver_is.oldest_slot) in
+    let slot = receive_slot (place d.counts.rx (receive_tail d) i) in
+    let inside : IsInside (area_at slot 16) (area_of d.counts ReceiveRing) = record { from = omega arith; to = omega (arith, index) } in
+    bytes_at-elsewhere a.memory bytes address slot 16 lies (apart-sym (area_at slot 16) (area_at address (length bytes)) (apart-inside (area_at slot 16) (area_of d.counts ReceiveRing) (area_at address (length bytes)) inside apart)))
+    ready.stored
 
 pub data_is_stored : DataIsStored
 data_is_stored driver slot bytes world ready own short =

@@ -13,10 +13,10 @@ use Rattle.adapter.specs.Slots.{finished, written_back}
 use Rattle.adapter.specs.World.{World, receive_ring, transmit_ring, world_after_write}
 use Rattle.adapter.specs.declared.ring.RingRegisters.{RingRegisters}
 use Rattle.bus.specs.Idle.{IsIdle}
-use Rattle.bus.specs.Initialising.{with_receive_control, with_tail, with_transmit_control, with_transmit_ring}
+use Rattle.bus.specs.Initialising.{with_receive_control, with_transmit_control, with_transmit_ring}
 use Rattle.bus.specs.Past.{nothing}
 use Rattle.adapter.specs.KnownRing.{KnowsRing}
-use Rattle.driver_law.specs.DriverState.{DriverState, next_received, transmit_tail}
+use Rattle.driver_law.specs.DriverState.{DriverState, transmit_tail}
 use Rattle.driver_law.specs.Goes.{Goes, GoesTo}
 use Rattle.driver_law.specs.Ready.{ReadyWith, TransmitIs}
 
@@ -52,17 +52,7 @@ pub record HasBegun (up : Bool) (counts : Counts) (pool : List ℕ) (world : Wor
 abbrev pub DriversBegin : Type 0
 DriversBegin = (up : Bool) (counts : Counts) (pool : List ℕ) (world : World) → HasBegun up counts pool world → ReadyWith up (new_driver counts pool) world
 
--- Writes of registers. What they leave of the world is as the bus's law names it.
-
--- the driver with all its staged slots offered
-abbrev pub with_all_offered : DriverState → DriverState
-with_all_offered driver = record driver { buffers = driver.buffers ++ driver.staged; staged = [] }
-
--- RDT is written behind all staged slots, the transmit side set up or off.
-abbrev pub StagedSlotsAreOffered : Type 0
-StagedSlotsAreOffered =
-    (up : Bool) (driver : DriverState) (world : World) → ReadyWith up driver world
-    → GoesTo up driver world (with_all_offered driver) (with_tail (next_received driver) world) [] [] nothing
+-- Writes of registers, beside that of RDT, which offers staged slots. What they leave of the world is as the bus's law names it.
 
 -- A register of the transmit ring is written while the transmit side is off, so that head is still tail, and the ring lies at its place: this
 -- holds behind each of the writes of TDBAL, TDBAH, TDLEN, TDH and TDT in this order, and the side is off still.

@@ -28,6 +28,10 @@ pub record DriverState : Type 0 where
   -- the sum of all values that MPC was read as
   pub missed : ℕ
 
+-- the same driver, but for who owns which buffer
+abbrev pub with_owners : DriverState → (buffers staged pool : List ℕ) → List HandedOut → DriverState
+with_owners driver buffers staged pool handed_out = record driver { buffers = buffers; staged = staged; pool = pool; handed_out = handed_out }
+
 -- The owners of buffers, one behind the other: the pool, the slots of the ring, and those who hold frames.
 abbrev pub owners : DriverState → List ℕ
 owners driver = driver.pool ++ (driver.buffers ++ (driver.staged ++ numbers_of driver.handed_out))

@@ -50,6 +50,13 @@ pub record RanTo (up : Bool) {B : Type 0} (world : B → World) (happened : B �
 abbrev pub Ran : {B : Type 0} (world : B → World) (happened : B → B → Past → Type 0) (allowed : Access → Type 0) (old new : B) (d d' : DriverState) (taken given : List (List ℕ)) → Type 0
 Ran world happened allowed old new d d' taken given = RanTo true world happened allowed old new d d' taken given
 
+-- A stretch over a bus, with exactly these accesses, in this order.
+pub record RanBy (up : Bool) {B : Type 0} (world : B → World) (happened : B → B → Past → Type 0) (accesses : List Access) (old new : B) (d d' : DriverState) (taken given : List (List ℕ)) : Type 0 where
+  pub past : Past
+  pub told : happened old new past
+  pub only : past.accesses ≡ accesses
+  pub goes : GoesTo up d (world old) d' (world new) taken given past
+
 -- No forgotten work: RXT0 isn't masked, and where the oldest receive slot is finished it is recorded.
 pub record HasNoForgottenWork (d : DriverState) (world : World) : Type 0 where
   pub unmasked : HasBit world.adapter.causes.mask 7

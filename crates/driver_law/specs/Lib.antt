@@ -4,3 +4,5 @@ pub mod Goes
 pub mod Beginnings
 pub mod Readings
 pub mod Transmit
+pub mod Accesses
+pub mod ReceiveSteps

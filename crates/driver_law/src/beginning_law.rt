@@ -1,6 +1,6 @@
 // Laws of a driver's beginning, and of the registers that it writes up to the end of its initialisation.
 
-ghost use Rattle.driver_law.specs.Beginnings.{CausesAreUnmasked, DriversBegin, ReceiverIsEnabled, StagedSlotsAreOffered, TransmitRingIsWritten, TransmitterIsEnabled};
+ghost use Rattle.driver_law.specs.Beginnings.{CausesAreUnmasked, DriversBegin, ReceiverIsEnabled, TransmitRingIsWritten, TransmitterIsEnabled};
 
 /// A driver whose receive ring is set up, whose transmit ring is or isn't, and that has offered no slot of
 /// either, is ready.

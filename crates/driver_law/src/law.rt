@@ -7,6 +7,7 @@ ghost use Rattle.bus.specs.Past.{Past, joined};
 ghost use Rattle.driver_law.specs.DriverState.{DriverState};
 ghost use Rattle.driver_law.specs.Goes.{FlowsTo, GoesTo, HasNoForgottenWork};
 ghost use Rattle.driver_law.specs.Ready.{ReadyWith, Stands};
+ghost use Rattle.driver_law.specs.ReceiveSteps.{BuffersCanComeBack, OldestCanBeTaken, OldestIsAsLong, SlotsCanBeStaged, StagedCanBeOffered};
 
 /// Two stretches of a driver's run are one: what was taken in both was taken, in order, and so with what
 /// was given, what was put and stored, and what was missed. The transmit side may be set up in between.
@@ -30,4 +31,19 @@ pub fn drivers_go_on()
         → GoesTo up d a d' b taken given past → HasNoForgottenWork d a → HasNoForgottenWork d' b }
     ensures handed_out { (up : Bool) (d : DriverState) (a b : World) (past : Past)
         → ReadyWith up d a → Happens a b past → All (Stands d.counts b.memory) d.handed_out }
+{}
+
+/// What a driver does with the slots of its receive ring, each a stretch of its run by itself.
+/// - `staged`: it stores the descriptor of the next slot, with a free buffer, where one slot more would
+///   still be left.
+/// - `offered`: it offers all staged slots by one write of RDT.
+/// - `taken`: it takes the oldest slot, where that is finished, and hands its frame out.
+/// - `length`: that frame has as many bytes as the slot's descriptor says.
+/// - `comes_back`: a buffer that was handed out comes back into the pool.
+pub fn receive_slots_go_round()
+    ensures staged { SlotsCanBeStaged }
+    ensures offered { StagedCanBeOffered }
+    ensures taken { OldestCanBeTaken }
+    ensures length { OldestIsAsLong }
+    ensures comes_back { BuffersCanComeBack }
 {}
