@@ -5,6 +5,7 @@ pub mod Buffers
 pub mod Stretches
 pub mod Readiness
 pub mod Steps
+pub mod Runs
 pub mod Rests
 pub mod Beginnings
 pub mod Parts
