@@ -99,7 +99,7 @@ buffer-aside {up} d world number ready known free =
     }
 
 -- The first bytes of an area stay where all of them do.
-front-same : (memory memory' : List ℕ) (address n size : ℕ) → n ≤ size → bytes_at memory' address size ≡ bytes_at memory address size → bytes_at memory' address n ≡ bytes_at memory address n
+pub front-same : (memory memory' : List ℕ) (address n size : ℕ) → n ≤ size → bytes_at memory' address size ≡ bytes_at memory address size → bytes_at memory' address n ≡ bytes_at memory address n
 front-same memory memory' address n size short same =
     sym (take-shorter n size (drop address memory') short) ∙ ap (take n) same ∙ take-shorter n size (drop address memory) short
   where

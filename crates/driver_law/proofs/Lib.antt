@@ -18,3 +18,4 @@ pub mod Offers
 pub mod Takes
 pub mod TransmitSlots
 pub mod FramesToSend
+pub mod TransmitRuns

@@ -1,17 +1,18 @@
 -- The steps of a driver's transmit side (own).
-use Rattle.std.specs.Prelude.{◌≡◌, ◌≤◌, ◌<◌, ◌+◌, ◌-◌, ◌%◌, ◌⊎◌, ℕ, true, false, List, [], ◌∷◌, length}
+use Rattle.std.specs.Prelude.{◌≡◌, ◌≤◌, ◌<◌, ◌+◌, ◌-◌, ◌%◌, ◌⊎◌, ℕ, true, false, List, [], ◌∷◌, length, map}
 use Rattle.dma_memory.specs.Areas.{bytes_in, descriptor_area}
 use Rattle.dma_memory.specs.HostMemory.{bytes_at}
 use Rattle.dma_memory.specs.Layout.{Counts, TransmitBuffer, area_of, start_of}
 use Rattle.descriptors.specs.Frames.{padded}
+use Rattle.descriptors.specs.Ring.{slots_from}
 use Rattle.descriptors.specs.TxDesc.{tx_desc_bytes}
 use Rattle.descriptors.specs.TxFields.{command_of, sent_of}
 use Rattle.adapter.specs.Slots.{is_done, written_back}
-use Rattle.adapter.specs.World.{World, transmit_ring, world_after_store}
+use Rattle.adapter.specs.World.{World, transmit_ring, world_after_store, world_after_write}
 use Rattle.bus.specs.Law.{Happens}
 use Rattle.bus.specs.Offering.{offering_frame}
 use Rattle.bus.specs.Own.{IsOwnSlot}
-use Rattle.bus.specs.Past.{Past, nothing}
+use Rattle.bus.specs.Past.{Access, Loads, Past, Stores, Writes, nothing}
 use Rattle.driver_law.specs.DriverState.{DriverState, transmit_slot, transmit_tail}
 use Rattle.driver_law.specs.Goes.{Goes}
 use Rattle.driver_law.specs.Ready.{Ready}
@@ -60,7 +61,13 @@ pub record FrameStands (driver : DriverState) (frame : List ℕ) (world : World)
   pub bytes : bytes_at world.memory (transmit_buffer driver.counts (transmit_tail driver)) (length frame) ≡ frame
   pub descriptor : bytes_at world.memory (transmit_slot driver.counts (transmit_tail driver)) 16 ≡ whole_descriptor (transmit_buffer driver.counts (transmit_tail driver)) (length frame)
 
--- TDT is moved on by one: the frame, padded, is the last that is to be sent.
+-- A write of TDT with the place behind the tail moves it on by one:
+abbrev pub TailIsMoved : Type 0
+TailIsMoved =
+    (driver : DriverState) (world : World) → Ready driver world
+    → world_after_write 0x3818 ((transmit_tail driver + 1) % driver.counts.tx) world ≡ offering_frame world
+
+-- the frame, padded, is the last that is to be sent.
 abbrev pub FrameIsOffered : Type 0
 FrameIsOffered =
     (driver : DriverState) (frame : List ℕ) (world : World) → Ready driver world → driver.sending + 1 < driver.counts.tx → 14 ≤ length frame → length frame ≤ 1518
@@ -83,3 +90,16 @@ abbrev pub NoneIsWrittenBack : Type 0
 NoneIsWrittenBack =
     (driver : DriverState) (world : World) → Ready driver world
     → (driver.sending ≡ 0) ⊎ (is_done world.memory (transmit_slot driver.counts driver.oldest_sent) ≡ false) → written_back driver.oldest_sent world ≡ []
+
+-- Over a bus.
+
+-- The descriptors of so many slots are loaded, from a place on.
+abbrev pub transmit_loads : Counts → (oldest : ℕ) → ℕ → List Access
+transmit_loads counts oldest k = map (λ slot. Loads (transmit_slot counts slot) 16) (slots_from counts.tx oldest k)
+
+-- A frame is sent by the slot at the tail: its bytes are stored, then the descriptor, and then TDT written.
+abbrev pub send_accesses : DriverState → List ℕ → List Access
+send_accesses driver frame =
+    Stores (transmit_buffer driver.counts (transmit_tail driver)) frame
+    ∷ Stores (transmit_slot driver.counts (transmit_tail driver)) (whole_descriptor (transmit_buffer driver.counts (transmit_tail driver)) (length frame))
+    ∷ Writes 0x3818 ((transmit_tail driver + 1) % driver.counts.tx) ∷ []
