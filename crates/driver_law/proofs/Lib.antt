@@ -8,3 +8,5 @@ pub mod Steps
 pub mod Stores
 pub mod Offers
 pub mod Takes
+pub mod Accesses
+pub mod ReceiveAccesses

@@ -3,3 +3,4 @@ pub mod Ready
 pub mod Goes
 pub mod Accesses
 pub mod ReceiveSteps
+pub mod OldestSlot
