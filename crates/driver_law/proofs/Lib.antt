@@ -5,7 +5,6 @@ pub mod Buffers
 pub mod Stretches
 pub mod Readiness
 pub mod Steps
-pub mod Runs
 pub mod Rests
 pub mod Beginnings
 pub mod Parts
@@ -18,4 +17,6 @@ pub mod Offers
 pub mod Takes
 pub mod TransmitSlots
 pub mod FramesToSend
+pub mod Accesses
+pub mod ReceiveAccesses
 pub mod TransmitRuns

@@ -20,10 +20,11 @@ use Rattle.driver_law.specs.DriverState.{DriverState, transmit_slot, transmit_ta
 use Rattle.driver_law.specs.Goes.{Goes, RanBy}
 use Rattle.driver_law.specs.Ready.{Ready}
 use Rattle.driver_law.specs.Transmit.{FrameStands, TailIsMoved, send_accesses, transmit_buffer, whole_descriptor, with_freed}
+use Rattle.driver_law.proofs.Accesses.{ran_by-join}
 use Rattle.driver_law.proofs.Buffers.{front-same}
 use Rattle.driver_law.proofs.FramesToSend.{frame_is_offered, length-whole, none_is_written_back, slot_is_freed}
-use Rattle.driver_law.proofs.Runs.{accesses_are_stretches, runs_join}
 use Rattle.driver_law.proofs.Steps.{goes-happens, goes-stays}
+use Rattle.driver_law.proofs.Stretches.{goes_join, joined-nothing}
 use Rattle.driver_law.proofs.TransmitSlots.{data_is_stored, descriptor_is_stored, next_slot_is_own, own-buffer, own-descriptor, slots_keep_bytes}
 
 -- A stretch behind which something holds.
@@ -45,7 +46,9 @@ run-with world happened lively old new access effect d d' given Before Behind ac
         past = acts.past;
         told = acts.told;
         only = acts.only;
-        goes = accesses_are_stretches true d d' (world old) acts.middle (world new) [] given acts.past ready acts.before (λ still. later.0);
+        goes =
+            subst (Goes d (world old) d' (world new) [] given) (joined-nothing acts.past)
+            (goes_join d d d' (world old) acts.middle (world new) [] [] [] given acts.past nothing first later.0);
       };
       behind = later.1;
     }
@@ -130,8 +133,8 @@ run-sends {B} world happened lively joins old one two new d frame room least sho
     let offered : RanWith world happened (Writes 0x3818 tail ∷ []) two new d sent [] (padded frame ∷ []) (λ world. Unit {0}) = run-with world happened lively two new (Writes 0x3818 tail) (λ before after. after ≡ world_after_write 0x3818 tail before) d sent (padded frame ∷ []) (FrameStands d frame) (λ world. Unit {0}) third named.ran.goes.flows.ready named.behind (stands-stay d frame short)
     (λ middle set stands written.
     (subst (λ (after : World). Goes d middle sent after [] (padded frame ∷ []) nothing) (sym (written ∙ tail_is_moved d middle set)) (frame_is_offered d frame middle set room least short stands), tt)) in
-    runs_join world happened joins old two new (Stores start frame ∷ Stores at descriptor ∷ []) (Writes 0x3818 tail ∷ []) d d sent [] [] [] (padded frame ∷ [])
-    (runs_join world happened joins old one two (Stores start frame ∷ []) (Stores at descriptor ∷ []) d d d [] [] [] [] stored_data.ran named.ran) offered.ran
+    ran_by-join world happened joins (Stores start frame ∷ Stores at descriptor ∷ []) (Writes 0x3818 tail ∷ []) old two new d d sent [] [] [] (padded frame ∷ [])
+    (ran_by-join world happened joins (Stores start frame ∷ []) (Stores at descriptor ∷ []) old one two d d d [] [] [] [] stored_data.ran named.ran) offered.ran
 
 -- The oldest slot's descriptor is loaded.
 

@@ -1,12 +1,9 @@
 -- The accesses of a driver's calls, in order (own).
-use Rattle.std.specs.Prelude.{◌+◌, ◌%◌, ℕ, Bool, zero, suc, List, [], ◌∷◌}
+use Rattle.std.specs.Prelude.{◌+◌, ◌%◌, ℕ, zero, suc, List, [], ◌∷◌}
 use Rattle.dma_memory.specs.Layout.{Counts}
-use Rattle.adapter.specs.World.{World}
-use Rattle.bus.specs.Law.{Happens}
-use Rattle.bus.specs.Past.{Access, Loads, Past, Stores, Writes, nothing}
-use Rattle.driver_law.specs.DriverState.{DriverState, buffer_at, receive_slot}
-use Rattle.driver_law.specs.Goes.{GoesTo}
-use Rattle.driver_law.specs.Ready.{ReadyWith, empty_descriptor}
+use Rattle.bus.specs.Past.{Access, Loads, Stores, Writes}
+use Rattle.driver_law.specs.DriverState.{buffer_at, receive_slot}
+use Rattle.driver_law.specs.Ready.{empty_descriptor}
 
 -- the descriptors of the receive slots from a place on are stored, with these buffers
 abbrev pub stores_from : Counts → ℕ → List ℕ → List Access
@@ -23,9 +20,3 @@ tail_write slot (number ∷ later) = Writes 0x2818 slot ∷ []
 abbrev pub loads_from : (count slot : ℕ) → ℕ → List Access
 loads_from count slot zero = []
 loads_from count slot (suc k) = Loads (receive_slot slot) 16 ∷ loads_from count ((slot + 1) % count) k
-
--- What happens before an access, and the access itself, are one stretch.
-abbrev pub AccessesAreStretches : Type 0
-AccessesAreStretches =
-    (up : Bool) (d d' : DriverState) (a middle b : World) (taken given : List (List ℕ)) (past : Past) → ReadyWith up d a → Happens a middle past
-    → (ReadyWith up d middle → GoesTo up d middle d' b taken given nothing) → GoesTo up d a d' b taken given past

@@ -32,6 +32,10 @@ pub record DriverState : Type 0 where
 abbrev pub with_owners : DriverState → (buffers staged pool : List ℕ) → List HandedOut → DriverState
 with_owners driver buffers staged pool handed_out = record driver { buffers = buffers; staged = staged; pool = pool; handed_out = handed_out }
 
+-- the same driver, while others hold these frames
+abbrev pub holding : List HandedOut → DriverState → DriverState
+holding handed_out driver = record driver { handed_out = handed_out }
+
 -- The owners of buffers, one behind the other: the pool, the slots of the ring, and those who hold frames.
 abbrev pub owners : DriverState → List ℕ
 owners driver = driver.pool ++ (driver.buffers ++ (driver.staged ++ numbers_of driver.handed_out))

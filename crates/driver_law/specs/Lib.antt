@@ -6,3 +6,4 @@ pub mod Readings
 pub mod Transmit
 pub mod Accesses
 pub mod ReceiveSteps
+pub mod OldestSlot

@@ -1,6 +1,5 @@
-// Laws of single accesses, and of the registers that a driver reads.
+// Laws of the registers that a driver reads.
 
-ghost use Rattle.driver_law.specs.Accesses.{AccessesAreStretches};
 ghost use Rattle.driver_law.specs.Readings.{CausesAreRead, MissesAreRead, OthersAreRead};
 
 /// What a driver's read of a register leaves of what it knows.
@@ -11,9 +10,4 @@ pub fn registers_are_read()
     ensures causes { CausesAreRead }
     ensures misses { MissesAreRead }
     ensures others { OthersAreRead }
-{}
-
-/// What happens before an access of a driver, and the access itself, are one stretch of its run.
-pub fn accesses_are_stretches()
-    ensures { AccessesAreStretches }
 {}
