@@ -1,0 +1,69 @@
+// What a driver keeps.
+
+ghost use Rattle.std.specs.Prelude.{◌≡◌, ◌+◌, length};
+
+use circular_buffer::HeapCircularBuffer;
+use dma_memory::{BufId, Layout, Pool};
+use std::marker::Model;
+
+/// A driver: where its rings and buffers stand, which of its slots are outstanding, and which buffers
+/// they have.
+///
+/// A slot of the receive ring is staged where its descriptor is stored and it isn't offered yet. Of both
+/// rings one slot at least is the driver's.
+#[derive(Drop)]
+pub struct Driver {
+    pub(crate) layout: Layout,
+    /// The place of the oldest outstanding receive slot.
+    pub(crate) oldest_received: u16,
+    /// The place whose descriptor is stored next.
+    pub(crate) next_received: u16,
+    /// The buffers of the outstanding receive slots, the oldest first, and of the staged ones behind them.
+    pub(crate) buffers: HeapCircularBuffer<BufId>,
+    /// How many are staged.
+    pub(crate) staged: u16,
+    pub(crate) pool: Pool,
+    /// The place of the oldest outstanding transmit slot.
+    pub(crate) oldest_sent: u16,
+    /// The place behind the newest.
+    pub(crate) next_sent: u16,
+    /// How many transmit slots are outstanding.
+    pub(crate) sending: u16,
+    /// The sum of what MPC was read as, up to the greatest `u64`.
+    pub(crate) missed: u64,
+}
+
+impl Model for Driver {
+    ghost use Rattle.driver_law.specs.DriverState.{DriverState};
+
+    ghost Value = { DriverState };
+
+    ghost use Rattle.driver.specs.Inside.{IsSound, state_of};
+
+    ghost view = { state_of };
+
+    ghost invariant = { IsSound };
+}
+
+impl Driver {
+    /// Where its rings and buffers stand.
+    pub fn layout(&self) -> Layout
+        ensures { result ≡ self.now.counts }
+    {
+        self.layout
+    }
+
+    /// How many receive slots are outstanding or staged.
+    pub fn receiving(&self) -> usize
+        ensures { result ≡ length self.now.buffers + length self.now.staged }
+    {
+        self.buffers.len()
+    }
+
+    /// How many transmit slots are outstanding.
+    pub fn sending(&self) -> u16
+        ensures { result ≡ self.now.sending }
+    {
+        self.sending
+    }
+}

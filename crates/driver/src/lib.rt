@@ -1,0 +1,9 @@
+//! A driver of the 82540EM, generic over the bus that it reaches its adapter and memory by.
+//!
+//! Section numbers are those of Intel's "PCI/PCI-X Family of Gigabit Ethernet Controllers Software
+//! Developer's Manual".
+#![tactic(auto)]
+
+mod driver;
+
+pub use driver::Driver;

@@ -1,0 +1,61 @@
+-- Accesses over a bus, one after the other, as stretches of a driver's run.
+use Rattle.std.proofs.Common.{Bool, ◌++◌, ◌∷◌, [], ℕ, List, refl, sym, ap, subst, ◌∙◌}
+use Rattle.std.specs.List.{All}
+use Rattle.adapter.specs.World.{World}
+use Rattle.bus.specs.Law.{Acts}
+use Rattle.bus.specs.Past.{Past, joined, nothing}
+use Rattle.bus.specs.declared.event.Access.{Access}
+use Rattle.driver_law.proofs.Steps.{goes-happens, goes-stays}
+use Rattle.driver_law.proofs.Stretches.{goes_join, joined-nothing}
+use Rattle.driver_law.specs.DriverState.{DriverState}
+use Rattle.driver_law.specs.Goes.{GoesTo, RanBy, RanTo}
+use Rattle.driver_law.specs.Ready.{ReadyWith}
+
+-- The driver does something by itself, without an access.
+pub ran_by-itself : {up : Bool} {B : Type 0} (world : B → World) (happened : B → B → Past → Type 0) → ((b : B) → happened b b nothing)
+    → (b : B) (d d' : DriverState) (taken given : List (List ℕ)) → GoesTo up d (world b) d' (world b) taken given nothing → RanBy up world happened [] b b d d' taken given
+ran_by-itself world happened stays b d d' taken given goes = record { past = nothing; told = stays b; only = refl; goes = goes }
+
+-- It does nothing.
+pub ran_by-stays : {up : Bool} {B : Type 0} (world : B → World) (happened : B → B → Past → Type 0) → ((b : B) → happened b b nothing)
+    → (b : B) (d : DriverState) → ReadyWith up d (world b) → RanBy up world happened [] b b d d [] []
+ran_by-stays world happened stays b d ready = ran_by-itself world happened stays b d d [] [] (goes-stays d (world b) ready)
+
+-- One access: something happens, and then what the access does, from any world in which the driver is ready.
+pub ran_by-acts : {up : Bool} {B : Type 0} (world : B → World) (happened : B → B → Past → Type 0) (lively : B → Type 0) (old new : B) (access : Access) (effect : World → World → Type 0)
+    (d d' : DriverState) (taken given : List (List ℕ)) → Acts world happened lively old new access effect → ReadyWith up d (world old)
+    → ((middle : World) → ReadyWith up d middle → effect middle (world new) → GoesTo up d middle d' (world new) taken given nothing)
+    → RanBy up world happened (access ∷ []) old new d d' taken given
+ran_by-acts {up} world happened lively old new access effect d d' taken given acts ready step =
+    let first = goes-happens d (world old) acts.middle acts.past ready acts.before in
+    let later = step acts.middle first.flows.ready acts.effect_is in
+    record {
+      past = acts.past;
+      told = acts.told;
+      only = acts.only;
+      goes =
+          subst (GoesTo up d (world old) d' (world new) taken given) (joined-nothing acts.past)
+          (goes_join d d d' (world old) acts.middle (world new) [] taken [] given acts.past nothing first later);
+    }
+
+-- One stretch, and then another.
+pub ran_by-join : {first_up up : Bool} {B : Type 0} (world : B → World) (happened : B → B → Past → Type 0)
+    → ((a b c : B) (first later : Past) → happened a b first → happened b c later → happened a c (joined first later))
+    → (xs ys : List Access) (a b c : B) (d1 d2 d3 : DriverState) (t1 t2 g1 g2 : List (List ℕ))
+    → RanBy first_up world happened xs a b d1 d2 t1 g1 → RanBy up world happened ys b c d2 d3 t2 g2 → RanBy up world happened (xs ++ ys) a c d1 d3 (t1 ++ t2) (g1 ++ g2)
+ran_by-join world happened joins xs ys a b c d1 d2 d3 t1 t2 g1 g2 one two = record {
+  past = joined one.past two.past;
+  told = joins a b c one.past two.past one.told two.told;
+  only = ap (λ (list : List Access). list ++ two.past.accesses) one.only ∙ ap (λ (list : List Access). xs ++ list) two.only;
+  goes = goes_join d1 d2 d3 (world a) (world b) (world c) t1 t2 g1 g2 one.past two.past one.goes two.goes;
+}
+
+-- Where exactly these accesses are done, and all of them are allowed, none but allowed ones are.
+pub ran-to : {up : Bool} {B : Type 0} (world : B → World) (happened : B → B → Past → Type 0) (allowed : Access → Type 0) (accesses : List Access) (old new : B)
+    (d d' : DriverState) (taken given : List (List ℕ)) → RanBy up world happened accesses old new d d' taken given → All allowed accesses → RanTo up world happened allowed old new d d' taken given
+ran-to world happened allowed accesses old new d d' taken given ran all = record {
+  past = ran.past;
+  told = ran.told;
+  only = subst (All allowed) (sym ran.only) all;
+  goes = ran.goes;
+}

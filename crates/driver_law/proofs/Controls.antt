@@ -1,0 +1,74 @@
+-- TCTL and IMS are written.
+use Rattle.std.proofs.Common.{Bool, ◌≡◌, ◌≤◌, ◌<◌, ◌+◌, ◌*◌, [], ℕ, List, length, refl, sym, ap, subst, ◌∙◌, arith}
+use Rattle.std.specs.List.{All}
+use Rattle.dma_memory.specs.Areas.{IsInside}
+use Rattle.dma_memory.specs.Layout.{TransmitBuffer, area_of}
+use Rattle.descriptors.specs.Ring.{slots_from}
+use Rattle.adapter.specs.HostAreas.{data_of}
+use Rattle.adapter.specs.Table.{register_at}
+use Rattle.adapter.specs.World.{World, world_after_write}
+use Rattle.adapter.specs.declared.register.Register.TheVariants.{Ims}
+use Rattle.bus.proofs.Initialising.{other_writes_leave_frames, transmitter_can_be_set}
+use Rattle.bus.proofs.Lists.{all-none}
+use Rattle.bus.specs.Initialising.{with_transmit_control}
+use Rattle.bus.specs.OwnStores.{LeavesFrames}
+use Rattle.driver_law.specs.Beginnings.{CausesAreUnmasked, TransmitterIsEnabled}
+use Rattle.driver_law.specs.DriverState.{DriverState, transmit_slot}
+use Rattle.driver_law.proofs.Parts.{SameParts, ready-left}
+use Rattle.driver_law.proofs.Rests.{goes-rests}
+
+pub transmitter_is_enabled : TransmitterIsEnabled
+transmitter_is_enabled driver control world ready below knows pads =
+    let counts = driver.counts in
+    let none : driver.sending ≡ 0 = ready.transmit.nothing in
+    let Inside : ℕ → Type 0 = λ slot. IsInside (data_of world.memory (transmit_slot counts slot)) (area_of counts (TransmitBuffer slot)) in
+    let leaves = transmitter_can_be_set driver.oldest_received driver.oldest_sent control world ready.sound (λ differ. pads) in
+    goes-rests driver world driver (with_transmit_control control world)
+    (record {
+      driver_is = ready.driver_is;
+      sound = leaves.same.sound;
+      runs = leaves.runs ready.runs;
+      fit = leaves.same.fits (omega arith) ready.fit;
+      whole = ready.whole;
+      lies = ready.lies;
+      size = ready.size;
+      receive = ready.receive;
+      transmit = record {
+        oldest_slot = below;
+        room = omega (arith, none, below);
+        pads = pads;
+        knows = knows;
+        sources = subst (λ (k : ℕ). All Inside (slots_from counts.tx driver.oldest_sent k)) (sym none) (all-none Inside);
+      };
+      names = ready.names;
+      stored = ready.stored;
+      stand = ready.stand;
+    })
+    (record {
+      counts = refl;
+      missed = refl;
+      to_send = refl;
+      held = refl;
+      finished_same = refl;
+      frees = omega arith;
+      mask = refl;
+      recorded = refl;
+      missed_packets = refl;
+    })
+
+pub causes_are_unmasked : CausesAreUnmasked
+unfolding register_at
+causes_are_unmasked up driver causes world ready =
+    let b = world_after_write 0xD0 causes world in
+    let leaves : LeavesFrames driver.oldest_received driver.oldest_sent world b = other_writes_leave_frames driver.oldest_received driver.oldest_sent Ims causes world ready.sound (λ no. no) refl in
+    let same : SameParts world b = record { memory = refl; receives = refl; transmits = refl; receive_control = refl; transmit_control = refl; buffer = refl } in
+    record {
+      ready = ready-left driver world b ready leaves same;
+      to_send = leaves.same.to_send;
+      held = leaves.same.held;
+      finished_same = leaves.same.finished_same;
+      written_same = leaves.same.written_same;
+      missed = refl;
+      recorded = refl;
+      mask = refl;
+    }

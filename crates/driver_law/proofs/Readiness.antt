@@ -1,0 +1,164 @@
+-- A driver stays ready from one world to another, where slots keep what they name.
+use Rattle.std.proofs.Common.{true, ◌⊎◌, false, Bool, ◌≡◌, ◌≤◌, ◌<◌, ◌+◌, ◌*◌, ◌%◌, ◌++◌, ◌∷◌, [], ℕ, suc, List, length, get_or, map, sym, ap, subst, ◌∙◌, arith}
+use Rattle.std.specs.List.{All}
+use Rattle.registers.specs.Bits.{HasBit, field}
+use Rattle.registers.specs.ReceiveControl.{buffer_size_of}
+use Rattle.rx_filter.specs.Registers.{FilterRegisters}
+use Rattle.dma_memory.specs.Areas.{Area, IsInside, area_at}
+use Rattle.dma_memory.specs.HostMemory.{bytes_at}
+use Rattle.dma_memory.specs.Layout.{Counts, TransmitBuffer, area_of, size_of}
+use Rattle.descriptors.specs.declared.ring.Ring.{Ring}
+use Rattle.descriptors.specs.declared.tx_desc.TxDesc.{TxDesc}
+use Rattle.descriptors.specs.Frames.{IsLegal}
+use Rattle.descriptors.specs.Ring.{IsSound, address_of, owned, slots_from}
+use Rattle.descriptors.specs.RingLaws.{owned-none, place}
+use Rattle.rx_engine.specs.Descriptors.{named_address}
+use Rattle.tx_engine.specs.Fetching.{frame_at}
+use Rattle.tx_engine.specs.ToSend.{to_send}
+use Rattle.tx_engine.specs.Transmitter.{Queued}
+use Rattle.adapter.specs.Conditions.{AreWhole, FitBuffers, Sound}
+use Rattle.adapter.specs.HostAreas.{buffer_size, data_of}
+use Rattle.adapter.specs.HostFrames.{frames_to_send}
+use Rattle.adapter.specs.Rings.{ring_of}
+use Rattle.adapter.specs.Running.{CanRun}
+use Rattle.adapter.specs.Slots.{finished, offered, outstanding}
+use Rattle.adapter.specs.World.{World, receive_ring, transmit_ring}
+use Rattle.adapter.specs.declared.ring.RingRegisters.{RingRegisters}
+use Rattle.bus.specs.Law.{Happens}
+use Rattle.bus.specs.Own.{IsOwnSlot}
+use Rattle.bus.specs.Past.{Past}
+use Rattle.bus.proofs.Idle.{still-idle}
+use Rattle.bus.proofs.Lists.{all-unmapped, all-weaker, append-empty, map-empty, map-same}
+use Rattle.bus.proofs.Own.{drivers_keep_their_own}
+use Rattle.bus.proofs.Rings.{each-outstanding}
+use Rattle.bus.proofs.Tails.{knows-carried}
+use Rattle.driver_law.proofs.Places.{outstanding-known, own-behind}
+use Rattle.driver_law.specs.DriverState.{DriverState, receive_slot, receive_tail, transmit_slot, with_owners}
+use Rattle.driver_law.specs.Ready.{AreStored, IsDriver, ReadyWith, Stands, TransmitIs, TransmitIsOff}
+
+-- the same driver, but for what is staged and what is free
+abbrev pub with_staged : DriverState → (staged pool : List ℕ) → DriverState
+with_staged d staged pool = with_owners d d.buffers staged pool d.handed_out
+
+-- Staged slots.
+
+pub stored-kept : (memory memory' : List ℕ) (counts : Counts) (slot : ℕ) (numbers : List ℕ)
+    → ((i : ℕ) → i < length numbers → bytes_at memory' (receive_slot (place counts.rx slot i)) 16 ≡ bytes_at memory (receive_slot (place counts.rx slot i)) 16)
+    → AreStored memory counts slot numbers → AreStored memory' counts slot numbers
+stored-kept memory memory' counts slot [] same stored = tt
+stored-kept memory memory' counts slot (number ∷ later) same stored =
+    (same 0 (omega arith) ∙ stored.0, stored-kept memory memory' counts ((slot + 1) % counts.rx) later (λ i below. same (suc i) (omega (arith, below))) stored.1)
+
+-- A slot behind the tail is the driver's own.
+pub own-staged : {up : Bool} (d : DriverState) (world : World) (i : ℕ) → ReadyWith up d world → length d.buffers + i < d.counts.rx → IsOwnSlot (receive_ring world) d.oldest_received (place d.counts.rx (receive_tail d) i)
+own-staged {up} d world i ready below = own-behind (receive_ring world) 0 d.counts.rx d.oldest_received (length d.buffers) i ready.receive ready.driver_is.oldest_slot below
+
+-- What a driver rests on stays from the first world to the second: the conditions, and what outstanding slots name; registers but the heads.
+pub record Keeps (o p : ℕ) (a b : World) : Type 0 where
+  pub sound : Sound o p b
+  pub runs : CanRun b
+  pub fit : FitBuffers o b
+  pub whole : AreWhole b.memory (finished o b)
+  pub size : length b.memory ≡ length a.memory
+  pub filter : b.adapter.filter ≡ a.adapter.filter
+  pub control : b.adapter.transmit_control ≡ a.adapter.transmit_control
+  pub receives : b.adapter.receive_ring ≡ record a.adapter.receive_ring { head = b.adapter.receive_ring.head }
+  pub transmits : b.adapter.transmit_ring ≡ record a.adapter.transmit_ring { head = b.adapter.transmit_ring.head }
+  pub receive_head : (b.adapter.receive_ring.head ≡ a.adapter.receive_ring.head) ⊎ IsSound (receive_ring b)
+  pub transmit_head : (b.adapter.transmit_ring.head ≡ a.adapter.transmit_ring.head) ⊎ IsSound (transmit_ring b)
+  pub addresses : All (λ slot. named_address b.memory slot ≡ named_address a.memory slot) (outstanding (receive_ring a) o)
+  pub sources : All (λ slot. data_of b.memory slot ≡ data_of a.memory slot) (outstanding (transmit_ring a) p)
+  pub none_to_send : frames_to_send a ≡ [] → frames_to_send b ≡ []
+
+-- The transmit side.
+
+pub none-to_send : (memory : List ℕ) (ring : Ring) (buffer : List Queued) → buffer ≡ [] → ring.head ≡ ring.tail → to_send memory ring true buffer ≡ []
+unfolding to_send
+none-to_send memory ring buffer none same =
+    let behind = map (λ (slot : ℕ). frame_at true memory (address_of ring slot)) (owned ring) in
+    ap (λ (queue : List Queued). map (λ (queued : Queued). queued.frame) queue ++ behind) none
+    ∙ ap (map (λ (slot : ℕ). frame_at true memory (address_of ring slot))) (owned-none ring same)
+
+none-left : (memory : List ℕ) (ring : Ring) (buffer : List Queued) → to_send memory ring true buffer ≡ [] → (buffer ≡ []) × (offered ring ≡ [])
+unfolding to_send
+none-left memory ring buffer none =
+    let parts = append-empty _ _ none in
+    (map-empty (λ (queued : Queued). queued.frame) buffer parts.0, ap (map (address_of ring)) (map-empty _ (owned ring) parts.1))
+
+transmit-kept : (up : Bool) (o : ℕ) (counts : Counts) (p sending : ℕ) (a b : World) → Keeps o p a b
+    → TransmitIs up counts p sending a.memory (transmit_ring a) a.adapter.transmit_control a.adapter.transmitter.buffer
+    → TransmitIs up counts p sending b.memory (transmit_ring b) b.adapter.transmit_control b.adapter.transmitter.buffer
+transmit-kept true o counts p sending a b keeps side =
+    let slots = slots_from counts.tx p sending in
+    let Same : ℕ → Type 0 = λ slot. data_of b.memory slot ≡ data_of a.memory slot in
+    let known = outstanding-known (transmit_ring a) (16 * counts.rx) counts.tx p sending side.knows side.oldest_slot side.room in
+    let same : All (λ slot. Same (transmit_slot counts slot)) slots = all-unmapped Same (transmit_slot counts) slots (subst (λ (list : List ℕ). All Same list) known keeps.sources) in
+    record {
+      oldest_slot = side.oldest_slot;
+      room = side.room;
+      pads = subst (λ (control : ℕ). HasBit control 3) (sym keeps.control) side.pads;
+      knows = knows-carried a.adapter.transmit_ring b.adapter.transmit_ring (16 * counts.rx) counts.tx _ keeps.transmits keeps.transmit_head side.knows;
+      sources = λ k d below. subst (λ (area : Area). IsInside area (area_of counts (TransmitBuffer (get_or slots k d)))) (sym (same k d below)) (side.sources k d below);
+    }
+transmit-kept false o counts p sending a b keeps side =
+    let before = a.adapter.transmit_ring in
+    let behind = b.adapter.transmit_ring in
+    let none = none-left b.memory (transmit_ring b) b.adapter.transmitter.buffer (keeps.none_to_send (none-to_send a.memory (transmit_ring a) a.adapter.transmitter.buffer side.empty side.idle)) in
+    let tail : behind.tail ≡ before.tail = ap (λ (ring : RingRegisters). ring.tail) keeps.transmits in
+    let head : behind.head ≡ before.head = still-idle before behind keeps.transmits keeps.transmit_head side.idle none.1 ∙ tail ∙ sym side.idle in
+    let same : behind ≡ before = keeps.transmits ∙ ap (λ (index : ℕ). let ring : RingRegisters = record before { head = index } in ring) head in
+    subst (λ (ring : RingRegisters). TransmitIsOff counts p sending (ring_of ring) b.adapter.transmitter.buffer) (sym same)
+    (record { ends = side.ends; idle = side.idle; last = side.last; nothing = side.nothing; empty = none.0 })
+
+-- All of it.
+pub ready-kept : {up : Bool} (d : DriverState) (staged pool : List ℕ) (a b : World) → ReadyWith up d a → Keeps d.oldest_received d.oldest_sent a b
+    → IsDriver (with_staged d staged pool) → AreStored b.memory d.counts (receive_tail d) staged → All (Stands d.counts b.memory) d.handed_out
+    → ReadyWith up (with_staged d staged pool) b
+ready-kept {up} d staged pool a b ready keeps driver stored stand =
+    let before = a.adapter.receive_ring in
+    let behind = b.adapter.receive_ring in
+    record {
+      driver_is = driver;
+      sound = keeps.sound;
+      runs = keeps.runs;
+      fit = keeps.fit;
+      whole = keeps.whole;
+      lies = subst (λ (n : ℕ). size_of d.counts ≤ n) (sym keeps.size) ready.lies;
+      size = ap (λ (filter : FilterRegisters). buffer_size_of (field filter.rctl 16 2)) keeps.filter ∙ ready.size;
+      receive = knows-carried before behind 0 d.counts.rx (receive_tail d) keeps.receives keeps.receive_head ready.receive;
+      transmit = transmit-kept up d.oldest_received d.counts d.oldest_sent d.sending a b keeps ready.transmit;
+      names =
+          ap (λ (ring : RingRegisters). map (named_address b.memory) (outstanding (ring_of ring) d.oldest_received)) keeps.receives
+          ∙ map-same (named_address b.memory) (named_address a.memory) (outstanding (receive_ring a) d.oldest_received) keeps.addresses
+          ∙ ready.names;
+      stored = stored;
+      stand = stand;
+    }
+
+-- What happens keeps it.
+pub keeps-happening : {up : Bool} (d : DriverState) (a b : World) (past : Past) → ReadyWith up d a → Happens a b past → Keeps d.oldest_received d.oldest_sent a b
+keeps-happening {up} d a b past ready happens =
+    let o = d.oldest_received in
+    let p = d.oldest_sent in
+    let steady = happens.steady in
+    let between = happens.between o p ready.sound in
+    let own = drivers_keep_their_own o p a b past ready.sound happens in
+    let Fits : List ℕ → Type 0 = λ frame. length frame ≤ buffer_size a in
+    record {
+      sound = between.sound;
+      runs = between.runs (all-weaker IsLegal Fits past.stored (λ frame legal. omega (arith, legal.most, ready.size)) steady.legal) ready.runs;
+      fit = between.fits ready.fit;
+      whole = between.whole ready.whole;
+      size = steady.size;
+      filter = steady.filter;
+      control = steady.transmit_control;
+      receives = steady.receive_ring;
+      transmits = steady.transmit_ring;
+      receive_head = steady.receive_head;
+      transmit_head = steady.transmit_head;
+      addresses = each-outstanding (receive_ring a) o (λ slot. named_address b.memory slot ≡ named_address a.memory slot) ready.sound.receive_slots.slot own.addresses;
+      sources =
+          each-outstanding (transmit_ring a) p (λ slot. data_of b.memory slot ≡ data_of a.memory slot) ready.sound.transmit_slots.slot
+          (λ slot below. ap (λ (desc : TxDesc). area_at desc.address desc.length) (own.requests slot below).fields);
+      none_to_send = λ none. (append-empty past.put (frames_to_send b) (between.sends ∙ none)).1;
+    }

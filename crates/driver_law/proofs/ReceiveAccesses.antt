@@ -1,0 +1,120 @@
+-- What a driver does with its receive slots over a bus.
+use Rattle.std.proofs.Common.{Bool, ◌≡◌, ◌<◌, ◌+◌, ◌%◌, ◌++◌, ◌∷◌, [], true, false, ℕ, zero, suc, List, length, slice_index, refl, sym, ap, subst, ◌∙◌, arith}
+use Rattle.registers.specs.Bits.{is_set}
+use Rattle.dma_memory.specs.HostMemory.{bytes_at}
+use Rattle.dma_memory.specs.Layout.{Counts}
+use Rattle.dma_memory.specs.Owners.{HaveSameNumbers}
+use Rattle.descriptors.specs.RingLaws.{place}
+use Rattle.descriptors.specs.RxDesc.{rx_desc_of}
+use Rattle.adapter.specs.World.{World, world_after_store, world_after_write}
+use Rattle.bus.specs.Initialising.{with_tail}
+use Rattle.bus.specs.Law.{Acts}
+use Rattle.bus.specs.Past.{Past, nothing}
+use Rattle.bus.specs.declared.event.Access.{Access}
+use Rattle.bus.specs.declared.event.Access.TheVariants.{Loads, Stores, Writes}
+use Rattle.bus.proofs.Tails.{receive_tail-written}
+use Rattle.driver_law.proofs.Accesses.{ran_by-acts}
+use Rattle.driver_law.proofs.Offers.{staged_can_be_offered}
+use Rattle.driver_law.proofs.Places.{place-below}
+use Rattle.driver_law.proofs.Steps.{goes-happens, goes-stays}
+use Rattle.driver_law.proofs.Stores.{slots_can_be_staged}
+use Rattle.driver_law.proofs.Takes.{finished-first, finished-none, oldest_can_be_taken, oldest_is_as_long}
+use Rattle.driver_law.specs.Accesses.{loads_from, stores_from}
+use Rattle.driver_law.specs.DriverState.{DriverState, buffer_at, next_received, receive_slot, with_owners}
+use Rattle.driver_law.specs.Goes.{GoesTo, RanBy}
+use Rattle.driver_law.specs.OldestSlot.{LeavesOldest, TakesOldest}
+use Rattle.driver_law.specs.Ready.{ReadyWith, empty_descriptor}
+
+-- The lists of accesses grow at their ends.
+
+pub stores-push : (counts : Counts) (slot : ℕ) (numbers : List ℕ) (m : ℕ) → stores_from counts slot (numbers ++ m ∷ []) ≡ stores_from counts slot numbers ++ stores_from counts (place counts.rx slot (length numbers)) (m ∷ [])
+stores-push counts slot [] m = refl
+stores-push counts slot (number ∷ later) m = ap (λ (list : List Access). Stores (receive_slot slot) (empty_descriptor (buffer_at counts number)) ∷ list) (stores-push counts ((slot + 1) % counts.rx) later m)
+
+pub loads-push : (count slot k : ℕ) → loads_from count slot (suc k) ≡ loads_from count slot k ++ Loads (receive_slot (place count slot k)) 16 ∷ []
+loads-push count slot zero = refl
+loads-push count slot (suc k) = ap (λ (list : List Access). Loads (receive_slot slot) 16 ∷ list) (loads-push count ((slot + 1) % count) k)
+
+-- The next slot's descriptor is stored.
+pub ran_by-stages : {up : Bool} {B : Type 0} (world : B → World) (happened : B → B → Past → Type 0) (lively : B → Type 0) (old new : B) (d : DriverState) (m address : ℕ) (pool bytes : List ℕ)
+    → length d.buffers + length d.staged + 1 < d.counts.rx → m < d.counts.buffers → HaveSameNumbers d.pool (m ∷ pool)
+    → address ≡ receive_slot (next_received d) → bytes ≡ empty_descriptor (buffer_at d.counts m)
+    → Acts world happened lively old new (Stores address bytes) (λ before after. after ≡ world_after_store address bytes before) → ReadyWith up d (world old)
+    → RanBy up world happened (stores_from d.counts (next_received d) (m ∷ [])) old new d (with_owners d d.buffers (d.staged ++ m ∷ []) pool d.handed_out) [] []
+ran_by-stages {up} world happened lively old new d m address pool bytes room known moves at is acts ready =
+    let d' = with_owners d d.buffers (d.staged ++ m ∷ []) pool d.handed_out in
+    let slot = receive_slot (next_received d) in
+    let access : Stores address bytes ≡ Stores slot (empty_descriptor (buffer_at d.counts m)) = ap (λ (x : ℕ). Stores x bytes) at ∙ ap (Stores slot) is in
+    subst (λ (one : Access). RanBy up world happened (one ∷ []) old new d d' [] []) access
+    (ran_by-acts world happened lively old new (Stores address bytes) (λ before after. after ≡ world_after_store address bytes before) d d' [] [] acts ready
+    (λ middle set stored.
+    let done = stored ∙ ap (λ (x : ℕ). world_after_store x bytes middle) at ∙ ap (λ (list : List ℕ). world_after_store slot list middle) is in
+    subst (λ (w : World). GoesTo up d middle d' w [] [] nothing) (sym done) (slots_can_be_staged up d m pool middle set room known moves)))
+
+-- RDT is written, and offers all that are staged.
+pub ran_by-offers : {up : Bool} {B : Type 0} (world : B → World) (happened : B → B → Past → Type 0) (lively : B → Type 0) (old new : B) (d : DriverState) (value : ℕ) → value ≡ next_received d
+    → Acts world happened lively old new (Writes 0x2818 value) (λ before after. after ≡ world_after_write 0x2818 value before) → ReadyWith up d (world old)
+    → RanBy up world happened (Writes 0x2818 (next_received d) ∷ []) old new d (with_owners d (d.buffers ++ d.staged) [] d.pool d.handed_out) [] []
+ran_by-offers {up} world happened lively old new d value at acts ready =
+    let d' = with_owners d (d.buffers ++ d.staged) [] d.pool d.handed_out in
+    let below : value < 65536 = omega (arith, at, ready.receive.slots, place-below d.counts.rx d.oldest_received (length d.buffers + length d.staged) ready.driver_is.oldest_slot) in
+    subst (λ (place : ℕ). RanBy up world happened (Writes 0x2818 place ∷ []) old new d d' [] []) at
+    (ran_by-acts world happened lively old new (Writes 0x2818 value) (λ before after. after ≡ world_after_write 0x2818 value before) d d' [] [] acts ready
+    (λ middle set written.
+    let done = written ∙ receive_tail-written value middle below ∙ ap (λ (place : ℕ). with_tail place middle) at in
+    subst (λ (w : World). GoesTo up d middle d' w [] [] nothing) (sym done) (staged_can_be_offered up d middle set)))
+
+-- The oldest slot's descriptor is loaded.
+
+-- what is loaded stands in memory behind the load
+abbrev Shows : (address : ℕ) (bytes : List ℕ) → World → World → Type 0
+Shows address bytes before after = (bytes ≡ bytes_at before.memory address 16) × (after ≡ before)
+
+ran_by-looks : {up : Bool} {B : Type 0} (world : B → World) (happened : B → B → Past → Type 0) (lively : B → Type 0) (old new : B) (d d' : DriverState) (taken : List (List ℕ)) (address : ℕ) (bytes : List ℕ)
+    → address ≡ receive_slot d.oldest_received → Acts world happened lively old new (Loads address 16) (Shows address bytes) → ReadyWith up d (world old)
+    → (ReadyWith up d (world new) → GoesTo up d (world new) d' (world new) taken [] nothing) → RanBy up world happened (Loads (receive_slot d.oldest_received) 16 ∷ []) old new d d' taken []
+ran_by-looks {up} world happened lively old new d d' taken address bytes at acts ready step =
+    subst (λ (place : ℕ). RanBy up world happened (Loads place 16 ∷ []) old new d d' taken []) at
+    (ran_by-acts world happened lively old new (Loads address 16) (Shows address bytes) d d' taken [] acts ready
+    (λ middle set shows.
+    subst (λ (w : World). GoesTo up d w d' (world new) taken [] nothing) shows.1 (step (subst (ReadyWith up d) (sym shows.1) set))))
+
+-- What it shows, in the world behind it.
+record IsSeen (up : Bool) (d : DriverState) (world : World) (bytes : List ℕ) : Type 0 where
+  ready : ReadyWith up d world
+  shown : bytes ≡ bytes_at world.memory (receive_slot d.oldest_received) 16
+
+seen : {up : Bool} {B : Type 0} (world : B → World) (happened : B → B → Past → Type 0) (lively : B → Type 0) (old new : B) (d : DriverState) (address : ℕ) (bytes : List ℕ)
+    → address ≡ receive_slot d.oldest_received → Acts world happened lively old new (Loads address 16) (Shows address bytes) → ReadyWith up d (world old) → IsSeen up d (world new) bytes
+seen {up} world happened lively old new d address bytes at acts ready = record {
+  ready = subst (ReadyWith up d) (sym acts.effect_is.1) (goes-happens d (world old) acts.middle acts.past ready acts.before).flows.ready;
+  shown =
+      acts.effect_is.0
+      ∙ ap (λ (w : World). bytes_at w.memory address 16) (sym acts.effect_is.1)
+      ∙ ap (λ (place : ℕ). bytes_at (world new).memory place 16) at;
+}
+
+-- It isn't done.
+pub ran_by-leaves : {up : Bool} {B : Type 0} (world : B → World) (happened : B → B → Past → Type 0) (lively : B → Type 0) (old new : B) (d : DriverState) (m address : ℕ) (later bytes : List ℕ)
+    → d.buffers ≡ m ∷ later → address ≡ receive_slot d.oldest_received → is_set (slice_index bytes 12) 0 ≡ false
+    → Acts world happened lively old new (Loads address 16) (Shows address bytes) → ReadyWith up d (world old) → LeavesOldest up world happened old new d
+ran_by-leaves {up} world happened lively old new d m address later bytes buffers at clear acts ready =
+    let it = seen world happened lively old new d address bytes at acts ready in
+    record {
+      none = finished-none d (world new) m later buffers it.ready (ap (λ (list : List ℕ). is_set (slice_index list 12) 0) (sym it.shown) ∙ clear);
+      ran = ran_by-looks world happened lively old new d d [] address bytes at acts ready (goes-stays d (world new));
+    }
+
+-- It is done.
+pub ran_by-takes : {up : Bool} {B : Type 0} (world : B → World) (happened : B → B → Past → Type 0) (lively : B → Type 0) (old new : B) (d : DriverState) (m address : ℕ) (later bytes : List ℕ)
+    → d.buffers ≡ m ∷ later → address ≡ receive_slot d.oldest_received → is_set (slice_index bytes 12) 0 ≡ true
+    → Acts world happened lively old new (Loads address 16) (Shows address bytes) → ReadyWith up d (world old)
+    → TakesOldest up world happened old new d m (rx_desc_of bytes).length later
+ran_by-takes {up} world happened lively old new d m address later bytes buffers at done acts ready =
+    let it = seen world happened lively old new d address bytes at acts ready in
+    let first = finished-first d (world new) m later buffers it.ready (ap (λ (list : List ℕ). is_set (slice_index list 12) 0) (sym it.shown) ∙ done) in
+    record {
+      frame = _;
+      long = oldest_is_as_long up d m later first.0 (world new) it.ready buffers first.1 ∙ ap (λ (list : List ℕ). (rx_desc_of list).length) (sym it.shown);
+      ran = ran_by-looks world happened lively old new d _ _ address bytes at acts ready (λ set. oldest_can_be_taken up d m later first.0 (world new) set buffers first.1);
+    }

@@ -1,0 +1,144 @@
+-- A register is read.
+use Rattle.std.proofs.Common.{Bool, ◌≡◌, ◌≢◌, ◌≤◌, ◌<◌, ◌+◌, ◌-◌, ◌^◌, [], ℕ, List, Option, None, Some, length, min, inl, refl, sym, ap, subst, ◌∙◌, arith}
+use Rattle.std.proofs.lemmas.List.{append-nil}
+use Rattle.registers.specs.Bits.{HasBit}
+use Rattle.registers.specs.Counting.{greatest_count}
+use Rattle.adapter.specs.HostFrames.{frames_held, frames_to_send}
+use Rattle.adapter.specs.Registers.{answer_at, left_by_read, read_of}
+use Rattle.adapter.specs.Slots.{finished}
+use Rattle.adapter.specs.Table.{register_at, row_of}
+use Rattle.adapter.specs.TableLaws.{register_at-only}
+use Rattle.adapter.specs.World.{World, world_after_read}
+use Rattle.adapter.specs.declared.register.Register.{Register}
+use Rattle.adapter.specs.declared.register.Register.TheVariants.{Icr, Mpc, Gprc, Gptc, Rnbc}
+use Rattle.bus.proofs.Initialising.{reads_leave_frames}
+use Rattle.bus.specs.Past.{nothing}
+use Rattle.driver_law.specs.DriverState.{DriverState}
+use Rattle.driver_law.specs.Goes.{FlowsTo, GoesTo}
+use Rattle.driver_law.specs.Readings.{CausesAreRead, MissesAreRead, OthersAreRead, with_missed}
+use Rattle.driver_law.specs.Ready.{ReadyWith}
+use Rattle.driver_law.proofs.Parts.{SameParts, ready-left}
+use Rattle.driver_law.proofs.Rests.{goes-rests}
+
+-- What a read leaves, and that it leaves the mask.
+record Read (a b : World) : Type 0 where
+  parts : SameParts a b
+  mask : b.adapter.causes.mask ≡ a.adapter.causes.mask
+
+same-all : (world : World) → SameParts world world
+same-all world = record { memory = refl; receives = refl; transmits = refl; receive_control = refl; transmit_control = refl; buffer = refl }
+
+read-register : (register : Register) (world : World) → Read world (record world { adapter = read_of register world.adapter })
+read-register Icr world = record { parts = record { memory = refl; receives = refl; transmits = refl; receive_control = refl; transmit_control = refl; buffer = refl }; mask = refl }
+read-register Mpc world = record { parts = record { memory = refl; receives = refl; transmits = refl; receive_control = refl; transmit_control = refl; buffer = refl }; mask = refl }
+read-register Gprc world = record { parts = record { memory = refl; receives = refl; transmits = refl; receive_control = refl; transmit_control = refl; buffer = refl }; mask = refl }
+read-register Gptc world = record { parts = record { memory = refl; receives = refl; transmits = refl; receive_control = refl; transmit_control = refl; buffer = refl }; mask = refl }
+read-register Rnbc world = record { parts = record { memory = refl; receives = refl; transmits = refl; receive_control = refl; transmit_control = refl; buffer = refl }; mask = refl }
+read-register _ world = record { parts = same-all world; mask = refl }
+
+read-offset : (offset : ℕ) (world : World) → Read world (world_after_read offset world)
+read-offset offset world = by_case (register_at offset)
+  where
+    by_case : (found : Option Register) → Read world (record world { adapter = left_by_read found world.adapter })
+    by_case (Some register) = read-register register world
+    by_case None = record { parts = same-all world; mask = refl }
+
+resummed : {up : Bool} (driver : DriverState) (missed : ℕ) (world : World) → ReadyWith up driver world → ReadyWith up (record driver { missed = missed }) world
+resummed driver missed world ready = record {
+  driver_is = record { oldest_slot = ready.driver_is.oldest_slot; room = ready.driver_is.room; one_owner = ready.driver_is.one_owner; addresses = ready.driver_is.addresses };
+  sound = ready.sound;
+  runs = ready.runs;
+  fit = ready.fit;
+  whole = ready.whole;
+  lies = ready.lies;
+  size = ready.size;
+  receive = ready.receive;
+  transmit = ready.transmit;
+  names = ready.names;
+  stored = ready.stored;
+  stand = ready.stand;
+}
+
+-- The sum and MPC together are what they were, while neither sticks.
+abbrev IsCounted : ℕ → ℕ → ℕ → ℕ → Type 0
+IsCounted missed packets missed' packets' = packets + 0 ≤ greatest_count → missed + packets + 0 < 2 ^ 64 → missed' + packets' ≡ missed + packets + 0
+
+-- A read of any register, where it is known what becomes of the sum.
+flows-read : {up : Bool} (driver : DriverState) (offset missed : ℕ) (a : World) → ReadyWith up driver a → driver.missed ≤ missed
+    → IsCounted driver.missed a.adapter.missed_packets missed (world_after_read offset a).adapter.missed_packets
+    → FlowsTo up driver a (record driver { missed = missed }) (world_after_read offset a) [] [] nothing
+flows-read {up} driver offset missed a ready more counted =
+    let b = world_after_read offset a in
+    let read = read-offset offset a in
+    let leaves = reads_leave_frames driver.oldest_received driver.oldest_sent offset a ready.sound in
+    record {
+      ready = resummed driver missed b (ready-left driver a b ready leaves read.parts);
+      counts = refl;
+      sends = leaves.same.to_send ∙ sym (append-nil (frames_to_send a));
+      holds = leaves.same.held ∙ sym (append-nil (frames_held driver.oldest_received a));
+      least = omega (arith, ap length leaves.same.finished_same);
+      frees = omega (arith, ap length leaves.same.written_same);
+      mask = read.mask;
+      sum = more;
+      counted = counted;
+    }
+
+-- ICR
+
+pub causes_are_read : CausesAreRead
+unfolding register_at
+causes_are_read up driver world ready =
+    let same : (world_after_read 0xC0 world).adapter.missed_packets ≡ world.adapter.missed_packets = refl in
+    record { flows = flows-read driver 0xC0 driver.missed world ready (omega arith) (λ fits low. omega (arith, same)); cleared = refl }
+
+-- MPC
+
+pub misses_are_read : MissesAreRead
+unfolding register_at
+misses_are_read up driver world fits ready =
+    let b = world_after_read 0x4010 world in
+    let shown : answer_at 0x4010 world.adapter ≡ world.adapter.missed_packets = refl in
+    let none : b.adapter.missed_packets ≡ 0 = refl in
+    let same : length (finished driver.oldest_received world) ≡ length (finished driver.oldest_received b) = refl in
+    let missed = min (driver.missed + answer_at 0x4010 world.adapter) (2 ^ 64 - 1) in
+    record {
+      flows = flows-read driver 0x4010 missed world ready (omega (arith, fits)) (λ most low. omega (arith, shown, none, low));
+      causes = λ place has. has;
+      told = inl (omega (arith, same));
+    }
+
+-- Any other.
+
+-- What a driver is told by causes and MPC.
+record Quiet (a b : World) : Type 0 where
+  recorded : b.adapter.causes.recorded ≡ a.adapter.causes.recorded
+  missed_packets : b.adapter.missed_packets ≡ a.adapter.missed_packets
+
+quiet-register : (register : Register) (world : World) → register ≢ Icr → register ≢ Mpc → Quiet world (record world { adapter = read_of register world.adapter })
+quiet-register Icr world no_causes no_count = absurd (no_causes refl)
+quiet-register Mpc world no_causes no_count = absurd (no_count refl)
+quiet-register Gprc world no_causes no_count = record { recorded = refl; missed_packets = refl }
+quiet-register Gptc world no_causes no_count = record { recorded = refl; missed_packets = refl }
+quiet-register Rnbc world no_causes no_count = record { recorded = refl; missed_packets = refl }
+quiet-register _ world no_causes no_count = record { recorded = refl; missed_packets = refl }
+
+quiet-offset : (offset : ℕ) (world : World) → offset ≢ 0xC0 → offset ≢ 0x4010 → Quiet world (world_after_read offset world)
+quiet-offset offset world no_causes no_count = by_case (register_at offset) refl
+  where
+    by_case : (found : Option Register) → register_at offset ≡ found → Quiet world (record world { adapter = left_by_read found world.adapter })
+    by_case (Some register) is =
+        let there = (register_at-only offset register is).there in
+        quiet-register register world (λ same. no_causes (sym there ∙ ap (λ (r : Register). (row_of r).offset) same)) (λ same. no_count (sym there ∙ ap (λ (r : Register). (row_of r).offset) same))
+    by_case None is = record { recorded = refl; missed_packets = refl }
+
+pub others_are_read : OthersAreRead
+others_are_read up driver offset world no_causes no_count ready =
+    let b = world_after_read offset world in
+    let quiet = quiet-offset offset world no_causes no_count in
+    let leaves = reads_leave_frames driver.oldest_received driver.oldest_sent offset world ready.sound in
+    let flows = flows-read driver offset driver.missed world ready (omega arith) (λ fits low. omega (arith, quiet.missed_packets)) in
+    record {
+      flows = flows;
+      causes = λ place has. subst (λ (causes : ℕ). HasBit causes place) (sym quiet.recorded) has;
+      told = inl (omega (arith, ap length leaves.same.finished_same));
+    }

@@ -1,0 +1,120 @@
+-- Steps that take no slot and give no frame: what they leave of frames, slots and causes makes a stretch of a driver's run.
+use Rattle.std.proofs.Common.{Bool, max, min, inl, inr, ⊎_elim, ◌≡◌, ◌≤◌, ◌<◌, ◌⊎◌, ◌+◌, ◌++◌, [], ℕ, List, length, refl, sym, ap, subst, ◌∙◌, length-append, arith}
+use Rattle.std.specs.List.{All}
+use Rattle.std.proofs.lemmas.List.{append-nil}
+use Rattle.registers.specs.Bits.{HasBit}
+use Rattle.registers.specs.Counting.{greatest_count}
+use Rattle.registers.specs.Interrupts.{Interrupts}
+use Rattle.dma_memory.specs.HostMemory.{bytes_at}
+use Rattle.dma_memory.specs.Layout.{ReceiveBuffer, area_of}
+use Rattle.descriptors.specs.Ring.{address_of}
+use Rattle.descriptors.specs.RingLaws.{place}
+use Rattle.adapter.specs.HostFrames.{frames_held, frames_to_send}
+use Rattle.adapter.specs.Slots.{finished, written_back}
+use Rattle.adapter.specs.World.{World, receive_ring}
+use Rattle.bus.specs.Law.{Happens}
+use Rattle.bus.specs.OwnStores.{SameFrames}
+use Rattle.bus.specs.Past.{Past, nothing}
+use Rattle.bus.proofs.Own.{drivers_keep_their_own}
+use Rattle.driver_law.proofs.Buffers.{buffer-aside, stand-kept}
+use Rattle.driver_law.proofs.Readiness.{keeps-happening, own-staged, ready-kept, stored-kept}
+use Rattle.driver_law.specs.DriverState.{DriverState, HandedOut, receive_slot, receive_tail, with_owners}
+use Rattle.driver_law.specs.Goes.{GoesTo}
+use Rattle.driver_law.specs.Ready.{ReadyWith, Stands}
+
+-- Frames only leave and come, slots only become finished and written back, causes are only added, and MPC counts.
+pub record Passes (o p : ℕ) (a b : World) (past : Past) : Type 0 where
+  pub sends : past.put ++ frames_to_send b ≡ frames_to_send a
+  pub holds : frames_held o b ≡ frames_held o a ++ past.stored
+  pub more : List ℕ
+  pub done : finished o b ≡ finished o a ++ more
+  pub told : (more ≡ []) ⊎ HasBit b.adapter.causes.recorded 7
+  pub reported : List ℕ
+  pub written : written_back p b ≡ written_back p a ++ reported
+  pub each_reported : length reported ≡ length past.put
+  pub mask : b.adapter.causes.mask ≡ a.adapter.causes.mask
+  pub causes : (place : ℕ) → HasBit a.adapter.causes.recorded place → HasBit b.adapter.causes.recorded place
+  pub missed : a.adapter.missed_packets + past.missed ≤ greatest_count → b.adapter.missed_packets ≡ a.adapter.missed_packets + past.missed
+
+pub goes-passes : {up : Bool} (d : DriverState) (buffers staged pool : List ℕ) (handed_out : List HandedOut) (a b : World) (past : Past) → Passes d.oldest_received d.oldest_sent a b past
+    → ReadyWith up (with_owners d buffers staged pool handed_out) b → GoesTo up d a (with_owners d buffers staged pool handed_out) b [] [] past
+goes-passes {up} d buffers staged pool handed_out a b past passes ready =
+    let longer = length-append (finished d.oldest_received a) passes.more in
+    record {
+      flows = record {
+        ready = ready;
+        counts = refl;
+        sends = passes.sends ∙ sym (append-nil (frames_to_send a));
+        holds = passes.holds;
+        least = omega (arith, ap length passes.done, longer);
+        frees = omega (arith, ap length passes.written, length-append (written_back d.oldest_sent a) passes.reported, passes.each_reported);
+        mask = passes.mask;
+        sum = omega arith;
+        counted = λ fits low. let same = passes.missed fits in omega (arith, same);
+      };
+      causes = passes.causes;
+      told =
+          ⊎_elim
+          (λ (none : passes.more ≡ []). inl (omega (arith, ap length passes.done, longer, ap length none)))
+          (λ (bit : HasBit b.adapter.causes.recorded 7). inr bit)
+          passes.told;
+    }
+
+-- Frames, slots, causes and MPC are the same.
+pub passes-same : (o p : ℕ) (a b : World) → SameFrames o p a b → b.adapter.causes ≡ a.adapter.causes → b.adapter.missed_packets ≡ a.adapter.missed_packets → Passes o p a b nothing
+passes-same o p a b same causes missed = record {
+  sends = same.to_send;
+  holds = same.held ∙ sym (append-nil (frames_held o a));
+  more = [];
+  done = same.finished_same ∙ sym (append-nil (finished o a));
+  told = inl refl;
+  reported = [];
+  written = same.written_same ∙ sym (append-nil (written_back p a));
+  each_reported = refl;
+  mask = ap (λ (c : Interrupts). c.mask) causes;
+  causes = λ place has. subst (λ (c : Interrupts). HasBit c.recorded place) (sym causes) has;
+  missed = λ fits. omega (arith, missed);
+}
+
+-- Nothing is done.
+pub goes-stays : {up : Bool} (d : DriverState) (a : World) → ReadyWith up d a → GoesTo up d a d a [] [] nothing
+goes-stays {up} d a ready =
+    goes-passes d d.buffers d.staged d.pool d.handed_out a a nothing
+    (passes-same d.oldest_received d.oldest_sent a a
+    (record { sound = ready.sound; held = refl; to_send = refl; finished_same = refl; written_same = refl; whole = λ whole. whole; fits = λ size fits. fits }) refl refl)
+    ready
+
+-- Something happens.
+pub goes-happens : {up : Bool} (d : DriverState) (a b : World) (past : Past) → ReadyWith up d a → Happens a b past → GoesTo up d a d b [] [] past
+goes-happens {up} d a b past ready happens =
+    let o = d.oldest_received in
+    let p = d.oldest_sent in
+    let between = happens.between o p ready.sound in
+    let own = drivers_keep_their_own o p a b past ready.sound happens in
+    let slot : ℕ → ℕ = λ i. place d.counts.rx (receive_tail d) i in
+    let kept : (i : ℕ) → i < length d.staged → bytes_at b.memory (receive_slot (slot i)) 16 ≡ bytes_at a.memory (receive_slot (slot i)) 16 = λ i below.
+    let stays = own.own_received _ (own-staged d a i ready (omega (arith, below, ready.driver_is.room))) in
+    let at : address_of (receive_ring a) (slot i) ≡ receive_slot (slot i) = omega (arith, ready.receive.begins) in
+    subst (λ (address : ℕ). bytes_at b.memory address 16 ≡ bytes_at a.memory address 16) at stays.bytes in
+    let stand : All (Stands d.counts b.memory) d.handed_out = stand-kept d a b ready (λ number known free.
+    let aside = buffer-aside d a number ready known free in
+    between.untouched (area_of d.counts (ReceiveBuffer number)) aside.foreign) in
+    goes-passes d d.buffers d.staged d.pool d.handed_out a b past
+    (record {
+      sends = between.sends;
+      holds = between.holds;
+      more = between.more;
+      done = between.done;
+      told = between.told;
+      reported = between.reported;
+      written = between.written;
+      each_reported = between.each_reported;
+      mask = happens.steady.mask;
+      causes = happens.steady.causes;
+      missed = λ fits. let same = grown a.adapter.missed_packets past.missed fits in omega (arith, same, happens.steady.missed);
+    })
+    (ready-kept d d.staged d.pool a b ready (keeps-happening d a b past ready happens) ready.driver_is
+    (stored-kept a.memory b.memory d.counts (receive_tail d) d.staged kept ready.stored) stand)
+  where
+    grown : (x y : ℕ) → x + y ≤ greatest_count → max x (min (x + y) greatest_count) ≡ x + y
+    grown x y fits = omega (arith, fits)

@@ -1,0 +1,91 @@
+-- Two stretches of a driver's run join, and no work is forgotten over one.
+use Rattle.std.proofs.Common.{Bool, ◌≡◌, ◌+◌, ◌++◌, ◌∷◌, [], ℕ, List, length, refl, inl, inr, ⊎_elim, subst, sym, ap, ◌∙◌, add-zero, append_assoc, length-append, arith}
+use Rattle.std.proofs.lemmas.List.{append-nil}
+use Rattle.std.proofs.lemmas.List.Elements.{All-append}
+use Rattle.registers.specs.Bits.{HasBit}
+use Rattle.adapter.specs.HostFrames.{frames_held, frames_to_send}
+use Rattle.adapter.specs.Slots.{finished}
+use Rattle.adapter.specs.World.{World}
+use Rattle.bus.specs.Past.{Past, joined, nothing}
+use Rattle.bus.specs.declared.event.Access.{Access}
+use Rattle.driver_law.specs.DriverState.{DriverState}
+use Rattle.driver_law.specs.Goes.{FlowsTo, GoesTo, HasNoForgottenWork, RanTo}
+
+pub flows_join : {first_up up : Bool} (d1 d2 d3 : DriverState) (a b c : World) (t1 t2 g1 g2 : List (List ℕ)) (first later : Past)
+    → FlowsTo first_up d1 a d2 b t1 g1 first → FlowsTo up d2 b d3 c t2 g2 later → FlowsTo up d1 a d3 c (t1 ++ t2) (g1 ++ g2) (joined first later)
+flows_join d1 d2 d3 a b c t1 t2 g1 g2 first later one two = record {
+  ready = two.ready;
+  counts = two.counts ∙ one.counts;
+  sends =
+      append_assoc first.put later.put (frames_to_send c)
+      ∙ ap (λ (frames : List (List ℕ)). first.put ++ frames) two.sends
+      ∙ sym (append_assoc first.put (frames_to_send b) g2)
+      ∙ ap (λ (frames : List (List ℕ)). frames ++ g2) one.sends
+      ∙ append_assoc (frames_to_send a) g1 g2;
+  holds =
+      append_assoc t1 t2 (frames_held d3.oldest_received c)
+      ∙ ap (λ (frames : List (List ℕ)). t1 ++ frames) two.holds
+      ∙ sym (append_assoc t1 (frames_held d2.oldest_received b) later.stored)
+      ∙ ap (λ (frames : List (List ℕ)). frames ++ later.stored) one.holds
+      ∙ append_assoc (frames_held d1.oldest_received a) first.stored later.stored;
+  least = omega (arith, one.least, two.least, length-append t1 t2);
+  frees = omega (arith, one.frees, two.frees, length-append first.put later.put, length-append g1 g2);
+  mask = two.mask ∙ one.mask;
+  sum = omega (arith, one.sum, two.sum);
+  counted = λ fits low.
+      let before = one.counted (omega (arith, fits)) (omega (arith, low)) in
+      let behind = two.counted (omega (arith, before, one.sum, fits)) (omega (arith, before, low)) in
+      omega (arith, before, behind);
+}
+
+pub goes_join : {first_up up : Bool} (d1 d2 d3 : DriverState) (a b c : World) (t1 t2 g1 g2 : List (List ℕ)) (first later : Past)
+    → GoesTo first_up d1 a d2 b t1 g1 first → GoesTo up d2 b d3 c t2 g2 later → GoesTo up d1 a d3 c (t1 ++ t2) (g1 ++ g2) (joined first later)
+goes_join d1 d2 d3 a b c t1 t2 g1 g2 first later one two = record {
+  flows = flows_join d1 d2 d3 a b c t1 t2 g1 g2 first later one.flows two.flows;
+  causes = λ place has. two.causes place (one.causes place has);
+  told =
+      ⊎_elim
+      (λ (same : length (finished d2.oldest_received b) ≡ length t2 + length (finished d3.oldest_received c)).
+      ⊎_elim
+      (λ (before : length (finished d1.oldest_received a) ≡ length t1 + length (finished d2.oldest_received b)). inl (omega (arith, before, same, length-append t1 t2)))
+      (λ (bit : HasBit b.adapter.causes.recorded 7). inr (two.causes 7 bit))
+      one.told)
+      (λ (bit : HasBit c.adapter.causes.recorded 7). inr bit)
+      two.told;
+}
+
+-- Over a bus.
+pub ran_join : {first_up up : Bool} {B : Type 0} (world : B → World) (happened : B → B → Past → Type 0) (allowed : Access → Type 0)
+    → ((a b c : B) (first later : Past) → happened a b first → happened b c later → happened a c (joined first later))
+    → (a b c : B) (d1 d2 d3 : DriverState) (t1 t2 g1 g2 : List (List ℕ))
+    → RanTo first_up world happened allowed a b d1 d2 t1 g1 → RanTo up world happened allowed b c d2 d3 t2 g2 → RanTo up world happened allowed a c d1 d3 (t1 ++ t2) (g1 ++ g2)
+ran_join world happened allowed joins a b c d1 d2 d3 t1 t2 g1 g2 one two = record {
+  past = joined one.past two.past;
+  told = joins a b c one.past two.past one.told two.told;
+  only = All-append allowed one.past.accesses two.past.accesses one.only two.only;
+  goes = goes_join d1 d2 d3 (world a) (world b) (world c) t1 t2 g1 g2 one.past two.past one.goes two.goes;
+}
+
+pub joined-nothing : (past : Past) → joined past nothing ≡ past
+joined-nothing past =
+    let same : record { put = past.put; stored = past.stored; missed = past.missed; eeprom_ticks = past.eeprom_ticks; phy_ticks = past.phy_ticks; accesses = past.accesses } ≡ past = refl in
+    rw (append-nil, append-nil, append-nil, add-zero, add-zero, add-zero) same
+
+-- Where ICR isn't read no work is forgotten.
+pub work_kept : {up : Bool} (d d' : DriverState) (a b : World) (taken given : List (List ℕ)) (past : Past) → GoesTo up d a d' b taken given past → HasNoForgottenWork d a → HasNoForgottenWork d' b
+work_kept d d' a b taken given past goes work = record {
+  unmasked = subst (λ (mask : ℕ). HasBit mask 7) (sym goes.flows.mask) work.unmasked;
+  asked =
+      ⊎_elim
+      (λ (same : length (finished d.oldest_received a) ≡ length taken + length (finished d'.oldest_received b)).
+      ⊎_elim
+      (λ (none : finished d.oldest_received a ≡ []). inl (empty (finished d'.oldest_received b) (omega (arith, same, ap length none))))
+      (λ (bit : HasBit a.adapter.causes.recorded 7). inr (goes.causes 7 bit))
+      work.asked)
+      (λ (bit : HasBit b.adapter.causes.recorded 7). inr bit)
+      goes.told;
+}
+  where
+    empty : (xs : List ℕ) → length xs ≡ 0 → xs ≡ []
+    empty [] none = refl
+    empty (x ∷ xs) none = absurd (omega (arith, none))

@@ -1,0 +1,142 @@
+-- The transmit ring's registers are written while the transmit side is off.
+use Rattle.std.proofs.Common.{Bool, false, ◌≡◌, ◌≤◌, ◌<◌, ◌+◌, ◌*◌, ◌++◌, ◌∷◌, [], ℕ, List, length, map, inl, inr, refl, sym, ap, subst, ◌∙◌, arith}
+use Rattle.std.specs.List.{All, AllPairs, take_while}
+use Rattle.std.proofs.lemmas.List.Elements.{All-cons, All-map}
+use Rattle.std.proofs.lemmas.List.Kept.{AllPairs-cons}
+use Rattle.dma_memory.specs.Areas.{AreApart, AreSeparate, Area, IsInside, area_at}
+use Rattle.dma_memory.specs.AreaLaws.{apart-inside, apart-sym, inside-apart, lies-inside}
+use Rattle.dma_memory.specs.HostMemory.{LiesIn}
+use Rattle.dma_memory.specs.Layout.{ReceiveBuffer, ReceiveRing, TransmitRing, area_of}
+use Rattle.dma_memory.specs.LayoutLaws.{place-below_size, places-apart}
+use Rattle.dma_memory.specs.Owners.{copies}
+use Rattle.rx_engine.specs.Descriptors.{named_address}
+use Rattle.adapter.specs.Conditions.{Sound}
+use Rattle.adapter.specs.HostAreas.{areas, buffer_of, buffer_size, data_of, frame_areas, offered_buffers, ring_area, work_areas}
+use Rattle.adapter.specs.HostFrames.{frames_held, frames_to_send, named}
+use Rattle.adapter.specs.Rings.{new_ring, ring_of}
+use Rattle.adapter.specs.Slots.{finished, is_done, offered, outstanding, written_back}
+use Rattle.adapter.specs.World.{World, receive_ring, transmit_ring}
+use Rattle.adapter.specs.declared.ring.RingRegisters.{RingRegisters}
+use Rattle.bus.proofs.Idle.{offered-none, outstanding-none}
+use Rattle.bus.proofs.Initialising.{transmit_ring_can_be_set}
+use Rattle.bus.proofs.Lists.{all-head, all-none, all-tail, all-unmapped, all-weaker, pairs-head, pairs-tail}
+use Rattle.bus.proofs.Spare.{spare-apart}
+use Rattle.bus.specs.Initialising.{TransmitRingSet, with_transmit_ring}
+use Rattle.bus.specs.Spare.{IsSpare}
+use Rattle.driver_law.specs.Beginnings.{TransmitRingIsWritten}
+use Rattle.driver_law.specs.DriverState.{DriverState, buffer_at}
+use Rattle.driver_law.specs.Ready.{ReadyWith}
+use Rattle.driver_law.proofs.Buffers.{known-area}
+use Rattle.driver_law.proofs.Owners.{all-copies, outstanding-number}
+use Rattle.driver_law.proofs.Readiness.{none-to_send}
+use Rattle.driver_law.proofs.Rests.{goes-rests}
+
+-- Areas.
+
+-- The second of some areas is replaced by another that is apart from the others.
+separate-replaced : (memory : List ℕ) (first old area : Area) (rest : List Area) → AreSeparate memory (first ∷ old ∷ rest) → LiesIn memory area.address area.size
+    → AreApart first area → All (AreApart area) rest → AreSeparate memory (first ∷ area ∷ rest)
+separate-replaced memory first old area rest separate lies apart away =
+    let Lies : Area → Type 0 = λ other. LiesIn memory other.address other.size in
+    let behind = all-tail Lies first (old ∷ rest) separate.lie in
+    let from_first = pairs-head AreApart first (old ∷ rest) separate.apart in
+    let rest_apart = pairs-tail AreApart old rest (pairs-tail AreApart first (old ∷ rest) separate.apart) in
+    record {
+      lie = All-cons Lies first (area ∷ rest) (all-head Lies first (old ∷ rest) separate.lie) (All-cons Lies area rest lies (all-tail Lies old rest behind));
+      apart =
+          AllPairs-cons AreApart first (area ∷ rest) (All-cons (AreApart first) area rest apart (all-tail (AreApart first) old rest from_first))
+          (AllPairs-cons AreApart area rest away rest_apart);
+    }
+
+-- The receive buffers that outstanding slots name are apart from an area where the layout keeps them apart from it.
+pub outstanding-buffers : {up : Bool} (driver : DriverState) (world : World) (area : Area) → ReadyWith up driver world
+    → ((number : ℕ) → number < driver.counts.buffers → AreApart (area_of driver.counts (ReceiveBuffer number)) area)
+    → All (λ slot. AreApart (buffer_of world slot) area) (outstanding (receive_ring world) driver.oldest_received)
+outstanding-buffers driver world area ready away =
+    let counts = driver.counts in
+    let Away : ℕ → Type 0 = λ address. AreApart (area_at address (buffer_size world)) area in
+    let each : All Away (map (buffer_at counts) driver.buffers) = All-map Away (buffer_at counts) driver.buffers (all-copies (λ number. Away (buffer_at counts number)) driver.buffers (λ number some.
+    subst (λ (size : ℕ). AreApart (area_at (buffer_at counts number) size) area) (sym ready.size) (away number (outstanding-number driver number ready.driver_is some)))) in
+    all-unmapped Away (named_address world.memory) (outstanding (receive_ring world) driver.oldest_received) (subst (λ (list : List ℕ). All Away list) (sym ready.names) each)
+
+-- A transmit side that is off.
+
+none-outstanding : (driver : DriverState) (world : World) → ReadyWith false driver world → outstanding (transmit_ring world) driver.oldest_sent ≡ []
+none-outstanding driver world ready = subst (λ (oldest : ℕ). outstanding (transmit_ring world) oldest ≡ []) ready.transmit.last (outstanding-none (transmit_ring world))
+
+-- the areas that don't belong to the transmit ring
+abbrev received_areas : ℕ → World → List Area
+received_areas oldest world = map (named world.memory) (finished oldest world) ++ (work_areas world.memory world.adapter.receiver.work ++ offered_buffers world)
+
+-- With its head at its tail the ring adds none.
+areas-idle : (oldest : ℕ) (world : World) → (transmit_ring world).head ≡ (transmit_ring world).tail → frame_areas oldest world ≡ received_areas oldest world
+areas-idle oldest world idle = ap (λ (slots : List ℕ). map (data_of world.memory) slots ++ received_areas oldest world) (offered-none (transmit_ring world) idle)
+
+-- The ring may be any that is apart from the others, with its head at its tail.
+ring-set : (driver : DriverState) (ring : RingRegisters) (world : World) → ReadyWith false driver world → ring.head ≡ ring.tail
+    → LiesIn world.memory (ring_area (ring_of ring)).address (ring_area (ring_of ring)).size
+    → AreApart (ring_area (receive_ring world)) (ring_area (ring_of ring)) → All (AreApart (ring_area (ring_of ring))) (received_areas driver.oldest_received world)
+    → TransmitRingSet driver.oldest_received world (with_transmit_ring ring world)
+ring-set driver ring world ready idle lies apart away =
+    let o = driver.oldest_received in
+    let r = ring_area (receive_ring world) in
+    let before = subst (λ (list : List Area). AreSeparate world.memory (r ∷ ring_area (transmit_ring world) ∷ list)) (areas-idle o world ready.transmit.idle) ready.sound.separate in
+    let after = separate-replaced world.memory r (ring_area (transmit_ring world)) (ring_area (ring_of ring)) (received_areas o world) before lies apart away in
+    transmit_ring_can_be_set o driver.oldest_sent ring world ready.sound ready.transmit.empty idle
+    (subst (λ (list : List Area). AreSeparate world.memory (r ∷ ring_area (ring_of ring) ∷ list)) (sym (areas-idle o (with_transmit_ring ring world) idle)) after)
+
+-- The place of the transmit ring is apart from all that is received: this is seen where the ring itself has no slots, as after a reset.
+place-away : (driver : DriverState) (world : World) → ReadyWith false driver world → All (λ other. AreApart other (area_of driver.counts TransmitRing)) (received_areas driver.oldest_received world)
+place-away driver world ready =
+    let o = driver.oldest_received in
+    let area = area_of driver.counts TransmitRing in
+    let bare = with_transmit_ring new_ring world in
+    let set = ring-set driver new_ring world ready refl (omega arith) (inr (omega arith)) (λ k d below. inl (omega arith)) in
+    let Apart : Area → Type 0 = λ other. AreApart other area in
+    let spare : IsSpare o 0 bare area = record {
+      receive_slots = subst Apart (sym (known-area _ _ _ _ ready.receive)) (places-apart driver.counts ReceiveRing TransmitRing tt tt (λ same. absurd (cc)));
+      transmit_slots = inl (omega arith);
+      buffers = outstanding-buffers driver world area ready (λ number known. places-apart driver.counts (ReceiveBuffer number) TransmitRing known tt (λ same. absurd (cc)));
+      sources = subst (λ (slots : List ℕ). All (λ slot. AreApart (data_of world.memory slot) area) slots) (sym set.none_outstanding) (all-none _);
+    } in
+    let all = spare-apart o 0 bare area set.sound (set.fits ready.fit) spare in
+    let behind = all-tail Apart (ring_area (transmit_ring bare)) (frame_areas o bare) (all-tail Apart (ring_area (receive_ring bare)) (ring_area (transmit_ring bare) ∷ frame_areas o bare) all) in
+    subst (λ (list : List Area). All Apart list) (areas-idle o bare refl) behind
+
+pub transmit_ring_is_written : TransmitRingIsWritten
+transmit_ring_is_written driver ring world ready idle inside =
+    let counts = driver.counts in
+    let o = driver.oldest_received in
+    let b = with_transmit_ring ring world in
+    let place = area_of counts TransmitRing in
+    let area = ring_area (ring_of ring) in
+    let ends = place-below_size counts TransmitRing tt in
+    let received : AreApart (ring_area (receive_ring world)) place = subst (λ (other : Area). AreApart other place) (sym (known-area _ _ _ _ ready.receive)) (places-apart counts ReceiveRing TransmitRing tt tt (λ same. absurd (cc))) in
+    let away = all-weaker (λ other. AreApart other place) (AreApart area) (received_areas o world) (λ other apart. apart-inside area place other inside (apart-sym other place apart)) (place-away driver world ready) in
+    let set = ring-set driver ring world ready idle (lies-inside world.memory area place inside (omega (arith, ends, ready.lies))) (inside-apart (ring_area (receive_ring world)) area place inside received) away in
+    goes-rests driver world (record driver { oldest_sent = ring.tail }) b
+    (record {
+      driver_is = record { oldest_slot = ready.driver_is.oldest_slot; room = ready.driver_is.room; one_owner = ready.driver_is.one_owner; addresses = ready.driver_is.addresses };
+      sound = set.sound;
+      runs = set.runs ready.runs;
+      fit = set.fits ready.fit;
+      whole = ready.whole;
+      lies = ready.lies;
+      size = ready.size;
+      receive = ready.receive;
+      transmit = record { ends = omega (arith, inside.to); idle = idle; last = refl; nothing = ready.transmit.nothing; empty = ready.transmit.empty };
+      names = ready.names;
+      stored = ready.stored;
+      stand = ready.stand;
+    })
+    (record {
+      counts = refl;
+      missed = refl;
+      to_send = set.none_to_send ∙ sym (none-to_send world.memory (transmit_ring world) world.adapter.transmitter.buffer ready.transmit.empty ready.transmit.idle);
+      held = set.held;
+      finished_same = set.finished_same;
+      frees = omega (arith, ready.transmit.nothing, ap length (ap (take_while (is_done world.memory)) (none-outstanding driver world ready)), ap length (ap (take_while (is_done world.memory)) set.none_outstanding));
+      mask = refl;
+      recorded = refl;
+      missed_packets = refl;
+    })

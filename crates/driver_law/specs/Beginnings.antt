@@ -1,0 +1,96 @@
+-- The state in which a driver begins, and what it writes into registers up to the end of its initialisation (own).
+use Rattle.std.specs.Prelude.{◌≡◌, ◌≤◌, ◌<◌, ◌+◌, ◌*◌, ◌^◌, ◌++◌, ℕ, Bool, true, false, List, [], None, length}
+use Rattle.registers.specs.Bits.{HasBit, union}
+use Rattle.registers.specs.Kept.{causes_of}
+use Rattle.dma_memory.specs.Areas.{IsInside}
+use Rattle.dma_memory.specs.Layout.{Counts, TransmitRing, area_of, size_of}
+use Rattle.dma_memory.specs.Owners.{HasOneOwner}
+use Rattle.adapter.specs.HostAreas.{buffer_size, ring_area}
+use Rattle.adapter.specs.HostFrames.{frames_held, frames_to_send}
+use Rattle.adapter.specs.Rings.{ring_of}
+use Rattle.adapter.specs.Running.{CanRun}
+use Rattle.adapter.specs.Slots.{finished, written_back}
+use Rattle.adapter.specs.World.{World, receive_ring, transmit_ring, world_after_write}
+use Rattle.adapter.specs.declared.ring.RingRegisters.{RingRegisters}
+use Rattle.bus.specs.Idle.{IsIdle}
+use Rattle.bus.specs.Initialising.{with_receive_control, with_transmit_control, with_transmit_ring}
+use Rattle.bus.specs.Past.{nothing}
+use Rattle.adapter.specs.KnownRing.{KnowsRing}
+use Rattle.driver_law.specs.DriverState.{DriverState, transmit_tail}
+use Rattle.driver_law.specs.Goes.{Goes, GoesTo}
+use Rattle.driver_law.specs.Ready.{ReadyWith, TransmitIs}
+
+-- The beginning.
+
+-- a driver that has offered nothing yet, and all of whose buffers are free
+abbrev pub new_driver : Counts → List ℕ → DriverState
+new_driver counts pool = record {
+  counts = counts;
+  oldest_received = 0;
+  buffers = [];
+  staged = [];
+  pool = pool;
+  handed_out = [];
+  oldest_sent = 0;
+  sending = 0;
+  missed = 0;
+}
+
+-- The receive ring is set up, the transmit ring is or isn't, and neither offers a slot.
+pub record HasBegun (up : Bool) (counts : Counts) (pool : List ℕ) (world : World) : Type 0 where
+  pub idle : IsIdle world
+  pub runs : CanRun world
+  pub slots : 0 < counts.rx
+  pub one_owner : HasOneOwner counts.buffers (pool ++ [])
+  pub addresses : size_of counts < 2 ^ 64
+  pub lies : size_of counts ≤ length world.memory
+  pub size : buffer_size world ≡ 2048
+  pub receive : KnowsRing (receive_ring world) 0 counts.rx 0
+  pub transmit : TransmitIs up counts 0 0 world.memory (transmit_ring world) world.adapter.transmit_control world.adapter.transmitter.buffer
+
+-- Such a driver is ready.
+abbrev pub DriversBegin : Type 0
+DriversBegin = (up : Bool) (counts : Counts) (pool : List ℕ) (world : World) → HasBegun up counts pool world → ReadyWith up (new_driver counts pool) world
+
+-- Writes of registers, beside that of RDT, which offers staged slots. What they leave of the world is as the bus's law names it.
+
+-- A register of the transmit ring is written while the transmit side is off, so that head is still tail, and the ring lies at its place: this
+-- holds behind each of the writes of TDBAL, TDBAH, TDLEN, TDH and TDT in this order, and the side is off still.
+abbrev pub TransmitRingIsWritten : Type 0
+TransmitRingIsWritten =
+    (driver : DriverState) (ring : RingRegisters) (world : World) → ReadyWith false driver world → ring.head ≡ ring.tail
+    → IsInside (ring_area (ring_of ring)) (area_of driver.counts TransmitRing)
+    → GoesTo false driver world (record driver { oldest_sent = ring.tail }) (with_transmit_ring ring world) [] [] nothing
+
+-- TCTL is written with PSP, bit 3, behind all registers of the transmit ring: the transmit side is set up then.
+abbrev pub TransmitterIsEnabled : Type 0
+TransmitterIsEnabled =
+    (driver : DriverState) (control : ℕ) (world : World) → ReadyWith false driver world → driver.oldest_sent < driver.counts.tx
+    → KnowsRing (transmit_ring world) (16 * driver.counts.rx) driver.counts.tx (transmit_tail driver) → HasBit control 3
+    → Goes driver world driver (with_transmit_control control world) [] [] nothing
+
+-- RCTL is written, with EN or without it, while no receive slot is finished or in work and the transmit side is off. BSEX is 0, and buffers have
+-- 2,048 bytes.
+abbrev pub ReceiverIsEnabled : Type 0
+ReceiverIsEnabled =
+    (driver : DriverState) (control : ℕ) (world : World) → ReadyWith false driver world
+    → finished driver.oldest_received world ≡ [] → world.adapter.receiver.work ≡ None → ¬ (HasBit control 25)
+    → buffer_size (with_receive_control control world) ≡ 2048
+    → GoesTo false driver world driver (with_receive_control control world) [] [] nothing
+
+-- Causes were unmasked, and nothing else happened.
+pub record Unmasked (up : Bool) (driver : DriverState) (causes : ℕ) (a b : World) : Type 0 where
+  pub ready : ReadyWith up driver b
+  pub to_send : frames_to_send b ≡ frames_to_send a
+  pub held : frames_held driver.oldest_received b ≡ frames_held driver.oldest_received a
+  pub finished_same : finished driver.oldest_received b ≡ finished driver.oldest_received a
+  pub written_same : written_back driver.oldest_sent b ≡ written_back driver.oldest_sent a
+  pub missed : b.adapter.missed_packets ≡ a.adapter.missed_packets
+  pub recorded : b.adapter.causes.recorded ≡ a.adapter.causes.recorded
+  pub mask : b.adapter.causes.mask ≡ union a.adapter.causes.mask (causes_of causes)
+
+-- IMS is written.
+abbrev pub CausesAreUnmasked : Type 0
+CausesAreUnmasked =
+    (up : Bool) (driver : DriverState) (causes : ℕ) (world : World) → ReadyWith up driver world
+    → Unmasked up driver causes world (world_after_write 0xD0 causes world)

@@ -1,0 +1,67 @@
+-- What a driver keeps, as plain data, and where its rings and buffers stand (own).
+use Rattle.std.specs.Prelude.{◌+◌, ◌*◌, ◌++◌, ℕ, List, length, map}
+use Rattle.dma_memory.specs.Layout.{Counts, ReceiveBuffer, start_of}
+use Rattle.descriptors.specs.RingLaws.{place}
+
+-- a frame that was handed out, and the number of the buffer in which it stands
+pub record HandedOut : Type 0 where
+  pub number : ℕ
+  pub frame : List ℕ
+
+abbrev pub numbers_of : List HandedOut → List ℕ
+numbers_of handed_out = map (λ (one : HandedOut). one.number) handed_out
+
+pub record DriverState : Type 0 where
+  pub counts : Counts
+  -- the place of the oldest outstanding receive slot, and the numbers of the buffers of all that are outstanding, the oldest first
+  pub oldest_received : ℕ
+  pub buffers : List ℕ
+  -- the buffers of the slots behind these, whose descriptors are stored and which aren't offered yet
+  pub staged : List ℕ
+  -- the free buffers
+  pub pool : List ℕ
+  -- the frames that others hold, who may still read them
+  pub handed_out : List HandedOut
+  -- the place of the oldest outstanding transmit slot, and how many are outstanding
+  pub oldest_sent : ℕ
+  pub sending : ℕ
+  -- the sum of all values that MPC was read as
+  pub missed : ℕ
+
+-- the same driver, but for who owns which buffer
+abbrev pub with_owners : DriverState → (buffers staged pool : List ℕ) → List HandedOut → DriverState
+with_owners driver buffers staged pool handed_out = record driver { buffers = buffers; staged = staged; pool = pool; handed_out = handed_out }
+
+-- the same driver, while others hold these frames
+abbrev pub holding : List HandedOut → DriverState → DriverState
+holding handed_out driver = record driver { handed_out = handed_out }
+
+-- The owners of buffers, one behind the other: the pool, the slots of the ring, and those who hold frames.
+abbrev pub owners : DriverState → List ℕ
+owners driver = driver.pool ++ (driver.buffers ++ (driver.staged ++ numbers_of driver.handed_out))
+
+-- Where things stand.
+
+-- the receive buffer of a number
+abbrev pub buffer_at : Counts → ℕ → ℕ
+buffer_at counts number = start_of counts (ReceiveBuffer number)
+
+-- the descriptor of a receive slot, by its place
+abbrev pub receive_slot : ℕ → ℕ
+receive_slot slot = 16 * slot
+
+-- the descriptor of a transmit slot
+abbrev pub transmit_slot : Counts → ℕ → ℕ
+transmit_slot counts slot = 16 * counts.rx + 16 * slot
+
+-- the place that RDT names: behind the last receive slot that is outstanding
+abbrev pub receive_tail : DriverState → ℕ
+receive_tail driver = place driver.counts.rx driver.oldest_received (length driver.buffers)
+
+-- the place behind the last receive slot whose descriptor is stored
+abbrev pub next_received : DriverState → ℕ
+next_received driver = place driver.counts.rx driver.oldest_received (length driver.buffers + length driver.staged)
+
+-- the place that TDT names
+abbrev pub transmit_tail : DriverState → ℕ
+transmit_tail driver = place driver.counts.tx driver.oldest_sent driver.sending

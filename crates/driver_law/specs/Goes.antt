@@ -1,0 +1,68 @@
+-- A stretch of a driver's run: what happens meanwhile, and what it does itself (own).
+use Rattle.std.specs.Prelude.{◌≡◌, ◌≤◌, ◌<◌, ◌⊎◌, ◌^◌, ◌+◌, ◌++◌, ℕ, Bool, true, List, [], All, length}
+use Rattle.registers.specs.Bits.{HasBit}
+use Rattle.registers.specs.Counting.{greatest_count}
+use Rattle.adapter.specs.HostFrames.{frames_held, frames_to_send}
+use Rattle.adapter.specs.Slots.{finished, written_back}
+use Rattle.adapter.specs.World.{World}
+use Rattle.bus.specs.Past.{Past}
+use Rattle.bus.specs.declared.event.Access.{Access}
+use Rattle.driver_law.specs.DriverState.{DriverState}
+use Rattle.driver_law.specs.Ready.{ReadyWith}
+
+-- Frames were taken off the receive ring, and given to be sent, whichever registers were read meanwhile.
+pub record FlowsTo (up : Bool) (d : DriverState) (a : World) (d' : DriverState) (b : World) (taken given : List (List ℕ)) (past : Past) : Type 0 where
+  pub ready : ReadyWith up d' b
+  pub counts : d'.counts ≡ d.counts
+  -- Frames leave in order, none lost or doubled,
+  pub sends : past.put ++ frames_to_send b ≡ frames_to_send a ++ given
+  -- and come in order, none lost or doubled.
+  pub holds : taken ++ frames_held d'.oldest_received b ≡ frames_held d.oldest_received a ++ past.stored
+  -- What was finished at the beginning is taken, or finished still.
+  pub least : length (finished d.oldest_received a) ≤ length taken + length (finished d'.oldest_received b)
+  -- Transmit slots become free as they are written back, one for each frame put.
+  pub frees : length (written_back d.oldest_sent a) + length past.put + d'.sending ≡ d.sending + length given + length (written_back d'.oldest_sent b)
+  pub mask : b.adapter.causes.mask ≡ a.adapter.causes.mask
+  -- The sum of what MPC was read as, with what it holds now, grows by what was missed, while neither sticks.
+  pub sum : d.missed ≤ d'.missed
+  pub counted :
+      a.adapter.missed_packets + past.missed ≤ greatest_count → d.missed + a.adapter.missed_packets + past.missed < 2 ^ 64
+      → d'.missed + b.adapter.missed_packets ≡ d.missed + a.adapter.missed_packets + past.missed
+
+-- And ICR wasn't read: causes are only added, and as many slots are finished as at the beginning, less those taken, or RXT0, bit 7, is recorded.
+pub record GoesTo (up : Bool) (d : DriverState) (a : World) (d' : DriverState) (b : World) (taken given : List (List ℕ)) (past : Past) : Type 0 where
+  pub flows : FlowsTo up d a d' b taken given past
+  pub causes : (place : ℕ) → HasBit a.adapter.causes.recorded place → HasBit b.adapter.causes.recorded place
+  pub told : (length (finished d.oldest_received a) ≡ length taken + length (finished d'.oldest_received b)) ⊎ HasBit b.adapter.causes.recorded 7
+
+abbrev pub Flows : DriverState → World → DriverState → World → List (List ℕ) → List (List ℕ) → Past → Type 0
+Flows = FlowsTo true
+
+abbrev pub Goes : DriverState → World → DriverState → World → List (List ℕ) → List (List ℕ) → Past → Type 0
+Goes = GoesTo true
+
+-- A stretch over a bus, with these accesses alone.
+pub record RanTo (up : Bool) {B : Type 0} (world : B → World) (happened : B → B → Past → Type 0) (allowed : Access → Type 0) (old new : B) (d d' : DriverState) (taken given : List (List ℕ)) : Type 0 where
+  pub past : Past
+  pub told : happened old new past
+  pub only : All allowed past.accesses
+  pub goes : GoesTo up d (world old) d' (world new) taken given past
+
+abbrev pub Ran : {B : Type 0} (world : B → World) (happened : B → B → Past → Type 0) (allowed : Access → Type 0) (old new : B) (d d' : DriverState) (taken given : List (List ℕ)) → Type 0
+Ran world happened allowed old new d d' taken given = RanTo true world happened allowed old new d d' taken given
+
+-- A stretch over a bus, with exactly these accesses, in this order.
+pub record RanBy (up : Bool) {B : Type 0} (world : B → World) (happened : B → B → Past → Type 0) (accesses : List Access) (old new : B) (d d' : DriverState) (taken given : List (List ℕ)) : Type 0 where
+  pub past : Past
+  pub told : happened old new past
+  pub only : past.accesses ≡ accesses
+  pub goes : GoesTo up d (world old) d' (world new) taken given past
+
+-- No forgotten work: RXT0 isn't masked, and where the oldest receive slot is finished it is recorded.
+pub record HasNoForgottenWork (d : DriverState) (world : World) : Type 0 where
+  pub unmasked : HasBit world.adapter.causes.mask 7
+  pub asked : (finished d.oldest_received world ≡ []) ⊎ HasBit world.adapter.causes.recorded 7
+
+-- Refilled: no buffer is free, or all slots but one are outstanding.
+abbrev pub IsRefilled : DriverState → Type 0
+IsRefilled d = (d.pool ≡ []) ⊎ (length d.buffers + 1 ≡ d.counts.rx)

@@ -1,0 +1,33 @@
+-- What a driver's read of a register leaves of what it knows (own).
+use Rattle.std.specs.Prelude.{◌≡◌, ◌≢◌, ◌<◌, ◌+◌, ◌-◌, ◌^◌, ℕ, Bool, [], min}
+use Rattle.adapter.specs.Registers.{answer_at}
+use Rattle.adapter.specs.World.{World, world_after_read}
+use Rattle.bus.specs.Past.{nothing}
+use Rattle.driver_law.specs.DriverState.{DriverState}
+use Rattle.driver_law.specs.Goes.{FlowsTo, GoesTo}
+use Rattle.driver_law.specs.Ready.{ReadyWith}
+
+-- the driver with what it read of MPC added to its sum, which stays at the greatest u64
+abbrev pub with_missed : ℕ → DriverState → DriverState
+with_missed value driver = record driver { missed = min (driver.missed + value) (2 ^ 64 - 1) }
+
+-- MPC is read, and what it held is added to the driver's sum.
+abbrev pub MissesAreRead : Type 0
+MissesAreRead =
+    (up : Bool) (driver : DriverState) (world : World) → driver.missed < 2 ^ 64 → ReadyWith up driver world
+    → GoesTo up driver world (with_missed (answer_at 0x4010 world.adapter) driver) (world_after_read 0x4010 world) [] [] nothing
+
+-- ICR was read: no cause is recorded behind it, and else nothing has changed.
+pub record CausesRead (up : Bool) (driver : DriverState) (a b : World) : Type 0 where
+  pub flows : FlowsTo up driver a driver b [] [] nothing
+  pub cleared : b.adapter.causes.recorded ≡ 0
+
+abbrev pub CausesAreRead : Type 0
+CausesAreRead =
+    (up : Bool) (driver : DriverState) (world : World) → ReadyWith up driver world → CausesRead up driver world (world_after_read 0xC0 world)
+
+-- Any other register is read, and nothing changes that a driver knows.
+abbrev pub OthersAreRead : Type 0
+OthersAreRead =
+    (up : Bool) (driver : DriverState) (offset : ℕ) (world : World) → offset ≢ 0xC0 → offset ≢ 0x4010 → ReadyWith up driver world
+    → GoesTo up driver world driver (world_after_read offset world) [] [] nothing

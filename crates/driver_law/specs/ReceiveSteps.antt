@@ -1,0 +1,57 @@
+-- What a driver does with its receive slots: each is a stretch of its run by itself.
+use Rattle.std.specs.Prelude.{◌≡◌, ◌<◌, ◌+◌, ◌%◌, ◌++◌, ◌∷◌, ℕ, Bool, List, [], All, length}
+use Rattle.dma_memory.specs.Owners.{HaveSameNumbers, copies}
+use Rattle.rx_engine.specs.Descriptors.{descriptor_at}
+use Rattle.adapter.specs.Slots.{finished}
+use Rattle.adapter.specs.World.{World, world_after_store}
+use Rattle.bus.specs.Initialising.{with_tail}
+use Rattle.bus.specs.Own.{frame_named}
+use Rattle.bus.specs.Past.{nothing}
+use Rattle.driver_law.specs.DriverState.{DriverState, HandedOut, buffer_at, next_received, numbers_of, receive_slot, with_owners}
+use Rattle.driver_law.specs.Goes.{GoesTo}
+use Rattle.driver_law.specs.Ready.{ReadyWith, Stands, empty_descriptor}
+
+-- A number leaves the pool, and the next slot's descriptor is stored with its buffer, where one slot more would still be left.
+abbrev pub SlotsCanBeStaged : Type 0
+SlotsCanBeStaged =
+    (up : Bool) (d : DriverState) (number : ℕ) (pool : List ℕ) (world : World) → ReadyWith up d world
+    → length d.buffers + length d.staged + 1 < d.counts.rx → number < d.counts.buffers → HaveSameNumbers d.pool (number ∷ pool)
+    → GoesTo up d world (with_owners d d.buffers (d.staged ++ number ∷ []) pool d.handed_out)
+    (world_after_store (receive_slot (next_received d)) (empty_descriptor (buffer_at d.counts number)) world) [] [] nothing
+
+-- All staged slots are offered at once, by RDT.
+abbrev pub StagedCanBeOffered : Type 0
+StagedCanBeOffered =
+    (up : Bool) (d : DriverState) (world : World) → ReadyWith up d world
+    → GoesTo up d world (with_owners d (d.buffers ++ d.staged) [] d.pool d.handed_out) (with_tail (next_received d) world) [] [] nothing
+
+-- the frame of the oldest slot, in the buffer that the driver has for it
+abbrev pub oldest_frame : DriverState → (number : ℕ) → World → HandedOut
+oldest_frame d number world = record { number = number; frame = frame_named world (receive_slot d.oldest_received) }
+
+-- the driver behind that slot, which had the first of its buffers
+abbrev pub behind_oldest : DriverState → (later : List ℕ) → List HandedOut → DriverState
+behind_oldest d later handed_out = record d { oldest_received = (d.oldest_received + 1) % d.counts.rx; buffers = later; handed_out = handed_out }
+
+-- The oldest slot is taken, where it is finished: its frame is handed out.
+abbrev pub OldestCanBeTaken : Type 0
+OldestCanBeTaken =
+    (up : Bool) (d : DriverState) (number : ℕ) (later slots : List ℕ) (world : World) → ReadyWith up d world
+    → d.buffers ≡ number ∷ later → finished d.oldest_received world ≡ receive_slot d.oldest_received ∷ slots
+    → GoesTo up d world (behind_oldest d later (d.handed_out ++ oldest_frame d number world ∷ [])) world
+    (frame_named world (receive_slot d.oldest_received) ∷ []) [] nothing
+
+-- That frame has as many bytes as the slot's descriptor says.
+abbrev pub OldestIsAsLong : Type 0
+OldestIsAsLong =
+    (up : Bool) (d : DriverState) (number : ℕ) (later slots : List ℕ) (world : World) → ReadyWith up d world
+    → d.buffers ≡ number ∷ later → finished d.oldest_received world ≡ receive_slot d.oldest_received ∷ slots
+    → length (frame_named world (receive_slot d.oldest_received)) ≡ (descriptor_at world.memory (receive_slot d.oldest_received)).length
+
+-- Buffers that were handed out come back into the pool.
+abbrev pub BuffersCanComeBack : Type 0
+BuffersCanComeBack =
+    (up : Bool) (d : DriverState) (pool : List ℕ) (handed_out : List HandedOut) (world : World) → ReadyWith up d world
+    → ((k : ℕ) → copies k pool + copies k (numbers_of handed_out) ≡ copies k d.pool + copies k (numbers_of d.handed_out))
+    → All (Stands d.counts world.memory) handed_out
+    → GoesTo up d world (with_owners d d.buffers d.staged pool handed_out) world [] [] nothing

@@ -1,0 +1,107 @@
+-- The steps of a driver's transmit side (own).
+use Rattle.std.specs.Prelude.{◌≡◌, ◌≤◌, ◌<◌, ◌+◌, ◌-◌, ◌%◌, ◌⊎◌, ℕ, true, false, List, [], ◌∷◌, length, map}
+use Rattle.dma_memory.specs.Areas.{bytes_in, descriptor_area}
+use Rattle.dma_memory.specs.HostMemory.{bytes_at}
+use Rattle.dma_memory.specs.Layout.{Counts, TransmitBuffer, area_of, start_of}
+use Rattle.descriptors.specs.Frames.{padded}
+use Rattle.descriptors.specs.Ring.{slots_from}
+use Rattle.descriptors.specs.TxDesc.{tx_desc_bytes}
+use Rattle.descriptors.specs.TxFields.{command_of, sent_of}
+use Rattle.adapter.specs.Slots.{is_done, written_back}
+use Rattle.adapter.specs.World.{World, transmit_ring, world_after_store, world_after_write}
+use Rattle.bus.specs.Law.{Happens}
+use Rattle.bus.specs.Offering.{offering_frame}
+use Rattle.bus.specs.Own.{IsOwnSlot}
+use Rattle.bus.specs.Past.{Past, nothing}
+use Rattle.bus.specs.declared.event.Access.{Access}
+use Rattle.bus.specs.declared.event.Access.TheVariants.{Loads, Stores, Writes}
+use Rattle.driver_law.specs.DriverState.{DriverState, transmit_slot, transmit_tail}
+use Rattle.driver_law.specs.Goes.{Goes}
+use Rattle.driver_law.specs.Ready.{Ready}
+
+-- the buffer of a transmit slot
+abbrev pub transmit_buffer : Counts → ℕ → ℕ
+transmit_buffer counts slot = start_of counts (TransmitBuffer slot)
+
+-- a transmit descriptor that names so many bytes at an address, as a whole packet (EOP) with a check sequence (IFCS), and asks for a report (RS)
+abbrev pub whole_descriptor : (address size : ℕ) → List ℕ
+whole_descriptor address size = tx_desc_bytes (record { address = address; length = size; cso = 0; command = command_of 0x0B; status = sent_of 0; css = 0; special = 0 })
+
+-- A slot that isn't outstanding.
+
+-- Such is the one at the tail.
+abbrev pub NextSlotIsOwn : Type 0
+NextSlotIsOwn = (driver : DriverState) (world : World) → Ready driver world → IsOwnSlot (transmit_ring world) driver.oldest_sent (transmit_tail driver)
+
+-- Data is stored into its buffer,
+abbrev pub DataIsStored : Type 0
+DataIsStored =
+    (driver : DriverState) (slot : ℕ) (bytes : List ℕ) (world : World) → Ready driver world → IsOwnSlot (transmit_ring world) driver.oldest_sent slot → length bytes ≤ 2048
+    → Goes driver world driver (world_after_store (transmit_buffer driver.counts slot) bytes world) [] [] nothing
+
+-- or its descriptor is stored.
+abbrev pub DescriptorIsStored : Type 0
+DescriptorIsStored =
+    (driver : DriverState) (slot : ℕ) (bytes : List ℕ) (world : World) → Ready driver world → IsOwnSlot (transmit_ring world) driver.oldest_sent slot → length bytes ≡ 16
+    → Goes driver world driver (world_after_store (transmit_slot driver.counts slot) bytes world) [] [] nothing
+
+-- Its buffer and its descriptor have the same bytes in both worlds.
+pub record SameSlot (counts : Counts) (slot : ℕ) (a b : World) : Type 0 where
+  pub data_same : bytes_in b.memory (area_of counts (TransmitBuffer slot)) ≡ bytes_in a.memory (area_of counts (TransmitBuffer slot))
+  pub descriptor_same : bytes_in b.memory (descriptor_area (transmit_slot counts slot)) ≡ bytes_in a.memory (descriptor_area (transmit_slot counts slot))
+
+-- So it is whatever happens.
+abbrev pub SlotsKeepBytes : Type 0
+SlotsKeepBytes =
+    (driver : DriverState) (slot : ℕ) (a b : World) (past : Past) → Ready driver a → IsOwnSlot (transmit_ring a) driver.oldest_sent slot → Happens a b past
+    → SameSlot driver.counts slot a b
+
+-- A frame is sent.
+
+-- The slot at the tail has it: the frame in its buffer, and a descriptor that names that.
+pub record FrameStands (driver : DriverState) (frame : List ℕ) (world : World) : Type 0 where
+  pub bytes : bytes_at world.memory (transmit_buffer driver.counts (transmit_tail driver)) (length frame) ≡ frame
+  pub descriptor : bytes_at world.memory (transmit_slot driver.counts (transmit_tail driver)) 16 ≡ whole_descriptor (transmit_buffer driver.counts (transmit_tail driver)) (length frame)
+
+-- A write of TDT with the place behind the tail moves it on by one:
+abbrev pub TailIsMoved : Type 0
+TailIsMoved =
+    (driver : DriverState) (world : World) → Ready driver world
+    → world_after_write 0x3818 ((transmit_tail driver + 1) % driver.counts.tx) world ≡ offering_frame world
+
+-- the frame, padded, is the last that is to be sent.
+abbrev pub FrameIsOffered : Type 0
+FrameIsOffered =
+    (driver : DriverState) (frame : List ℕ) (world : World) → Ready driver world → driver.sending + 1 < driver.counts.tx → 14 ≤ length frame → length frame ≤ 1518
+    → FrameStands driver frame world
+    → Goes driver world (record driver { sending = driver.sending + 1 }) (offering_frame world) [] (padded frame ∷ []) nothing
+
+-- A slot is freed.
+
+abbrev pub with_freed : DriverState → DriverState
+with_freed driver = record driver { oldest_sent = (driver.oldest_sent + 1) % driver.counts.tx; sending = driver.sending - 1 }
+
+-- The oldest one is, where it is done.
+abbrev pub SlotIsFreed : Type 0
+SlotIsFreed =
+    (driver : DriverState) (world : World) → Ready driver world → 0 < driver.sending → is_done world.memory (transmit_slot driver.counts driver.oldest_sent) ≡ true
+    → Goes driver world (with_freed driver) world [] [] nothing
+
+-- Where it isn't, or none is outstanding, none is written back.
+abbrev pub NoneIsWrittenBack : Type 0
+NoneIsWrittenBack =
+    (driver : DriverState) (world : World) → Ready driver world
+    → (driver.sending ≡ 0) ⊎ (is_done world.memory (transmit_slot driver.counts driver.oldest_sent) ≡ false) → written_back driver.oldest_sent world ≡ []
+
+-- Over a bus.
+
+-- The descriptors of so many slots are loaded, from a place on.
+abbrev pub transmit_loads : Counts → (oldest : ℕ) → ℕ → List Access
+transmit_loads counts oldest k = map (λ slot. Loads (transmit_slot counts slot) 16) (slots_from counts.tx oldest k)
+
+-- A frame is sent by the slot at the tail: its bytes are stored, then the descriptor, and then TDT written.
+abbrev pub send_accesses : DriverState → List ℕ → List Access
+send_accesses driver frame =
+    Stores (transmit_buffer driver.counts (transmit_tail driver)) frame
+    ∷ Stores (transmit_slot driver.counts (transmit_tail driver)) (whole_descriptor (transmit_buffer driver.counts (transmit_tail driver)) (length frame))
+    ∷ Writes 0x3818 ((transmit_tail driver + 1) % driver.counts.tx) ∷ []

@@ -1,0 +1,22 @@
+// Laws of a driver's beginning, and of the registers that it writes up to the end of its initialisation.
+
+ghost use Rattle.driver_law.specs.Beginnings.{CausesAreUnmasked, DriversBegin, ReceiverIsEnabled, TransmitRingIsWritten, TransmitterIsEnabled};
+
+/// A driver whose receive ring is set up, whose transmit ring is or isn't, and that has offered no slot of
+/// either, is ready.
+pub fn drivers_begin()
+    ensures { DriversBegin }
+{}
+
+/// A driver that is ready stays so at each write of a register in its initialisation.
+/// - `receiver`: of RCTL, while no receive slot is finished or in work, and the transmit side is off.
+/// - `transmit_ring`: of one of the transmit ring's, while it has nothing to send: behind each the ring
+///   is where the layout has it, and the side off still.
+/// - `transmitter`: of TCTL, with PSP, behind which its transmit side is set up.
+/// - `causes`: of IMS, which changes the mask alone.
+pub fn registers_are_set()
+    ensures receiver { ReceiverIsEnabled }
+    ensures transmit_ring { TransmitRingIsWritten }
+    ensures transmitter { TransmitterIsEnabled }
+    ensures causes { CausesAreUnmasked }
+{}

@@ -1,0 +1,25 @@
+// Laws of a driver's transmit side.
+
+ghost use Rattle.driver_law.specs.Transmit.{DataIsStored, DescriptorIsStored, FrameIsOffered, NextSlotIsOwn, NoneIsWrittenBack, SlotIsFreed, SlotsKeepBytes, TailIsMoved};
+
+/// A driver stores what it likes into the buffer and the descriptor of a transmit slot that isn't
+/// outstanding, as the one at the tail is, and both stay whatever happens.
+pub fn own_slots_are_stored()
+    ensures next { NextSlotIsOwn }
+    ensures data_stored { DataIsStored }
+    ensures descriptor { DescriptorIsStored }
+    ensures stay { SlotsKeepBytes }
+{}
+
+/// A driver sends a frame that stands in the slot at the tail by a write of TDT, which moves it on by one:
+/// padded, the frame is the last that is to be sent.
+pub fn frames_are_offered()
+    ensures moved { TailIsMoved }
+    ensures offered { FrameIsOffered }
+{}
+
+/// A driver frees its oldest transmit slot where its descriptor is done; else none is written back.
+pub fn slots_are_freed()
+    ensures done { SlotIsFreed }
+    ensures waits { NoneIsWrittenBack }
+{}
