@@ -12,7 +12,7 @@ use Rattle.bus.specs.Law.{Acts}
 use Rattle.bus.specs.Past.{Past, nothing}
 use Rattle.bus.specs.declared.event.Access.{Access}
 use Rattle.bus.specs.declared.event.Access.TheVariants.{Loads, Stores, Writes}
-use Rattle.bus.proofs.Tails.{receive_tail-written}
+use Rattle.bus.proofs.KnownRings.{receive_tail-written}
 use Rattle.driver_law.proofs.Accesses.{ran_by-acts}
 use Rattle.driver_law.proofs.Offers.{staged_can_be_offered}
 use Rattle.driver_law.proofs.Places.{place-below}

@@ -12,7 +12,7 @@ use Rattle.descriptors.specs.Ring.{next_of}
 use Rattle.descriptors.specs.RingLaws.{next-below}
 use Rattle.adapter.specs.Slots.{is_done, written_back}
 use Rattle.adapter.specs.World.{World, transmit_ring, world_after_store, world_after_write}
-use Rattle.bus.proofs.Tails.{transmit_tail-written}
+use Rattle.bus.proofs.KnownRings.{transmit_tail-written}
 use Rattle.bus.specs.Law.{Acts, Happens}
 use Rattle.bus.specs.Offering.{offering_frame}
 use Rattle.bus.specs.Past.{Past, joined, nothing}
