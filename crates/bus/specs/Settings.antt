@@ -1,12 +1,16 @@
 -- What a driver has set of an adapter: the registers that only its own writes change (own).
-use Rattle.std.specs.Prelude.{◌≡◌, ℕ, List, [], ◌∷◌}
+use Rattle.std.specs.Prelude.{⊤, ◌≡◌, ℕ, List, [], ◌∷◌, All, Option, Some}
+use Rattle.registers.specs.Bits.{HasBit}
 use Rattle.mdic_phy.specs.Phy.{new_phy}
 use Rattle.mdic_phy.specs.declared.phy.Link.TheVariants.{Never}
 use Rattle.rx_filter.specs.Registers.{FilterRegisters}
 use Rattle.adapter.specs.declared.ring.RingRegisters.{RingRegisters}
 use Rattle.adapter.specs.Registers.{adapter_at_reset, after_write}
 use Rattle.adapter.specs.State.{AdapterState}
+use Rattle.adapter.specs.Table.{register_at}
 use Rattle.adapter.specs.World.{World}
+use Rattle.adapter.specs.declared.register.Register.{Register}
+use Rattle.adapter.specs.declared.register.Register.TheVariants.{Rctl}
 use Rattle.bus.specs.Law.{Happens}
 use Rattle.bus.specs.Past.{Past, joined}
 use Rattle.bus.specs.declared.event.Access.{Access}
@@ -90,3 +94,30 @@ abbrev pub WritesSet : Type 0
 WritesSet =
     (offset value : ℕ) (adapter : AdapterState)
     → settings_of (after_write offset value adapter) ≡ settings_after (record { offset = offset; value = value }) (settings_of adapter)
+
+-- While frames don't come.
+
+-- RCTL.EN is 0
+abbrev pub IsOff : World → Type 0
+IsOff world = ¬ (HasBit world.adapter.filter.rctl 1)
+
+abbrev pub IsNotReceiveControl : Option Register → Type 0
+IsNotReceiveControl (Some Rctl) = ⊥
+IsNotReceiveControl _ = ⊤
+
+-- the write isn't of RCTL
+abbrev pub LeavesReceiver : Write → Type 0
+LeavesReceiver write = IsNotReceiveControl (register_at write.offset)
+
+-- No frame was stored or missed.
+pub record NoArrival (past : Past) : Type 0 where
+  pub none_stored : past.stored ≡ []
+  pub none_missed : past.missed ≡ 0
+
+-- Where RCTL.EN is 0, and isn't written, no frame is stored or missed.
+abbrev pub WhileOff : World → Past → Type 0
+WhileOff a past = IsOff a → All LeavesReceiver (writes_in past.accesses) → NoArrival past
+
+-- It stays 0 then, a reset among the writes or not.
+abbrev pub StaysOff : Type 0
+StaysOff = (writes : List Write) (settings : Settings) → All LeavesReceiver writes → ¬ (HasBit settings.filter.rctl 1) → ¬ (HasBit (settings_after_all writes settings).filter.rctl 1)
