@@ -6,6 +6,8 @@ pub mod Trails
 pub mod Faults
 pub mod TrailLaws
 pub mod Examples
+pub mod Groups
+pub mod GroupLaws
 pub mod Solo
 pub mod SoloView
 pub mod SoloLaws
