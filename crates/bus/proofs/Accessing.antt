@@ -1,11 +1,11 @@
 -- An access over a solo bus, behind what comes before it.
-use Rattle.std.proofs.Common.{◌≡◌, ◌+◌, ◌++◌, ◌∷◌, [], Bool, true, List, length, map, min, if◌then◌else◌, refl, sym, ap, subst, ◌∙◌, arith}
+use Rattle.std.proofs.Common.{◌≡◌, ◌+◌, ◌++◌, ◌∷◌, [], Bool, true, List, length, if◌then◌else◌, refl, sym, ap, ◌∙◌, arith}
 use Rattle.std.specs.List.{All}
 use Rattle.std.proofs.lemmas.List.{append-nil, map-append}
 use Rattle.bus.specs.Law.{Acts, Happens}
 use Rattle.bus.specs.Past.{Access, Past}
 use Rattle.bus.specs.Groups.{group_of}
-use Rattle.bus.specs.Solo.{Prepared, Recounts, SoloState, is_go, most_accesses, own_ticks, tick_of}
+use Rattle.bus.specs.Solo.{Prepared, Recounts, SoloState, is_go, own_ticks, tick_of}
 use Rattle.bus.specs.SoloLaws.{are_free_joins, recounts_own}
 use Rattle.bus.specs.TrailLaws.{past_of-append, same_past, trail_joins}
 use Rattle.bus.specs.Trails.{Accesses, Arrives, Event, IsAnswered, IsStep, Steps, past_of, past_of_event, world_after_access}

@@ -1,5 +1,5 @@
 -- Ticks that a solo bus plays.
-use Rattle.std.proofs.Common.{length-append, length, ◌≡◌, ◌+◌, ◌<◌, ◌++◌, ◌∷◌, [], Bool, true, false, ℕ, List, Option, Some, None, drop, get_or, map, min, slice_get, take, refl, sym, ap, subst, ◌∙◌, append_assoc}
+use Rattle.std.proofs.Common.{length-append, length, ◌≡◌, ◌+◌, ◌<◌, ◌++◌, ◌∷◌, [], Bool, true, false, ℕ, List, Option, Some, drop, get_or, map, min, slice_get, take, refl, sym, ap, subst, ◌∙◌, append_assoc}
 use Rattle.std.proofs.lemmas.List.{append-nil, map-append, take_more}
 use Rattle.std.proofs.lemmas.List.Elements.{All-append, All-cons}
 use Rattle.rx_engine.specs.declared.arrival.Fate.{Fate}
@@ -23,19 +23,6 @@ use Rattle.bus.specs.declared.solo.SoloTick.{SoloTick}
 use Rattle.bus.specs.declared.solo.SoloTick.TheVariants.{Arrive, Go, Step}
 use Rattle.bus.proofs.Lists.{all-none}
 
-pub plays_none : (a : SoloState) → Plays [] a.waiting a a
-plays_none a = record {
-  events = [];
-  are = all-none IsStep;
-  trail = refl;
-  played = refl;
-  waiting = refl;
-  free = tt;
-  wire = sym (append-nil a.wire);
-  lively = refl;
-  accesses = refl;
-}
-
 pub plays_trans : (first later left left' : List SoloTick) (a b c : SoloState) → Plays first left a b → Plays later left' b c → Plays (first ++ later) left' a c
 plays_trans first later left left' a b c one two = record {
   events = one.events ++ two.events;
@@ -57,10 +44,6 @@ plays_trans first later left left' a b c one two = record {
 front_rest : {X : Type 0} (xs : List X) (x : X) → slice_get xs 0 ≡ Some x → xs ≡ x ∷ drop 1 xs
 front_rest [] x is = absurd (cc)
 front_rest (y ∷ ys) x is = cc
-
-no_front : {X : Type 0} (xs : List X) → slice_get xs 0 ≡ None → xs ≡ []
-no_front [] is = refl
-no_front (y ∷ ys) is = absurd (cc)
 
 -- What a step puts is what happened in it.
 put_alone : (kind : StepKind) (wire_free : Bool) (answer : Stepped) (solo : SoloState) → Answers kind wire_free solo.world.memory solo.world.adapter answer → put_by answer ≡ (past_of (Steps kind wire_free answer ∷ [])).put
@@ -153,9 +136,6 @@ all_go_on = record { played = played; left = λ tick later is. refl }
     played (Step kind) later is = refl
     played (Arrive frame) later is = refl
 
-pub on_none : (plays waits : List SoloTick → List SoloTick) (a : SoloState) → PlaysOn plays waits a a
-on_none plays waits a = record { ticks = []; far = plays_none a; to_play = refl; to_wait = refl }
-
 -- One tick more, which was the next.
 on_more : (plays waits : List SoloTick → List SoloTick) (a s b : SoloState) (tick : SoloTick) (left : List SoloTick) → GoesOn plays waits → PlaysOn plays waits a s → is_go tick ≡ false → s.waiting ≡ tick ∷ left → b.waiting ≡ left → Plays (tick ∷ []) b.waiting s b → PlaysOn plays waits a b
 on_more plays waits a s b tick left on before isnt front behind one = record {
@@ -184,51 +164,6 @@ arrive_on plays waits a s s' b frame bytes fate next tick on before is some take
     let fates_s : IsFate s.world.adapter frame fate = subst (λ (x : List ℕ). IsFate s.world.adapter x fate) same (subst (λ (x : SoloState). IsFate x.world.adapter bytes fate) left fates) in
     let at : b ≡ solo_after_arrival fate frame (record s { waiting = drop 1 s.waiting }) = after ∙ ap (solo_after_arrival fate bytes) left ∙ ap (λ (x : List ℕ). solo_after_arrival fate x (record s { waiting = drop 1 s.waiting })) same in
     subst (λ (x : SoloState). PlaysOn plays waits a x) (sym at) (on_more plays waits a s _ (Arrive frame) (drop 1 s.waiting) on before refl front refl (plays_arrival s frame fate (drop 1 s.waiting) running_s fates_s))
-
--- The next tick waits no longer, and isn't played.
-plays_without : (ticks left : List SoloTick) (a s : SoloState) → Plays ticks s.waiting a s → Plays ticks left a (record s { waiting = left })
-plays_without ticks left a s plays = record {
-  events = plays.events;
-  are = plays.are;
-  trail = plays.trail;
-  played = plays.played;
-  waiting = refl;
-  free = plays.free;
-  wire = plays.wire;
-  lively = plays.lively;
-  accesses = plays.accesses;
-}
-
--- Go among ticks that are all played.
-pub go_on : (a s s' : SoloState) (next : Option SoloTick) (tick : SoloTick) → PlaysOn (without_go is_go) none_left a s → next ≡ slice_get s.waiting 0 → next ≡ Some tick → tick ≡ Go → s' ≡ record s { waiting = drop 1 s.waiting } → PlaysOn (without_go is_go) none_left a s'
-go_on a s s' next tick before is some go left =
-    let front : s.waiting ≡ Go ∷ drop 1 s.waiting = front_rest s.waiting Go (sym is ∙ some ∙ ap Some go) in
-    subst (λ (x : SoloState). PlaysOn (without_go is_go) none_left a x) (sym left) (record {
-      ticks = before.ticks;
-      far = plays_without before.ticks (drop 1 s.waiting) a s before.far;
-      to_play = before.to_play ∙ ap (λ (ticks : List SoloTick). before.ticks ++ without_go is_go ticks) front;
-      to_wait = refl;
-    })
-
--- The end of a loop, where no tick is to be played any more.
-on_end : (plays waits : List SoloTick → List SoloTick) (a s s' : SoloState) → PlaysOn plays waits a s → s' ≡ record s { waiting = drop 1 s.waiting } → plays s.waiting ≡ [] → waits s.waiting ≡ drop 1 s.waiting → Plays (plays a.waiting) (waits a.waiting) a s'
-on_end plays waits a s s' before left none rest =
-    let ticks : before.ticks ≡ plays a.waiting = sym (before.to_play ∙ ap (λ (ticks : List SoloTick). before.ticks ++ ticks) none ∙ append-nil before.ticks) in
-    let waiting : drop 1 s.waiting ≡ waits a.waiting = sym (before.to_wait ∙ rest) in
-    let whole : Plays before.ticks (drop 1 s.waiting) a s' = subst (λ (x : SoloState). Plays before.ticks (drop 1 s.waiting) a x) (sym left) (plays_without before.ticks (drop 1 s.waiting) a s before.far) in
-    subst (λ (ticks : List SoloTick). Plays ticks (waits a.waiting) a s') ticks (subst (λ (ticks : List SoloTick). Plays before.ticks ticks a s') waiting whole)
-
--- Where none waits the loop ends.
-pub on_last : (plays waits : List SoloTick → List SoloTick) (a s s' : SoloState) (next : Option SoloTick) → PlaysOn plays waits a s → next ≡ slice_get s.waiting 0 → next ≡ None → s' ≡ record s { waiting = drop 1 s.waiting } → plays [] ≡ [] → waits [] ≡ [] → Plays (plays a.waiting) (waits a.waiting) a s'
-on_last plays waits a s s' next before is none left no_more none_waits =
-    let empty : s.waiting ≡ [] = no_front s.waiting (sym is ∙ none) in
-    on_end plays waits a s s' before left (ap plays empty ∙ no_more) (ap waits empty ∙ none_waits ∙ sym (ap (λ (ticks : List SoloTick). drop 1 ticks) empty))
-
--- A group ends at its Go.
-pub on_go : (a s s' : SoloState) (next : Option SoloTick) (tick : SoloTick) → PlaysOn (group_of is_go) (behind_group is_go) a s → next ≡ slice_get s.waiting 0 → next ≡ Some tick → tick ≡ Go → s' ≡ record s { waiting = drop 1 s.waiting } → Plays (group_of is_go a.waiting) (behind_group is_go a.waiting) a s'
-on_go a s s' next tick before is some go left =
-    let front : s.waiting ≡ Go ∷ drop 1 s.waiting = front_rest s.waiting Go (sym is ∙ some ∙ ap Some go) in
-    on_end (group_of is_go) (behind_group is_go) a s s' before left (ap (group_of is_go) front) (ap (behind_group is_go) front)
 
 -- Steps of these kinds, one after the other.
 pub kinds_on : (kinds : List StepKind) (place : ℕ) (other : StepKind) (a s b : SoloState) (answer : Stepped) → place < length kinds → Plays (map Step (take place kinds)) a.waiting a s → IsAdapter s.world.adapter → Answers (get_or kinds place other) (has_room s) s.world.memory s.world.adapter answer → b ≡ solo_after_step (get_or kinds place other) answer s → Plays (map Step (take (place + 1) kinds)) a.waiting a b
