@@ -23,12 +23,17 @@ use Rattle.bus.specs.declared.solo.SoloTick.{SoloTick}
 use Rattle.bus.specs.declared.solo.SoloTick.TheVariants.{Arrive, Go, Step}
 use Rattle.bus.proofs.Lists.{all-none}
 
-pub plays_trans : (first later left left' : List SoloTick) (a b c : SoloState) → Plays first left a b → Plays later left' b c → Plays (first ++ later) left' a c
+pub plays_trans :
+    (first later left left' : List SoloTick) (a b c : SoloState) → Plays first left a b → Plays later left' b c
+    → Plays (first ++ later) left' a c
 plays_trans first later left left' a b c one two = record {
   events = one.events ++ two.events;
   are = All-append IsStep one.events two.events one.are two.are;
   trail = trail_joins one.events two.events a.world b.world c.world one.trail two.trail;
-  played = map-append tick_of one.events two.events ∙ ap (λ (ticks : List SoloTick). ticks ++ map tick_of two.events) one.played ∙ ap (λ (ticks : List SoloTick). first ++ ticks) two.played;
+  played =
+      map-append tick_of one.events two.events
+      ∙ ap (λ (ticks : List SoloTick). ticks ++ map tick_of two.events) one.played
+      ∙ ap (λ (ticks : List SoloTick). first ++ ticks) two.played;
   waiting = two.waiting;
   free = are_free_joins one.events two.events (length a.wire) (length b.wire) (ap length one.wire ∙ length-append a.wire (past_of one.events).put) one.free two.free;
   wire =
@@ -66,7 +71,10 @@ put_alone PhyTick wire_free answer solo answers = ap put_by answers ∙ put_none
     put_none false = refl
 
 -- A step, with the ticks that wait behind it.
-pub plays_step : (a : SoloState) (kind : StepKind) (answer : Stepped) (left : List SoloTick) → IsAdapter a.world.adapter → Answers kind (has_room a) a.world.memory a.world.adapter answer → Plays (Step kind ∷ []) left a (solo_after_step kind answer (record a { waiting = left }))
+pub plays_step :
+    (a : SoloState) (kind : StepKind) (answer : Stepped) (left : List SoloTick) → IsAdapter a.world.adapter
+    → Answers kind (has_room a) a.world.memory a.world.adapter answer
+    → Plays (Step kind ∷ []) left a (solo_after_step kind answer (record a { waiting = left }))
 plays_step a kind answer left running answers =
     let event = Steps kind (has_room a) answer in
     record {
@@ -82,7 +90,9 @@ plays_step a kind answer left running answers =
     }
 
 -- A delivery.
-pub plays_arrival : (a : SoloState) (frame : List ℕ) (fate : Fate) (left : List SoloTick) → IsAdapter a.world.adapter → IsFate a.world.adapter frame fate → Plays (Arrive frame ∷ []) left a (solo_after_arrival fate frame (record a { waiting = left }))
+pub plays_arrival :
+    (a : SoloState) (frame : List ℕ) (fate : Fate) (left : List SoloTick) → IsAdapter a.world.adapter
+    → IsFate a.world.adapter frame fate → Plays (Arrive frame ∷ []) left a (solo_after_arrival fate frame (record a { waiting = left }))
 plays_arrival a frame fate left running is =
     let event = Arrives frame fate in
     record {
@@ -99,7 +109,7 @@ plays_arrival a frame fate left running is =
 
 -- A loop over the ticks that wait.
 
--- one word says which ticks are to be played, and another which wait then; both go on where a tick is played
+-- Of one word that says which ticks are played, and another that says which wait then: each tick but Go is played, and waits no longer.
 pub record GoesOn (plays waits : List SoloTick → List SoloTick) : Type 0 where
   pub played : (tick : SoloTick) (later : List SoloTick) → is_go tick ≡ false → plays (tick ∷ later) ≡ tick ∷ plays later
   pub left : (tick : SoloTick) (later : List SoloTick) → is_go tick ≡ false → waits (tick ∷ later) ≡ waits later
@@ -137,7 +147,10 @@ all_go_on = record { played = played; left = λ tick later is. refl }
     played (Arrive frame) later is = refl
 
 -- One tick more, which was the next.
-on_more : (plays waits : List SoloTick → List SoloTick) (a s b : SoloState) (tick : SoloTick) (left : List SoloTick) → GoesOn plays waits → PlaysOn plays waits a s → is_go tick ≡ false → s.waiting ≡ tick ∷ left → b.waiting ≡ left → Plays (tick ∷ []) b.waiting s b → PlaysOn plays waits a b
+on_more :
+    (plays waits : List SoloTick → List SoloTick) (a s b : SoloState) (tick : SoloTick) (left : List SoloTick) → GoesOn plays waits
+    → PlaysOn plays waits a s → is_go tick ≡ false → s.waiting ≡ tick ∷ left → b.waiting ≡ left → Plays (tick ∷ []) b.waiting s b
+    → PlaysOn plays waits a b
 on_more plays waits a s b tick left on before isnt front behind one = record {
   ticks = before.ticks ++ tick ∷ [];
   far = plays_trans before.ticks (tick ∷ []) s.waiting b.waiting a s b before.far one;
@@ -149,7 +162,11 @@ on_more plays waits a s b tick left on before isnt front behind one = record {
 }
 
 -- A step whose tick was the next, as the code leaves it.
-pub step_on : (plays waits : List SoloTick → List SoloTick) (a s s' b : SoloState) (kind : StepKind) (answer : Stepped) (next : Option SoloTick) (tick : SoloTick) → GoesOn plays waits → PlaysOn plays waits a s → next ≡ slice_get s.waiting 0 → next ≡ Some tick → tick ≡ Step kind → s' ≡ record s { waiting = drop 1 s.waiting } → IsAdapter s'.world.adapter → Answers kind (has_room s') s'.world.memory s'.world.adapter answer → b ≡ solo_after_step kind answer s' → PlaysOn plays waits a b
+pub step_on :
+    (plays waits : List SoloTick → List SoloTick) (a s s' b : SoloState) (kind : StepKind) (answer : Stepped) (next : Option SoloTick) (tick : SoloTick)
+    → GoesOn plays waits → PlaysOn plays waits a s → next ≡ slice_get s.waiting 0 → next ≡ Some tick → tick ≡ Step kind
+    → s' ≡ record s { waiting = drop 1 s.waiting } → IsAdapter s'.world.adapter
+    → Answers kind (has_room s') s'.world.memory s'.world.adapter answer → b ≡ solo_after_step kind answer s' → PlaysOn plays waits a b
 step_on plays waits a s s' b kind answer next tick on before is some takes left running answers after =
     let front : s.waiting ≡ Step kind ∷ drop 1 s.waiting = front_rest s.waiting (Step kind) (sym is ∙ some ∙ ap Some takes) in
     let running_s : IsAdapter s.world.adapter = subst (λ (x : SoloState). IsAdapter x.world.adapter) left running in
@@ -157,7 +174,11 @@ step_on plays waits a s s' b kind answer next tick on before is some takes left 
     let at : b ≡ solo_after_step kind answer (record s { waiting = drop 1 s.waiting }) = after ∙ ap (solo_after_step kind answer) left in
     subst (λ (x : SoloState). PlaysOn plays waits a x) (sym at) (on_more plays waits a s _ (Step kind) (drop 1 s.waiting) on before refl front refl (plays_step s kind answer (drop 1 s.waiting) running_s answers_s))
 
-pub arrive_on : (plays waits : List SoloTick → List SoloTick) (a s s' b : SoloState) (frame bytes : List ℕ) (fate : Fate) (next : Option SoloTick) (tick : SoloTick) → GoesOn plays waits → PlaysOn plays waits a s → next ≡ slice_get s.waiting 0 → next ≡ Some tick → tick ≡ Arrive frame → bytes ≡ frame → s' ≡ record s { waiting = drop 1 s.waiting } → IsAdapter s'.world.adapter → IsFate s'.world.adapter bytes fate → b ≡ solo_after_arrival fate bytes s' → PlaysOn plays waits a b
+pub arrive_on :
+    (plays waits : List SoloTick → List SoloTick) (a s s' b : SoloState) (frame bytes : List ℕ) (fate : Fate) (next : Option SoloTick) (tick : SoloTick)
+    → GoesOn plays waits → PlaysOn plays waits a s → next ≡ slice_get s.waiting 0 → next ≡ Some tick → tick ≡ Arrive frame
+    → bytes ≡ frame → s' ≡ record s { waiting = drop 1 s.waiting } → IsAdapter s'.world.adapter → IsFate s'.world.adapter bytes fate
+    → b ≡ solo_after_arrival fate bytes s' → PlaysOn plays waits a b
 arrive_on plays waits a s s' b frame bytes fate next tick on before is some takes same left running fates after =
     let front : s.waiting ≡ Arrive frame ∷ drop 1 s.waiting = front_rest s.waiting (Arrive frame) (sym is ∙ some ∙ ap Some takes) in
     let running_s : IsAdapter s.world.adapter = subst (λ (x : SoloState). IsAdapter x.world.adapter) left running in
@@ -166,7 +187,11 @@ arrive_on plays waits a s s' b frame bytes fate next tick on before is some take
     subst (λ (x : SoloState). PlaysOn plays waits a x) (sym at) (on_more plays waits a s _ (Arrive frame) (drop 1 s.waiting) on before refl front refl (plays_arrival s frame fate (drop 1 s.waiting) running_s fates_s))
 
 -- Steps of these kinds, one after the other.
-pub kinds_on : (kinds : List StepKind) (place : ℕ) (other : StepKind) (a s b : SoloState) (answer : Stepped) → place < length kinds → Plays (map Step (take place kinds)) a.waiting a s → IsAdapter s.world.adapter → Answers (get_or kinds place other) (has_room s) s.world.memory s.world.adapter answer → b ≡ solo_after_step (get_or kinds place other) answer s → Plays (map Step (take (place + 1) kinds)) a.waiting a b
+pub kinds_on :
+    (kinds : List StepKind) (place : ℕ) (other : StepKind) (a s b : SoloState) (answer : Stepped) → place < length kinds
+    → Plays (map Step (take place kinds)) a.waiting a s → IsAdapter s.world.adapter
+    → Answers (get_or kinds place other) (has_room s) s.world.memory s.world.adapter answer
+    → b ≡ solo_after_step (get_or kinds place other) answer s → Plays (map Step (take (place + 1) kinds)) a.waiting a b
 kinds_on kinds place other a s b answer inside before running answers after =
     let kind = get_or kinds place other in
     let first = map Step (take place kinds) in
@@ -178,7 +203,10 @@ kinds_on kinds place other a s b answer inside before running answers after =
     (subst (λ (left : List SoloTick). Plays (first ++ Step kind ∷ []) left a (solo_after_step kind answer s)) before.waiting whole))
 
 -- All that comes before an access.
-pub prepared_on : (a m g b : SoloState) → Plays (own_ticks a.lively) a.waiting a m → Plays (group_of is_go m.waiting) (behind_group is_go m.waiting) m g → b ≡ record g { accesses = min (g.accesses + 1) most_accesses } → Prepared a b
+pub prepared_on :
+    (a m g b : SoloState) → Plays (own_ticks a.lively) a.waiting a m
+    → Plays (group_of is_go m.waiting) (behind_group is_go m.waiting) m g
+    → b ≡ record g { accesses = min (g.accesses + 1) most_accesses } → Prepared a b
 prepared_on a m g b own group is =
     let group_a : Plays (group_of is_go a.waiting) (behind_group is_go a.waiting) m g = subst (λ (ticks : List SoloTick). Plays (group_of is_go ticks) (behind_group is_go ticks) m g) own.waiting group in
     let whole = plays_trans (own_ticks a.lively) (group_of is_go a.waiting) a.waiting (behind_group is_go a.waiting) a m g own group_a in

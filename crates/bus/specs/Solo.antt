@@ -6,7 +6,7 @@ use Rattle.adapter.specs.declared.step.StepKind.{StepKind}
 use Rattle.adapter.specs.declared.step.StepKind.TheVariants.{EepromTick, PhyTick}
 use Rattle.adapter.specs.declared.step.Stepped.{Stepped}
 use Rattle.bus.specs.Groups.{behind_group, group_of, groups_of, played_in, waiting_after}
-use Rattle.bus.specs.Past.{Past}
+use Rattle.bus.specs.Past.{Access, Past}
 use Rattle.bus.specs.Steps.{past_of_step, put_by, world_after_arrival, world_after_step}
 use Rattle.bus.specs.Trails.{Accesses, Arrives, Event, IsStep, Steps, Trail, past_of}
 use Rattle.bus.specs.declared.solo.SoloTick.{SoloTick}
@@ -41,7 +41,7 @@ is_go Go = true
 is_go (Step kind) = false
 is_go (Arrive frame) = false
 
--- what is played where this happens: a step of a kind, a delivery of a frame, or an access, which Go stands for
+-- the tick that an event is of; an access stands where Go does
 abbrev pub tick_of : Event → SoloTick
 tick_of (Steps kind wire_free answer) = Step kind
 tick_of (Arrives frame fate) = Arrive frame
@@ -54,7 +54,8 @@ own_ticks lively = if lively then Step EepromTick ∷ Step PhyTick ∷ [] else [
 -- each step found the wire free exactly where less than 64 frames were on it, of so many before the first
 abbrev pub AreFree : List Event → ℕ → Type 0
 AreFree [] frames = ⊤
-AreFree (Steps kind wire_free answer ∷ later) frames = (wire_free ≡ nat_lt frames 64) × AreFree later (frames + length (past_of_step kind answer).put)
+AreFree (Steps kind wire_free answer ∷ later) frames =
+    (wire_free ≡ nat_lt frames 64) × AreFree later (frames + length (past_of_step kind answer).put)
 AreFree (Arrives frame fate ∷ later) frames = AreFree later frames
 AreFree (Accesses access ∷ later) frames = AreFree later frames
 
@@ -62,21 +63,21 @@ AreFree (Accesses access ∷ later) frames = AreFree later frames
 abbrev pub most_accesses : ℕ
 most_accesses = 2 ^ 64 - 1
 
--- What happened from one state to another, exactly: these events, what they put on the wire, and their accesses in the count.
+-- What happened from one state to another: these events, of these ticks, what they put on the wire, and their accesses in the count.
 pub record Recounts (a b : SoloState) (past : Past) : Type 0 where
   pub events : List Event
   pub trail : Trail events a.world b.world
   pub past_is : past ≡ past_of events
-  -- one event for each tick, in order: before each access the bus's own and those of the next group, and nothing behind the last
+  -- before each access the bus's own ticks and those of the next group, one event for each in order; nothing behind the last access
   pub played : map tick_of events ≡ played_in is_go Go (own_ticks a.lively) past.accesses a.waiting
-  -- no group waits longer, one for each access, and all others do
+  -- a group for each access waits no longer, and all other ticks do
   pub waiting : b.waiting ≡ waiting_after is_go past.accesses a.waiting
   pub free : AreFree events (length a.wire)
   pub wire : b.wire ≡ a.wire ++ past.put
   pub lively : b.lively ≡ a.lively
   pub count : min b.accesses most_accesses ≡ min (a.accesses + length past.accesses) most_accesses
 
--- how many ticks of the EEPROM a tick is, and of the PHY
+-- one for a tick of the EEPROM, and one for a tick of the PHY
 abbrev pub eeprom_tick : SoloTick → ℕ
 eeprom_tick (Step EepromTick) = 1
 eeprom_tick _ = 0
@@ -85,10 +86,14 @@ abbrev pub phy_tick : SoloTick → ℕ
 phy_tick (Step PhyTick) = 1
 phy_tick _ = 0
 
--- Of each kind a lively bus played one tick by itself for each access, and each other tick was one of those that waited.
+-- how many ticks of each kind a bus plays by itself in these accesses
+abbrev pub own_count : Bool → List Access → ℕ
+own_count lively accesses = if lively then length accesses else 0
+
+-- A lively bus plays exactly one tick of each kind by itself for each access, and all others are of the groups that waited.
 pub record PlaysOwn (a : SoloState) (past : Past) : Type 0 where
-  pub eeprom : past.eeprom_ticks ≡ (if a.lively then length past.accesses else 0) + sum_by eeprom_tick (groups_of is_go past.accesses a.waiting)
-  pub phy : past.phy_ticks ≡ (if a.lively then length past.accesses else 0) + sum_by phy_tick (groups_of is_go past.accesses a.waiting)
+  pub eeprom : past.eeprom_ticks ≡ own_count a.lively past.accesses + sum_by eeprom_tick (groups_of is_go past.accesses a.waiting)
+  pub phy : past.phy_ticks ≡ own_count a.lively past.accesses + sum_by phy_tick (groups_of is_go past.accesses a.waiting)
 
 -- From one state to another exactly these ticks are played, one event for each and no access, and then these wait.
 pub record Plays (ticks left : List SoloTick) (a b : SoloState) : Type 0 where

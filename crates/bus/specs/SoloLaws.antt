@@ -43,9 +43,14 @@ recounts_join a b c first later one two = record {
       map-append tick_of one.events two.events
       ∙ ap (λ (ticks : List SoloTick). ticks ++ map tick_of two.events) one.played
       ∙ ap (λ (ticks : List SoloTick). played_in is_go Go (own_ticks a.lively) first.accesses a.waiting ++ ticks)
-      (two.played ∙ ap (λ (lively : Bool). played_in is_go Go (own_ticks lively) later.accesses b.waiting) one.lively ∙ ap (played_in is_go Go (own_ticks a.lively) later.accesses) one.waiting)
+      (two.played
+      ∙ ap (λ (lively : Bool). played_in is_go Go (own_ticks lively) later.accesses b.waiting) one.lively
+      ∙ ap (played_in is_go Go (own_ticks a.lively) later.accesses) one.waiting)
       ∙ sym (played_joins is_go Go (own_ticks a.lively) first.accesses later.accesses a.waiting);
-  waiting = two.waiting ∙ ap (waiting_after is_go later.accesses) one.waiting ∙ sym (waiting_joins is_go first.accesses later.accesses a.waiting);
+  waiting =
+      two.waiting
+      ∙ ap (waiting_after is_go later.accesses) one.waiting
+      ∙ sym (waiting_joins is_go first.accesses later.accesses a.waiting);
   free =
       are_free_joins one.events two.events (length a.wire) (length b.wire)
       (ap length one.wire ∙ length-append a.wire first.put ∙ ap (λ (p : Past). length a.wire + length p.put) one.past_is) one.free two.free;
@@ -82,11 +87,13 @@ is_phy_tick (Accesses access) = refl
 
 eeprom_ticks_of : (events : List Event) → (past_of events).eeprom_ticks ≡ sum_by eeprom_tick (map tick_of events)
 eeprom_ticks_of [] = refl
-eeprom_ticks_of (event ∷ later) = omega (arith, is_eeprom_tick event, eeprom_ticks_of later, sum_by-cons eeprom_tick (tick_of event) (map tick_of later))
+eeprom_ticks_of (event ∷ later) =
+    omega (arith, is_eeprom_tick event, eeprom_ticks_of later, sum_by-cons eeprom_tick (tick_of event) (map tick_of later))
 
 phy_ticks_of : (events : List Event) → (past_of events).phy_ticks ≡ sum_by phy_tick (map tick_of events)
 phy_ticks_of [] = refl
-phy_ticks_of (event ∷ later) = omega (arith, is_phy_tick event, phy_ticks_of later, sum_by-cons phy_tick (tick_of event) (map tick_of later))
+phy_ticks_of (event ∷ later) =
+    omega (arith, is_phy_tick event, phy_ticks_of later, sum_by-cons phy_tick (tick_of event) (map tick_of later))
 
 own_eeprom_tick : (lively : Bool) → sum_by eeprom_tick (own_ticks lively) ≡ (if lively then 1 else 0)
 own_eeprom_tick true = refl
@@ -96,6 +103,7 @@ own_phy_tick : (lively : Bool) → sum_by phy_tick (own_ticks lively) ≡ (if li
 own_phy_tick true = refl
 own_phy_tick false = refl
 
+-- What a bus tells names its own ticks.
 pub recounts_own : (a b : SoloState) (past : Past) → Recounts a b past → PlaysOwn a past
 recounts_own a b past recounts = record {
   eeprom =
