@@ -9,6 +9,8 @@ pub mod Accesses
 pub mod TrailFaults
 pub mod TrailCauses
 pub mod Examples
+pub mod Groups
+pub mod GroupLaws
 pub mod Solo
 pub mod SoloView
 pub mod SoloLaws
