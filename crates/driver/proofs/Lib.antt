@@ -1,1 +1,2 @@
 pub mod FreedSlots
+pub mod SentFrames

@@ -1,5 +1,5 @@
 -- What a driver does to send a frame.
-use Rattle.std.specs.Prelude.{◌≡◌, ◌+◌, ◌-◌, ◌++◌, ◌∷◌, ℕ, true, List, [], Result, Ok, Err, min}
+use Rattle.std.specs.Prelude.{⊤, ◌≡◌, ◌+◌, ◌-◌, ◌++◌, ◌∷◌, ℕ, true, List, [], Result, Ok, Err, min}
 use Rattle.descriptors.specs.Frames.{padded}
 use Rattle.adapter.specs.Slots.{written_back}
 use Rattle.adapter.specs.World.{World}
@@ -39,6 +39,12 @@ accesses_by (Err RingFull) d d' frame = transmit_loads d.counts d.oldest_sent (p
 abbrev pub IsAnswer : Result (Unit {0}) SendError → DriverState → World → Type 0
 IsAnswer (Err RingFull) d world = (d.sending + 1 ≡ d.counts.tx) × (written_back d.oldest_sent world ≡ [])
 IsAnswer answer d world = Unit {0}
+
+-- it isn't a frame that can be sent
+abbrev pub IsRefused : Result (Unit {0}) SendError → Type 0
+IsRefused (Err TooShort) = ⊤
+IsRefused (Err TooLong) = ⊤
+IsRefused answer = ⊥
 
 pub record Transmits {B : Type 0} (world : B → World) (happened : B → B → Past → Type 0) (old new : B) (d d' : DriverState) (frame : List ℕ) (result : Result (Unit {0}) SendError) : Type 0 where
   pub ran : RanBy true world happened (accesses_by result d d' frame) old new d d' [] (given_by result frame)

@@ -1,6 +1,6 @@
 // A driver sends frames.
 
-ghost use Rattle.std.specs.Prelude.{◌≡◌, ◌↔◌, ◌+◌, ◌<◌, ◌≤◌, ℕ, true, List, [], Err, length, min, slice_index};
+ghost use Rattle.std.specs.Prelude.{◌≡◌, ◌↔◌, ◌+◌, ◌<◌, ◌≤◌, ◌∷◌, ℕ, true, List, [], Err, length, min, slice_index};
 ghost use Rattle.std.specs.Bool.{OnFalse, OnTrue};
 ghost use Rattle.registers.specs.Bits.{is_set};
 ghost use Rattle.dma_memory.specs.Layout.{size_of};
@@ -9,8 +9,8 @@ ghost use Rattle.adapter.specs.Slots.{written_back};
 ghost use Rattle.driver_law.specs.DriverState.{HandedOut, holding, transmit_slot, transmit_tail};
 ghost use Rattle.driver_law.specs.Goes.{RanBy};
 ghost use Rattle.driver_law.specs.Ready.{Ready};
-ghost use Rattle.driver_law.specs.Transmit.{send_accesses, transmit_buffer, transmit_loads, whole_descriptor, with_freed};
-ghost use Rattle.driver.specs.Sends.{Reclaims, Transmits, with_sending};
+ghost use Rattle.driver_law.specs.Transmit.{send_accesses, transmit_loads, whole_descriptor, with_freed};
+ghost use Rattle.driver.specs.Sends.{IsRefused, Reclaims, Transmits, with_sending};
 
 use crate::Driver;
 use adapter::offsets::TDT;
@@ -117,5 +117,66 @@ impl Driver {
             → Reclaims B.world B.happened bus.old bus.new (holding held self.old) (holding held self.new) }
     {
         while self.free_oldest(bus) {}
+    }
+
+    /// Sends a frame by the slot behind the outstanding ones: its bytes are stored into the slot's buffer,
+    /// then its descriptor, and then TDT is written.
+    fn send<B: Bus>(&mut self, bus: &mut B, frame: &[u8])
+        requires memory { size_of self.old.counts ≤ B.extent bus.old }
+        requires room { self.old.sending + 1 < self.old.counts.tx }
+        requires least { 14 ≤ length frame.now }
+        requires most { length frame.now ≤ 1518 }
+        ensures extent { B.extent bus.new ≡ B.extent bus.old }
+        ensures kept { B.kept bus.old bus.new }
+        ensures honest { B.honest bus.old → B.honest bus.new }
+        ensures lively { B.lively bus.old → B.lively bus.new }
+        ensures others { self.new ≡ with_sending self.old self.old.oldest_sent (self.old.sending + 1) }
+        ensures ran { (held : List HandedOut) → B.honest bus.old → Ready (holding held self.old) (B.world bus.old)
+            → RanBy true B.world B.happened (send_accesses self.old frame.now) bus.old bus.new (holding held self.old) (holding held self.new)
+            [] (padded frame.now ∷ []) }
+    {
+        let layout = self.layout;
+        let buffer = layout.transmit_buffer(self.next_sent);
+        let descriptor = whole_packet(buffer, frame.len() as u16);
+        bus.store(buffer, frame);
+        bus.store(descriptor_address(layout, self.next_sent), &descriptor);
+        self.next_sent = (self.next_sent + 1) % layout.tx();
+        self.sending += 1;
+        bus.write(TDT, u32::from(self.next_sent));
+    }
+
+    /// Sends a frame of 14 to 1,518 bytes.
+    ///
+    /// First it frees the oldest transmit slots whose descriptors are done, by one load each. The ring is
+    /// full where all its slots but one are outstanding then.
+    pub fn transmit<B: Bus>(&mut self, bus: &mut B, frame: &[u8]) -> Result<(), SendError>
+        requires memory { size_of self.old.counts ≤ B.extent bus.old }
+        ensures extent { B.extent bus.new ≡ B.extent bus.old }
+        ensures kept { B.kept bus.old bus.new }
+        ensures honest { B.honest bus.old → B.honest bus.new }
+        ensures lively { B.lively bus.old → B.lively bus.new }
+
+        // What it does over any bus.
+        ensures others { self.new ≡ with_sending self.old self.new.oldest_sent self.new.sending }
+        ensures too_short { (result ≡ Err SendError.TooShort) ↔ (length frame.now < 14) }
+        ensures too_long { (result ≡ Err SendError.TooLong) ↔ (1518 < length frame.now) }
+        ensures nothing { IsRefused result → (bus.new ≡ bus.old) × (self.new ≡ self.old) }
+
+        // And over one that obeys the law.
+        ensures ran { (held : List HandedOut) → B.honest bus.old → Ready (holding held self.old) (B.world bus.old)
+            → Transmits B.world B.happened bus.old bus.new (holding held self.old) (holding held self.new) frame.now result }
+    {
+        if frame.len() < SHORTEST_SENT {
+            return Err(SendError::TooShort);
+        }
+        if frame.len() > LONGEST_SENT {
+            return Err(SendError::TooLong);
+        }
+        self.reclaim(bus);
+        if self.sending + 1 == self.layout.tx() {
+            return Err(SendError::RingFull);
+        }
+        self.send(bus, frame);
+        Ok(())
     }
 }
