@@ -5,5 +5,7 @@
 #![tactic(auto)]
 
 mod driver;
+mod transmit;
 
 pub use driver::Driver;
+pub use transmit::SendError;

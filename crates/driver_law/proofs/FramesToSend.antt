@@ -50,7 +50,7 @@ whole-read address size fits short =
     tx_desc_of-tx_desc_bytes (whole_desc address size)
     (record { address = fits; length = omega (arith, short); cso = omega arith; command = omega arith; status = omega arith; css = omega arith; special = omega arith })
 
-status-byte : (bytes : List ℕ) → sent_bits (tx_desc_of bytes).status ≡ slice_index bytes 12
+pub status-byte : (bytes : List ℕ) → sent_bits (tx_desc_of bytes).status ≡ slice_index bytes 12
 unfolding tx_desc_of
 status-byte bytes = refl
 

@@ -1,0 +1,134 @@
+-- Transmit slots are freed over a bus, one load each.
+use Rattle.std.proofs.Common.{true, false, ◌≡◌, ◌≤◌, ◌<◌, ◌+◌, ◌-◌, ◌%◌, ◌++◌, ◌∷◌, [], ℕ, zero, suc, List, min, slice_index, map, refl, sym, ap, subst, ◌∙◌, arith}
+use Rattle.std.proofs.lemmas.List.{map-append}
+use Rattle.registers.specs.Bits.{is_set}
+use Rattle.dma_memory.specs.HostMemory.{bytes_at}
+use Rattle.dma_memory.specs.Layout.{Counts}
+use Rattle.descriptors.specs.Ring.{slots_from}
+use Rattle.descriptors.specs.RingLaws.{next-below, place}
+use Rattle.adapter.specs.Slots.{written_back}
+use Rattle.adapter.specs.World.{World}
+use Rattle.bus.specs.Law.{Acts}
+use Rattle.bus.specs.Past.{Past, joined, nothing}
+use Rattle.bus.specs.declared.event.Access.{Access}
+use Rattle.bus.specs.declared.event.Access.TheVariants.{Loads}
+use Rattle.driver_law.proofs.Accesses.{ran_by-join, ran_by-stays}
+use Rattle.driver_law.proofs.Places.{place-next}
+use Rattle.driver_law.proofs.TransmitRuns.{LoadsOldest, RanWith, run-frees, run-waits}
+use Rattle.driver_law.specs.DriverState.{DriverState, transmit_slot, transmit_tail}
+use Rattle.driver_law.specs.Goes.{RanBy}
+use Rattle.driver_law.specs.Ready.{Ready}
+use Rattle.driver_law.specs.Transmit.{transmit_loads, with_freed}
+use Rattle.driver.specs.Inside.{IsSending}
+use Rattle.driver.specs.Sends.{with_sending}
+
+-- How many loads.
+
+loads-none : (d : DriverState) → d.sending ≡ 0 → transmit_loads d.counts d.oldest_sent (min d.sending 1) ≡ []
+loads-none d none = let zero_loads : min d.sending 1 ≡ 0 = omega (arith, none) in ap (transmit_loads d.counts d.oldest_sent) zero_loads
+
+loads-one : (d : DriverState) → 0 < d.sending → transmit_loads d.counts d.oldest_sent (min d.sending 1) ≡ Loads (transmit_slot d.counts d.oldest_sent) 16 ∷ []
+loads-one d some = let one_load : min d.sending 1 ≡ suc zero = omega (arith, some) in ap (transmit_loads d.counts d.oldest_sent) one_load
+
+slots-join : (n from i j : ℕ) → slots_from n from (i + j) ≡ slots_from n from i ++ slots_from n (place n from i) j
+slots-join n from zero j = let none : 0 + j ≡ j = omega arith in ap (slots_from n from) none
+slots-join n from (suc i) j =
+    let more : suc i + j ≡ suc (i + j) = omega arith in
+    ap (slots_from n from) more ∙ ap (λ (slots : List ℕ). from ∷ slots) (slots-join n ((from + 1) % n) i j)
+
+-- Loads of some slots, and then of those behind them.
+pub loads-join : (counts : Counts) (from i j : ℕ) → transmit_loads counts from i ++ transmit_loads counts (place counts.tx from i) j ≡ transmit_loads counts from (i + j)
+loads-join counts from i j =
+    let load : ℕ → Access = λ slot. Loads (transmit_slot counts slot) 16 in
+    sym (ap (map load) (slots-join counts.tx from i j) ∙ map-append load (slots_from counts.tx from i) (slots_from counts.tx (place counts.tx from i) j))
+
+-- One slot.
+
+-- The place behind the outstanding slots stays.
+pub tail-freed : (n oldest sending : ℕ) → 0 < sending → place n ((oldest + 1) % n) (sending - 1) ≡ place n oldest sending
+tail-freed n oldest sending some = let more : sending ≡ suc (sending - 1) = omega (arith, some) in sym (ap (place n oldest) more)
+
+pub sending-freed : (counts : Counts) (oldest next sending : ℕ) → 0 < sending → IsSending counts oldest next sending → IsSending counts ((oldest + 1) % counts.tx) next (sending - 1)
+sending-freed counts oldest next sending some sends = record {
+  oldest_slot = next-below counts.tx oldest sends.oldest_slot;
+  room = omega (arith, sends.room);
+  next_slot = sends.next_slot ∙ sym (tail-freed counts.tx oldest sending some);
+}
+
+-- None is outstanding,
+pub frees-none : {B : Type 0} (world : B → World) (happened : B → B → Past → Type 0) → ((b : B) → happened b b nothing) → (b : B) (d : DriverState) → d.sending ≡ 0 → Ready d (world b)
+    → RanBy true world happened (transmit_loads d.counts d.oldest_sent (min d.sending 1)) b b d d [] []
+frees-none world happened stays b d none ready =
+    subst (λ (accesses : List Access). RanBy true world happened accesses b b d d [] []) (sym (loads-none d none)) (ran_by-stays world happened stays b d ready)
+
+-- a load of bytes at an address
+abbrev pub LoadsAt : {B : Type 0} (world : B → World) (happened : B → B → Past → Type 0) (lively : B → Type 0) (old new : B) (bytes : List ℕ) (address : ℕ) → Type 0
+LoadsAt world happened lively old new bytes address =
+    Acts world happened lively old new (Loads address 16) (λ before after. (bytes ≡ bytes_at before.memory address 16) × (after ≡ before))
+
+-- or the oldest is done and freed,
+pub frees-oldest : {B : Type 0} (world : B → World) (happened : B → B → Past → Type 0) (lively : B → Type 0) (old new : B) (d : DriverState) (address : ℕ) (bytes : List ℕ)
+    → address ≡ transmit_slot d.counts d.oldest_sent → 0 < d.sending → is_set (slice_index bytes 12) 0 ≡ true
+    → Acts world happened lively old new (Loads address 16) (λ before after. (bytes ≡ bytes_at before.memory address 16) × (after ≡ before)) → Ready d (world old)
+    → RanBy true world happened (transmit_loads d.counts d.oldest_sent (min d.sending 1)) old new d (with_freed d) [] []
+frees-oldest world happened lively old new d address bytes at some done acts ready =
+    subst (λ (accesses : List Access). RanBy true world happened accesses old new d (with_freed d) [] []) (sym (loads-one d some))
+    (run-frees world happened lively old new d bytes some done (subst (LoadsAt world happened lively old new bytes) at acts) ready)
+
+-- or it isn't done.
+pub waits-oldest : {B : Type 0} (world : B → World) (happened : B → B → Past → Type 0) (lively : B → Type 0) (old new : B) (d : DriverState) (address : ℕ) (bytes : List ℕ)
+    → address ≡ transmit_slot d.counts d.oldest_sent → 0 < d.sending → is_set (slice_index bytes 12) 0 ≡ false
+    → Acts world happened lively old new (Loads address 16) (λ before after. (bytes ≡ bytes_at before.memory address 16) × (after ≡ before)) → Ready d (world old)
+    → RanWith world happened (transmit_loads d.counts d.oldest_sent (min d.sending 1)) old new d d [] [] (λ after. written_back d.oldest_sent after ≡ [])
+waits-oldest world happened lively old new d address bytes at some clear acts ready =
+    subst (λ (accesses : List Access). RanWith world happened accesses old new d d [] [] (λ after. written_back d.oldest_sent after ≡ [])) (sym (loads-one d some))
+    (run-waits world happened lively old new d bytes clear (subst (LoadsAt world happened lively old new bytes) at acts) ready)
+
+-- Some slots, and then the oldest of those that are left.
+pub frees-more : {B : Type 0} (world : B → World) (happened : B → B → Past → Type 0) → ((a b c : B) (first later : Past) → happened a b first → happened b c later → happened a c (joined first later))
+    → (a b c : B) (d1 d2 d3 : DriverState) (k total : ℕ) → d2.counts ≡ d1.counts → d2.oldest_sent ≡ place d1.counts.tx d1.oldest_sent k → k + min d2.sending 1 ≡ total
+    → RanBy true world happened (transmit_loads d1.counts d1.oldest_sent k) a b d1 d2 [] []
+    → RanBy true world happened (transmit_loads d2.counts d2.oldest_sent (min d2.sending 1)) b c d2 d3 [] []
+    → RanBy true world happened (transmit_loads d1.counts d1.oldest_sent total) a c d1 d3 [] []
+frees-more world happened joins a b c d1 d2 d3 k total counts walked sum one two =
+    let xs = transmit_loads d1.counts d1.oldest_sent k in
+    let ys = transmit_loads d2.counts d2.oldest_sent (min d2.sending 1) in
+    let both = ran_by-join world happened joins xs ys a b c d1 d2 d3 [] [] [] [] one two in
+    let same : xs ++ ys ≡ transmit_loads d1.counts d1.oldest_sent total =
+    ap (λ (other : Counts). xs ++ transmit_loads other d2.oldest_sent (min d2.sending 1)) counts
+    ∙ ap (λ (slot : ℕ). xs ++ transmit_loads d1.counts slot (min d2.sending 1)) walked
+    ∙ loads-join d1.counts d1.oldest_sent k (min d2.sending 1)
+    ∙ ap (transmit_loads d1.counts d1.oldest_sent) sum in
+    subst (λ (accesses : List Access). RanBy true world happened accesses a c d1 d3 [] []) same both
+
+-- The driver's own state as slots are freed: some of its outstanding slots are left, and the place behind them stays.
+pub record IsFreeing (d d' : DriverState) : Type 0 where
+  pub others : d' ≡ with_sending d d'.oldest_sent d'.sending
+  pub fewer : d'.sending ≤ d.sending
+  pub walked : d'.oldest_sent ≡ place d.counts.tx d.oldest_sent (d.sending - d'.sending)
+  pub tail : transmit_tail d' ≡ transmit_tail d
+
+pub freeing-none : (d : DriverState) → IsFreeing d d
+freeing-none d =
+    let none : d.sending - d.sending ≡ 0 = omega arith in
+    record { others = refl; fewer = omega arith; walked = sym (ap (place d.counts.tx d.oldest_sent) none); tail = refl }
+
+pub freeing-more : (d1 d2 d3 : DriverState) → IsFreeing d1 d2 → 0 < d2.sending → d3 ≡ with_freed d2 → IsFreeing d1 d3
+freeing-more d1 d2 d3 freeing some freed =
+    let n = d1.counts.tx in
+    let next = (d2.oldest_sent + 1) % d2.counts.tx in
+    let left = d2.sending - 1 in
+    let sending : d3.sending ≡ left = ap (λ (d : DriverState). d.sending) freed in
+    let counts : d2.counts ≡ d1.counts = ap (λ (d : DriverState). d.counts) freeing.others in
+    let more : d1.sending - d2.sending + 1 ≡ d1.sending - d3.sending = omega (arith, freeing.fewer, some, sending) in
+    record {
+      others = freed ∙ ap (λ (d : DriverState). with_sending d next left) freeing.others ∙ ap (λ (d : DriverState). with_sending d1 d.oldest_sent d.sending) (sym freed);
+      fewer = omega (arith, freeing.fewer, sending);
+      walked =
+          ap (λ (d : DriverState). d.oldest_sent) freed
+          ∙ ap (λ (other : Counts). (d2.oldest_sent + 1) % other.tx) counts
+          ∙ ap (λ (slot : ℕ). (slot + 1) % n) freeing.walked
+          ∙ sym (place-next n d1.oldest_sent (d1.sending - d2.sending))
+          ∙ ap (place n d1.oldest_sent) more;
+      tail = ap transmit_tail freed ∙ tail-freed d2.counts.tx d2.oldest_sent d2.sending some ∙ freeing.tail;
+    }

@@ -1,0 +1,2 @@
+pub mod FreedSlots
+pub mod SentFrames

@@ -1,0 +1,56 @@
+-- The oldest transmit slot is freed where the load shows that it is done.
+use Rattle.std.proofs.Common.{◌≡◌, ◌<◌, ◌+◌, ◌-◌, ◌%◌, ℕ, [], sym, ap, subst, ◌∙◌, arith}
+use Rattle.dma_memory.specs.Layout.{Counts}
+use Rattle.descriptors.specs.RingLaws.{place}
+use Rattle.driver_law.proofs.FramesToSend.{none_is_written_back}
+use Rattle.std.proofs.Common.{inl, List, min, true}
+use Rattle.driver_law.specs.DriverState.{DriverState, HandedOut, holding, transmit_slot}
+use Rattle.driver_law.specs.Goes.{RanBy}
+use Rattle.driver_law.specs.Transmit.{transmit_loads, with_freed}
+use Rattle.driver.proofs.FreedSlots.{frees-none, frees-oldest, sending-freed, waits-oldest}
+use Rattle.driver.specs.Inside.{IsSending, state_of}
+use Rattle.driver.proofs.driver.Driver.free_oldest.Goals as goal
+
+pub returns-then-self-eq0-clause-ran : goal.returns-then-self-eq0-clause-ran
+returns-then-self-eq0-clause-ran g c held honest ready =
+    let none : c.args.self.now.sending ≡ 0 = sym (ap (λ (d : DriverState). d.sending) c.self.view_is) ∙ c.if-self-eq0.true in
+    frees-none g.B.Bus.world g.B.Bus.happened g.met.B.Bus.stays c.args.bus.now (holding held c.args.self.now) none ready
+
+pub returns-then-self-eq0-clause-none : goal.returns-then-self-eq0-clause-none
+returns-then-self-eq0-clause-none g c held honest ready =
+    let none : c.args.self.now.sending ≡ 0 = sym (ap (λ (d : DriverState). d.sending) c.self.view_is) ∙ c.if-self-eq0.true in
+    none_is_written_back (holding held c.args.self.now) (g.B.Bus.world c.args.bus.now) ready (inl none)
+
+pub returns-then-not-shows_done-clause-ran : goal.returns-then-not-shows_done-clause-ran
+returns-then-not-shows_done-clause-ran g c held honest ready =
+    let d = holding held c.args.self.now in
+    let same = ap (λ (s : DriverState). s.sending) c.self.view_is in
+    let at : c.descriptor_address.result ≡ transmit_slot d.counts d.oldest_sent = c.descriptor_address.ensures.start ∙ ap (λ (s : DriverState). transmit_slot s.counts s.oldest_sent) c.self.view_is in
+    (waits-oldest g.B.Bus.world g.B.Bus.happened g.B.Bus.lively c.args.bus.now c.load.new.self d c.descriptor_address.result c.load.new.into at (omega (arith, same, c.if-self-eq0.false)) (sym c.shows_done.ensures ∙ c.if-not-shows_done.true) (c.load.ensures.acts honest) ready).ran
+
+pub returns-then-not-shows_done-clause-none : goal.returns-then-not-shows_done-clause-none
+returns-then-not-shows_done-clause-none g c held honest ready =
+    let d = holding held c.args.self.now in
+    let same = ap (λ (s : DriverState). s.sending) c.self.view_is in
+    let at : c.descriptor_address.result ≡ transmit_slot d.counts d.oldest_sent = c.descriptor_address.ensures.start ∙ ap (λ (s : DriverState). transmit_slot s.counts s.oldest_sent) c.self.view_is in
+    (waits-oldest g.B.Bus.world g.B.Bus.happened g.B.Bus.lively c.args.bus.now c.load.new.self d c.descriptor_address.result c.load.new.into at (omega (arith, same, c.if-self-eq0.false)) (sym c.shows_done.ensures ∙ c.if-not-shows_done.true) (c.load.ensures.acts honest) ready).behind
+
+pub invariant_of-self : goal.invariant_of-self
+invariant_of-self g c =
+    let s = c.self.inside in
+    record {
+      receives = c.self.invariant.receives;
+      sends =
+          subst (λ (n : ℕ). IsSending s.layout ((s.oldest_sent + 1) % n) s.next_sent (s.sending - 1)) (sym c.tx.ensures.count)
+          (sending-freed s.layout s.oldest_sent s.next_sent s.sending (omega (arith, c.if-self-eq0.false)) c.self.invariant.sends);
+    }
+
+pub returns-clause-ran : goal.returns-clause-ran
+returns-clause-ran g c held honest ready =
+    let d = holding held c.args.self.now in
+    let s = c.self.inside in
+    let same = ap (λ (state : DriverState). state.sending) c.self.view_is in
+    let at : c.descriptor_address.result ≡ transmit_slot d.counts d.oldest_sent = c.descriptor_address.ensures.start ∙ ap (λ (state : DriverState). transmit_slot state.counts state.oldest_sent) c.self.view_is in
+    let ran = frees-oldest g.B.Bus.world g.B.Bus.happened g.B.Bus.lively c.args.bus.now c.load.new.self d c.descriptor_address.result c.load.new.into at (omega (arith, same, c.if-self-eq0.false)) (sym c.shows_done.ensures ∙ c.if-not-shows_done.false) (c.load.ensures.acts honest) ready in
+    let freed = sym (ap (λ (state : DriverState). with_freed (holding held state)) c.self.view_is) ∙ ap (λ (n : ℕ). let state : DriverState = record (holding held (state_of s)) { oldest_sent = (s.oldest_sent + 1) % n; sending = s.sending - 1 } in state) (sym c.tx.ensures.count) in
+    subst (λ (state : DriverState). RanBy true g.B.Bus.world g.B.Bus.happened (transmit_loads d.counts d.oldest_sent (min d.sending 1)) c.args.bus.now c.load.new.self d state [] []) freed ran

@@ -1,0 +1,182 @@
+// A driver sends frames.
+
+ghost use Rattle.std.specs.Prelude.{◌≡◌, ◌↔◌, ◌+◌, ◌<◌, ◌≤◌, ◌∷◌, ℕ, true, List, [], Err, length, min, slice_index};
+ghost use Rattle.std.specs.Bool.{OnFalse, OnTrue};
+ghost use Rattle.registers.specs.Bits.{is_set};
+ghost use Rattle.dma_memory.specs.Layout.{size_of};
+ghost use Rattle.descriptors.specs.Frames.{padded};
+ghost use Rattle.adapter.specs.Slots.{written_back};
+ghost use Rattle.driver_law.specs.DriverState.{HandedOut, holding, transmit_slot, transmit_tail};
+ghost use Rattle.driver_law.specs.Goes.{RanBy};
+ghost use Rattle.driver_law.specs.Ready.{Ready};
+ghost use Rattle.driver_law.specs.Transmit.{send_accesses, transmit_loads, whole_descriptor, with_freed};
+ghost use Rattle.driver.specs.Sends.{IsRefused, Reclaims, Transmits, with_sending};
+
+use crate::Driver;
+use adapter::offsets::TDT;
+use bitflags::Flags;
+use bus::Bus;
+use descriptors::{TxCommand, TxDesc, TxStatus};
+use dma_memory::{DESCRIPTOR_BYTES, Layout};
+use thiserror::Error;
+
+/// The bytes of the shortest frame that can be sent: its addresses and its type (own).
+const SHORTEST_SENT: usize = 14;
+
+/// The bytes of the longest frame that can be sent: Ethernet's longest without VLAN tag and check sequence.
+const LONGEST_SENT: usize = 1518;
+
+/// Why a frame isn't sent.
+#[derive(Clone, Copy, Debug, PartialEq, Eq, Error)]
+pub enum SendError {
+    /// It has less than 14 bytes.
+    #[error("E20 TooShort")]
+    TooShort,
+    /// It has more than 1,518 bytes.
+    #[error("E21 TooLong")]
+    TooLong,
+    /// No transmit slot is free.
+    #[error("E22 RingFull")]
+    RingFull,
+}
+
+/// The address of a transmit slot's descriptor.
+fn descriptor_address(layout: Layout, slot: u16) -> u64
+    requires { slot < layout.tx }
+    ensures start { result ≡ transmit_slot layout slot }
+    ensures below_size { result + 16 ≤ size_of layout }
+{
+    layout.transmit_ring() + DESCRIPTOR_BYTES * u64::from(slot)
+}
+
+/// Whether the adapter is done with a transmit descriptor: DD is set.
+fn shows_done(bytes: &[u8; 16]) -> bool
+    ensures { result ≡ is_set (slice_index bytes.now 12) 0 }
+{
+    TxDesc::from_bytes(bytes).status.contains(TxStatus::DD)
+}
+
+/// The descriptor of a frame in one buffer: a whole packet, EOP, with a check sequence, IFCS, of which a
+/// report is asked for, RS.
+fn whole_packet(buffer: u64, size: u16) -> [u8; 16]
+    ensures { result ≡ whole_descriptor buffer size }
+{
+    TxDesc {
+        address: buffer,
+        length: size,
+        cso: 0,
+        command: TxCommand::EOP.union(TxCommand::IFCS).union(TxCommand::RS),
+        status: TxStatus::empty(),
+        css: 0,
+        special: 0,
+    }
+    .to_bytes()
+}
+
+impl Driver {
+    /// Frees the oldest transmit slot where its descriptor is done, and tells whether it was.
+    fn free_oldest<B: Bus>(&mut self, bus: &mut B) -> bool
+        requires memory { size_of self.old.counts ≤ B.extent bus.old }
+        ensures extent { B.extent bus.new ≡ B.extent bus.old }
+        ensures kept { B.kept bus.old bus.new }
+        ensures honest { B.honest bus.old → B.honest bus.new }
+        ensures lively { B.lively bus.old → B.lively bus.new }
+        ensures some { OnTrue result (0 < self.old.sending) }
+        ensures freed { OnTrue result (self.new ≡ with_freed self.old) }
+        ensures stays { OnFalse result (self.new ≡ self.old) }
+        ensures ran { (held : List HandedOut) → B.honest bus.old → Ready (holding held self.old) (B.world bus.old)
+            → RanBy true B.world B.happened (transmit_loads self.old.counts self.old.oldest_sent (min self.old.sending 1)) bus.old bus.new
+            (holding held self.old) (holding held self.new) [] [] }
+        ensures none { (held : List HandedOut) → B.honest bus.old → Ready (holding held self.old) (B.world bus.old)
+            → OnFalse result (written_back self.new.oldest_sent (B.world bus.new) ≡ []) }
+    {
+        if self.sending == 0 {
+            return false;
+        }
+        let mut bytes = [0; 16];
+        bus.load(descriptor_address(self.layout, self.oldest_sent), &mut bytes);
+        if !shows_done(&bytes) {
+            return false;
+        }
+        self.oldest_sent = (self.oldest_sent + 1) % self.layout.tx();
+        self.sending -= 1;
+        true
+    }
+
+    /// Frees the oldest transmit slots whose descriptors are done, up to the first that isn't, or until none
+    /// is left.
+    pub(crate) fn reclaim<B: Bus>(&mut self, bus: &mut B)
+        requires memory { size_of self.old.counts ≤ B.extent bus.old }
+        ensures extent { B.extent bus.new ≡ B.extent bus.old }
+        ensures kept { B.kept bus.old bus.new }
+        ensures honest { B.honest bus.old → B.honest bus.new }
+        ensures lively { B.lively bus.old → B.lively bus.new }
+        ensures others { self.new ≡ with_sending self.old self.new.oldest_sent self.new.sending }
+        ensures tail { transmit_tail self.new ≡ transmit_tail self.old }
+        ensures ran { (held : List HandedOut) → B.honest bus.old → Ready (holding held self.old) (B.world bus.old)
+            → Reclaims B.world B.happened bus.old bus.new (holding held self.old) (holding held self.new) }
+    {
+        while self.free_oldest(bus) {}
+    }
+
+    /// Sends a frame by the slot behind the outstanding ones: its bytes are stored into the slot's buffer,
+    /// then its descriptor, and then TDT is written.
+    fn send<B: Bus>(&mut self, bus: &mut B, frame: &[u8])
+        requires memory { size_of self.old.counts ≤ B.extent bus.old }
+        requires room { self.old.sending + 1 < self.old.counts.tx }
+        requires least { 14 ≤ length frame.now }
+        requires most { length frame.now ≤ 1518 }
+        ensures extent { B.extent bus.new ≡ B.extent bus.old }
+        ensures kept { B.kept bus.old bus.new }
+        ensures honest { B.honest bus.old → B.honest bus.new }
+        ensures lively { B.lively bus.old → B.lively bus.new }
+        ensures others { self.new ≡ with_sending self.old self.old.oldest_sent (self.old.sending + 1) }
+        ensures ran { (held : List HandedOut) → B.honest bus.old → Ready (holding held self.old) (B.world bus.old)
+            → RanBy true B.world B.happened (send_accesses self.old frame.now) bus.old bus.new (holding held self.old) (holding held self.new)
+            [] (padded frame.now ∷ []) }
+    {
+        let layout = self.layout;
+        let buffer = layout.transmit_buffer(self.next_sent);
+        let descriptor = whole_packet(buffer, frame.len() as u16);
+        bus.store(buffer, frame);
+        bus.store(descriptor_address(layout, self.next_sent), &descriptor);
+        self.next_sent = (self.next_sent + 1) % layout.tx();
+        self.sending += 1;
+        bus.write(TDT, u32::from(self.next_sent));
+    }
+
+    /// Sends a frame of 14 to 1,518 bytes.
+    ///
+    /// First it frees the oldest transmit slots whose descriptors are done, by one load each. The ring is
+    /// full where all its slots but one are outstanding then.
+    pub fn transmit<B: Bus>(&mut self, bus: &mut B, frame: &[u8]) -> Result<(), SendError>
+        requires memory { size_of self.old.counts ≤ B.extent bus.old }
+        ensures extent { B.extent bus.new ≡ B.extent bus.old }
+        ensures kept { B.kept bus.old bus.new }
+        ensures honest { B.honest bus.old → B.honest bus.new }
+        ensures lively { B.lively bus.old → B.lively bus.new }
+
+        // What it does over any bus.
+        ensures others { self.new ≡ with_sending self.old self.new.oldest_sent self.new.sending }
+        ensures too_short { (result ≡ Err SendError.TooShort) ↔ (length frame.now < 14) }
+        ensures too_long { (result ≡ Err SendError.TooLong) ↔ (1518 < length frame.now) }
+        ensures nothing { IsRefused result → (bus.new ≡ bus.old) × (self.new ≡ self.old) }
+
+        // And over one that obeys the law.
+        ensures ran { (held : List HandedOut) → B.honest bus.old → Ready (holding held self.old) (B.world bus.old)
+            → Transmits B.world B.happened bus.old bus.new (holding held self.old) (holding held self.new) frame.now result }
+    {
+        if frame.len() < SHORTEST_SENT {
+            return Err(SendError::TooShort);
+        }
+        if frame.len() > LONGEST_SENT {
+            return Err(SendError::TooLong);
+        }
+        self.reclaim(bus);
+        if self.sending + 1 == self.layout.tx() {
+            return Err(SendError::RingFull);
+        }
+        self.send(bus, frame);
+        Ok(())
+    }
+}
