@@ -3,3 +3,4 @@ pub mod Table
 pub mod FilterTables
 pub mod RingRegisters
 pub mod Configuration
+pub mod Configured

@@ -7,6 +7,7 @@
 #![tactic(auto)]
 
 mod config;
+mod configured_law;
 mod controls;
 mod eeprom_reading;
 mod filter_tables;
@@ -15,6 +16,7 @@ mod link;
 mod ring_registers;
 
 pub use config::{Config, MOST_GROUPS, MOST_VLANS};
+pub use configured_law::writes_configure;
 pub use controls::{allocate_packet_buffer, reset_device, set_link_up, unmask_interrupts};
 pub use eeprom_reading::read_image;
 pub use filter_tables::{group_table, vlan_table, write_addresses, write_groups, write_vlans};
