@@ -1,2 +1,3 @@
+pub mod EepromReading
 pub mod Sets
 pub mod Table
