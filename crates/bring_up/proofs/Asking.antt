@@ -1,5 +1,5 @@
 -- Steps that ask, with a count of their accesses.
-use Rattle.std.proofs.Common.{◌≡◌, ◌+◌, ◌≤◌, ◌++◌, ◌∷◌, [], ℕ, List, length, length-append, refl, sym, ap, subst, ◌∙◌, arith}
+use Rattle.std.proofs.Common.{◌≡◌, ◌+◌, ◌≤◌, ◌∷◌, [], ℕ, List, length, length-append, refl, sym, ap, subst, ◌∙◌, arith}
 use Rattle.std.specs.List.{All}
 use Rattle.std.proofs.lemmas.List.Elements.{All-append, All-cons}
 use Rattle.adapter.specs.Registers.{after_write}
@@ -7,7 +7,7 @@ use Rattle.adapter.specs.State.{AdapterState}
 use Rattle.adapter.specs.World.{World, world_after_read, world_after_write}
 use Rattle.bus.specs.Law.{Acts}
 use Rattle.bus.specs.Past.{Access, Past, Reads, Writes, joined}
-use Rattle.bus.specs.Rest.{IsAtRest, NoFrame}
+use Rattle.bus.specs.Rest.{IsAtRest}
 use Rattle.bus.specs.Settings.{Write, settings_of, writes_in}
 use Rattle.bus.proofs.Lists.{all-none}
 use Rattle.bus.proofs.Rest.{accesses_keep_rest, happenings_keep_rest}
@@ -32,12 +32,14 @@ asks-more world happened joins a b c offset first later one two = record {
     settings = two.asks.settings ∙ one.asks.settings;
     rests = λ rest.
         let middle = one.asks.rests rest in
-        let end = two.asks.rests middle.0 in
-        (end.0, record {
-          none_put = rw (middle.1.none_put, end.1.none_put) refl;
-          none_stored = rw (middle.1.none_stored, end.1.none_stored) refl;
-          none_missed = rw (middle.1.none_missed, end.1.none_missed) refl;
-        });
+        let end = two.asks.rests middle.0 in (
+          end.0,
+          record {
+            none_put = rw (middle.1.none_put, end.1.none_put) refl;
+            none_stored = rw (middle.1.none_stored, end.1.none_stored) refl;
+            none_missed = rw (middle.1.none_missed, end.1.none_missed) refl;
+          },
+        );
   };
   count_is = omega (arith, length-append one.asks.past.accesses two.asks.past.accesses, one.count_is, two.count_is);
 }

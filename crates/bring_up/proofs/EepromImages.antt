@@ -1,10 +1,10 @@
 -- The words of an EEPROM, read one behind the other.
-use Rattle.std.proofs.Common.{◌≡◌, ◌≢◌, ◌+◌, ◌<◌, ◌≤◌, [], ◌∷◌, zero, suc, true, ℕ, List, Err, IsErr, Ok, Result, length, nat_lt, set, slice_index, below_more, get_or-set_other, get_or-set_same, length-append, refl, sym, ap, subst, ◌∙◌, arith, rules}
+use Rattle.std.proofs.Common.{◌≡◌, ◌≢◌, ◌+◌, ◌<◌, ◌≤◌, true, ℕ, List, Err, IsErr, Ok, Result, length, nat_lt, set, slice_index, below_more, get_or-set_other, get_or-set_same, refl, sym, ap, ◌∙◌, arith, rules}
 use Rattle.std.proofs.lemmas.Bool.{false≢true}
 use Rattle.std.proofs.lemmas.Grind.{same_number_lists}
 use Rattle.eeprom.specs.Image.{word_at}
 use Rattle.adapter.specs.World.{World}
-use Rattle.bus.specs.Past.{Access, Past, joined, nothing}
+use Rattle.bus.specs.Past.{Past, joined, nothing}
 use Rattle.bus.specs.Settings.{Settings}
 use Rattle.bring_up.specs.EepromReading.{ReadsImage, ReadsWord}
 use Rattle.bring_up.specs.Sets.{Asks}

@@ -4,7 +4,7 @@ use Rattle.std.specs.Fn.{iterate}
 use Rattle.std.proofs.lemmas.Nat.{or_shifted}
 use Rattle.std.proofs.lemmas.Nat.Bits.{and_pow}
 use Rattle.eeprom.specs.declared.eerd.ReadState.{ReadState}
-use Rattle.eeprom.specs.declared.eerd.ReadState.TheVariants.{Done, Idle, Pending}
+use Rattle.eeprom.specs.declared.eerd.ReadState.TheVariants.{Done, Pending}
 use Rattle.eeprom.specs.Eerd as eeprom
 use Rattle.eeprom.specs.Eerd.{after_tick, shown, shown_after, shown_before}
 use Rattle.eeprom.specs.Image.{word_at}
@@ -15,7 +15,7 @@ use Rattle.adapter.specs.TableLaws.{register_at-there}
 use Rattle.adapter.specs.World.{World, world_after_read, world_after_write}
 use Rattle.adapter.specs.declared.register.Register.{Register}
 use Rattle.adapter.specs.declared.register.Register.TheVariants.{Eerd}
-use Rattle.bus.specs.Law.{Acts, HasTicks}
+use Rattle.bus.specs.Law.{Acts}
 use Rattle.bus.specs.Past.{Past, Reads, Writes, joined}
 use Rattle.bus.specs.Rest.{IsElsewhere}
 use Rattle.bus.specs.Settings.{Settings, settings_of}
@@ -143,12 +143,12 @@ awaits-read world happened joins lively start now next address count value await
     let ticks : ℕ = acts.past.eeprom_ticks in
     let same : (world now).adapter.image ≡ image = same-image world happened start now 0x0014 count awaits.asks in
     let moved : acts.middle.adapter.eerd ≡ iterate (after_tick image) ticks (world now).adapter.eerd =
-        subst (λ (words : List ℕ). acts.middle.adapter.eerd ≡ iterate (after_tick words) ticks (world now).adapter.eerd) same steady.eerd in
+    subst (λ (words : List ℕ). acts.middle.adapter.eerd ≡ iterate (after_tick words) ticks (world now).adapter.eerd) same steady.eerd in
     let answer : value ≡ shown acts.middle.adapter.eerd = acts.effect_is.0 ∙ answer-is acts.middle.adapter in
     let asked : IsAsked image address acts.middle.adapter.eerd =
-        subst (IsAsked image address) (sym moved) (still-asked image address ticks (world now).adapter.eerd awaits.state) in
+    subst (IsAsked image address) (sym moved) (still-asked image address ticks (world now).adapter.eerd awaits.state) in
     let after : (world next).adapter.eerd ≡ acts.middle.adapter.eerd =
-        ap (λ (w : World). w.adapter.eerd) acts.effect_is.1 ∙ ap (λ (adapter : AdapterState). adapter.eerd) (read-leaves acts.middle.adapter) in
+    ap (λ (w : World). w.adapter.eerd) acts.effect_is.1 ∙ ap (λ (adapter : AdapterState). adapter.eerd) (read-leaves acts.middle.adapter) in
     record {
       awaits = record {
         asks = asks-more world happened joins start now next 0x0014 count 1 awaits.asks (asks-read world happened lively now next 0x0014 0x0014 value _ acts);

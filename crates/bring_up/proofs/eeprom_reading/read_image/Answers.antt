@@ -1,4 +1,4 @@
-use Rattle.std.proofs.Common.{arith, ap, refl, rules, ◌+◌, ◌<◌, ◌^◌}
+use Rattle.std.proofs.Common.{arith, rules}
 use Rattle.bring_up.proofs.EepromImages.{all-read, first-more, first-none, read-failed}
 use Rattle.bring_up.proofs.eeprom_reading.read_image.Goals as goal
 

@@ -1,5 +1,5 @@
 use Rattle.std.proofs.Common.{arith, refl, rules, ◌+◌, ◌<◌, ◌^◌}
-use Rattle.bring_up.proofs.EepromWords.{Answered, awaits-read, awaits-write, gave-up, never-slow, start-with, word-read}
+use Rattle.bring_up.proofs.EepromWords.{awaits-read, awaits-write, gave-up, never-slow, start-with, word-read}
 use Rattle.bring_up.proofs.eeprom_reading.read_word.Goals as goal
 
 pub loop-init : goal.loop-init
@@ -19,8 +19,8 @@ loop-init g c =
 pub loop-preserved : goal.loop-preserved
 loop-preserved g c =
     let answered = λ (honest : g.B.Bus.honest c.args.bus.now).
-        awaits-read g.B.Bus.world g.B.Bus.happened g.met.B.Bus.joins g.B.Bus.lively c.args.bus.now c.loop.bus c.read-answer.new.self c.args.address (c.loop.counter + 1) c.read-answer.result
-        (c.loop.invariant.awaits honest) (c.read-answer.ensures.acts (c.loop.invariant.honest honest)) in
+    awaits-read g.B.Bus.world g.B.Bus.happened g.met.B.Bus.joins g.B.Bus.lively c.args.bus.now c.loop.bus c.read-answer.new.self c.args.address (c.loop.counter + 1) c.read-answer.result
+    (c.loop.invariant.awaits honest) (c.read-answer.ensures.acts (c.loop.invariant.honest honest)) in
     record {
       extent = search rules;
       kept = g.met.B.Bus.keeps_on c.args.bus.now c.loop.bus c.read-answer.new.self c.loop.invariant.kept c.read-answer.ensures.kept;
