@@ -6,15 +6,22 @@ use Rattle.bus.specs.Past.{Past}
 use Rattle.bring_up.specs.Sets.{Asks}
 use Rattle.bring_up.specs.declared.init_error.InitError.{InitError}
 
--- One word is read: it is the adapter's word at this address; or 1,000 accesses at least were made in vain. The adapter has 64 words.
-pub record ReadsWord {B : Type 0} (world : B → World) (happened : B → B → Past → Type 0) (old new : B) (address : ℕ) (result : Result ℕ InitError) : Type 0 where
+-- EERD was asked for the word at an address.
+pub record ReadsWord {B : Type 0} (world : B → World) (happened : B → B → Past → Type 0) (old new : B) (address : ℕ)
+    (result : Result ℕ InitError) : Type 0 where
   pub asks : Asks world happened old new 0x0014
+  -- A word that was read is the adapter's,
   pub word : IfOk result (λ word. word ≡ word_at (world old).adapter.image address)
+  -- and where none was, at least 1,000 accesses were made.
   pub in_vain : OnErr result (1000 ≤ length asks.past.accesses)
+  -- The adapter's EEPROM has 64 words.
   pub size : length (world old).adapter.image ≡ 64
 
--- All words are read: they are the adapter's; or 1,000 accesses at least were made in vain.
-pub record ReadsImage {B : Type 0} (world : B → World) (happened : B → B → Past → Type 0) (old new : B) (result : Result (List ℕ) InitError) : Type 0 where
+-- EERD was asked for all words.
+pub record ReadsImage {B : Type 0} (world : B → World) (happened : B → B → Past → Type 0) (old new : B)
+    (result : Result (List ℕ) InitError) : Type 0 where
   pub asks : Asks world happened old new 0x0014
+  -- An image that was read is the adapter's,
   pub image : IfOk result (λ image. image ≡ (world old).adapter.image)
+  -- and where none was, at least 1,000 accesses were made.
   pub in_vain : OnErr result (1000 ≤ length asks.past.accesses)

@@ -21,7 +21,8 @@ const ADDR_SHIFT: u32 = 8;
 /// The lowest bit of DATA, bits 31:16 of EERD.
 const DATA_SHIFT: u32 = 16;
 
-/// Reads the 64 words of the EEPROM.
+/// Reads the 64 words of the EEPROM, in order: EERD is written once for each, and read until it shows
+/// DONE. Over a bus that plays ticks before each access that is the first read.
 ///
 /// # Errors
 ///
