@@ -1,6 +1,7 @@
 -- The words of an EEPROM, read one behind the other.
 use Rattle.std.proofs.Common.{◌≡◌, ◌≢◌, ◌+◌, ◌<◌, ◌≤◌, ◌∙◌}
-use Rattle.std.proofs.Common.{true, ℕ, List, Result, Err, IsErr, Ok, length, nat_lt, set, slice_index, below_more, get_or-set_other, get_or-set_same, refl, sym, ap, arith, rules}
+use Rattle.std.proofs.Common.{true, ℕ, List, Result, Err, IsErr, Ok, length, nat_lt, set, slice_index, refl, sym, ap, arith, rules}
+use Rattle.std.proofs.Common.{below_more, get_or-set_other, get_or-set_same}
 use Rattle.std.proofs.lemmas.Bool.{false≢true}
 use Rattle.std.proofs.lemmas.Grind.{same_number_lists}
 use Rattle.eeprom.specs.Image.{word_at}
