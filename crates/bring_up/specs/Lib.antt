@@ -1,3 +1,4 @@
+pub mod EepromReading
 pub mod Sets
 pub mod Table
 pub mod FilterTables

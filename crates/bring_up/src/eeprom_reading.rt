@@ -1,5 +1,8 @@
 //! The EEPROM, word by word ("13.4.4 EEPROM Read Register").
 
+ghost use Rattle.std.specs.Prelude.{◌≡◌, IsOk, IsOkUnless};
+ghost use Rattle.bring_up.specs.EepromReading.{ReadsImage, ReadsWord};
+
 use crate::MOST_READS;
 use crate::init_error::InitError;
 use adapter::offsets::EERD;
@@ -18,12 +21,21 @@ const ADDR_SHIFT: u32 = 8;
 /// The lowest bit of DATA, bits 31:16 of EERD.
 const DATA_SHIFT: u32 = 16;
 
-/// Reads the 64 words of the EEPROM.
+/// Reads the 64 words of the EEPROM, in order: EERD is written once for each, and read until it shows
+/// DONE. Over a bus that plays ticks before each access that is the first read.
 ///
 /// # Errors
 ///
 /// [`EepromTimeout`](InitError::EepromTimeout) where 1,000 reads of EERD for one word didn't show DONE.
-pub fn read_image<B: Bus>(bus: &mut B) -> Result<Image, InitError> {
+pub fn read_image<B: Bus>(bus: &mut B) -> Result<Image, InitError>
+    ensures extent { B.extent bus.new ≡ B.extent bus.old }
+    ensures kept { B.kept bus.old bus.new }
+    ensures honest { B.honest bus.old → B.honest bus.new }
+    ensures lively { B.lively bus.old → B.lively bus.new }
+    ensures only { IsOkUnless result InitError.EepromTimeout }
+    ensures reads { B.honest bus.old → ReadsImage B.world B.happened bus.old bus.new result }
+    ensures in_time { B.lively bus.old → B.honest bus.old → IsOk result }
+{
     let mut words = [0; WORDS];
     for address in 0..WORDS {
         words[address] = read_word(bus, address as u8)?;
@@ -32,7 +44,15 @@ pub fn read_image<B: Bus>(bus: &mut B) -> Result<Image, InitError> {
 }
 
 /// Reads one word of the EEPROM.
-fn read_word<B: Bus>(bus: &mut B, address: u8) -> Result<u16, InitError> {
+fn read_word<B: Bus>(bus: &mut B, address: u8) -> Result<u16, InitError>
+    ensures extent { B.extent bus.new ≡ B.extent bus.old }
+    ensures kept { B.kept bus.old bus.new }
+    ensures honest { B.honest bus.old → B.honest bus.new }
+    ensures lively { B.lively bus.old → B.lively bus.new }
+    ensures only { IsOkUnless result InitError.EepromTimeout }
+    ensures reads { B.honest bus.old → ReadsWord B.world B.happened bus.old bus.new address result }
+    ensures in_time { B.lively bus.old → B.honest bus.old → IsOk result }
+{
     bus.write(EERD, u32::from(address) << ADDR_SHIFT | START);
     for _ in 0..MOST_READS {
         let answer = bus.read(EERD);
