@@ -6,7 +6,9 @@ use Rattle.adapter.specs.Registers.{after_write}
 use Rattle.adapter.specs.State.{AdapterState}
 use Rattle.adapter.specs.World.{World, world_after_read, world_after_write}
 use Rattle.bus.specs.Law.{Acts}
-use Rattle.bus.specs.Past.{Access, Past, Reads, Writes, joined}
+use Rattle.bus.specs.Past.{Past, joined}
+use Rattle.bus.specs.declared.event.Access.{Access}
+use Rattle.bus.specs.declared.event.Access.TheVariants.{Reads, Writes}
 use Rattle.bus.specs.Rest.{IsAtRest}
 use Rattle.bus.specs.Settings.{Settings, Write, settings_of, writes_in}
 use Rattle.bus.proofs.Lists.{all-none}

@@ -17,7 +17,8 @@ use Rattle.adapter.specs.World.{World, world_after_read, world_after_write}
 use Rattle.adapter.specs.declared.register.Register.{Register}
 use Rattle.adapter.specs.declared.register.Register.TheVariants.{Eerd}
 use Rattle.bus.specs.Law.{Acts}
-use Rattle.bus.specs.Past.{Past, Reads, Writes}
+use Rattle.bus.specs.Past.{Past}
+use Rattle.bus.specs.declared.event.Access.TheVariants.{Reads, Writes}
 use Rattle.bus.specs.Rest.{IsElsewhere}
 use Rattle.bus.specs.Settings.{settings_of}
 use Rattle.bring_up.specs.EepromReading.{ReadsWord}
