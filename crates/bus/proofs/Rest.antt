@@ -1,5 +1,5 @@
 -- An adapter at rest stays so while a driver sets it up.
-use Rattle.std.proofs.Common.{◌≡◌, ◌≤◌, ◌++◌, [], true, false, ℕ, Bool, List, Option, None, Some, length, map, if◌then◌else◌, refl, sym, ap, subst, ◌∙◌}
+use Rattle.std.proofs.Common.{arith, ◌≡◌, ◌≤◌, ◌++◌, [], true, false, ℕ, Bool, List, Option, None, Some, length, map, if◌then◌else◌, refl, sym, ap, subst, ◌∙◌}
 use Rattle.std.specs.List.{All, take_while}
 use Rattle.dma_memory.specs.Areas.{bytes_in}
 use Rattle.descriptors.specs.declared.ring.Ring.{Ring}
@@ -52,7 +52,7 @@ pub rest_is_idle : RestIsIdle
 rest_is_idle world rest = (idle-of world rest, runs-of world rest)
 
 pub rest_after_reset : RestAfterReset
-rest_after_reset world = record { rings = (idle_after_reset world).rings; receiver = refl; transmitter = refl; control = refl }
+rest_after_reset world = record { rings = (idle_after_reset world).rings; receiver = refl; transmitter = refl; control = refl; none_missed = refl }
 
 -- What happens.
 
@@ -98,6 +98,7 @@ happenings_keep_rest a b past happens rest =
         receiver = new-again b.adapter.receiver buffer_none.1 after.work runs.receiver_runs;
         transmitter = unused-again b.adapter.transmitter after.buffer runs.transmitter_runs;
         control = ap (λ (filter : FilterRegisters). filter.rctl) steady.filter ∙ rest.control;
+        none_missed = omega (arith, steady.missed, rest.none_missed, off.1);
       },
       record { none_put = sent.0; none_stored = off.0; none_missed = off.1 },
     )
@@ -105,21 +106,22 @@ happenings_keep_rest a b past happens rest =
 -- Accesses.
 
 -- At rest by the parts of the adapter that this rests on.
-rest-by : (world : World) (b : AdapterState) → IsIdle (record world { adapter = b }) → b.receiver ≡ world.adapter.receiver → b.transmitter ≡ world.adapter.transmitter → b.filter.rctl ≡ world.adapter.filter.rctl
+rest-by : (world : World) (b : AdapterState) → IsIdle (record world { adapter = b }) → b.receiver ≡ world.adapter.receiver → b.transmitter ≡ world.adapter.transmitter → b.filter.rctl ≡ world.adapter.filter.rctl → b.missed_packets ≡ 0
     → IsAtRest world → IsAtRest (record world { adapter = b })
-rest-by world b idle receiver transmitter control rest = record {
+rest-by world b idle receiver transmitter control none rest = record {
   rings = idle.rings;
   receiver = receiver ∙ rest.receiver;
   transmitter = transmitter ∙ rest.transmitter;
   control = control ∙ rest.control;
+  none_missed = none;
 }
 
 read-rests : (register : Register) (world : World) → IsIdle (record world { adapter = read_of register world.adapter }) → IsAtRest world → IsAtRest (record world { adapter = read_of register world.adapter })
-read-rests Icr world idle rest = rest-by world _ idle refl refl refl rest
-read-rests Mpc world idle rest = rest-by world _ idle refl refl refl rest
-read-rests Gprc world idle rest = rest-by world _ idle refl refl refl rest
-read-rests Gptc world idle rest = rest-by world _ idle refl refl refl rest
-read-rests Rnbc world idle rest = rest-by world _ idle refl refl refl rest
+read-rests Icr world idle rest = rest-by world _ idle refl refl refl rest.none_missed rest
+read-rests Mpc world idle rest = rest-by world _ idle refl refl refl refl rest
+read-rests Gprc world idle rest = rest-by world _ idle refl refl refl rest.none_missed rest
+read-rests Gptc world idle rest = rest-by world _ idle refl refl refl rest.none_missed rest
+read-rests Rnbc world idle rest = rest-by world _ idle refl refl refl rest.none_missed rest
 read-rests _ world idle rest = rest
 
 no-ring : (register : Register) → IsElsewhere (Some register) → ¬ (IsOfRing register)
@@ -133,6 +135,12 @@ row-control (Receive part) value state elsewhere = absurd elsewhere
 row-control (Transmit part) value state elsewhere = absurd elsewhere
 row-control _ value state elsewhere = refl
 
+row-missed : (register : Register) (value : ℕ) (state : AdapterState) → (by_row (row_of register).kept register value state).missed_packets ≡ state.missed_packets
+row-missed Rctl value state = refl
+row-missed (Receive part) value state = refl
+row-missed (Transmit part) value state = refl
+row-missed _ value state = refl
+
 write-rests : (register : Register) (value : ℕ) (world : World) → IsElsewhere (Some register) → IsAtRest world → IsAtRest (record world { adapter = write_of register value world.adapter })
 write-rests register value world elsewhere rest = by_test (is_reset register value) (other_writes_keep_idle register value world (no-ring register elsewhere) (idle-of world rest))
   where
@@ -141,7 +149,7 @@ write-rests register value world elsewhere rest = by_test (is_reset register val
     by_test true idle = rest_after_reset world
     by_test false idle =
         let leaves = row-leaves register value world.adapter in
-        rest-by world _ idle leaves.receiver leaves.transmitter (row-control register value world.adapter elsewhere) rest
+        rest-by world _ idle leaves.receiver leaves.transmitter (row-control register value world.adapter elsewhere) (row-missed register value world.adapter ∙ rest.none_missed) rest
 
 pub accesses_keep_rest : AccessesKeepRest
 accesses_keep_rest (Reads offset value) world leaves size rest = by_case (register_at offset) (reads_keep_idle offset world (idle-of world rest))
@@ -157,4 +165,4 @@ accesses_keep_rest (Writes offset value) world leaves size rest = by_case (regis
 accesses_keep_rest (Loads address n) world leaves size rest = rest
 accesses_keep_rest (Stores address bytes) world leaves size rest =
     let idle = stores_keep_idle address bytes world size (idle-of world rest) in
-    record { rings = idle.rings; receiver = rest.receiver; transmitter = rest.transmitter; control = rest.control }
+    record { rings = idle.rings; receiver = rest.receiver; transmitter = rest.transmitter; control = rest.control; none_missed = rest.none_missed }

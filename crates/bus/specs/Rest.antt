@@ -15,12 +15,13 @@ use Rattle.bus.specs.declared.event.Access.{Access}
 use Rattle.bus.specs.declared.event.Access.TheVariants.{Loads, Reads, Stores, Writes}
 use Rattle.bus.specs.Trails.{world_after_access}
 
--- Its rings offer nothing, its engines hold no frame and no fault has stopped them, and RCTL is 0.
+-- Its rings offer nothing, its engines hold no frame and no fault has stopped them, RCTL is 0, and MPC counts nothing.
 pub record IsAtRest (world : World) : Type 0 where
   pub rings : HasIdleRings world
   pub receiver : world.adapter.receiver ≡ new_receiver
   pub transmitter : world.adapter.transmitter ≡ new_transmitter
   pub control : world.adapter.filter.rctl ≡ 0
+  pub none_missed : world.adapter.missed_packets ≡ 0
 
 -- Then its rings are idle, and its engines can run.
 abbrev pub RestIsIdle : Type 0
