@@ -1,5 +1,6 @@
 -- The count of a PHY behind the start of its negotiation, and what its status shows.
-use Rattle.std.proofs.Common.{⊤, ◌≡◌, ◌≢◌, ◌≤◌, ◌<◌, ◌+◌, ◌-◌, ◌*◌, ◌⊎◌, ℕ, zero, suc, Bool, true, false, cond, None, bit_and, inl, inr, refl, sym, ap, subst, ◌∙◌, arith, nat_le}
+use Rattle.std.proofs.Common.{◌≡◌, ◌≢◌, ◌≤◌, ◌<◌, ◌+◌, ◌-◌, ◌*◌, ◌⊎◌, ℕ, zero, suc, Bool, true, false, cond, None, bit_and, inl, inr, refl, sym, ap, subst, ◌∙◌, arith, nat_le}
+use Rattle.std.specs.Bool.{⊤}
 use Rattle.std.specs.Fn.{iterate}
 use Rattle.std.proofs.lemmas.Bool.{false≢true, true≢false}
 use Rattle.std.proofs.lemmas.Bool.Decides.{nat_tests}

@@ -1,5 +1,6 @@
 -- The start of negotiation and the wait for the link over an honest bus, by their commands.
 use Rattle.std.proofs.Common.{◌≡◌, ◌≢◌, ◌≤◌, ◌+◌, ◌*◌, ◌⊎◌, ℕ, Result, Err, Ok, None, bit_and, IfErr, IfOk, IsOk, refl, sym, ap, subst, ◌∙◌, arith}
+use Rattle.std.proofs.lemmas.Bool.{false≢true}
 use Rattle.adapter.specs.World.{World}
 use Rattle.bus.specs.Law.{Management, management_of}
 use Rattle.bus.specs.Past.{Past, joined, nothing}
@@ -20,18 +21,15 @@ negotiates world happened lively old new answer done commands = record {
   in_time = λ ticks. refl;
 }
 
-pub negotiates-late : {B : Type 0} (world : B → World) (happened : B → B → Past → Type 0) (lively : B → Type 0) (old new : B) (error : InitError)
-    → Commands world happened lively old new restart_words (Err error) → Negotiates world happened lively old new (Err error)
-negotiates-late world happened lively old new error commands = record {
+pub negotiates-late : {B : Type 0} (world : B → World) (happened : B → B → Past → Type 0) (lively : B → Type 0) (old new : B) (error told : InitError)
+    → Commands world happened lively old new restart_words (Err error) → Negotiates world happened lively old new (Err told)
+negotiates-late world happened lively old new error told commands = record {
   asks = commands.asks;
   link = commands.link;
   started = tt;
   late = commands.late;
-  in_time = λ ticks. absurd (not-ok error (commands.in_time ticks));
+  in_time = λ ticks. absurd (false≢true (commands.in_time ticks));
 }
-  where
-    not-ok : (e : InitError) → ¬ (IsOk {T = ℕ} (Err e))
-    not-ok e is = cc
 
 -- The link was not seen in so many rounds.
 pub record Awaits {B : Type 0} (world : B → World) (happened : B → B → Past → Type 0) (lively : B → Type 0) (old now : B) (rounds : ℕ) : Type 0 where
@@ -78,9 +76,9 @@ awaits-up world happened lively joins old now new rounds answer done awaits comm
 
 -- A command doesn't end.
 pub awaits-late : {B : Type 0} (world : B → World) (happened : B → B → Past → Type 0) (lively : B → Type 0) → ((a b c : B) (s t : Past) → happened a b s → happened b c t → happened a c (joined s t))
-    → (old now new : B) (rounds : ℕ) (error : InitError) → error ≡ PhyTimeout → (lively old → lively now) → Awaits world happened lively old now rounds
-    → Commands world happened lively now new status_words (Err error) → AwaitsLink world happened lively old new (Err error)
-awaits-late world happened lively joins old now new rounds error timeout alive awaits commands =
+    → (old now new : B) (rounds : ℕ) (error told : InitError) → told ≡ PhyTimeout → (lively old → lively now) → Awaits world happened lively old now rounds
+    → Commands world happened lively now new status_words (Err error) → AwaitsLink world happened lively old new (Err told)
+awaits-late world happened lively joins old now new rounds error told timeout alive awaits commands =
     let both = asks-both world happened joins old now new 0x0020 (2 * rounds) 1000 awaits.asked (record { asks = commands.asks; often = commands.late }) in
     record {
       asks = both.asks;
@@ -88,7 +86,7 @@ awaits-late world happened lively joins old now new rounds error timeout alive a
       up = tt;
       late = let often = both.often in omega arith;
       no_link = λ is. absurd (cc);
-      in_time = λ ticks is. absurd (let ok = commands.in_time (alive ticks) in cc);
+      in_time = λ ticks is. false≢true (commands.in_time (alive ticks));
       slow = λ ticks begun is. absurd (cc);
     }
 

@@ -1,11 +1,15 @@
-use Rattle.std.proofs.Common.{rules, ◌≡◌, ◌⊎◌, IfErr, IsOkUnless, ℕ, ◌+◌, ◌-◌, ◌*◌, ◌<◌, ◌≤◌, length, ◌/◌, ◌%◌, Bool, true, false, nat_eq, nat_lt, List, [], ◌∷◌, ◌++◌, slice_index_or, slice_set, bit_and, bit_or, Fits, w8, w32, w64, Bor, MutBor}
-use Rattle.bring_up.specs.Link.{AwaitsLink, Commands, IsCommand, Negotiates}
+use Rattle.std.proofs.Common.{subst}
+use Rattle.std.proofs.lemmas.Result.{err_from_is_err_and}
+use Rattle.bring_up.specs.Link.{Negotiates}
+use Rattle.bring_up.proofs.Negotiating.{negotiates, negotiates-late}
 use Rattle.bring_up.proofs.link.negotiate.Goals as goal
 
--- src/link.rt:54:5
 pub returns-in_err-command-clause-negotiates : goal.returns-in_err-command-clause-negotiates
-returns-in_err-command-clause-negotiates g c = ?
+returns-in_err-command-clause-negotiates g c honest =
+    let told = err_from_is_err_and c.from_residual.result c.from_residual.ensures.1 in
+    rw told.1
+    (negotiates-late g.B.Bus.world g.B.Bus.happened g.B.Bus.lively c.args.bus.now c.command.new.bus c.in_err-command.field-0.0 told.0 (c.in_err-command.ensures.commands honest))
 
--- src/link.rt:46:1
 pub returns-clause-negotiates : goal.returns-clause-negotiates
-returns-clause-negotiates g c = ?
+returns-clause-negotiates g c honest =
+    negotiates g.B.Bus.world g.B.Bus.happened g.B.Bus.lively c.args.bus.now c.command.new.bus c.in_ok-command.field-0 tt (c.in_ok-command.ensures.commands honest)
