@@ -10,6 +10,7 @@ use Rattle.mdic_phy.specs.declared.phy.Negotiation.{Negotiation}
 use Rattle.mdic_phy.specs.declared.phy.Negotiation.TheVariants.{NotStarted, Running, Complete}
 use Rattle.mdic_phy.specs.Mdic.{MdicState, ended, kept, operation_of}
 use Rattle.mdic_phy.specs.Phy.{PhyState, after_tick, counted, is_complete, link_is_up, negotiation_of}
+use Rattle.registers.specs.Bits.{HasBit}
 use Rattle.adapter.specs.State.{AdapterState}
 use Rattle.adapter.specs.World.{World}
 use Rattle.bus.specs.Law.{Happens, Management, management_of, phy_ticked}
@@ -126,7 +127,23 @@ shows-down true false free down = elim down [
 ]
 shows-down false latched free down = refl
 
--- Where an answer has bit 2 the link is up.
+both-bits : (up latched : Bool) → bit_and (shown_status up latched) 0x04 ≢ 0 → HasBit (shown_status up latched) 5 × HasBit (shown_status up latched) 2
+both-bits true true set = absurd (set refl)
+both-bits true false set = (refl, refl)
+both-bits false latched set = absurd (set refl)
+
+abbrev HasBoth : ℕ → Type 0
+HasBoth value = HasBit value 5 × HasBit value 2
+
+-- Where an answer has bit 2 it has bit 5 too,
+pub seen-of : (lively : Type 0) (a b : Management) (answer : ℕ) → Ends lively status_words a b answer → bit_and answer 0x04 ≢ 0 → HasBit b.mdic.value 5 × HasBit b.mdic.value 2
+seen-of lively a b answer ends set =
+    let at = ends.phy in
+    let value : b.mdic.value ≡ answer = ap (λ (l : MdicState). l.value) ends.mdic in
+    let both = both-bits (link_is_up at) at.latched_low (λ unset. set (ap (λ (v : ℕ). bit_and v 0x04) ends.answers ∙ unset)) in
+    subst HasBoth (sym (value ∙ ends.answers)) both
+
+-- and the link is up.
 pub up-of : (lively : Type 0) (a : Management) (world : World) (answer : ℕ) → Ends lively status_words a (management_of world.adapter) answer → bit_and answer 0x04 ≢ 0 → StaysUp world
 up-of lively a world answer ends set =
     let at = ends.phy in

@@ -9,7 +9,7 @@ use Rattle.bring_up.specs.declared.init_error.InitError.TheVariants.{NoLink, Phy
 use Rattle.bring_up.specs.Link.{AwaitsLink, Commands, Ends, IsNegotiating, NeedsMoreThan, Negotiates, StaysUp, restart_words, status_words}
 use Rattle.bring_up.proofs.Asking.{AsksTimes, asks-both, asks-fewer, asks-none}
 use Rattle.bring_up.proofs.Commanding.{line_of}
-use Rattle.bring_up.proofs.Counting.{NotBoth, Rounds, negotiating, no-rounds, one-round, up-of}
+use Rattle.bring_up.proofs.Counting.{NotBoth, Rounds, negotiating, no-rounds, one-round, seen-of, up-of}
 
 pub negotiates : {B : Type 0} (world : B → World) (happened : B → B → Past → Type 0) (lively : B → Type 0) (old new : B) (answer : ℕ) (done : Unit {0})
     → Commands world happened lively old new restart_words (Ok answer) → Negotiates world happened lively old new (Ok done)
@@ -67,6 +67,7 @@ pub awaits-up : {B : Type 0} (world : B → World) (happened : B → B → Past 
 awaits-up world happened lively joins old now new rounds answer done awaits commands set = record {
   asks = (commands-both world happened lively joins old now new rounds (Ok answer) awaits commands).asks;
   link = commands.link ∙ awaits.link;
+  seen = seen-of (lively now) (line_of (world now)) (line_of (world new)) answer commands.ends set;
   up = up-of (lively now) (line_of (world now)) (world new) answer commands.ends set;
   late = tt;
   no_link = λ is. absurd (cc);
@@ -83,6 +84,7 @@ awaits-late world happened lively joins old now new rounds error told timeout al
     record {
       asks = both.asks;
       link = commands.link ∙ awaits.link;
+      seen = tt;
       up = tt;
       late = let often = both.often in omega arith;
       no_link = λ is. absurd (cc);
@@ -98,6 +100,7 @@ awaits-none world happened lively old now rounds all awaits =
     record {
       asks = awaits.asked.asks;
       link = awaits.link;
+      seen = tt;
       up = tt;
       late = omega arith;
       no_link = λ is. omega arith;

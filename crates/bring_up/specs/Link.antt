@@ -5,6 +5,7 @@ use Rattle.mdic_phy.specs.declared.phy.Link.{Link}
 use Rattle.mdic_phy.specs.declared.phy.Link.TheVariants.{After, Never}
 use Rattle.mdic_phy.specs.Mdic.{ended, kept, operation_of, phy_ended}
 use Rattle.mdic_phy.specs.Phy.{PhyState, after_tick, link_is_up, negotiation_of}
+use Rattle.registers.specs.Bits.{HasBit}
 use Rattle.adapter.specs.State.{AdapterState}
 use Rattle.adapter.specs.World.{World}
 use Rattle.bus.specs.Law.{Happens, Management, management_of, phy_ticked}
@@ -76,6 +77,8 @@ pub record Negotiates {B : Type 0} (world : B → World) (happened : B → B →
 pub record AwaitsLink {B : Type 0} (world : B → World) (happened : B → B → Past → Type 0) (lively : B → Type 0) (old new : B) (result : Result (Unit {0}) InitError) : Type 0 where
   pub asks : Asks world happened old new 0x0020
   pub link : (world new).adapter.phy.link ≡ (world old).adapter.phy.link
+  -- MDIC shows bits 5 and 2 of the PHY's status: negotiation is complete, and the link is up.
+  pub seen : IfOk result (λ done. HasBit (world new).adapter.mdic.value 5 × HasBit (world new).adapter.mdic.value 2)
   pub up : IfOk result (λ done. StaysUp (world new))
   pub late : IfErr result (λ error. 1000 ≤ length asks.past.accesses)
   pub no_link : result ≡ Err NoLink → 2000 ≤ length asks.past.accesses

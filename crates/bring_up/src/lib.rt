@@ -24,3 +24,6 @@ pub use ring_registers::{RingPlace, enable_receiver, enable_transmitter, set_rec
 
 /// How often a driver reads a register in vain before it gives up (own).
 pub const MOST_READS: u16 = 1000;
+
+#[cfg(test)]
+mod link_tests;
