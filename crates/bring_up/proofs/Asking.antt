@@ -6,7 +6,7 @@ use Rattle.adapter.specs.Registers.{after_write}
 use Rattle.adapter.specs.State.{AdapterState}
 use Rattle.adapter.specs.Table.{register_at}
 use Rattle.adapter.specs.World.{World, world_after_read, world_after_write}
-use Rattle.bus.specs.Law.{Acts, Happens}
+use Rattle.bus.specs.Law.{Acts}
 use Rattle.bus.specs.Past.{Access, Past, Reads, Writes, joined, nothing}
 use Rattle.bus.specs.Rest.{IsAtRest, IsElsewhere, NoFrame}
 use Rattle.bus.specs.Settings.{Write, settings_of, writes_in}

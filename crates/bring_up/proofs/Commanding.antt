@@ -1,16 +1,14 @@
 -- A command over an honest bus, access by access.
 use Rattle.std.proofs.Common.{◌≡◌, ◌≢◌, ◌≤◌, ◌+◌, ℕ, Err, Ok, bit_and, refl, sym, ap, subst, ◌∙◌, arith}
 use Rattle.std.specs.Fn.{iterate}
-use Rattle.mdic_phy.specs.Mdic.{after_write}
 use Rattle.adapter.specs.Registers.{answer_at}
 use Rattle.adapter.specs.Table.{register_at}
 use Rattle.adapter.specs.World.{World, world_after_read, world_after_write}
 use Rattle.bus.specs.Law.{Acts, Management, management_of, phy_ticked}
 use Rattle.bus.specs.Past.{Past, Reads, Writes, joined}
-use Rattle.bring_up.specs.declared.init_error.InitError.{InitError}
 use Rattle.bring_up.specs.declared.init_error.InitError.TheVariants.{PhyTimeout}
 use Rattle.bring_up.specs.Link.{Commands, Ends, IsCommand}
-use Rattle.bring_up.proofs.Asking.{AsksTimes, asks-both, asks-fewer, asks-read, asks-write}
+use Rattle.bring_up.proofs.Asking.{AsksTimes, asks-both, asks-read, asks-write}
 use Rattle.bring_up.proofs.PhyLine.{commanded, ends-of, error_bit, link-ticks, not-ended, ready_bit, right-then}
 
 abbrev pub line_of : World → Management
@@ -64,8 +62,8 @@ waits-on world happened lively joins old now new words reads value command alive
     let given = commanded words (iterate phy_ticked waits.ticks (line_of (world old))) in
     let line : line_of (world new) ≡ iterate phy_ticked found.ticks given = found.line ∙ ap (iterate phy_ticked found.ticks) waits.line in
     let none : found.ticks ≡ 0 =
-        not-ended words found.ticks command (iterate phy_ticked waits.ticks (line_of (world old))) (line_of (world new)) line
-        (ap (λ (v : ℕ). bit_and v ready_bit) (sym found.shown) ∙ unset) in
+    not-ended words found.ticks command (iterate phy_ticked waits.ticks (line_of (world old))) (line_of (world new)) line
+    (ap (λ (v : ℕ). bit_and v ready_bit) (sym found.shown) ∙ unset) in
     record {
       asked = asks-both world happened joins old now new 0x0020 (reads + 1) 1 waits.asked (asks-read world happened lively now new 0x0020 value _ acts);
       ticks = waits.ticks;

@@ -1,5 +1,5 @@
 -- The count of a PHY behind the start of its negotiation, and what its status shows.
-use Rattle.std.proofs.Common.{◌≡◌, ◌≢◌, ◌≤◌, ◌<◌, ◌+◌, ◌-◌, ◌*◌, ◌⊎◌, ℕ, zero, suc, Bool, true, false, cond, None, bit_and, inl, inr, refl, sym, ap, subst, ◌∙◌, arith, nat_le}
+use Rattle.std.proofs.Common.{◌≡◌, ◌≢◌, ◌≤◌, ◌+◌, ◌-◌, ◌*◌, ◌⊎◌, ℕ, zero, suc, Bool, true, false, cond, None, bit_and, inl, inr, refl, sym, ap, subst, ◌∙◌, arith, nat_le}
 use Rattle.std.specs.Bool.{⊤}
 use Rattle.std.specs.Fn.{iterate}
 use Rattle.std.proofs.lemmas.Bool.{false≢true, true≢false}
@@ -8,13 +8,12 @@ use Rattle.mdic_phy.specs.declared.phy.Link.{Link}
 use Rattle.mdic_phy.specs.declared.phy.Link.TheVariants.{After, Never}
 use Rattle.mdic_phy.specs.declared.phy.Negotiation.{Negotiation}
 use Rattle.mdic_phy.specs.declared.phy.Negotiation.TheVariants.{NotStarted, Running, Complete}
-use Rattle.mdic_phy.specs.Mdic.{MdicState, ended, kept, operation_of}
-use Rattle.mdic_phy.specs.Phy.{PhyState, after_tick, counted, is_complete, link_is_up, negotiation_of}
+use Rattle.mdic_phy.specs.Mdic.{MdicState}
+use Rattle.mdic_phy.specs.Phy.{PhyState, after_tick, counted, is_complete, link_is_up}
 use Rattle.registers.specs.Bits.{HasBit}
 use Rattle.adapter.specs.State.{AdapterState}
 use Rattle.adapter.specs.World.{World}
-use Rattle.bus.specs.Law.{Happens, Management, management_of, phy_ticked}
-use Rattle.bus.specs.Past.{Past}
+use Rattle.bus.specs.Law.{Management, management_of}
 use Rattle.bring_up.specs.Link.{Ends, IsNegotiating, NeedsMoreThan, StaysUp, restart_words, started, status_words}
 use Rattle.bring_up.proofs.PhyLine.{shown_status, ticks-none}
 

@@ -1,12 +1,11 @@
 -- The start of negotiation and the wait for the link over an honest bus, by their commands.
-use Rattle.std.proofs.Common.{◌≡◌, ◌≢◌, ◌≤◌, ◌+◌, ◌*◌, ◌⊎◌, ℕ, Result, Err, Ok, None, bit_and, IfErr, IfOk, IsOk, refl, sym, ap, subst, ◌∙◌, arith}
+use Rattle.std.proofs.Common.{◌≡◌, ◌≢◌, ◌+◌, ◌*◌, ℕ, Result, Err, Ok, bit_and, refl, subst, ◌∙◌, arith}
 use Rattle.std.proofs.lemmas.Bool.{false≢true}
 use Rattle.adapter.specs.World.{World}
-use Rattle.bus.specs.Law.{Management, management_of}
 use Rattle.bus.specs.Past.{Past, joined, nothing}
 use Rattle.bring_up.specs.declared.init_error.InitError.{InitError}
 use Rattle.bring_up.specs.declared.init_error.InitError.TheVariants.{NoLink, PhyTimeout}
-use Rattle.bring_up.specs.Link.{AwaitsLink, Commands, Ends, IsNegotiating, NeedsMoreThan, Negotiates, StaysUp, restart_words, status_words}
+use Rattle.bring_up.specs.Link.{AwaitsLink, Commands, IsNegotiating, NeedsMoreThan, Negotiates, restart_words, status_words}
 use Rattle.bring_up.proofs.Asking.{AsksTimes, asks-both, asks-fewer, asks-none}
 use Rattle.bring_up.proofs.Commanding.{line_of}
 use Rattle.bring_up.proofs.Counting.{NotBoth, Rounds, negotiating, no-rounds, one-round, seen-of, up-of}

@@ -1,12 +1,8 @@
 -- MDIC and the PHY behind ticks and commands.
-use Rattle.std.proofs.Common.{◌≡◌, ◌≢◌, ◌≤◌, ◌<◌, ◌+◌, ◌-◌, ◌||◌, ℕ, zero, suc, Bool, true, false, cond, Option, Some, None, bit_and, inl, inr, refl, sym, ap, subst, ◌∙◌, arith, nat_le}
+use Rattle.std.proofs.Common.{◌≡◌, ◌≢◌, ◌≤◌, ◌||◌, ℕ, zero, suc, Bool, true, false, cond, Option, Some, None, bit_and, inl, inr, refl, sym, ap, subst, ◌∙◌, arith}
 use Rattle.std.specs.Fn.{iterate}
-use Rattle.std.proofs.lemmas.Bool.{false≢true, true≢false}
-use Rattle.std.proofs.lemmas.Bool.Decides.{nat_tests}
 use Rattle.mdic_phy.specs.declared.mdic.Operation.{Operation}
 use Rattle.mdic_phy.specs.declared.mdic.Operation.TheVariants as operation
-use Rattle.mdic_phy.specs.declared.phy.Link.{Link}
-use Rattle.mdic_phy.specs.declared.phy.Link.TheVariants.{After, Never}
 use Rattle.mdic_phy.specs.declared.phy.Negotiation.{Negotiation}
 use Rattle.mdic_phy.specs.declared.phy.Negotiation.TheVariants.{NotStarted, Running, Complete}
 use Rattle.mdic_phy.specs.Mdic.{MdicState, after_write, data_of, ended, has_work, kept, mdic_after_tick, operation_of, phy_after_tick, phy_ended, reaches_phy, regadd, with_data, with_ready}

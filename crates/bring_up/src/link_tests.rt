@@ -98,7 +98,11 @@ fn commands_that_do_not_end_are_given_up(rt: HostRuntime) {
         assert_eq!(rt; negotiate(&mut bus), Err(InitError::PhyTimeout));
         assert_eq!(rt; (bus.writes, bus.reads), (1, reads), "at {answer:#010X}");
         assert_eq!(rt; await_link(&mut bus), Err(InitError::PhyTimeout));
-        assert_eq!(rt; (bus.writes, bus.reads), (2, 2 * reads), "at {answer:#010X}");
+        assert_eq!(rt;
+            (bus.writes, bus.reads),
+            (2, 2 * reads),
+            "at {answer:#010X}"
+        );
     }
 }
 
@@ -112,6 +116,10 @@ fn both_bits_of_the_status_are_asked(rt: HostRuntime) {
     ] {
         let mut bus = FixedBus::new(answer);
         assert_eq!(rt; await_link(&mut bus), want, "at {answer:#010X}");
-        assert_eq!(rt; (bus.writes, bus.reads), (reads, reads), "at {answer:#010X}");
+        assert_eq!(rt;
+            (bus.writes, bus.reads),
+            (reads, reads),
+            "at {answer:#010X}"
+        );
     }
 }

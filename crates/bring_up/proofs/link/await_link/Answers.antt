@@ -1,4 +1,4 @@
-use Rattle.std.proofs.Common.{◌≡◌, ◌∙◌, inl, inr, refl, arith}
+use Rattle.std.proofs.Common.{◌∙◌, inl, inr, refl, arith}
 use Rattle.std.proofs.lemmas.Result.{err_from_is_err_and}
 use Rattle.bring_up.proofs.Counting.{NotBoth}
 use Rattle.bring_up.proofs.Negotiating.{awaits-late, awaits-none, awaits-on, awaits-up, begins}
@@ -37,7 +37,7 @@ returns-in_err-status-clause-awaits g c honest =
     let told = err_from_is_err_and c.from_residual.result c.from_residual.ensures.1 in
     rw told.1
     (awaits-late g.B.Bus.world g.B.Bus.happened g.B.Bus.lively g.met.B.Bus.joins c.args.bus.now c.loop.bus c.command.new.bus c.loop.counter c.in_err-status.field-0.0 told.0 (told.2 ∙ c.in_err-status.ensures.error)
-      before.lively (before.awaits honest) (c.in_err-status.ensures.commands (before.honest honest)))
+    before.lively (before.awaits honest) (c.in_err-status.ensures.commands (before.honest honest)))
 
 pub returns-then-status-ne0-2-clause-awaits : goal.returns-then-status-ne0-2-clause-awaits
 returns-then-status-ne0-2-clause-awaits g c honest =

@@ -27,13 +27,13 @@ loop-preserved g c =
 pub returns-then-answer-eq0-clause-commands : goal.returns-then-answer-eq0-clause-commands
 returns-then-answer-eq0-clause-commands g c honest =
     (answered g.B.Bus.world g.B.Bus.happened g.B.Bus.lively g.met.B.Bus.joins c.args.bus.now c.loop.bus c.read-answer.new.self c.args.words c.loop.counter c.read-answer.result
-      c.requires (c.loop.invariant.waits honest) (c.read-answer.ensures.acts (c.loop.invariant.honest honest)) c.if-answer-ne0.true).commands
+    c.requires (c.loop.invariant.waits honest) (c.read-answer.ensures.acts (c.loop.invariant.honest honest)) c.if-answer-ne0.true).commands
 
 pub returns-else-answer-eq0-clause-commands : goal.returns-else-answer-eq0-clause-commands
 returns-else-answer-eq0-clause-commands g c honest =
     absurd (c.if-answer-eq0.false
-      (answered g.B.Bus.world g.B.Bus.happened g.B.Bus.lively g.met.B.Bus.joins c.args.bus.now c.loop.bus c.read-answer.new.self c.args.words c.loop.counter c.read-answer.result
-        c.requires (c.loop.invariant.waits honest) (c.read-answer.ensures.acts (c.loop.invariant.honest honest)) c.if-answer-ne0.true).right)
+    (answered g.B.Bus.world g.B.Bus.happened g.B.Bus.lively g.met.B.Bus.joins c.args.bus.now c.loop.bus c.read-answer.new.self c.args.words c.loop.counter c.read-answer.result
+    c.requires (c.loop.invariant.waits honest) (c.read-answer.ensures.acts (c.loop.invariant.honest honest)) c.if-answer-ne0.true).right)
 
 pub returns-clause-commands : goal.returns-clause-commands
 returns-clause-commands g c honest =

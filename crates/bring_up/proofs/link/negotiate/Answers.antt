@@ -1,6 +1,4 @@
-use Rattle.std.proofs.Common.{subst}
 use Rattle.std.proofs.lemmas.Result.{err_from_is_err_and}
-use Rattle.bring_up.specs.Link.{Negotiates}
 use Rattle.bring_up.proofs.Negotiating.{negotiates, negotiates-late}
 use Rattle.bring_up.proofs.link.negotiate.Goals as goal
 
