@@ -1,5 +1,8 @@
 //! The PHY and its link ("13.4.7 MDI Control Register"; IEEE 802.3, clause 22).
 
+ghost use Rattle.std.specs.Prelude.{◌≡◌, ◌⊎◌, IfErr, IsOkUnless};
+ghost use Rattle.bring_up.specs.Link.{AwaitsLink, Commands, IsCommand, Negotiates};
+
 use crate::MOST_READS;
 use crate::init_error::InitError;
 use adapter::offsets::MDIC;
@@ -40,7 +43,14 @@ const LINK: u32 = 1 << 2;
 /// # Errors
 ///
 /// [`PhyTimeout`](InitError::PhyTimeout) as of every command.
-pub fn negotiate<B: Bus>(bus: &mut B) -> Result<(), InitError> {
+pub fn negotiate<B: Bus>(bus: &mut B) -> Result<(), InitError>
+    ensures extent { B.extent bus.new ≡ B.extent bus.old }
+    ensures kept { B.kept bus.old bus.new }
+    ensures honest { B.honest bus.old → B.honest bus.new }
+    ensures lively { B.lively bus.old → B.lively bus.new }
+    ensures error { IsOkUnless result InitError.PhyTimeout }
+    ensures negotiates { B.honest bus.old → Negotiates B.world B.happened B.lively bus.old bus.new result }
+{
     command(bus, OP_WRITE | PHY_ADDRESS | ENABLE | RESTART)?;
     Ok(())
 }
@@ -51,7 +61,14 @@ pub fn negotiate<B: Bus>(bus: &mut B) -> Result<(), InitError> {
 ///
 /// [`NoLink`](InitError::NoLink) behind these, and [`PhyTimeout`](InitError::PhyTimeout) as of every
 /// command.
-pub fn await_link<B: Bus>(bus: &mut B) -> Result<(), InitError> {
+pub fn await_link<B: Bus>(bus: &mut B) -> Result<(), InitError>
+    ensures extent { B.extent bus.new ≡ B.extent bus.old }
+    ensures kept { B.kept bus.old bus.new }
+    ensures honest { B.honest bus.old → B.honest bus.new }
+    ensures lively { B.lively bus.old → B.lively bus.new }
+    ensures errors { IfErr result (λ error. (error ≡ InitError.PhyTimeout) ⊎ (error ≡ InitError.NoLink)) }
+    ensures awaits { B.honest bus.old → AwaitsLink B.world B.happened B.lively bus.old bus.new result }
+{
     for _ in 0..MOST_READS {
         let status = command(bus, OP_READ | PHY_ADDRESS | STATUS_REGISTER)?;
         if status & NEGOTIATED != 0 && status & LINK != 0 {
@@ -66,7 +83,15 @@ pub fn await_link<B: Bus>(bus: &mut B) -> Result<(), InitError> {
 /// # Errors
 ///
 /// [`PhyTimeout`](InitError::PhyTimeout) where 1,000 reads of MDIC didn't show R, or one showed R and E.
-fn command<B: Bus>(bus: &mut B, words: u32) -> Result<u32, InitError> {
+fn command<B: Bus>(bus: &mut B, words: u32) -> Result<u32, InitError>
+    requires { IsCommand words }
+    ensures extent { B.extent bus.new ≡ B.extent bus.old }
+    ensures kept { B.kept bus.old bus.new }
+    ensures honest { B.honest bus.old → B.honest bus.new }
+    ensures lively { B.lively bus.old → B.lively bus.new }
+    ensures error { IsOkUnless result InitError.PhyTimeout }
+    ensures commands { B.honest bus.old → Commands B.world B.happened B.lively bus.old bus.new words result }
+{
     bus.write(MDIC, words);
     for _ in 0..MOST_READS {
         let answer = bus.read(MDIC);
