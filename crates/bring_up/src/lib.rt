@@ -28,8 +28,6 @@ pub use ring_registers::{RingPlace, enable_receiver, enable_transmitter, set_rec
 pub const MOST_READS: u16 = 1000;
 
 #[cfg(test)]
-<<<<<<< HEAD
 mod eeprom_reading_tests;
-=======
+#[cfg(test)]
 mod link_tests;
->>>>>>> b831eede0c562c9f73b776ccffed287c28eb8595
