@@ -123,13 +123,15 @@ run-sends {B} world happened lively joins old one two new d frame room least sho
     let stored_data : RanWith world happened (Stores start frame ∷ []) old one d d [] [] (HasBytes d frame) = run-with world happened lively old one (Stores start frame) (λ before after. after ≡ world_after_store start frame before) d d [] (λ world. Unit {0}) (HasBytes d frame) first ready tt (λ a b past set happens u. tt)
     (λ middle set u stored.
     let own = next_slot_is_own d middle set in
-    let lies : LiesIn middle.memory start (length frame) = omega (arith, (own-buffer d (transmit_tail d) middle set own).lies, short) in
-    (subst (λ (after : World). Goes d middle d after [] [] nothing) (sym stored) (data_is_stored d (transmit_tail d) frame middle set own (omega (arith, short))),
-    subst (HasBytes d frame) (sym stored) (bytes_at-stored middle.memory frame start lies))) in
+    let lies : LiesIn middle.memory start (length frame) = omega (arith, (own-buffer d (transmit_tail d) middle set own).lies, short) in (
+      subst (λ (after : World). Goes d middle d after [] [] nothing) (sym stored) (data_is_stored d (transmit_tail d) frame middle set own (omega (arith, short))),
+      subst (HasBytes d frame) (sym stored) (bytes_at-stored middle.memory frame start lies),
+    )) in
     let named : RanWith world happened (Stores at descriptor ∷ []) one two d d [] [] (FrameStands d frame) = run-with world happened lively one two (Stores at descriptor) (λ before after. after ≡ world_after_store at descriptor before) d d [] (HasBytes d frame) (FrameStands d frame) second stored_data.ran.goes.flows.ready stored_data.behind (bytes-stay d frame short)
-    (λ middle set has stored.
-    (subst (λ (after : World). Goes d middle d after [] [] nothing) (sym stored) (descriptor_is_stored d (transmit_tail d) descriptor middle set (next_slot_is_own d middle set) (length-whole start (length frame))),
-    subst (FrameStands d frame) (sym stored) (stands-stored d frame middle set short has))) in
+    (λ middle set has stored. (
+      subst (λ (after : World). Goes d middle d after [] [] nothing) (sym stored) (descriptor_is_stored d (transmit_tail d) descriptor middle set (next_slot_is_own d middle set) (length-whole start (length frame))),
+      subst (FrameStands d frame) (sym stored) (stands-stored d frame middle set short has),
+    )) in
     let offered : RanWith world happened (Writes 0x3818 tail ∷ []) two new d sent [] (padded frame ∷ []) (λ world. Unit {0}) = run-with world happened lively two new (Writes 0x3818 tail) (λ before after. after ≡ world_after_write 0x3818 tail before) d sent (padded frame ∷ []) (FrameStands d frame) (λ world. Unit {0}) third named.ran.goes.flows.ready named.behind (stands-stay d frame short)
     (λ middle set stands written.
     (subst (λ (after : World). Goes d middle sent after [] (padded frame ∷ []) nothing) (sym (written ∙ tail_is_moved d middle set)) (frame_is_offered d frame middle set room least short stands), tt)) in
@@ -160,6 +162,7 @@ pub run-waits : {B : Type 0} (world : B → World) (happened : B → B → Past 
 run-waits world happened lively old new d bytes clear acts ready =
     run-with world happened lively old new (Loads (transmit_slot d.counts d.oldest_sent) 16) (λ before after. (bytes ≡ bytes_at before.memory (transmit_slot d.counts d.oldest_sent) 16) × (after ≡ before)) d d [] (λ world. Unit {0}) (λ world. written_back d.oldest_sent world ≡ []) acts ready tt (λ a b past set happens u. tt)
     (λ middle set u loaded.
-    let is : is_done middle.memory (transmit_slot d.counts d.oldest_sent) ≡ false = ap (λ (list : List ℕ). is_set (slice_index list 12) 0) (sym loaded.0) ∙ clear in
-    (subst (λ (after : World). Goes d middle d after [] [] nothing) (sym loaded.1) (goes-stays d middle set),
-    subst (λ (after : World). written_back d.oldest_sent after ≡ []) (sym loaded.1) (none_is_written_back d middle set (inr is))))
+    let is : is_done middle.memory (transmit_slot d.counts d.oldest_sent) ≡ false = ap (λ (list : List ℕ). is_set (slice_index list 12) 0) (sym loaded.0) ∙ clear in (
+      subst (λ (after : World). Goes d middle d after [] [] nothing) (sym loaded.1) (goes-stays d middle set),
+      subst (λ (after : World). written_back d.oldest_sent after ≡ []) (sym loaded.1) (none_is_written_back d middle set (inr is)),
+    ))
