@@ -5,5 +5,6 @@
 #![tactic(auto)]
 
 mod driver;
+mod refill;
 
 pub use driver::Driver;
