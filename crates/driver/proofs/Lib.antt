@@ -1,2 +1,4 @@
 pub mod FreedSlots
 pub mod SentFrames
+pub mod Queue
+pub mod Refills

@@ -5,6 +5,7 @@
 #![tactic(auto)]
 
 mod driver;
+mod refill;
 mod transmit;
 
 pub use driver::Driver;
