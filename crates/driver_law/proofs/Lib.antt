@@ -20,3 +20,4 @@ pub mod FramesToSend
 pub mod Accesses
 pub mod ReceiveAccesses
 pub mod TransmitRuns
+pub mod InitialStores
