@@ -1,5 +1,5 @@
 -- A driver begins ready.
-use Rattle.std.proofs.Common.{Bool, true, false, ◌≡◌, ◌≤◌, ◌++◌, [], ℕ, List, Option, None, length, map, sym, ap, subst, ◌∙◌}
+use Rattle.std.proofs.Common.{Bool, true, false, ◌≡◌, ◌≤◌, [], ℕ, List, Option, None, map, sym, ap, subst}
 use Rattle.std.specs.List.{All, take_while}
 use Rattle.dma_memory.specs.Layout.{Counts}
 use Rattle.rx_engine.specs.Descriptors.{named_address}

@@ -1,5 +1,5 @@
 -- TCTL and IMS are written.
-use Rattle.std.proofs.Common.{Bool, ◌≡◌, ◌≤◌, ◌<◌, ◌+◌, ◌*◌, [], ℕ, List, length, inl, inr, ⊎_elim, refl, sym, ap, subst, ◌∙◌, arith}
+use Rattle.std.proofs.Common.{◌≡◌, [], ℕ, inl, inr, ⊎_elim, refl, sym, subst, ◌∙◌, arith}
 use Rattle.std.specs.List.{All}
 use Rattle.registers.specs.Bits.{HasBit}
 use Rattle.registers.specs.Kept.{causes_of}
@@ -10,14 +10,14 @@ use Rattle.descriptors.specs.Ring.{slots_from}
 use Rattle.adapter.specs.HostAreas.{data_of}
 use Rattle.adapter.specs.Slots.{finished}
 use Rattle.adapter.specs.Table.{register_at}
-use Rattle.adapter.specs.World.{World, world_after_write}
+use Rattle.adapter.specs.World.{world_after_write}
 use Rattle.adapter.specs.declared.register.Register.TheVariants.{Ims}
 use Rattle.bus.proofs.Initialising.{other_writes_leave_frames, transmitter_can_be_set}
 use Rattle.bus.proofs.Lists.{all-none}
 use Rattle.bus.specs.Initialising.{with_transmit_control}
 use Rattle.bus.specs.OwnStores.{LeavesFrames}
 use Rattle.driver_law.specs.Beginnings.{CausesAreUnmasked, TransmitterIsEnabled, UnmaskedForgetsNoWork}
-use Rattle.driver_law.specs.DriverState.{DriverState, transmit_slot}
+use Rattle.driver_law.specs.DriverState.{transmit_slot}
 use Rattle.driver_law.proofs.Parts.{SameParts, ready-left}
 use Rattle.driver_law.proofs.Rests.{goes-rests}
 

@@ -1,5 +1,5 @@
 -- TDT is moved on by one, and the oldest slot is freed.
-use Rattle.std.proofs.Common.{Bool, true, false, cond, ◌≡◌, ◌≤◌, ◌<◌, ◌⊎◌, ◌+◌, ◌-◌, ◌*◌, ◌%◌, ◌^◌, ◌++◌, ◌∷◌, [], ℕ, suc, List, length, slice_index, map, inl, inr, ⊎_elim, refl, sym, ap, subst, ◌∙◌, arith}
+use Rattle.std.proofs.Common.{Bool, true, false, cond, ◌≡◌, ◌≤◌, ◌<◌, ◌+◌, ◌-◌, ◌*◌, ◌%◌, ◌^◌, ◌++◌, ◌∷◌, [], ℕ, suc, List, length, slice_index, map, inl, inr, ⊎_elim, refl, sym, ap, subst, ◌∙◌, arith}
 use Rattle.std.specs.List.{All, take_while}
 use Rattle.std.proofs.lemmas.Bool.{cases_eq}
 use Rattle.std.proofs.lemmas.List.{append-nil}
@@ -7,7 +7,7 @@ use Rattle.std.proofs.lemmas.List.Elements.{All-append, All-cons}
 use Rattle.std.proofs.lemmas.List.Sums.{take_while-cons}
 use Rattle.registers.specs.Bits.{is_set}
 use Rattle.dma_memory.specs.Areas.{AreApart, Area, IsInside, area_at}
-use Rattle.dma_memory.specs.AreaLaws.{apart-inside, apart-sym, inside-apart}
+use Rattle.dma_memory.specs.AreaLaws.{inside-apart}
 use Rattle.dma_memory.specs.HostMemory.{LiesIn, bytes_at}
 use Rattle.dma_memory.specs.Layout.{TransmitBuffer, area_of}
 use Rattle.dma_memory.specs.LayoutLaws.{place-below_size}
@@ -29,13 +29,13 @@ use Rattle.bus.proofs.Lists.{all-none, all-tail}
 use Rattle.bus.proofs.Offering.{frames_can_be_offered}
 use Rattle.bus.proofs.TakingSlots.{written_slots_can_be_freed}
 use Rattle.bus.specs.Offering.{CanSend, OfferedFrame, offering_frame}
-use Rattle.bus.specs.TakingSlots.{Freed, next_sent}
+use Rattle.bus.specs.TakingSlots.{next_sent}
 use Rattle.driver_law.specs.DriverState.{DriverState, transmit_slot, transmit_tail}
 use Rattle.driver_law.specs.Ready.{Ready}
 use Rattle.driver_law.specs.Transmit.{FrameIsOffered, NoneIsWrittenBack, SlotIsFreed, transmit_buffer, whole_descriptor, with_freed}
-use Rattle.driver_law.proofs.Places.{outstanding-known, place-below, place-next, places-differ}
+use Rattle.driver_law.proofs.Places.{outstanding-known, place-next, places-differ}
 use Rattle.driver_law.proofs.Rests.{goes-rests}
-use Rattle.driver_law.proofs.TransmitSlots.{OwnBuffer, next_slot_is_own, own-buffer}
+use Rattle.driver_law.proofs.TransmitSlots.{next_slot_is_own, own-buffer}
 
 -- The descriptor of a frame.
 

@@ -1,5 +1,5 @@
 -- Stores of initialisation: to the receive slot that stays the driver's, and to the transmit ring while its side is off.
-use Rattle.std.proofs.Common.{Bool, false, ◌≡◌, ◌<◌, ◌+◌, ◌*◌, [], ℕ, List, length, sym, ap, subst, ◌∙◌, arith}
+use Rattle.std.proofs.Common.{false, ◌≡◌, ◌<◌, ◌+◌, ◌*◌, ℕ, List, length, sym, ap, subst, ◌∙◌, arith}
 use Rattle.std.specs.List.{All}
 use Rattle.dma_memory.specs.Areas.{AreApart, Area, IsInside, area_at, descriptor_area}
 use Rattle.dma_memory.specs.AreaLaws.{apart-inside, apart-sym, inside-apart, lies-inside}
@@ -9,9 +9,8 @@ use Rattle.dma_memory.specs.Layout.{ReceiveBuffer, ReceiveRing, TransmitRing, ar
 use Rattle.dma_memory.specs.LayoutLaws.{place-below_size, places-apart}
 use Rattle.descriptors.specs.Ring.{address_of}
 use Rattle.descriptors.specs.RingLaws.{place}
-use Rattle.adapter.specs.HostAreas.{frame_areas, ring_area}
-use Rattle.adapter.specs.Slots.{outstanding}
-use Rattle.adapter.specs.World.{World, receive_ring, transmit_ring}
+use Rattle.adapter.specs.HostAreas.{ring_area}
+use Rattle.adapter.specs.World.{World, receive_ring}
 use Rattle.bus.proofs.Lists.{all-none}
 use Rattle.bus.proofs.Rings.{outstanding-inside}
 use Rattle.bus.proofs.Tails.{OwnSlot}

@@ -1,5 +1,5 @@
 -- Worlds that differ in nothing that a driver knows.
-use Rattle.std.proofs.Common.{Bool, ◌≡◌, ◌≤◌, [], ℕ, List, length, map, sym, ap, subst, ◌∙◌, arith}
+use Rattle.std.proofs.Common.{Bool, ◌≡◌, ◌≤◌, ℕ, List, length, map, sym, ap, subst, ◌∙◌, arith}
 use Rattle.std.specs.List.{All}
 use Rattle.registers.specs.Bits.{field}
 use Rattle.registers.specs.ReceiveControl.{buffer_size_of}

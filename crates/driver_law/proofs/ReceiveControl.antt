@@ -1,5 +1,5 @@
 -- RCTL is written while no receive slot is finished or in work.
-use Rattle.std.proofs.Common.{Bool, true, false, ◌≡◌, ◌≢◌, ◌≤◌, ◌<◌, ◌+◌, ◌++◌, ◌∷◌, [], ℕ, List, Option, None, if◌then◌else◌, length, map, inl, refl, sym, ap, subst, ◌∙◌, arith}
+use Rattle.std.proofs.Common.{Bool, true, false, ◌≡◌, ◌≢◌, ◌≤◌, ◌<◌, ◌++◌, ◌∷◌, [], ℕ, List, Option, if◌then◌else◌, map, inl, refl, sym, ap, subst, ◌∙◌, arith}
 use Rattle.std.specs.List.{All, AllPairs}
 use Rattle.std.proofs.lemmas.Simd.{map-map}
 use Rattle.std.proofs.lemmas.List.Elements.{All-cons, All-map}
@@ -10,7 +10,6 @@ use Rattle.dma_memory.specs.Layout.{Counts, ReceiveBuffer, ReceiveRing, area_of}
 use Rattle.dma_memory.specs.LayoutLaws.{begins, places-apart}
 use Rattle.dma_memory.specs.Owners.{copies}
 use Rattle.dma_memory.specs.OwnersLaws.{copies-cons, copies-itself, no_second_from_one, once_from_no_second}
-use Rattle.descriptors.specs.Ring.{count_of}
 use Rattle.rx_engine.specs.Descriptors.{named_address}
 use Rattle.rx_engine.specs.declared.engine.Work.{Work}
 use Rattle.adapter.specs.HostAreas.{areas, buffer_size, data_of, receives, ring_area, work_areas}
@@ -19,7 +18,7 @@ use Rattle.adapter.specs.Slots.{finished, in_work, offered, outstanding, slot_of
 use Rattle.adapter.specs.World.{World, receive_ring, transmit_ring}
 use Rattle.bus.proofs.Idle.{first-two, offered-none}
 use Rattle.bus.proofs.Initialising.{receiver_can_be_set}
-use Rattle.bus.proofs.Lists.{all-head, all-none, all-tail, pairs-head, pairs-none}
+use Rattle.bus.proofs.Lists.{all-head, all-tail, pairs-head, pairs-none}
 use Rattle.bus.specs.Initialising.{with_receive_control}
 use Rattle.driver_law.specs.Beginnings.{ReceiverIsEnabled}
 use Rattle.driver_law.specs.DriverState.{DriverState, buffer_at, owners}

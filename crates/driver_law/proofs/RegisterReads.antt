@@ -1,5 +1,5 @@
 -- A register is read.
-use Rattle.std.proofs.Common.{Bool, ◌≡◌, ◌≢◌, ◌≤◌, ◌<◌, ◌+◌, ◌-◌, ◌^◌, [], ℕ, List, Option, None, Some, length, min, inl, refl, sym, ap, subst, ◌∙◌, arith}
+use Rattle.std.proofs.Common.{Bool, ◌≡◌, ◌≢◌, ◌≤◌, ◌<◌, ◌+◌, ◌-◌, ◌^◌, [], ℕ, Option, None, Some, length, min, inl, refl, sym, ap, subst, ◌∙◌, arith}
 use Rattle.std.proofs.lemmas.List.{append-nil}
 use Rattle.registers.specs.Bits.{HasBit}
 use Rattle.registers.specs.Counting.{greatest_count}
@@ -14,11 +14,10 @@ use Rattle.adapter.specs.declared.register.Register.TheVariants.{Icr, Mpc, Gprc,
 use Rattle.bus.proofs.Initialising.{reads_leave_frames}
 use Rattle.bus.specs.Past.{nothing}
 use Rattle.driver_law.specs.DriverState.{DriverState}
-use Rattle.driver_law.specs.Goes.{FlowsTo, GoesTo}
-use Rattle.driver_law.specs.Readings.{CausesAreRead, MissesAreRead, OthersAreRead, with_missed}
+use Rattle.driver_law.specs.Goes.{FlowsTo}
+use Rattle.driver_law.specs.Readings.{CausesAreRead, MissesAreRead, OthersAreRead}
 use Rattle.driver_law.specs.Ready.{ReadyWith}
 use Rattle.driver_law.proofs.Parts.{SameParts, ready-left}
-use Rattle.driver_law.proofs.Rests.{goes-rests}
 
 -- What a read leaves, and that it leaves the mask.
 record Read (a b : World) : Type 0 where

@@ -1,5 +1,5 @@
 -- A step of a driver by which no frame comes or goes.
-use Rattle.std.proofs.Common.{Bool, ◌≡◌, ◌+◌, ◌++◌, [], ℕ, List, length, inl, refl, sym, ap, subst, ◌∙◌, arith}
+use Rattle.std.proofs.Common.{Bool, ◌≡◌, ◌+◌, [], ℕ, length, inl, sym, ap, subst, ◌∙◌, arith}
 use Rattle.std.proofs.lemmas.List.{append-nil}
 use Rattle.registers.specs.Bits.{HasBit}
 use Rattle.adapter.specs.HostFrames.{frames_held, frames_to_send}

@@ -1,20 +1,18 @@
 -- The transmit ring's registers are written while the transmit side is off.
-use Rattle.std.proofs.Common.{Bool, false, ◌≡◌, ◌≤◌, ◌<◌, ◌+◌, ◌*◌, ◌++◌, ◌∷◌, [], ℕ, List, length, map, inl, inr, refl, sym, ap, subst, ◌∙◌, arith}
-use Rattle.std.specs.List.{All, AllPairs, take_while}
+use Rattle.std.proofs.Common.{Bool, false, ◌≡◌, ◌<◌, ◌++◌, ◌∷◌, [], ℕ, List, length, map, inl, inr, refl, sym, ap, subst, ◌∙◌, arith}
+use Rattle.std.specs.List.{All, take_while}
 use Rattle.std.proofs.lemmas.List.Elements.{All-cons, All-map}
 use Rattle.std.proofs.lemmas.List.Kept.{AllPairs-cons}
-use Rattle.dma_memory.specs.Areas.{AreApart, AreSeparate, Area, IsInside, area_at}
+use Rattle.dma_memory.specs.Areas.{AreApart, AreSeparate, Area, area_at}
 use Rattle.dma_memory.specs.AreaLaws.{apart-inside, apart-sym, inside-apart, lies-inside}
 use Rattle.dma_memory.specs.HostMemory.{LiesIn}
 use Rattle.dma_memory.specs.Layout.{ReceiveBuffer, ReceiveRing, TransmitRing, area_of}
 use Rattle.dma_memory.specs.LayoutLaws.{place-below_size, places-apart}
-use Rattle.dma_memory.specs.Owners.{copies}
 use Rattle.rx_engine.specs.Descriptors.{named_address}
-use Rattle.adapter.specs.Conditions.{Sound}
-use Rattle.adapter.specs.HostAreas.{areas, buffer_of, buffer_size, data_of, frame_areas, offered_buffers, ring_area, work_areas}
-use Rattle.adapter.specs.HostFrames.{frames_held, frames_to_send, named}
+use Rattle.adapter.specs.HostAreas.{buffer_of, buffer_size, data_of, frame_areas, offered_buffers, ring_area, work_areas}
+use Rattle.adapter.specs.HostFrames.{named}
 use Rattle.adapter.specs.Rings.{new_ring, ring_of}
-use Rattle.adapter.specs.Slots.{finished, is_done, offered, outstanding, written_back}
+use Rattle.adapter.specs.Slots.{finished, is_done, outstanding}
 use Rattle.adapter.specs.World.{World, receive_ring, transmit_ring}
 use Rattle.adapter.specs.declared.ring.RingRegisters.{RingRegisters}
 use Rattle.bus.proofs.Idle.{offered-none, outstanding-none}

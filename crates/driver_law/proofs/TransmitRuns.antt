@@ -1,7 +1,7 @@
 -- The steps of the transmit side over a bus.
-use Rattle.std.proofs.Common.{Bool, true, false, ◌≡◌, ◌≤◌, ◌<◌, ◌+◌, ◌-◌, ◌%◌, ◌∷◌, [], ℕ, List, length, slice_index, inr, sym, ap, subst, ◌∙◌, arith}
+use Rattle.std.proofs.Common.{true, false, ◌≡◌, ◌≤◌, ◌<◌, ◌+◌, ◌%◌, ◌∷◌, [], ℕ, List, length, slice_index, inr, sym, ap, subst, ◌∙◌, arith}
 use Rattle.registers.specs.Bits.{is_set}
-use Rattle.dma_memory.specs.Areas.{IsInside, area_at, descriptor_area}
+use Rattle.dma_memory.specs.Areas.{IsInside, area_at}
 use Rattle.dma_memory.specs.AreaLaws.{apart-inside, inside-apart}
 use Rattle.dma_memory.specs.HostMemory.{LiesIn, bytes_at}
 use Rattle.dma_memory.specs.Laws.{bytes_at-elsewhere, bytes_at-stored}
@@ -14,7 +14,6 @@ use Rattle.adapter.specs.Slots.{is_done, written_back}
 use Rattle.adapter.specs.World.{World, transmit_ring, world_after_store, world_after_write}
 use Rattle.bus.proofs.Tails.{transmit_tail-written}
 use Rattle.bus.specs.Law.{Acts, Happens}
-use Rattle.bus.specs.Offering.{offering_frame}
 use Rattle.bus.specs.Past.{Access, Loads, Past, Stores, Writes, joined, nothing}
 use Rattle.driver_law.specs.DriverState.{DriverState, transmit_slot, transmit_tail}
 use Rattle.driver_law.specs.Goes.{Goes, RanBy}

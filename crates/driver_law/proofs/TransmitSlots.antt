@@ -1,8 +1,8 @@
 -- A transmit slot of the driver's own: what it stores into its buffer and its descriptor.
-use Rattle.std.proofs.Common.{Bool, true, ◌≡◌, ◌≢◌, ◌≤◌, ◌<◌, ◌+◌, ◌*◌, ◌∷◌, [], ℕ, List, length, get_or, map, sym, ap, subst, ◌∙◌, arith}
+use Rattle.std.proofs.Common.{Bool, ◌≡◌, ◌≢◌, ◌≤◌, ◌<◌, ◌*◌, ◌∷◌, ℕ, List, length, get_or, sym, subst, arith}
 use Rattle.std.specs.List.{All}
 use Rattle.std.proofs.lemmas.List.Elements.{All-map}
-use Rattle.dma_memory.specs.Areas.{AreApart, Area, IsInside, area_at, bytes_in, descriptor_area}
+use Rattle.dma_memory.specs.Areas.{AreApart, Area, IsInside, area_at, descriptor_area}
 use Rattle.dma_memory.specs.AreaLaws.{apart-inside, apart-sym, inside-apart}
 use Rattle.dma_memory.specs.HostMemory.{LiesIn, with_bytes}
 use Rattle.dma_memory.specs.Laws.{bytes_at-elsewhere}
@@ -10,7 +10,6 @@ use Rattle.dma_memory.specs.Layout.{ReceiveBuffer, ReceiveRing, TransmitBuffer, 
 use Rattle.dma_memory.specs.LayoutLaws.{place-below_size, places-apart}
 use Rattle.descriptors.specs.Ring.{address_of, slots_from}
 use Rattle.descriptors.specs.RingLaws.{place}
-use Rattle.adapter.specs.Conditions.{Sound}
 use Rattle.adapter.specs.HostAreas.{IsForeign, areas, data_of, frame_areas, ring_area}
 use Rattle.adapter.specs.Slots.{outstanding}
 use Rattle.adapter.specs.World.{World, receive_ring, transmit_ring}
@@ -20,9 +19,8 @@ use Rattle.bus.proofs.Spare.{spare-apart, spare-foreign}
 use Rattle.bus.proofs.Tails.{OwnSlot}
 use Rattle.bus.specs.Own.{IsOwnSlot}
 use Rattle.bus.specs.OwnStores.{IsOwn}
-use Rattle.bus.specs.Past.{nothing}
 use Rattle.bus.specs.Spare.{IsSpare}
-use Rattle.driver_law.specs.DriverState.{DriverState, receive_slot, receive_tail, transmit_slot, transmit_tail}
+use Rattle.driver_law.specs.DriverState.{DriverState, receive_slot, receive_tail, transmit_slot}
 use Rattle.driver_law.specs.Ready.{AreStored, Ready, ReadyWith}
 use Rattle.driver_law.specs.Transmit.{DataIsStored, DescriptorIsStored, NextSlotIsOwn, SlotsKeepBytes, transmit_buffer}
 use Rattle.driver_law.proofs.Buffers.{known-area}
