@@ -5,6 +5,9 @@
 #![tactic(auto)]
 
 mod driver;
+mod receive;
+mod receiver;
 mod refill;
 
 pub use driver::Driver;
+pub use receiver::{Received, Receiver};
