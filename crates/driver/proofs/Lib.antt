@@ -2,3 +2,4 @@ pub mod FreedSlots
 pub mod SentFrames
 pub mod Queue
 pub mod Refills
+pub mod Takes
