@@ -14,7 +14,7 @@ use Rattle.bus.specs.declared.event.Access.{Access}
 use Rattle.bus.specs.declared.event.Access.TheVariants.{Loads}
 use Rattle.driver_law.proofs.Accesses.{ran_by-join, ran_by-stays}
 use Rattle.driver_law.proofs.Places.{place-next}
-use Rattle.driver_law.proofs.TransmitRuns.{LoadsOldest, RanWith, run-frees, run-waits}
+use Rattle.driver_law.proofs.TransmitRuns.{RanWith, run-frees, run-waits}
 use Rattle.driver_law.specs.DriverState.{DriverState, transmit_slot, transmit_tail}
 use Rattle.driver_law.specs.Goes.{RanBy}
 use Rattle.driver_law.specs.Ready.{Ready}

@@ -1,2 +1,5 @@
 pub mod FreedSlots
 pub mod SentFrames
+pub mod Queue
+pub mod Refills
+pub mod Takes

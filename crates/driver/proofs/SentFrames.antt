@@ -14,7 +14,7 @@ use Rattle.driver_law.specs.Goes.{RanBy}
 use Rattle.driver_law.specs.Ready.{Ready}
 use Rattle.driver_law.specs.Transmit.{send_accesses, transmit_buffer, transmit_loads, whole_descriptor}
 use Rattle.driver.specs.Inside.{IsSending}
-use Rattle.driver.specs.Sends.{Reclaims, probes, with_sending}
+use Rattle.driver.specs.Sends.{Reclaims, probes}
 
 -- The place that is sent by.
 

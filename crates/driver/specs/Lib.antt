@@ -1,2 +1,4 @@
 pub mod Inside
 pub mod Sends
+pub mod Refills
+pub mod Takes

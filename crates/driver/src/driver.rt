@@ -1,6 +1,8 @@
 // What a driver keeps.
 
 ghost use Rattle.std.specs.Prelude.{◌≡◌, ◌+◌, length};
+ghost use Rattle.dma_memory.specs.Owners.{HasNoSecondOwner};
+ghost use Rattle.driver_law.specs.DriverState.{owners};
 
 use circular_buffer::HeapCircularBuffer;
 use dma_memory::{BufId, Layout, Pool};
@@ -53,9 +55,10 @@ impl Driver {
         self.layout
     }
 
-    /// How many receive slots are outstanding or staged.
+    /// How many receive slots are outstanding or staged. No buffer has two owners, at any time.
     pub fn receiving(&self) -> usize
-        ensures { result ≡ length self.now.buffers + length self.now.staged }
+        ensures count { result ≡ length self.now.buffers + length self.now.staged }
+        ensures one_owner { HasNoSecondOwner self.now.counts.buffers (owners self.now) }
     {
         self.buffers.len()
     }

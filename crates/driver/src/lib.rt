@@ -5,7 +5,11 @@
 #![tactic(auto)]
 
 mod driver;
+mod receive;
+mod receiver;
+mod refill;
 mod transmit;
 
 pub use driver::Driver;
+pub use receiver::{Received, Receiver};
 pub use transmit::SendError;

@@ -94,7 +94,10 @@ impl Driver {
             return false;
         }
         let mut bytes = [0; 16];
-        bus.load(descriptor_address(self.layout, self.oldest_sent), &mut bytes);
+        bus.load(
+            descriptor_address(self.layout, self.oldest_sent),
+            &mut bytes,
+        );
         if !shows_done(&bytes) {
             return false;
         }

@@ -101,3 +101,11 @@ ran-to world happened allowed accesses old new d d' taken given ran all = record
   set = ran.set;
   off = ran.off;
 }
+
+-- The same accesses, the same state at the end, and the same frames, told otherwise.
+pub ran_by-same : {up : Bool} {B : Type 0} (world : B → World) (happened : B → B → Past → Type 0) (xs ys : List Access) (old new : B) (d d1 d2 : DriverState) (t1 t2 given : List (List ℕ))
+    → xs ≡ ys → d1 ≡ d2 → t1 ≡ t2 → RanBy up world happened xs old new d d1 t1 given → RanBy up world happened ys old new d d2 t2 given
+ran_by-same {up} world happened xs ys old new d d1 d2 t1 t2 given accesses last taken ran =
+    subst (λ (list : List Access). RanBy up world happened list old new d d2 t2 given) accesses
+    (subst (λ (end : DriverState). RanBy up world happened xs old new d end t2 given) last
+    (subst (λ (frames : List (List ℕ)). RanBy up world happened xs old new d d1 frames given) taken ran))

@@ -1,10 +1,14 @@
 -- TCTL and IMS are written.
-use Rattle.std.proofs.Common.{◌≡◌, ℕ, refl, sym, subst, arith}
+use Rattle.std.proofs.Common.{◌≡◌, [], ℕ, inl, inr, ⊎_elim, refl, sym, subst, ◌∙◌, arith}
 use Rattle.std.specs.List.{All}
+use Rattle.registers.specs.Bits.{HasBit}
+use Rattle.registers.specs.Kept.{causes_of}
+use Rattle.registers.specs.Laws.{HasBit-union}
 use Rattle.dma_memory.specs.Areas.{IsInside}
 use Rattle.dma_memory.specs.Layout.{TransmitBuffer, area_of}
 use Rattle.descriptors.specs.Ring.{slots_from}
 use Rattle.adapter.specs.HostAreas.{data_of}
+use Rattle.adapter.specs.Slots.{finished}
 use Rattle.adapter.specs.Table.{register_at}
 use Rattle.adapter.specs.World.{world_after_write}
 use Rattle.adapter.specs.declared.register.Register.TheVariants.{Ims}
@@ -12,7 +16,7 @@ use Rattle.bus.proofs.Initialising.{other_writes_leave_frames, transmitter_can_b
 use Rattle.bus.proofs.Lists.{all-none}
 use Rattle.bus.specs.Initialising.{with_transmit_control}
 use Rattle.bus.specs.OwnStores.{LeavesFrames}
-use Rattle.driver_law.specs.Beginnings.{CausesAreUnmasked, TransmitterIsEnabled}
+use Rattle.driver_law.specs.Beginnings.{CausesAreUnmasked, TransmitterIsEnabled, UnmaskedForgetsNoWork}
 use Rattle.driver_law.specs.DriverState.{transmit_slot}
 use Rattle.driver_law.proofs.Parts.{SameParts, ready-left}
 use Rattle.driver_law.proofs.Rests.{goes-rests}
@@ -72,3 +76,13 @@ causes_are_unmasked up driver causes world ready =
       recorded = refl;
       mask = refl;
     }
+
+pub unmasked_forgets_no_work : UnmaskedForgetsNoWork
+unmasked_forgets_no_work up driver causes a b unmasked set asked = record {
+  unmasked = subst (λ (mask : ℕ). HasBit mask 7) (sym unmasked.mask) ((HasBit-union a.adapter.causes.mask (causes_of causes) 7).1 (inr set));
+  asked =
+      ⊎_elim
+      (λ (none : finished driver.oldest_received a ≡ []). inl (unmasked.finished_same ∙ none))
+      (λ (bit : HasBit a.adapter.causes.recorded 7). inr (subst (λ (recorded : ℕ). HasBit recorded 7) (sym unmasked.recorded) bit))
+      asked;
+}

@@ -19,3 +19,5 @@ pub mod FramesToSend
 pub mod Accesses
 pub mod ReceiveAccesses
 pub mod TransmitRuns
+pub mod InitialStores
+pub mod RegisterWrites

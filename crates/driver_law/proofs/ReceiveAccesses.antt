@@ -27,9 +27,10 @@ use Rattle.driver_law.specs.Ready.{ReadyWith, empty_descriptor}
 
 -- The lists of accesses grow at their ends.
 
-pub stores-push : (counts : Counts) (slot : ℕ) (numbers : List ℕ) (m : ℕ) → stores_from counts slot (numbers ++ m ∷ []) ≡ stores_from counts slot numbers ++ stores_from counts (place counts.rx slot (length numbers)) (m ∷ [])
-stores-push counts slot [] m = refl
-stores-push counts slot (number ∷ later) m = ap (λ (list : List Access). Stores (receive_slot slot) (empty_descriptor (buffer_at counts number)) ∷ list) (stores-push counts ((slot + 1) % counts.rx) later m)
+pub stores-append : (counts : Counts) (slot : ℕ) (xs ys : List ℕ) → stores_from counts slot (xs ++ ys) ≡ stores_from counts slot xs ++ stores_from counts (place counts.rx slot (length xs)) ys
+stores-append counts slot [] ys = refl
+stores-append counts slot (number ∷ xs) ys =
+    ap (λ (list : List Access). Stores (receive_slot slot) (empty_descriptor (buffer_at counts number)) ∷ list) (stores-append counts ((slot + 1) % counts.rx) xs ys)
 
 pub loads-push : (count slot k : ℕ) → loads_from count slot (suc k) ≡ loads_from count slot k ++ Loads (receive_slot (place count slot k)) 16 ∷ []
 loads-push count slot zero = refl

@@ -113,7 +113,7 @@ stored-push : (memory : List ℕ) (counts : Counts) (slot : ℕ) (numbers : List
 stored-push memory counts slot [] m stored here = (here, tt)
 stored-push memory counts slot (number ∷ later) m stored here = (stored.0, stored-push memory counts ((slot + 1) % counts.rx) later m stored.1 here)
 
-slots-apart : (x y size : ℕ) → size ≡ 16 → ¬ (y ≡ x) → AreApart (area_at (receive_slot x) size) (area_at (receive_slot y) 16)
+pub slots-apart : (x y size : ℕ) → size ≡ 16 → ¬ (y ≡ x) → AreApart (area_at (receive_slot x) size) (area_at (receive_slot y) 16)
 slots-apart x y size long differ =
     let base : (i : ℕ) → 0 + 16 * i ≡ receive_slot i = λ i. omega arith in
     subst (λ (n : ℕ). AreApart (area_at (receive_slot x) n) (area_at (receive_slot y) 16)) (sym long)

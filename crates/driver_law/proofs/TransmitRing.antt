@@ -59,15 +59,15 @@ outstanding-buffers driver world area ready away =
 
 -- A transmit side that is off.
 
-none-outstanding : (driver : DriverState) (world : World) → ReadyWith false driver world → outstanding (transmit_ring world) driver.oldest_sent ≡ []
+pub none-outstanding : (driver : DriverState) (world : World) → ReadyWith false driver world → outstanding (transmit_ring world) driver.oldest_sent ≡ []
 none-outstanding driver world ready = subst (λ (oldest : ℕ). outstanding (transmit_ring world) oldest ≡ []) ready.transmit.last (outstanding-none (transmit_ring world))
 
 -- the areas that don't belong to the transmit ring
-abbrev received_areas : ℕ → World → List Area
+abbrev pub received_areas : ℕ → World → List Area
 received_areas oldest world = map (named world.memory) (finished oldest world) ++ (work_areas world.memory world.adapter.receiver.work ++ offered_buffers world)
 
 -- With its head at its tail the ring adds none.
-areas-idle : (oldest : ℕ) (world : World) → (transmit_ring world).head ≡ (transmit_ring world).tail → frame_areas oldest world ≡ received_areas oldest world
+pub areas-idle : (oldest : ℕ) (world : World) → (transmit_ring world).head ≡ (transmit_ring world).tail → frame_areas oldest world ≡ received_areas oldest world
 areas-idle oldest world idle = ap (λ (slots : List ℕ). map (data_of world.memory) slots ++ received_areas oldest world) (offered-none (transmit_ring world) idle)
 
 -- The ring may be any that is apart from the others, with its head at its tail.
@@ -84,7 +84,7 @@ ring-set driver ring world ready idle lies apart away =
     (subst (λ (list : List Area). AreSeparate world.memory (r ∷ ring_area (ring_of ring) ∷ list)) (sym (areas-idle o (with_transmit_ring ring world) idle)) after)
 
 -- The place of the transmit ring is apart from all that is received: this is seen where the ring itself has no slots, as after a reset.
-place-away : (driver : DriverState) (world : World) → ReadyWith false driver world → All (λ other. AreApart other (area_of driver.counts TransmitRing)) (received_areas driver.oldest_received world)
+pub place-away : (driver : DriverState) (world : World) → ReadyWith false driver world → All (λ other. AreApart other (area_of driver.counts TransmitRing)) (received_areas driver.oldest_received world)
 place-away driver world ready =
     let o = driver.oldest_received in
     let area = area_of driver.counts TransmitRing in

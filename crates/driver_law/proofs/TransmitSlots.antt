@@ -130,7 +130,7 @@ buffer-own driver slot size world ready buffer short =
 -- Stores.
 
 -- Where nothing of the receive ring is stored to, what is staged stays.
-stored-elsewhere : {up : Bool} (d : DriverState) (a : World) (address : ℕ) (bytes : List ℕ) → ReadyWith up d a → LiesIn a.memory address (length bytes)
+pub stored-elsewhere : {up : Bool} (d : DriverState) (a : World) (address : ℕ) (bytes : List ℕ) → ReadyWith up d a → LiesIn a.memory address (length bytes)
     → AreApart (area_of d.counts ReceiveRing) (area_at address (length bytes)) → AreStored (with_bytes a.memory address bytes) d.counts (receive_tail d) d.staged
 stored-elsewhere d a address bytes ready lies apart =
     stored-kept a.memory (with_bytes a.memory address bytes) d.counts (receive_tail d) d.staged

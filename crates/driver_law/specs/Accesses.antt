@@ -21,3 +21,8 @@ tail_write slot (number ∷ later) = Writes 0x2818 slot ∷ []
 abbrev pub loads_from : (count slot : ℕ) → ℕ → List Access
 loads_from count slot zero = []
 loads_from count slot (suc k) = Loads (receive_slot slot) 16 ∷ loads_from count ((slot + 1) % count) k
+
+-- the descriptor of the slot at a place is loaded, where any are outstanding
+abbrev pub last_load : ℕ → (outstanding : List ℕ) → List Access
+last_load slot [] = []
+last_load slot (number ∷ later) = Loads (receive_slot slot) 16 ∷ []

@@ -1,8 +1,8 @@
 -- The state in which a driver begins, and what it writes into registers up to the end of its initialisation (own).
-use Rattle.std.specs.Prelude.{◌≡◌, ◌≤◌, ◌<◌, ◌*◌, ◌^◌, ◌++◌, ℕ, Bool, false, List, [], None, length}
+use Rattle.std.specs.Prelude.{◌≡◌, ◌≤◌, ◌<◌, ◌⊎◌, ◌*◌, ◌^◌, ◌++◌, ℕ, Bool, false, List, [], None, length}
 use Rattle.registers.specs.Bits.{HasBit, union}
 use Rattle.registers.specs.Kept.{causes_of}
-use Rattle.dma_memory.specs.Areas.{IsInside}
+use Rattle.dma_memory.specs.Areas.{IsInside, area_at}
 use Rattle.dma_memory.specs.Layout.{Counts, TransmitRing, area_of, size_of}
 use Rattle.dma_memory.specs.Owners.{HasOneOwner}
 use Rattle.adapter.specs.HostAreas.{buffer_size, ring_area}
@@ -10,14 +10,14 @@ use Rattle.adapter.specs.HostFrames.{frames_held, frames_to_send}
 use Rattle.adapter.specs.Rings.{ring_of}
 use Rattle.adapter.specs.Running.{CanRun}
 use Rattle.adapter.specs.Slots.{finished, written_back}
-use Rattle.adapter.specs.World.{World, receive_ring, transmit_ring, world_after_write}
+use Rattle.adapter.specs.World.{World, receive_ring, transmit_ring, world_after_store, world_after_write}
 use Rattle.adapter.specs.declared.ring.RingRegisters.{RingRegisters}
 use Rattle.bus.specs.Idle.{IsIdle}
 use Rattle.bus.specs.Initialising.{with_receive_control, with_transmit_control, with_transmit_ring}
 use Rattle.bus.specs.Past.{nothing}
 use Rattle.adapter.specs.KnownRing.{KnowsRing}
-use Rattle.driver_law.specs.DriverState.{DriverState, transmit_tail}
-use Rattle.driver_law.specs.Goes.{Goes, GoesTo}
+use Rattle.driver_law.specs.DriverState.{DriverState, next_received, receive_slot, transmit_tail}
+use Rattle.driver_law.specs.Goes.{Goes, GoesTo, HasNoForgottenWork}
 use Rattle.driver_law.specs.Ready.{ReadyWith, TransmitIs}
 
 -- The beginning.
@@ -94,3 +94,24 @@ abbrev pub CausesAreUnmasked : Type 0
 CausesAreUnmasked =
     (up : Bool) (driver : DriverState) (causes : ℕ) (world : World) → ReadyWith up driver world
     → Unmasked up driver causes world (world_after_write 0xD0 causes world)
+
+-- Where RXT0, bit 7, is unmasked, and the oldest receive slot isn't finished or RXT0 is recorded, no work is forgotten then.
+abbrev pub UnmaskedForgetsNoWork : Type 0
+UnmaskedForgetsNoWork =
+    (up : Bool) (driver : DriverState) (causes : ℕ) (a b : World) → Unmasked up driver causes a b → HasBit (causes_of causes) 7
+    → (finished driver.oldest_received a ≡ []) ⊎ HasBit a.adapter.causes.recorded 7 → HasNoForgottenWork driver b
+
+-- Stores, beside those that stage slots.
+
+-- The descriptor of the slot behind all staged ones is stored: it stays the driver's.
+abbrev pub LastSlotIsStored : Type 0
+LastSlotIsStored =
+    (up : Bool) (driver : DriverState) (bytes : List ℕ) (world : World) → ReadyWith up driver world → length bytes ≡ 16
+    → GoesTo up driver world driver (world_after_store (receive_slot (next_received driver)) bytes world) [] [] nothing
+
+-- Bytes are stored where the layout has the transmit ring, while the transmit side is off.
+abbrev pub TransmitPlaceIsStored : Type 0
+TransmitPlaceIsStored =
+    (driver : DriverState) (address : ℕ) (bytes : List ℕ) (world : World) → ReadyWith false driver world
+    → IsInside (area_at address (length bytes)) (area_of driver.counts TransmitRing)
+    → GoesTo false driver world driver (world_after_store address bytes world) [] [] nothing

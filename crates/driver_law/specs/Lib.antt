@@ -7,3 +7,4 @@ pub mod Transmit
 pub mod Accesses
 pub mod ReceiveSteps
 pub mod OldestSlot
+pub mod Registers

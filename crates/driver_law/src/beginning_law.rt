@@ -1,6 +1,6 @@
 // Laws of a driver's beginning, and of the registers that it writes up to the end of its initialisation.
 
-ghost use Rattle.driver_law.specs.Beginnings.{CausesAreUnmasked, DriversBegin, ReceiverIsEnabled, TransmitRingIsWritten, TransmitterIsEnabled};
+ghost use Rattle.driver_law.specs.Beginnings.{CausesAreUnmasked, DriversBegin, LastSlotIsStored, ReceiverIsEnabled, TransmitPlaceIsStored, TransmitRingIsWritten, TransmitterIsEnabled, UnmaskedForgetsNoWork};
 
 /// A driver whose receive ring is set up, whose transmit ring is or isn't, and that has offered no slot of
 /// either, is ready.
@@ -14,9 +14,19 @@ pub fn drivers_begin()
 ///   is where the layout has it, and the side off still.
 /// - `transmitter`: of TCTL, with PSP, behind which its transmit side is set up.
 /// - `causes`: of IMS, which changes the mask alone.
+/// - `work`: no work is forgotten then, where none was left without its cause.
 pub fn registers_are_set()
     ensures receiver { ReceiverIsEnabled }
     ensures transmit_ring { TransmitRingIsWritten }
     ensures transmitter { TransmitterIsEnabled }
     ensures causes { CausesAreUnmasked }
+    ensures work { UnmaskedForgetsNoWork }
+{}
+
+/// A driver that is ready stays so at each other store of its initialisation.
+/// - `last`: of the descriptor behind all staged receive slots.
+/// - `transmit_ring`: to the place of the transmit ring, while the side is off.
+pub fn rings_are_stored()
+    ensures last { LastSlotIsStored }
+    ensures transmit_ring { TransmitPlaceIsStored }
 {}

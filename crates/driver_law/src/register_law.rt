@@ -1,5 +1,6 @@
-// Laws of the registers that a driver reads.
+// Laws of the registers that a driver reads and writes.
 
+ghost use Rattle.driver_law.specs.Registers.{ReceiveControlWrites, TransmitControlWrites, TransmitRingWrites};
 ghost use Rattle.driver_law.specs.Readings.{CausesAreRead, MissesAreRead, OthersAreRead};
 
 /// What a driver's read of a register leaves of what it knows.
@@ -10,4 +11,12 @@ pub fn registers_are_read()
     ensures causes { CausesAreRead }
     ensures misses { MissesAreRead }
     ensures others { OthersAreRead }
+{}
+
+/// What a write of a register leaves is what the bus's law tells of: of the transmit ring's, of RCTL and of
+/// TCTL.
+pub fn registers_are_written()
+    ensures transmit_ring { TransmitRingWrites }
+    ensures receive_control { ReceiveControlWrites }
+    ensures transmit_control { TransmitControlWrites }
 {}

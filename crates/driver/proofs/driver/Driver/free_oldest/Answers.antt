@@ -1,10 +1,8 @@
 -- The oldest transmit slot is freed where the load shows that it is done.
-use Rattle.std.proofs.Common.{◌≡◌, ◌<◌, ◌+◌, ◌-◌, ◌%◌, ℕ, [], sym, ap, subst, ◌∙◌, arith}
-use Rattle.dma_memory.specs.Layout.{Counts}
-use Rattle.descriptors.specs.RingLaws.{place}
+use Rattle.std.proofs.Common.{◌≡◌, ◌+◌, ◌-◌, ◌%◌, ℕ, [], sym, ap, subst, ◌∙◌, arith}
 use Rattle.driver_law.proofs.FramesToSend.{none_is_written_back}
-use Rattle.std.proofs.Common.{inl, List, min, true}
-use Rattle.driver_law.specs.DriverState.{DriverState, HandedOut, holding, transmit_slot}
+use Rattle.std.proofs.Common.{inl, min, true}
+use Rattle.driver_law.specs.DriverState.{DriverState, holding, transmit_slot}
 use Rattle.driver_law.specs.Goes.{RanBy}
 use Rattle.driver_law.specs.Transmit.{transmit_loads, with_freed}
 use Rattle.driver.proofs.FreedSlots.{frees-none, frees-oldest, sending-freed, waits-oldest}

@@ -1,13 +1,10 @@
 -- Each turn frees one slot, and the last finds that none is left to be freed.
-use Rattle.std.proofs.Common.{◌≡◌, ◌+◌, ◌-◌, [], ℕ, List, min, true, refl, sym, ap, subst, ◌∙◌, arith}
-use Rattle.dma_memory.specs.Layout.{Counts}
-use Rattle.adapter.specs.Slots.{written_back}
+use Rattle.std.proofs.Common.{◌≡◌, ◌+◌, ◌-◌, [], ℕ, min, true, refl, sym, ap, subst, ◌∙◌, arith}
 use Rattle.driver_law.proofs.Accesses.{ran_by-stays}
-use Rattle.driver_law.specs.DriverState.{DriverState, holding, transmit_tail}
+use Rattle.driver_law.specs.DriverState.{DriverState, holding}
 use Rattle.driver_law.specs.Goes.{RanBy}
 use Rattle.driver_law.specs.Transmit.{transmit_loads}
 use Rattle.driver.proofs.FreedSlots.{frees-more, freeing-more, freeing-none}
-use Rattle.driver.specs.Sends.{with_sending}
 use Rattle.driver.proofs.driver.Driver.reclaim.Goals as goal
 
 pub loop-init : goal.loop-init

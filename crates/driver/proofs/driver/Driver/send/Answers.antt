@@ -1,13 +1,12 @@
 -- The slot is the one behind the outstanding ones, as the driver keeps it.
-use Rattle.std.proofs.Common.{◌≡◌, ◌+◌, ◌%◌, ◌∷◌, [], ℕ, List, length, true, sym, ap, subst, ◌∙◌, arith}
-use Rattle.dma_memory.specs.Layout.{TransmitBuffer, start_of}
+use Rattle.std.proofs.Common.{◌≡◌, ◌+◌, ◌%◌, ◌∷◌, [], ℕ, length, true, sym, ap, subst, ◌∙◌, arith}
 use Rattle.descriptors.specs.Frames.{padded}
 use Rattle.driver_law.proofs.TransmitRuns.{run-sends}
 use Rattle.driver_law.specs.DriverState.{DriverState, holding, transmit_slot, transmit_tail}
 use Rattle.driver_law.specs.Goes.{RanBy}
 use Rattle.driver_law.specs.Transmit.{send_accesses, transmit_buffer, whole_descriptor}
 use Rattle.driver.proofs.SentFrames.{next-slot, sending-more}
-use Rattle.driver.specs.Inside.{IsSending, state_of}
+use Rattle.driver.specs.Inside.{IsSending}
 use Rattle.driver.proofs.driver.Driver.send.Goals as goal
 
 pub transmit_buffer-buffer-requires : goal.transmit_buffer-buffer-requires

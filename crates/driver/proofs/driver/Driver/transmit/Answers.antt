@@ -1,6 +1,5 @@
 -- Slots are freed, and then the frame is sent where there is room.
-use Rattle.std.proofs.Common.{◌≡◌, ◌+◌, ℕ, List, ap, ◌∙◌, arith}
-use Rattle.dma_memory.specs.Layout.{Counts}
+use Rattle.std.proofs.Common.{◌≡◌, ◌+◌, ap, arith}
 use Rattle.driver_law.proofs.Accesses.{ran_by-stays}
 use Rattle.driver_law.specs.DriverState.{DriverState, holding}
 use Rattle.driver.proofs.SentFrames.{frees-and-sends, was-full}

@@ -1,0 +1,113 @@
+// A driver offers receive slots.
+
+ghost use Rattle.std.specs.Prelude.{◌≡◌, ◌⊎◌, ◌+◌, ◌*◌, ◌<◌, ◌≤◌, ◌++◌, ◌∷◌, ℕ, Bool, List, [], length};
+ghost use Rattle.std.specs.Bool.{OnFalse, OnTrue};
+ghost use Rattle.dma_memory.specs.Layout.{size_of};
+ghost use Rattle.dma_memory.specs.Owners.{HasNoSecondOwner, HaveSameNumbers};
+ghost use Rattle.descriptors.specs.RxDesc.{rx_desc_bytes};
+ghost use Rattle.driver_law.specs.Accesses.{tail_write};
+ghost use Rattle.driver_law.specs.DriverState.{HandedOut, holding, next_received, owners, with_owners};
+ghost use Rattle.driver_law.specs.Goes.{IsRefilled, RanBy};
+ghost use Rattle.driver_law.specs.Ready.{ReadyWith, empty_descriptor};
+ghost use Rattle.driver.specs.Refills.{Refills, Stages};
+
+use crate::Driver;
+use adapter::offsets::RDT;
+use bitflags::Flags;
+use bus::Bus;
+use descriptors::{RxDesc, RxStatus};
+use dma_memory::DESCRIPTOR_BYTES;
+
+/// The descriptor of a receive slot, by its place, where the ring begins at address 0.
+pub(crate) fn receive_slot(slot: u16) -> u64
+    ensures { result ≡ 16 * slot }
+{
+    DESCRIPTOR_BYTES * u64::from(slot)
+}
+
+/// The descriptor that offers a buffer by its address.
+fn descriptor_of(buffer: u64) -> RxDesc
+    ensures { rx_desc_bytes result ≡ empty_descriptor buffer }
+{
+    RxDesc {
+        address: buffer,
+        length: 0,
+        checksum: 0,
+        status: RxStatus::empty(),
+        errors: 0,
+        special: 0,
+    }
+}
+
+impl Driver {
+    /// Stores the descriptor of the next receive slot, with a free buffer, where there is one, and where one
+    /// slot more would still be left. Tells whether it did.
+    fn stage<B: Bus>(&mut self, bus: &mut B) -> bool
+        requires memory { size_of self.old.counts ≤ B.extent bus.old }
+        ensures extent { B.extent bus.new ≡ B.extent bus.old }
+        ensures kept { B.kept bus.old bus.new }
+        ensures honest { B.honest bus.old → B.honest bus.new }
+        ensures lively { B.lively bus.old → B.lively bus.new }
+        ensures stages { OnTrue result ((number : ℕ) × Stages B.honest B.world B.happened bus.old bus.new self.old self.new (number ∷ [])) }
+        ensures room { length self.new.buffers + length self.new.staged < self.new.counts.rx }
+        ensures stays { OnFalse result (self.new ≡ self.old) }
+        ensures still { OnFalse result (bus.new ≡ bus.old) }
+        ensures full { OnFalse result ((self.new.pool ≡ []) ⊎ (length self.new.buffers + length self.new.staged + 1 ≡ self.new.counts.rx)) }
+    {
+        let count = self.layout.rx();
+        if self.buffers.len() + 1 == usize::from(count) {
+            return false;
+        }
+        let Some(buffer) = self.pool.take() else {
+            return false;
+        };
+        let descriptor = descriptor_of(self.layout.receive_buffer(buffer.number()));
+        bus.store(receive_slot(self.next_received), &descriptor.to_bytes());
+        self.next_received = (self.next_received + 1) % count;
+        let _ = self.buffers.push_back(buffer);
+        self.staged += 1;
+        true
+    }
+
+    /// Offers all staged slots by one write of RDT, where there are any.
+    fn offer<B: Bus>(&mut self, bus: &mut B)
+        ensures extent { B.extent bus.new ≡ B.extent bus.old }
+        ensures kept { B.kept bus.old bus.new }
+        ensures honest { B.honest bus.old → B.honest bus.new }
+        ensures lively { B.lively bus.old → B.lively bus.new }
+        ensures others { self.new ≡ with_owners self.old (self.old.buffers ++ self.old.staged) [] self.old.pool [] }
+        ensures owners { HaveSameNumbers (owners self.old) (owners self.new) }
+        ensures one_owner { HasNoSecondOwner self.new.counts.buffers (owners self.new) }
+        ensures ran { (up : Bool) (held : List HandedOut) → B.honest bus.old → ReadyWith up (holding held self.old) (B.world bus.old)
+            → RanBy up B.world B.happened (tail_write (next_received self.old) self.old.staged) bus.old bus.new (holding held self.old) (holding held self.new) [] [] }
+    {
+        if self.staged == 0 {
+            return;
+        }
+        bus.write(RDT, u32::from(self.next_received));
+        self.staged = 0;
+    }
+
+    /// Offers receive slots with free buffers, as long as there is one, and room for it: one slot always
+    /// stays the driver's. It stores their descriptors, and then writes RDT once, where any were stored.
+    pub fn refill<B: Bus>(&mut self, bus: &mut B)
+        requires memory { size_of self.old.counts ≤ B.extent bus.old }
+        ensures extent { B.extent bus.new ≡ B.extent bus.old }
+        ensures kept { B.kept bus.old bus.new }
+        ensures honest { B.honest bus.old → B.honest bus.new }
+        ensures lively { B.lively bus.old → B.lively bus.new }
+
+        // What it does to its slots and buffers, over any bus.
+        ensures others { self.new ≡ with_owners self.old self.new.buffers [] self.new.pool [] }
+        ensures refilled { IsRefilled self.new }
+        ensures owners { HaveSameNumbers (owners self.old) (owners self.new) }
+        ensures one_owner { HasNoSecondOwner self.new.counts.buffers (owners self.new) }
+
+        // And over one that obeys the law.
+        ensures ran { (up : Bool) (held : List HandedOut) → B.honest bus.old → ReadyWith up (holding held self.old) (B.world bus.old)
+            → Refills up B.world B.happened bus.old bus.new (holding held self.old) (holding held self.new) }
+    {
+        while self.stage(bus) {}
+        self.offer(bus);
+    }
+}

@@ -1,0 +1,81 @@
+-- Stores of initialisation: to the receive slot that stays the driver's, and to the transmit ring while its side is off.
+use Rattle.std.proofs.Common.{false, ◌≡◌, ◌<◌, ◌+◌, ◌*◌, ℕ, List, length, sym, ap, subst, ◌∙◌, arith}
+use Rattle.std.specs.List.{All}
+use Rattle.dma_memory.specs.Areas.{AreApart, Area, IsInside, area_at, descriptor_area}
+use Rattle.dma_memory.specs.AreaLaws.{apart-inside, apart-sym, inside-apart, lies-inside}
+use Rattle.dma_memory.specs.HostMemory.{LiesIn, bytes_at, with_bytes}
+use Rattle.dma_memory.specs.Laws.{bytes_at-elsewhere}
+use Rattle.dma_memory.specs.Layout.{ReceiveBuffer, ReceiveRing, TransmitRing, area_of}
+use Rattle.dma_memory.specs.LayoutLaws.{place-below_size, places-apart}
+use Rattle.descriptors.specs.Ring.{address_of}
+use Rattle.descriptors.specs.RingLaws.{place}
+use Rattle.adapter.specs.HostAreas.{ring_area}
+use Rattle.adapter.specs.World.{World, receive_ring}
+use Rattle.bus.proofs.Lists.{all-none}
+use Rattle.bus.proofs.Rings.{outstanding-inside}
+use Rattle.bus.specs.OwnSlots.{CanBeWritten}
+use Rattle.bus.specs.OwnStores.{IsOwn}
+use Rattle.driver_law.specs.Beginnings.{LastSlotIsStored, TransmitPlaceIsStored}
+use Rattle.driver_law.specs.DriverState.{DriverState, next_received, receive_slot, receive_tail}
+use Rattle.driver_law.specs.Ready.{ReadyWith}
+use Rattle.driver_law.proofs.Buffers.{known-area}
+use Rattle.bus.proofs.OwnSlots.{own_receive_slots_can_be_written}
+use Rattle.driver_law.proofs.Places.{place-add, place-below, places-differ}
+use Rattle.driver_law.proofs.Readiness.{own-staged, stored-kept}
+use Rattle.driver_law.proofs.Stores.{goes-stores, slots-apart}
+use Rattle.driver_law.proofs.TransmitRing.{areas-idle, none-outstanding, place-away, received_areas}
+use Rattle.driver_law.proofs.TransmitSlots.{stored-elsewhere}
+
+pub last_slot_is_stored : LastSlotIsStored
+last_slot_is_stored up driver bytes world ready long =
+    let n = driver.counts.rx in
+    let o = driver.oldest_received in
+    let p = driver.oldest_sent in
+    let i = length driver.buffers in
+    let j = length driver.staged in
+    let room = ready.driver_is.room in
+    let slot = receive_slot (next_received driver) in
+    let area = area_at slot (length bytes) in
+    let walked : place n (receive_tail driver) j ≡ next_received driver = sym (place-add n o i j) in
+    let at : address_of (receive_ring world) (place n (receive_tail driver) j) ≡ slot = omega (arith, ready.receive.begins, ap (λ (index : ℕ). 16 * index) walked) in
+    let own : CanBeWritten o p world slot = subst (CanBeWritten o p world) at (own_receive_slots_can_be_written o p _ world ready.sound (own-staged driver world j ready room)) in
+    let lies : LiesIn world.memory slot (length bytes) = subst (LiesIn world.memory slot) (sym long) own.lies in
+    let below : next_received driver < n = place-below n o (i + j) ready.driver_is.oldest_slot in
+    let inside : IsInside area (area_of driver.counts ReceiveRing) = record { from = omega arith; to = omega (arith, long, below) } in
+    let staged : ℕ → ℕ = λ k. receive_slot (place n (receive_tail driver) k) in
+    let others : (k : ℕ) → k < j → bytes_at (with_bytes world.memory slot bytes) (staged k) 16 ≡ bytes_at world.memory (staged k) 16 = λ k before.
+    bytes_at-elsewhere world.memory bytes slot (staged k) 16 lies
+    (slots-apart (next_received driver) (place n (receive_tail driver) k) (length bytes) long
+    (λ same. places-differ n o (i + k) (i + j) ready.driver_is.oldest_slot (omega (arith, before)) room (place-add n o i k ∙ same))) in
+    goes-stores driver driver.staged driver.pool world slot bytes ready lies (subst (λ (size : ℕ). IsOwn o p world (area_at slot size)) (sym long) own.own) ready.driver_is
+    (stored-kept world.memory (with_bytes world.memory slot bytes) driver.counts (receive_tail driver) driver.staged others ready.stored)
+    (λ number known.
+    apart-inside area (area_of driver.counts ReceiveRing) (area_of driver.counts (ReceiveBuffer number)) inside
+    (places-apart driver.counts ReceiveRing (ReceiveBuffer number) tt known (λ same. absurd (cc))))
+
+-- While the side is off, the place of the transmit ring is the driver's own.
+place-own : (driver : DriverState) (area : Area) (world : World) → ReadyWith false driver world → IsInside area (area_of driver.counts TransmitRing) → IsOwn driver.oldest_received driver.oldest_sent world area
+place-own driver area world ready inside =
+    let o = driver.oldest_received in
+    let p = driver.oldest_sent in
+    let r = ring_area (receive_ring world) in
+    let whole = area_of driver.counts TransmitRing in
+    let received = outstanding-inside (receive_ring world) o ready.sound.receive_slots.slot in
+    let rings : AreApart whole r = subst (AreApart whole) (sym (known-area _ _ _ _ ready.receive)) (places-apart driver.counts TransmitRing ReceiveRing tt tt (λ same. absurd (cc))) in
+    let away : All (λ other. AreApart area other) (received_areas o world) = λ k d below. apart-inside area whole _ inside (apart-sym _ whole (place-away driver world ready k d below)) in
+    record {
+      received = λ k d below. apart-inside area whole _ inside (inside-apart whole _ r (received k d below) rings);
+      sent = subst (λ (slots : List ℕ). All (λ slot. AreApart area (descriptor_area slot)) slots) (sym (none-outstanding driver world ready)) (all-none _);
+      frames = subst (λ (list : List Area). All (AreApart area) list) (sym (areas-idle o world ready.transmit.idle)) away;
+    }
+
+pub transmit_place_is_stored : TransmitPlaceIsStored
+transmit_place_is_stored driver address bytes world ready inside =
+    let counts = driver.counts in
+    let area = area_at address (length bytes) in
+    let whole = area_of counts TransmitRing in
+    let ends = place-below_size counts TransmitRing tt in
+    let lies : LiesIn world.memory address (length bytes) = lies-inside world.memory area whole inside (omega (arith, ends, ready.lies)) in
+    goes-stores driver driver.staged driver.pool world address bytes ready lies (place-own driver area world ready inside) ready.driver_is
+    (stored-elsewhere driver world address bytes ready lies (inside-apart (area_of counts ReceiveRing) area whole inside (places-apart counts ReceiveRing TransmitRing tt tt (λ same. absurd (cc)))))
+    (λ number known. apart-inside area whole (area_of counts (ReceiveBuffer number)) inside (places-apart counts TransmitRing (ReceiveBuffer number) tt known (λ same. absurd (cc))))

@@ -1,0 +1,21 @@
+-- What a write of a register leaves.
+use Rattle.std.proofs.Common.{ℕ, Option, ap}
+use Rattle.adapter.specs.Registers.{left_by_write}
+use Rattle.adapter.specs.TableLaws.{register_at-there}
+use Rattle.adapter.specs.World.{World}
+use Rattle.adapter.specs.declared.register.Register.{Register}
+use Rattle.adapter.specs.declared.register.Register.TheVariants.{Rctl, Tctl, Transmit}
+use Rattle.driver_law.specs.Registers.{ReceiveControlWrites, TransmitControlWrites, TransmitRingWrites}
+
+-- the world that a write leaves, by the register that it finds
+abbrev left : ℕ → World → Option Register → World
+left value world found = record world { adapter = left_by_write found value world.adapter }
+
+pub transmit_ring_writes : TransmitRingWrites
+transmit_ring_writes part value world = ap (left value world) (register_at-there (Transmit part) tt)
+
+pub receive_control_writes : ReceiveControlWrites
+receive_control_writes value world = ap (left value world) (register_at-there Rctl tt)
+
+pub transmit_control_writes : TransmitControlWrites
+transmit_control_writes value world = ap (left value world) (register_at-there Tctl tt)
