@@ -27,7 +27,7 @@ pub asks-fewer : {B : Type 0} (world : B → World) (happened : B → B → Past
 asks-fewer world happened old new offset many few fewer times = record { asks = times.asks; often = let often = times.often in omega arith }
 
 -- An access that leaves the settings, behind whatever happens before it.
-asks-access : {B : Type 0} (world : B → World) (happened : B → B → Past → Type 0) (lively : B → Type 0) (old new : B) (access : Access) (effect : World → World → Type 0) (offset : ℕ)
+abbrev asks-access : {B : Type 0} (world : B → World) (happened : B → B → Past → Type 0) (lively : B → Type 0) (old new : B) (access : Access) (effect : World → World → Type 0) (offset : ℕ)
     → (acts : Acts world happened lively old new access effect) → All (λ write. write.offset ≡ offset) (writes_in (access ∷ []))
     → settings_of (world new).adapter ≡ settings_of acts.middle.adapter → (IsAtRest acts.middle → IsAtRest (world new)) → AsksTimes world happened old new offset 1
 asks-access world happened lively old new access effect offset acts only left rests = record {
@@ -43,14 +43,14 @@ asks-access world happened lively old new access effect offset acts only left re
   often = let one : length acts.past.accesses ≡ 1 = ap length acts.only in omega arith;
 }
 
-pub asks-read : {B : Type 0} (world : B → World) (happened : B → B → Past → Type 0) (lively : B → Type 0) (old new : B) (offset value : ℕ) (answer : World → Type 0)
+abbrev pub asks-read : {B : Type 0} (world : B → World) (happened : B → B → Past → Type 0) (lively : B → Type 0) (old new : B) (offset value : ℕ) (answer : World → Type 0)
     → Acts world happened lively old new (Reads offset value) (λ before after. answer before × (after ≡ world_after_read offset before)) → AsksTimes world happened old new offset 1
 asks-read world happened lively old new offset value answer acts =
     asks-access world happened lively old new (Reads offset value) _ offset acts (all-none (λ write. write.offset ≡ offset))
     (ap (λ (w : World). settings_of w.adapter) acts.effect_is.1 ∙ reads-leave offset acts.middle.adapter)
     (λ rest. subst IsAtRest (sym acts.effect_is.1) (accesses_keep_rest (Reads offset value) acts.middle tt refl rest))
 
-pub asks-write : {B : Type 0} (world : B → World) (happened : B → B → Past → Type 0) (lively : B → Type 0) (old new : B) (offset value : ℕ)
+abbrev pub asks-write : {B : Type 0} (world : B → World) (happened : B → B → Past → Type 0) (lively : B → Type 0) (old new : B) (offset value : ℕ)
     → IsElsewhere (register_at offset) → ((adapter : AdapterState) → settings_of (after_write offset value adapter) ≡ settings_of adapter)
     → Acts world happened lively old new (Writes offset value) (λ before after. after ≡ world_after_write offset value before) → AsksTimes world happened old new offset 1
 asks-write world happened lively old new offset value elsewhere leaves acts =
@@ -60,14 +60,14 @@ asks-write world happened lively old new offset value elsewhere leaves acts =
     (λ rest. subst IsAtRest (sym acts.effect_is) (accesses_keep_rest (Writes offset value) acts.middle elsewhere refl rest))
 
 -- No frame in either stretch is none in both.
-no-frames : (first later : Past) → NoFrame first → NoFrame later → NoFrame (joined first later)
+pub no-frames : (first later : Past) → NoFrame first → NoFrame later → NoFrame (joined first later)
 no-frames first later one two = record {
   none_put = rw (one.none_put, two.none_put) refl;
   none_stored = rw (one.none_stored, two.none_stored) refl;
   none_missed = rw (one.none_missed, two.none_missed) refl;
 }
 
-pub asks-both : {B : Type 0} (world : B → World) (happened : B → B → Past → Type 0) → ((a b c : B) (s t : Past) → happened a b s → happened b c t → happened a c (joined s t))
+abbrev pub asks-both : {B : Type 0} (world : B → World) (happened : B → B → Past → Type 0) → ((a b c : B) (s t : Past) → happened a b s → happened b c t → happened a c (joined s t))
     → (a b c : B) (offset m n : ℕ) → AsksTimes world happened a b offset m → AsksTimes world happened b c offset n → AsksTimes world happened a c offset (m + n)
 asks-both world happened joins a b c offset m n first later =
     let one = first.asks in

@@ -1,5 +1,5 @@
 -- The count of a PHY behind the start of its negotiation, and what its status shows.
-use Rattle.std.proofs.Common.{◌≡◌, ◌≢◌, ◌≤◌, ◌+◌, ◌-◌, ◌*◌, ◌⊎◌, ℕ, zero, suc, Bool, true, false, cond, None, bit_and, inl, inr, refl, sym, ap, subst, ◌∙◌, arith, nat_le}
+use Rattle.std.proofs.Common.{◌≡◌, ◌<◌, ◌≢◌, ◌≤◌, ◌+◌, ◌-◌, ◌*◌, ◌⊎◌, ℕ, zero, suc, Bool, true, false, cond, None, bit_and, inl, inr, refl, sym, ap, subst, ◌∙◌, arith, nat_le}
 use Rattle.std.specs.Bool.{⊤}
 use Rattle.std.specs.Fn.{iterate}
 use Rattle.std.proofs.lemmas.Bool.{false≢true, true≢false}
@@ -48,14 +48,17 @@ stays-up world none up = record {
 
 -- Negotiation behind its start.
 
-pub negotiating : (lively : Type 0) (a : Management) (adapter : AdapterState) (answer : ℕ) → Ends lively restart_words a (management_of adapter) answer → IsNegotiating adapter
-negotiating lively a adapter answer ends =
+pub negotiating : (lively : Type 0) (all : ℕ) (a : Management) (adapter : AdapterState) (answer : ℕ) → Ends lively restart_words all a (management_of adapter) answer
+    → (begun : IsNegotiating adapter) × (begun.ticks < all)
+negotiating lively all a adapter answer ends =
     let link : adapter.phy.link ≡ ends.phy.link = ap (λ (p : PhyState). p.link) ends.leaves ∙ link-iterate ends.later (started ends.phy.link) in
-    record {
+    let begun : IsNegotiating adapter = record {
       ticks = ends.later;
       phy = ends.leaves ∙ ap (λ (l : Link). iterate after_tick ends.later (started l)) (sym link);
       no_command = ap (λ (l : MdicState). l.pending) ends.mdic;
-    }
+    } in
+    let all_are = ends.all_are in
+    (begun, omega arith)
 
 -- At least so many ticks of its count have fallen.
 abbrev pub CountedFor : ℕ → Link → Negotiation → Type 0
@@ -135,16 +138,16 @@ abbrev HasBoth : ℕ → Type 0
 HasBoth value = HasBit value 5 × HasBit value 2
 
 -- Where an answer has bit 2 it has bit 5 too,
-pub seen-of : (lively : Type 0) (a b : Management) (answer : ℕ) → Ends lively status_words a b answer → bit_and answer 0x04 ≢ 0 → HasBit b.mdic.value 5 × HasBit b.mdic.value 2
-seen-of lively a b answer ends set =
+pub seen-of : (lively : Type 0) (all : ℕ) (a b : Management) (answer : ℕ) → Ends lively status_words all a b answer → bit_and answer 0x04 ≢ 0 → HasBit b.mdic.value 5 × HasBit b.mdic.value 2
+seen-of lively all a b answer ends set =
     let at = ends.phy in
     let value : b.mdic.value ≡ answer = ap (λ (l : MdicState). l.value) ends.mdic in
     let both = both-bits (link_is_up at) at.latched_low (λ unset. set (ap (λ (v : ℕ). bit_and v 0x04) ends.answers ∙ unset)) in
     subst HasBoth (sym (value ∙ ends.answers)) both
 
 -- and the link is up.
-pub up-of : (lively : Type 0) (a : Management) (world : World) (answer : ℕ) → Ends lively status_words a (management_of world.adapter) answer → bit_and answer 0x04 ≢ 0 → StaysUp world
-up-of lively a world answer ends set =
+pub up-of : (lively : Type 0) (all : ℕ) (a : Management) (world : World) (answer : ℕ) → Ends lively status_words all a (management_of world.adapter) answer → bit_and answer 0x04 ≢ 0 → StaysUp world
+up-of lively all a world answer ends set =
     let at = ends.phy in
     let up : link_is_up at ≡ true = shows-up (link_is_up at) at.latched_low (λ unset. set (ap (λ (v : ℕ). bit_and v 0x04) ends.answers ∙ unset)) in
     stays-up world (ap (λ (l : MdicState). l.pending) ends.mdic)
@@ -167,8 +170,8 @@ no-rounds adapter begun = record {
   needs = λ some. absurd (omega arith);
 }
 
-pub one-round : (lively : Type 0) (a b : Management) (rounds answer : ℕ) → lively → Ends lively status_words a b answer → NotBoth answer → Rounds rounds a → Rounds (rounds + 1) b
-one-round lively a b rounds answer alive ends down before =
+pub one-round : (lively : Type 0) (all : ℕ) (a b : Management) (rounds answer : ℕ) → lively → Ends lively status_words all a b answer → NotBoth answer → Rounds rounds a → Rounds (rounds + 1) b
+one-round lively all a b rounds answer alive ends down before =
     let at = ends.phy in
     let ticked = ends.ticked alive in
     let is : at ≡ after_tick (iterate after_tick ends.ticks a.phy) = ends.counted ∙ ap after_tick (ticks-none ends.ticks a before.no_command) in

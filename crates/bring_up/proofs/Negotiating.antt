@@ -15,7 +15,7 @@ pub negotiates : {B : Type 0} (world : B → World) (happened : B → B → Past
 negotiates world happened lively old new answer done commands = record {
   asks = commands.asks;
   link = commands.link;
-  started = negotiating (lively old) (line_of (world old)) (world new).adapter answer commands.ends;
+  started = negotiating (lively old) commands.asks.past.phy_ticks (line_of (world old)) (world new).adapter answer commands.ends;
   late = tt;
   in_time = λ ticks. refl;
 }
@@ -48,7 +48,7 @@ commands-both : {B : Type 0} (world : B → World) (happened : B → B → Past 
     → (old now new : B) (rounds : ℕ) (result : Result ℕ InitError) → Awaits world happened lively old now rounds → Commands world happened lively now new status_words result
     → AsksTimes world happened old new 0x0020 (2 * rounds + 2)
 commands-both world happened lively joins old now new rounds result awaits commands =
-    asks-both world happened joins old now new 0x0020 (2 * rounds) 2 awaits.asked (record { asks = commands.asks; often = commands.often })
+    asks-both world happened joins old now new 0x0020 (2 * rounds) 2 awaits.asked (record { asks = commands.asks; often = commands.accesses })
 
 pub awaits-on : {B : Type 0} (world : B → World) (happened : B → B → Past → Type 0) (lively : B → Type 0) → ((a b c : B) (s t : Past) → happened a b s → happened b c t → happened a c (joined s t))
     → (old now new : B) (rounds answer : ℕ) → (lively old → lively now) → Awaits world happened lively old now rounds → Commands world happened lively now new status_words (Ok answer)
@@ -56,7 +56,7 @@ pub awaits-on : {B : Type 0} (world : B → World) (happened : B → B → Past 
 awaits-on world happened lively joins old now new rounds answer alive awaits commands down = record {
   asked = asks-fewer world happened old new 0x0020 (2 * rounds + 2) (2 * (rounds + 1)) (omega arith) (commands-both world happened lively joins old now new rounds (Ok answer) awaits commands);
   link = commands.link ∙ awaits.link;
-  counted = λ ticks begun. one-round (lively now) (line_of (world now)) (line_of (world new)) rounds answer (alive ticks) commands.ends down (awaits.counted ticks begun);
+  counted = λ ticks begun. one-round (lively now) commands.asks.past.phy_ticks (line_of (world now)) (line_of (world new)) rounds answer (alive ticks) commands.ends down (awaits.counted ticks begun);
 }
 
 -- It is seen.
@@ -66,8 +66,8 @@ pub awaits-up : {B : Type 0} (world : B → World) (happened : B → B → Past 
 awaits-up world happened lively joins old now new rounds answer done awaits commands set = record {
   asks = (commands-both world happened lively joins old now new rounds (Ok answer) awaits commands).asks;
   link = commands.link ∙ awaits.link;
-  seen = seen-of (lively now) (line_of (world now)) (line_of (world new)) answer commands.ends set;
-  up = up-of (lively now) (line_of (world now)) (world new) answer commands.ends set;
+  seen = seen-of (lively now) commands.asks.past.phy_ticks (line_of (world now)) (line_of (world new)) answer commands.ends set;
+  up = up-of (lively now) commands.asks.past.phy_ticks (line_of (world now)) (world new) answer commands.ends set;
   late = tt;
   no_link = λ is. absurd (cc);
   in_time = λ ticks is. cc;

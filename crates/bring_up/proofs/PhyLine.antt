@@ -1,5 +1,5 @@
 -- MDIC and the PHY behind ticks and commands.
-use Rattle.std.proofs.Common.{◌≡◌, ◌≢◌, ◌≤◌, ◌||◌, ℕ, zero, suc, Bool, true, false, cond, Option, Some, None, bit_and, inl, inr, refl, sym, ap, subst, ◌∙◌, arith}
+use Rattle.std.proofs.Common.{◌≡◌, ◌+◌, ◌≢◌, ◌≤◌, ◌||◌, ℕ, zero, suc, Bool, true, false, cond, Option, Some, None, bit_and, inl, inr, refl, sym, ap, subst, ◌∙◌, arith}
 use Rattle.std.specs.Fn.{iterate}
 use Rattle.mdic_phy.specs.declared.mdic.Operation.{Operation}
 use Rattle.mdic_phy.specs.declared.mdic.Operation.TheVariants as operation
@@ -141,17 +141,18 @@ not-ended words (suc n) command a b is unset =
     let both : ready_bit ≡ 0 = sym (ready-then words command (after_tick a.phy)) ∙ ap (λ (v : ℕ). bit_and v ready_bit) (sym shown) ∙ unset in
     absurd (omega arith)
 
-pub ends-of : (lively : Type 0) (words n ticks : ℕ) → IsCommand words → (a b : Management) → (lively → 1 ≤ ticks) → b ≡ iterate phy_ticked n (commanded words (iterate phy_ticked ticks a))
-    → bit_and b.mdic.value ready_bit ≢ 0 → Ends lively words a b b.mdic.value
-ends-of lively words zero ticks command a b ticked is set =
+pub ends-of : (lively : Type 0) (words n ticks all : ℕ) → ticks + n ≡ all → IsCommand words → (a b : Management) → (lively → 1 ≤ ticks) → b ≡ iterate phy_ticked n (commanded words (iterate phy_ticked ticks a))
+    → bit_and b.mdic.value ready_bit ≢ 0 → Ends lively words all a b b.mdic.value
+ends-of lively words zero ticks all total command a b ticked is set =
     absurd (set (ap (λ (l : Management). bit_and l.mdic.value ready_bit) is ∙ not-ready-yet words command))
-ends-of lively words (suc n) ticks command a b ticked is set =
+ends-of lively words (suc n) ticks all total command a b ticked is set =
     let middle : Management = iterate phy_ticked ticks a in
     let end = is ∙ ticks-end words n command middle in
     let value = ap (λ (l : Management). l.mdic.value) end in
     record {
       ticks = ticks;
       later = n;
+      all_are = omega arith;
       ticked = ticked;
       phy = after_tick middle.phy;
       counted = refl;

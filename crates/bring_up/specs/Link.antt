@@ -1,5 +1,5 @@
 -- What bring-up asks of the PHY, and what its link is then.
-use Rattle.std.specs.Prelude.{⊤, ◌≡◌, ◌≢◌, ◌≤◌, ◌<◌, ◌⊎◌, ℕ, true, Err, None, Result, IfErr, IfOk, IsOk, length}
+use Rattle.std.specs.Prelude.{⊤, ◌≡◌, ◌≢◌, ◌≤◌, ◌<◌, ◌+◌, ◌⊎◌, ℕ, true, Err, None, Result, IfErr, IfOk, IsOk, length}
 use Rattle.std.specs.Fn.{iterate}
 use Rattle.mdic_phy.specs.declared.phy.Link.{Link}
 use Rattle.mdic_phy.specs.declared.phy.Link.TheVariants.{After, Never}
@@ -44,12 +44,13 @@ status_words = 0x0821_0000
 abbrev pub IsCommand : ℕ → Type 0
 IsCommand words = (words ≡ restart_words) ⊎ (words ≡ status_words)
 
--- A command was given behind some ticks, the next tick ended it, and some came later. MDIC reads this answer.
-pub record Ends (lively : Type 0) (words : ℕ) (a b : Management) (answer : ℕ) : Type 0 where
+-- Of so many ticks in all some came before a command was given, the next one ended it, and the others came later. MDIC reads this answer.
+pub record Ends (lively : Type 0) (words all : ℕ) (a b : Management) (answer : ℕ) : Type 0 where
   pub ticks : ℕ
   pub later : ℕ
+  pub all_are : ticks + 1 + later ≡ all
   pub ticked : lively → 1 ≤ ticks
-  -- the PHY when the tick has lowered its count
+  -- the PHY when the tick that ends the command has lowered its count
   pub phy : PhyState
   pub counted : phy ≡ after_tick (iterate phy_ticked ticks a).phy
   pub answers : answer ≡ ended (operation_of words) (kept words) phy
@@ -59,9 +60,9 @@ pub record Ends (lively : Type 0) (words : ℕ) (a b : Management) (answer : ℕ
 -- A command over an honest bus.
 pub record Commands {B : Type 0} (world : B → World) (happened : B → B → Past → Type 0) (lively : B → Type 0) (old new : B) (words : ℕ) (result : Result ℕ InitError) : Type 0 where
   pub asks : Asks world happened old new 0x0020
-  pub often : 2 ≤ length asks.past.accesses
+  pub accesses : 2 ≤ length asks.past.accesses
   pub link : (world new).adapter.phy.link ≡ (world old).adapter.phy.link
-  pub ends : IfOk result (Ends (lively old) words (management_of (world old).adapter) (management_of (world new).adapter))
+  pub ends : IfOk result (Ends (lively old) words asks.past.phy_ticks (management_of (world old).adapter) (management_of (world new).adapter))
   pub late : IfErr result (λ error. 1000 ≤ length asks.past.accesses)
   pub in_time : lively old → IsOk result
 
@@ -69,7 +70,8 @@ pub record Commands {B : Type 0} (world : B → World) (happened : B → B → P
 pub record Negotiates {B : Type 0} (world : B → World) (happened : B → B → Past → Type 0) (lively : B → Type 0) (old new : B) (result : Result (Unit {0}) InitError) : Type 0 where
   pub asks : Asks world happened old new 0x0020
   pub link : (world new).adapter.phy.link ≡ (world old).adapter.phy.link
-  pub started : IfOk result (λ done. IsNegotiating (world new).adapter)
+  -- It was started in this call: more ticks fell here than since its start.
+  pub started : IfOk result (λ done. (begun : IsNegotiating (world new).adapter) × (begun.ticks < asks.past.phy_ticks))
   pub late : IfErr result (λ error. 1000 ≤ length asks.past.accesses)
   pub in_time : lively old → IsOk result
 
@@ -83,5 +85,5 @@ pub record AwaitsLink {B : Type 0} (world : B → World) (happened : B → B →
   pub late : IfErr result (λ error. 1000 ≤ length asks.past.accesses)
   pub no_link : result ≡ Err NoLink → 2000 ≤ length asks.past.accesses
   pub in_time : lively old → result ≢ Err PhyTimeout
-  -- A link that needs 2,000 ticks is seen, where negotiation was started before.
+  -- Where negotiation was started before, a link that comes up within 2,000 ticks is seen.
   pub slow : lively old → IsNegotiating (world old).adapter → result ≡ Err NoLink → NeedsMoreThan 2000 (world old).adapter.phy.link
