@@ -28,15 +28,16 @@ pub one-number-more : (table numbers : List ℕ) (added : ℕ) → added < 4096 
 one-number-more table numbers added fits holds = record {
   words = length-set table (added / 32) _ ∙ holds.words;
   bits = λ number below.
-      let bits = HasTableBit-with_number table added number (omega (arith, holds.words, fits)) in
-      (λ has. elim (bits.0 has) [
-        | inl same ↦ subst (Contains (numbers ++ added ∷ [])) (sym same) (Contains-push numbers added)
-        | inr before ↦ Contains-append_left numbers (added ∷ []) number ((holds.bits number below).0 before)
-      ],
-      λ has. bits.1 (elim (Contains-append_cases numbers (added ∷ []) number has) [
-        | inl before ↦ inr ((holds.bits number below).1 before)
-        | inr here ↦ inl (one-there added number here)
-      ]));
+      let bits = HasTableBit-with_number table added number (omega (arith, holds.words, fits)) in (
+        λ has. elim (bits.0 has) [
+          | inl same ↦ subst (Contains (numbers ++ added ∷ [])) (sym same) (Contains-push numbers added)
+          | inr before ↦ Contains-append_left numbers (added ∷ []) number ((holds.bits number below).0 before)
+        ],
+        λ has. bits.1 (elim (Contains-append_cases numbers (added ∷ []) number has) [
+          | inl before ↦ inr ((holds.bits number below).1 before)
+          | inr here ↦ inl (one-there added number here)
+        ]),
+      );
 }
 
 -- A word more, at the end.

@@ -22,7 +22,9 @@ pub use eeprom_reading::read_image;
 pub use filter_tables::{group_table, vlan_table, write_addresses, write_groups, write_vlans};
 pub use init_error::InitError;
 pub use link::{await_link, negotiate};
-pub use ring_registers::{RingPlace, enable_receiver, enable_transmitter, set_receive_ring, set_transmit_ring};
+pub use ring_registers::{
+    RingPlace, enable_receiver, enable_transmitter, set_receive_ring, set_transmit_ring,
+};
 
 /// How often a driver reads a register in vain before it gives up (own).
 pub const MOST_READS: u16 = 1000;

@@ -5,9 +5,7 @@ ghost use Rattle.std.specs.Prelude.{◌≡◌, ◌%◌, ◌/◌, ◌^◌};
 ghost use Rattle.bring_up.specs.RingRegisters.{receive_control, receive_writes, ring_writes, transmit_writes};
 ghost use Rattle.bring_up.specs.Sets.{Sets};
 
-use adapter::offsets::{
-    RCTL, RDBAH, RDBAL, RDH, RDLEN, RDT, TCTL, TDBAH, TDBAL, TDH, TDLEN, TDT,
-};
+use adapter::offsets::{RCTL, RDBAH, RDBAL, RDH, RDLEN, RDT, TCTL, TDBAH, TDBAL, TDH, TDLEN, TDT};
 use bitflags::Flags;
 use bus::Bus;
 use registers::{Rctl, Tctl};

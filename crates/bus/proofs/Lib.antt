@@ -34,3 +34,4 @@ pub mod Initialising
 pub mod Waiting
 pub mod Settings
 pub mod Rest
+pub mod PhyLinks

@@ -14,22 +14,23 @@ use Rattle.bus.specs.declared.event.Access.{Access}
 use Rattle.bus.specs.declared.event.Access.TheVariants.{Loads, Reads, Stores, Writes}
 use Rattle.adapter.specs.World.{World}
 use Rattle.bus.proofs.Lists.{all-head, all-left, all-right, all-tail}
-use Rattle.bus.specs.Law.{Happens}
+use Rattle.bus.proofs.PhyLinks.{link-ticks}
+use Rattle.bus.specs.Law.{Management, management_of, Happens}
 use Rattle.bus.specs.Past.{Past, joined}
 use Rattle.bus.specs.Settings.{adapter_with, AreSet, HappeningsLeaveSettings, IsNotReceiveControl, IsOff, LeavesReceiver, NoArrival, Settings, settings_after, settings_after_all, settings_of, SettingsJoin, StaysOff, WhileOff, Write, writes_in, WritesSet}
 
 -- Equal parts are equal settings.
-same-settings : (a b : AdapterState) → b.image ≡ a.image → b.receive_kilobytes ≡ a.receive_kilobytes → b.device_control ≡ a.device_control → b.causes.mask ≡ a.causes.mask
+same-settings : (a b : AdapterState) → b.image ≡ a.image → b.phy.link ≡ a.phy.link → b.receive_kilobytes ≡ a.receive_kilobytes → b.device_control ≡ a.device_control → b.causes.mask ≡ a.causes.mask
     → b.filter ≡ a.filter → b.transmit_control ≡ a.transmit_control → b.receive_ring ≡ record a.receive_ring { head = b.receive_ring.head }
     → b.transmit_ring ≡ record a.transmit_ring { head = b.transmit_ring.head } → settings_of b ≡ settings_of a
-same-settings a b image kilobytes control mask filter transmit_control receive transmit =
+same-settings a b image link kilobytes control mask filter transmit_control receive transmit =
     let headless : RingRegisters → RingRegisters = λ ring. record ring { head = 0 } in
-    rw (image, kilobytes, control, mask, filter, transmit_control, ap headless receive, ap headless transmit) refl
+    rw (image, link, kilobytes, control, mask, filter, transmit_control, ap headless receive, ap headless transmit) refl
 
 pub happenings_leave_settings : HappeningsLeaveSettings
 happenings_leave_settings a b past happens =
     let steady = happens.steady in
-    same-settings a.adapter b.adapter steady.image steady.allocation steady.device_control steady.mask steady.filter steady.transmit_control steady.receive_ring steady.transmit_ring
+    same-settings a.adapter b.adapter steady.image (ap (λ (line : Management). line.phy.link) steady.management ∙ link-ticks past.phy_ticks (management_of a.adapter)) steady.allocation steady.device_control steady.mask steady.filter steady.transmit_control steady.receive_ring steady.transmit_ring
 
 -- A read leaves them.
 read-leaves : (register : Register) (adapter : AdapterState) → settings_of (read_of register adapter) ≡ settings_of adapter

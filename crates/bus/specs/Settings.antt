@@ -1,8 +1,8 @@
--- What a driver has set of an adapter: the registers that only its own writes change (own).
+-- What a driver has set of an adapter: the registers that only its own writes change, beside what nothing changes (own).
 use Rattle.std.specs.Prelude.{⊤, ◌≡◌, ℕ, List, [], ◌∷◌, All, Option, Some}
 use Rattle.registers.specs.Bits.{HasBit}
 use Rattle.mdic_phy.specs.Phy.{new_phy}
-use Rattle.mdic_phy.specs.declared.phy.Link.TheVariants.{Never}
+use Rattle.mdic_phy.specs.declared.phy.Link.{Link}
 use Rattle.rx_filter.specs.Registers.{FilterRegisters}
 use Rattle.adapter.specs.declared.ring.RingRegisters.{RingRegisters}
 use Rattle.adapter.specs.Registers.{adapter_at_reset, after_write}
@@ -17,7 +17,9 @@ use Rattle.bus.specs.declared.event.Access.{Access}
 use Rattle.bus.specs.declared.event.Access.TheVariants.{Loads, Reads, Stores, Writes}
 
 pub record Settings : Type 0 where
+  -- the words of the EEPROM, and how the PHY's link comes up, which nothing changes
   pub image : List ℕ
+  pub link : Link
   -- PBA
   pub receive_kilobytes : ℕ
   -- CTRL
@@ -35,6 +37,7 @@ pub record Settings : Type 0 where
 abbrev pub settings_of : AdapterState → Settings
 settings_of adapter = record {
   image = adapter.image;
+  link = adapter.phy.link;
   receive_kilobytes = adapter.receive_kilobytes;
   device_control = adapter.device_control;
   mask = adapter.causes.mask;
@@ -46,7 +49,7 @@ settings_of adapter = record {
 
 -- an adapter at rest that has these settings
 abbrev pub adapter_with : Settings → AdapterState
-adapter_with settings = record (adapter_at_reset settings.image (new_phy Never) settings.receive_kilobytes) {
+adapter_with settings = record (adapter_at_reset settings.image (new_phy settings.link) settings.receive_kilobytes) {
   device_control = settings.device_control;
   causes = record { recorded = 0; mask = settings.mask };
   filter = settings.filter;
