@@ -1,7 +1,7 @@
 use Rattle.std.proofs.Common.{◌∙◌, inl, inr, refl, arith}
 use Rattle.std.proofs.lemmas.Result.{err_from_is_err_and}
-use Rattle.bring_up.proofs.Counting.{NotBoth}
-use Rattle.bring_up.proofs.Negotiating.{awaits-late, awaits-none, awaits-on, awaits-up, begins}
+use Rattle.bring_up.proofs.LinkTicks.{NotBoth}
+use Rattle.bring_up.proofs.Negotiations.{awaits-late, awaits-none, awaits-on, awaits-up, begins}
 use Rattle.bring_up.proofs.link.await_link.Goals as goal
 use Rattle.bring_up.proofs.link.await_link.Goals.{else-status-ne0-via-then-status-ne0+else-status-ne0-2, else-status-ne0-via-else-status-ne0}
 

@@ -1,5 +1,5 @@
 use Rattle.std.proofs.Common.{◌≡◌}
-use Rattle.bring_up.proofs.Negotiating.{Awaits}
+use Rattle.bring_up.proofs.Negotiations.{Awaits}
 use Rattle.bring_up.proofs.link.await_link.Given as goal
 
 abbrev pub invariant-loop : goal.invariant-loop

@@ -1,5 +1,5 @@
 use Rattle.std.proofs.Common.{◌∙◌}
-use Rattle.bring_up.proofs.Commanding.{answered, gives, unanswered, waits-on}
+use Rattle.bring_up.proofs.PhyCommands.{answered, gives, unanswered, waits-on}
 use Rattle.bring_up.proofs.link.command.Goals as goal
 
 pub loop-init : goal.loop-init

@@ -1,5 +1,5 @@
 use Rattle.std.proofs.Common.{◌≡◌}
-use Rattle.bring_up.proofs.Commanding.{Waits}
+use Rattle.bring_up.proofs.PhyCommands.{Waits}
 use Rattle.bring_up.proofs.link.command.Given as goal
 
 abbrev pub invariant-loop : goal.invariant-loop

@@ -1,5 +1,5 @@
 use Rattle.std.proofs.lemmas.Result.{err_from_is_err_and}
-use Rattle.bring_up.proofs.Negotiating.{negotiates, negotiates-late}
+use Rattle.bring_up.proofs.Negotiations.{negotiates, negotiates-late}
 use Rattle.bring_up.proofs.link.negotiate.Goals as goal
 
 pub returns-in_err-command-clause-negotiates : goal.returns-in_err-command-clause-negotiates

@@ -9,8 +9,9 @@ use Rattle.bus.specs.Past.{Past, joined}
 use Rattle.bus.specs.declared.event.Access.TheVariants.{Reads, Writes}
 use Rattle.bring_up.specs.declared.init_error.InitError.TheVariants.{PhyTimeout}
 use Rattle.bring_up.specs.Link.{Commands, Ends, IsCommand}
-use Rattle.bring_up.proofs.Asking.{AsksTimes, asks-both, asks-read, asks-write}
-use Rattle.bring_up.proofs.PhyLine.{commanded, ends-of, error_bit, link-ticks, not-ended, ready_bit, right-then}
+use Rattle.bring_up.proofs.MdicAccesses.{AsksTimes, asks-both, asks-read, asks-write}
+use Rattle.bring_up.proofs.PhyLine.{commanded, ends-of, error_bit, not-ended, ready_bit, right-then}
+use Rattle.bus.proofs.PhyLinks.{link-ticks}
 
 abbrev pub line_of : World → Management
 line_of world = management_of world.adapter

@@ -6,9 +6,9 @@ use Rattle.bus.specs.Past.{Past, joined, nothing}
 use Rattle.bring_up.specs.declared.init_error.InitError.{InitError}
 use Rattle.bring_up.specs.declared.init_error.InitError.TheVariants.{NoLink, PhyTimeout}
 use Rattle.bring_up.specs.Link.{AwaitsLink, Commands, IsNegotiating, NeedsMoreThan, Negotiates, restart_words, status_words}
-use Rattle.bring_up.proofs.Asking.{AsksTimes, asks-both, asks-fewer, asks-none}
-use Rattle.bring_up.proofs.Commanding.{line_of}
-use Rattle.bring_up.proofs.Counting.{NotBoth, Rounds, negotiating, no-rounds, one-round, seen-of, up-of}
+use Rattle.bring_up.proofs.MdicAccesses.{AsksTimes, asks-both, asks-fewer, asks-none}
+use Rattle.bring_up.proofs.PhyCommands.{line_of}
+use Rattle.bring_up.proofs.LinkTicks.{NotBoth, Rounds, negotiating, no-rounds, one-round, seen-of, up-of}
 
 pub negotiates : {B : Type 0} (world : B → World) (happened : B → B → Past → Type 0) (lively : B → Type 0) (old new : B) (answer : ℕ) (done : Unit {0})
     → Commands world happened lively old new restart_words (Ok answer) → Negotiates world happened lively old new (Ok done)
