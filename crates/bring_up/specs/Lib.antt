@@ -6,3 +6,4 @@ pub mod RingRegisters
 pub mod Configuration
 pub mod Configured
 pub mod Link
+pub mod Device

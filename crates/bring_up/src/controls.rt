@@ -1,6 +1,7 @@
 //! The registers of the whole device: reset, interrupts, packet buffer, link.
 
 ghost use Rattle.std.specs.Prelude.{◌≡◌};
+ghost use Rattle.bus.specs.Rest.{IsAtRest};
 ghost use Rattle.bring_up.specs.Sets.{Sets};
 ghost use Rattle.bring_up.specs.Table.{allocation_writes, link_writes, mask_writes, reset_writes};
 
@@ -17,6 +18,7 @@ pub fn reset_device<B: Bus>(bus: &mut B)
     ensures honest { B.honest bus.old → B.honest bus.new }
     ensures lively { B.lively bus.old → B.lively bus.new }
     ensures sets { B.honest bus.old → Sets B.world B.happened bus.old bus.new reset_writes }
+    ensures rests { B.honest bus.old → IsAtRest (B.world bus.new) }
 {
     bus.write(CTRL, Ctrl::RST.bits());
     bus.write(IMC, u32::MAX);

@@ -4,7 +4,7 @@ use Rattle.std.specs.List.{All}
 use Rattle.registers.specs.Bits.{HasBit}
 use Rattle.registers.specs.Laws.{HasBit-zero}
 use Rattle.adapter.specs.declared.register.Register.{Register}
-use Rattle.adapter.specs.declared.register.Register.TheVariants.{Icr, Mpc, Gprc, Gptc, Receive, Rnbc, Transmit, Rctl}
+use Rattle.adapter.specs.declared.register.Register.TheVariants.{Gprc, Gptc, Icr, Mpc, Rctl, Receive, Rnbc, Transmit}
 use Rattle.adapter.specs.declared.register.RingRegister.TheVariants.{BaseLow, BaseHigh, Length, Head, Tail}
 use Rattle.adapter.specs.declared.ring.RingRegisters.{RingRegisters}
 use Rattle.adapter.specs.Registers.{after_read, after_reset, by_row, is_reset, left_by_read, left_by_write, read_of}
@@ -134,3 +134,35 @@ while_off-joins a b first later set one two = λ off leaves.
     let start = one off before in
     let end = two still (all-right LeavesReceiver (writes_in first.accesses) (writes_in later.accesses) writes) in
     record { none_stored = rw (start.none_stored, end.none_stored) refl; none_missed = rw (start.none_missed, end.none_missed) refl }
+
+-- What nothing changes.
+
+record SameDevice (a b : Settings) : Type 0 where
+  image : b.image ≡ a.image
+  link : b.link ≡ a.link
+
+row-device : (register : Register) (value : ℕ) (settings : Settings) → SameDevice settings (settings_of (by_row (row_of register).kept register value (adapter_with settings)))
+row-device Rctl value settings = record { image = refl; link = refl }
+row-device (Receive part) value settings = record { image = refl; link = refl }
+row-device (Transmit part) value settings = record { image = refl; link = refl }
+row-device _ value settings = record { image = refl; link = refl }
+
+write-device : (write : Write) (settings : Settings) → SameDevice settings (settings_after write settings)
+write-device write settings = by_case (register_at write.offset)
+  where
+    by_test : (register : Register) (test : Bool)
+        → SameDevice settings (settings_of (if test then after_reset (adapter_with settings) else by_row (row_of register).kept register write.value (adapter_with settings)))
+    by_test register true = record { image = refl; link = refl }
+    by_test register false = row-device register write.value settings
+
+    by_case : (found : Option Register) → SameDevice settings (settings_of (left_by_write found write.value (adapter_with settings)))
+    by_case None = record { image = refl; link = refl }
+    by_case (Some register) = by_test register (is_reset register write.value)
+
+pub image-stays : (writes : List Write) (settings : Settings) → (settings_after_all writes settings).image ≡ settings.image
+image-stays [] settings = refl
+image-stays (write ∷ later) settings = image-stays later (settings_after write settings) ∙ (write-device write settings).image
+
+pub link-stays : (writes : List Write) (settings : Settings) → (settings_after_all writes settings).link ≡ settings.link
+link-stays [] settings = refl
+link-stays (write ∷ later) settings = link-stays later (settings_after write settings) ∙ (write-device write settings).link

@@ -1,3 +1,6 @@
+use Rattle.bus.proofs.Lists.{all-none}
+use Rattle.bring_up.proofs.Asides.{mask-aside, reset-rests}
+use Rattle.bring_up.specs.Sets.{IsAside}
 use Rattle.bring_up.proofs.Steps.{sets-join, sets-read, sets-word, sets-write}
 use Rattle.bring_up.proofs.controls.reset_device.Goals as goal
 
@@ -14,3 +17,14 @@ returns-clause-sets g c honest =
     let three = sets-read world happened lively c.write-2.new.self c.read.new.self 0x00C0 c.read.result _ (c.read.ensures.acts (c.write-2.ensures.honest still)) in
     sets-join world happened joins start c.write-2.new.self c.read.new.self _ _
     (sets-join world happened joins start c.write.new.self c.write-2.new.self _ _ one two) three
+
+pub returns-clause-rests : goal.returns-clause-rests
+returns-clause-rests g c honest =
+    let world = g.B.Bus.world in
+    let happened = g.B.Bus.happened in
+    let lively = g.B.Bus.lively in
+    let first = c.write.ensures.acts honest in
+    let still = c.write.ensures.honest honest in
+    let reset = reset-rests c.bits.result first.middle (world c.write.new.self) (c.bits.ensures tt) first.effect_is in
+    let masked = (sets-write world happened lively c.write.new.self c.write-2.new.self 0x00D8 0xFFFFFFFF (c.write-2.ensures.acts still)).rests mask-aside reset in
+    ((sets-read world happened lively c.write-2.new.self c.read.new.self 0x00C0 c.read.result _ (c.read.ensures.acts (c.write-2.ensures.honest still))).rests (all-none IsAside) masked.0).0

@@ -1,0 +1,79 @@
+-- A device is found, step by step.
+use Rattle.std.proofs.Common.{◌≡◌, ◌≤◌, ◌+◌, ◌++◌, ◌∷◌, [], ℕ, List, Result, Ok, Err, IfErr, IfOk, length, length-append, refl, sym, ap, subst, ◌∙◌, arith}
+use Rattle.std.specs.List.{All}
+use Rattle.std.proofs.lemmas.List.Elements.{All-cons}
+use Rattle.eeprom.specs.Image.{HasRightSum}
+use Rattle.mdic_phy.specs.declared.phy.Link.{Link}
+use Rattle.adapter.specs.Table.{IsInTable, register_at, row_of}
+use Rattle.adapter.specs.TableLaws.{register_at-there}
+use Rattle.adapter.specs.World.{World}
+use Rattle.adapter.specs.declared.register.Register.{Register}
+use Rattle.adapter.specs.declared.register.Register.TheVariants.{Ctrl, Imc, Pba}
+use Rattle.bus.specs.Past.{Past, joined}
+use Rattle.bus.specs.Rest.{IsAtRest, IsElsewhere}
+use Rattle.bus.specs.Settings.{Settings, Write, settings_after_all, settings_of}
+use Rattle.bus.proofs.Lists.{all-none}
+use Rattle.bus.proofs.Settings.{image-stays, link-stays, settings-append}
+use Rattle.bring_up.proofs.Asides.{allocation-aside, link-aside}
+use Rattle.bring_up.specs.Device.{FindsDevice, IsFound, IsWhy, IsWhyLively}
+use Rattle.bring_up.specs.EepromReading.{ReadsImage}
+use Rattle.bring_up.specs.Link.{AwaitsLink, IsNegotiating, Negotiates, NeedsMoreThan}
+use Rattle.bring_up.specs.Sets.{Asks, IsAside, Sets}
+use Rattle.bring_up.specs.Table.{allocation_writes, link_writes, reset_writes, write_at}
+use Rattle.bring_up.specs.declared.init_error.InitError.{InitError}
+use Rattle.bring_up.specs.declared.init_error.InitError.TheVariants.{Checksum, EepromTimeout, NoLink, PhyTimeout}
+
+-- The image was read: the device is at rest, as it is behind a reset.
+pub record IsRead {B : Type 0} (world : B → World) (happened : B → B → Past → Type 0) (old new : B) : Type 0 where
+  pub past : Past
+  pub told : happened old new past
+  pub rests : IsAtRest (world new)
+  pub settings : settings_of (world new).adapter ≡ settings_after_all reset_writes (settings_of (world old).adapter)
+
+pub is-read : {B : Type 0} (world : B → World) (happened : B → B → Past → Type 0) → ((a b c : B) (s t : Past) → happened a b s → happened b c t → happened a c (joined s t))
+    → (old middle new : B) → Sets world happened old middle reset_writes → IsAtRest (world middle) → Asks world happened middle new 0x0014 → IsRead world happened old new
+is-read world happened joins old middle new resets rest asks = record {
+  past = joined resets.past asks.past;
+  told = joins old middle new resets.past asks.past resets.told asks.told;
+  rests = (asks.rests rest).0;
+  settings = asks.settings ∙ resets.settings;
+}
+
+-- And the packet buffer is shared out, and the link let come up.
+pub record IsReady {B : Type 0} (world : B → World) (happened : B → B → Past → Type 0) (old new : B) (kilobytes : ℕ) : Type 0 where
+  pub past : Past
+  pub told : happened old new past
+  pub rests : IsAtRest (world new)
+  pub settings : settings_of (world new).adapter ≡ settings_after_all (reset_writes ++ (allocation_writes kilobytes ++ link_writes)) (settings_of (world old).adapter)
+
+-- The EEPROM, and how the link comes up, are those of before.
+pub device-image : (a b : World) (writes : List Write) → settings_of b.adapter ≡ settings_after_all writes (settings_of a.adapter) → b.adapter.image ≡ a.adapter.image
+device-image a b writes set = ap (λ (settings : Settings). settings.image) set ∙ image-stays writes (settings_of a.adapter)
+
+pub device-link : (a b : World) (writes : List Write) → settings_of b.adapter ≡ settings_after_all writes (settings_of a.adapter) → b.adapter.phy.link ≡ a.adapter.phy.link
+device-link a b writes set = ap (λ (settings : Settings). settings.link) set ∙ link-stays writes (settings_of a.adapter)
+
+-- The packet buffer was shared out, and the link let come up, behind that.
+pub is-set : {B : Type 0} (world : B → World) (happened : B → B → Past → Type 0) → ((a b c : B) (s t : Past) → happened a b s → happened b c t → happened a c (joined s t))
+    → (old read shared new : B) (kilobytes : ℕ) → IsRead world happened old read → Sets world happened read shared (allocation_writes kilobytes) → Sets world happened shared new link_writes
+    → IsReady world happened old new kilobytes
+is-set world happened joins old read shared new kilobytes is shares links = record {
+  past = joined is.past (joined shares.past links.past);
+  told = joins old read new is.past (joined shares.past links.past) is.told (joins read shared new shares.past links.past shares.told links.told);
+  rests = (links.rests link-aside (shares.rests (allocation-aside kilobytes) is.rests).0).0;
+  settings =
+      links.settings
+      ∙ ap (settings_after_all link_writes) (shares.settings ∙ ap (settings_after_all (allocation_writes kilobytes)) is.settings)
+      ∙ sym (settings-append (allocation_writes kilobytes) link_writes (settings_after_all reset_writes (settings_of (world old).adapter)))
+      ∙ sym (settings-append reset_writes (allocation_writes kilobytes ++ link_writes) (settings_of (world old).adapter));
+}
+
+-- A register of the PHY was asked behind that.
+pub still-ready : {B : Type 0} (world : B → World) (happened : B → B → Past → Type 0) → ((a b c : B) (s t : Past) → happened a b s → happened b c t → happened a c (joined s t))
+    → (old middle new : B) (kilobytes : ℕ) → IsReady world happened old middle kilobytes → Asks world happened middle new 0x0020 → IsReady world happened old new kilobytes
+still-ready world happened joins old middle new kilobytes is asks = record {
+  past = joined is.past asks.past;
+  told = joins old middle new is.past asks.past is.told asks.told;
+  rests = (asks.rests is.rests).0;
+  settings = asks.settings ∙ is.settings;
+}
