@@ -6,3 +6,5 @@ pub mod RingRegisters
 pub mod Configuration
 pub mod Configured
 pub mod Link
+pub mod RestingRings
+pub mod DriverSteps

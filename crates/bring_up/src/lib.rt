@@ -13,6 +13,7 @@ mod eeprom_reading;
 mod filter_tables;
 mod init_error;
 mod link;
+mod resting_law;
 mod ring_registers;
 
 pub use config::{Config, MOST_GROUPS, MOST_VLANS};
@@ -22,7 +23,10 @@ pub use eeprom_reading::read_image;
 pub use filter_tables::{group_table, vlan_table, write_addresses, write_groups, write_vlans};
 pub use init_error::InitError;
 pub use link::{await_link, negotiate};
-pub use ring_registers::{RingPlace, enable_receiver, enable_transmitter, set_receive_ring, set_transmit_ring};
+pub use resting_law::drivers_begin_at_rest;
+pub use ring_registers::{
+    RingPlace, enable_receiver, enable_transmitter, set_receive_ring, set_transmit_ring,
+};
 
 /// How often a driver reads a register in vain before it gives up (own).
 pub const MOST_READS: u16 = 1000;
