@@ -26,7 +26,7 @@ sets-nothing world happened stays b = record {
 }
 
 -- What came and left in two stretches, where none did in either.
-no-frames : (first later : Past) → NoFrame first → NoFrame later → NoFrame (joined first later)
+pub no-frames : (first later : Past) → NoFrame first → NoFrame later → NoFrame (joined first later)
 no-frames first later one two = record {
   none_put = rw (one.none_put, two.none_put) refl;
   none_stored = rw (one.none_stored, two.none_stored) refl;
@@ -34,7 +34,7 @@ no-frames first later one two = record {
 }
 
 -- Two steps are one.
-pub sets-join : {B : Type 0} (world : B → World) (happened : B → B → Past → Type 0) → ((a b c : B) (s t : Past) → happened a b s → happened b c t → happened a c (joined s t))
+unfoldable pub sets-join : {B : Type 0} (world : B → World) (happened : B → B → Past → Type 0) → ((a b c : B) (s t : Past) → happened a b s → happened b c t → happened a c (joined s t))
     → (a b c : B) (first later : List Write) → Sets world happened a b first → Sets world happened b c later → Sets world happened a c (first ++ later)
 sets-join world happened joins a b c first later one two = record {
   past = joined one.past two.past;
@@ -48,7 +48,7 @@ sets-join world happened joins a b c first later one two = record {
 }
 
 -- An access, behind whatever happens before it.
-sets-access : {B : Type 0} (world : B → World) (happened : B → B → Past → Type 0) (lively : B → Type 0) (old new : B) (access : Access) (effect : World → World → Type 0) (writes : List Write)
+unfoldable pub sets-access : {B : Type 0} (world : B → World) (happened : B → B → Past → Type 0) (lively : B → Type 0) (old new : B) (access : Access) (effect : World → World → Type 0) (writes : List Write)
     → (acts : Acts world happened lively old new access effect) → writes_in (access ∷ []) ≡ writes → settings_of (world new).adapter ≡ settings_after_all writes (settings_of acts.middle.adapter)
     → (All IsAside writes → IsAtRest acts.middle → IsAtRest (world new)) → Sets world happened old new writes
 sets-access world happened lively old new access effect writes acts are set rests = record {
@@ -68,7 +68,7 @@ sets-read world happened lively old new offset value answer acts =
     (ap (λ (w : World). settings_of w.adapter) acts.effect_is.1 ∙ reads-leave offset acts.middle.adapter)
     (λ aside rest. subst IsAtRest (sym acts.effect_is.1) (accesses_keep_rest (Reads offset value) acts.middle tt refl rest))
 
-pub sets-write : {B : Type 0} (world : B → World) (happened : B → B → Past → Type 0) (lively : B → Type 0) (old new : B) (offset value : ℕ)
+unfoldable pub sets-write : {B : Type 0} (world : B → World) (happened : B → B → Past → Type 0) (lively : B → Type 0) (old new : B) (offset value : ℕ)
     → Acts world happened lively old new (Writes offset value) (λ before after. after ≡ world_after_write offset value before) → Sets world happened old new (record { offset = offset; value = value } ∷ [])
 sets-write world happened lively old new offset value acts =
     let write : Write = record { offset = offset; value = value } in

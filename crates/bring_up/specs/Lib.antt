@@ -7,3 +7,5 @@ pub mod Configuration
 pub mod Configured
 pub mod Link
 pub mod Device
+pub mod RestingRings
+pub mod DriverSteps

@@ -2,8 +2,11 @@
 
 ghost use Rattle.std.specs.Prelude.{◌≡◌};
 ghost use Rattle.bus.specs.Rest.{IsAtRest};
+ghost use Rattle.bring_up.specs.DriverSteps.{UnmasksCauses};
 ghost use Rattle.bring_up.specs.Sets.{Sets};
 ghost use Rattle.bring_up.specs.Table.{allocation_writes, link_writes, mask_writes, reset_writes};
+ghost use Rattle.driver_law.specs.DriverState.{DriverState};
+ghost use Rattle.driver_law.specs.Ready.{Ready};
 
 use adapter::offsets::{CTRL, ICR, IMC, IMS, PBA};
 use bitflags::Flags;
@@ -48,13 +51,16 @@ pub fn set_link_up<B: Bus>(bus: &mut B)
 }
 
 /// Unmasks the causes that a driver handles: a frame was transmitted, or received, receive descriptors
-/// become few, or a frame found no room.
+/// become few, or a frame found no room. A driver that is ready stays so, and no work is forgotten behind
+/// it, where no slot was finished before it or RXT0 was recorded.
 pub fn unmask_interrupts<B: Bus>(bus: &mut B)
     ensures extent { B.extent bus.new ≡ B.extent bus.old }
     ensures kept { B.kept bus.old bus.new }
     ensures honest { B.honest bus.old → B.honest bus.new }
     ensures lively { B.lively bus.old → B.lively bus.new }
     ensures sets { B.honest bus.old → Sets B.world B.happened bus.old bus.new mask_writes }
+    ensures unmasks { (d : DriverState) → B.honest bus.old → Ready d (B.world bus.old)
+        → UnmasksCauses B.world B.happened 0xD1 bus.old bus.new d }
 {
     let causes = Cause::TXDW
         .union(Cause::RXDMT0)

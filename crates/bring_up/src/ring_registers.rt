@@ -1,7 +1,17 @@
 //! The registers of both rings, and those that let them run ("14.4 Receive Initialization", "14.5
 //! Transmit Initialization").
 
-ghost use Rattle.std.specs.Prelude.{◌≡◌, ◌%◌, ◌/◌, ◌^◌};
+ghost use Rattle.std.specs.Prelude.{◌≡◌, ◌%◌, ◌/◌, ◌^◌, ◌*◌, ◌<◌, ℕ, [], true, false};
+ghost use Rattle.dma_memory.specs.Layout.{IsRingSize};
+ghost use Rattle.adapter.specs.HostFrames.{frames_held};
+ghost use Rattle.adapter.specs.KnownRing.{KnowsRing};
+ghost use Rattle.adapter.specs.Rings.{new_ring};
+ghost use Rattle.adapter.specs.World.{transmit_ring};
+ghost use Rattle.bus.specs.Settings.{IsOff};
+ghost use Rattle.driver_law.specs.DriverState.{DriverState, transmit_tail};
+ghost use Rattle.driver_law.specs.Ready.{ReadyWith};
+ghost use Rattle.bring_up.specs.DriverSteps.{LeavesDriver, LetsFramesIn, SetsTransmitRing};
+ghost use Rattle.bring_up.specs.RestingRings.{HasNewRings, HasReceiveRing, SetsAtRest};
 ghost use Rattle.bring_up.specs.RingRegisters.{receive_control, receive_writes, ring_writes, transmit_writes};
 ghost use Rattle.bring_up.specs.Sets.{Sets};
 
@@ -28,13 +38,16 @@ pub struct RingPlace {
     pub bytes: u32,
 }
 
-/// Sets up the receive ring, with no slot offered.
+/// Sets up the receive ring, with no slot offered. An adapter at rest whose rings are new stays at rest
+/// where the ring stands at the beginning of memory, and the driver knows its receive ring then.
 pub fn set_receive_ring<B: Bus>(bus: &mut B, ring: RingPlace)
     ensures extent { B.extent bus.new ≡ B.extent bus.old }
     ensures kept { B.kept bus.old bus.new }
     ensures honest { B.honest bus.old → B.honest bus.new }
     ensures lively { B.lively bus.old → B.lively bus.new }
     ensures sets { B.honest bus.old → Sets B.world B.happened bus.old bus.new (ring_writes 0x2800 ring.base ring.bytes) }
+    ensures rests { (rx : ℕ) → B.honest bus.old → IsRingSize rx → ring.base ≡ 0 → ring.bytes ≡ 16 * rx
+        → SetsAtRest B.world B.happened bus.old bus.new (ring_writes 0x2800 ring.base ring.bytes) (HasNewRings rx) (HasReceiveRing rx) }
 {
     bus.write(RDBAL, low_word(ring.base));
     bus.write(RDBAH, high_word(ring.base));
@@ -43,13 +56,18 @@ pub fn set_receive_ring<B: Bus>(bus: &mut B, ring: RingPlace)
     bus.write(RDT, 0);
 }
 
-/// Sets up the transmit ring, with no slot offered.
+/// Sets up the transmit ring, with no slot offered. A driver whose transmit side is off stays ready where
+/// the ring stands at its place of the layout, and knows its transmit ring then.
 pub fn set_transmit_ring<B: Bus>(bus: &mut B, ring: RingPlace)
     ensures extent { B.extent bus.new ≡ B.extent bus.old }
     ensures kept { B.kept bus.old bus.new }
     ensures honest { B.honest bus.old → B.honest bus.new }
     ensures lively { B.lively bus.old → B.lively bus.new }
     ensures sets { B.honest bus.old → Sets B.world B.happened bus.old bus.new (ring_writes 0x3800 ring.base ring.bytes) }
+    ensures ran { (d : DriverState) → B.honest bus.old → ReadyWith false d (B.world bus.old) → d.oldest_sent ≡ 0
+        → (B.world bus.old).adapter.transmit_ring ≡ new_ring → IsRingSize d.counts.rx → IsRingSize d.counts.tx
+        → ring.base ≡ 16 * d.counts.rx → ring.bytes ≡ 16 * d.counts.tx
+        → SetsTransmitRing B.world B.happened (ring_writes 0x3800 ring.base ring.bytes) bus.old bus.new d }
 {
     bus.write(TDBAL, low_word(ring.base));
     bus.write(TDBAH, high_word(ring.base));
@@ -59,13 +77,17 @@ pub fn set_transmit_ring<B: Bus>(bus: &mut B, ring: RingPlace)
 }
 
 /// Lets frames come, broadcast among them, into buffers of 2,048 bytes: all where `promiscuous`, and of
-/// tagged ones those of the VLAN table alone where `by_vlan`.
+/// tagged ones those of the VLAN table alone where `by_vlan`. A driver that is ready, with RCTL.EN 0 and no
+/// frame held, stays so, and none is held behind it.
 pub fn enable_receiver<B: Bus>(bus: &mut B, promiscuous: bool, by_vlan: bool)
     ensures extent { B.extent bus.new ≡ B.extent bus.old }
     ensures kept { B.kept bus.old bus.new }
     ensures honest { B.honest bus.old → B.honest bus.new }
     ensures lively { B.lively bus.old → B.lively bus.new }
     ensures sets { B.honest bus.old → Sets B.world B.happened bus.old bus.new (receive_writes promiscuous by_vlan) }
+    ensures ran { (d : DriverState) → B.honest bus.old → ReadyWith false d (B.world bus.old)
+        → frames_held d.oldest_received (B.world bus.old) ≡ [] → IsOff (B.world bus.old)
+        → LetsFramesIn B.world B.happened (receive_writes promiscuous by_vlan) bus.old bus.new d }
 {
     bus.write(RCTL, receive_control(promiscuous, by_vlan));
 }
@@ -84,13 +106,17 @@ fn receive_control(promiscuous: bool, by_vlan: bool) -> u32
     control.bits()
 }
 
-/// Lets frames leave, short ones padded.
+/// Lets frames leave, short ones padded. A driver that knows its transmit ring is ready with its transmit
+/// side set up then.
 pub fn enable_transmitter<B: Bus>(bus: &mut B)
     ensures extent { B.extent bus.new ≡ B.extent bus.old }
     ensures kept { B.kept bus.old bus.new }
     ensures honest { B.honest bus.old → B.honest bus.new }
     ensures lively { B.lively bus.old → B.lively bus.new }
     ensures sets { B.honest bus.old → Sets B.world B.happened bus.old bus.new (transmit_writes) }
+    ensures ran { (d : DriverState) → B.honest bus.old → ReadyWith false d (B.world bus.old) → d.oldest_sent < d.counts.tx
+        → KnowsRing (transmit_ring (B.world bus.old)) (16 * d.counts.rx) d.counts.tx (transmit_tail d)
+        → LeavesDriver true B.world B.happened transmit_writes bus.old bus.new d }
 {
     bus.write(TCTL, transmit_control());
 }

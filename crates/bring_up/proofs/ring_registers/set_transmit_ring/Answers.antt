@@ -1,4 +1,5 @@
 use Rattle.bring_up.proofs.Steps.{sets-five, sets-word, sets-write}
+use Rattle.bring_up.proofs.TransmitWrites.{sets-transmit_ring}
 use Rattle.bring_up.proofs.ring_registers.set_transmit_ring.Goals as goal
 
 pub returns-clause-sets : goal.returns-clause-sets
@@ -17,3 +18,13 @@ returns-clause-sets g c honest =
     (sets-write world happened lively c.write-2.new.self c.write-3.new.self 0x3808 c.args.ring.bytes (c.write-3.ensures.acts h2))
     (sets-write world happened lively c.write-3.new.self c.write-4.new.self 0x3810 0 (c.write-4.ensures.acts h3))
     (sets-write world happened lively c.write-4.new.self c.write-5.new.self 0x3818 0 (c.write-5.ensures.acts h4))
+
+pub returns-clause-ran : goal.returns-clause-ran
+returns-clause-ran g c d honest ready oldest new rx tx first long =
+    let h1 = c.write.ensures.honest honest in
+    let h2 = c.write-2.ensures.honest h1 in
+    let h3 = c.write-3.ensures.honest h2 in
+    let h4 = c.write-4.ensures.honest h3 in
+    sets-transmit_ring g.B.Bus.world g.B.Bus.happened g.B.Bus.lively g.met.B.Bus.joins c.args.bus.now c.write.new.self c.write-2.new.self c.write-3.new.self c.write-4.new.self c.write-5.new.self
+    c.low_word.result c.high_word.result c.args.ring.base c.args.ring.bytes d c.low_word.ensures c.high_word.ensures first long rx tx oldest
+    (c.write.ensures.acts honest) (c.write-2.ensures.acts h1) (c.write-3.ensures.acts h2) (c.write-4.ensures.acts h3) (c.write-5.ensures.acts h4) ready new

@@ -1,0 +1,191 @@
+-- The receive ring is set up at rest, and a driver begins.
+use Rattle.std.proofs.Common.{◌≡◌, ◌≤◌, ◌<◌, ◌+◌, ◌*◌, ◌/◌, ◌%◌, ◌^◌, ◌++◌, ◌∷◌, [], ℕ, List, length, map, false, inr, refl, sym, ap, subst, ◌∙◌, arith}
+use Rattle.std.specs.List.{take_while}
+use Rattle.std.proofs.lemmas.List.{append-nil}
+use Rattle.std.proofs.lemmas.List.Elements.{All-cons}
+use Rattle.std.proofs.lemmas.List.Kept.{AllPairs-cons}
+use Rattle.registers.specs.Bits.{HasBit, field}
+use Rattle.registers.specs.Laws.{HasBit-zero}
+use Rattle.registers.specs.ReceiveControl.{buffer_size_of}
+use Rattle.dma_memory.specs.Areas.{AreApart, AreSeparate, Area, bytes_in}
+use Rattle.dma_memory.specs.HostMemory.{LiesIn}
+use Rattle.dma_memory.specs.Layout.{IsRingSize, size_of}
+use Rattle.dma_memory.specs.LayoutLaws.{begins}
+use Rattle.dma_memory.specs.Owners.{HasOneOwner}
+use Rattle.descriptors.specs.Ring.{count_of}
+use Rattle.rx_engine.specs.Held.{held}
+use Rattle.tx_engine.specs.Transmitter.{Transmitter}
+use Rattle.adapter.specs.HostAreas.{ring_area}
+use Rattle.adapter.specs.HostFrames.{frames_held, named}
+use Rattle.adapter.specs.KnownRing.{KnowsRing}
+use Rattle.adapter.specs.Rings.{new_ring, ring_distance, ring_of, ring_written}
+use Rattle.adapter.specs.Slots.{finished, is_done, outstanding}
+use Rattle.adapter.specs.World.{World, receive_ring, transmit_ring}
+use Rattle.adapter.specs.declared.register.RingRegister.{RingRegister}
+use Rattle.adapter.specs.declared.register.RingRegister.TheVariants.{BaseHigh, BaseLow, Head, Length, Tail}
+use Rattle.adapter.specs.declared.ring.RingRegisters.{RingRegisters}
+use Rattle.bus.specs.Past.{Past, joined}
+use Rattle.bus.specs.Rest.{IsAtRest}
+use Rattle.bus.specs.Settings.{Write}
+use Rattle.bus.proofs.Idle.{outstanding-none}
+use Rattle.bus.proofs.Lists.{all-none, pairs-none}
+use Rattle.bus.proofs.Rest.{happenings_keep_rest, rest_is_idle}
+use Rattle.driver_law.specs.Beginnings.{HasBegun}
+use Rattle.driver_law.proofs.Beginnings.{drivers_begin}
+use Rattle.driver_law.proofs.Readiness.{none-to_send}
+use Rattle.bring_up.specs.RestingRings.{DriversBeginAtRest, HasNewRings, HasReceiveRing, SetsAtRest}
+use Rattle.bring_up.specs.RingRegisters.{ring_writes}
+use Rattle.bring_up.proofs.DriverAccesses.{WriteActs}
+use Rattle.bring_up.proofs.RingWrites.{IsRingPlace, high-written, length-written, low-written, receive-written, ring-known, ring_at, still-ring, with_receive_ring}
+use Rattle.bring_up.proofs.Steps.{no-frames, sets-access, sets-join, sets-write}
+
+-- At rest, with these registers of the receive ring.
+record HasRing (receives : RingRegisters) (rx : ℕ) (world : World) : Type 0 where
+  rest : IsAtRest world
+  receives_is : world.adapter.receive_ring ≡ receives
+  transmits : world.adapter.transmit_ring ≡ new_ring
+  room : 16 * rx ≤ length world.memory
+
+-- A ring that begins at 0 lies in memory, apart from a new one.
+alone : (memory : List ℕ) (rx : ℕ) (ring : RingRegisters) → 16 * rx ≤ length memory → (ring_of ring).base ≡ 0 → count_of (ring_of ring) ≤ rx
+    → AreSeparate memory (ring_area (ring_of ring) ∷ ring_area (ring_of new_ring) ∷ [])
+alone memory rx ring room first short =
+    let Lies : Area → Type 0 = λ area. LiesIn memory area.address area.size in
+    let r = ring_area (ring_of ring) in
+    let t = ring_area (ring_of new_ring) in
+    record {
+      lie = All-cons Lies r (t ∷ []) (omega (arith, room, first, short)) (All-cons Lies t [] (omega arith) (all-none Lies));
+      apart =
+          AllPairs-cons AreApart r (t ∷ []) (All-cons (AreApart r) t [] (inr (omega arith)) (all-none (AreApart r)))
+          (AllPairs-cons AreApart t [] (all-none (AreApart t)) (pairs-none AreApart));
+    }
+
+-- One register is written.
+rests-write : {B : Type 0} (world : B → World) (happened : B → B → Past → Type 0) (lively : B → Type 0) (old new : B) (part : RingRegister) (value word rx : ℕ) (before after : RingRegisters)
+    → value ≡ word → ring_written part word before ≡ after → after.head ≡ after.tail → (ring_of after).base ≡ 0 → count_of (ring_of after) ≤ rx
+    → WriteActs world happened lively old new (0x2800 + ring_distance part) value
+    → SetsAtRest world happened old new (record { offset = 0x2800 + ring_distance part; value = word } ∷ []) (HasRing before rx) (HasRing after rx)
+unfolding sets-access sets-write
+rests-write world happened lively old new part value word rx before after is written idle first short acted =
+    let acts = subst (WriteActs world happened lively old new (0x2800 + ring_distance part)) is acted in
+    let middle = acts.middle in
+    let steady = acts.before.steady in
+    record {
+      sets = sets-write world happened lively old new (0x2800 + ring_distance part) word acts;
+      behind_is = λ state.
+          let rest = (happenings_keep_rest (world old) middle acts.past acts.before state.rest).0 in
+          let receives : middle.adapter.receive_ring ≡ before =
+          still-ring (world old).adapter.receive_ring middle.adapter.receive_ring steady.receive_ring state.rest.rings.receive rest.rings.receive ∙ state.receives_is in
+          let transmits : middle.adapter.transmit_ring ≡ new_ring =
+          still-ring (world old).adapter.transmit_ring middle.adapter.transmit_ring steady.transmit_ring state.rest.rings.transmit rest.rings.transmit ∙ state.transmits in
+          let room : 16 * rx ≤ length middle.memory = omega (arith, state.room, steady.size) in
+          let done : world new ≡ with_receive_ring after middle =
+          acts.effect_is ∙ receive-written part word middle
+          ∙ ap (λ (ring : RingRegisters). with_receive_ring (ring_written part word ring) middle) receives
+          ∙ ap (λ (ring : RingRegisters). with_receive_ring ring middle) written in
+          let separate : AreSeparate middle.memory (ring_area (ring_of after) ∷ ring_area (transmit_ring middle) ∷ []) =
+          subst (λ (ring : RingRegisters). AreSeparate middle.memory (ring_area (ring_of after) ∷ ring_area (ring_of ring) ∷ [])) (sym transmits) (alone middle.memory rx after room first short) in
+          subst (HasRing after rx) (sym done)
+          (record {
+            rest = record {
+              rings = record { receive = idle; transmit = rest.rings.transmit; separate = separate };
+              receiver = rest.receiver;
+              transmitter = rest.transmitter;
+              control = rest.control;
+              none_missed = rest.none_missed;
+            };
+            receives_is = refl;
+            transmits = transmits;
+            room = room;
+          });
+      no_frame = λ state. (happenings_keep_rest (world old) middle acts.past acts.before state.rest).1;
+    }
+
+-- One step, and then another.
+rests-join : {B : Type 0} (world : B → World) (happened : B → B → Past → Type 0) → ((a b c : B) (s t : Past) → happened a b s → happened b c t → happened a c (joined s t))
+    → (a b c : B) (first later : List Write) (P Q R : World → Type 0) → SetsAtRest world happened a b first P Q → SetsAtRest world happened b c later Q R
+    → SetsAtRest world happened a c (first ++ later) P R
+unfolding sets-join
+rests-join world happened joins a b c first later P Q R one two = record {
+  sets = sets-join world happened joins a b c first later one.sets two.sets;
+  behind_is = λ before. two.behind_is (one.behind_is before);
+  no_frame = λ before. no-frames one.sets.past two.sets.past (one.no_frame before) (two.no_frame (one.behind_is before));
+}
+
+-- All five.
+pub rests-ring : {B : Type 0} (world : B → World) (happened : B → B → Past → Type 0) (lively : B → Type 0) → ((a b c : B) (s t : Past) → happened a b s → happened b c t → happened a c (joined s t))
+    → (b0 b1 b2 b3 b4 b5 : B) (low high base bytes rx : ℕ) → low ≡ base % 2 ^ 32 → high ≡ base / 2 ^ 32 → base ≡ 0 → bytes ≡ 16 * rx → IsRingSize rx
+    → WriteActs world happened lively b0 b1 0x2800 low → WriteActs world happened lively b1 b2 0x2804 high → WriteActs world happened lively b2 b3 0x2808 bytes
+    → WriteActs world happened lively b3 b4 0x2810 0 → WriteActs world happened lively b4 b5 0x2818 0
+    → SetsAtRest world happened b0 b5 (ring_writes 0x2800 base bytes) (HasNewRings rx) (HasReceiveRing rx)
+rests-ring world happened lively joins b0 b1 b2 b3 b4 b5 low high base bytes rx low_is high_is first long size one two three four five =
+    let place : IsRingPlace base rx = record { sixteens = omega (arith, first); below = omega (arith, first); size = size } in
+    let most = size.most in
+    let start : (n : ℕ) → (ring_of (ring_at base n)).base ≡ 0 = λ n. omega (arith, first) in
+    let short : count_of (ring_of (ring_at base bytes)) ≤ rx = omega (arith, long) in
+    let P = λ (ring : RingRegisters). HasRing ring rx in
+    let r0 = ring_at base 0 in
+    let r1 = ring_at base bytes in
+    let all = rests-join world happened joins b0 b1 b5 _ _ (P new_ring) (P r0) (P r1)
+    (rests-write world happened lively b0 b1 BaseLow low (base % 2 ^ 32) rx new_ring r0 low_is (low-written base rx place) refl (start 0) (omega arith) one)
+    (rests-join world happened joins b1 b2 b5 _ _ (P r0) (P r0) (P r1)
+    (rests-write world happened lively b1 b2 BaseHigh high (base / 2 ^ 32) rx r0 r0 high_is (high-written base rx place) refl (start 0) (omega arith) two)
+    (rests-join world happened joins b2 b3 b5 _ _ (P r0) (P r1) (P r1)
+    (rests-write world happened lively b2 b3 Length bytes bytes rx r0 r1 refl (length-written base rx bytes place long) refl (start bytes) short three)
+    (rests-join world happened joins b3 b4 b5 _ _ (P r1) (P r1) (P r1)
+    (rests-write world happened lively b3 b4 Head 0 0 rx r1 r1 refl refl refl (start bytes) short four)
+    (rests-write world happened lively b4 b5 Tail 0 0 rx r1 r1 refl refl refl (start bytes) short five)))) in
+    record {
+      sets = all.sets;
+      behind_is = λ state.
+          let behind = all.behind_is (record { rest = state.rest; receives_is = state.receives; transmits = state.transmits; room = state.room }) in
+          record {
+            rest = behind.rest;
+            knows = subst (λ (ring : RingRegisters). KnowsRing (ring_of ring) 0 rx 0) (sym behind.receives_is) (subst (λ (from : ℕ). KnowsRing (ring_of r1) from rx 0) first (ring-known base rx bytes place long));
+            transmits = behind.transmits;
+          };
+      no_frame = λ state. all.no_frame (record { rest = state.rest; receives_is = state.receives; transmits = state.transmits; room = state.room });
+    }
+
+-- A driver begins.
+
+held-none : (world : World) → IsAtRest world → world.adapter.receive_ring.tail ≡ 0 → frames_held 0 world ≡ []
+held-none world rest first =
+    let ring = receive_ring world in
+    let clear : outstanding ring 0 ≡ [] = subst (λ (oldest : ℕ). outstanding ring oldest ≡ []) first (outstanding-none ring) in
+    let none : finished 0 world ≡ [] = ap (take_while (is_done world.memory)) clear in
+    ap (λ (slots : List ℕ). map (λ (slot : ℕ). bytes_in world.memory (named world.memory slot)) slots ++ held world.memory world.adapter.receiver) none
+    ∙ ap (held world.memory) rest.receiver
+
+pub drivers_begin_at_rest : DriversBeginAtRest
+drivers_begin_at_rest counts pool world allowed owner lies has =
+    let rest = has.rest in
+    let idle = rest_is_idle world rest in
+    let behind = begins counts in
+    let small : size_of counts < 2 ^ 64 = omega (arith, behind.first, allowed.rx.most, allowed.tx.most, allowed.buffers.most) in
+    let buffer = ap (λ (transmitter : Transmitter). transmitter.buffer) rest.transmitter in
+    let transmits = has.transmits in
+    let begun : HasBegun false counts pool world = record {
+      idle = idle.0;
+      runs = idle.1;
+      slots = omega (arith, allowed.rx.least);
+      one_owner = subst (HasOneOwner counts.buffers) (sym (append-nil pool)) owner;
+      addresses = small;
+      lies = lies;
+      size = ap (λ (control : ℕ). buffer_size_of (field control 16 2)) rest.control;
+      receive = has.knows;
+      transmit = record {
+        ends = subst (λ (ring : RingRegisters). (ring_of ring).base + 16 * count_of (ring_of ring) ≤ 16 * counts.rx + 16 * counts.tx) (sym transmits) (omega arith);
+        idle = rest.rings.transmit;
+        last = ap (λ (ring : RingRegisters). ring.tail) transmits;
+        nothing = refl;
+        empty = buffer;
+      };
+    } in
+    record {
+      begun = begun;
+      ready = drivers_begin false counts pool world begun;
+      none_held = held-none world rest has.knows.last;
+      none_to_send = none-to_send world.memory (transmit_ring world) world.adapter.transmitter.buffer buffer rest.rings.transmit;
+      off = subst (λ (control : ℕ). ¬ (HasBit control 1)) (sym rest.control) (HasBit-zero 1);
+    }
