@@ -1,7 +1,8 @@
-use Rattle.bring_up.proofs.SettingGroups.{reset-sets}
-use Rattle.bring_up.proofs.TableSettings.{groups-set}
-use Rattle.bring_up.proofs.RingSettings.{ring_at}
+use Rattle.bring_up.proofs.ConfiguredSettings.{writes-configure}
 use Rattle.bring_up.proofs.configured_law.writes_configure.Goals as goal
 
-pub returns : goal.returns
-returns c = ?
+pub returns-clause-configure : goal.returns-clause-configure
+returns-clause-configure c = writes-configure
+
+pub returns-clause-rings_last : goal.returns-clause-rings_last
+returns-clause-rings_last c = ?
