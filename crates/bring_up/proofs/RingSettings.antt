@@ -17,6 +17,16 @@ use Rattle.bring_up.proofs.TableSettings.{word-kept}
 abbrev pub ring_at : (base bytes : ℕ) → RingRegisters
 ring_at base bytes = record { base_low = base % 2 ^ 32; base_high = base / 2 ^ 32; length_bytes = bytes; head = 0; tail = 0 }
 
+-- the registers as their masks leave them
+abbrev ring_written : (base bytes : ℕ) → RingRegisters
+ring_written base bytes = record {
+  base_low = bit_and (base % 2 ^ 32) 0xFFFFFFF0;
+  base_high = bit_and (base / 2 ^ 32) 0xFFFFFFFF;
+  length_bytes = bit_and bytes 0x000FFF80;
+  head = 0;
+  tail = 0;
+}
+
 -- A base fits its two registers, and a length its own.
 pub record FitsRegisters (base bytes : ℕ) : Type 0 where
   pub aligned : base % 16 ≡ 0
@@ -44,28 +54,28 @@ bytes-kept bytes pieces below =
 slot-kept : (slot : ℕ) → slot < 65536 → bit_and slot 0x0000FFFF ≡ slot
 slot-kept slot below = let whole : slot % 2 ^ 16 ≡ slot = omega arith in and_mask slot 16 ∙ whole
 
-pub receive-ring-sets : (base bytes : ℕ) (adapter : AdapterState) → FitsRegisters base bytes
-    → settings_after_all (ring_writes 0x2800 base bytes) (settings_of adapter) ≡ settings_of (record adapter { receive_ring = ring_at base bytes })
-unfolding register_at array_register_at
-receive-ring-sets base bytes adapter fits =
+ring-kept : (base bytes : ℕ) → FitsRegisters base bytes → ring_written base bytes ≡ ring_at base bytes
+ring-kept base bytes fits =
     let low = low-kept base fits.aligned in
     let high = high-kept base fits.base_below in
     let length = bytes-kept bytes fits.pieces fits.bytes_below in
     rw (low, high, length) refl
+
+pub receive-ring-sets : (base bytes : ℕ) (adapter : AdapterState) → FitsRegisters base bytes
+    → settings_after_all (ring_writes 0x2800 base bytes) (settings_of adapter) ≡ settings_of (record adapter { receive_ring = ring_at base bytes })
+unfolding register_at array_register_at
+receive-ring-sets base bytes adapter fits = ap (λ (ring : RingRegisters). settings_of (record adapter { receive_ring = ring })) (ring-kept base bytes fits)
 
 pub transmit-ring-sets : (base bytes : ℕ) (adapter : AdapterState) → FitsRegisters base bytes
     → settings_after_all (ring_writes 0x3800 base bytes) (settings_of adapter) ≡ settings_of (record adapter { transmit_ring = ring_at base bytes })
 unfolding register_at array_register_at
-transmit-ring-sets base bytes adapter fits =
-    let low = low-kept base fits.aligned in
-    let high = high-kept base fits.base_below in
-    let length = bytes-kept bytes fits.pieces fits.bytes_below in
-    rw (low, high, length) refl
+transmit-ring-sets base bytes adapter fits = ap (λ (ring : RingRegisters). settings_of (record adapter { transmit_ring = ring })) (ring-kept base bytes fits)
 
 pub receive-tail-sets : (slot : ℕ) (adapter : AdapterState) → slot < 65536
     → settings_after_all (write_at 0x2818 slot ∷ []) (settings_of adapter) ≡ settings_of (record adapter { receive_ring = record adapter.receive_ring { tail = slot } })
 unfolding register_at array_register_at
-receive-tail-sets slot adapter below = rw (slot-kept slot below) refl
+receive-tail-sets slot adapter below =
+    ap (λ (kept : ℕ). settings_of (record adapter { receive_ring = record adapter.receive_ring { tail = kept } })) (slot-kept slot below)
 
 -- The ring that is told so has its base and its slots.
 pub base-told : (base bytes : ℕ) → (ring_of (ring_at base bytes)).base ≡ base
