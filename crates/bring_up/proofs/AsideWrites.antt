@@ -1,5 +1,5 @@
 -- Which writes of bring-up are of registers beside RCTL and those of the rings.
-use Rattle.std.proofs.Common.{◌≡◌, ◌++◌, ◌∷◌, ◌+◌, ◌*◌, ◌<◌, ◌≤◌, ◌^◌, [], ℕ, zero, suc, List, Option, Some, length, ap, ◌∙◌, sym, subst, arith}
+use Rattle.std.proofs.Common.{◌≡◌, ◌++◌, ◌∷◌, ◌+◌, ◌*◌, ◌<◌, ◌≤◌, ◌^◌, [], ℕ, zero, suc, List, Some, length, ap, ◌∙◌, sym, subst, arith}
 use Rattle.std.specs.List.{All}
 use Rattle.std.proofs.lemmas.List.Elements.{All-append, All-cons}
 use Rattle.rx_filter.specs.Addresses.{high_word, low_word}
@@ -16,7 +16,8 @@ use Rattle.bring_up.specs.Sets.{IsAside}
 use Rattle.bring_up.specs.Table.{allocation_writes, link_writes, reset_writes, write_at}
 
 -- A write of a register that is found and stands aside.
-aside-found : (offset value : ℕ) (register : Register) → register_at offset ≡ Some register → IsElsewhere (Some register) → IsAside (write_at offset value)
+aside-found : (offset value : ℕ) (register : Register)
+    → register_at offset ≡ Some register → IsElsewhere (Some register) → IsAside (write_at offset value)
 aside-found offset value register found elsewhere = subst IsElsewhere (sym found) elsewhere
 
 aside-one : (write : Write) → IsAside write → All IsAside (write ∷ [])
@@ -38,14 +39,16 @@ unfolding register_at array_register_at
 link-aside = aside-one (write_at 0x0000 0x60) tt
 
 -- a table whose words stand from an offset on
-words-aside : (start : ℕ) (register : ℕ → Register) → ((n : ℕ) → n < 128 → register_at (start + 4 * n) ≡ Some (register n)) → ((n : ℕ) → IsElsewhere (Some (register n)))
+words-aside : (start : ℕ) (register : ℕ → Register)
+    → ((n : ℕ) → n < 128 → register_at (start + 4 * n) ≡ Some (register n)) → ((n : ℕ) → IsElsewhere (Some (register n)))
     → (offset n : ℕ) (words : List ℕ) → offset ≡ start + 4 * n → n + length words ≤ 128 → All IsAside (table_writes offset words)
 words-aside start register there elsewhere offset n [] at fits = all-none IsAside
 words-aside start register there elsewhere offset n (word ∷ words) at fits =
     let within : n < 128 = omega arith in
     let next : offset + 4 ≡ start + 4 * suc n = omega arith in
     let room : suc n + length words ≤ 128 = omega arith in
-    All-cons IsAside (write_at offset word) (table_writes (offset + 4) words) (aside-found offset word (register n) (ap register_at at ∙ there n within) (elsewhere n))
+    All-cons IsAside (write_at offset word) (table_writes (offset + 4) words)
+    (aside-found offset word (register n) (ap register_at at ∙ there n within) (elsewhere n))
     (words-aside start register there elsewhere (offset + 4) (suc n) words next room)
 
 pub groups-aside : (words : List ℕ) → length words ≤ 128 → All IsAside (table_writes 0x5200 words)
@@ -66,7 +69,8 @@ entries-aside entry zero fits = all-none IsAside
 entries-aside entry (suc count) fits =
     let within : entry < 16 = omega arith in
     let room : entry + 1 + count ≤ 16 = omega arith in
-    All-append IsAside (entry_writes entry 0 0) (empty_entries (entry + 1) count) (entry-aside entry 0 0 within) (entries-aside (entry + 1) count room)
+    All-append IsAside (entry_writes entry 0 0) (empty_entries (entry + 1) count)
+    (entry-aside entry 0 0 within) (entries-aside (entry + 1) count room)
 
 pub address-aside : (address : List ℕ) → All IsAside (address_writes address)
 address-aside address =

@@ -1,5 +1,5 @@
 -- What the writes of a ring's registers leave of what an adapter is set to.
-use Rattle.std.proofs.Common.{◌≡◌, ◌∷◌, ◌+◌, ◌-◌, ◌*◌, ◌/◌, ◌%◌, ◌<◌, ◌^◌, [], ℕ, bit_and, refl, sym, ap, ◌∙◌, arith}
+use Rattle.std.proofs.Common.{◌≡◌, ◌∷◌, ◌+◌, ◌*◌, ◌/◌, ◌%◌, ◌<◌, ◌^◌, [], ℕ, bit_and, refl, ap, ◌∙◌, arith}
 use Rattle.std.proofs.lemmas.Grind.{and_high_numeral}
 use Rattle.std.proofs.lemmas.Nat.{and_mask, div-add-mod'}
 use Rattle.descriptors.specs.Ring.{count_of}
@@ -8,9 +8,10 @@ use Rattle.adapter.specs.declared.ring.RingRegisters.{RingRegisters}
 use Rattle.adapter.specs.Rings.{ring_of}
 use Rattle.adapter.specs.State.{AdapterState}
 use Rattle.adapter.specs.Table.{array_register_at, register_at}
-use Rattle.bus.specs.Settings.{settings_after_all, settings_of}
+use Rattle.bus.specs.Settings.{settings_of}
 use Rattle.bring_up.specs.RingRegisters.{ring_writes}
 use Rattle.bring_up.specs.Table.{write_at}
+use Rattle.bring_up.proofs.SettingGroups.{SetTo}
 use Rattle.bring_up.proofs.TableSettings.{word-kept}
 
 -- a ring's registers, by its base and its length in bytes, with head and tail at its first slot
@@ -40,7 +41,8 @@ low-kept : (base : ℕ) → base % 16 ≡ 0 → bit_and (base % 2 ^ 32) 0xFFFFFF
 low-kept base aligned =
     let below : base % 2 ^ 32 < 2 ^ 32 = omega arith in
     let none : base % 2 ^ 32 % 16 ≡ 0 = omega arith in
-    let parts : bit_and (base % 2 ^ 32) 0xFFFFFFF0 + base % 2 ^ 32 % 16 ≡ base % 2 ^ 32 = and_high_numeral (base % 2 ^ 32) 0xFFFFFFEF refl below in
+    let parts : bit_and (base % 2 ^ 32) 0xFFFFFFF0 + base % 2 ^ 32 % 16 ≡ base % 2 ^ 32 =
+    and_high_numeral (base % 2 ^ 32) 0xFFFFFFEF refl below in
     omega arith
 
 high-kept : (base : ℕ) → base < 2 ^ 64 → bit_and (base / 2 ^ 32) 0xFFFFFFFF ≡ base / 2 ^ 32
@@ -62,17 +64,19 @@ ring-kept base bytes fits =
     rw (low, high, length) refl
 
 pub receive-ring-sets : (base bytes : ℕ) (adapter : AdapterState) → FitsRegisters base bytes
-    → settings_after_all (ring_writes 0x2800 base bytes) (settings_of adapter) ≡ settings_of (record adapter { receive_ring = ring_at base bytes })
+    → SetTo (ring_writes 0x2800 base bytes) adapter (record adapter { receive_ring = ring_at base bytes })
 unfolding register_at array_register_at
-receive-ring-sets base bytes adapter fits = ap (λ (ring : RingRegisters). settings_of (record adapter { receive_ring = ring })) (ring-kept base bytes fits)
+receive-ring-sets base bytes adapter fits =
+    ap (λ (ring : RingRegisters). settings_of (record adapter { receive_ring = ring })) (ring-kept base bytes fits)
 
 pub transmit-ring-sets : (base bytes : ℕ) (adapter : AdapterState) → FitsRegisters base bytes
-    → settings_after_all (ring_writes 0x3800 base bytes) (settings_of adapter) ≡ settings_of (record adapter { transmit_ring = ring_at base bytes })
+    → SetTo (ring_writes 0x3800 base bytes) adapter (record adapter { transmit_ring = ring_at base bytes })
 unfolding register_at array_register_at
-transmit-ring-sets base bytes adapter fits = ap (λ (ring : RingRegisters). settings_of (record adapter { transmit_ring = ring })) (ring-kept base bytes fits)
+transmit-ring-sets base bytes adapter fits =
+    ap (λ (ring : RingRegisters). settings_of (record adapter { transmit_ring = ring })) (ring-kept base bytes fits)
 
 pub receive-tail-sets : (slot : ℕ) (adapter : AdapterState) → slot < 65536
-    → settings_after_all (write_at 0x2818 slot ∷ []) (settings_of adapter) ≡ settings_of (record adapter { receive_ring = record adapter.receive_ring { tail = slot } })
+    → SetTo (write_at 0x2818 slot ∷ []) adapter (record adapter { receive_ring = record adapter.receive_ring { tail = slot } })
 unfolding register_at array_register_at
 receive-tail-sets slot adapter below =
     ap (λ (kept : ℕ). settings_of (record adapter { receive_ring = record adapter.receive_ring { tail = kept } })) (slot-kept slot below)

@@ -21,10 +21,10 @@ names_vlans (Some vlans) = true
 abbrev pub AreWords : List ℕ → Type 0
 AreWords words = All (λ word. word < 2 ^ 32) words
 
--- All writes of registers in order, but for those of EERD and MDIC, which ask and set nothing. The tables are those of the configured groups and
--- VLANs.
+-- All writes of registers in order, but for those of EERD and MDIC, which ask and set nothing. The tables are those of the configured
+-- groups and VLANs.
 
--- those before the first register of a ring
+-- those before the rings'
 abbrev pub writes_before_rings : Config → (address groups vlans : List ℕ) → List Write
 writes_before_rings config address groups vlans =
     reset_writes

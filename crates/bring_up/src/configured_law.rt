@@ -2,8 +2,9 @@
 
 ghost use Rattle.bring_up.specs.Configured.{RingsComeLast, WritesConfigure};
 
-/// The writes of bring-up, in order, configure an adapter, whatever it was set to before. The adapter
-/// can't get a frame before those of the rings, since no write before them is of RCTL or of a ring.
+/// What the writes of bring-up do, in order.
+/// - `configure`: they configure an adapter, whatever it was set to before, and leave its EEPROM.
+/// - `rings_last`: those before the rings' are of other registers than RCTL and the rings'.
 pub fn writes_configure()
     ensures configure { WritesConfigure }
     ensures rings_last { RingsComeLast }
