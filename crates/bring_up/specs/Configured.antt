@@ -1,5 +1,5 @@
 -- What an adapter is set to behind bring-up, by its configuration and its Ethernet address, whatever else happened meanwhile.
-use Rattle.std.specs.Prelude.{◌≡◌, ◌<◌, ◌+◌, ◌-◌, ◌*◌, ◌^◌, ◌++◌, ℕ, Bool, true, false, List, ◌∷◌, [], All, Option, None, Some, replicate}
+use Rattle.std.specs.Prelude.{◌≡◌, ◌<◌, ◌+◌, ◌-◌, ◌*◌, ◌^◌, ◌++◌, ℕ, Bool, true, false, List, ◌∷◌, [], All, Option, None, Some, length, replicate}
 use Rattle.arrayvec.specs.declared.array_vec.ArrayVec.{ArrayVec}
 use Rattle.rx_filter.specs.Addresses.{IsAddress, high_word, low_word}
 use Rattle.adapter.specs.Rings.{ring_of}
@@ -8,6 +8,7 @@ use Rattle.bus.specs.Settings.{Settings, Write, settings_after_all}
 use Rattle.bring_up.specs.Configuration.{CanBeHad, vlans_of}
 use Rattle.bring_up.specs.FilterTables.{HasNumbers, address_writes, numbers_of_groups, table_writes}
 use Rattle.bring_up.specs.RingRegisters.{receive_control, receive_writes, ring_writes, transmit_writes}
+use Rattle.bring_up.specs.Sets.{IsAside}
 use Rattle.bring_up.specs.Table.{allocation_writes, link_writes, mask_writes, reset_writes, write_at}
 use Rattle.bring_up.specs.declared.config.Config.{Config}
 
@@ -20,22 +21,31 @@ names_vlans (Some vlans) = true
 abbrev pub AreWords : List ℕ → Type 0
 AreWords words = All (λ word. word < 2 ^ 32) words
 
--- All writes of registers in order, but for those of EERD and MDIC, which ask and set nothing. The tables are those of the configured groups and
--- VLANs.
-abbrev pub all_writes : Config → (address groups vlans : List ℕ) → List Write
-all_writes config address groups vlans =
+-- All writes of registers in order, but for those of EERD and MDIC, which ask and set nothing. The tables are those of the configured
+-- groups and VLANs.
+
+-- those before the rings'
+abbrev pub writes_before_rings : Config → (address groups vlans : List ℕ) → List Write
+writes_before_rings config address groups vlans =
     reset_writes
     ++ (allocation_writes config.rxa
     ++ (link_writes
     ++ (table_writes 0x5200 groups
     ++ (table_writes 0x5600 vlans
-    ++ (address_writes address
-    ++ (ring_writes 0x2800 0 (16 * config.rx)
+    ++ address_writes address))))
+
+-- and those from there on
+abbrev pub writes_from_rings : Config → List Write
+writes_from_rings config =
+    ring_writes 0x2800 0 (16 * config.rx)
     ++ (write_at 0x2818 (config.rx - 1) ∷ []
     ++ (receive_writes config.promiscuous (names_vlans config.vlans)
     ++ (ring_writes 0x3800 (16 * config.rx) (16 * config.tx)
     ++ (transmit_writes
-    ++ mask_writes))))))))))
+    ++ mask_writes))))
+
+abbrev pub all_writes : Config → (address groups vlans : List ℕ) → List Write
+all_writes config address groups vlans = writes_before_rings config address groups vlans ++ writes_from_rings config
 
 -- So the registers stand then.
 pub record IsConfigured (config : Config) (address : List ℕ) (settings : Settings) : Type 0 where
@@ -69,3 +79,9 @@ WritesConfigure =
     → HasNumbers groups (numbers_of_groups config.groups.items) → HasNumbers vlans (vlans_of config.vlans)
     → IsConfigured config address (settings_after_all (all_writes config address groups vlans) settings)
     × ((settings_after_all (all_writes config address groups vlans) settings).image ≡ settings.image)
+
+-- None of those before the rings' is of RCTL or of a ring's register, where the tables have 128 words.
+abbrev pub RingsComeLast : Type 0
+RingsComeLast =
+    (config : Config) (address groups vlans : List ℕ) → length groups ≡ 128 → length vlans ≡ 128
+    → All IsAside (writes_before_rings config address groups vlans)

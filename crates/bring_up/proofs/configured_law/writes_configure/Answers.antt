@@ -1,0 +1,9 @@
+use Rattle.bring_up.proofs.AsideWrites.{rings-last}
+use Rattle.bring_up.proofs.ConfiguredSettings.{writes-configure}
+use Rattle.bring_up.proofs.configured_law.writes_configure.Goals as goal
+
+pub returns-clause-configure : goal.returns-clause-configure
+returns-clause-configure c = writes-configure
+
+pub returns-clause-rings_last : goal.returns-clause-rings_last
+returns-clause-rings_last c = rings-last
