@@ -1,15 +1,14 @@
 -- Writes that leave an adapter at rest, and a reset, behind which it is.
-use Rattle.std.proofs.Common.{◌≡◌, ◌∷◌, [], ℕ, List, Option, Some, refl, sym, ap, subst, ◌∙◌}
+use Rattle.std.proofs.Common.{◌≡◌, ◌∷◌, [], ℕ, Option, Some, sym, ap, subst, ◌∙◌}
 use Rattle.std.specs.List.{All}
 use Rattle.std.proofs.lemmas.List.Elements.{All-cons}
-use Rattle.adapter.specs.Table.{IsInTable, register_at, row_of}
+use Rattle.adapter.specs.Table.{IsInTable, row_of}
 use Rattle.adapter.specs.TableLaws.{register_at-there}
 use Rattle.adapter.specs.World.{World, world_after_write}
 use Rattle.adapter.specs.declared.register.Register.{Register}
 use Rattle.adapter.specs.declared.register.Register.TheVariants.{Ctrl, Imc, Pba}
 use Rattle.adapter.specs.Registers.{after_reset, left_by_write}
 use Rattle.bus.specs.Rest.{IsAtRest, IsElsewhere}
-use Rattle.bus.specs.Settings.{Write}
 use Rattle.bus.proofs.Lists.{all-none}
 use Rattle.bus.proofs.Rest.{rest_after_reset}
 use Rattle.bring_up.specs.Sets.{IsAside}

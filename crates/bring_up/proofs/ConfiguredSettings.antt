@@ -2,7 +2,7 @@
 use Rattle.std.proofs.Common.{◌≡◌, ◌++◌, ◌∷◌, ◌+◌, ◌-◌, ◌*◌, ◌<◌, ◌^◌, [], ℕ, List, length, replicate, refl, sym, subst, arith}
 use Rattle.std.proofs.lemmas.List.{length-replicate}
 use Rattle.mdic_phy.specs.Phy.{new_phy}
-use Rattle.mdic_phy.specs.declared.phy.Link.TheVariants.{Never}
+use Rattle.mdic_phy.specs.declared.phy.Link.{Link}
 use Rattle.rx_filter.specs.Addresses.{IsAddress, high_word, low_word}
 use Rattle.rx_filter.specs.Registers.{FilterRegisters}
 use Rattle.adapter.specs.Registers.{adapter_at_reset}
@@ -31,24 +31,24 @@ filter_written address groups vlans = record {
 }
 
 -- an adapter when all but the rings and what follows has been written
-abbrev adapter_before_rings : Config → (address groups vlans image : List ℕ) → AdapterState
-adapter_before_rings config address groups vlans image = record (adapter_at_reset image (new_phy Never) config.rxa) {
+abbrev adapter_before_rings : Config → (address groups vlans image : List ℕ) → Link → AdapterState
+adapter_before_rings config address groups vlans image link = record (adapter_at_reset image (new_phy link) config.rxa) {
   device_control = 0x60;
   filter = filter_written address groups vlans;
 }
 
 -- behind a reset
-tables-set : (config : Config) (address groups vlans image : List ℕ)
+tables-set : (config : Config) (address groups vlans image : List ℕ) (link : Link)
     → IsAddress address → length groups ≡ 128 → length vlans ≡ 128 → AreWords groups → AreWords vlans
     → SetTo (table_writes 0x5200 groups ++ (table_writes 0x5600 vlans ++ address_writes address))
-    (record (adapter_at_reset image (new_phy Never) config.rxa) { device_control = 0x60 })
-    (adapter_before_rings config address groups vlans image)
-tables-set config address groups vlans image is groups_whole vlans_whole groups_are vlans_are =
+    (record (adapter_at_reset image (new_phy link) config.rxa) { device_control = 0x60 })
+    (adapter_before_rings config address groups vlans image link)
+tables-set config address groups vlans image link is groups_whole vlans_whole groups_are vlans_are =
     let empty : length {A = ℕ} (replicate 128 0) ≡ 128 = length-replicate {A = ℕ} 128 0 in
-    let linked : AdapterState = record (adapter_at_reset image (new_phy Never) config.rxa) { device_control = 0x60 } in
+    let linked : AdapterState = record (adapter_at_reset image (new_phy link) config.rxa) { device_control = 0x60 } in
     let grouped : AdapterState = record linked { filter = record linked.filter { mta = groups } } in
     let tagged : AdapterState = record grouped { filter = record grouped.filter { vfta = vlans } } in
-    let end : AdapterState = adapter_before_rings config address groups vlans image in
+    let end : AdapterState = adapter_before_rings config address groups vlans image link in
     let tags = set-join (table_writes 0x5600 vlans) (address_writes address) grouped tagged end
     (vlans-set vlans grouped vlans_whole empty vlans_are)
     (address-set address (address_low_at_reset 0 image) (address_high_at_reset 0 image) tagged is) in
@@ -58,24 +58,24 @@ tables-set config address groups vlans image is groups_whole vlans_whole groups_
 before-rings : (config : Config) (address groups vlans : List ℕ) (size : ℕ) (settings : Settings)
     → CanBeHad config size → IsAddress address → length groups ≡ 128 → length vlans ≡ 128 → AreWords groups → AreWords vlans
     → settings_after_all (writes_before_rings config address groups vlans) settings
-    ≡ settings_of (adapter_before_rings config address groups vlans settings.image)
+    ≡ settings_of (adapter_before_rings config address groups vlans settings.image settings.link)
 before-rings config address groups vlans size settings had is groups_whole vlans_whole groups_are vlans_are =
     let tables = table_writes 0x5200 groups ++ (table_writes 0x5600 vlans ++ address_writes address) in
-    let start : AdapterState = adapter_at_reset settings.image (new_phy Never) settings.receive_kilobytes in
+    let start : AdapterState = adapter_at_reset settings.image (new_phy settings.link) settings.receive_kilobytes in
     let allocated : AdapterState = record start { receive_kilobytes = config.rxa } in
     let linked : AdapterState = record allocated { device_control = 0x60 } in
-    let end : AdapterState = adapter_before_rings config address groups vlans settings.image in
+    let end : AdapterState = adapter_before_rings config address groups vlans settings.image settings.link in
     let behind = set-join link_writes tables allocated linked end (link-sets allocated)
-    (tables-set config address groups vlans settings.image is groups_whole vlans_whole groups_are vlans_are) in
+    (tables-set config address groups vlans settings.image settings.link is groups_whole vlans_whole groups_are vlans_are) in
     let rest = set-join (allocation_writes config.rxa) (link_writes ++ tables) start allocated end
     (allocation-sets config.rxa start had.numbers.allocation) behind in
     groups-join reset_writes (allocation_writes config.rxa ++ (link_writes ++ tables)) settings (settings_of start) (settings_of end)
     (reset-sets settings) rest
 
 -- an adapter when all is written
-abbrev adapter_configured : Config → (address groups vlans image : List ℕ) → AdapterState
-adapter_configured config address groups vlans image =
-    let before = adapter_before_rings config address groups vlans image in
+abbrev adapter_configured : Config → (address groups vlans image : List ℕ) → Link → AdapterState
+adapter_configured config address groups vlans image link =
+    let before = adapter_before_rings config address groups vlans image link in
     record before {
       causes = record { recorded = 0; mask = 0xD1 };
       filter = record before.filter { rctl = receive_control config.promiscuous (names_vlans config.vlans) };
@@ -84,10 +84,10 @@ adapter_configured config address groups vlans image =
       transmit_ring = ring_at (16 * config.rx) (16 * config.tx);
     }
 
-from-rings : (config : Config) (address groups vlans image : List ℕ) (size : ℕ) → CanBeHad config size
-    → SetTo (writes_from_rings config) (adapter_before_rings config address groups vlans image)
-    (adapter_configured config address groups vlans image)
-from-rings config address groups vlans image size had =
+from-rings : (config : Config) (address groups vlans image : List ℕ) (link : Link) (size : ℕ) → CanBeHad config size
+    → SetTo (writes_from_rings config) (adapter_before_rings config address groups vlans image link)
+    (adapter_configured config address groups vlans image link)
+from-rings config address groups vlans image link size had =
     let counts = had.counts in
     let rx_most = counts.rx.most in
     let near : config.rx < 2 ^ 32 = omega arith in
@@ -98,13 +98,13 @@ from-rings config address groups vlans image size had =
     let tail_part = write_at 0x2818 (config.rx - 1) ∷ [] in
     let passing = receive_writes config.promiscuous tagged in
     let sending = transmit_part ++ (transmit_writes ++ mask_writes) in
-    let start : AdapterState = adapter_before_rings config address groups vlans image in
+    let start : AdapterState = adapter_before_rings config address groups vlans image link in
     let ringed : AdapterState = record start { receive_ring = ring_at 0 (16 * config.rx) } in
     let tailed : AdapterState = record ringed { receive_ring = record ringed.receive_ring { tail = config.rx - 1 } } in
     let passes : AdapterState = record tailed { filter = record tailed.filter { rctl = receive_control config.promiscuous tagged } } in
     let both : AdapterState = record passes { transmit_ring = ring_at (16 * config.rx) (16 * config.tx) } in
     let sends : AdapterState = record both { transmit_control = 0x000400FA } in
-    let end : AdapterState = adapter_configured config address groups vlans image in
+    let end : AdapterState = adapter_configured config address groups vlans image link in
     let receive_fits = ring-fits 0 config.rx (omega arith) counts.rx in
     let transmit_fits = ring-fits config.rx config.tx near counts.tx in
     set-join receive_part (tail_part ++ (passing ++ sending)) start ringed end
@@ -118,12 +118,12 @@ from-rings config address groups vlans image size had =
 pub writes-configure : WritesConfigure
 writes-configure config address groups vlans size settings had is groups_are vlans_are has_groups has_vlans =
     let counts = had.counts in
-    let middle = settings_of (adapter_before_rings config address groups vlans settings.image) in
-    let after = settings_of (adapter_configured config address groups vlans settings.image) in
+    let middle = settings_of (adapter_before_rings config address groups vlans settings.image settings.link) in
+    let after = settings_of (adapter_configured config address groups vlans settings.image settings.link) in
     let all : settings_after_all (all_writes config address groups vlans) settings ≡ after =
     groups-join (writes_before_rings config address groups vlans) (writes_from_rings config) settings middle after
     (before-rings config address groups vlans size settings had is has_groups.words has_vlans.words groups_are vlans_are)
-    (from-rings config address groups vlans settings.image size had) in
+    (from-rings config address groups vlans settings.image settings.link size had) in
     subst (λ (s : Settings). IsConfigured config address s × (s.image ≡ settings.image)) (sym all) (
       record {
         device_control = refl;

@@ -1,27 +1,13 @@
 -- A device is found, step by step.
-use Rattle.std.proofs.Common.{◌≡◌, ◌≤◌, ◌+◌, ◌++◌, ◌∷◌, [], ℕ, List, Result, Ok, Err, IfErr, IfOk, length, length-append, refl, sym, ap, subst, ◌∙◌, arith}
-use Rattle.std.specs.List.{All}
-use Rattle.std.proofs.lemmas.List.Elements.{All-cons}
-use Rattle.eeprom.specs.Image.{HasRightSum}
-use Rattle.mdic_phy.specs.declared.phy.Link.{Link}
-use Rattle.adapter.specs.Table.{IsInTable, register_at, row_of}
-use Rattle.adapter.specs.TableLaws.{register_at-there}
+use Rattle.std.proofs.Common.{◌≡◌, ◌++◌, ℕ, List, sym, ap, ◌∙◌}
 use Rattle.adapter.specs.World.{World}
-use Rattle.adapter.specs.declared.register.Register.{Register}
-use Rattle.adapter.specs.declared.register.Register.TheVariants.{Ctrl, Imc, Pba}
 use Rattle.bus.specs.Past.{Past, joined}
-use Rattle.bus.specs.Rest.{IsAtRest, IsElsewhere}
+use Rattle.bus.specs.Rest.{IsAtRest}
 use Rattle.bus.specs.Settings.{Settings, Write, settings_after_all, settings_of}
-use Rattle.bus.proofs.Lists.{all-none}
 use Rattle.bus.proofs.Settings.{image-stays, link-stays, settings-append}
 use Rattle.bring_up.proofs.Asides.{allocation-aside, link-aside}
-use Rattle.bring_up.specs.Device.{FindsDevice, IsFound, IsWhy, IsWhyLively}
-use Rattle.bring_up.specs.EepromReading.{ReadsImage}
-use Rattle.bring_up.specs.Link.{AwaitsLink, IsNegotiating, Negotiates, NeedsMoreThan}
-use Rattle.bring_up.specs.Sets.{Asks, IsAside, Sets}
-use Rattle.bring_up.specs.Table.{allocation_writes, link_writes, reset_writes, write_at}
-use Rattle.bring_up.specs.declared.init_error.InitError.{InitError}
-use Rattle.bring_up.specs.declared.init_error.InitError.TheVariants.{Checksum, EepromTimeout, NoLink, PhyTimeout}
+use Rattle.bring_up.specs.Sets.{Asks, Sets}
+use Rattle.bring_up.specs.Table.{allocation_writes, link_writes, reset_writes}
 
 -- The image was read: the device is at rest, as it is behind a reset.
 pub record IsRead {B : Type 0} (world : B → World) (happened : B → B → Past → Type 0) (old new : B) : Type 0 where

@@ -1,16 +1,11 @@
 -- MDIC and the PHY behind ticks and commands.
-use Rattle.std.proofs.Common.{◌≡◌, ◌+◌, ◌≢◌, ◌≤◌, ◌||◌, ℕ, zero, suc, Bool, true, false, cond, Option, Some, None, bit_and, inl, inr, refl, sym, ap, subst, ◌∙◌, arith}
+use Rattle.std.proofs.Common.{◌≡◌, ◌+◌, ◌≢◌, ◌≤◌, ◌||◌, ℕ, zero, suc, Bool, true, false, cond, Option, None, bit_and, inl, inr, refl, sym, ap, subst, ◌∙◌, arith}
 use Rattle.std.specs.Fn.{iterate}
 use Rattle.mdic_phy.specs.declared.mdic.Operation.{Operation}
-use Rattle.mdic_phy.specs.declared.mdic.Operation.TheVariants as operation
 use Rattle.mdic_phy.specs.declared.phy.Negotiation.{Negotiation}
 use Rattle.mdic_phy.specs.declared.phy.Negotiation.TheVariants.{NotStarted, Running, Complete}
-use Rattle.mdic_phy.specs.Mdic.{MdicState, after_write, data_of, ended, has_work, kept, mdic_after_tick, operation_of, phy_after_tick, phy_ended, reaches_phy, regadd, with_data, with_ready}
-use Rattle.mdic_phy.specs.Phy.{PhyState, after_tick, counted, is_complete, is_counting, link_is_up}
-use Rattle.mdic_phy.specs.Phy as state
-use Rattle.mdic_phy.specs.PhyHistory as phy
-use Rattle.mdic_phy.specs.PhyLaws.{link-after_event}
-use Rattle.bus.proofs.PhyLinks.{link-ended, link-ticks}
+use Rattle.mdic_phy.specs.Mdic.{MdicState, after_write, ended, kept, operation_of, phy_ended, with_data, with_ready}
+use Rattle.mdic_phy.specs.Phy.{PhyState, after_tick, is_counting, link_is_up}
 use Rattle.bus.specs.Law.{Management, phy_ticked}
 use Rattle.bring_up.specs.Link.{Ends, IsCommand, restart_words, status_words}
 

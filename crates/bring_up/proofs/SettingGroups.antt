@@ -2,7 +2,6 @@
 use Rattle.std.proofs.Common.{◌≡◌, ◌++◌, ◌%◌, ℕ, Bool, true, false, List, refl, ap, ◌∙◌, arith}
 use Rattle.std.proofs.lemmas.Bool.Decides.{nat_tests}
 use Rattle.mdic_phy.specs.Phy.{new_phy}
-use Rattle.mdic_phy.specs.declared.phy.Link.TheVariants.{Never}
 use Rattle.adapter.specs.PacketBuffer.{IsAllocation, allocation_written}
 use Rattle.adapter.specs.Registers.{adapter_at_reset}
 use Rattle.adapter.specs.State.{AdapterState}
@@ -27,7 +26,7 @@ set-join first later old middle new one two = groups-join first later (settings_
 
 -- A reset leaves the EEPROM and PBA.
 pub reset-sets : (settings : Settings)
-    → settings_after_all reset_writes settings ≡ settings_of (adapter_at_reset settings.image (new_phy Never) settings.receive_kilobytes)
+    → settings_after_all reset_writes settings ≡ settings_of (adapter_at_reset settings.image (new_phy settings.link) settings.receive_kilobytes)
 unfolding register_at array_register_at
 reset-sets settings = refl
 

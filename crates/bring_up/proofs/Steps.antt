@@ -1,13 +1,12 @@
 -- Accesses of bring-up, one behind the other.
-use Rattle.std.proofs.Common.{◌≡◌, ◌++◌, ◌∷◌, [], ℕ, List, length, refl, sym, ap, subst, ◌∙◌}
+use Rattle.std.proofs.Common.{◌≡◌, ◌++◌, ◌∷◌, [], ℕ, List, refl, sym, ap, subst, ◌∙◌}
 use Rattle.std.specs.List.{All}
 use Rattle.std.proofs.lemmas.List.Elements.{All-append}
-use Rattle.adapter.specs.State.{AdapterState}
-use Rattle.adapter.specs.World.{World, world_after_read, world_after_store, world_after_write}
-use Rattle.bus.specs.Law.{Acts, Happens}
+use Rattle.adapter.specs.World.{World, world_after_read, world_after_write}
+use Rattle.bus.specs.Law.{Acts}
 use Rattle.bus.specs.Past.{Past, joined, nothing}
 use Rattle.bus.specs.declared.event.Access.{Access}
-use Rattle.bus.specs.declared.event.Access.TheVariants.{Loads, Reads, Stores, Writes}
+use Rattle.bus.specs.declared.event.Access.TheVariants.{Reads, Writes}
 use Rattle.bus.specs.Rest.{IsAtRest, NoFrame}
 use Rattle.bus.specs.Settings.{Settings, Write, settings_after_all, settings_of, writes_in}
 use Rattle.bus.proofs.Lists.{all-head, all-left, all-none, all-right}

@@ -1,6 +1,6 @@
 -- What bring-up writes, register by register, in order ("14.3 General Initialization", "14.4 Receive Initialization", "14.5 Transmit
 -- Initialization"; the order is own).
-use Rattle.std.specs.Prelude.{◌+◌, ◌*◌, ℕ, List, [], ◌∷◌}
+use Rattle.std.specs.Prelude.{ℕ, List, [], ◌∷◌}
 use Rattle.bus.specs.Settings.{Write}
 
 abbrev pub write_at : ℕ → ℕ → Write
