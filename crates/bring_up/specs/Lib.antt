@@ -8,3 +8,4 @@ pub mod Configured
 pub mod Link
 pub mod RestingRings
 pub mod DriverSteps
+pub mod ClearedDescriptors

@@ -9,6 +9,7 @@
 mod config;
 mod configured_law;
 mod controls;
+mod descriptors_clearing;
 mod eeprom_reading;
 mod filter_tables;
 mod init_error;
@@ -19,6 +20,7 @@ mod ring_registers;
 pub use config::{Config, MOST_GROUPS, MOST_VLANS};
 pub use configured_law::writes_configure;
 pub use controls::{allocate_packet_buffer, reset_device, set_link_up, unmask_interrupts};
+pub use descriptors_clearing::{clear_descriptor, clear_descriptors};
 pub use eeprom_reading::read_image;
 pub use filter_tables::{group_table, vlan_table, write_addresses, write_groups, write_vlans};
 pub use init_error::InitError;
