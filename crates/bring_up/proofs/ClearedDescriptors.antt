@@ -1,0 +1,170 @@
+-- A driver clears descriptors of its own.
+use Rattle.std.proofs.Common.{Bool, false, ◌≡◌, ◌≤◌, ◌<◌, ◌+◌, ◌-◌, ◌*◌, ◌^◌, ◌++◌, ◌∷◌, [], ℕ, zero, suc, List, length, map, replicate, inr, refl, sym, ap, subst, ◌∙◌, arith}
+use Rattle.std.specs.List.{All}
+use Rattle.std.proofs.Math.Nat.{mod-eq_of_lt}
+use Rattle.dma_memory.specs.Areas.{AreApart, AreSeparate, Area, area_at, descriptor_area}
+use Rattle.dma_memory.specs.AreaLaws.{apart-inside, apart-sym, inside-apart}
+use Rattle.dma_memory.specs.HostMemory.{LiesIn, bytes_at, with_bytes}
+use Rattle.dma_memory.specs.Laws.{bytes_at-elsewhere}
+use Rattle.dma_memory.specs.Layout.{ReceiveBuffer, ReceiveRing, TransmitRing, area_of}
+use Rattle.dma_memory.specs.LayoutLaws.{places-apart}
+use Rattle.descriptors.specs.Ring.{address_of}
+use Rattle.descriptors.specs.RingLaws.{place}
+use Rattle.adapter.specs.HostAreas.{data_of, frame_areas, offered_buffers, ring_area, work_areas}
+use Rattle.adapter.specs.HostFrames.{named}
+use Rattle.adapter.specs.Slots.{finished, outstanding}
+use Rattle.adapter.specs.World.{World, receive_ring, transmit_ring, world_after_store}
+use Rattle.adapter.specs.declared.ring.RingRegisters.{RingRegisters}
+use Rattle.bus.specs.Initialising.{with_transmit_ring}
+use Rattle.bus.specs.Law.{Acts}
+use Rattle.bus.specs.OwnSlots.{CanBeWritten}
+use Rattle.bus.specs.OwnStores.{IsOwn}
+use Rattle.bus.specs.Past.{Past, nothing}
+use Rattle.bus.specs.declared.event.Access.TheVariants.{Stores}
+use Rattle.bus.proofs.Idle.{offered-none, outstanding-none}
+use Rattle.bus.proofs.Lists.{all-head, all-none, all-tail, pairs-head, pairs-tail}
+use Rattle.bus.proofs.OwnSlots.{own_receive_slots_can_be_written}
+use Rattle.bus.proofs.Rings.{outstanding-inside}
+use Rattle.driver_law.specs.DriverState.{DriverState, receive_slot, receive_tail, transmit_slot}
+use Rattle.driver_law.specs.Goes.{GoesTo, RanBy}
+use Rattle.driver_law.specs.Ready.{ReadyWith}
+use Rattle.driver_law.proofs.Accesses.{ran_by-acts, store-sets}
+use Rattle.driver_law.proofs.Places.{place-add, place-below, places-differ}
+use Rattle.driver_law.proofs.Readiness.{own-staged, stored-kept}
+use Rattle.driver_law.proofs.Stores.{goes-stores}
+use Rattle.driver_law.proofs.TransmitRing.{transmit_ring_is_written}
+use Rattle.bring_up.specs.ClearedDescriptors.{clears}
+
+abbrev zeros : List ℕ
+zeros = replicate 16 0
+
+-- A descriptor lies in memory, and a store to it leaves what the law speaks of.
+record CanClear (d : DriverState) (world : World) (address : ℕ) : Type 0 where
+  lies : LiesIn world.memory address 16
+  own : IsOwn d.oldest_received d.oldest_sent world (area_at address 16)
+
+-- A slot of the transmit ring's place, while the transmit side is off.
+
+-- a ring of this slot alone
+abbrev ring_of_one : ℕ → RingRegisters
+ring_of_one address = record { base_low = address; base_high = 0; length_bytes = 16; head = 0; tail = 0 }
+
+-- Such a ring could be set up, so the slot is apart from all that is received.
+sent-own : (d : DriverState) (slot : ℕ) (world : World) → ReadyWith false d world → slot < d.counts.tx → CanClear d world (transmit_slot d.counts slot)
+sent-own d slot world ready below =
+    let o = d.oldest_received in
+    let address = transmit_slot d.counts slot in
+    let ring = ring_of_one address in
+    let bare = with_transmit_ring ring world in
+    let set = (transmit_ring_is_written d ring world ready refl (record { from = omega arith; to = omega (arith, below) })).flows.ready in
+    let r = ring_area (receive_ring world) in
+    let t = area_at address 16 in
+    let Lies : Area → Type 0 = λ area. LiesIn world.memory area.address area.size in
+    let start : 0 * 2 ^ 32 + address ≡ address = omega arith in
+    let separate = subst (λ (from : ℕ). AreSeparate world.memory (r ∷ area_at from 16 ∷ frame_areas o bare)) start set.sound.separate in
+    let lie = all-head Lies t (frame_areas o bare) (all-tail Lies r (t ∷ frame_areas o bare) separate.lie) in
+    let from_ring = all-head (AreApart r) t (frame_areas o bare) (pairs-head AreApart r (t ∷ frame_areas o bare) separate.apart) in
+    let away = pairs-head AreApart t (frame_areas o bare) (pairs-tail AreApart r (t ∷ frame_areas o bare) separate.apart) in
+    let received = map (named world.memory) (finished o world) ++ (work_areas world.memory world.adapter.receiver.work ++ offered_buffers world) in
+    let same : (slots : List ℕ) → slots ≡ [] → map (data_of world.memory) slots ++ received ≡ received = λ slots none. ap (λ (list : List ℕ). map (data_of world.memory) list ++ received) none in
+    let bare_same : frame_areas o bare ≡ received = same _ (offered-none (transmit_ring bare) refl) in
+    let world_same : frame_areas o world ≡ received = same _ (offered-none (transmit_ring world) ready.transmit.idle) in
+    let none : outstanding (transmit_ring world) d.oldest_sent ≡ [] = subst (λ (oldest : ℕ). outstanding (transmit_ring world) oldest ≡ []) ready.transmit.last (outstanding-none (transmit_ring world)) in
+    let inside = outstanding-inside (receive_ring world) o ready.sound.receive_slots.slot in
+    record {
+      lies = lie;
+      own = record {
+        received = λ k s within. inside-apart t _ r (inside k s within) (apart-sym r t from_ring);
+        sent = subst (All (λ other. AreApart t (descriptor_area other))) (sym none) (all-none (λ other. AreApart t (descriptor_area other)));
+        frames = subst (All (AreApart t)) (bare_same ∙ sym world_same) away;
+      };
+    }
+
+clears-sent : (d : DriverState) (slot : ℕ) (world : World) → ReadyWith false d world → slot < d.counts.tx
+    → GoesTo false d world d (world_after_store (transmit_slot d.counts slot) zeros world) [] [] nothing
+clears-sent d slot world ready below =
+    let n = d.counts.rx in
+    let address = transmit_slot d.counts slot in
+    let can = sent-own d slot world ready below in
+    let memory' = with_bytes world.memory address zeros in
+    let others : (i : ℕ) → i < length d.staged → bytes_at memory' (receive_slot (place n (receive_tail d) i)) 16 ≡ bytes_at world.memory (receive_slot (place n (receive_tail d) i)) 16 = λ i before.
+    let within = place-below n (receive_tail d) i (place-below n d.oldest_received (length d.buffers) ready.driver_is.oldest_slot) in
+    bytes_at-elsewhere world.memory zeros address (receive_slot (place n (receive_tail d) i)) 16 can.lies (inr (omega (arith, within))) in
+    goes-stores d d.staged d.pool world address zeros ready can.lies can.own ready.driver_is
+    (stored-kept world.memory memory' d.counts (receive_tail d) d.staged others ready.stored)
+    (λ number known.
+    apart-inside (area_at address 16) (area_of d.counts TransmitRing) (area_of d.counts (ReceiveBuffer number)) (record { from = omega arith; to = omega (arith, below) })
+    (places-apart d.counts TransmitRing (ReceiveBuffer number) tt known (λ same. absurd (cc))))
+
+-- A receive slot behind those that are staged.
+
+slots-apart : (x y : ℕ) → ¬ (y ≡ x) → AreApart (area_at (receive_slot x) 16) (area_at (receive_slot y) 16)
+slots-apart x y differ = grind arith
+
+clears-received : {up : Bool} (d : DriverState) (i : ℕ) (world : World) → ReadyWith up d world → length d.staged ≤ i → length d.buffers + i < d.counts.rx
+    → GoesTo up d world d (world_after_store (receive_slot (place d.counts.rx (receive_tail d) i)) zeros world) [] [] nothing
+clears-received {up} d i world ready behind short =
+    let n = d.counts.rx in
+    let first = d.oldest_received in
+    let slot = place n (receive_tail d) i in
+    let address = receive_slot slot in
+    let at : address_of (receive_ring world) slot ≡ address = omega (arith, ready.receive.begins) in
+    let can : CanBeWritten first d.oldest_sent world address = subst (CanBeWritten first d.oldest_sent world) at (own_receive_slots_can_be_written first d.oldest_sent slot world ready.sound (own-staged d world i ready short)) in
+    let memory' = with_bytes world.memory address zeros in
+    let below : slot < n = place-below n (receive_tail d) i (place-below n first (length d.buffers) ready.driver_is.oldest_slot) in
+    let others : (j : ℕ) → j < length d.staged → bytes_at memory' (receive_slot (place n (receive_tail d) j)) 16 ≡ bytes_at world.memory (receive_slot (place n (receive_tail d) j)) 16 = λ j before.
+    bytes_at-elsewhere world.memory zeros address (receive_slot (place n (receive_tail d) j)) 16 can.lies
+    (slots-apart slot (place n (receive_tail d) j)
+    (λ equal. places-differ n first (length d.buffers + j) (length d.buffers + i) ready.driver_is.oldest_slot (omega (arith, before, behind)) short
+    (place-add n first (length d.buffers) j ∙ equal ∙ sym (place-add n first (length d.buffers) i)))) in
+    goes-stores d d.staged d.pool world address zeros ready can.lies can.own ready.driver_is
+    (stored-kept world.memory memory' d.counts (receive_tail d) d.staged others ready.stored)
+    (λ number known.
+    apart-inside (area_at address 16) (area_of d.counts ReceiveRing) (area_of d.counts (ReceiveBuffer number)) (record { from = omega arith; to = omega (arith, below) })
+    (places-apart d.counts ReceiveRing (ReceiveBuffer number) tt known (λ same. absurd (cc))))
+
+-- A walk that doesn't go around.
+walked : (n from i : ℕ) → from + i < n → place n from i ≡ from + i
+walked n from zero short = omega arith
+walked n from (suc i) short =
+    let inside : from + 1 < n = omega (arith, short) in
+    ap (λ (index : ℕ). place n index i) (mod-eq_of_lt inside) ∙ walked n (from + 1) i (omega (arith, short)) ∙ omega arith
+
+-- The last one, where the first is the oldest.
+clears-last : {up : Bool} (d : DriverState) (world : World) → ReadyWith up d world → d.oldest_received ≡ 0
+    → GoesTo up d world d (world_after_store (receive_slot (d.counts.rx - 1)) zeros world) [] [] nothing
+clears-last {up} d world ready oldest =
+    let n = d.counts.rx in
+    let first = d.oldest_received in
+    let room = ready.driver_is.room in
+    let slot = ready.driver_is.oldest_slot in
+    let i = n - 1 - length d.buffers in
+    let all : length d.buffers + i ≡ n - 1 = omega (arith, room) in
+    let sum : first + (n - 1) ≡ n - 1 = omega (arith, oldest) in
+    let at : place n (receive_tail d) i ≡ n - 1 = sym (place-add n first (length d.buffers) i) ∙ ap (place n first) all ∙ walked n first (n - 1) (omega (arith, oldest, slot)) ∙ sum in
+    subst (λ (index : ℕ). GoesTo up d world d (world_after_store (receive_slot index) zeros world) [] [] nothing) at
+    (clears-received d i world ready (omega (arith, room)) (omega (arith, all, slot)))
+
+-- Over a bus.
+
+abbrev pub StoreActs : {B : Type 0} (world : B → World) (happened : B → B → Past → Type 0) (lively : B → Type 0) (old new : B) (address : ℕ) → Type 0
+StoreActs world happened lively old new address = Acts world happened lively old new (Stores address (replicate 16 0)) (λ before after. after ≡ world_after_store address (replicate 16 0) before)
+
+ran_by-clears : {up : Bool} {B : Type 0} (world : B → World) (happened : B → B → Past → Type 0) (lively : B → Type 0) (old new : B) (d : DriverState) (address place : ℕ) → address ≡ place
+    → StoreActs world happened lively old new address → ReadyWith up d (world old)
+    → ((middle : World) → ReadyWith up d middle → GoesTo up d middle d (world_after_store place zeros middle) [] [] nothing)
+    → RanBy up world happened (clears address ∷ []) old new d d [] []
+ran_by-clears {up} world happened lively old new d address place at acts ready goes =
+    ran_by-acts world happened lively old new (Stores address zeros) (λ before after. after ≡ world_after_store address zeros before) d d [] [] acts (store-sets address zeros (world new)) ready
+    (λ middle there stored.
+    subst (λ (w : World). GoesTo up d middle d w [] [] nothing) (sym (stored ∙ ap (λ (x : ℕ). world_after_store x zeros middle) at)) (goes middle there))
+
+pub ran_by-clears_sent : {B : Type 0} (world : B → World) (happened : B → B → Past → Type 0) (lively : B → Type 0) (old new : B) (d : DriverState) (slot address : ℕ) → slot < d.counts.tx → address ≡ transmit_slot d.counts slot
+    → StoreActs world happened lively old new address → ReadyWith false d (world old) → RanBy false world happened (clears address ∷ []) old new d d [] []
+ran_by-clears_sent world happened lively old new d slot address below at acts ready =
+    ran_by-clears world happened lively old new d address (transmit_slot d.counts slot) at acts ready (λ middle there. clears-sent d slot middle there below)
+
+pub ran_by-clears_received : {up : Bool} {B : Type 0} (world : B → World) (happened : B → B → Past → Type 0) (lively : B → Type 0) (old new : B) (d : DriverState) (address : ℕ) → d.oldest_received ≡ 0 → address ≡ receive_slot (d.counts.rx - 1)
+    → StoreActs world happened lively old new address → ReadyWith up d (world old) → RanBy up world happened (clears address ∷ []) old new d d [] []
+ran_by-clears_received world happened lively old new d address oldest at acts ready =
+    ran_by-clears world happened lively old new d address (receive_slot (d.counts.rx - 1)) at acts ready (λ middle there. clears-last d middle there oldest)
