@@ -50,12 +50,14 @@ pub record HasBegun (up : Bool) (counts : Counts) (pool : List ℕ) (world : Wor
 
 -- Such a driver is ready.
 abbrev pub DriversBegin : Type 0
-DriversBegin = (up : Bool) (counts : Counts) (pool : List ℕ) (world : World) → HasBegun up counts pool world → ReadyWith up (new_driver counts pool) world
+DriversBegin =
+    (up : Bool) (counts : Counts) (pool : List ℕ) (world : World)
+    → HasBegun up counts pool world → ReadyWith up (new_driver counts pool) world
 
 -- Writes of registers, beside that of RDT, which offers staged slots. What they leave of the world is as the bus's law names it.
 
--- A register of the transmit ring is written while the transmit side is off, so that head is still tail, and the ring lies at its place: this
--- holds behind each of the writes of TDBAL, TDBAH, TDLEN, TDH and TDT in this order, and the side is off still.
+-- A register of the transmit ring is written while the transmit side is off, so that head is still tail, and the ring lies at its place:
+-- this holds behind each of the writes of TDBAL, TDBAH, TDLEN, TDH and TDT in this order, and the side is off still.
 abbrev pub TransmitRingIsWritten : Type 0
 TransmitRingIsWritten =
     (driver : DriverState) (ring : RingRegisters) (world : World) → ReadyWith false driver world → ring.head ≡ ring.tail
@@ -69,8 +71,8 @@ TransmitterIsEnabled =
     → KnowsRing (transmit_ring world) (16 * driver.counts.rx) driver.counts.tx (transmit_tail driver) → HasBit control 3
     → Goes driver world driver (with_transmit_control control world) [] [] nothing
 
--- RCTL is written, with EN or without it, while no receive slot is finished or in work and the transmit side is off. BSEX is 0, and buffers have
--- 2,048 bytes.
+-- RCTL is written, with EN or without it, while no receive slot is finished or in work and the transmit side is off. BSEX is 0, and buffers
+-- have 2,048 bytes.
 abbrev pub ReceiverIsEnabled : Type 0
 ReceiverIsEnabled =
     (driver : DriverState) (control : ℕ) (world : World) → ReadyWith false driver world
