@@ -1,5 +1,6 @@
 -- The steps of the transmit side over a bus.
-use Rattle.std.proofs.Common.{true, false, ◌≡◌, ◌≤◌, ◌<◌, ◌+◌, ◌%◌, ◌∷◌, [], ℕ, List, length, slice_index, inr, sym, ap, subst, ◌∙◌, arith}
+use Rattle.std.proofs.Common.{true, false, ◌≡◌, ◌≤◌, ◌<◌, ◌+◌, ◌%◌, ◌++◌, ◌∷◌, [], ℕ, List, length, slice_index, inr, sym, ap, subst, ◌∙◌, append_assoc, arith}
+use Rattle.std.proofs.lemmas.List.Elements.{All-append, All-cons, All-map}
 use Rattle.registers.specs.Bits.{is_set}
 use Rattle.dma_memory.specs.Areas.{IsInside, area_at}
 use Rattle.dma_memory.specs.AreaLaws.{apart-inside, inside-apart}
@@ -8,17 +9,18 @@ use Rattle.dma_memory.specs.Laws.{bytes_at-elsewhere, bytes_at-stored}
 use Rattle.dma_memory.specs.Layout.{TransmitBuffer, TransmitRing, area_of}
 use Rattle.dma_memory.specs.LayoutLaws.{places-apart}
 use Rattle.descriptors.specs.Frames.{padded}
-use Rattle.descriptors.specs.Ring.{next_of}
+use Rattle.descriptors.specs.Ring.{next_of, slots_from}
 use Rattle.descriptors.specs.RingLaws.{next-below}
 use Rattle.adapter.specs.Slots.{is_done, written_back}
 use Rattle.adapter.specs.World.{World, transmit_ring, world_after_store, world_after_write}
+use Rattle.bus.proofs.Lists.{all-none}
 use Rattle.bus.proofs.Tails.{transmit_tail-written}
 use Rattle.bus.specs.Law.{Acts, Happens}
 use Rattle.bus.specs.Past.{Access, Loads, Past, Stores, Writes, joined, nothing}
 use Rattle.driver_law.specs.DriverState.{DriverState, transmit_slot, transmit_tail}
 use Rattle.driver_law.specs.Goes.{Goes, RanBy}
 use Rattle.driver_law.specs.Ready.{Ready}
-use Rattle.driver_law.specs.Transmit.{FrameStands, TailIsMoved, send_accesses, transmit_buffer, whole_descriptor, with_freed}
+use Rattle.driver_law.specs.Transmit.{FrameStands, IsQuiet, SendsEndWithTail, TailIsMoved, tail_buffer, tail_slot, transmit_loads, send_accesses, transmit_buffer, whole_descriptor, with_freed}
 use Rattle.driver_law.proofs.Accesses.{ran_by-join}
 use Rattle.driver_law.proofs.Buffers.{front-same}
 use Rattle.driver_law.proofs.FramesToSend.{frame_is_offered, length-whole, none_is_written_back, slot_is_freed}
@@ -165,3 +167,19 @@ run-waits world happened lively old new d bytes clear acts ready =
       subst (λ (after : World). Goes d middle d after [] [] nothing) (sym loaded.1) (goes-stays d middle set),
       subst (λ (after : World). written_back d.oldest_sent after ≡ []) (sym loaded.1) (none_is_written_back d middle set (inr is)),
     ))
+
+-- The accesses.
+
+pub sends_end_with_tail : SendsEndWithTail
+sends_end_with_tail d frame k =
+    let loads = transmit_loads d.counts d.oldest_sent k in
+    let data_store = Stores (tail_buffer d) frame in
+    let descriptor_store = Stores (tail_slot d) (whole_descriptor (tail_buffer d) (length frame)) in
+    let stores = data_store ∷ descriptor_store ∷ [] in
+    record {
+      quiet = loads ++ stores;
+      all =
+          All-append IsQuiet loads stores (All-map IsQuiet (λ slot. Loads (transmit_slot d.counts slot) 16) (slots_from d.counts.tx d.oldest_sent k) (λ i index below. tt))
+          (All-cons IsQuiet data_store (descriptor_store ∷ []) tt (All-cons IsQuiet descriptor_store [] tt (all-none IsQuiet)));
+      whole = sym (append_assoc loads stores (Writes 0x3818 ((transmit_tail d + 1) % d.counts.tx) ∷ []));
+    }

@@ -1,5 +1,5 @@
 -- The steps of a driver's transmit side (own).
-use Rattle.std.specs.Prelude.{◌≡◌, ◌≤◌, ◌<◌, ◌+◌, ◌-◌, ◌%◌, ◌⊎◌, ℕ, true, false, List, [], ◌∷◌, length, map}
+use Rattle.std.specs.Prelude.{⊤, ◌≡◌, ◌≤◌, ◌<◌, ◌+◌, ◌-◌, ◌%◌, ◌⊎◌, ◌++◌, ℕ, true, false, List, [], ◌∷◌, All, length, map}
 use Rattle.dma_memory.specs.Areas.{bytes_in}
 use Rattle.dma_memory.specs.HostMemory.{bytes_at}
 use Rattle.dma_memory.specs.Layout.{Counts, TransmitBuffer, area_of, start_of}
@@ -126,3 +126,21 @@ send_accesses driver frame =
     Stores (tail_buffer driver) frame
     ∷ Stores (tail_slot driver) (whole_descriptor (tail_buffer driver) (length frame))
     ∷ Writes 0x3818 ((transmit_tail driver + 1) % driver.counts.tx) ∷ []
+
+-- loads and stores, by which no register changes
+abbrev pub IsQuiet : Access → Type 0
+IsQuiet (Loads address size) = ⊤
+IsQuiet (Stores address bytes) = ⊤
+IsQuiet access = ⊥
+
+-- Quiet accesses, and then a write of TDT.
+pub record EndsWithTail (accesses : List Access) (slot : ℕ) : Type 0 where
+  pub quiet : List Access
+  pub all : All IsQuiet quiet
+  pub whole : accesses ≡ quiet ++ Writes 0x3818 slot ∷ []
+
+-- Such is the sending of a frame behind loads of descriptors.
+abbrev pub SendsEndWithTail : Type 0
+SendsEndWithTail =
+    (driver : DriverState) (frame : List ℕ) (k : ℕ)
+    → EndsWithTail (transmit_loads driver.counts driver.oldest_sent k ++ send_accesses driver frame) ((transmit_tail driver + 1) % driver.counts.tx)
