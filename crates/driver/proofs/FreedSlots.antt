@@ -12,7 +12,8 @@ use Rattle.bus.specs.Law.{Acts}
 use Rattle.bus.specs.Past.{Access, Loads, Past, joined, nothing}
 use Rattle.driver_law.proofs.Accesses.{ran_by-join, ran_by-stays}
 use Rattle.driver_law.proofs.Places.{place-next}
-use Rattle.driver_law.proofs.TransmitRuns.{RanWith, run-frees, run-waits}
+use Rattle.driver_law.proofs.RunsWith.{RanWith}
+use Rattle.driver_law.proofs.TransmitRuns.{run-frees, run-waits}
 use Rattle.driver_law.specs.DriverState.{DriverState, HandedOut, holding, transmit_slot, transmit_tail}
 use Rattle.driver_law.specs.Goes.{RanBy}
 use Rattle.driver_law.specs.Ready.{Ready}
@@ -77,9 +78,9 @@ frees-oldest world happened lively old new d address bytes at some done acts rea
 pub waits-oldest : {B : Type 0} (world : B → World) (happened : B → B → Past → Type 0) (lively : B → Type 0) (old new : B) (d : DriverState) (address : ℕ) (bytes : List ℕ)
     → address ≡ transmit_slot d.counts d.oldest_sent → 0 < d.sending → is_set (slice_index bytes 12) 0 ≡ false
     → Acts world happened lively old new (Loads address 16) (λ before after. (bytes ≡ bytes_at before.memory address 16) × (after ≡ before)) → Ready d (world old)
-    → RanWith world happened (transmit_loads d.counts d.oldest_sent (min d.sending 1)) old new d d [] [] (λ after. written_back d.oldest_sent after ≡ [])
+    → RanWith true world happened (transmit_loads d.counts d.oldest_sent (min d.sending 1)) old new d d [] [] (λ after. written_back d.oldest_sent after ≡ [])
 waits-oldest world happened lively old new d address bytes at some clear acts ready =
-    subst (λ (accesses : List Access). RanWith world happened accesses old new d d [] [] (λ after. written_back d.oldest_sent after ≡ [])) (sym (loads-one d some))
+    subst (λ (accesses : List Access). RanWith true world happened accesses old new d d [] [] (λ after. written_back d.oldest_sent after ≡ [])) (sym (loads-one d some))
     (run-waits world happened lively old new d bytes clear (subst (LoadsAt world happened lively old new bytes) at acts) ready)
 
 -- Some slots, and then the oldest of those that are left.

@@ -14,7 +14,8 @@ use Rattle.adapter.specs.World.{World, receive_ring, transmit_ring, world_after_
 use Rattle.adapter.specs.declared.ring.RingRegisters.{RingRegisters}
 use Rattle.bus.specs.Idle.{IsIdle}
 use Rattle.bus.specs.Initialising.{with_receive_control, with_transmit_control, with_transmit_ring}
-use Rattle.bus.specs.Past.{nothing}
+use Rattle.bus.specs.Law.{Happens}
+use Rattle.bus.specs.Past.{Past, nothing}
 use Rattle.adapter.specs.KnownRing.{KnowsRing}
 use Rattle.driver_law.specs.DriverState.{DriverState, next_received, receive_slot, transmit_tail}
 use Rattle.driver_law.specs.Goes.{Goes, GoesTo, HasNoForgottenWork}
@@ -117,3 +118,28 @@ TransmitPlaceIsStored =
     (driver : DriverState) (address : ℕ) (bytes : List ℕ) (world : World) → ReadyWith false driver world
     → IsInside (area_at address (length bytes)) (area_of driver.counts TransmitRing)
     → GoesTo false driver world driver (world_after_store address bytes world) [] [] nothing
+
+-- What stays meanwhile, whatever happens.
+
+-- RCTL.EN is 0, and no frame is held, as before the write of RCTL.
+pub record IsWaiting (driver : DriverState) (world : World) : Type 0 where
+  pub disabled : ¬ (HasBit world.adapter.filter.rctl 1)
+  pub none : frames_held driver.oldest_received world ≡ []
+
+-- No frame comes then,
+abbrev pub NoFrameComes : Type 0
+NoFrameComes =
+    (up : Bool) (driver : DriverState) (a b : World) (past : Past) → ReadyWith up driver a → Happens a b past
+    → IsWaiting driver a → IsWaiting driver b
+
+-- and no receive slot is finished or in work.
+abbrev pub NothingIsHeld : Type 0
+NothingIsHeld =
+    (driver : DriverState) (world : World) → IsWaiting driver world
+    → (finished driver.oldest_received world ≡ []) × (world.adapter.receiver.work ≡ None)
+
+-- The registers of the transmit ring stay while the side is off, TDH among them.
+abbrev pub RingsThatAreOffStay : Type 0
+RingsThatAreOffStay =
+    (driver : DriverState) (a b : World) (past : Past) → ReadyWith false driver a → Happens a b past
+    → b.adapter.transmit_ring ≡ a.adapter.transmit_ring
