@@ -1,17 +1,22 @@
 -- An access over a solo bus, behind what comes before it.
-use Rattle.std.proofs.Common.{◌≡◌, ◌+◌, ◌++◌, ◌∷◌, [], true, List, length, min, refl, sym, ap, subst, ◌∙◌, arith}
+use Rattle.std.proofs.Common.{◌≡◌, ◌+◌, ◌++◌, ◌∷◌, [], Bool, true, List, length, if◌then◌else◌, refl, sym, ap, ◌∙◌, arith}
 use Rattle.std.specs.List.{All}
-use Rattle.std.proofs.lemmas.List.{append-nil}
+use Rattle.std.proofs.lemmas.List.{append-nil, map-append}
 use Rattle.bus.specs.Law.{Acts, Happens}
-use Rattle.bus.specs.Past.{Access, Past}
-use Rattle.bus.specs.Solo.{ArePlayed, Prepared, Recounts, SoloState, most_accesses}
-use Rattle.bus.specs.SoloLaws.{are_free_joins, are_played_joins}
+use Rattle.bus.specs.Past.{Past}
+use Rattle.bus.specs.declared.event.Access.{Access}
+use Rattle.bus.specs.Groups.{group_of}
+use Rattle.bus.specs.Solo.{Prepared, Recounts, SoloState, is_go, own_ticks, tick_of}
+use Rattle.bus.specs.SoloLaws.{are_free_joins, recounts_own}
 use Rattle.bus.specs.TrailLaws.{past_of-append, same_past, trail_joins}
-use Rattle.bus.specs.Trails.{Accesses, Arrives, Event, IsAnswered, IsStep, Steps, past_of, past_of_event, world_after_access}
+use Rattle.bus.specs.Trails.{IsAnswered, IsStep, past_of, past_of_event, world_after_access}
+use Rattle.bus.specs.declared.event.Event.{Event}
+use Rattle.bus.specs.declared.event.Event.TheVariants.{Accesses, Arrives, Steps}
 use Rattle.adapter.specs.declared.step.StepKind.TheVariants.{TxTake, TxPut, RxData, RxDone, EepromTick, PhyTick}
 use Rattle.adapter.specs.State.{IsAdapter}
 use Rattle.adapter.specs.World.{World}
 use Rattle.bus.specs.declared.solo.SoloTick.{SoloTick}
+use Rattle.bus.specs.declared.solo.SoloTick.TheVariants.{Go}
 use Rattle.bus.proofs.Lists.{all-head, all-tail}
 use Rattle.bus.proofs.Trails.{trail_happens}
 
@@ -93,45 +98,42 @@ is_lively solo = solo.lively ≡ true
 
 pub acts_on : (a p b : SoloState) (access : Access) (effect : World → World → Type 0) → Prepared a p → b ≡ record p { world = world_after_access access p.world } → IsAnswered access p.world → IsAdapter p.world.adapter → effect p.world b.world → Acts solo_world Recounts is_lively a b access effect
 acts_on a p b access effect prepared after answered adapter does =
-    let events = prepared.grouped.before.events in
-    let are = prepared.grouped.before.are in
+    let plays = prepared.plays in
+    let events = plays.events in
     let middle = p.world in
-    let whole : p ≡ record prepared.middle { accesses = min (prepared.middle.accesses + 1) most_accesses } = prepared.is in
-    let world_p : p.world ≡ prepared.middle.world = ap solo_world whole in
-    let waiting_p : p.waiting ≡ prepared.middle.waiting = ap (λ (s : SoloState). s.waiting) whole in
-    let wire_p : p.wire ≡ prepared.middle.wire = ap (λ (s : SoloState). s.wire) whole in
-    let lively_p : p.lively ≡ prepared.middle.lively = ap (λ (s : SoloState). s.lively) whole in
-    let count_p : p.accesses ≡ min (prepared.middle.accesses + 1) most_accesses = ap (λ (s : SoloState). s.accesses) whole in
+    let own = own_ticks a.lively in
+    let group = group_of is_go a.waiting in
     let world_b : b.world ≡ world_after_access access p.world = ap solo_world after in
-    let waiting_b : b.waiting ≡ prepared.middle.waiting = ap (λ (s : SoloState). s.waiting) after ∙ waiting_p in
-    let wire_b : b.wire ≡ prepared.middle.wire = ap (λ (s : SoloState). s.wire) after ∙ wire_p in
-    let lively_b : b.lively ≡ prepared.middle.lively = ap (λ (s : SoloState). s.lively) after ∙ lively_p in
+    let waiting_b : b.waiting ≡ p.waiting = ap (λ (s : SoloState). s.waiting) after in
+    let wire_b : b.wire ≡ p.wire = ap (λ (s : SoloState). s.wire) after in
+    let lively_b : b.lively ≡ p.lively = ap (λ (s : SoloState). s.lively) after in
     let count_b : b.accesses ≡ p.accesses = ap (λ (s : SoloState). s.accesses) after in
-    let trail = subst (λ (w : World). Rattle.bus.specs.Trails.Trail events a.world w) (sym world_p) prepared.grouped.before.trail in
+    let past : Past = record (past_of events) { accesses = access ∷ [] } in
+    let told : Recounts a b past = record {
+      events = events ++ Accesses access ∷ [];
+      trail = trail_joins events (Accesses access ∷ []) a.world middle b.world plays.trail (answered, world_b);
+      past_is = past-with_access events access plays.are;
+      played = map-append tick_of events (Accesses access ∷ []) ∙ ap (λ (ticks : List SoloTick). ticks ++ Go ∷ []) plays.played;
+      waiting = waiting_b ∙ plays.waiting;
+      free = are_free_joins events (Accesses access ∷ []) (length a.wire) (length a.wire + length (past_of events).put) refl plays.free tt;
+      wire = wire_b ∙ plays.wire;
+      lively = lively_b ∙ plays.lively;
+      count = omega (arith, count_b, prepared.count);
+    } in
+    let own_is = recounts_own a b past told in
     record {
       middle = middle;
-      past = record (past_of events) { accesses = access ∷ [] };
+      past = past;
       only = refl;
-      told = record {
-        events = events ++ Accesses access ∷ [];
-        trail = trail_joins events (Accesses access ∷ []) a.world middle b.world trail (answered, world_b);
-        past_is = past-with_access events access are;
-        played =
-            subst (λ (ticks : List SoloTick). ArePlayed a.lively (events ++ Accesses access ∷ []) a.waiting ticks) (sym waiting_b)
-            (are_played_joins a.lively events (Accesses access ∷ []) a.waiting prepared.grouped.waiting prepared.middle.waiting prepared.grouped.before.played (prepared.middle.waiting, prepared.grouped.group, refl));
-        free = are_free_joins events (Accesses access ∷ []) (length a.wire) (length a.wire + length (past_of events).put) refl prepared.grouped.before.free tt;
-        wire = wire_b ∙ prepared.grouped.before.wire;
-        lively = lively_b ∙ prepared.grouped.before.lively;
-        count = omega (arith, count_b, count_p, prepared.grouped.before.accesses);
-      };
-      ticks = λ lively. let fall = prepared.ticks lively in record { eeprom = fall.eeprom; phy = fall.phy };
-      before = happens_accesses a.world middle (past_of events) (access ∷ []) (trail_happens events a.world middle are trail);
+      told = told;
+      ticks = λ lively.
+          let one : (if a.lively then length past.accesses else 0) ≡ 1 = ap (λ (is : Bool). if is then 1 else 0) lively in
+          record { eeprom = omega (arith, own_is.eeprom, one); phy = omega (arith, own_is.phy, one) };
+      before = happens_accesses a.world middle (past_of events) (access ∷ []) (trail_happens events a.world middle plays.are plays.trail);
       adapter = adapter;
       effect_is = does;
     }
 
 -- The size of memory stays while ticks are played.
 pub size_prepared : (a p : SoloState) → Prepared a p → length p.world.memory ≡ length a.world.memory
-size_prepared a p prepared =
-    let happens = trail_happens prepared.grouped.before.events a.world prepared.middle.world prepared.grouped.before.are prepared.grouped.before.trail in
-    ap (λ (s : SoloState). length s.world.memory) prepared.is ∙ happens.steady.size
+size_prepared a p prepared = (trail_happens prepared.plays.events a.world p.world prepared.plays.are prepared.plays.trail).steady.size

@@ -1,11 +1,10 @@
 -- What a driver rests on stays, whatever happens: where its rings stand, and memory that no outstanding slot uses.
-use Rattle.std.proofs.Common.{◌≡◌, ◌<◌, ◌⊎◌, ⊎_elim, ℕ, List, sym, ap, subst, ◌∙◌}
+use Rattle.std.proofs.Common.{◌≡◌, ℕ, List, sym, ap, subst, ◌∙◌}
 use Rattle.std.specs.List.{All}
 use Rattle.dma_memory.specs.Areas.{AreApart, Area}
 use Rattle.registers.specs.Bits.{field}
 use Rattle.registers.specs.ReceiveControl.{buffer_size_of}
 use Rattle.rx_filter.specs.Registers.{FilterRegisters}
-use Rattle.descriptors.specs.Ring.{IsSound, count_of}
 use Rattle.descriptors.specs.declared.tx_desc.TxDesc.{TxDesc}
 use Rattle.adapter.specs.Rings.{ring_of}
 use Rattle.adapter.specs.declared.ring.RingRegisters.{RingRegisters}
@@ -24,14 +23,6 @@ use Rattle.bus.proofs.Spare.{spare-apart, spare-foreign}
 
 same_ring_area : (a b : RingRegisters) → b ≡ record a { head = b.head } → ring_area (ring_of b) ≡ ring_area (ring_of a)
 same_ring_area a b same = ap (λ (registers : RingRegisters). ring_area (ring_of registers)) same
-
-pub head-slot : (a b : RingRegisters) → b ≡ record a { head = b.head } → (b.head ≡ a.head) ⊎ IsSound (ring_of b) → a.head < count_of (ring_of a) → b.head < count_of (ring_of a)
-head-slot a b same moved below =
-    let count : count_of (ring_of b) ≡ count_of (ring_of a) = ap (λ (registers : RingRegisters). count_of (ring_of registers)) same in
-    ⊎_elim
-    (λ (still : b.head ≡ a.head). subst (λ (head : ℕ). head < count_of (ring_of a)) (sym still) below)
-    (λ (slot : IsSound (ring_of b)). subst (λ (n : ℕ). b.head < n) count slot.head)
-    moved
 
 -- Spare memory.
 

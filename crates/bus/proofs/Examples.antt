@@ -58,7 +58,7 @@ ready-fits : (size : ℕ) (words : List ℕ) → 4096 ≤ size → FitBuffers 0 
 ready-fits size words fits =
     (slots_can_be_offered 0 0 (resting size words) (resting-sound size words fits) (resting-can_offer size words fits)).same.fits (omega arith) (resting-fits size words (replicate size 0))
 
-pub ready-runs : (size : ℕ) (words : List ℕ) → 4096 ≤ size → CanRun (ready size words)
+ready-runs : (size : ℕ) (words : List ℕ) → 4096 ≤ size → CanRun (ready size words)
 ready-runs size words fits =
     (slots_can_be_offered 0 0 (resting size words) (resting-sound size words fits) (resting-can_offer size words fits)).runs (resting-runs size words (replicate size 0))
 
@@ -158,7 +158,7 @@ put-written size words fits none =
 
 -- All of them, over 4,096 bytes of memory and an EEPROM of zeros.
 
-abbrev pub words : List ℕ
+abbrev words : List ℕ
 words = replicate 64 0
 
 pub rings_can : SomeSound HasRings

@@ -1,5 +1,5 @@
 -- Finished and written-back slots, the driver's own slots, and what it wrote into descriptors aren't the adapter's to write.
-use Rattle.std.proofs.Common.{◌≡◌, ◌≢◌, ◌≤◌, ◌<◌, ◌+◌, ◌*◌, inl, inr, ◌++◌, ◌∷◌, [], ℕ, zero, suc, List, map, drop, slice_index, ⊎_elim, refl, sym, ap, subst, ◌∙◌, arith}
+use Rattle.std.proofs.Common.{◌≡◌, ◌≢◌, ◌≤◌, ◌<◌, ◌⊎◌, ◌+◌, ◌*◌, inl, inr, ◌++◌, ◌∷◌, [], ℕ, zero, suc, List, map, drop, slice_index, ⊎_elim, refl, sym, ap, subst, ◌∙◌, arith}
 use Rattle.std.specs.List.{All, AllPairs}
 use Rattle.std.proofs.lemmas.List.Elements.{All-append, All-cons, All-map}
 use Rattle.std.proofs.lemmas.List.{get_or-drop, get_or-take}
@@ -15,6 +15,7 @@ use Rattle.descriptors.specs.declared.tx_status.TxStatus.{TxStatus}
 use Rattle.std.proofs.lemmas.Bool.{cases_lt}
 use Rattle.dma_memory.specs.Areas.{AreApart, Area, IsInside, bytes_in, descriptor_area}
 use Rattle.dma_memory.specs.AreaLaws.{apart-inside, apart-sym, inside-apart}
+use Rattle.descriptors.specs.declared.ring.Ring.{Ring}
 use Rattle.descriptors.specs.Ring.{address_of, count_of}
 use Rattle.adapter.specs.Rings.{ring_of}
 use Rattle.adapter.specs.declared.ring.RingRegisters.{RingRegisters}
@@ -50,10 +51,10 @@ byte-inside : (t : Area) (d : ℕ) → IsInside (descriptor_area d) t → IsInsi
 byte-inside t d inside = record { from = omega (arith, inside.from); to = omega (arith, inside.to) }
 
 -- What is apart from a descriptor is apart from what is reported in it.
-pub half-apart : (x y : ℕ) → AreApart (descriptor_area x) (descriptor_area y) → AreApart (descriptor_area x) (reported_half y)
+half-apart : (x y : ℕ) → AreApart (descriptor_area x) (descriptor_area y) → AreApart (descriptor_area x) (reported_half y)
 half-apart x y apart = inside-apart (descriptor_area x) (reported_half y) (descriptor_area y) (half-inside (descriptor_area y) y (record { from = omega arith; to = omega arith })) apart
 
-pub byte-apart : (x y : ℕ) → AreApart (descriptor_area x) (descriptor_area y) → AreApart (descriptor_area x) (status_byte y)
+byte-apart : (x y : ℕ) → AreApart (descriptor_area x) (descriptor_area y) → AreApart (descriptor_area x) (status_byte y)
 byte-apart x y apart = inside-apart (descriptor_area x) (status_byte y) (descriptor_area y) (byte-inside (descriptor_area y) y (record { from = omega arith; to = omega arith })) apart
 
 pub parts-of : (o p : ℕ) (a : World) → Sound o p a → Parts o a
@@ -74,14 +75,14 @@ parts-of o p a sound =
     }
 
 -- The last of the areas of frames are the offered buffers.
-pub last-buffers : (P : Area → Type 0) (o : ℕ) (a : World) → All P (frame_areas o a) → All P (offered_buffers a)
+last-buffers : (P : Area → Type 0) (o : ℕ) (a : World) → All P (frame_areas o a) → All P (offered_buffers a)
 last-buffers P o a all =
     let names = map (named a.memory) (finished o a) in
     let work = work_areas a.memory a.adapter.receiver.work in
     all-right P work (offered_buffers a) (all-right P names (work ++ offered_buffers a) (all-right P (map (data_of a.memory) (offered (transmit_ring a))) (names ++ (work ++ offered_buffers a)) all))
 
 -- An area of the receive ring that is apart from the halves that are reported in isn't the adapter's.
-pub foreign-in_ring : (o p : ℕ) (a : World) (area : Area) → Sound o p a → IsInside area (ring_area (receive_ring a)) → All (λ d. AreApart area (reported_half d)) (in_work a ++ offered (receive_ring a)) → IsForeign a area
+foreign-in_ring : (o p : ℕ) (a : World) (area : Area) → Sound o p a → IsInside area (ring_area (receive_ring a)) → All (λ d. AreApart area (reported_half d)) (in_work a ++ offered (receive_ring a)) → IsForeign a area
 foreign-in_ring o p a area sound inside apart =
     let parts = parts-of o p a sound in
     let r = ring_area (receive_ring a) in
@@ -95,7 +96,7 @@ foreign-in_ring o p a area sound inside apart =
     (All-append (AreApart area) (map status_byte (buffered a ++ offered (transmit_ring a))) (offered_buffers a) bytes buffers)
 
 -- Descriptors of finished slots.
-pub foreign-finished : (o p : ℕ) (a : World) → Sound o p a → All (λ d. IsForeign a (descriptor_area d)) (finished o a)
+foreign-finished : (o p : ℕ) (a : World) → Sound o p a → All (λ d. IsForeign a (descriptor_area d)) (finished o a)
 foreign-finished o p a sound =
     let ring = receive_ring a in
     let slots = sound.receive_slots in
@@ -132,7 +133,7 @@ foreign-named o p a sound =
     all-unmapped (λ area. IsForeign a area) (named a.memory) (finished o a) each
 
 -- The same of the transmit ring, and of status bytes.
-pub foreign-in_transmit : (o p : ℕ) (a : World) (area : Area) → Sound o p a → IsInside area (ring_area (transmit_ring a)) → All (λ d. AreApart area (status_byte d)) (buffered a ++ offered (transmit_ring a)) → IsForeign a area
+foreign-in_transmit : (o p : ℕ) (a : World) (area : Area) → Sound o p a → IsInside area (ring_area (transmit_ring a)) → All (λ d. AreApart area (status_byte d)) (buffered a ++ offered (transmit_ring a)) → IsForeign a area
 foreign-in_transmit o p a area sound inside apart =
     let parts = parts-of o p a sound in
     let r = ring_area (receive_ring a) in
@@ -148,7 +149,7 @@ foreign-in_transmit o p a area sound inside apart =
     buffers)
 
 -- Descriptors of written-back slots.
-pub foreign-written : (o p : ℕ) (a : World) → Sound o p a → All (λ d. IsForeign a (descriptor_area d)) (written_back p a)
+foreign-written : (o p : ℕ) (a : World) → Sound o p a → All (λ d. IsForeign a (descriptor_area d)) (written_back p a)
 foreign-written o p a sound =
     let ring = transmit_ring a in
     let slots = sound.transmit_slots in
@@ -161,15 +162,22 @@ foreign-written o p a sound =
 
 -- The driver's own slots, and the addresses in descriptors.
 
-foreign-own : (o p : ℕ) (a : World) (slot : ℕ) → Sound o p a → IsOwnSlot (receive_ring a) o slot → IsForeign a (descriptor_area (address_of (receive_ring a) slot))
+-- An own slot is apart from the outstanding ones.
+pub own-apart : (ring : Ring) (oldest slot : ℕ) → (oldest < count_of ring) ⊎ (outstanding ring oldest ≡ []) → IsOwnSlot ring oldest slot → All (λ d. AreApart (descriptor_area (address_of ring slot)) (descriptor_area d)) (outstanding ring oldest)
+own-apart ring oldest slot dealt own =
+    let at = address_of ring slot in
+    let others = each-outstanding ring oldest (λ d. d ≢ at → AreApart (descriptor_area at) (descriptor_area d)) dealt
+    (λ other below differ. far-apart ring.base slot other (λ same. differ (ap (address_of ring) same))) in
+    λ k d within. others k d within (own.apart k d within)
+
+pub foreign-own : (o p : ℕ) (a : World) (slot : ℕ) → Sound o p a → IsOwnSlot (receive_ring a) o slot → IsForeign a (descriptor_area (address_of (receive_ring a) slot))
 foreign-own o p a slot sound own =
     let ring = receive_ring a in
     let at = address_of ring slot in
     let Apart : ℕ → Type 0 = λ d. AreApart (descriptor_area at) (reported_half d) in
-    let others = each-outstanding ring o (λ d. d ≢ at → Apart d) sound.receive_slots.slot
-    (λ other below differ. half-apart at (address_of ring other) (far-apart ring.base slot other (λ same. differ (ap (address_of ring) same)))) in
+    let apart = own-apart ring o slot sound.receive_slots.slot own in
     foreign-in_ring o p a (descriptor_area at) sound (slot-inside ring.base (count_of ring) slot 16 own.below (omega arith))
-    (dealt-right a.memory ring o (in_work a) Apart sound.receive_slots (λ k d within. others k d within (own.apart k d within)))
+    (dealt-right a.memory ring o (in_work a) Apart sound.receive_slots (λ k d within. half-apart at _ (apart k d within)))
 
 front-apart : (base slot other : ℕ) → AreApart (record { address = base + 16 * slot; size = 8 }) (reported_half (base + 16 * other))
 front-apart base slot other = ⊎_elim (λ (less : other < slot). inr (omega (arith, less))) (λ (more : slot ≤ other). inl (omega (arith, more))) (cases_lt other slot)
@@ -190,15 +198,14 @@ address-front memory at = little_from-take 0 8 16 (drop at memory) (omega arith)
 
 -- The same of the transmit ring.
 
-foreign-own_sent : (o p : ℕ) (a : World) (slot : ℕ) → Sound o p a → IsOwnSlot (transmit_ring a) p slot → IsForeign a (descriptor_area (address_of (transmit_ring a) slot))
+pub foreign-own_sent : (o p : ℕ) (a : World) (slot : ℕ) → Sound o p a → IsOwnSlot (transmit_ring a) p slot → IsForeign a (descriptor_area (address_of (transmit_ring a) slot))
 foreign-own_sent o p a slot sound own =
     let ring = transmit_ring a in
     let at = address_of ring slot in
     let Apart : ℕ → Type 0 = λ d. AreApart (descriptor_area at) (status_byte d) in
-    let others = each-outstanding ring p (λ d. d ≢ at → Apart d) sound.transmit_slots.slot
-    (λ other below differ. byte-apart at (address_of ring other) (far-apart ring.base slot other (λ same. differ (ap (address_of ring) same)))) in
+    let apart = own-apart ring p slot sound.transmit_slots.slot own in
     foreign-in_transmit o p a (descriptor_area at) sound (slot-inside ring.base (count_of ring) slot 16 own.below (omega arith))
-    (dealt-right a.memory ring p (buffered a) Apart sound.transmit_slots (λ k d within. others k d within (own.apart k d within)))
+    (dealt-right a.memory ring p (buffered a) Apart sound.transmit_slots (λ k d within. byte-apart at _ (apart k d within)))
 
 -- Bytes of a descriptor in front of its status, and behind it.
 front-status : (base slot other : ℕ) → AreApart (record { address = base + 16 * slot; size = 12 }) (status_byte (base + 16 * other))

@@ -32,14 +32,14 @@ use Rattle.adapter.specs.Registers.{new_adapter}
 use Rattle.adapter.specs.Table.{array_register_at, register_at}
 use Rattle.bus.specs.Examples.{HasFinished, HasFramesInBuffer, HasFramesInRing, HasRings, HasWork}
 use Rattle.adapter.specs.HostAreas.{buffer_of, data_of}
-use Rattle.adapter.specs.Slots.{finished, is_done, offered}
+use Rattle.adapter.specs.Slots.{finished, is_done}
 use Rattle.bus.specs.Idle.{IsIdle}
 use Rattle.adapter.specs.Conditions.{Reports, Sound}
 use Rattle.bus.specs.Offering.{CanOffer, CanSend}
 use Rattle.bus.specs.SoundBuses.{call, called, ready, reported, request, requested, resting, sending, sent, working}
 use Rattle.bus.specs.Steps.{world_after_arrival, world_after_step}
 use Rattle.adapter.specs.State.{IsAdapter}
-use Rattle.adapter.specs.World.{receive_ring, transmit_ring, World, world_after_write}
+use Rattle.adapter.specs.World.{World, world_after_write}
 use Rattle.bus.proofs.Idle.{idle-areas, idle_rings_are_sound, stores_keep_idle}
 use Rattle.bus.proofs.Instances.{arrivals_happen, steps_happen}
 use Rattle.bus.proofs.Lists.{all-none, pairs-none}
@@ -50,10 +50,10 @@ use Rattle.bus.proofs.Offering.{frames_can_be_offered, slots_can_be_offered}
 zeros-at : (size d : ℕ) → d + 16 ≤ size → bytes_at (replicate size 0) d 16 ≡ replicate 16 0
 zeros-at size d fits = bytes_at-zeros size d 16 (omega (arith, fits, length-replicate {A = ℕ} size 0))
 
-pub zeros-open : (size d : ℕ) → d + 16 ≤ size → is_done (replicate size 0) d ≡ false
+zeros-open : (size d : ℕ) → d + 16 ≤ size → is_done (replicate size 0) d ≡ false
 zeros-open size d fits = ap (λ (bytes : List ℕ). is_set (slice_index bytes 12) 0) (zeros-at size d fits)
 
-pub zeros-address : (size d : ℕ) → d + 16 ≤ size → receive.named_address (replicate size 0) d ≡ 0
+zeros-address : (size d : ℕ) → d + 16 ≤ size → receive.named_address (replicate size 0) d ≡ 0
 unfolding rx_desc_of
 zeros-address size d fits = ap (λ (bytes : List ℕ). (rx_desc_of bytes).address) (zeros-at size d fits)
 
@@ -121,14 +121,6 @@ pub ready-sound : (size : ℕ) (words : List ℕ) → 4096 ≤ size → Sound 0 
 ready-sound size words fits = (slots_can_be_offered 0 0 (resting size words) (resting-sound size words fits) (resting-can_offer size words fits)).same.sound
 
 -- It alone is offered.
-
-pub ready-offered : (size : ℕ) (words : List ℕ) → offered (receive_ring (ready size words)) ≡ 2048 ∷ []
-unfolding owned
-ready-offered size words = refl
-
-pub ready-idle : (size : ℕ) (words : List ℕ) → offered (transmit_ring (ready size words)) ≡ []
-unfolding owned
-ready-idle size words = refl
 
 pub ready-has_rings : (size : ℕ) (words : List ℕ) → HasRings (ready size words)
 unfolding owned

@@ -3,7 +3,9 @@ use Rattle.std.proofs.Common.{List, [], ◌∷◌, sym, subst}
 use Rattle.std.specs.List.{All}
 use Rattle.bus.specs.Law.{Happens}
 use Rattle.bus.specs.Past.{nothing}
-use Rattle.bus.specs.Trails.{Accesses, Arrives, Event, IsStep, Occurs, Steps, Trail, TrailsHappen, past_of, past_of_event, world_after}
+use Rattle.bus.specs.Trails.{IsStep, Occurs, Trail, TrailsHappen, past_of, past_of_event, world_after}
+use Rattle.bus.specs.declared.event.Event.{Event}
+use Rattle.bus.specs.declared.event.Event.TheVariants.{Accesses, Arrives, Steps}
 use Rattle.adapter.specs.World.{World}
 use Rattle.bus.proofs.Composing.{happens_none, happens_trans}
 use Rattle.bus.proofs.Instances.{arrivals_happen, steps_happen}

@@ -1,14 +1,6 @@
 -- What happened in a stretch of time (own).
 use Rattle.std.specs.Prelude.{ℕ, ◌+◌, List, [], ◌++◌}
-
--- an access of the driver
-pub data Access : Type 0 where
-  -- a register at an offset was read as this value
-  Reads : (offset value : ℕ) → Access
-  Writes : (offset value : ℕ) → Access
-  -- so many bytes of memory were loaded
-  Loads : (address size : ℕ) → Access
-  Stores : (address : ℕ) (bytes : List ℕ) → Access
+use Rattle.bus.specs.declared.event.Access.{Access}
 
 pub record Past : Type 0 where
   -- the frames that the adapter put onto the wire

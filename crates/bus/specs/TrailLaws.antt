@@ -1,7 +1,9 @@
 -- Trails join.
 use Rattle.std.proofs.Common.{◌≡◌, ℕ, List, [], ◌∷◌, ◌++◌, refl, sym, ap, subst, ◌∙◌, append_assoc, arith}
-use Rattle.bus.specs.Past.{Access, Past, joined, nothing}
-use Rattle.bus.specs.Trails.{Event, Trail, past_of, past_of_event, world_after}
+use Rattle.bus.specs.Past.{Past, joined, nothing}
+use Rattle.bus.specs.declared.event.Access.{Access}
+use Rattle.bus.specs.Trails.{Trail, past_of, past_of_event, world_after}
+use Rattle.bus.specs.declared.event.Event.{Event}
 use Rattle.adapter.specs.World.{World}
 
 pub trail_joins : (first later : List Event) (a b c : World) → Trail first a b → Trail later b c → Trail (first ++ later) a c

@@ -1,23 +1,17 @@
 -- What happens to a world, event by event: adapter steps, deliveries and accesses, each as it is.
-use Rattle.std.specs.Prelude.{◌≡◌, ℕ, Bool, List, [], ◌∷◌, All, ⊤}
-use Rattle.rx_engine.specs.declared.arrival.Fate.{Fate}
+use Rattle.std.specs.Prelude.{◌≡◌, List, [], ◌∷◌, All, ⊤}
 use Rattle.adapter.specs.Receiving.{IsFate}
 use Rattle.adapter.specs.Registers.{answer_at}
 use Rattle.adapter.specs.Steps.{Answers}
-use Rattle.adapter.specs.declared.step.StepKind.{StepKind}
-use Rattle.adapter.specs.declared.step.Stepped.{Stepped}
+use Rattle.bus.specs.declared.event.Event.{Event}
+use Rattle.bus.specs.declared.event.Event.TheVariants.{Accesses, Arrives, Steps}
 use Rattle.bus.specs.Law.{Happens}
-use Rattle.bus.specs.Past.{Access, Loads, Past, Reads, Stores, Writes, joined, nothing}
+use Rattle.bus.specs.Past.{Past, joined, nothing}
+use Rattle.bus.specs.declared.event.Access.{Access}
+use Rattle.bus.specs.declared.event.Access.TheVariants.{Loads, Reads, Stores, Writes}
 use Rattle.bus.specs.Steps.{past_of_arrival, past_of_step, world_after_arrival, world_after_step}
 use Rattle.adapter.specs.State.{IsAdapter}
 use Rattle.adapter.specs.World.{World, world_after_read, world_after_store, world_after_write}
-
-pub data Event : Type 0 where
-  -- the adapter took a step of this kind, with or without room on its wire, and answered so
-  Steps : (kind : StepKind) (wire_free : Bool) (answer : Stepped) → Event
-  -- a frame was delivered, and met this fate
-  Arrives : (frame : List ℕ) (fate : Fate) → Event
-  Accesses : (access : Access) → Event
 
 -- what an access says of the world that it finds
 abbrev pub IsAnswered : Access → World → Type 0

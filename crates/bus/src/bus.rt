@@ -4,7 +4,7 @@ ghost use Rattle.std.specs.Prelude.{◌≡◌, ◌+◌, ◌-◌, ◌^◌, ◌≤
 ghost use Rattle.adapter.specs.Registers.{answer_at};
 ghost use Rattle.bus.specs.Law.{Acts};
 ghost use Rattle.bus.specs.Past.{Past, joined, nothing};
-ghost use Rattle.bus.specs.Past.Access.{Loads, Reads, Stores, Writes};
+ghost use Rattle.bus.specs.declared.event.Access.TheVariants.{Loads, Reads, Stores, Writes};
 ghost use Rattle.adapter.specs.World.{World, world_after_read, world_after_store, world_after_write};
 ghost use Rattle.dma_memory.specs.HostMemory.{bytes_at};
 

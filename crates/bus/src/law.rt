@@ -1,5 +1,6 @@
 // Laws of what may happen between two accesses.
 
+ghost use Rattle.adapter.specs.World.{receive_ring, transmit_ring};
 ghost use Rattle.bus.specs.Composing.{HappeningsJoin, NothingHappens, SoundStays};
 ghost use Rattle.bus.specs.Examples.{HasFinished, HasFramesInBuffer, HasFramesInRing, HasRings, HasWork, HasWrittenBack, SomeSound};
 ghost use Rattle.bus.specs.Faults.{FaultsNeverCome};
@@ -7,6 +8,8 @@ ghost use Rattle.bus.specs.Idle.{HappeningsKeepIdle, IdleAfterPowerOn, IdleAfter
 ghost use Rattle.bus.specs.Initialising.{ManySlotsCanBeOffered, OffersWait, OtherWritesLeaveFrames, ReadsLeaveFrames, ReceiverCanBeSet, TransmitRingCanBeSet, TransmitStaysIdle, TransmitterCanBeSet};
 ghost use Rattle.bus.specs.Offering.{FramesCanBeOffered, SlotsCanBeOffered};
 ghost use Rattle.bus.specs.Own.{DriversKeepTheirOwn};
+ghost use Rattle.bus.specs.KnownRings.{KnownRingStays, ReceiveTailMoves, TransmitTailMoves};
+ghost use Rattle.bus.specs.OwnSlots.{OwnReceiveSlotsCanBeWritten, OwnTransmitSlotsCanBeWritten, SlotsFromTailAreOwn, TailSlotsAreOwn};
 ghost use Rattle.bus.specs.OwnStores.{OwnStoresLeaveForeign, OwnStoresLeaveFrames};
 ghost use Rattle.bus.specs.Spare.{AreasStayApart};
 ghost use Rattle.bus.specs.Steps.{ArrivalsHappen, StepsHappen};
@@ -64,6 +67,28 @@ pub fn drivers_keep_their_own()
 pub fn own_stores_leave_frames()
     ensures frames { OwnStoresLeaveFrames }
     ensures foreign { OwnStoresLeaveForeign }
+{}
+
+/// Each slot of either ring that is a driver's own lies in memory, isn't the adapter's to write, and may
+/// be stored to, as [`own_stores_leave_frames`] says. Such are the slots from the tail on up to its oldest.
+pub fn own_slots_can_be_written()
+    ensures received { OwnReceiveSlotsCanBeWritten }
+    ensures sent { OwnTransmitSlotsCanBeWritten }
+    ensures from_tail { SlotsFromTailAreOwn }
+    ensures tail { TailSlotsAreOwn }
+{}
+
+/// A driver that knows where a ring begins, how many slots it has and which stands at the tail, and that
+/// the head is one of them, knows it still, whatever happens between two accesses.
+pub fn known_rings_stay()
+    ensures received { KnownRingStays receive_ring }
+    ensures sent { KnownRingStays transmit_ring }
+{}
+
+/// A write of RDT, or of TDT, of an index below 65,536 moves that tail and leaves all else.
+pub fn tails_can_be_moved()
+    ensures receive { ReceiveTailMoves }
+    ensures transmit { TransmitTailMoves }
 {}
 
 /// A driver may offer its next receive slot, by moving RDT on by one, where its descriptor isn't done and

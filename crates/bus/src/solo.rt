@@ -57,7 +57,8 @@ impl SoloBus {
     ghost use Rattle.adapter.specs.Receiving.{IsFate};
     ghost use Rattle.adapter.specs.Registers.{answer_at};
     ghost use Rattle.adapter.specs.Steps.{Answers};
-    ghost use Rattle.bus.specs.Solo.{Finished, Grouped, Lives, Prepared, has_room, most_accesses, solo_after_arrival, solo_after_step};
+    ghost use Rattle.bus.specs.Groups.{behind_group, group_of, without_go};
+    ghost use Rattle.bus.specs.Solo.{Plays, Prepared, has_room, is_go, most_accesses, own_ticks, solo_after_arrival, solo_after_step};
     ghost use Rattle.adapter.specs.State.{IsAdapter};
     ghost use Rattle.adapter.specs.World.{world_after_read, world_after_store, world_after_write};
     ghost use Rattle.dma_memory.specs.HostMemory.{bytes_at, LiesIn};
@@ -148,7 +149,7 @@ impl SoloBus {
 
     /// Plays all ticks that wait, with [`Go`](SoloTick::Go) skipped.
     pub fn finish(&mut self)
-        ensures { Finished self.old self.new }
+        ensures { Plays (without_go is_go self.old.waiting) [] self.old self.new }
     {
         while let Some(tick) = self.next_tick() {
             match tick {
@@ -165,7 +166,7 @@ impl SoloBus {
 
     /// Plays the ticks up to the next [`Go`](SoloTick::Go), which waits no longer.
     fn play_group(&mut self)
-        ensures { Grouped self.old self.new }
+        ensures { Plays (group_of is_go self.old.waiting) (behind_group is_go self.old.waiting) self.old self.new }
     {
         while let Some(tick) = self.next_tick() {
             match tick {
@@ -180,13 +181,14 @@ impl SoloBus {
         }
     }
 
-    /// A lively bus plays a tick of each kind.
+    /// A lively bus plays a tick of the EEPROM, and then one of the PHY.
     fn live(&mut self)
-        ensures { Lives self.old self.new }
+        ensures { Plays (own_ticks self.old.lively) self.old.waiting self.old self.new }
     {
         if self.is_lively() {
-            self.step(StepKind::EepromTick);
-            self.step(StepKind::PhyTick);
+            for kind in [StepKind::EepromTick, StepKind::PhyTick] {
+                self.step(kind);
+            }
         }
     }
 

@@ -3,8 +3,9 @@
 use crate::{
     Bus, HonestBus, MOST_TICKS, SoloBus, SoloTick, any_steps_may_happen, areas_stay_apart,
     between_composes, conditions_can_be_met, drivers_keep_their_own, faults_never_come,
-    finished_slots_can_be_taken, frames_can_be_offered, own_stores_leave_frames,
-    slots_can_be_offered, steps_are_instances, written_slots_can_be_freed,
+    finished_slots_can_be_taken, frames_can_be_offered, known_rings_stay, own_slots_can_be_written,
+    own_stores_leave_frames, slots_can_be_offered, steps_are_instances, tails_can_be_moved,
+    written_slots_can_be_freed,
 };
 use adapter::offsets::*;
 use adapter::{Adapter, Fate, StepKind, Stepped};
@@ -205,6 +206,9 @@ fn laws_can_be_called(_rt: HostRuntime) -> Result<(), Fail> {
     faults_never_come();
     drivers_keep_their_own();
     own_stores_leave_frames();
+    own_slots_can_be_written();
+    known_rings_stay();
+    tails_can_be_moved();
     slots_can_be_offered();
     areas_stay_apart();
     frames_can_be_offered();

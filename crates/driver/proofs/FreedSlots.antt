@@ -9,7 +9,9 @@ use Rattle.descriptors.specs.RingLaws.{next-below, place}
 use Rattle.adapter.specs.Slots.{written_back}
 use Rattle.adapter.specs.World.{World}
 use Rattle.bus.specs.Law.{Acts}
-use Rattle.bus.specs.Past.{Access, Loads, Past, joined, nothing}
+use Rattle.bus.specs.Past.{Past, joined, nothing}
+use Rattle.bus.specs.declared.event.Access.{Access}
+use Rattle.bus.specs.declared.event.Access.TheVariants.{Loads}
 use Rattle.driver_law.proofs.Accesses.{ran_by-join, ran_by-stays}
 use Rattle.driver_law.proofs.Places.{place-next}
 use Rattle.driver_law.proofs.RunsWith.{RanWith}

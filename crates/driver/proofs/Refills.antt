@@ -5,7 +5,8 @@ use Rattle.dma_memory.specs.Owners.{HaveSameNumbers, copies}
 use Rattle.dma_memory.specs.OwnersLaws.{copies-append}
 use Rattle.descriptors.specs.RingLaws.{place}
 use Rattle.adapter.specs.World.{World}
-use Rattle.bus.specs.Past.{Access, Past, joined, nothing}
+use Rattle.bus.specs.Past.{Past, joined, nothing}
+use Rattle.bus.specs.declared.event.Access.{Access}
 use Rattle.driver_law.proofs.Accesses.{ran_by-join, ran_by-stays}
 use Rattle.driver_law.proofs.Owners.{owners-count}
 use Rattle.driver_law.proofs.Places.{place-add}

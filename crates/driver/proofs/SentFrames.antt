@@ -4,7 +4,9 @@ use Rattle.dma_memory.specs.Layout.{Counts}
 use Rattle.descriptors.specs.Frames.{padded}
 use Rattle.adapter.specs.Slots.{written_back}
 use Rattle.adapter.specs.World.{World}
-use Rattle.bus.specs.Past.{Access, Past, Stores, Writes, joined}
+use Rattle.bus.specs.Past.{Past, joined}
+use Rattle.bus.specs.declared.event.Access.{Access}
+use Rattle.bus.specs.declared.event.Access.TheVariants.{Stores, Writes}
 use Rattle.driver_law.proofs.Accesses.{ran_by-join}
 use Rattle.driver_law.proofs.Places.{place-below, place-next}
 use Rattle.driver_law.specs.DriverState.{DriverState, transmit_slot, transmit_tail}

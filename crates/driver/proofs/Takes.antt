@@ -6,7 +6,9 @@ use Rattle.dma_memory.specs.Owners.{copies}
 use Rattle.dma_memory.specs.OwnersLaws.{copies-append, copies-cons}
 use Rattle.descriptors.specs.RingLaws.{place}
 use Rattle.adapter.specs.World.{World}
-use Rattle.bus.specs.Past.{Access, Loads, Past, joined, nothing}
+use Rattle.bus.specs.Past.{Past, joined, nothing}
+use Rattle.bus.specs.declared.event.Access.{Access}
+use Rattle.bus.specs.declared.event.Access.TheVariants.{Loads}
 use Rattle.bus.proofs.Lists.{all-left}
 use Rattle.driver_law.proofs.Accesses.{ran_by-itself, ran_by-join, ran_by-same, ran_by-stays}
 use Rattle.driver_law.proofs.Owners.{owners-count}

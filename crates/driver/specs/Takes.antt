@@ -2,7 +2,8 @@
 use Rattle.std.specs.Prelude.{◌≡◌, ◌⊎◌, ◌++◌, ◌∷◌, ℕ, Bool, List, [], length, map}
 use Rattle.dma_memory.specs.Owners.{HaveSameNumbers}
 use Rattle.adapter.specs.World.{World}
-use Rattle.bus.specs.Past.{Access, Past}
+use Rattle.bus.specs.Past.{Past}
+use Rattle.bus.specs.declared.event.Access.{Access}
 use Rattle.driver_law.specs.DriverState.{DriverState, HandedOut, holding, owners}
 use Rattle.driver_law.specs.Goes.{RanBy}
 use Rattle.driver.specs.declared.receiver.Received.{Received}

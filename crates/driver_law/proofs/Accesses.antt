@@ -1,9 +1,13 @@
 -- Accesses over a bus, one after the other, as stretches of a driver's run.
-use Rattle.std.proofs.Common.{Bool, ◌≡◌, ◌++◌, ◌∷◌, [], ℕ, List, refl, sym, ap, subst, ◌∙◌}
+use Rattle.std.proofs.Common.{◌≡◌, Bool, ◌++◌, ◌∷◌, [], ℕ, List, refl, sym, ap, subst, ◌∙◌}
 use Rattle.std.specs.List.{All}
-use Rattle.adapter.specs.World.{World}
+use Rattle.adapter.specs.World.{World, world_after_read, world_after_store, world_after_write}
 use Rattle.bus.specs.Law.{Acts}
-use Rattle.bus.specs.Past.{Access, Past, joined, nothing}
+use Rattle.bus.specs.Past.{Past, joined, nothing}
+use Rattle.bus.specs.Settings.{AreSet, settings_after_all, settings_of, writes_in}
+use Rattle.bus.proofs.Settings.{happenings_leave_settings, happens-off, reads-leave, settings_join, while_off-joins, writes-set}
+use Rattle.bus.specs.declared.event.Access.TheVariants.{Loads, Reads, Stores, Writes}
+use Rattle.bus.specs.declared.event.Access.{Access}
 use Rattle.driver_law.proofs.Steps.{goes-happens, goes-stays}
 use Rattle.driver_law.proofs.Stretches.{goes_join, joined-nothing}
 use Rattle.driver_law.specs.DriverState.{DriverState}
@@ -13,19 +17,52 @@ use Rattle.driver_law.specs.Ready.{ReadyWith}
 -- The driver does something by itself, without an access.
 pub ran_by-itself : {up : Bool} {B : Type 0} (world : B → World) (happened : B → B → Past → Type 0) → ((b : B) → happened b b nothing)
     → (b : B) (d d' : DriverState) (taken given : List (List ℕ)) → GoesTo up d (world b) d' (world b) taken given nothing → RanBy up world happened [] b b d d' taken given
-ran_by-itself world happened stays b d d' taken given goes = record { past = nothing; told = stays b; only = refl; goes = goes }
+ran_by-itself world happened stays b d d' taken given goes = record {
+  past = nothing;
+  told = stays b;
+  only = refl;
+  goes = goes;
+  set = refl;
+  off = λ off leaves. record { none_stored = refl; none_missed = refl };
+}
 
 -- It does nothing.
 pub ran_by-stays : {up : Bool} {B : Type 0} (world : B → World) (happened : B → B → Past → Type 0) → ((b : B) → happened b b nothing)
     → (b : B) (d : DriverState) → ReadyWith up d (world b) → RanBy up world happened [] b b d d [] []
 ran_by-stays world happened stays b d ready = ran_by-itself world happened stays b d d [] [] (goes-stays d (world b) ready)
 
+-- What an access sets.
+
+-- from any world in which it begins
+abbrev pub SetsBy : Access → (World → World → Type 0) → World → Type 0
+SetsBy access effect new = (middle : World) → effect middle new → settings_of new.adapter ≡ settings_after_all (writes_in (access ∷ [])) (settings_of middle.adapter)
+
+pub write-sets : (offset value : ℕ) (new : World) → SetsBy (Writes offset value) (λ before after. after ≡ world_after_write offset value before) new
+write-sets offset value new middle written = ap (λ (w : World). settings_of w.adapter) written ∙ writes-set offset value middle.adapter
+
+pub store-sets : (address : ℕ) (bytes : List ℕ) (new : World) → SetsBy (Stores address bytes) (λ before after. after ≡ world_after_store address bytes before) new
+store-sets address bytes new middle stored = ap (λ (w : World). settings_of w.adapter) stored
+
+pub load-sets : (address size : ℕ) (shows : World → Type 0) (new : World) → SetsBy (Loads address size) (λ before after. shows before × (after ≡ before)) new
+load-sets address size shows new middle loaded = ap (λ (w : World). settings_of w.adapter) loaded.1
+
+pub read-sets : (offset value : ℕ) (shows : World → Type 0) (new : World) → SetsBy (Reads offset value) (λ before after. shows before × (after ≡ world_after_read offset before)) new
+read-sets offset value shows new middle read = ap (λ (w : World). settings_of w.adapter) read.1 ∙ reads-leave offset middle.adapter
+
+-- Whatever happened before it.
+pub access-set : {B : Type 0} (world : B → World) (happened : B → B → Past → Type 0) (lively : B → Type 0) (old new : B) (access : Access) (effect : World → World → Type 0)
+    → (acts : Acts world happened lively old new access effect) → SetsBy access effect (world new) → AreSet (world old) (world new) acts.past
+access-set world happened lively old new access effect acts sets =
+    sets acts.middle acts.effect_is
+    ∙ ap (settings_after_all (writes_in (access ∷ []))) (happenings_leave_settings (world old) acts.middle acts.past acts.before)
+    ∙ ap (λ (list : List Access). settings_after_all (writes_in list) (settings_of (world old).adapter)) (sym acts.only)
+
 -- One access: something happens, and then what the access does, from any world in which the driver is ready.
 pub ran_by-acts : {up : Bool} {B : Type 0} (world : B → World) (happened : B → B → Past → Type 0) (lively : B → Type 0) (old new : B) (access : Access) (effect : World → World → Type 0)
-    (d d' : DriverState) (taken given : List (List ℕ)) → Acts world happened lively old new access effect → ReadyWith up d (world old)
+    (d d' : DriverState) (taken given : List (List ℕ)) → Acts world happened lively old new access effect → SetsBy access effect (world new) → ReadyWith up d (world old)
     → ((middle : World) → ReadyWith up d middle → effect middle (world new) → GoesTo up d middle d' (world new) taken given nothing)
     → RanBy up world happened (access ∷ []) old new d d' taken given
-ran_by-acts {up} world happened lively old new access effect d d' taken given acts ready step =
+ran_by-acts {up} world happened lively old new access effect d d' taken given acts sets ready step =
     let first = goes-happens d (world old) acts.middle acts.past ready acts.before in
     let later = step acts.middle first.flows.ready acts.effect_is in
     record {
@@ -35,6 +72,8 @@ ran_by-acts {up} world happened lively old new access effect d d' taken given ac
       goes =
           subst (GoesTo up d (world old) d' (world new) taken given) (joined-nothing acts.past)
           (goes_join d d d' (world old) acts.middle (world new) [] taken [] given acts.past nothing first later);
+      set = access-set world happened lively old new access effect acts sets;
+      off = λ off leaves. happens-off (world old) acts.middle acts.past acts.before off;
     }
 
 -- One stretch, and then another.
@@ -47,6 +86,8 @@ ran_by-join world happened joins xs ys a b c d1 d2 d3 t1 t2 g1 g2 one two = reco
   told = joins a b c one.past two.past one.told two.told;
   only = ap (λ (list : List Access). list ++ two.past.accesses) one.only ∙ ap (λ (list : List Access). xs ++ list) two.only;
   goes = goes_join d1 d2 d3 (world a) (world b) (world c) t1 t2 g1 g2 one.past two.past one.goes two.goes;
+  set = settings_join (world a) (world b) (world c) one.past two.past one.set two.set;
+  off = while_off-joins (world a) (world b) one.past two.past one.set one.off two.off;
 }
 
 -- Where exactly these accesses are done, and all of them are allowed, none but allowed ones are.
@@ -57,6 +98,8 @@ ran-to world happened allowed accesses old new d d' taken given ran all = record
   told = ran.told;
   only = subst (All allowed) (sym ran.only) all;
   goes = ran.goes;
+  set = ran.set;
+  off = ran.off;
 }
 
 -- The same accesses, the same state at the end, and the same frames, told otherwise.

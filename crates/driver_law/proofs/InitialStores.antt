@@ -13,13 +13,13 @@ use Rattle.adapter.specs.HostAreas.{ring_area}
 use Rattle.adapter.specs.World.{World, receive_ring}
 use Rattle.bus.proofs.Lists.{all-none}
 use Rattle.bus.proofs.Rings.{outstanding-inside}
-use Rattle.bus.proofs.Tails.{OwnSlot}
+use Rattle.bus.specs.OwnSlots.{CanBeWritten}
 use Rattle.bus.specs.OwnStores.{IsOwn}
 use Rattle.driver_law.specs.Beginnings.{LastSlotIsStored, TransmitPlaceIsStored}
 use Rattle.driver_law.specs.DriverState.{DriverState, next_received, receive_slot, receive_tail}
 use Rattle.driver_law.specs.Ready.{ReadyWith}
 use Rattle.driver_law.proofs.Buffers.{known-area}
-use Rattle.driver_law.proofs.OwnSlots.{own-receive}
+use Rattle.bus.proofs.OwnSlots.{own_receive_slots_can_be_written}
 use Rattle.driver_law.proofs.Places.{place-add, place-below, places-differ}
 use Rattle.driver_law.proofs.Readiness.{own-staged, stored-kept}
 use Rattle.driver_law.proofs.Stores.{goes-stores, slots-apart}
@@ -38,7 +38,7 @@ last_slot_is_stored up driver bytes world ready long =
     let area = area_at slot (length bytes) in
     let walked : place n (receive_tail driver) j ≡ next_received driver = sym (place-add n o i j) in
     let at : address_of (receive_ring world) (place n (receive_tail driver) j) ≡ slot = omega (arith, ready.receive.begins, ap (λ (index : ℕ). 16 * index) walked) in
-    let own : OwnSlot o p world slot = subst (OwnSlot o p world) at (own-receive o p world _ ready.sound (own-staged driver world j ready room)) in
+    let own : CanBeWritten o p world slot = subst (CanBeWritten o p world) at (own_receive_slots_can_be_written o p _ world ready.sound (own-staged driver world j ready room)) in
     let lies : LiesIn world.memory slot (length bytes) = subst (LiesIn world.memory slot) (sym long) own.lies in
     let below : next_received driver < n = place-below n o (i + j) ready.driver_is.oldest_slot in
     let inside : IsInside area (area_of driver.counts ReceiveRing) = record { from = omega arith; to = omega (arith, long, below) } in

@@ -31,7 +31,7 @@ use Rattle.bus.proofs.Idle.{still-idle}
 use Rattle.bus.proofs.Lists.{all-unmapped, all-weaker, append-empty, map-empty, map-same}
 use Rattle.bus.proofs.Own.{drivers_keep_their_own}
 use Rattle.bus.proofs.Rings.{each-outstanding}
-use Rattle.bus.proofs.Tails.{knows-carried}
+use Rattle.bus.proofs.KnownRings.{knows-carried}
 use Rattle.driver_law.proofs.Places.{outstanding-known, own-behind}
 use Rattle.driver_law.specs.DriverState.{DriverState, receive_slot, receive_tail, transmit_slot, with_owners}
 use Rattle.driver_law.specs.Ready.{AreStored, IsDriver, ReadyWith, Stands, TransmitIs, TransmitIsOff}

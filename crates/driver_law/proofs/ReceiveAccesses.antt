@@ -9,9 +9,11 @@ use Rattle.descriptors.specs.RxDesc.{rx_desc_of}
 use Rattle.adapter.specs.World.{World, world_after_store, world_after_write}
 use Rattle.bus.specs.Initialising.{with_tail}
 use Rattle.bus.specs.Law.{Acts}
-use Rattle.bus.specs.Past.{Access, Loads, Past, Stores, Writes, nothing}
-use Rattle.bus.proofs.Tails.{receive_tail-written}
-use Rattle.driver_law.proofs.Accesses.{ran_by-acts}
+use Rattle.bus.specs.Past.{Past, nothing}
+use Rattle.bus.specs.declared.event.Access.{Access}
+use Rattle.bus.specs.declared.event.Access.TheVariants.{Loads, Stores, Writes}
+use Rattle.bus.proofs.KnownRings.{receive_tail-written}
+use Rattle.driver_law.proofs.Accesses.{load-sets, ran_by-acts, store-sets, write-sets}
 use Rattle.driver_law.proofs.Offers.{staged_can_be_offered}
 use Rattle.driver_law.proofs.Places.{place-below}
 use Rattle.driver_law.proofs.Steps.{goes-happens, goes-stays}
@@ -45,7 +47,7 @@ ran_by-stages {up} world happened lively old new d m address pool bytes room kno
     let slot = receive_slot (next_received d) in
     let access : Stores address bytes ≡ Stores slot (empty_descriptor (buffer_at d.counts m)) = ap (λ (x : ℕ). Stores x bytes) at ∙ ap (Stores slot) is in
     subst (λ (one : Access). RanBy up world happened (one ∷ []) old new d d' [] []) access
-    (ran_by-acts world happened lively old new (Stores address bytes) (λ before after. after ≡ world_after_store address bytes before) d d' [] [] acts ready
+    (ran_by-acts world happened lively old new (Stores address bytes) (λ before after. after ≡ world_after_store address bytes before) d d' [] [] acts (store-sets address bytes (world new)) ready
     (λ middle set stored.
     let done = stored ∙ ap (λ (x : ℕ). world_after_store x bytes middle) at ∙ ap (λ (list : List ℕ). world_after_store slot list middle) is in
     subst (λ (w : World). GoesTo up d middle d' w [] [] nothing) (sym done) (slots_can_be_staged up d m pool middle set room known moves)))
@@ -58,7 +60,7 @@ ran_by-offers {up} world happened lively old new d value at acts ready =
     let d' = with_owners d (d.buffers ++ d.staged) [] d.pool d.handed_out in
     let below : value < 65536 = omega (arith, at, ready.receive.slots, place-below d.counts.rx d.oldest_received (length d.buffers + length d.staged) ready.driver_is.oldest_slot) in
     subst (λ (place : ℕ). RanBy up world happened (Writes 0x2818 place ∷ []) old new d d' [] []) at
-    (ran_by-acts world happened lively old new (Writes 0x2818 value) (λ before after. after ≡ world_after_write 0x2818 value before) d d' [] [] acts ready
+    (ran_by-acts world happened lively old new (Writes 0x2818 value) (λ before after. after ≡ world_after_write 0x2818 value before) d d' [] [] acts (write-sets 0x2818 value (world new)) ready
     (λ middle set written.
     let done = written ∙ receive_tail-written value middle below ∙ ap (λ (place : ℕ). with_tail place middle) at in
     subst (λ (w : World). GoesTo up d middle d' w [] [] nothing) (sym done) (staged_can_be_offered up d middle set)))
@@ -74,7 +76,7 @@ ran_by-looks : {up : Bool} {B : Type 0} (world : B → World) (happened : B → 
     → (ReadyWith up d (world new) → GoesTo up d (world new) d' (world new) taken [] nothing) → RanBy up world happened (Loads (receive_slot d.oldest_received) 16 ∷ []) old new d d' taken []
 ran_by-looks {up} world happened lively old new d d' taken address bytes at acts ready step =
     subst (λ (place : ℕ). RanBy up world happened (Loads place 16 ∷ []) old new d d' taken []) at
-    (ran_by-acts world happened lively old new (Loads address 16) (Shows address bytes) d d' taken [] acts ready
+    (ran_by-acts world happened lively old new (Loads address 16) (Shows address bytes) d d' taken [] acts (load-sets address 16 (λ before. bytes ≡ bytes_at before.memory address 16) (world new)) ready
     (λ middle set shows.
     subst (λ (w : World). GoesTo up d w d' (world new) taken [] nothing) shows.1 (step (subst (ReadyWith up d) (sym shows.1) set))))
 

@@ -23,9 +23,9 @@ use Rattle.bus.specs.Past.{nothing}
 use Rattle.bus.proofs.Kept.{same-apart}
 use Rattle.bus.proofs.OwnStores.{own_stores_leave_frames}
 use Rattle.bus.proofs.Rings.{far-apart}
-use Rattle.bus.proofs.Tails.{OwnSlot}
+use Rattle.bus.specs.OwnSlots.{CanBeWritten}
 use Rattle.driver_law.proofs.Buffers.{stand-kept}
-use Rattle.driver_law.proofs.OwnSlots.{own-receive}
+use Rattle.bus.proofs.OwnSlots.{own_receive_slots_can_be_written}
 use Rattle.driver_law.proofs.Owners.{one_owner-dealt}
 use Rattle.driver_law.proofs.Places.{place-add, place-below, places-differ}
 use Rattle.driver_law.proofs.Readiness.{Keeps, own-staged, ready-kept, stored-kept, with_staged}
@@ -133,7 +133,7 @@ slots_can_be_staged up d m pool a ready room known moves =
     let long = length-empty_descriptor (buffer_at d.counts m) in
     let walked : place n (receive_tail d) j ≡ next_received d = sym (place-add n first i j) in
     let at : address_of (receive_ring a) (place n (receive_tail d) j) ≡ slot = omega (arith, ready.receive.begins, ap (λ (index : ℕ). 16 * index) walked) in
-    let own : OwnSlot first d.oldest_sent a slot = subst (OwnSlot first d.oldest_sent a) at (own-receive first d.oldest_sent a _ ready.sound (own-staged d a j ready (omega (arith, room)))) in
+    let own : CanBeWritten first d.oldest_sent a slot = subst (CanBeWritten first d.oldest_sent a) at (own_receive_slots_can_be_written first d.oldest_sent _ a ready.sound (own-staged d a j ready (omega (arith, room)))) in
     let lies : LiesIn a.memory slot (length bytes) = subst (λ (size : ℕ). LiesIn a.memory slot size) (sym long) own.lies in
     let mine : IsOwn first d.oldest_sent a (area_at slot (length bytes)) = subst (λ (size : ℕ). IsOwn first d.oldest_sent a (area_at slot size)) (sym long) own.own in
     let others : (k : ℕ) → k < j → bytes_at memory' (receive_slot (place n (receive_tail d) k)) 16 ≡ bytes_at a.memory (receive_slot (place n (receive_tail d) k)) 16 = λ k before.

@@ -6,7 +6,9 @@ use Rattle.registers.specs.Bits.{HasBit}
 use Rattle.adapter.specs.HostFrames.{frames_held, frames_to_send}
 use Rattle.adapter.specs.Slots.{finished}
 use Rattle.adapter.specs.World.{World}
-use Rattle.bus.specs.Past.{Access, Past, joined, nothing}
+use Rattle.bus.proofs.Settings.{settings_join, while_off-joins}
+use Rattle.bus.specs.Past.{Past, joined, nothing}
+use Rattle.bus.specs.declared.event.Access.{Access}
 use Rattle.driver_law.specs.DriverState.{DriverState}
 use Rattle.driver_law.specs.Goes.{FlowsTo, GoesTo, HasNoForgottenWork, RanTo}
 
@@ -63,6 +65,8 @@ ran_join world happened allowed joins a b c d1 d2 d3 t1 t2 g1 g2 one two = recor
   told = joins a b c one.past two.past one.told two.told;
   only = All-append allowed one.past.accesses two.past.accesses one.only two.only;
   goes = goes_join d1 d2 d3 (world a) (world b) (world c) t1 t2 g1 g2 one.past two.past one.goes two.goes;
+  set = settings_join (world a) (world b) (world c) one.past two.past one.set two.set;
+  off = while_off-joins (world a) (world b) one.past two.past one.set one.off two.off;
 }
 
 pub joined-nothing : (past : Past) → joined past nothing ≡ past

@@ -14,14 +14,16 @@ use Rattle.descriptors.specs.RingLaws.{next-below}
 use Rattle.adapter.specs.Slots.{is_done, written_back}
 use Rattle.adapter.specs.World.{World, transmit_ring, world_after_store, world_after_write}
 use Rattle.bus.proofs.Lists.{all-none}
-use Rattle.bus.proofs.Tails.{transmit_tail-written}
+use Rattle.bus.proofs.KnownRings.{transmit_tail-written}
 use Rattle.bus.specs.Law.{Acts, Happens}
-use Rattle.bus.specs.Past.{Loads, Past, Stores, Writes, joined, nothing}
+use Rattle.bus.specs.Past.{Past, joined, nothing}
+use Rattle.bus.specs.declared.event.Access.{Access}
+use Rattle.bus.specs.declared.event.Access.TheVariants.{Loads, Stores, Writes}
 use Rattle.driver_law.specs.DriverState.{DriverState, transmit_slot, transmit_tail}
 use Rattle.driver_law.specs.Goes.{Goes, RanBy}
 use Rattle.driver_law.specs.Ready.{Ready}
 use Rattle.driver_law.specs.Transmit.{FrameStands, IsQuiet, SendsEndWithTail, TailIsMoved, tail_buffer, tail_slot, transmit_loads, send_accesses, transmit_buffer, whole_descriptor, with_freed}
-use Rattle.driver_law.proofs.Accesses.{ran_by-join}
+use Rattle.driver_law.proofs.Accesses.{load-sets, ran_by-join, store-sets, write-sets}
 use Rattle.driver_law.proofs.Buffers.{front-same}
 use Rattle.driver_law.proofs.FramesToSend.{frame_is_offered, length-whole, none_is_written_back, slot_is_freed}
 use Rattle.driver_law.proofs.RunsWith.{RanWith, run-with}
@@ -95,19 +97,19 @@ run-sends {B} world happened lively joins old one two new d frame room least sho
     let first : Stored old one start frame = subst (λ (address : ℕ). Stored old one address frame) buffer_is stores_data in
     let second : Stored one two at descriptor = subst (Stored one two at) bytes_is (subst (λ (address : ℕ). Stored one two address bytes) slot_is stores_descriptor) in
     let third : Written tail = subst Written next_is writes in
-    let stored_data : RanWith true world happened (Stores start frame ∷ []) old one d d [] [] (HasBytes d frame) = run-with world happened lively old one (Stores start frame) (λ before after. after ≡ world_after_store start frame before) d d [] [] (λ world. Unit {0}) (HasBytes d frame) first ready tt (λ a b past set happens u. tt)
+    let stored_data : RanWith true world happened (Stores start frame ∷ []) old one d d [] [] (HasBytes d frame) = run-with world happened lively old one (Stores start frame) (λ before after. after ≡ world_after_store start frame before) d d [] [] (λ world. Unit {0}) (HasBytes d frame) first (store-sets start frame (world one)) ready tt (λ a b past set happens u. tt)
     (λ middle set u stored.
     let own = next_slot_is_own d middle set in
     let lies : LiesIn middle.memory start (length frame) = omega (arith, (own-buffer d (transmit_tail d) middle set own).lies, short) in (
       subst (λ (after : World). Goes d middle d after [] [] nothing) (sym stored) (data_is_stored d (transmit_tail d) frame middle set own (omega (arith, short))),
       subst (HasBytes d frame) (sym stored) (bytes_at-stored middle.memory frame start lies),
     )) in
-    let named : RanWith true world happened (Stores at descriptor ∷ []) one two d d [] [] (FrameStands d frame) = run-with world happened lively one two (Stores at descriptor) (λ before after. after ≡ world_after_store at descriptor before) d d [] [] (HasBytes d frame) (FrameStands d frame) second stored_data.ran.goes.flows.ready stored_data.behind (bytes-stay d frame short)
+    let named : RanWith true world happened (Stores at descriptor ∷ []) one two d d [] [] (FrameStands d frame) = run-with world happened lively one two (Stores at descriptor) (λ before after. after ≡ world_after_store at descriptor before) d d [] [] (HasBytes d frame) (FrameStands d frame) second (store-sets at descriptor (world two)) stored_data.ran.goes.flows.ready stored_data.behind (bytes-stay d frame short)
     (λ middle set has stored. (
       subst (λ (after : World). Goes d middle d after [] [] nothing) (sym stored) (descriptor_is_stored d (transmit_tail d) descriptor middle set (next_slot_is_own d middle set) (length-whole start (length frame))),
       subst (FrameStands d frame) (sym stored) (stands-stored d frame middle set short has),
     )) in
-    let offered : RanWith true world happened (Writes 0x3818 tail ∷ []) two new d sent [] (padded frame ∷ []) (λ world. Unit {0}) = run-with world happened lively two new (Writes 0x3818 tail) (λ before after. after ≡ world_after_write 0x3818 tail before) d sent [] (padded frame ∷ []) (FrameStands d frame) (λ world. Unit {0}) third named.ran.goes.flows.ready named.behind (stands-stay d frame short)
+    let offered : RanWith true world happened (Writes 0x3818 tail ∷ []) two new d sent [] (padded frame ∷ []) (λ world. Unit {0}) = run-with world happened lively two new (Writes 0x3818 tail) (λ before after. after ≡ world_after_write 0x3818 tail before) d sent [] (padded frame ∷ []) (FrameStands d frame) (λ world. Unit {0}) third (write-sets 0x3818 tail (world new)) named.ran.goes.flows.ready named.behind (stands-stay d frame short)
     (λ middle set stands written.
     (subst (λ (after : World). Goes d middle sent after [] (padded frame ∷ []) nothing) (sym (written ∙ tail_is_moved d middle set)) (frame_is_offered d frame middle set room least short stands), tt)) in
     ran_by-join world happened joins (Stores start frame ∷ Stores at descriptor ∷ []) (Writes 0x3818 tail ∷ []) old two new d d sent [] [] [] (padded frame ∷ [])
@@ -125,7 +127,7 @@ pub run-frees : {B : Type 0} (world : B → World) (happened : B → B → Past 
     → LoadsOldest world happened lively old new d bytes → Ready d (world old)
     → RanBy true world happened (Loads (transmit_slot d.counts d.oldest_sent) 16 ∷ []) old new d (with_freed d) [] []
 run-frees world happened lively old new d bytes some done acts ready =
-    (run-with world happened lively old new (Loads (transmit_slot d.counts d.oldest_sent) 16) (λ before after. (bytes ≡ bytes_at before.memory (transmit_slot d.counts d.oldest_sent) 16) × (after ≡ before)) d (with_freed d) [] [] (λ world. Unit {0}) (λ world. Unit {0}) acts ready tt (λ a b past set happens u. tt)
+    (run-with world happened lively old new (Loads (transmit_slot d.counts d.oldest_sent) 16) (λ before after. (bytes ≡ bytes_at before.memory (transmit_slot d.counts d.oldest_sent) 16) × (after ≡ before)) d (with_freed d) [] [] (λ world. Unit {0}) (λ world. Unit {0}) acts (load-sets (transmit_slot d.counts d.oldest_sent) 16 (λ before. bytes ≡ bytes_at before.memory (transmit_slot d.counts d.oldest_sent) 16) (world new)) ready tt (λ a b past set happens u. tt)
     (λ middle set u loaded.
     let is : is_done middle.memory (transmit_slot d.counts d.oldest_sent) ≡ true = ap (λ (list : List ℕ). is_set (slice_index list 12) 0) (sym loaded.0) ∙ done in
     (subst (λ (after : World). Goes d middle (with_freed d) after [] [] nothing) (sym loaded.1) (slot_is_freed d middle set some is), tt))).ran
@@ -135,7 +137,7 @@ pub run-waits : {B : Type 0} (world : B → World) (happened : B → B → Past 
     → LoadsOldest world happened lively old new d bytes → Ready d (world old)
     → RanWith true world happened (Loads (transmit_slot d.counts d.oldest_sent) 16 ∷ []) old new d d [] [] (λ world. written_back d.oldest_sent world ≡ [])
 run-waits world happened lively old new d bytes clear acts ready =
-    run-with world happened lively old new (Loads (transmit_slot d.counts d.oldest_sent) 16) (λ before after. (bytes ≡ bytes_at before.memory (transmit_slot d.counts d.oldest_sent) 16) × (after ≡ before)) d d [] [] (λ world. Unit {0}) (λ world. written_back d.oldest_sent world ≡ []) acts ready tt (λ a b past set happens u. tt)
+    run-with world happened lively old new (Loads (transmit_slot d.counts d.oldest_sent) 16) (λ before after. (bytes ≡ bytes_at before.memory (transmit_slot d.counts d.oldest_sent) 16) × (after ≡ before)) d d [] [] (λ world. Unit {0}) (λ world. written_back d.oldest_sent world ≡ []) acts (load-sets (transmit_slot d.counts d.oldest_sent) 16 (λ before. bytes ≡ bytes_at before.memory (transmit_slot d.counts d.oldest_sent) 16) (world new)) ready tt (λ a b past set happens u. tt)
     (λ middle set u loaded.
     let is : is_done middle.memory (transmit_slot d.counts d.oldest_sent) ≡ false = ap (λ (list : List ℕ). is_set (slice_index list 12) 0) (sym loaded.0) ∙ clear in (
       subst (λ (after : World). Goes d middle d after [] [] nothing) (sym loaded.1) (goes-stays d middle set),

@@ -16,7 +16,7 @@ use Rattle.adapter.specs.World.{World, receive_ring, transmit_ring}
 use Rattle.bus.proofs.Lists.{all-head, all-tail, all-unmapped}
 use Rattle.bus.proofs.Rings.{outstanding-inside, slots-below}
 use Rattle.bus.proofs.Spare.{spare-apart, spare-foreign}
-use Rattle.bus.proofs.Tails.{OwnSlot}
+use Rattle.bus.specs.OwnSlots.{CanBeWritten}
 use Rattle.bus.specs.Own.{IsOwnSlot}
 use Rattle.bus.specs.OwnStores.{IsOwn}
 use Rattle.bus.specs.Spare.{IsSpare}
@@ -24,7 +24,7 @@ use Rattle.driver_law.specs.DriverState.{DriverState, receive_slot, receive_tail
 use Rattle.driver_law.specs.Ready.{AreStored, Ready, ReadyWith}
 use Rattle.driver_law.specs.Transmit.{DataIsStored, DescriptorIsStored, NextSlotIsOwn, SlotsKeepBytes, transmit_buffer}
 use Rattle.driver_law.proofs.Buffers.{known-area}
-use Rattle.driver_law.proofs.OwnSlots.{own-transmit}
+use Rattle.bus.proofs.OwnSlots.{own_transmit_slots_can_be_written}
 use Rattle.driver_law.proofs.Places.{outstanding-known, own-behind, place-below}
 use Rattle.driver_law.proofs.Readiness.{stored-kept}
 use Rattle.driver_law.proofs.Stores.{goes-stores}
@@ -38,10 +38,10 @@ next_slot_is_own driver world ready =
 -- Its descriptor.
 
 pub own-descriptor : (driver : DriverState) (slot : ℕ) (world : World) → Ready driver world → IsOwnSlot (transmit_ring world) driver.oldest_sent slot
-    → OwnSlot driver.oldest_received driver.oldest_sent world (transmit_slot driver.counts slot)
+    → CanBeWritten driver.oldest_received driver.oldest_sent world (transmit_slot driver.counts slot)
 own-descriptor driver slot world ready own =
     let at : address_of (transmit_ring world) slot ≡ transmit_slot driver.counts slot = omega (arith, ready.transmit.knows.begins) in
-    subst (OwnSlot driver.oldest_received driver.oldest_sent world) at (own-transmit driver.oldest_received driver.oldest_sent world slot ready.sound own)
+    subst (CanBeWritten driver.oldest_received driver.oldest_sent world) at (own_transmit_slots_can_be_written driver.oldest_received driver.oldest_sent slot world ready.sound own)
 
 -- Its buffer.
 

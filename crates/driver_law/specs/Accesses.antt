@@ -1,7 +1,8 @@
 -- The accesses of a driver's calls, in order (own).
 use Rattle.std.specs.Prelude.{◌+◌, ◌%◌, ℕ, zero, suc, List, [], ◌∷◌}
 use Rattle.dma_memory.specs.Layout.{Counts}
-use Rattle.bus.specs.Past.{Access, Loads, Stores, Writes}
+use Rattle.bus.specs.declared.event.Access.{Access}
+use Rattle.bus.specs.declared.event.Access.TheVariants.{Loads, Stores, Writes}
 use Rattle.driver_law.specs.DriverState.{buffer_at, receive_slot}
 use Rattle.driver_law.specs.Ready.{empty_descriptor}
 

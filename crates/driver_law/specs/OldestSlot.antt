@@ -2,7 +2,8 @@
 use Rattle.std.specs.Prelude.{◌≡◌, ◌++◌, ◌∷◌, ℕ, Bool, List, [], length}
 use Rattle.adapter.specs.Slots.{finished}
 use Rattle.adapter.specs.World.{World}
-use Rattle.bus.specs.Past.{Loads, Past}
+use Rattle.bus.specs.Past.{Past}
+use Rattle.bus.specs.declared.event.Access.TheVariants.{Loads}
 use Rattle.driver_law.specs.DriverState.{DriverState, receive_slot}
 use Rattle.driver_law.specs.Goes.{RanBy}
 use Rattle.driver_law.specs.ReceiveSteps.{behind_oldest}

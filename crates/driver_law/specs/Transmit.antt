@@ -12,7 +12,9 @@ use Rattle.adapter.specs.World.{World, transmit_ring, world_after_store, world_a
 use Rattle.bus.specs.Law.{Happens}
 use Rattle.bus.specs.Offering.{offering_frame}
 use Rattle.bus.specs.Own.{IsOwnSlot}
-use Rattle.bus.specs.Past.{Access, Loads, Past, Stores, Writes, nothing}
+use Rattle.bus.specs.Past.{Past, nothing}
+use Rattle.bus.specs.declared.event.Access.{Access}
+use Rattle.bus.specs.declared.event.Access.TheVariants.{Loads, Stores, Writes}
 use Rattle.driver_law.specs.DriverState.{DriverState, transmit_slot, transmit_tail}
 use Rattle.driver_law.specs.Goes.{Goes}
 use Rattle.driver_law.specs.Ready.{Ready}

@@ -1,9 +1,11 @@
 use Rattle.std.proofs.Common.{length}
-use Rattle.bus.specs.Solo.{Played, without_go}
+use Rattle.bus.specs.Groups.{without_go}
+use Rattle.bus.specs.Solo.{is_go}
+use Rattle.bus.proofs.Playing.{PlaysOn, none_left}
 use Rattle.bus.proofs.solo.SoloBus.finish.Given as goal
 
 abbrev pub invariant-loop-tick : goal.invariant-loop-tick
-invariant-loop-tick l = Played (record l.fn.self { waiting = without_go l.fn.self.waiting }) (record l.self { waiting = without_go l.self.waiting })
+invariant-loop-tick l = PlaysOn (without_go is_go) none_left l.fn.self l.self
 
 abbrev pub decreases-loop-tick : goal.decreases-loop-tick
 decreases-loop-tick l = length l.self.waiting

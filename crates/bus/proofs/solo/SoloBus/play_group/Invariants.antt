@@ -1,9 +1,11 @@
 use Rattle.std.proofs.Common.{length}
-use Rattle.bus.specs.Solo.{Played}
+use Rattle.bus.specs.Groups.{behind_group, group_of}
+use Rattle.bus.specs.Solo.{is_go}
+use Rattle.bus.proofs.Playing.{PlaysOn}
 use Rattle.bus.proofs.solo.SoloBus.play_group.Given as goal
 
 abbrev pub invariant-loop-tick : goal.invariant-loop-tick
-invariant-loop-tick l = Played l.fn.self l.self
+invariant-loop-tick l = PlaysOn (group_of is_go) (behind_group is_go) l.fn.self l.self
 
 abbrev pub decreases-loop-tick : goal.decreases-loop-tick
 decreases-loop-tick l = length l.self.waiting

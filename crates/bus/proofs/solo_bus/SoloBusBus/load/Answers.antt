@@ -1,5 +1,5 @@
 use Rattle.std.proofs.Common.{refl, length, arith}
-use Rattle.bus.specs.Past.{Loads}
+use Rattle.bus.specs.declared.event.Access.TheVariants.{Loads}
 use Rattle.bus.proofs.Accessing.{acts_on, size_prepared}
 use Rattle.bus.proofs.solo_bus.SoloBusBus.load.Goals as goal
 

@@ -1,6 +1,6 @@
 use Rattle.std.proofs.Common.{ap, ◌∙◌, length, arith}
 use Rattle.dma_memory.specs.Laws.{length-with_bytes}
-use Rattle.bus.specs.Past.{Stores}
+use Rattle.bus.specs.declared.event.Access.TheVariants.{Stores}
 use Rattle.bus.specs.Solo.{SoloState}
 use Rattle.bus.proofs.Accessing.{acts_on, size_prepared}
 use Rattle.bus.proofs.solo_bus.SoloBusBus.store.Goals as goal

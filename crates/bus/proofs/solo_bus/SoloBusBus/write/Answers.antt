@@ -1,5 +1,5 @@
 use Rattle.std.proofs.Common.{ap, ◌∙◌, length}
-use Rattle.bus.specs.Past.{Writes}
+use Rattle.bus.specs.declared.event.Access.TheVariants.{Writes}
 use Rattle.bus.specs.Solo.{SoloState}
 use Rattle.bus.proofs.Accessing.{acts_on, size_prepared}
 use Rattle.bus.proofs.solo_bus.SoloBusBus.write.Goals as goal

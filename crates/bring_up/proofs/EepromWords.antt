@@ -1,0 +1,222 @@
+-- EERD while a driver asks it for a word.
+use Rattle.std.proofs.Common.{◌≡◌, ◌≢◌, ◌⊎◌, ◌+◌, ◌*◌, ◌/◌, ◌%◌, ◌^◌, ◌<◌, ◌≤◌, ◌∙◌}
+use Rattle.std.proofs.Common.{zero, suc, ℕ, List, Option, Some, Ok, Err, length, bit_and, bit_or, inl, inr, refl, sym, ap, subst, arith}
+use Rattle.std.specs.Fn.{iterate}
+use Rattle.std.proofs.lemmas.Nat.{or_shifted}
+use Rattle.std.proofs.lemmas.Nat.Bits.{and_pow}
+use Rattle.eeprom.specs.declared.eerd.ReadState.{ReadState}
+use Rattle.eeprom.specs.declared.eerd.ReadState.TheVariants.{Done, Pending}
+use Rattle.eeprom.specs.Eerd as eeprom
+use Rattle.eeprom.specs.Eerd.{after_tick, shown, shown_after, shown_before}
+use Rattle.eeprom.specs.Image.{word_at}
+use Rattle.adapter.specs.Registers.{after_read, after_write, answer_at, answer_of, left_by_read, left_by_write}
+use Rattle.adapter.specs.State.{AdapterState}
+use Rattle.adapter.specs.Table.{register_at}
+use Rattle.adapter.specs.TableLaws.{register_at-there}
+use Rattle.adapter.specs.World.{World, world_after_read, world_after_write}
+use Rattle.adapter.specs.declared.register.Register.{Register}
+use Rattle.adapter.specs.declared.register.Register.TheVariants.{Eerd}
+use Rattle.bus.specs.Law.{Acts}
+use Rattle.bus.specs.Past.{Past}
+use Rattle.bus.specs.declared.event.Access.TheVariants.{Reads, Writes}
+use Rattle.bus.specs.Rest.{IsElsewhere}
+use Rattle.bus.specs.Settings.{settings_of}
+use Rattle.bring_up.specs.EepromReading.{ReadsWord}
+use Rattle.bring_up.specs.declared.init_error.InitError.TheVariants.{EepromTimeout}
+use Rattle.bring_up.proofs.CountedSteps.{AsksAtLeast, StretchesJoin, asks-image, asks-more, asks-read, asks-write}
+
+-- The register behind ticks.
+
+abbrev pub after_ticks : List ℕ → ℕ → ReadState → ReadState
+after_ticks image ticks state = iterate (after_tick image) ticks state
+
+-- the word at an address was read
+abbrev pub state_read : List ℕ → ℕ → ReadState
+state_read image address = Done address (word_at image address)
+
+-- The register was asked for the word at an address: it is being read, or has been.
+abbrev pub IsAsked : List ℕ → ℕ → ReadState → Type 0
+IsAsked image address state = (state ≡ Pending address) ⊎ (state ≡ state_read image address)
+
+-- Ticks leave a word that has been read,
+stays-done : (image : List ℕ) (address word ticks : ℕ) → after_ticks image ticks (Done address word) ≡ Done address word
+stays-done image address word zero = refl
+stays-done image address word (suc ticks) = stays-done image address word ticks
+
+-- the first of them ends a read that is pending,
+ends-pending : (image : List ℕ) (address ticks : ℕ) → 1 ≤ ticks → after_ticks image ticks (Pending address) ≡ state_read image address
+ends-pending image address zero one = absurd (omega arith)
+ends-pending image address (suc ticks) one = stays-done image address (word_at image address) ticks
+
+-- so with a tick the word has been read,
+ticked-read : (image : List ℕ) (address ticks : ℕ) (state : ReadState) → 1 ≤ ticks → IsAsked image address state
+    → after_ticks image ticks state ≡ state_read image address
+ticked-read image address ticks state one (inl pending) = ap (after_ticks image ticks) pending ∙ ends-pending image address ticks one
+ticked-read image address ticks state one (inr done) =
+    ap (after_ticks image ticks) done ∙ stays-done image address (word_at image address) ticks
+
+-- and any number of them leaves the register asked.
+still-asked : (image : List ℕ) (address ticks : ℕ) (state : ReadState) → IsAsked image address state
+    → IsAsked image address (after_ticks image ticks state)
+still-asked image address zero state asked = asked
+still-asked image address (suc ticks) state asked =
+    let one : 1 ≤ suc ticks = omega arith in
+    inr (ticked-read image address (suc ticks) state one asked)
+
+-- What it shows.
+
+-- A read of the register shows the word, or nothing but its address yet.
+abbrev pub IsShown : List ℕ → ℕ → ℕ → Type 0
+IsShown image address value = (value ≡ shown_before address) ⊎ (value ≡ shown_after address (word_at image address))
+
+shows-asked : (image : List ℕ) (address : ℕ) (state : ReadState) → IsAsked image address state → IsShown image address (shown state)
+shows-asked image address state (inl pending) = inl (ap shown pending)
+shows-asked image address state (inr done) = inr (ap shown done)
+
+-- DONE, bit 4, is 0 while a word is being read, and 1 when it has been.
+not-done : (address : ℕ) → bit_and (shown_before address) 16 ≡ 0
+not-done address =
+    let even : address * 256 / 2 ^ 4 % 2 * 2 ^ 4 ≡ 0 = omega arith in
+    and_pow (address * 256) 4 ∙ even
+
+is-done : (address word : ℕ) → bit_and (shown_after address word) 16 ≡ 16
+is-done address word =
+    let odd : (word * 65536 + address * 256 + 16) / 2 ^ 4 % 2 * 2 ^ 4 ≡ 16 = omega arith in
+    and_pow (word * 65536 + address * 256 + 16) 4 ∙ odd
+
+-- Where DONE is shown, the word is there,
+done-shows : (image : List ℕ) (address value : ℕ) → bit_and value 16 ≢ 0 → IsShown image address value
+    → value ≡ shown_after address (word_at image address)
+done-shows image address value done (inl before) =
+    absurd (done (ap (λ (v : ℕ). bit_and v 16) before ∙ not-done address))
+done-shows image address value done (inr after) = after
+
+-- in DATA.
+data-is : (address word value : ℕ) → address < 256 → value < 2 ^ 32 → value ≡ shown_after address word → value / 65536 ≡ word
+data-is address word value small fits shows = omega arith
+
+-- EERD stands at 0x0014.
+
+at-eerd : register_at 0x0014 ≡ Some Eerd
+at-eerd = register_at-there Eerd tt
+
+-- A read of it leaves all as it is, and a write changes it alone.
+read-leaves : (adapter : AdapterState) → after_read 0x0014 adapter ≡ adapter
+read-leaves adapter = ap (λ (found : Option Register). left_by_read found adapter) at-eerd
+
+answer-is : (adapter : AdapterState) → answer_at 0x0014 adapter ≡ shown adapter.eerd
+answer-is adapter = ap (λ (found : Option Register). answer_of found adapter) at-eerd
+
+write-changes : (value : ℕ) (adapter : AdapterState)
+    → after_write 0x0014 value adapter ≡ record adapter { eerd = eeprom.after_write value adapter.eerd }
+write-changes value adapter = ap (λ (found : Option Register). left_by_write found value adapter) at-eerd
+
+-- ADDR and START ask for the word at an address.
+start-asks : (address : ℕ) (state : ReadState) → address < 256 → eeprom.after_write (address * 256 + 1) state ≡ Pending address
+start-asks address state small =
+    let starts : (address * 256 + 1) % 2 ≡ 1 = omega arith in
+    let whole : (address * 256 + 1) / 256 % 256 ≡ address = omega arith in
+    rw (starts, whole) refl
+
+-- So a driver writes them.
+pub start-with : (address given : ℕ) → given ≡ address → address < 256 → bit_or (given * 256 % 4294967296) 1 ≡ address * 256 + 1
+start-with address given is small =
+    let whole : given * 256 % 4294967296 ≡ address * 2 ^ 8 = omega arith in
+    ap (λ (n : ℕ). bit_or n 1) whole ∙ or_shifted address 8 1 (omega arith)
+
+-- Over a bus.
+
+module _ {B : Type 0} (world : B → World) (happened : B → B → Past → Type 0) where
+  -- A word was asked for, in so many accesses at least, and the adapter has 64 words.
+  pub record Awaits (start now : B) (address count : ℕ) : Type 0 where
+    pub asks : AsksAtLeast world happened start now 0x0014 count
+    pub size : length (world start).adapter.image ≡ 64
+    pub state : IsAsked (world start).adapter.image address (world now).adapter.eerd
+
+  -- A read tells of it, and over a lively bus it tells the word.
+  pub record ReadTells (lively : B → Type 0) (start now next : B) (address count value : ℕ) : Type 0 where
+    pub awaits : Awaits start next address count
+    pub shows : IsShown (world start).adapter.image address value
+    pub soon : lively now → value ≡ shown_after address (word_at (world start).adapter.image address)
+
+  -- The write that asks for it.
+  pub awaits-write : (lively : B → Type 0) (old new : B) (address value : ℕ) → address < 256 → value ≡ address * 256 + 1
+      → Acts world happened lively old new (Writes 0x0014 value) (λ before after. after ≡ world_after_write 0x0014 value before)
+      → Awaits old new address 1
+  awaits-write lively old new address value small is acts = record {
+    asks =
+        asks-write world happened lively old new 0x0014 value
+        (subst IsElsewhere (sym at-eerd) tt)
+        (λ adapter. ap settings_of (write-changes value adapter))
+        acts;
+    size = ap (length {A = ℕ}) (sym acts.before.steady.image) ∙ acts.adapter.image;
+    state = inl (
+        ap (λ (w : World). w.adapter.eerd) acts.effect_is
+        ∙ ap (λ (adapter : AdapterState). adapter.eerd) (write-changes value acts.middle.adapter)
+        ∙ ap (λ (v : ℕ). eeprom.after_write v acts.middle.adapter.eerd) is
+        ∙ start-asks address acts.middle.adapter.eerd small);
+  }
+
+  -- A read behind it.
+  pub awaits-read : StretchesJoin happened → (lively : B → Type 0) (start now next : B) (address count value : ℕ)
+      → Awaits start now address count
+      → Acts world happened lively now next (Reads 0x0014 value)
+      (λ before after. (value ≡ answer_at 0x0014 before.adapter) × (after ≡ world_after_read 0x0014 before))
+      → ReadTells lively start now next address (count + 1) value
+  awaits-read joins lively start now next address count value awaits acts =
+      let image : List ℕ = (world start).adapter.image in
+      let ticks : ℕ = acts.past.eeprom_ticks in
+      let found : ReadState = (world now).adapter.eerd in
+      let state : ReadState = acts.middle.adapter.eerd in
+      let same : (world now).adapter.image ≡ image = asks-image world happened start now 0x0014 awaits.asks.asks in
+      let moved : state ≡ after_ticks image ticks found =
+      subst (λ (words : List ℕ). state ≡ after_ticks words ticks found) same acts.before.steady.eerd in
+      let answer : value ≡ shown state = acts.effect_is.0 ∙ answer-is acts.middle.adapter in
+      let asked : IsAsked image address state =
+      subst (IsAsked image address) (sym moved) (still-asked image address ticks found awaits.state) in
+      let after : (world next).adapter.eerd ≡ state =
+      ap (λ (w : World). w.adapter.eerd) acts.effect_is.1
+      ∙ ap (λ (adapter : AdapterState). adapter.eerd) (read-leaves acts.middle.adapter) in
+      let read = asks-read world happened lively now next 0x0014 0x0014 value _ acts in
+      record {
+        awaits = record {
+          asks = asks-more world happened joins start now next 0x0014 count 1 awaits.asks read;
+          size = awaits.size;
+          state = subst (IsAsked image address) (sym after) asked;
+        };
+        shows = subst (IsShown image address) (sym answer) (shows-asked image address state asked);
+        soon = λ alive.
+            let one : 1 ≤ ticks = (acts.ticks alive).eeprom in
+            answer ∙ ap shown (moved ∙ ticked-read image address ticks found one awaits.state);
+      }
+
+  -- Where DONE is shown, the word was read,
+  pub word-read : (lively : B → Type 0) (start now next : B) (address count value : ℕ) → address < 256 → value < 2 ^ 32
+      → bit_and value 16 ≢ 0 → ReadTells lively start now next address count value
+      → ReadsWord world happened start next address (Ok (value / 65536))
+  word-read lively start now next address count value small fits done tells =
+      let image : List ℕ = (world start).adapter.image in
+      record {
+        asks = tells.awaits.asks.asks;
+        word = data-is address (word_at image address) value small fits (done-shows image address value done tells.shows);
+        in_vain = tt;
+        size = tells.awaits.size;
+      }
+
+  -- a lively bus shows it at once,
+  pub never-slow : (lively : B → Type 0) (start now next : B) (address count value : ℕ) → lively now → bit_and value 16 ≡ 0
+      → ReadTells lively start now next address count value → ⊥
+  never-slow lively start now next address count value alive none tells =
+      let word : ℕ = word_at (world start).adapter.image address in
+      let set : bit_and value 16 ≡ 16 = ap (λ (v : ℕ). bit_and v 16) (tells.soon alive) ∙ is-done address word in
+      omega arith
+
+  -- and where it was never shown, so many accesses were made in vain.
+  pub gave-up : (start now : B) (address count : ℕ) → 1000 ≤ count → Awaits start now address count
+      → ReadsWord world happened start now address (Err EepromTimeout)
+  gave-up start now address count many awaits = record {
+    asks = awaits.asks.asks;
+    word = tt;
+    in_vain = let counted : count ≤ length awaits.asks.asks.past.accesses = awaits.asks.count_is in omega (arith, counted);
+    size = awaits.size;
+  }

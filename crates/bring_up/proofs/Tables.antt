@@ -1,0 +1,57 @@
+-- The tables of the filter, and the writes that set them.
+use Rattle.std.proofs.Common.{◌≡◌, ◌<◌, ◌+◌, ◌*◌, ◌/◌, ◌++◌, ◌∷◌, [], ℕ, zero, suc, List, length, replicate, refl, sym, ap, ◌∙◌, inl, inr, arith, append_assoc, subst}
+use Rattle.std.proofs.lemmas.List.{length-replicate, length-set}
+use Rattle.std.specs.List.{Contains}
+use Rattle.std.proofs.lemmas.List.Elements.{Contains-append_cases, Contains-append_left, Contains-push}
+use Rattle.rx_filter.specs.Laws.{HasTableBit-with_number, HasTableBit-zeros}
+use Rattle.rx_filter.specs.Writing.{with_number}
+use Rattle.bus.specs.Settings.{Write}
+use Rattle.bring_up.specs.FilterTables.{HasNumbers, empty_entries, entry_writes, table_writes}
+use Rattle.bring_up.specs.Table.{write_at}
+
+-- An empty list has no element, and one of one element has that.
+none-there : (n : ℕ) → ¬ (Contains {X = ℕ} [] n)
+none-there n has = absurd (omega (arith, has.1))
+
+one-there : (x n : ℕ) → Contains (x ∷ []) n → n ≡ x
+one-there x n (zero, below, same) = sym same
+one-there x n (suc k, below, same) = absurd (omega (arith, below))
+
+pub no-numbers : HasNumbers (replicate 128 0) []
+no-numbers = record {
+  words = length-replicate {A = ℕ} 128 0;
+  bits = λ number below. (λ has. absurd (HasTableBit-zeros 128 number has), λ has. absurd (none-there number has));
+}
+
+-- A number more.
+pub one-number-more : (table numbers : List ℕ) (added : ℕ) → added < 4096 → HasNumbers table numbers → HasNumbers (with_number table added) (numbers ++ added ∷ [])
+one-number-more table numbers added fits holds = record {
+  words = length-set table (added / 32) _ ∙ holds.words;
+  bits = λ number below.
+      let bits = HasTableBit-with_number table added number (omega (arith, holds.words, fits)) in (
+        λ has. elim (bits.0 has) [
+          | inl same ↦ subst (Contains (numbers ++ added ∷ [])) (sym same) (Contains-push numbers added)
+          | inr before ↦ Contains-append_left numbers (added ∷ []) number ((holds.bits number below).0 before)
+        ],
+        λ has. bits.1 (elim (Contains-append_cases numbers (added ∷ []) number has) [
+          | inl before ↦ inr ((holds.bits number below).1 before)
+          | inr here ↦ inl (one-there added number here)
+        ]),
+      );
+}
+
+-- A word more, at the end.
+pub table-push : (offset word : ℕ) (words : List ℕ) → table_writes offset (words ++ word ∷ []) ≡ table_writes offset words ++ write_at (offset + 4 * length words) word ∷ []
+table-push offset word [] = let here : offset ≡ offset + 4 * 0 = omega arith in ap (λ (n : ℕ). write_at n word ∷ []) here
+table-push offset word (first ∷ words) =
+    let there : offset + 4 + 4 * length words ≡ offset + 4 * length (first ∷ words) = omega arith in
+    ap (λ (list : List Write). write_at offset first ∷ list) (table-push (offset + 4) word words ∙ ap (λ (n : ℕ). table_writes (offset + 4) words ++ write_at n word ∷ []) there)
+
+-- An entry more, at the end.
+pub entries-push : (entry count : ℕ) → empty_entries entry (suc count) ≡ empty_entries entry count ++ entry_writes (entry + count) 0 0
+entries-push entry zero = let here : entry ≡ entry + 0 = omega arith in ap (λ (n : ℕ). entry_writes n 0 0) here
+entries-push entry (suc count) =
+    let there : entry + 1 + count ≡ entry + suc count = omega arith in
+    ap (λ (list : List Write). entry_writes entry 0 0 ++ list) (entries-push (entry + 1) count)
+    ∙ ap (λ (n : ℕ). entry_writes entry 0 0 ++ (empty_entries (entry + 1) count ++ entry_writes n 0 0)) there
+    ∙ sym (append_assoc (entry_writes entry 0 0) (empty_entries (entry + 1) count) (entry_writes (entry + suc count) 0 0))

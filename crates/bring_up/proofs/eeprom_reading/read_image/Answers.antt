@@ -1,0 +1,43 @@
+use Rattle.std.proofs.Common.{arith, rules}
+use Rattle.bring_up.proofs.EepromImages.{all-read, first-more, first-none, read-failed}
+use Rattle.bring_up.proofs.eeprom_reading.read_image.Goals as goal
+
+pub loop-address-init : goal.loop-address-init
+loop-address-init g c = record {
+  extent = search rules;
+  kept = g.met.B.Bus.keeps _;
+  honest = search rules;
+  lively = search rules;
+  size = search rules;
+  first = λ honest. first-none g.B.Bus.world g.B.Bus.happened g.met.B.Bus.stays c.args.bus.now _;
+}
+
+pub loop-address-preserved : goal.loop-address-preserved
+loop-address-preserved g c =
+    let kept = c.loop-address.invariant in
+    let now = c.loop-address.bus in
+    let next = c.read_word.new.bus in
+    record {
+      extent = search rules;
+      kept = g.met.B.Bus.keeps_on _ now _ kept.kept c.read_word.ensures.kept;
+      honest = search rules;
+      lively = search rules;
+      size = search rules;
+      first = λ honest.
+          first-more g.B.Bus.world g.B.Bus.happened g.met.B.Bus.joins c.args.bus.now now next c.loop-address.words c.loop-address.address
+          c.in_ok-words.field-0 (omega arith) (kept.first honest) (c.in_ok-words.ensures.reads (kept.honest honest));
+    }
+
+pub returns-in_err-words-clause-reads : goal.returns-in_err-words-clause-reads
+returns-in_err-words-clause-reads g c honest =
+    let kept = c.loop-address.invariant in
+    let now = c.loop-address.bus in
+    let next = c.read_word.new.bus in
+    read-failed g.B.Bus.world g.B.Bus.happened g.met.B.Bus.joins c.args.bus.now now next c.loop-address.words c.loop-address.address _
+    c.from_residual.result c.from_residual.ensures.0 (kept.first honest) (c.in_err-words.ensures.reads (kept.honest honest))
+
+pub returns-clause-reads : goal.returns-clause-reads
+returns-clause-reads g c honest =
+    all-read g.B.Bus.world g.B.Bus.happened c.args.bus.now c.loop-address.bus c.loop-address.words c.from_words.result
+    c.loop-address.address c.loop-address-test.false c.from_words.ensures.words c.from_words.ensures.size
+    (c.loop-address.invariant.first honest)

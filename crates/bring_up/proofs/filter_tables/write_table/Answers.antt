@@ -1,0 +1,52 @@
+use Rattle.std.proofs.Common.{◌≡◌, ◌<◌, ◌+◌, ◌*◌, ◌++◌, ◌∷◌, [], ℕ, List, add-one, get_or, length, take, refl, sym, ap, subst, ◌∙◌, arith}
+use Rattle.std.proofs.Math.Seq.{take-length, take-suc}
+use Rattle.std.proofs.lemmas.List.{length-take-le}
+use Rattle.bring_up.specs.FilterTables.{table_writes}
+use Rattle.bring_up.specs.Sets.{Sets}
+use Rattle.bring_up.specs.Table.{write_at}
+use Rattle.bring_up.proofs.Steps.{sets-at, sets-join, sets-nothing}
+use Rattle.bring_up.proofs.Tables.{table-push}
+use Rattle.bring_up.proofs.filter_tables.write_table.Goals as goal
+
+pub loop-word-init : goal.loop-word-init
+loop-word-init g c = record {
+  offset = omega arith;
+  extent = refl;
+  kept = g.met.B.Bus.keeps c.args.bus.now;
+  honest = λ honest. honest;
+  lively = λ lively. lively;
+  sets = λ honest. sets-nothing g.B.Bus.world g.B.Bus.happened g.met.B.Bus.stays c.args.bus.now;
+}
+
+-- The words so far, and one more.
+more : (first index : ℕ) (words : List ℕ) → index < length words
+    → table_writes first (take index words) ++ write_at (first + 4 * index) (get_or words index 0) ∷ [] ≡ table_writes first (take (index + 1) words)
+more first index words below =
+    let so_far : length (take index words) ≡ index = length-take-le index words (omega (arith, below)) in
+    sym (ap (λ (n : ℕ). table_writes first (take index words) ++ write_at (first + 4 * n) (get_or words index 0) ∷ []) so_far)
+    ∙ sym (table-push first (get_or words index 0) (take index words))
+    ∙ ap (table_writes first) (sym (take-suc words index 0 below) ∙ ap (λ (n : ℕ). take n words) (sym (add-one index)))
+
+pub loop-word-preserved : goal.loop-word-preserved
+loop-word-preserved g c =
+    let here = c.loop-word in
+    let kept = here.invariant in
+    let start = c.args.bus.now in
+    record {
+      offset = omega (arith, kept.offset);
+      extent = c.write.ensures.extent ∙ kept.extent;
+      kept = g.met.B.Bus.keeps_on start here.bus c.write.new.self kept.kept c.write.ensures.kept;
+      honest = λ honest. c.write.ensures.honest (kept.honest honest);
+      lively = λ lively. c.write.ensures.lively (kept.lively lively);
+      sets = λ honest.
+          subst (Sets g.B.Bus.world g.B.Bus.happened start c.write.new.self) (more c.args.first here.word-index c.args.words.now (omega (arith, c.loop-word-test.true, c.told-words)))
+          (sets-join g.B.Bus.world g.B.Bus.happened g.met.B.Bus.joins start here.bus c.write.new.self _ _ (kept.sets honest)
+          (sets-at g.B.Bus.world g.B.Bus.happened g.B.Bus.lively here.bus c.write.new.self here.offset (c.args.first + 4 * here.word-index) _ kept.offset (c.write.ensures.acts (kept.honest honest))));
+    }
+
+pub returns-clause-sets : goal.returns-clause-sets
+returns-clause-sets g c honest =
+    let here = c.loop-word in
+    let all : take here.word-index c.args.words.now ≡ c.args.words.now =
+    ap (λ (n : ℕ). take n c.args.words.now) (let last : here.word-index ≡ length c.args.words.now = omega (arith, here.auto, c.loop-word-test.false, c.told-words) in last) ∙ take-length c.args.words.now in
+    subst (λ (words : List ℕ). Sets g.B.Bus.world g.B.Bus.happened c.args.bus.now here.bus (table_writes c.args.first words)) all (here.invariant.sets honest)

@@ -1,0 +1,6 @@
+use Rattle.bring_up.proofs.Steps.{sets-word}
+use Rattle.bring_up.proofs.ring_registers.enable_receiver.Goals as goal
+
+pub returns-clause-sets : goal.returns-clause-sets
+returns-clause-sets g c honest =
+    sets-word g.B.Bus.world g.B.Bus.happened g.B.Bus.lively c.args.bus.now c.write.new.self 0x0100 c.receive_control.result _ c.receive_control.ensures (c.write.ensures.acts honest)

@@ -1,0 +1,28 @@
+-- Which configurations can be had (own, where the manual doesn't say).
+use Rattle.std.specs.Prelude.{◌≤◌, ◌<◌, ℕ, List, [], All, Option, None, Some}
+use Rattle.dma_memory.specs.Layout.{Counts, IsAllowed, size_of}
+use Rattle.rx_filter.specs.Addresses.{IsGroup}
+use Rattle.adapter.specs.PacketBuffer.{IsAllocation}
+use Rattle.arrayvec.specs.declared.array_vec.ArrayVec.{ArrayVec}
+use Rattle.bring_up.specs.declared.config.Config.{Config}
+
+-- the sizes of rings, and the number of receive buffers
+abbrev pub counts_of : Config → Counts
+counts_of config = record { rx = config.rx; tx = config.tx; buffers = config.buffers }
+
+-- the VLANs that are named, if any
+abbrev pub vlans_of : Option (ArrayVec ℕ 32 (Unit {0})) → List ℕ
+vlans_of None = []
+vlans_of (Some vlans) = vlans.items
+
+-- RXA, the groups and the VLANs are allowed.
+pub record HasRightNumbers (config : Config) : Type 0 where
+  pub allocation : IsAllocation config.rxa
+  pub groups : All IsGroup config.groups.items
+  pub vlans : All (λ vlan. vlan < 4096) (vlans_of config.vlans)
+
+-- It can be had in a memory of so many bytes.
+pub record CanBeHad (config : Config) (size : ℕ) : Type 0 where
+  pub counts : IsAllowed (counts_of config)
+  pub numbers : HasRightNumbers config
+  pub room : size_of (counts_of config) ≤ size

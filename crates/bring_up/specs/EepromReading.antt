@@ -1,0 +1,27 @@
+-- What a driver reads of the EEPROM through EERD ("13.4.4 EEPROM Read Register").
+use Rattle.std.specs.Prelude.{◌≡◌, ◌≤◌, ℕ, List, Result, IfOk, OnErr, length}
+use Rattle.eeprom.specs.Image.{word_at}
+use Rattle.adapter.specs.World.{World}
+use Rattle.bus.specs.Past.{Past}
+use Rattle.bring_up.specs.Sets.{Asks}
+use Rattle.bring_up.specs.declared.init_error.InitError.{InitError}
+
+-- EERD was asked for the word at an address.
+pub record ReadsWord {B : Type 0} (world : B → World) (happened : B → B → Past → Type 0) (old new : B) (address : ℕ)
+    (result : Result ℕ InitError) : Type 0 where
+  pub asks : Asks world happened old new 0x0014
+  -- A word that was read is the adapter's,
+  pub word : IfOk result (λ word. word ≡ word_at (world old).adapter.image address)
+  -- and where none was, at least 1,000 accesses were made.
+  pub in_vain : OnErr result (1000 ≤ length asks.past.accesses)
+  -- The adapter's EEPROM has 64 words.
+  pub size : length (world old).adapter.image ≡ 64
+
+-- EERD was asked for all words.
+pub record ReadsImage {B : Type 0} (world : B → World) (happened : B → B → Past → Type 0) (old new : B)
+    (result : Result (List ℕ) InitError) : Type 0 where
+  pub asks : Asks world happened old new 0x0014
+  -- An image that was read is the adapter's,
+  pub image : IfOk result (λ image. image ≡ (world old).adapter.image)
+  -- and where none was, at least 1,000 accesses were made.
+  pub in_vain : OnErr result (1000 ≤ length asks.past.accesses)

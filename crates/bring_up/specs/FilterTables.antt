@@ -1,0 +1,35 @@
+-- What bring-up writes into the tables of the receive filter ("13.5.1 Multicast Table Array", "13.5.2 Receive Address Low", "13.5.3 Receive
+-- Address High", "13.5.4 VLAN Filter Table Array").
+use Rattle.std.specs.Prelude.{◌≡◌, ◌<◌, ◌↔◌, ◌+◌, ◌*◌, ◌^◌, ◌++◌, ℕ, zero, suc, List, [], ◌∷◌, length, map}
+use Rattle.std.specs.List.{Contains}
+use Rattle.rx_filter.specs.Addresses.{group_number, high_word, low_word}
+use Rattle.rx_filter.specs.Registers.{HasTableBit}
+use Rattle.bus.specs.Settings.{Write}
+use Rattle.bring_up.specs.Table.{write_at}
+
+-- A table of 128 words has the bits of these numbers, and no other.
+pub record HasNumbers (table numbers : List ℕ) : Type 0 where
+  pub words : length table ≡ 128
+  pub bits : (number : ℕ) → number < 4096 → HasTableBit table number ↔ Contains numbers number
+
+-- the numbers of groups, by RCTL.MO 00
+abbrev pub numbers_of_groups : List (List ℕ) → List ℕ
+numbers_of_groups groups = map (group_number 4) groups
+
+-- the words of a table, from an offset on
+abbrev pub table_writes : ℕ → List ℕ → List Write
+table_writes offset [] = []
+table_writes offset (word ∷ later) = write_at offset word ∷ table_writes (offset + 4) later
+
+-- an entry of the exact addresses
+abbrev pub entry_writes : ℕ → ℕ → ℕ → List Write
+entry_writes entry low high = write_at (0x5400 + 8 * entry) low ∷ write_at (0x5404 + 8 * entry) high ∷ []
+
+-- so many entries of 0, from one on
+abbrev pub empty_entries : ℕ → ℕ → List Write
+empty_entries entry zero = []
+empty_entries entry (suc count) = entry_writes entry 0 0 ++ empty_entries (entry + 1) count
+
+-- the first entry holds the address and is valid, and the other 15 are 0
+abbrev pub address_writes : List ℕ → List Write
+address_writes address = entry_writes 0 (low_word address) (high_word address + 2 ^ 31) ++ empty_entries 1 15

@@ -1,0 +1,89 @@
+-- What bring-up asks of the PHY, and what its link is then.
+use Rattle.std.specs.Prelude.{⊤, ◌≡◌, ◌≢◌, ◌≤◌, ◌<◌, ◌+◌, ◌⊎◌, ℕ, true, Err, None, Result, IfErr, IfOk, IsOk, length}
+use Rattle.std.specs.Fn.{iterate}
+use Rattle.mdic_phy.specs.declared.phy.Link.{Link}
+use Rattle.mdic_phy.specs.declared.phy.Link.TheVariants.{After, Never}
+use Rattle.mdic_phy.specs.Mdic.{ended, kept, operation_of, phy_ended}
+use Rattle.mdic_phy.specs.Phy.{PhyState, after_tick, link_is_up, negotiation_of}
+use Rattle.registers.specs.Bits.{HasBit}
+use Rattle.adapter.specs.State.{AdapterState}
+use Rattle.adapter.specs.World.{World}
+use Rattle.bus.specs.Law.{Happens, Management, management_of, phy_ticked}
+use Rattle.bus.specs.Past.{Past}
+use Rattle.bring_up.specs.declared.init_error.InitError.{InitError}
+use Rattle.bring_up.specs.declared.init_error.InitError.TheVariants.{NoLink, PhyTimeout}
+use Rattle.bring_up.specs.Sets.{Asks}
+
+-- The link is up, and stays so whatever happens.
+pub record StaysUp (world : World) : Type 0 where
+  pub up : link_is_up world.adapter.phy ≡ true
+  pub stays : (later : World) (past : Past) → Happens world later past → link_is_up later.adapter.phy ≡ true
+
+-- a PHY with this link, when its negotiation has been enabled and started
+abbrev pub started : Link → PhyState
+started link = record { link = link; negotiation_enabled = true; negotiation = negotiation_of link; latched_low = true }
+
+-- Negotiation was started, and since then ticks alone came to the PHY. No command waits for its end.
+pub record IsNegotiating (adapter : AdapterState) : Type 0 where
+  pub ticks : ℕ
+  pub phy : adapter.phy ≡ iterate after_tick ticks (started adapter.phy.link)
+  pub no_command : adapter.mdic.pending ≡ None
+
+-- the link needs more ticks than these, or never comes up
+abbrev pub NeedsMoreThan : ℕ → Link → Type 0
+NeedsMoreThan ticks (After d) = ticks < d
+NeedsMoreThan ticks Never = ⊤
+
+-- The commands: a write of bits 12 and 9 to the PHY's register 0, and a read of its register 1.
+abbrev pub restart_words : ℕ
+restart_words = 0x0420_1200
+
+abbrev pub status_words : ℕ
+status_words = 0x0821_0000
+
+abbrev pub IsCommand : ℕ → Type 0
+IsCommand words = (words ≡ restart_words) ⊎ (words ≡ status_words)
+
+-- Of so many ticks in all some came before a command was given, the next one ended it, and the others came later. MDIC reads this answer.
+pub record Ends (lively : Type 0) (words all : ℕ) (a b : Management) (answer : ℕ) : Type 0 where
+  pub ticks : ℕ
+  pub later : ℕ
+  pub all_are : ticks + 1 + later ≡ all
+  pub ticked : lively → 1 ≤ ticks
+  -- the PHY when the tick that ends the command has lowered its count
+  pub phy : PhyState
+  pub counted : phy ≡ after_tick (iterate phy_ticked ticks a).phy
+  pub answers : answer ≡ ended (operation_of words) (kept words) phy
+  pub mdic : b.mdic ≡ record { value = answer; pending = None }
+  pub leaves : b.phy ≡ iterate after_tick later (phy_ended (operation_of words) (kept words) phy)
+
+-- A command over an honest bus.
+pub record Commands {B : Type 0} (world : B → World) (happened : B → B → Past → Type 0) (lively : B → Type 0) (old new : B) (words : ℕ) (result : Result ℕ InitError) : Type 0 where
+  pub asks : Asks world happened old new 0x0020
+  pub accesses : 2 ≤ length asks.past.accesses
+  pub link : (world new).adapter.phy.link ≡ (world old).adapter.phy.link
+  pub ends : IfOk result (Ends (lively old) words asks.past.phy_ticks (management_of (world old).adapter) (management_of (world new).adapter))
+  pub late : IfErr result (λ error. 1000 ≤ length asks.past.accesses)
+  pub in_time : lively old → IsOk result
+
+-- Negotiation is started over an honest bus.
+pub record Negotiates {B : Type 0} (world : B → World) (happened : B → B → Past → Type 0) (lively : B → Type 0) (old new : B) (result : Result (Unit {0}) InitError) : Type 0 where
+  pub asks : Asks world happened old new 0x0020
+  pub link : (world new).adapter.phy.link ≡ (world old).adapter.phy.link
+  -- It was started in this call: more ticks fell here than since its start.
+  pub started : IfOk result (λ done. (begun : IsNegotiating (world new).adapter) × (begun.ticks < asks.past.phy_ticks))
+  pub late : IfErr result (λ error. 1000 ≤ length asks.past.accesses)
+  pub in_time : lively old → IsOk result
+
+-- The link is awaited over an honest bus.
+pub record AwaitsLink {B : Type 0} (world : B → World) (happened : B → B → Past → Type 0) (lively : B → Type 0) (old new : B) (result : Result (Unit {0}) InitError) : Type 0 where
+  pub asks : Asks world happened old new 0x0020
+  pub link : (world new).adapter.phy.link ≡ (world old).adapter.phy.link
+  -- MDIC shows bits 5 and 2 of the PHY's status: negotiation is complete, and the link is up.
+  pub seen : IfOk result (λ done. HasBit (world new).adapter.mdic.value 5 × HasBit (world new).adapter.mdic.value 2)
+  pub up : IfOk result (λ done. StaysUp (world new))
+  pub late : IfErr result (λ error. 1000 ≤ length asks.past.accesses)
+  pub no_link : result ≡ Err NoLink → 2000 ≤ length asks.past.accesses
+  pub in_time : lively old → result ≢ Err PhyTimeout
+  -- Where negotiation was started before, a link that comes up within 2,000 ticks is seen.
+  pub slow : lively old → IsNegotiating (world old).adapter → result ≡ Err NoLink → NeedsMoreThan 2000 (world old).adapter.phy.link

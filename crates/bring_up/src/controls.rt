@@ -1,0 +1,62 @@
+//! The registers of the whole device: reset, interrupts, packet buffer, link.
+
+ghost use Rattle.std.specs.Prelude.{◌≡◌};
+ghost use Rattle.bring_up.specs.Sets.{Sets};
+ghost use Rattle.bring_up.specs.Table.{allocation_writes, link_writes, mask_writes, reset_writes};
+
+use adapter::offsets::{CTRL, ICR, IMC, IMS, PBA};
+use bitflags::Flags;
+use bus::Bus;
+use registers::{Cause, Ctrl};
+
+/// Resets the device, masks every interrupt and forgets those that were recorded ("14.3 General
+/// Initialization": interrupts are off meanwhile).
+pub fn reset_device<B: Bus>(bus: &mut B)
+    ensures extent { B.extent bus.new ≡ B.extent bus.old }
+    ensures kept { B.kept bus.old bus.new }
+    ensures honest { B.honest bus.old → B.honest bus.new }
+    ensures lively { B.lively bus.old → B.lively bus.new }
+    ensures sets { B.honest bus.old → Sets B.world B.happened bus.old bus.new reset_writes }
+{
+    bus.write(CTRL, Ctrl::RST.bits());
+    bus.write(IMC, u32::MAX);
+    bus.read(ICR);
+}
+
+/// Gives frames from the wire so many kilobytes of the packet buffer (PBA.RXA).
+pub fn allocate_packet_buffer<B: Bus>(bus: &mut B, kilobytes: u8)
+    ensures extent { B.extent bus.new ≡ B.extent bus.old }
+    ensures kept { B.kept bus.old bus.new }
+    ensures honest { B.honest bus.old → B.honest bus.new }
+    ensures lively { B.lively bus.old → B.lively bus.new }
+    ensures sets { B.honest bus.old → Sets B.world B.happened bus.old bus.new (allocation_writes kilobytes) }
+{
+    bus.write(PBA, u32::from(kilobytes));
+}
+
+/// Lets the link come up, at the speed that the PHY finds (CTRL.SLU and CTRL.ASDE).
+pub fn set_link_up<B: Bus>(bus: &mut B)
+    ensures extent { B.extent bus.new ≡ B.extent bus.old }
+    ensures kept { B.kept bus.old bus.new }
+    ensures honest { B.honest bus.old → B.honest bus.new }
+    ensures lively { B.lively bus.old → B.lively bus.new }
+    ensures sets { B.honest bus.old → Sets B.world B.happened bus.old bus.new link_writes }
+{
+    bus.write(CTRL, Ctrl::SLU.union(Ctrl::ASDE).bits());
+}
+
+/// Unmasks the causes that a driver handles: a frame was transmitted, or received, receive descriptors
+/// become few, or a frame found no room.
+pub fn unmask_interrupts<B: Bus>(bus: &mut B)
+    ensures extent { B.extent bus.new ≡ B.extent bus.old }
+    ensures kept { B.kept bus.old bus.new }
+    ensures honest { B.honest bus.old → B.honest bus.new }
+    ensures lively { B.lively bus.old → B.lively bus.new }
+    ensures sets { B.honest bus.old → Sets B.world B.happened bus.old bus.new mask_writes }
+{
+    let causes = Cause::TXDW
+        .union(Cause::RXDMT0)
+        .union(Cause::RXO)
+        .union(Cause::RXT0);
+    bus.write(IMS, causes.bits());
+}

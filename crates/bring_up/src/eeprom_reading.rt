@@ -1,0 +1,64 @@
+//! The EEPROM, word by word ("13.4.4 EEPROM Read Register").
+
+ghost use Rattle.std.specs.Prelude.{◌≡◌, IsOk, IsOkUnless};
+ghost use Rattle.bring_up.specs.EepromReading.{ReadsImage, ReadsWord};
+
+use crate::MOST_READS;
+use crate::init_error::InitError;
+use adapter::offsets::EERD;
+use bus::Bus;
+use eeprom::{Image, WORDS};
+
+/// START, bit 0 of EERD: a write with it begins a read.
+const START: u32 = 1 << 0;
+
+/// DONE, bit 4 of EERD: the word is there.
+const DONE: u32 = 1 << 4;
+
+/// The lowest bit of ADDR, bits 15:8 of EERD.
+const ADDR_SHIFT: u32 = 8;
+
+/// The lowest bit of DATA, bits 31:16 of EERD.
+const DATA_SHIFT: u32 = 16;
+
+/// Reads the 64 words of the EEPROM, in order: EERD is written once for each, and read until it shows
+/// DONE. Over a bus that plays ticks before each access that is the first read.
+///
+/// # Errors
+///
+/// [`EepromTimeout`](InitError::EepromTimeout) where 1,000 reads of EERD for one word didn't show DONE.
+pub fn read_image<B: Bus>(bus: &mut B) -> Result<Image, InitError>
+    ensures extent { B.extent bus.new ≡ B.extent bus.old }
+    ensures kept { B.kept bus.old bus.new }
+    ensures honest { B.honest bus.old → B.honest bus.new }
+    ensures lively { B.lively bus.old → B.lively bus.new }
+    ensures only { IsOkUnless result InitError.EepromTimeout }
+    ensures reads { B.honest bus.old → ReadsImage B.world B.happened bus.old bus.new result }
+    ensures in_time { B.lively bus.old → B.honest bus.old → IsOk result }
+{
+    let mut words = [0; WORDS];
+    for address in 0..WORDS {
+        words[address] = read_word(bus, address as u8)?;
+    }
+    Ok(Image::from_words(words))
+}
+
+/// Reads one word of the EEPROM.
+fn read_word<B: Bus>(bus: &mut B, address: u8) -> Result<u16, InitError>
+    ensures extent { B.extent bus.new ≡ B.extent bus.old }
+    ensures kept { B.kept bus.old bus.new }
+    ensures honest { B.honest bus.old → B.honest bus.new }
+    ensures lively { B.lively bus.old → B.lively bus.new }
+    ensures only { IsOkUnless result InitError.EepromTimeout }
+    ensures reads { B.honest bus.old → ReadsWord B.world B.happened bus.old bus.new address result }
+    ensures in_time { B.lively bus.old → B.honest bus.old → IsOk result }
+{
+    bus.write(EERD, u32::from(address) << ADDR_SHIFT | START);
+    for _ in 0..MOST_READS {
+        let answer = bus.read(EERD);
+        if answer & DONE != 0 {
+            return Ok((answer >> DATA_SHIFT) as u16);
+        }
+    }
+    Err(InitError::EepromTimeout)
+}

@@ -1,0 +1,117 @@
+//! The registers of the receive filter ("13.5.1 Multicast Table Array" and the sections behind it).
+
+ghost use Rattle.std.specs.Prelude.{◌≡◌, ◌<◌, ◌^◌, All, replicate};
+ghost use Rattle.rx_filter.specs.Writing.{with_number};
+ghost use Rattle.bring_up.specs.FilterTables.{HasNumbers, address_writes, entry_writes, numbers_of_groups, table_writes};
+ghost use Rattle.bring_up.specs.Sets.{Sets};
+
+use adapter::offsets::{ADDRESS_PAIR_BYTES, MTA, RAL, REGISTER_BYTES, VFTA};
+use bus::Bus;
+use registers::GroupOffset;
+use rx_filter::{AddressWords, EXACT_ADDRESSES, TABLE_WORDS, TableBit, hash_of};
+
+/// The group table with the bits of these groups, each by bits 47:36 of its address (RCTL.MO 00), all
+/// others 0.
+pub fn group_table(groups: &[[u8; 6]]) -> [u32; TABLE_WORDS]
+    ensures { HasNumbers result (numbers_of_groups groups.now) }
+{
+    let mut table = empty_table();
+    for group in groups {
+        add_number(&mut table, hash_of(GroupOffset::Bits47To36, group));
+    }
+    table
+}
+
+/// The VLAN table with the bits of these VLANs, all others 0. Their numbers are below 4,096.
+pub fn vlan_table(vlans: &[u16]) -> [u32; TABLE_WORDS]
+    requires { All (λ vlan. vlan < 4096) vlans.now }
+    ensures { HasNumbers result vlans.now }
+{
+    let mut table = empty_table();
+    for vlan in vlans {
+        add_number(&mut table, *vlan);
+    }
+    table
+}
+
+/// A table with no bit set.
+fn empty_table() -> [u32; TABLE_WORDS]
+    ensures { result ≡ replicate 128 0 }
+{
+    [0; TABLE_WORDS]
+}
+
+/// Sets the bit of a number below 4,096.
+fn add_number(table: &mut [u32; TABLE_WORDS], number: u16)
+    requires { number < 4096 }
+    ensures { table.new ≡ with_number table.old number }
+{
+    let bit = TableBit::of(number);
+    table[usize::from(bit.word)] |= bit.mask;
+}
+
+/// Writes the group table, MTA.
+pub fn write_groups<B: Bus>(bus: &mut B, table: &[u32; TABLE_WORDS])
+    ensures extent { B.extent bus.new ≡ B.extent bus.old }
+    ensures kept { B.kept bus.old bus.new }
+    ensures honest { B.honest bus.old → B.honest bus.new }
+    ensures lively { B.lively bus.old → B.lively bus.new }
+    ensures sets { B.honest bus.old → Sets B.world B.happened bus.old bus.new (table_writes 0x5200 table.now) }
+{
+    write_table(bus, MTA, table);
+}
+
+/// Writes the VLAN table, VFTA.
+pub fn write_vlans<B: Bus>(bus: &mut B, table: &[u32; TABLE_WORDS])
+    ensures extent { B.extent bus.new ≡ B.extent bus.old }
+    ensures kept { B.kept bus.old bus.new }
+    ensures honest { B.honest bus.old → B.honest bus.new }
+    ensures lively { B.lively bus.old → B.lively bus.new }
+    ensures sets { B.honest bus.old → Sets B.world B.happened bus.old bus.new (table_writes 0x5600 table.now) }
+{
+    write_table(bus, VFTA, table);
+}
+
+/// Writes the exact addresses, RAL and RAH: this one as the first, and no other.
+pub fn write_addresses<B: Bus>(bus: &mut B, address: &[u8; 6])
+    ensures extent { B.extent bus.new ≡ B.extent bus.old }
+    ensures kept { B.kept bus.old bus.new }
+    ensures honest { B.honest bus.old → B.honest bus.new }
+    ensures lively { B.lively bus.old → B.lively bus.new }
+    ensures sets { B.honest bus.old → Sets B.world B.happened bus.old bus.new (address_writes address.now) }
+{
+    write_address(bus, 0, AddressWords::of(address));
+    for entry in 1..EXACT_ADDRESSES as u32 {
+        write_address(bus, entry, AddressWords { low: 0, high: 0 });
+    }
+}
+
+/// Writes an entry of the exact addresses.
+fn write_address<B: Bus>(bus: &mut B, entry: u32, words: AddressWords)
+    requires { entry < 16 }
+    ensures extent { B.extent bus.new ≡ B.extent bus.old }
+    ensures kept { B.kept bus.old bus.new }
+    ensures honest { B.honest bus.old → B.honest bus.new }
+    ensures lively { B.lively bus.old → B.lively bus.new }
+    ensures sets { B.honest bus.old → Sets B.world B.happened bus.old bus.new (entry_writes entry words.low words.high) }
+{
+    let low = RAL + ADDRESS_PAIR_BYTES * entry;
+    bus.write(low, words.low);
+    bus.write(low + REGISTER_BYTES, words.high);
+}
+
+/// Writes a table of 128 words from an offset on.
+fn write_table<B: Bus>(bus: &mut B, first: u32, words: &[u32; TABLE_WORDS])
+    requires { first < 2 ^ 16 }
+    ensures extent { B.extent bus.new ≡ B.extent bus.old }
+    ensures kept { B.kept bus.old bus.new }
+    ensures honest { B.honest bus.old → B.honest bus.new }
+    ensures lively { B.lively bus.old → B.lively bus.new }
+    ensures sets { B.honest bus.old → Sets B.world B.happened bus.old bus.new (table_writes first words.now) }
+{
+    let mut offset = first;
+    for word in words {
+        bus.write(offset, *word);
+        offset += REGISTER_BYTES;
+    }
+}

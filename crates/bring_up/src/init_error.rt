@@ -1,0 +1,26 @@
+//! Why an adapter was not brought up.
+
+use thiserror::Error;
+
+/// Why an adapter was not brought up. The call may be made again.
+#[derive(Clone, Copy, Debug, PartialEq, Eq, Error)]
+pub enum InitError {
+    /// Memory was refused. There was no access.
+    #[error("E10 Memory")]
+    Memory,
+    /// A word of the EEPROM was asked for, and 1,000 reads of EERD didn't show DONE.
+    #[error("E11 EepromTimeout")]
+    EepromTimeout,
+    /// The 64 words of the EEPROM don't add up to 0xBABA.
+    #[error("E12 Checksum")]
+    Checksum,
+    /// A command was given to the PHY, and 1,000 reads of MDIC didn't show R, or one showed R and E.
+    #[error("E13 PhyTimeout")]
+    PhyTimeout,
+    /// 1,000 reads of the PHY's status didn't show a link that is up and negotiated.
+    #[error("E14 NoLink")]
+    NoLink,
+    /// The configuration isn't one that can be had. There was no access.
+    #[error("E15 Config")]
+    Config,
+}

@@ -1,0 +1,35 @@
+//! Brings an 82540EM up over any bus: its reset, its EEPROM, its PHY, its filter, its rings and its
+//! interrupts, each by calls of its own.
+//!
+//! Section numbers are those of Intel's "PCI/PCI-X Family of Gigabit Ethernet Controllers Software
+//! Developer's Manual": "14.3 General Initialization", "14.4 Receive Initialization" and "14.5 Transmit
+//! Initialization". The order of the accesses is own.
+#![tactic(auto)]
+
+mod config;
+mod configured_law;
+mod controls;
+mod eeprom_reading;
+mod filter_tables;
+mod init_error;
+mod link;
+mod ring_registers;
+
+pub use config::{Config, MOST_GROUPS, MOST_VLANS};
+pub use configured_law::writes_configure;
+pub use controls::{allocate_packet_buffer, reset_device, set_link_up, unmask_interrupts};
+pub use eeprom_reading::read_image;
+pub use filter_tables::{group_table, vlan_table, write_addresses, write_groups, write_vlans};
+pub use init_error::InitError;
+pub use link::{await_link, negotiate};
+pub use ring_registers::{
+    RingPlace, enable_receiver, enable_transmitter, set_receive_ring, set_transmit_ring,
+};
+
+/// How often a driver reads a register in vain before it gives up (own).
+pub const MOST_READS: u16 = 1000;
+
+#[cfg(test)]
+mod eeprom_reading_tests;
+#[cfg(test)]
+mod link_tests;

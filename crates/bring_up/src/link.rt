@@ -1,0 +1,107 @@
+//! The PHY and its link ("13.4.7 MDI Control Register"; IEEE 802.3, clause 22).
+
+ghost use Rattle.std.specs.Prelude.{◌≡◌, ◌⊎◌, IfErr, IsOkUnless};
+ghost use Rattle.bring_up.specs.Link.{AwaitsLink, Commands, IsCommand, Negotiates};
+
+use crate::MOST_READS;
+use crate::init_error::InitError;
+use adapter::offsets::MDIC;
+use bus::Bus;
+
+/// The PHY's address in PHYADD, bits 25:21 of MDIC.
+const PHY_ADDRESS: u32 = 1 << 21;
+
+/// The PHY's register 1, its status, in REGADD, bits 20:16 of MDIC.
+const STATUS_REGISTER: u32 = 1 << 16;
+
+/// OP 01, a write, in bits 27:26 of MDIC.
+const OP_WRITE: u32 = 0b01 << 26;
+
+/// OP 10, a read.
+const OP_READ: u32 = 0b10 << 26;
+
+/// R, bit 28 of MDIC: the command has ended.
+const READY: u32 = 1 << 28;
+
+/// E, bit 30 of MDIC: the command has failed.
+const ERROR: u32 = 1 << 30;
+
+/// Autonegotiation is enabled: bit 12 of the PHY's register 0 (22.2.4.1).
+const ENABLE: u32 = 1 << 12;
+
+/// Autonegotiation begins again: bit 9 of the PHY's register 0.
+const RESTART: u32 = 1 << 9;
+
+/// Autonegotiation is complete: bit 5 of the PHY's register 1 (22.2.4.2).
+const NEGOTIATED: u32 = 1 << 5;
+
+/// The link is up: bit 2 of the PHY's register 1.
+const LINK: u32 = 1 << 2;
+
+/// Lets the PHY negotiate anew.
+///
+/// # Errors
+///
+/// [`PhyTimeout`](InitError::PhyTimeout) as of every command.
+pub fn negotiate<B: Bus>(bus: &mut B) -> Result<(), InitError>
+    ensures extent { B.extent bus.new ≡ B.extent bus.old }
+    ensures kept { B.kept bus.old bus.new }
+    ensures honest { B.honest bus.old → B.honest bus.new }
+    ensures lively { B.lively bus.old → B.lively bus.new }
+    ensures error { IsOkUnless result InitError.PhyTimeout }
+    ensures negotiates { B.honest bus.old → Negotiates B.world B.happened B.lively bus.old bus.new result }
+{
+    command(bus, OP_WRITE | PHY_ADDRESS | ENABLE | RESTART)?;
+    Ok(())
+}
+
+/// Waits until the link is up and negotiated, for 1,000 reads of the PHY's status at most.
+///
+/// # Errors
+///
+/// [`NoLink`](InitError::NoLink) behind these, and [`PhyTimeout`](InitError::PhyTimeout) as of every
+/// command.
+pub fn await_link<B: Bus>(bus: &mut B) -> Result<(), InitError>
+    ensures extent { B.extent bus.new ≡ B.extent bus.old }
+    ensures kept { B.kept bus.old bus.new }
+    ensures honest { B.honest bus.old → B.honest bus.new }
+    ensures lively { B.lively bus.old → B.lively bus.new }
+    ensures errors { IfErr result (λ error. (error ≡ InitError.PhyTimeout) ⊎ (error ≡ InitError.NoLink)) }
+    ensures awaits { B.honest bus.old → AwaitsLink B.world B.happened B.lively bus.old bus.new result }
+{
+    for _ in 0..MOST_READS {
+        let status = command(bus, OP_READ | PHY_ADDRESS | STATUS_REGISTER)?;
+        if status & NEGOTIATED != 0 && status & LINK != 0 {
+            return Ok(());
+        }
+    }
+    Err(InitError::NoLink)
+}
+
+/// Gives the PHY a command, and waits for its end. Answers MDIC as it was then.
+///
+/// # Errors
+///
+/// [`PhyTimeout`](InitError::PhyTimeout) where 1,000 reads of MDIC didn't show R, or one showed R and E.
+fn command<B: Bus>(bus: &mut B, words: u32) -> Result<u32, InitError>
+    requires { IsCommand words }
+    ensures extent { B.extent bus.new ≡ B.extent bus.old }
+    ensures kept { B.kept bus.old bus.new }
+    ensures honest { B.honest bus.old → B.honest bus.new }
+    ensures lively { B.lively bus.old → B.lively bus.new }
+    ensures error { IsOkUnless result InitError.PhyTimeout }
+    ensures commands { B.honest bus.old → Commands B.world B.happened B.lively bus.old bus.new words result }
+{
+    bus.write(MDIC, words);
+    for _ in 0..MOST_READS {
+        let answer = bus.read(MDIC);
+        if answer & READY != 0 {
+            return if answer & ERROR == 0 {
+                Ok(answer)
+            } else {
+                Err(InitError::PhyTimeout)
+            };
+        }
+    }
+    Err(InitError::PhyTimeout)
+}

@@ -1,0 +1,109 @@
+-- What accesses of a driver leave as it is: the adapter, its engines, or the causes that it has recorded (own).
+use Rattle.std.specs.Prelude.{⊤, ◌≡◌, ◌≢◌, ℕ, false, Some, IfSome}
+use Rattle.adapter.specs.Registers.{is_reset}
+use Rattle.adapter.specs.Table.{register_at, row_of}
+use Rattle.adapter.specs.World.{World}
+use Rattle.adapter.specs.declared.register.Register.{Register}
+use Rattle.adapter.specs.declared.register.Register.TheVariants.{Icr, Ics, Ims, Imc, Mpc, Gprc, Gptc, Rnbc}
+use Rattle.bus.specs.Idle.{IsOfRing}
+use Rattle.bus.specs.declared.event.Access.{Access}
+use Rattle.bus.specs.declared.event.Access.TheVariants.{Loads, Reads, Stores, Writes}
+use Rattle.bus.specs.Trails.{world_after_access}
+
+-- Quiet accesses.
+
+-- a read clears it: ICR and the counters
+abbrev pub IsClearedByRead : Register → Type 0
+IsClearedByRead Icr = ⊤
+IsClearedByRead Mpc = ⊤
+IsClearedByRead Gprc = ⊤
+IsClearedByRead Gptc = ⊤
+IsClearedByRead Rnbc = ⊤
+IsClearedByRead register = ⊥
+
+abbrev pub StaysAtRead : Register → Type 0
+StaysAtRead register = ¬ (IsClearedByRead register)
+
+-- a load, a store, and a read that clears nothing
+abbrev pub IsQuiet : Access → Type 0
+IsQuiet (Reads offset value) = IfSome (register_at offset) StaysAtRead
+IsQuiet (Writes offset value) = ⊥
+IsQuiet (Loads address size) = ⊤
+IsQuiet (Stores address bytes) = ⊤
+
+abbrev pub IsStore : Access → Type 0
+IsStore (Reads offset value) = ⊥
+IsStore (Writes offset value) = ⊥
+IsStore (Loads address size) = ⊥
+IsStore (Stores address bytes) = ⊤
+
+-- A quiet access leaves the adapter,
+abbrev pub QuietAccessesLeaveAdapters : Type 0
+QuietAccessesLeaveAdapters = (access : Access) (world : World) → IsQuiet access → (world_after_access access world).adapter ≡ world.adapter
+
+-- and one that is no store leaves memory, too.
+abbrev pub QuietAccessesLeaveWorlds : Type 0
+QuietAccessesLeaveWorlds = (access : Access) (world : World) → IsQuiet access → ¬ (IsStore access) → world_after_access access world ≡ world
+
+-- Writes.
+
+-- a write of it moves the recorded causes: ICR and ICS
+abbrev pub MovesCauses : Register → Type 0
+MovesCauses Icr = ⊤
+MovesCauses Ics = ⊤
+MovesCauses register = ⊥
+
+-- a write of it moves their mask: IMS and IMC
+abbrev pub MovesMask : Register → Type 0
+MovesMask Ims = ⊤
+MovesMask Imc = ⊤
+MovesMask register = ⊥
+
+-- a write of this word is no reset
+abbrev pub ResetsNothing : ℕ → Register → Type 0
+ResetsNothing value register = is_reset register value ≡ false
+
+-- nor does it move the recorded causes
+abbrev pub WriteLeavesCauses : ℕ → Register → Type 0
+WriteLeavesCauses value register = (¬ (MovesCauses register)) × ResetsNothing value register
+
+-- nor their mask
+abbrev pub WriteLeavesMask : ℕ → Register → Type 0
+WriteLeavesMask value register = (¬ (MovesMask register)) × ResetsNothing value register
+
+-- Accesses.
+
+-- it isn't a write of CTRL with RST
+abbrev pub IsNoReset : Access → Type 0
+IsNoReset (Reads offset value) = ⊤
+IsNoReset (Writes offset value) = IfSome (register_at offset) (ResetsNothing value)
+IsNoReset (Loads address size) = ⊤
+IsNoReset (Stores address bytes) = ⊤
+
+-- it is neither a read of ICR, nor a write of ICR or ICS, nor a reset
+abbrev pub LeavesCauses : Access → Type 0
+LeavesCauses (Reads offset value) = register_at offset ≢ Some Icr
+LeavesCauses (Writes offset value) = IfSome (register_at offset) (WriteLeavesCauses value)
+LeavesCauses (Loads address size) = ⊤
+LeavesCauses (Stores address bytes) = ⊤
+
+-- it is neither a write of IMS or IMC, nor a reset
+abbrev pub LeavesMask : Access → Type 0
+LeavesMask (Reads offset value) = ⊤
+LeavesMask (Writes offset value) = IfSome (register_at offset) (WriteLeavesMask value)
+LeavesMask (Loads address size) = ⊤
+LeavesMask (Stores address bytes) = ⊤
+
+-- it does all three
+pub record LeavesInterrupts (access : Access) : Type 0 where
+  pub no_reset : IsNoReset access
+  pub causes : LeavesCauses access
+  pub mask : LeavesMask access
+
+-- So do quiet accesses,
+abbrev pub QuietAccessesLeaveInterrupts : Type 0
+QuietAccessesLeaveInterrupts = (access : Access) → IsQuiet access → LeavesInterrupts access
+
+-- and so do writes of a ring's registers, RDT and TDT among them.
+abbrev pub RingWritesLeaveInterrupts : Type 0
+RingWritesLeaveInterrupts = (register : Register) (value : ℕ) → IsOfRing register → LeavesInterrupts (Writes (row_of register).offset value)

@@ -1,0 +1,126 @@
+-- What a driver has set of an adapter: the registers that only its own writes change, beside what nothing changes (own).
+use Rattle.std.specs.Prelude.{⊤, ◌≡◌, ℕ, List, [], ◌∷◌, All, Option, Some}
+use Rattle.registers.specs.Bits.{HasBit}
+use Rattle.mdic_phy.specs.Phy.{new_phy}
+use Rattle.mdic_phy.specs.declared.phy.Link.{Link}
+use Rattle.rx_filter.specs.Registers.{FilterRegisters}
+use Rattle.adapter.specs.declared.ring.RingRegisters.{RingRegisters}
+use Rattle.adapter.specs.Registers.{adapter_at_reset, after_write}
+use Rattle.adapter.specs.State.{AdapterState}
+use Rattle.adapter.specs.Table.{register_at}
+use Rattle.adapter.specs.World.{World}
+use Rattle.adapter.specs.declared.register.Register.{Register}
+use Rattle.adapter.specs.declared.register.Register.TheVariants.{Rctl}
+use Rattle.bus.specs.Law.{Happens}
+use Rattle.bus.specs.Past.{Past, joined}
+use Rattle.bus.specs.declared.event.Access.{Access}
+use Rattle.bus.specs.declared.event.Access.TheVariants.{Loads, Reads, Stores, Writes}
+
+pub record Settings : Type 0 where
+  -- the words of the EEPROM, and how the PHY's link comes up, which nothing changes
+  pub image : List ℕ
+  pub link : Link
+  -- PBA
+  pub receive_kilobytes : ℕ
+  -- CTRL
+  pub device_control : ℕ
+  -- IMS
+  pub mask : ℕ
+  -- RAL, RAH, MTA, VFTA, RCTL and VET
+  pub filter : FilterRegisters
+  -- TCTL
+  pub transmit_control : ℕ
+  -- bases, lengths and tails; the heads, which the adapter moves, count as 0
+  pub receive_ring : RingRegisters
+  pub transmit_ring : RingRegisters
+
+abbrev pub settings_of : AdapterState → Settings
+settings_of adapter = record {
+  image = adapter.image;
+  link = adapter.phy.link;
+  receive_kilobytes = adapter.receive_kilobytes;
+  device_control = adapter.device_control;
+  mask = adapter.causes.mask;
+  filter = adapter.filter;
+  transmit_control = adapter.transmit_control;
+  receive_ring = record adapter.receive_ring { head = 0 };
+  transmit_ring = record adapter.transmit_ring { head = 0 };
+}
+
+-- an adapter at rest that has these settings
+abbrev pub adapter_with : Settings → AdapterState
+adapter_with settings = record (adapter_at_reset settings.image (new_phy settings.link) settings.receive_kilobytes) {
+  device_control = settings.device_control;
+  causes = record { recorded = 0; mask = settings.mask };
+  filter = settings.filter;
+  transmit_control = settings.transmit_control;
+  receive_ring = settings.receive_ring;
+  transmit_ring = settings.transmit_ring;
+}
+
+-- a register write: an offset, and the word that is written
+pub record Write : Type 0 where
+  pub offset : ℕ
+  pub value : ℕ
+
+-- the writes among accesses, in order
+abbrev pub writes_in : List Access → List Write
+writes_in [] = []
+writes_in (Reads offset value ∷ later) = writes_in later
+writes_in (Writes offset value ∷ later) = record { offset = offset; value = value } ∷ writes_in later
+writes_in (Loads address size ∷ later) = writes_in later
+writes_in (Stores address bytes ∷ later) = writes_in later
+
+-- what a write leaves of the settings
+abbrev pub settings_after : Write → Settings → Settings
+settings_after write settings = settings_of (after_write write.offset write.value (adapter_with settings))
+
+-- what writes leave of them, one behind the other
+abbrev pub settings_after_all : List Write → Settings → Settings
+settings_after_all [] settings = settings
+settings_after_all (write ∷ later) settings = settings_after_all later (settings_after write settings)
+
+-- In a stretch the settings become what the driver's writes make of them, whatever else happens.
+abbrev pub AreSet : World → World → Past → Type 0
+AreSet a b past = settings_of b.adapter ≡ settings_after_all (writes_in past.accesses) (settings_of a.adapter)
+
+-- Two stretches set what they set together.
+abbrev pub SettingsJoin : Type 0
+SettingsJoin = (a b c : World) (first later : Past) → AreSet a b first → AreSet b c later → AreSet a c (joined first later)
+
+-- Whatever happens between two accesses leaves the settings,
+abbrev pub HappeningsLeaveSettings : Type 0
+HappeningsLeaveSettings = (a b : World) (past : Past) → Happens a b past → settings_of b.adapter ≡ settings_of a.adapter
+
+-- and a write of any register sets what it would set on an adapter at rest.
+abbrev pub WritesSet : Type 0
+WritesSet =
+    (offset value : ℕ) (adapter : AdapterState)
+    → settings_of (after_write offset value adapter) ≡ settings_after (record { offset = offset; value = value }) (settings_of adapter)
+
+-- While frames don't come.
+
+-- RCTL.EN is 0
+abbrev pub IsOff : World → Type 0
+IsOff world = ¬ (HasBit world.adapter.filter.rctl 1)
+
+abbrev pub IsNotReceiveControl : Option Register → Type 0
+IsNotReceiveControl (Some Rctl) = ⊥
+IsNotReceiveControl _ = ⊤
+
+-- the write isn't of RCTL
+abbrev pub LeavesReceiver : Write → Type 0
+LeavesReceiver write = IsNotReceiveControl (register_at write.offset)
+
+-- No frame was stored or missed.
+pub record NoArrival (past : Past) : Type 0 where
+  pub none_stored : past.stored ≡ []
+  pub none_missed : past.missed ≡ 0
+
+-- Where RCTL.EN is 0, and isn't written, no frame is stored or missed.
+abbrev pub WhileOff : World → Past → Type 0
+WhileOff a past = IsOff a → All LeavesReceiver (writes_in past.accesses) → NoArrival past
+
+-- It stays 0 then, a reset among the writes or not.
+abbrev pub StaysOff : Type 0
+StaysOff = (writes : List Write) (settings : Settings) → All LeavesReceiver writes → ¬ (HasBit settings.filter.rctl 1) → ¬ (HasBit (settings_after_all writes settings).filter.rctl 1)

@@ -1,0 +1,94 @@
+-- Which interrupt causes the events of a trail record, each as the adapter does by itself (13.4.17 "Interrupt Cause Read Register").
+use Rattle.std.specs.Prelude.{◌≡◌, ℕ, Bool, true, List, [], ◌∷◌, Option, Some, None, All}
+use Rattle.mdic_phy.specs.declared.mdic.Ticked.{Ticked}
+use Rattle.mdic_phy.specs.Mdic.{told}
+use Rattle.registers.specs.Bits.{HasBit, union}
+use Rattle.rx_engine.specs.Moving.{is_half_free}
+use Rattle.rx_engine.specs.declared.arrival.Fate.{Fate}
+use Rattle.rx_engine.specs.declared.arrival.Fate.TheVariants.{Missed}
+use Rattle.tx_engine.specs.Steps.{IfFront}
+use Rattle.adapter.specs.Receiving.{causes_of_moving}
+use Rattle.adapter.specs.Rings.{ring_of}
+use Rattle.adapter.specs.State.{AdapterState}
+use Rattle.adapter.specs.Steps.{causes_told}
+use Rattle.adapter.specs.Transmitting.{causes_of_putting, causes_of_taking, moved_on}
+use Rattle.adapter.specs.World.{World}
+use Rattle.adapter.specs.declared.step.StepKind.{StepKind}
+use Rattle.adapter.specs.declared.step.StepKind.TheVariants.{TxTake, TxPut, RxData, RxDone, PhyTick}
+use Rattle.adapter.specs.declared.step.Stepped.{Stepped}
+use Rattle.adapter.specs.declared.step.Stepped.TheVariants.{Took, Put, Moved, Done}
+use Rattle.bus.specs.Accesses.{LeavesCauses, LeavesMask}
+use Rattle.bus.specs.Trails.{Trail, past_of, world_after}
+use Rattle.bus.specs.declared.event.Event.{Event}
+use Rattle.bus.specs.declared.event.Event.TheVariants.{Accesses, Arrives, Steps}
+
+-- What one event records.
+
+-- a tick of the PHY: LSC and MDAC, as it tells
+abbrev pub causes_by_tick : Option Ticked → ℕ
+causes_by_tick (Some ticked) = causes_told ticked
+causes_by_tick None = 0
+
+-- a step with this answer, of the adapter that it finds
+abbrev pub causes_by_step : StepKind → Stepped → AdapterState → ℕ
+causes_by_step TxTake Took adapter = causes_of_taking adapter.transmit_ring
+causes_by_step TxPut (Put frame) adapter = causes_of_putting adapter.transmitter.buffer
+causes_by_step RxData Moved adapter = causes_of_moving adapter.receive_ring
+causes_by_step RxDone Done adapter = 0x80
+causes_by_step PhyTick answer adapter = causes_by_tick (told adapter.mdic adapter.phy)
+causes_by_step kind answer adapter = 0
+
+-- an arrival: RXO, bit 6, where the frame is missed
+abbrev pub causes_by_arrival : Fate → ℕ
+causes_by_arrival Missed = 0x40
+causes_by_arrival fate = 0
+
+abbrev pub causes_by : Event → World → ℕ
+causes_by (Steps kind wire_free answer) world = causes_by_step kind answer world.adapter
+causes_by (Arrives frame fate) world = causes_by_arrival fate
+causes_by (Accesses access) world = 0
+
+-- What all events of a trail from this world record.
+abbrev pub causes_in : List Event → World → ℕ
+causes_in [] world = 0
+causes_in (event ∷ later) world = union (causes_by event world) (causes_in later (world_after event world))
+
+-- At a trail's end the recorded causes are those before and what its events recorded, where no access moves causes.
+abbrev pub CausesAreThoseOfSteps : Type 0
+CausesAreThoseOfSteps =
+    (events : List Event) (a b : World) → All LeavesCauses (past_of events).accesses → Trail events a b
+    → b.adapter.causes.recorded ≡ union a.adapter.causes.recorded (causes_in events a)
+
+-- Their mask stays, where no access moves it.
+abbrev pub MasksStay : Type 0
+MasksStay =
+    (events : List Event) (a b : World) → All LeavesMask (past_of events).accesses → Trail events a b
+    → b.adapter.causes.mask ≡ a.adapter.causes.mask
+
+-- What the first event of a trail from a to b records is still recorded at its end.
+pub record IsRecorded (later : List Event) (a b : World) : Type 0 where
+  -- TXDW, bit 0: a frame was put whose descriptor asks for a report.
+  pub put : (wire_free : Bool) (frame : List ℕ) → Trail (Steps TxPut wire_free (Put frame) ∷ later) a b
+      → IfFront a.adapter.transmitter.buffer (λ queued. queued.report ≡ true) → HasBit b.adapter.causes.recorded 0
+  -- TXQE, bit 1: the descriptor taken was the last before TDT.
+  pub taken : (wire_free : Bool) → Trail (Steps TxTake wire_free Took ∷ later) a b
+      → (moved_on a.adapter.transmit_ring).head ≡ a.adapter.transmit_ring.tail → HasBit b.adapter.causes.recorded 1
+  -- LSC, bit 2: the link came up at a tick of the PHY.
+  pub link : (wire_free : Bool) (answer : Stepped) → Trail (Steps PhyTick wire_free answer ∷ later) a b
+      → (ticked : Ticked) → told a.adapter.mdic a.adapter.phy ≡ Some ticked → ticked.link_changed ≡ true
+      → HasBit b.adapter.causes.recorded 2
+  -- RXDMT0, bit 4: the descriptors from RDH to RDT became half the ring as a frame was moved.
+  pub moved : (wire_free : Bool) → Trail (Steps RxData wire_free Moved ∷ later) a b
+      → is_half_free (ring_of (moved_on a.adapter.receive_ring)) ≡ true → HasBit b.adapter.causes.recorded 4
+  -- RXO, bit 6: a frame was missed.
+  pub missed : (frame : List ℕ) → Trail (Arrives frame Missed ∷ later) a b → HasBit b.adapter.causes.recorded 6
+  -- RXT0, bit 7: a received frame was written back.
+  pub done : (wire_free : Bool) → Trail (Steps RxDone wire_free Done ∷ later) a b → HasBit b.adapter.causes.recorded 7
+  -- MDAC, bit 9: a command of MDIC whose end is told ended at a tick of the PHY.
+  pub management : (wire_free : Bool) (answer : Stepped) → Trail (Steps PhyTick wire_free answer ∷ later) a b
+      → (ticked : Ticked) → told a.adapter.mdic a.adapter.phy ≡ Some ticked → ticked.access_complete ≡ true
+      → HasBit b.adapter.causes.recorded 9
+
+-- It is, where no access behind it moves causes; accesses in front of it may.
+abbrev pub RecordedCausesStay : Type 0
+RecordedCausesStay = (later : List Event) (a b : World) → All LeavesCauses (past_of later).accesses → IsRecorded later a b

@@ -1,0 +1,36 @@
+-- A fault stays visible: it stops an engine until the next reset (own).
+use Rattle.std.specs.Prelude.{⊤, ◌≡◌, ◌≢◌, true, false, List, All}
+use Rattle.adapter.specs.State.{AdapterState}
+use Rattle.adapter.specs.World.{World}
+use Rattle.adapter.specs.declared.step.Stepped.TheVariants.{Fault}
+use Rattle.bus.specs.Accesses.{IsNoReset}
+use Rattle.bus.specs.Trails.{Trail, past_of}
+use Rattle.bus.specs.declared.event.Event.{Event}
+use Rattle.bus.specs.declared.event.Event.TheVariants.{Accesses, Arrives, Steps}
+
+-- no fault has stopped an engine
+pub record EnginesRun (adapter : AdapterState) : Type 0 where
+  pub receiver : adapter.receiver.stopped ≡ false
+  pub transmitter : adapter.transmitter.stopped ≡ false
+
+-- an engine that was stopped still is
+pub record StaysStopped (a b : AdapterState) : Type 0 where
+  pub receiver : a.receiver.stopped ≡ true → b.receiver.stopped ≡ true
+  pub transmitter : a.transmitter.stopped ≡ true → b.transmitter.stopped ≡ true
+
+-- it isn't a step whose answer is a fault
+abbrev pub IsNoFault : Event → Type 0
+IsNoFault (Steps kind wire_free answer) = answer ≢ Fault
+IsNoFault (Arrives frame fate) = ⊤
+IsNoFault (Accesses access) = ⊤
+
+-- Along a trail without a reset a stopped engine stays stopped.
+abbrev pub FaultsStay : Type 0
+FaultsStay =
+    (events : List Event) (a b : World) → All IsNoReset (past_of events).accesses → Trail events a b → StaysStopped a.adapter b.adapter
+
+-- So where both engines run at its end, no answer of a step was a fault.
+abbrev pub RunningEnginesMetNoFault : Type 0
+RunningEnginesMetNoFault =
+    (events : List Event) (a b : World) → All IsNoReset (past_of events).accesses → Trail events a b
+    → EnginesRun b.adapter → All IsNoFault events
