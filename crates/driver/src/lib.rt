@@ -11,3 +11,6 @@ mod refill;
 
 pub use driver::Driver;
 pub use receiver::{Received, Receiver};
+
+#[cfg(test)]
+mod tests;
