@@ -17,7 +17,6 @@ use Rattle.bus.proofs.Lists.{all-none}
 use Rattle.bus.proofs.KnownRings.{transmit_tail-written}
 use Rattle.bus.specs.Law.{Acts, Happens}
 use Rattle.bus.specs.Past.{Past, joined, nothing}
-use Rattle.bus.specs.declared.event.Access.{Access}
 use Rattle.bus.specs.declared.event.Access.TheVariants.{Loads, Stores, Writes}
 use Rattle.driver_law.specs.DriverState.{DriverState, transmit_slot, transmit_tail}
 use Rattle.driver_law.specs.Goes.{Goes, RanBy}

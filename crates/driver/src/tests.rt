@@ -3,7 +3,7 @@
 ghost use Rattle.std.specs.Prelude.{⊤};
 
 use crate::{Driver, Received, Receiver};
-use adapter::offsets::{RCTL, RDLEN, RDT, TDLEN, TDBAL};
+use adapter::offsets::{RCTL, RDLEN, RDT, TDBAL, TDLEN};
 use adapter::{Adapter, Fate, StepKind, Stepped};
 use bus::{Bus, HonestBus, SoloBus};
 use circular_buffer::HeapCircularBuffer;
@@ -80,8 +80,11 @@ fn frames_come_round_the_ring(rt: HostRuntime) -> Result<(), Fail> {
     let layout = Layout::of(8, 8, 9)?;
     let mut bus = new_bus(rt.alloc(), &layout)?;
     let mut driver = new_driver(rt.alloc(), layout)?;
-    let mut keeper = Keeper { first: None, bytes: 0 };
-    assert!(rt; layout.size() <= bus.size());
+    let mut keeper = Keeper {
+        first: None,
+        bytes: 0,
+    };
+    assert!(rt; driver.layout().size() <= bus.size());
     driver.refill(&mut bus);
     // Seven descriptors, and RDT.
     assert_eq!(rt; driver.receiving(), 7);
@@ -94,12 +97,12 @@ fn frames_come_round_the_ring(rt: HostRuntime) -> Result<(), Fail> {
         assert_eq!(rt; bus.step(StepKind::RxData), Stepped::Moved);
         assert_eq!(rt; bus.step(StepKind::RxDone), Stepped::Done);
     }
-    assert!(rt; layout.size() <= bus.size());
+    assert!(rt; driver.layout().size() <= bus.size());
     assert_eq!(rt; driver.take_finished(&mut bus, &mut keeper), 2);
     assert_eq!(rt; keeper.bytes, 140);
     assert!(rt; keeper.first.is_some());
     assert_eq!(rt; driver.receiving(), 5);
-    assert!(rt; layout.size() <= bus.size());
+    assert!(rt; driver.layout().size() <= bus.size());
     driver.refill(&mut bus);
     assert_eq!(rt; driver.receiving(), 7);
     assert_eq!(rt; bus.read(RDT), 1);
