@@ -14,13 +14,14 @@ use Rattle.bus.specs.declared.event.Access.{Access}
 use Rattle.bus.specs.declared.event.Access.TheVariants.{Loads}
 use Rattle.driver_law.proofs.Accesses.{ran_by-join, ran_by-stays}
 use Rattle.driver_law.proofs.Places.{place-next}
-use Rattle.driver_law.proofs.TransmitRuns.{RanWith, run-frees, run-waits}
-use Rattle.driver_law.specs.DriverState.{DriverState, transmit_slot, transmit_tail}
+use Rattle.driver_law.proofs.RunsWith.{RanWith}
+use Rattle.driver_law.proofs.TransmitRuns.{run-frees, run-waits}
+use Rattle.driver_law.specs.DriverState.{DriverState, HandedOut, holding, transmit_slot, transmit_tail}
 use Rattle.driver_law.specs.Goes.{RanBy}
 use Rattle.driver_law.specs.Ready.{Ready}
 use Rattle.driver_law.specs.Transmit.{transmit_loads, with_freed}
 use Rattle.driver.specs.Inside.{IsSending}
-use Rattle.driver.specs.Sends.{with_sending}
+use Rattle.driver.specs.Sends.{Reclaims, probes, with_sending}
 
 -- How many loads.
 
@@ -79,13 +80,13 @@ frees-oldest world happened lively old new d address bytes at some done acts rea
 pub waits-oldest : {B : Type 0} (world : B → World) (happened : B → B → Past → Type 0) (lively : B → Type 0) (old new : B) (d : DriverState) (address : ℕ) (bytes : List ℕ)
     → address ≡ transmit_slot d.counts d.oldest_sent → 0 < d.sending → is_set (slice_index bytes 12) 0 ≡ false
     → Acts world happened lively old new (Loads address 16) (λ before after. (bytes ≡ bytes_at before.memory address 16) × (after ≡ before)) → Ready d (world old)
-    → RanWith world happened (transmit_loads d.counts d.oldest_sent (min d.sending 1)) old new d d [] [] (λ after. written_back d.oldest_sent after ≡ [])
+    → RanWith true world happened (transmit_loads d.counts d.oldest_sent (min d.sending 1)) old new d d [] [] (λ after. written_back d.oldest_sent after ≡ [])
 waits-oldest world happened lively old new d address bytes at some clear acts ready =
-    subst (λ (accesses : List Access). RanWith world happened accesses old new d d [] [] (λ after. written_back d.oldest_sent after ≡ [])) (sym (loads-one d some))
+    subst (λ (accesses : List Access). RanWith true world happened accesses old new d d [] [] (λ after. written_back d.oldest_sent after ≡ [])) (sym (loads-one d some))
     (run-waits world happened lively old new d bytes clear (subst (LoadsAt world happened lively old new bytes) at acts) ready)
 
 -- Some slots, and then the oldest of those that are left.
-pub frees-more : {B : Type 0} (world : B → World) (happened : B → B → Past → Type 0) → ((a b c : B) (first later : Past) → happened a b first → happened b c later → happened a c (joined first later))
+frees-more : {B : Type 0} (world : B → World) (happened : B → B → Past → Type 0) → ((a b c : B) (first later : Past) → happened a b first → happened b c later → happened a c (joined first later))
     → (a b c : B) (d1 d2 d3 : DriverState) (k total : ℕ) → d2.counts ≡ d1.counts → d2.oldest_sent ≡ place d1.counts.tx d1.oldest_sent k → k + min d2.sending 1 ≡ total
     → RanBy true world happened (transmit_loads d1.counts d1.oldest_sent k) a b d1 d2 [] []
     → RanBy true world happened (transmit_loads d2.counts d2.oldest_sent (min d2.sending 1)) b c d2 d3 [] []
@@ -108,12 +109,12 @@ pub record IsFreeing (d d' : DriverState) : Type 0 where
   pub walked : d'.oldest_sent ≡ place d.counts.tx d.oldest_sent (d.sending - d'.sending)
   pub tail : transmit_tail d' ≡ transmit_tail d
 
-pub freeing-none : (d : DriverState) → IsFreeing d d
+freeing-none : (d : DriverState) → IsFreeing d d
 freeing-none d =
     let none : d.sending - d.sending ≡ 0 = omega arith in
     record { others = refl; fewer = omega arith; walked = sym (ap (place d.counts.tx d.oldest_sent) none); tail = refl }
 
-pub freeing-more : (d1 d2 d3 : DriverState) → IsFreeing d1 d2 → 0 < d2.sending → d3 ≡ with_freed d2 → IsFreeing d1 d3
+freeing-more : (d1 d2 d3 : DriverState) → IsFreeing d1 d2 → 0 < d2.sending → d3 ≡ with_freed d2 → IsFreeing d1 d3
 freeing-more d1 d2 d3 freeing some freed =
     let n = d1.counts.tx in
     let next = (d2.oldest_sent + 1) % d2.counts.tx in
@@ -131,4 +132,64 @@ freeing-more d1 d2 d3 freeing some freed =
           ∙ sym (place-next n d1.oldest_sent (d1.sending - d2.sending))
           ∙ ap (place n d1.oldest_sent) more;
       tail = ap transmit_tail freed ∙ tail-freed d2.counts.tx d2.oldest_sent d2.sending some ∙ freeing.tail;
+    }
+
+-- Some slots were freed over a bus, by one load each.
+pub record HasFreed {B : Type 0} (honest : B → Type 0) (world : B → World) (happened : B → B → Past → Type 0) (old new : B) (d d' : DriverState) : Type 0 where
+  pub freeing : IsFreeing d d'
+  pub ran :
+      (held : List HandedOut) → honest old → Ready (holding held d) (world old)
+      → RanBy true world happened (transmit_loads d.counts d.oldest_sent (d.sending - d'.sending)) old new (holding held d) (holding held d') [] []
+
+pub has_freed-none : {B : Type 0} (honest : B → Type 0) (world : B → World) (happened : B → B → Past → Type 0) → ((b : B) → happened b b nothing) → (b : B) (d : DriverState)
+    → HasFreed honest world happened b b d d
+has_freed-none honest world happened stays b d =
+    let none : d.sending - d.sending ≡ 0 = omega arith in
+    record {
+      freeing = freeing-none d;
+      ran = λ held honest_b ready.
+          subst (λ (k : ℕ). RanBy true world happened (transmit_loads d.counts d.oldest_sent k) b b (holding held d) (holding held d) [] []) (sym none)
+          (ran_by-stays world happened stays b (holding held d) ready);
+    }
+
+-- What one turn does, from any state.
+abbrev pub Turns : {B : Type 0} (honest : B → Type 0) (world : B → World) (happened : B → B → Past → Type 0) (old new : B) (d d' : DriverState) → Type 0
+Turns honest world happened old new d d' =
+    (held : List HandedOut) → honest old → Ready (holding held d) (world old)
+    → RanBy true world happened (transmit_loads d.counts d.oldest_sent (min d.sending 1)) old new (holding held d) (holding held d') [] []
+
+-- One more turn, and how many loads there are then.
+frees-turn : {B : Type 0} (honest : B → Type 0) (world : B → World) (happened : B → B → Past → Type 0)
+    → ((a b c : B) (first later : Past) → happened a b first → happened b c later → happened a c (joined first later)) → (a b c : B) (d1 d2 d3 : DriverState) (total : ℕ)
+    → (honest a → honest b) → HasFreed honest world happened a b d1 d2 → Turns honest world happened b c d2 d3 → d1.sending - d2.sending + min d2.sending 1 ≡ total
+    → (held : List HandedOut) → honest a → Ready (holding held d1) (world a)
+    → RanBy true world happened (transmit_loads d1.counts d1.oldest_sent total) a c (holding held d1) (holding held d3) [] []
+frees-turn honest world happened joins a b c d1 d2 d3 total still freed turn sum held honest_a ready =
+    let before = freed.ran held honest_a ready in
+    frees-more world happened joins a b c (holding held d1) (holding held d2) (holding held d3) (d1.sending - d2.sending) total
+    (ap (λ (d : DriverState). d.counts) freed.freeing.others) freed.freeing.walked sum before (turn held (still honest_a) before.goes.flows.ready)
+
+pub has_freed-more : {B : Type 0} (honest : B → Type 0) (world : B → World) (happened : B → B → Past → Type 0)
+    → ((a b c : B) (first later : Past) → happened a b first → happened b c later → happened a c (joined first later)) → (a b c : B) (d1 d2 d3 : DriverState)
+    → (honest a → honest b) → HasFreed honest world happened a b d1 d2 → Turns honest world happened b c d2 d3 → 0 < d2.sending → d3 ≡ with_freed d2
+    → HasFreed honest world happened a c d1 d3
+has_freed-more honest world happened joins a b c d1 d2 d3 still freed turn some is =
+    let left = ap (λ (d : DriverState). d.sending) is in
+    record {
+      freeing = freeing-more d1 d2 d3 freed.freeing some is;
+      ran = frees-turn honest world happened joins a b c d1 d2 d3 (d1.sending - d3.sending) still freed turn (omega (arith, freed.freeing.fewer, left, some));
+    }
+
+-- The turn that frees none is the last.
+pub has_freed-all : {B : Type 0} (honest : B → Type 0) (world : B → World) (happened : B → B → Past → Type 0)
+    → ((a b c : B) (first later : Past) → happened a b first → happened b c later → happened a c (joined first later)) → (a b c : B) (d1 d2 d3 : DriverState)
+    → (honest a → honest b) → HasFreed honest world happened a b d1 d2 → Turns honest world happened b c d2 d3 → d3 ≡ d2
+    → ((held : List HandedOut) → honest b → Ready (holding held d2) (world b) → written_back d3.oldest_sent (world c) ≡ [])
+    → (held : List HandedOut) → honest a → Ready (holding held d1) (world a) → Reclaims world happened a c (holding held d1) (holding held d3)
+has_freed-all honest world happened joins a b c d1 d2 d3 still freed turn is none held honest_a ready =
+    let left = ap (λ (d : DriverState). d.sending) is in
+    let before = freed.ran held honest_a ready in
+    record {
+      ran = frees-turn honest world happened joins a b c d1 d2 d3 (probes d1.sending d3.sending) still freed turn (omega (arith, left)) held honest_a ready;
+      none = none held (still honest_a) before.goes.flows.ready;
     }

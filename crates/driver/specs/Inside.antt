@@ -1,5 +1,5 @@
--- How a driver keeps its state (own): the buffers of outstanding and staged receive slots stand in one queue, and the places behind the last slots
--- are kept beside it.
+-- How a driver keeps its state (own): the buffers of outstanding and staged receive slots stand in one queue, and the places behind the
+-- last slots are kept beside it.
 use Rattle.std.specs.Prelude.{◌≡◌, ◌≤◌, ◌<◌, ◌-◌, ◌++◌, ℕ, [], length, take, drop}
 use Rattle.dma_memory.specs.Layout.{Counts}
 use Rattle.dma_memory.specs.Numbers.{Numbers}

@@ -8,8 +8,10 @@ use Rattle.driver_law.specs.DriverState.{DriverState, HandedOut, holding, next_r
 use Rattle.driver_law.specs.Goes.{RanBy}
 use Rattle.driver_law.specs.Ready.{ReadyWith}
 
--- The next slots are staged with these buffers of the pool: over a bus that obeys the law, by storing their descriptors one after the other.
-pub record Stages {B : Type 0} (honest : B → Type 0) (world : B → World) (happened : B → B → Past → Type 0) (old new : B) (d d' : DriverState) (numbers : List ℕ) : Type 0 where
+-- The next slots are staged with these buffers of the pool: over a bus that obeys the law, by storing their descriptors one after the
+-- other.
+pub record Stages {B : Type 0} (honest : B → Type 0) (world : B → World) (happened : B → B → Past → Type 0) (old new : B)
+    (d d' : DriverState) (numbers : List ℕ) : Type 0 where
   pub others : d' ≡ with_owners d d.buffers (d.staged ++ numbers) d'.pool d.handed_out
   pub pool : HaveSameNumbers d.pool (numbers ++ d'.pool)
   pub ran :
@@ -17,13 +19,17 @@ pub record Stages {B : Type 0} (honest : B → Type 0) (world : B → World) (ha
       → RanBy up world happened (stores_from d.counts (next_received d) numbers) old new (holding held d) (holding held d') [] []
 
 -- Some slots are.
-pub record StagesSome {B : Type 0} (honest : B → Type 0) (world : B → World) (happened : B → B → Past → Type 0) (old new : B) (d d' : DriverState) : Type 0 where
+pub record StagesSome {B : Type 0} (honest : B → Type 0) (world : B → World) (happened : B → B → Past → Type 0) (old new : B)
+    (d d' : DriverState) : Type 0 where
   pub numbers : List ℕ
   pub stages : Stages honest world happened old new d d' numbers
 
--- The next slots are offered with these buffers, behind those that were staged before: their descriptors are stored, and then RDT is written once,
--- where there are any.
-pub record Refills (up : Bool) {B : Type 0} (world : B → World) (happened : B → B → Past → Type 0) (old new : B) (d d' : DriverState) : Type 0 where
+-- The next slots are offered with these buffers, behind those that were staged before: their descriptors are stored, and then RDT is
+-- written once, where there are any.
+pub record Refills (up : Bool) {B : Type 0} (world : B → World) (happened : B → B → Past → Type 0) (old new : B)
+    (d d' : DriverState) : Type 0 where
   pub numbers : List ℕ
   pub offered : d'.buffers ≡ d.buffers ++ (d.staged ++ numbers)
-  pub ran : RanBy up world happened (stores_from d.counts (next_received d) numbers ++ tail_write (next_received d') (d.staged ++ numbers)) old new d d' [] []
+  pub ran :
+      RanBy up world happened (stores_from d.counts (next_received d) numbers ++ tail_write (next_received d') (d.staged ++ numbers))
+      old new d d' [] []

@@ -15,7 +15,8 @@ use Rattle.driver.specs.declared.transmit.SendError.TheVariants.{TooShort, TooLo
 abbrev pub with_sending : DriverState → (oldest sending : ℕ) → DriverState
 with_sending d oldest sending = record d { oldest_sent = oldest; sending = sending }
 
--- how many descriptors are loaded until so many slots are left outstanding: that of each slot that is freed, and of the first that isn't, if any is left
+-- how many descriptors are loaded until so many slots are left outstanding: that of each slot that is freed, and of the first that isn't, if
+-- any is left
 abbrev pub probes : (before left : ℕ) → ℕ
 probes before left = before - left + min left 1
 
@@ -24,29 +25,32 @@ pub record Reclaims {B : Type 0} (world : B → World) (happened : B → B → P
   pub ran : RanBy true world happened (transmit_loads d.counts d.oldest_sent (probes d.sending d'.sending)) old new d d' [] []
   pub none : written_back d'.oldest_sent (world new) ≡ []
 
+abbrev pub Answer : Type 0
+Answer = Result (Unit {0}) SendError
+
 -- What is given to be sent, by the answer.
-abbrev pub given_by : Result (Unit {0}) SendError → List ℕ → List (List ℕ)
+abbrev pub given_by : Answer → List ℕ → List (List ℕ)
 given_by (Ok u) frame = padded frame ∷ []
 given_by (Err error) frame = []
 
 -- The accesses, by the answer.
-abbrev pub accesses_by : Result (Unit {0}) SendError → (d d' : DriverState) → List ℕ → List Access
+abbrev pub accesses_by : Answer → (d d' : DriverState) → List ℕ → List Access
 accesses_by (Ok u) d d' frame = transmit_loads d.counts d.oldest_sent (probes d.sending (d'.sending - 1)) ++ send_accesses d frame
 accesses_by (Err TooShort) d d' frame = []
 accesses_by (Err TooLong) d d' frame = []
 accesses_by (Err RingFull) d d' frame = transmit_loads d.counts d.oldest_sent (probes d.sending d'.sending)
 
 -- The ring is full only where all slots but one had a frame at entry, none of them written back.
-abbrev pub IsAnswer : Result (Unit {0}) SendError → DriverState → World → Type 0
+abbrev pub IsAnswer : Answer → DriverState → World → Type 0
 IsAnswer (Err RingFull) d world = (d.sending + 1 ≡ d.counts.tx) × (written_back d.oldest_sent world ≡ [])
 IsAnswer answer d world = Unit {0}
 
 -- it isn't a frame that can be sent
-abbrev pub IsRefused : Result (Unit {0}) SendError → Type 0
+abbrev pub IsRefused : Answer → Type 0
 IsRefused (Err TooShort) = ⊤
 IsRefused (Err TooLong) = ⊤
 IsRefused answer = ⊥
 
-pub record Transmits {B : Type 0} (world : B → World) (happened : B → B → Past → Type 0) (old new : B) (d d' : DriverState) (frame : List ℕ) (result : Result (Unit {0}) SendError) : Type 0 where
+pub record Transmits {B : Type 0} (world : B → World) (happened : B → B → Past → Type 0) (old new : B) (d d' : DriverState) (frame : List ℕ) (result : Answer) : Type 0 where
   pub ran : RanBy true world happened (accesses_by result d d' frame) old new d d' [] (given_by result frame)
   pub answer : IsAnswer result d (world old)

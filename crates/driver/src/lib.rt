@@ -13,3 +13,6 @@ mod transmit;
 pub use driver::Driver;
 pub use receiver::{Received, Receiver};
 pub use transmit::SendError;
+
+#[cfg(test)]
+mod tests;

@@ -38,15 +38,21 @@ impl Driver {
         ensures lively { B.lively bus.old → B.lively bus.new }
         ensures stays { IfNone result (self.new ≡ self.old) }
         ensures first { IfSome result (λ received. self.old.buffers ≡ received.buffer ∷ self.new.buffers) }
-        ensures behind { IfSome result (λ received. self.new ≡ behind_oldest self.old self.new.buffers self.old.handed_out) }
+        ensures behind { IfSome result
+            (λ received. self.new ≡ behind_oldest self.old self.new.buffers self.old.handed_out) }
         ensures known { IfSome result (λ received. received.buffer < self.new.counts.buffers) }
         ensures out { IfSome result (λ received. copies received.buffer (owners self.new) ≡ 0) }
-        ensures none { (up : Bool) (held : List HandedOut) → B.honest bus.old → ReadyWith up (holding held self.old) (B.world bus.old)
+        ensures none { (up : Bool) (held : List HandedOut) → B.honest bus.old
+            → ReadyWith up (holding held self.old) (B.world bus.old)
             → IfNone result (finished self.old.oldest_received (B.world bus.new) ≡ []) }
-        ensures looks { (up : Bool) (held : List HandedOut) → B.honest bus.old → ReadyWith up (holding held self.old) (B.world bus.old)
-            → IfNone result (RanBy up B.world B.happened (last_load self.old.oldest_received self.old.buffers) bus.old bus.new (holding held self.old) (holding held self.old) [] []) }
-        ensures takes { (up : Bool) (held : List HandedOut) → B.honest bus.old → ReadyWith up (holding held self.old) (B.world bus.old)
-            → IfSome result (λ received. TakesOldest up B.world B.happened bus.old bus.new (holding held self.old) received.buffer received.length self.new.buffers) }
+        ensures looks { (up : Bool) (held : List HandedOut) → B.honest bus.old
+            → ReadyWith up (holding held self.old) (B.world bus.old)
+            → IfNone result (RanBy up B.world B.happened (last_load self.old.oldest_received self.old.buffers)
+            bus.old bus.new (holding held self.old) (holding held self.old) [] []) }
+        ensures takes { (up : Bool) (held : List HandedOut) → B.honest bus.old
+            → ReadyWith up (holding held self.old) (B.world bus.old)
+            → IfSome result (λ received. TakesOldest up B.world B.happened bus.old bus.new (holding held self.old)
+            received.buffer received.length self.new.buffers) }
     {
         if self.buffers.len() == usize::from(self.staged) {
             return None;
@@ -90,16 +96,22 @@ impl Driver {
         ensures lively { B.lively bus.old → B.lively bus.new }
 
         // What it does to its slots and buffers, over any bus.
-        ensures others { self.new ≡ record self.old { oldest_received = self.new.oldest_received; buffers = self.new.buffers; pool = self.new.pool } }
+        ensures others { self.new
+            ≡ record self.old
+            { oldest_received = self.new.oldest_received; buffers = self.new.buffers; pool = self.new.pool } }
         ensures count { result + length self.new.buffers ≡ length self.old.buffers }
         ensures shows { ShowsAll R.took receiver.old receiver.new self.old self.new result }
         ensures one_owner { HasNoSecondOwner self.new.counts.buffers (owners self.new) }
 
         // And over one that obeys the law.
-        ensures none_left { (up : Bool) (held : List HandedOut) → B.honest bus.old → ReadyWith up (holding held self.old) (B.world bus.old)
+        ensures none_left { (up : Bool) (held : List HandedOut) → B.honest bus.old
+            → ReadyWith up (holding held self.old) (B.world bus.old)
             → finished self.new.oldest_received (B.world bus.new) ≡ [] }
-        ensures takes { (up : Bool) (held : List HandedOut) → B.honest bus.old → ReadyWith up (holding held self.old) (B.world bus.old)
-            → Takes up B.world B.happened R.took (loads_from self.old.counts.rx self.old.oldest_received result ++ last_load self.new.oldest_received self.new.buffers)
+        ensures takes { (up : Bool) (held : List HandedOut) → B.honest bus.old
+            → ReadyWith up (holding held self.old) (B.world bus.old)
+            → Takes up B.world B.happened R.took
+            (loads_from self.old.counts.rx self.old.oldest_received result
+            ++ last_load self.new.oldest_received self.new.buffers)
             bus.old bus.new receiver.old receiver.new (holding held self.old) (holding held self.new) result }
     {
         let before = self.receiving();

@@ -23,11 +23,13 @@ pub trait Receiver {
     /// Takes a frame. Its buffer is the receiver's from now on, unless it comes back.
     fn take(&mut self, received: Received) -> Option<BufId>
         ensures keeps { IfNone result (took self.old self.new (received ∷ []) (received ∷ [])) }
-        ensures gives_back { IfSome result (λ buffer. (buffer ≡ received.buffer) × took self.old self.new (received ∷ []) []) };
+        ensures gives_back { IfSome result
+            (λ buffer. (buffer ≡ received.buffer) × took self.old self.new (received ∷ []) []) };
 
     /// It took nothing from a state to itself.
     ghost stays: { (receiver : Self) → took receiver receiver [] [] };
 
     /// What it took in two stretches it took in both together.
-    ghost joins: { (a b c : Self) (shown kept later more : List Received) → took a b shown kept → took b c later more → took a c (shown ++ later) (kept ++ more) };
+    ghost joins: { (a b c : Self) (shown kept later more : List Received)
+        → took a b shown kept → took b c later more → took a c (shown ++ later) (kept ++ more) };
 }

@@ -48,11 +48,13 @@ impl Driver {
         ensures kept { B.kept bus.old bus.new }
         ensures honest { B.honest bus.old → B.honest bus.new }
         ensures lively { B.lively bus.old → B.lively bus.new }
-        ensures stages { OnTrue result ((number : ℕ) × Stages B.honest B.world B.happened bus.old bus.new self.old self.new (number ∷ [])) }
+        ensures stages { OnTrue result ((number : ℕ)
+            × Stages B.honest B.world B.happened bus.old bus.new self.old self.new (number ∷ [])) }
         ensures room { length self.new.buffers + length self.new.staged < self.new.counts.rx }
         ensures stays { OnFalse result (self.new ≡ self.old) }
         ensures still { OnFalse result (bus.new ≡ bus.old) }
-        ensures full { OnFalse result ((self.new.pool ≡ []) ⊎ (length self.new.buffers + length self.new.staged + 1 ≡ self.new.counts.rx)) }
+        ensures full { OnFalse result
+            ((self.new.pool ≡ []) ⊎ (length self.new.buffers + length self.new.staged + 1 ≡ self.new.counts.rx)) }
     {
         let count = self.layout.rx();
         if self.buffers.len() + 1 == usize::from(count) {
@@ -78,8 +80,10 @@ impl Driver {
         ensures others { self.new ≡ with_owners self.old (self.old.buffers ++ self.old.staged) [] self.old.pool [] }
         ensures owners { HaveSameNumbers (owners self.old) (owners self.new) }
         ensures one_owner { HasNoSecondOwner self.new.counts.buffers (owners self.new) }
-        ensures ran { (up : Bool) (held : List HandedOut) → B.honest bus.old → ReadyWith up (holding held self.old) (B.world bus.old)
-            → RanBy up B.world B.happened (tail_write (next_received self.old) self.old.staged) bus.old bus.new (holding held self.old) (holding held self.new) [] [] }
+        ensures ran { (up : Bool) (held : List HandedOut) → B.honest bus.old
+            → ReadyWith up (holding held self.old) (B.world bus.old)
+            → RanBy up B.world B.happened (tail_write (next_received self.old) self.old.staged) bus.old bus.new
+            (holding held self.old) (holding held self.new) [] [] }
     {
         if self.staged == 0 {
             return;
@@ -104,7 +108,8 @@ impl Driver {
         ensures one_owner { HasNoSecondOwner self.new.counts.buffers (owners self.new) }
 
         // And over one that obeys the law.
-        ensures ran { (up : Bool) (held : List HandedOut) → B.honest bus.old → ReadyWith up (holding held self.old) (B.world bus.old)
+        ensures ran { (up : Bool) (held : List HandedOut) → B.honest bus.old
+            → ReadyWith up (holding held self.old) (B.world bus.old)
             → Refills up B.world B.happened bus.old bus.new (holding held self.old) (holding held self.new) }
     {
         while self.stage(bus) {}

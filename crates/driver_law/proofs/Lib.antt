@@ -18,6 +18,8 @@ pub mod TransmitSlots
 pub mod FramesToSend
 pub mod Accesses
 pub mod ReceiveAccesses
+pub mod RunsWith
 pub mod TransmitRuns
 pub mod InitialStores
 pub mod RegisterWrites
+pub mod Waits

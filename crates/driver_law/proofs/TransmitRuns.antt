@@ -1,5 +1,6 @@
 -- The steps of the transmit side over a bus.
-use Rattle.std.proofs.Common.{true, false, ◌≡◌, ◌≤◌, ◌<◌, ◌+◌, ◌%◌, ◌∷◌, [], ℕ, List, length, slice_index, inr, sym, ap, subst, ◌∙◌, arith}
+use Rattle.std.proofs.Common.{true, false, ◌≡◌, ◌≤◌, ◌<◌, ◌+◌, ◌%◌, ◌++◌, ◌∷◌, [], ℕ, List, length, slice_index, inr, sym, ap, subst, ◌∙◌, append_assoc, arith}
+use Rattle.std.proofs.lemmas.List.Elements.{All-append, All-cons, All-map}
 use Rattle.registers.specs.Bits.{is_set}
 use Rattle.dma_memory.specs.Areas.{IsInside, area_at}
 use Rattle.dma_memory.specs.AreaLaws.{apart-inside, inside-apart}
@@ -8,54 +9,25 @@ use Rattle.dma_memory.specs.Laws.{bytes_at-elsewhere, bytes_at-stored}
 use Rattle.dma_memory.specs.Layout.{TransmitBuffer, TransmitRing, area_of}
 use Rattle.dma_memory.specs.LayoutLaws.{places-apart}
 use Rattle.descriptors.specs.Frames.{padded}
-use Rattle.descriptors.specs.Ring.{next_of}
+use Rattle.descriptors.specs.Ring.{next_of, slots_from}
 use Rattle.descriptors.specs.RingLaws.{next-below}
 use Rattle.adapter.specs.Slots.{is_done, written_back}
 use Rattle.adapter.specs.World.{World, transmit_ring, world_after_store, world_after_write}
+use Rattle.bus.proofs.Lists.{all-none}
 use Rattle.bus.proofs.KnownRings.{transmit_tail-written}
 use Rattle.bus.specs.Law.{Acts, Happens}
 use Rattle.bus.specs.Past.{Past, joined, nothing}
-use Rattle.bus.specs.declared.event.Access.{Access}
 use Rattle.bus.specs.declared.event.Access.TheVariants.{Loads, Stores, Writes}
 use Rattle.driver_law.specs.DriverState.{DriverState, transmit_slot, transmit_tail}
 use Rattle.driver_law.specs.Goes.{Goes, RanBy}
 use Rattle.driver_law.specs.Ready.{Ready}
-use Rattle.driver_law.specs.Transmit.{FrameStands, TailIsMoved, send_accesses, transmit_buffer, whole_descriptor, with_freed}
-use Rattle.driver_law.proofs.Accesses.{SetsBy, access-set, load-sets, ran_by-join, store-sets, write-sets}
-use Rattle.bus.proofs.Settings.{happens-off}
+use Rattle.driver_law.specs.Transmit.{FrameStands, IsQuiet, SendsEndWithTail, TailIsMoved, tail_buffer, tail_slot, transmit_loads, send_accesses, transmit_buffer, whole_descriptor, with_freed}
+use Rattle.driver_law.proofs.Accesses.{load-sets, ran_by-join, store-sets, write-sets}
 use Rattle.driver_law.proofs.Buffers.{front-same}
 use Rattle.driver_law.proofs.FramesToSend.{frame_is_offered, length-whole, none_is_written_back, slot_is_freed}
-use Rattle.driver_law.proofs.Steps.{goes-happens, goes-stays}
-use Rattle.driver_law.proofs.Stretches.{goes_join, joined-nothing}
+use Rattle.driver_law.proofs.RunsWith.{RanWith, run-with}
+use Rattle.driver_law.proofs.Steps.{goes-stays}
 use Rattle.driver_law.proofs.TransmitSlots.{data_is_stored, descriptor_is_stored, next_slot_is_own, own-buffer, own-descriptor, slots_keep_bytes}
-
--- A stretch behind which something holds.
-pub record RanWith {B : Type 0} (world : B → World) (happened : B → B → Past → Type 0) (accesses : List Access) (old new : B) (d d' : DriverState) (taken given : List (List ℕ)) (Behind : World → Type 0) : Type 0 where
-  pub ran : RanBy true world happened accesses old new d d' taken given
-  pub behind : Behind (world new)
-
--- One access, with something that stays whatever happens before it.
-run-with : {B : Type 0} (world : B → World) (happened : B → B → Past → Type 0) (lively : B → Type 0) (old new : B) (access : Access) (effect : World → World → Type 0) (d d' : DriverState) (given : List (List ℕ)) (Before Behind : World → Type 0)
-    → Acts world happened lively old new access effect → SetsBy access effect (world new) → Ready d (world old) → Before (world old)
-    → ((a b : World) (past : Past) → Ready d a → Happens a b past → Before a → Before b)
-    → ((middle : World) → Ready d middle → Before middle → effect middle (world new) → Goes d middle d' (world new) [] given nothing × Behind (world new))
-    → RanWith world happened (access ∷ []) old new d d' [] given Behind
-run-with world happened lively old new access effect d d' given Before Behind acts sets ready before stays step =
-    let first = goes-happens d (world old) acts.middle acts.past ready acts.before in
-    let later = step acts.middle first.flows.ready (stays (world old) acts.middle acts.past ready acts.before before) acts.effect_is in
-    record {
-      ran = record {
-        past = acts.past;
-        told = acts.told;
-        only = acts.only;
-        goes =
-            subst (Goes d (world old) d' (world new) [] given) (joined-nothing acts.past)
-            (goes_join d d d' (world old) acts.middle (world new) [] [] [] given acts.past nothing first later.0);
-        set = access-set world happened lively old new access effect acts sets;
-        off = λ off leaves. happens-off (world old) acts.middle acts.past acts.before off;
-      };
-      behind = later.1;
-    }
 
 -- A frame is sent.
 
@@ -124,19 +96,19 @@ run-sends {B} world happened lively joins old one two new d frame room least sho
     let first : Stored old one start frame = subst (λ (address : ℕ). Stored old one address frame) buffer_is stores_data in
     let second : Stored one two at descriptor = subst (Stored one two at) bytes_is (subst (λ (address : ℕ). Stored one two address bytes) slot_is stores_descriptor) in
     let third : Written tail = subst Written next_is writes in
-    let stored_data : RanWith world happened (Stores start frame ∷ []) old one d d [] [] (HasBytes d frame) = run-with world happened lively old one (Stores start frame) (λ before after. after ≡ world_after_store start frame before) d d [] (λ world. Unit {0}) (HasBytes d frame) first (store-sets start frame (world one)) ready tt (λ a b past set happens u. tt)
+    let stored_data : RanWith true world happened (Stores start frame ∷ []) old one d d [] [] (HasBytes d frame) = run-with world happened lively old one (Stores start frame) (λ before after. after ≡ world_after_store start frame before) d d [] [] (λ world. Unit {0}) (HasBytes d frame) first (store-sets start frame (world one)) ready tt (λ a b past set happens u. tt)
     (λ middle set u stored.
     let own = next_slot_is_own d middle set in
     let lies : LiesIn middle.memory start (length frame) = omega (arith, (own-buffer d (transmit_tail d) middle set own).lies, short) in (
       subst (λ (after : World). Goes d middle d after [] [] nothing) (sym stored) (data_is_stored d (transmit_tail d) frame middle set own (omega (arith, short))),
       subst (HasBytes d frame) (sym stored) (bytes_at-stored middle.memory frame start lies),
     )) in
-    let named : RanWith world happened (Stores at descriptor ∷ []) one two d d [] [] (FrameStands d frame) = run-with world happened lively one two (Stores at descriptor) (λ before after. after ≡ world_after_store at descriptor before) d d [] (HasBytes d frame) (FrameStands d frame) second (store-sets at descriptor (world two)) stored_data.ran.goes.flows.ready stored_data.behind (bytes-stay d frame short)
+    let named : RanWith true world happened (Stores at descriptor ∷ []) one two d d [] [] (FrameStands d frame) = run-with world happened lively one two (Stores at descriptor) (λ before after. after ≡ world_after_store at descriptor before) d d [] [] (HasBytes d frame) (FrameStands d frame) second (store-sets at descriptor (world two)) stored_data.ran.goes.flows.ready stored_data.behind (bytes-stay d frame short)
     (λ middle set has stored. (
       subst (λ (after : World). Goes d middle d after [] [] nothing) (sym stored) (descriptor_is_stored d (transmit_tail d) descriptor middle set (next_slot_is_own d middle set) (length-whole start (length frame))),
       subst (FrameStands d frame) (sym stored) (stands-stored d frame middle set short has),
     )) in
-    let offered : RanWith world happened (Writes 0x3818 tail ∷ []) two new d sent [] (padded frame ∷ []) (λ world. Unit {0}) = run-with world happened lively two new (Writes 0x3818 tail) (λ before after. after ≡ world_after_write 0x3818 tail before) d sent (padded frame ∷ []) (FrameStands d frame) (λ world. Unit {0}) third (write-sets 0x3818 tail (world new)) named.ran.goes.flows.ready named.behind (stands-stay d frame short)
+    let offered : RanWith true world happened (Writes 0x3818 tail ∷ []) two new d sent [] (padded frame ∷ []) (λ world. Unit {0}) = run-with world happened lively two new (Writes 0x3818 tail) (λ before after. after ≡ world_after_write 0x3818 tail before) d sent [] (padded frame ∷ []) (FrameStands d frame) (λ world. Unit {0}) third (write-sets 0x3818 tail (world new)) named.ran.goes.flows.ready named.behind (stands-stay d frame short)
     (λ middle set stands written.
     (subst (λ (after : World). Goes d middle sent after [] (padded frame ∷ []) nothing) (sym (written ∙ tail_is_moved d middle set)) (frame_is_offered d frame middle set room least short stands), tt)) in
     ran_by-join world happened joins (Stores start frame ∷ Stores at descriptor ∷ []) (Writes 0x3818 tail ∷ []) old two new d d sent [] [] [] (padded frame ∷ [])
@@ -154,7 +126,7 @@ pub run-frees : {B : Type 0} (world : B → World) (happened : B → B → Past 
     → LoadsOldest world happened lively old new d bytes → Ready d (world old)
     → RanBy true world happened (Loads (transmit_slot d.counts d.oldest_sent) 16 ∷ []) old new d (with_freed d) [] []
 run-frees world happened lively old new d bytes some done acts ready =
-    (run-with world happened lively old new (Loads (transmit_slot d.counts d.oldest_sent) 16) (λ before after. (bytes ≡ bytes_at before.memory (transmit_slot d.counts d.oldest_sent) 16) × (after ≡ before)) d (with_freed d) [] (λ world. Unit {0}) (λ world. Unit {0}) acts (load-sets (transmit_slot d.counts d.oldest_sent) 16 (λ before. bytes ≡ bytes_at before.memory (transmit_slot d.counts d.oldest_sent) 16) (world new)) ready tt (λ a b past set happens u. tt)
+    (run-with world happened lively old new (Loads (transmit_slot d.counts d.oldest_sent) 16) (λ before after. (bytes ≡ bytes_at before.memory (transmit_slot d.counts d.oldest_sent) 16) × (after ≡ before)) d (with_freed d) [] [] (λ world. Unit {0}) (λ world. Unit {0}) acts (load-sets (transmit_slot d.counts d.oldest_sent) 16 (λ before. bytes ≡ bytes_at before.memory (transmit_slot d.counts d.oldest_sent) 16) (world new)) ready tt (λ a b past set happens u. tt)
     (λ middle set u loaded.
     let is : is_done middle.memory (transmit_slot d.counts d.oldest_sent) ≡ true = ap (λ (list : List ℕ). is_set (slice_index list 12) 0) (sym loaded.0) ∙ done in
     (subst (λ (after : World). Goes d middle (with_freed d) after [] [] nothing) (sym loaded.1) (slot_is_freed d middle set some is), tt))).ran
@@ -162,11 +134,27 @@ run-frees world happened lively old new d bytes some done acts ready =
 -- It isn't: none is written back.
 pub run-waits : {B : Type 0} (world : B → World) (happened : B → B → Past → Type 0) (lively : B → Type 0) (old new : B) (d : DriverState) (bytes : List ℕ) → is_set (slice_index bytes 12) 0 ≡ false
     → LoadsOldest world happened lively old new d bytes → Ready d (world old)
-    → RanWith world happened (Loads (transmit_slot d.counts d.oldest_sent) 16 ∷ []) old new d d [] [] (λ world. written_back d.oldest_sent world ≡ [])
+    → RanWith true world happened (Loads (transmit_slot d.counts d.oldest_sent) 16 ∷ []) old new d d [] [] (λ world. written_back d.oldest_sent world ≡ [])
 run-waits world happened lively old new d bytes clear acts ready =
-    run-with world happened lively old new (Loads (transmit_slot d.counts d.oldest_sent) 16) (λ before after. (bytes ≡ bytes_at before.memory (transmit_slot d.counts d.oldest_sent) 16) × (after ≡ before)) d d [] (λ world. Unit {0}) (λ world. written_back d.oldest_sent world ≡ []) acts (load-sets (transmit_slot d.counts d.oldest_sent) 16 (λ before. bytes ≡ bytes_at before.memory (transmit_slot d.counts d.oldest_sent) 16) (world new)) ready tt (λ a b past set happens u. tt)
+    run-with world happened lively old new (Loads (transmit_slot d.counts d.oldest_sent) 16) (λ before after. (bytes ≡ bytes_at before.memory (transmit_slot d.counts d.oldest_sent) 16) × (after ≡ before)) d d [] [] (λ world. Unit {0}) (λ world. written_back d.oldest_sent world ≡ []) acts (load-sets (transmit_slot d.counts d.oldest_sent) 16 (λ before. bytes ≡ bytes_at before.memory (transmit_slot d.counts d.oldest_sent) 16) (world new)) ready tt (λ a b past set happens u. tt)
     (λ middle set u loaded.
     let is : is_done middle.memory (transmit_slot d.counts d.oldest_sent) ≡ false = ap (λ (list : List ℕ). is_set (slice_index list 12) 0) (sym loaded.0) ∙ clear in (
       subst (λ (after : World). Goes d middle d after [] [] nothing) (sym loaded.1) (goes-stays d middle set),
       subst (λ (after : World). written_back d.oldest_sent after ≡ []) (sym loaded.1) (none_is_written_back d middle set (inr is)),
     ))
+
+-- The accesses.
+
+pub sends_end_with_tail : SendsEndWithTail
+sends_end_with_tail d frame k =
+    let loads = transmit_loads d.counts d.oldest_sent k in
+    let data_store = Stores (tail_buffer d) frame in
+    let descriptor_store = Stores (tail_slot d) (whole_descriptor (tail_buffer d) (length frame)) in
+    let stores = data_store ∷ descriptor_store ∷ [] in
+    record {
+      quiet = loads ++ stores;
+      all =
+          All-append IsQuiet loads stores (All-map IsQuiet (λ slot. Loads (transmit_slot d.counts slot) 16) (slots_from d.counts.tx d.oldest_sent k) (λ i index below. tt))
+          (All-cons IsQuiet data_store (descriptor_store ∷ []) tt (All-cons IsQuiet descriptor_store [] tt (all-none IsQuiet)));
+      whole = sym (append_assoc loads stores (Writes 0x3818 ((transmit_tail d + 1) % d.counts.tx) ∷ []));
+    }

@@ -14,7 +14,8 @@ use Rattle.adapter.specs.World.{World, receive_ring, transmit_ring, world_after_
 use Rattle.adapter.specs.declared.ring.RingRegisters.{RingRegisters}
 use Rattle.bus.specs.Idle.{IsIdle}
 use Rattle.bus.specs.Initialising.{with_receive_control, with_transmit_control, with_transmit_ring}
-use Rattle.bus.specs.Past.{nothing}
+use Rattle.bus.specs.Law.{Happens}
+use Rattle.bus.specs.Past.{Past, nothing}
 use Rattle.adapter.specs.KnownRing.{KnowsRing}
 use Rattle.driver_law.specs.DriverState.{DriverState, next_received, receive_slot, transmit_tail}
 use Rattle.driver_law.specs.Goes.{Goes, GoesTo, HasNoForgottenWork}
@@ -50,12 +51,14 @@ pub record HasBegun (up : Bool) (counts : Counts) (pool : List ℕ) (world : Wor
 
 -- Such a driver is ready.
 abbrev pub DriversBegin : Type 0
-DriversBegin = (up : Bool) (counts : Counts) (pool : List ℕ) (world : World) → HasBegun up counts pool world → ReadyWith up (new_driver counts pool) world
+DriversBegin =
+    (up : Bool) (counts : Counts) (pool : List ℕ) (world : World)
+    → HasBegun up counts pool world → ReadyWith up (new_driver counts pool) world
 
 -- Writes of registers, beside that of RDT, which offers staged slots. What they leave of the world is as the bus's law names it.
 
--- A register of the transmit ring is written while the transmit side is off, so that head is still tail, and the ring lies at its place: this
--- holds behind each of the writes of TDBAL, TDBAH, TDLEN, TDH and TDT in this order, and the side is off still.
+-- A register of the transmit ring is written while the transmit side is off, so that head is still tail, and the ring lies at its place:
+-- this holds behind each of the writes of TDBAL, TDBAH, TDLEN, TDH and TDT in this order, and the side is off still.
 abbrev pub TransmitRingIsWritten : Type 0
 TransmitRingIsWritten =
     (driver : DriverState) (ring : RingRegisters) (world : World) → ReadyWith false driver world → ring.head ≡ ring.tail
@@ -69,8 +72,8 @@ TransmitterIsEnabled =
     → KnowsRing (transmit_ring world) (16 * driver.counts.rx) driver.counts.tx (transmit_tail driver) → HasBit control 3
     → Goes driver world driver (with_transmit_control control world) [] [] nothing
 
--- RCTL is written, with EN or without it, while no receive slot is finished or in work and the transmit side is off. BSEX is 0, and buffers have
--- 2,048 bytes.
+-- RCTL is written, with EN or without it, while no receive slot is finished or in work and the transmit side is off. BSEX is 0, and buffers
+-- have 2,048 bytes.
 abbrev pub ReceiverIsEnabled : Type 0
 ReceiverIsEnabled =
     (driver : DriverState) (control : ℕ) (world : World) → ReadyWith false driver world
@@ -115,3 +118,28 @@ TransmitPlaceIsStored =
     (driver : DriverState) (address : ℕ) (bytes : List ℕ) (world : World) → ReadyWith false driver world
     → IsInside (area_at address (length bytes)) (area_of driver.counts TransmitRing)
     → GoesTo false driver world driver (world_after_store address bytes world) [] [] nothing
+
+-- What stays meanwhile, whatever happens.
+
+-- RCTL.EN is 0, and no frame is held, as before the write of RCTL.
+pub record IsWaiting (driver : DriverState) (world : World) : Type 0 where
+  pub disabled : ¬ (HasBit world.adapter.filter.rctl 1)
+  pub none : frames_held driver.oldest_received world ≡ []
+
+-- No frame comes then,
+abbrev pub NoFrameComes : Type 0
+NoFrameComes =
+    (up : Bool) (driver : DriverState) (a b : World) (past : Past) → ReadyWith up driver a → Happens a b past
+    → IsWaiting driver a → IsWaiting driver b
+
+-- and no receive slot is finished or in work.
+abbrev pub NothingIsHeld : Type 0
+NothingIsHeld =
+    (driver : DriverState) (world : World) → IsWaiting driver world
+    → (finished driver.oldest_received world ≡ []) × (world.adapter.receiver.work ≡ None)
+
+-- The registers of the transmit ring stay while the side is off, TDH among them.
+abbrev pub RingsThatAreOffStay : Type 0
+RingsThatAreOffStay =
+    (driver : DriverState) (a b : World) (past : Past) → ReadyWith false driver a → Happens a b past
+    → b.adapter.transmit_ring ≡ a.adapter.transmit_ring

@@ -56,7 +56,8 @@ abbrev pub Ran : {B : Type 0} (world : B → World) (happened : B → B → Past
 Ran world happened allowed old new d d' taken given = RanTo true world happened allowed old new d d' taken given
 
 -- A stretch over a bus, with exactly these accesses, in this order.
-pub record RanBy (up : Bool) {B : Type 0} (world : B → World) (happened : B → B → Past → Type 0) (accesses : List Access) (old new : B) (d d' : DriverState) (taken given : List (List ℕ)) : Type 0 where
+pub record RanBy (up : Bool) {B : Type 0} (world : B → World) (happened : B → B → Past → Type 0) (accesses : List Access)
+    (old new : B) (d d' : DriverState) (taken given : List (List ℕ)) : Type 0 where
   pub past : Past
   pub told : happened old new past
   pub only : past.accesses ≡ accesses

@@ -9,14 +9,17 @@ use Rattle.driver_law.specs.Goes.{RanBy}
 use Rattle.driver_law.specs.ReceiveSteps.{behind_oldest}
 
 -- It isn't done, so that no slot is finished.
-pub record LeavesOldest (up : Bool) {B : Type 0} (world : B → World) (happened : B → B → Past → Type 0) (old new : B) (d : DriverState) : Type 0 where
+pub record LeavesOldest (up : Bool) {B : Type 0} (world : B → World) (happened : B → B → Past → Type 0) (old new : B)
+    (d : DriverState) : Type 0 where
   pub none : finished d.oldest_received (world new) ≡ []
   pub ran : RanBy up world happened (Loads (receive_slot d.oldest_received) 16 ∷ []) old new d d [] []
 
 -- It is done: the slot is taken, and its frame, with as many bytes as the descriptor says, handed out.
-pub record TakesOldest (up : Bool) {B : Type 0} (world : B → World) (happened : B → B → Past → Type 0) (old new : B) (d : DriverState) (number size : ℕ) (later : List ℕ) : Type 0 where
+pub record TakesOldest (up : Bool) {B : Type 0} (world : B → World) (happened : B → B → Past → Type 0) (old new : B)
+    (d : DriverState) (number size : ℕ) (later : List ℕ) : Type 0 where
   pub frame : List ℕ
   pub long : length frame ≡ size
   pub ran :
-      RanBy up world happened (Loads (receive_slot d.oldest_received) 16 ∷ []) old new d (behind_oldest d later (d.handed_out ++ record { number = number; frame = frame } ∷ []))
+      RanBy up world happened (Loads (receive_slot d.oldest_received) 16 ∷ []) old new d
+      (behind_oldest d later (d.handed_out ++ record { number = number; frame = frame } ∷ []))
       (frame ∷ []) []

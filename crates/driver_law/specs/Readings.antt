@@ -24,7 +24,8 @@ pub record CausesRead (up : Bool) (driver : DriverState) (a b : World) : Type 0 
 
 abbrev pub CausesAreRead : Type 0
 CausesAreRead =
-    (up : Bool) (driver : DriverState) (world : World) → ReadyWith up driver world → CausesRead up driver world (world_after_read 0xC0 world)
+    (up : Bool) (driver : DriverState) (world : World) → ReadyWith up driver world
+    → CausesRead up driver world (world_after_read 0xC0 world)
 
 -- Any other register is read, and nothing changes that a driver knows.
 abbrev pub OthersAreRead : Type 0

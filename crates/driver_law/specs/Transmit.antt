@@ -1,6 +1,6 @@
 -- The steps of a driver's transmit side (own).
-use Rattle.std.specs.Prelude.{◌≡◌, ◌≤◌, ◌<◌, ◌+◌, ◌-◌, ◌%◌, ◌⊎◌, ℕ, true, false, List, [], ◌∷◌, length, map}
-use Rattle.dma_memory.specs.Areas.{bytes_in, descriptor_area}
+use Rattle.std.specs.Prelude.{⊤, ◌≡◌, ◌≤◌, ◌<◌, ◌+◌, ◌-◌, ◌%◌, ◌⊎◌, ◌++◌, ℕ, true, false, List, [], ◌∷◌, All, length, map}
+use Rattle.dma_memory.specs.Areas.{bytes_in}
 use Rattle.dma_memory.specs.HostMemory.{bytes_at}
 use Rattle.dma_memory.specs.Layout.{Counts, TransmitBuffer, area_of, start_of}
 use Rattle.descriptors.specs.Frames.{padded}
@@ -23,45 +23,68 @@ use Rattle.driver_law.specs.Ready.{Ready}
 abbrev pub transmit_buffer : Counts → ℕ → ℕ
 transmit_buffer counts slot = start_of counts (TransmitBuffer slot)
 
--- a transmit descriptor that names so many bytes at an address, as a whole packet (EOP) with a check sequence (IFCS), and asks for a report (RS)
+-- the descriptor and the buffer of the slot at the tail
+abbrev pub tail_slot : DriverState → ℕ
+tail_slot driver = transmit_slot driver.counts (transmit_tail driver)
+
+abbrev pub tail_buffer : DriverState → ℕ
+tail_buffer driver = transmit_buffer driver.counts (transmit_tail driver)
+
+-- the descriptor of the oldest outstanding slot
+abbrev pub oldest_slot : DriverState → ℕ
+oldest_slot driver = transmit_slot driver.counts driver.oldest_sent
+
+-- a transmit descriptor that names so many bytes at an address, as a whole packet (EOP) with a check sequence (IFCS), and asks for a report
+-- (RS)
 abbrev pub whole_descriptor : (address size : ℕ) → List ℕ
-whole_descriptor address size = tx_desc_bytes (record { address = address; length = size; cso = 0; command = command_of 0x0B; status = sent_of 0; css = 0; special = 0 })
+whole_descriptor address size = tx_desc_bytes (record {
+  address = address;
+  length = size;
+  cso = 0;
+  command = command_of 0x0B;
+  status = sent_of 0;
+  css = 0;
+  special = 0;
+})
 
 -- A slot that isn't outstanding.
 
+abbrev pub IsOwn : DriverState → ℕ → World → Type 0
+IsOwn driver slot world = IsOwnSlot (transmit_ring world) driver.oldest_sent slot
+
 -- Such is the one at the tail.
 abbrev pub NextSlotIsOwn : Type 0
-NextSlotIsOwn = (driver : DriverState) (world : World) → Ready driver world → IsOwnSlot (transmit_ring world) driver.oldest_sent (transmit_tail driver)
+NextSlotIsOwn = (driver : DriverState) (world : World) → Ready driver world → IsOwn driver (transmit_tail driver) world
 
 -- Data is stored into its buffer,
 abbrev pub DataIsStored : Type 0
 DataIsStored =
-    (driver : DriverState) (slot : ℕ) (bytes : List ℕ) (world : World) → Ready driver world → IsOwnSlot (transmit_ring world) driver.oldest_sent slot → length bytes ≤ 2048
+    (driver : DriverState) (slot : ℕ) (bytes : List ℕ) (world : World) → Ready driver world → IsOwn driver slot world → length bytes ≤ 2048
     → Goes driver world driver (world_after_store (transmit_buffer driver.counts slot) bytes world) [] [] nothing
 
 -- or its descriptor is stored.
 abbrev pub DescriptorIsStored : Type 0
 DescriptorIsStored =
-    (driver : DriverState) (slot : ℕ) (bytes : List ℕ) (world : World) → Ready driver world → IsOwnSlot (transmit_ring world) driver.oldest_sent slot → length bytes ≡ 16
+    (driver : DriverState) (slot : ℕ) (bytes : List ℕ) (world : World) → Ready driver world → IsOwn driver slot world → length bytes ≡ 16
     → Goes driver world driver (world_after_store (transmit_slot driver.counts slot) bytes world) [] [] nothing
 
 -- Its buffer and its descriptor have the same bytes in both worlds.
 pub record SameSlot (counts : Counts) (slot : ℕ) (a b : World) : Type 0 where
   pub data_same : bytes_in b.memory (area_of counts (TransmitBuffer slot)) ≡ bytes_in a.memory (area_of counts (TransmitBuffer slot))
-  pub descriptor_same : bytes_in b.memory (descriptor_area (transmit_slot counts slot)) ≡ bytes_in a.memory (descriptor_area (transmit_slot counts slot))
+  pub descriptor_same : bytes_at b.memory (transmit_slot counts slot) 16 ≡ bytes_at a.memory (transmit_slot counts slot) 16
 
 -- So it is whatever happens.
 abbrev pub SlotsKeepBytes : Type 0
 SlotsKeepBytes =
-    (driver : DriverState) (slot : ℕ) (a b : World) (past : Past) → Ready driver a → IsOwnSlot (transmit_ring a) driver.oldest_sent slot → Happens a b past
+    (driver : DriverState) (slot : ℕ) (a b : World) (past : Past) → Ready driver a → IsOwn driver slot a → Happens a b past
     → SameSlot driver.counts slot a b
 
 -- A frame is sent.
 
 -- The slot at the tail has it: the frame in its buffer, and a descriptor that names that.
 pub record FrameStands (driver : DriverState) (frame : List ℕ) (world : World) : Type 0 where
-  pub bytes : bytes_at world.memory (transmit_buffer driver.counts (transmit_tail driver)) (length frame) ≡ frame
-  pub descriptor : bytes_at world.memory (transmit_slot driver.counts (transmit_tail driver)) 16 ≡ whole_descriptor (transmit_buffer driver.counts (transmit_tail driver)) (length frame)
+  pub bytes : bytes_at world.memory (tail_buffer driver) (length frame) ≡ frame
+  pub descriptor : bytes_at world.memory (tail_slot driver) 16 ≡ whole_descriptor (tail_buffer driver) (length frame)
 
 -- A write of TDT with the place behind the tail moves it on by one:
 abbrev pub TailIsMoved : Type 0
@@ -72,8 +95,8 @@ TailIsMoved =
 -- the frame, padded, is the last that is to be sent.
 abbrev pub FrameIsOffered : Type 0
 FrameIsOffered =
-    (driver : DriverState) (frame : List ℕ) (world : World) → Ready driver world → driver.sending + 1 < driver.counts.tx → 14 ≤ length frame → length frame ≤ 1518
-    → FrameStands driver frame world
+    (driver : DriverState) (frame : List ℕ) (world : World) → Ready driver world → driver.sending + 1 < driver.counts.tx
+    → 14 ≤ length frame → length frame ≤ 1518 → FrameStands driver frame world
     → Goes driver world (record driver { sending = driver.sending + 1 }) (offering_frame world) [] (padded frame ∷ []) nothing
 
 -- A slot is freed.
@@ -84,14 +107,14 @@ with_freed driver = record driver { oldest_sent = (driver.oldest_sent + 1) % dri
 -- The oldest one is, where it is done.
 abbrev pub SlotIsFreed : Type 0
 SlotIsFreed =
-    (driver : DriverState) (world : World) → Ready driver world → 0 < driver.sending → is_done world.memory (transmit_slot driver.counts driver.oldest_sent) ≡ true
+    (driver : DriverState) (world : World) → Ready driver world → 0 < driver.sending → is_done world.memory (oldest_slot driver) ≡ true
     → Goes driver world (with_freed driver) world [] [] nothing
 
 -- Where it isn't, or none is outstanding, none is written back.
 abbrev pub NoneIsWrittenBack : Type 0
 NoneIsWrittenBack =
     (driver : DriverState) (world : World) → Ready driver world
-    → (driver.sending ≡ 0) ⊎ (is_done world.memory (transmit_slot driver.counts driver.oldest_sent) ≡ false) → written_back driver.oldest_sent world ≡ []
+    → (driver.sending ≡ 0) ⊎ (is_done world.memory (oldest_slot driver) ≡ false) → written_back driver.oldest_sent world ≡ []
 
 -- Over a bus.
 
@@ -102,6 +125,24 @@ transmit_loads counts oldest k = map (λ slot. Loads (transmit_slot counts slot)
 -- A frame is sent by the slot at the tail: its bytes are stored, then the descriptor, and then TDT written.
 abbrev pub send_accesses : DriverState → List ℕ → List Access
 send_accesses driver frame =
-    Stores (transmit_buffer driver.counts (transmit_tail driver)) frame
-    ∷ Stores (transmit_slot driver.counts (transmit_tail driver)) (whole_descriptor (transmit_buffer driver.counts (transmit_tail driver)) (length frame))
+    Stores (tail_buffer driver) frame
+    ∷ Stores (tail_slot driver) (whole_descriptor (tail_buffer driver) (length frame))
     ∷ Writes 0x3818 ((transmit_tail driver + 1) % driver.counts.tx) ∷ []
+
+-- loads and stores, by which no register changes
+abbrev pub IsQuiet : Access → Type 0
+IsQuiet (Loads address size) = ⊤
+IsQuiet (Stores address bytes) = ⊤
+IsQuiet access = ⊥
+
+-- Quiet accesses, and then a write of TDT.
+pub record EndsWithTail (accesses : List Access) (slot : ℕ) : Type 0 where
+  pub quiet : List Access
+  pub all : All IsQuiet quiet
+  pub whole : accesses ≡ quiet ++ Writes 0x3818 slot ∷ []
+
+-- Such is the sending of a frame behind loads of descriptors.
+abbrev pub SendsEndWithTail : Type 0
+SendsEndWithTail =
+    (driver : DriverState) (frame : List ℕ) (k : ℕ)
+    → EndsWithTail (transmit_loads driver.counts driver.oldest_sent k ++ send_accesses driver frame) ((transmit_tail driver + 1) % driver.counts.tx)

@@ -1,6 +1,6 @@
 // Laws of a driver's beginning, and of the registers that it writes up to the end of its initialisation.
 
-ghost use Rattle.driver_law.specs.Beginnings.{CausesAreUnmasked, DriversBegin, LastSlotIsStored, ReceiverIsEnabled, TransmitPlaceIsStored, TransmitRingIsWritten, TransmitterIsEnabled, UnmaskedForgetsNoWork};
+ghost use Rattle.driver_law.specs.Beginnings.{CausesAreUnmasked, DriversBegin, LastSlotIsStored, NoFrameComes, NothingIsHeld, ReceiverIsEnabled, RingsThatAreOffStay, TransmitPlaceIsStored, TransmitRingIsWritten, TransmitterIsEnabled, UnmaskedForgetsNoWork};
 
 /// A driver whose receive ring is set up, whose transmit ring is or isn't, and that has offered no slot of
 /// either, is ready.
@@ -29,4 +29,14 @@ pub fn registers_are_set()
 pub fn rings_are_stored()
     ensures last { LastSlotIsStored }
     ensures transmit_ring { TransmitPlaceIsStored }
+{}
+
+/// What stays in initialisation, whatever happens between two accesses.
+/// - `frames`: while RCTL.EN is 0 and no frame is held, none is.
+/// - `empty`: no receive slot is finished or in work then.
+/// - `transmit_ring`: the registers of a transmit ring whose side is off.
+pub fn rings_stay()
+    ensures frames { NoFrameComes }
+    ensures empty { NothingIsHeld }
+    ensures transmit_ring { RingsThatAreOffStay }
 {}

@@ -7,17 +7,22 @@ ghost use Rattle.bus.specs.Past.{Past, joined};
 ghost use Rattle.driver_law.specs.DriverState.{DriverState};
 ghost use Rattle.driver_law.specs.Goes.{FlowsTo, GoesTo, HasNoForgottenWork};
 ghost use Rattle.driver_law.specs.Ready.{ReadyWith, Stands};
-ghost use Rattle.driver_law.specs.ReceiveSteps.{BuffersCanComeBack, OldestCanBeTaken, OldestIsAsLong, SlotsCanBeStaged, StagedCanBeOffered};
+ghost use Rattle.driver_law.specs.ReceiveSteps.{BuffersCanComeBack, OldestCanBeTaken, OldestIsAsLong};
+ghost use Rattle.driver_law.specs.ReceiveSteps.{SlotsCanBeStaged, StagedCanBeOffered};
 
 /// Two stretches of a driver's run are one: what was taken in both was taken, in order, and so with what
 /// was given, what was put and stored, and what was missed. The transmit side may be set up in between.
 /// - `flows`: whichever registers are read meanwhile.
 /// - `goes`: where ICR isn't.
 pub fn stretches_join()
-    ensures flows { (first_up up : Bool) (d1 d2 d3 : DriverState) (a b c : World) (t1 t2 g1 g2 : List (List ℕ)) (s1 s2 : Past)
-        → FlowsTo first_up d1 a d2 b t1 g1 s1 → FlowsTo up d2 b d3 c t2 g2 s2 → FlowsTo up d1 a d3 c (t1 ++ t2) (g1 ++ g2) (joined s1 s2) }
-    ensures goes { (first_up up : Bool) (d1 d2 d3 : DriverState) (a b c : World) (t1 t2 g1 g2 : List (List ℕ)) (s1 s2 : Past)
-        → GoesTo first_up d1 a d2 b t1 g1 s1 → GoesTo up d2 b d3 c t2 g2 s2 → GoesTo up d1 a d3 c (t1 ++ t2) (g1 ++ g2) (joined s1 s2) }
+    ensures flows { (first_up up : Bool) (d1 d2 d3 : DriverState) (a b c : World)
+        (t1 t2 g1 g2 : List (List ℕ)) (s1 s2 : Past)
+        → FlowsTo first_up d1 a d2 b t1 g1 s1 → FlowsTo up d2 b d3 c t2 g2 s2
+        → FlowsTo up d1 a d3 c (t1 ++ t2) (g1 ++ g2) (joined s1 s2) }
+    ensures goes { (first_up up : Bool) (d1 d2 d3 : DriverState) (a b c : World)
+        (t1 t2 g1 g2 : List (List ℕ)) (s1 s2 : Past)
+        → GoesTo first_up d1 a d2 b t1 g1 s1 → GoesTo up d2 b d3 c t2 g2 s2
+        → GoesTo up d1 a d3 c (t1 ++ t2) (g1 ++ g2) (joined s1 s2) }
 {}
 
 /// What a driver may rest on between two of its calls, whatever happens.
@@ -26,7 +31,8 @@ pub fn stretches_join()
 /// - `work`: no work is forgotten, over any stretch in which ICR isn't read.
 /// - `handed_out`: frames that others hold stand in their buffers.
 pub fn drivers_go_on()
-    ensures goes { (up : Bool) (d : DriverState) (a b : World) (past : Past) → ReadyWith up d a → Happens a b past → GoesTo up d a d b [] [] past }
+    ensures goes { (up : Bool) (d : DriverState) (a b : World) (past : Past)
+        → ReadyWith up d a → Happens a b past → GoesTo up d a d b [] [] past }
     ensures work { (up : Bool) (d d' : DriverState) (a b : World) (taken given : List (List ℕ)) (past : Past)
         → GoesTo up d a d' b taken given past → HasNoForgottenWork d a → HasNoForgottenWork d' b }
     ensures handed_out { (up : Bool) (d : DriverState) (a b : World) (past : Past)

@@ -1,6 +1,6 @@
 // Laws of a driver's transmit side.
 
-ghost use Rattle.driver_law.specs.Transmit.{DataIsStored, DescriptorIsStored, FrameIsOffered, NextSlotIsOwn, NoneIsWrittenBack, SlotIsFreed, SlotsKeepBytes, TailIsMoved};
+ghost use Rattle.driver_law.specs.Transmit.{DataIsStored, DescriptorIsStored, FrameIsOffered, NextSlotIsOwn, NoneIsWrittenBack, SendsEndWithTail, SlotIsFreed, SlotsKeepBytes, TailIsMoved};
 
 /// A driver stores what it likes into the buffer and the descriptor of a transmit slot that isn't
 /// outstanding, as the one at the tail is, and both stay whatever happens.
@@ -12,10 +12,11 @@ pub fn own_slots_are_stored()
 {}
 
 /// A driver sends a frame that stands in the slot at the tail by a write of TDT, which moves it on by one:
-/// padded, the frame is the last that is to be sent.
+/// padded, the frame is the last that is to be sent. That write is the last access, behind loads and stores.
 pub fn frames_are_offered()
     ensures moved { TailIsMoved }
     ensures offered { FrameIsOffered }
+    ensures accesses { SendsEndWithTail }
 {}
 
 /// A driver frees its oldest transmit slot where its descriptor is done; else none is written back.
