@@ -10,3 +10,4 @@ pub mod Device
 pub mod RestingRings
 pub mod DriverSteps
 pub mod ClearedDescriptors
+pub mod FilterSetting

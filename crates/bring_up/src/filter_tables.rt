@@ -1,7 +1,9 @@
 //! The registers of the receive filter ("13.5.1 Multicast Table Array" and the sections behind it).
 
 ghost use Rattle.std.specs.Prelude.{◌≡◌, ◌<◌, ◌^◌, All, replicate};
+ghost use Rattle.rx_filter.specs.Addresses.{IsAddress};
 ghost use Rattle.rx_filter.specs.Writing.{with_number};
+ghost use Rattle.bring_up.specs.Configured.{AreWords};
 ghost use Rattle.bring_up.specs.FilterTables.{HasNumbers, address_writes, entry_writes, numbers_of_groups, table_writes};
 ghost use Rattle.bring_up.specs.Sets.{Sets};
 
@@ -57,6 +59,7 @@ pub fn write_groups<B: Bus>(bus: &mut B, table: &[u32; TABLE_WORDS])
     ensures honest { B.honest bus.old → B.honest bus.new }
     ensures lively { B.lively bus.old → B.lively bus.new }
     ensures sets { B.honest bus.old → Sets B.world B.happened bus.old bus.new (table_writes 0x5200 table.now) }
+    ensures words { AreWords table.now }
 {
     write_table(bus, MTA, table);
 }
@@ -68,6 +71,7 @@ pub fn write_vlans<B: Bus>(bus: &mut B, table: &[u32; TABLE_WORDS])
     ensures honest { B.honest bus.old → B.honest bus.new }
     ensures lively { B.lively bus.old → B.lively bus.new }
     ensures sets { B.honest bus.old → Sets B.world B.happened bus.old bus.new (table_writes 0x5600 table.now) }
+    ensures words { AreWords table.now }
 {
     write_table(bus, VFTA, table);
 }
@@ -79,6 +83,7 @@ pub fn write_addresses<B: Bus>(bus: &mut B, address: &[u8; 6])
     ensures honest { B.honest bus.old → B.honest bus.new }
     ensures lively { B.lively bus.old → B.lively bus.new }
     ensures sets { B.honest bus.old → Sets B.world B.happened bus.old bus.new (address_writes address.now) }
+    ensures address { IsAddress address.now }
 {
     write_address(bus, 0, AddressWords::of(address));
     for entry in 1..EXACT_ADDRESSES as u32 {
@@ -108,6 +113,7 @@ fn write_table<B: Bus>(bus: &mut B, first: u32, words: &[u32; TABLE_WORDS])
     ensures honest { B.honest bus.old → B.honest bus.new }
     ensures lively { B.lively bus.old → B.lively bus.new }
     ensures sets { B.honest bus.old → Sets B.world B.happened bus.old bus.new (table_writes first words.now) }
+    ensures words { AreWords words.now }
 {
     let mut offset = first;
     for word in words {

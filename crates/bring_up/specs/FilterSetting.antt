@@ -1,0 +1,21 @@
+-- The receive filter of a configuration is set up.
+use Rattle.std.specs.Prelude.{◌++◌, ℕ, List}
+use Rattle.rx_filter.specs.Addresses.{IsAddress}
+use Rattle.adapter.specs.World.{World}
+use Rattle.bus.specs.Past.{Past}
+use Rattle.bring_up.specs.Configuration.{vlans_of}
+use Rattle.bring_up.specs.Configured.{AreWords}
+use Rattle.bring_up.specs.FilterTables.{HasNumbers, address_writes, numbers_of_groups, table_writes}
+use Rattle.bring_up.specs.Sets.{Sets}
+use Rattle.bring_up.specs.declared.config.Config.{Config}
+
+-- The tables are written with the bits of the configured groups and VLANs, and then the addresses.
+pub record SetsFilter {B : Type 0} (world : B → World) (happened : B → B → Past → Type 0) (old new : B) (config : Config) (address : List ℕ) : Type 0 where
+  pub groups : List ℕ
+  pub vlans : List ℕ
+  pub sets : Sets world happened old new (table_writes 0x5200 groups ++ (table_writes 0x5600 vlans ++ address_writes address))
+  pub has_groups : HasNumbers groups (numbers_of_groups config.groups.items)
+  pub has_vlans : HasNumbers vlans (vlans_of config.vlans)
+  pub groups_are : AreWords groups
+  pub vlans_are : AreWords vlans
+  pub address_is : IsAddress address
