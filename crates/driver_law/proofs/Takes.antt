@@ -157,6 +157,8 @@ oldest_can_be_taken up d m rest slots a ready buffers done =
         mask = refl;
         sum = omega arith;
         counted = λ fits low. omega arith;
+        at_most = omega arith;
+        exactly = λ exact loose. record { exact = exact; loose = loose; sum = omega arith };
       };
       causes = λ place has. has;
       told = inl (omega (arith, ap length done, ap length at.behind));

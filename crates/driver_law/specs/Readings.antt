@@ -1,5 +1,6 @@
 -- What a driver's read of a register leaves of what it knows (own).
-use Rattle.std.specs.Prelude.{◌≡◌, ◌≢◌, ◌<◌, ◌+◌, ◌-◌, ◌^◌, ℕ, Bool, [], min}
+use Rattle.std.specs.Prelude.{◌≡◌, ◌≢◌, ◌<◌, ◌+◌, ◌-◌, ◌^◌, ◌&&◌, ℕ, Bool, [], min, nat_lt}
+use Rattle.registers.specs.Counting.{greatest_count}
 use Rattle.adapter.specs.Registers.{answer_at}
 use Rattle.adapter.specs.World.{World, world_after_read}
 use Rattle.bus.specs.Past.{nothing}
@@ -7,9 +8,13 @@ use Rattle.driver_law.specs.DriverState.{DriverState}
 use Rattle.driver_law.specs.Goes.{FlowsTo, GoesTo}
 use Rattle.driver_law.specs.Ready.{ReadyWith}
 
+-- whether a value that was read of MPC can be added without a loss: MPC didn't stick at it, and the sum doesn't
+abbrev pub adds_exactly : (missed value : ℕ) → Bool
+adds_exactly missed value = nat_lt value greatest_count && nat_lt (missed + value) (2 ^ 64)
+
 -- the driver with what it read of MPC added to its sum, which stays at the greatest u64
 abbrev pub with_missed : ℕ → DriverState → DriverState
-with_missed value driver = record driver { missed = min (driver.missed + value) (2 ^ 64 - 1) }
+with_missed value driver = record driver { missed = min (driver.missed + value) (2 ^ 64 - 1); exact = driver.exact && adds_exactly driver.missed value }
 
 -- MPC is read, and what it held is added to the driver's sum.
 abbrev pub MissesAreRead : Type 0
