@@ -75,7 +75,7 @@ impl Driver {
         ensures shows { Shows R.took receiver.old receiver.new received self.old.pool self.new.pool }
     {
         if let Some(buffer) = receiver.take(received) {
-            self.pool.give(buffer);
+            self.put_back(buffer);
         }
     }
 
