@@ -21,3 +21,4 @@ pub mod ReceiveAccesses
 pub mod TransmitRuns
 pub mod InitialStores
 pub mod RegisterWrites
+pub mod RegisterAccesses
