@@ -1,20 +1,23 @@
 -- Slots are staged one after the other, and then offered.
-use Rattle.std.proofs.Common.{Bool, ◌≡◌, ◌+◌, ◌++◌, [], ℕ, List, length, refl, sym, ap, subst, ◌∙◌, append_assoc, length-append, arith}
-use Rattle.std.proofs.lemmas.List.{append-nil}
+use Rattle.std.proofs.Common.{Bool, ◌≡◌, ◌+◌, ◌++◌, ◌∷◌, [], ℕ, List, length, refl, sym, ap, subst, ◌∙◌, append_assoc, length-append, arith}
+use Rattle.std.proofs.lemmas.List.{append-nil, map-append}
+use Rattle.std.specs.List.{All}
+use Rattle.bus.proofs.Lists.{all-without}
+use Rattle.driver_law.proofs.Takes.{buffers_can_come_back}
 use Rattle.dma_memory.specs.Owners.{HaveSameNumbers, copies}
-use Rattle.dma_memory.specs.OwnersLaws.{copies-append}
+use Rattle.dma_memory.specs.OwnersLaws.{copies-append, copies-cons}
 use Rattle.descriptors.specs.RingLaws.{place}
 use Rattle.adapter.specs.World.{World}
 use Rattle.bus.specs.Past.{Past, joined, nothing}
 use Rattle.bus.specs.declared.event.Access.{Access}
-use Rattle.driver_law.proofs.Accesses.{ran_by-join, ran_by-stays}
+use Rattle.driver_law.proofs.Accesses.{ran_by-itself, ran_by-join, ran_by-same, ran_by-stays}
 use Rattle.driver_law.proofs.Owners.{owners-count}
 use Rattle.driver_law.proofs.Places.{place-add}
 use Rattle.driver_law.proofs.ReceiveAccesses.{stores-append}
 use Rattle.driver_law.specs.Accesses.{stores_from, tail_write}
-use Rattle.driver_law.specs.DriverState.{DriverState, HandedOut, holding, next_received, owners, with_owners}
+use Rattle.driver_law.specs.DriverState.{DriverState, HandedOut, holding, next_received, numbers_of, owners, with_owners}
 use Rattle.driver_law.specs.Goes.{RanBy}
-use Rattle.driver_law.specs.Ready.{ReadyWith}
+use Rattle.driver_law.specs.Ready.{ReadyWith, Stands}
 use Rattle.driver.specs.Refills.{Refills, Stages}
 
 -- No slot is staged.
@@ -81,3 +84,44 @@ pub owners-staged : {B : Type 0} (honest : B → Type 0) (world : B → World) (
 owners-staged honest world happened a b d d' xs stages k =
     let later = with_owners d d.buffers (d.staged ++ xs) d'.pool d.handed_out in
     omega (arith, owners-count k d, owners-count k later, stages.pool k, copies-append k xs d'.pool, copies-append k d.staged xs) ∙ ap (λ (s : DriverState). copies k (owners s)) (sym stages.others)
+
+-- A buffer comes back, and then slots are offered.
+pub gives : {B : Type 0} (world : B → World) (happened : B → B → Past → Type 0) → ((b : B) → happened b b nothing)
+    → ((a b c : B) (first later : Past) → happened a b first → happened b c later → happened a c (joined first later)) → (a c : B) (d1 d2 d3 : DriverState) (m : ℕ)
+    → d2 ≡ record d1 { pool = d2.pool } → HaveSameNumbers (m ∷ d1.pool) d2.pool
+    → (up : Bool) (first later : List HandedOut) (one : HandedOut) → one.number ≡ m → ReadyWith up (holding (first ++ one ∷ later) d1) (world a)
+    → (ReadyWith up (holding (first ++ later) d2) (world a) → Refills up world happened a c (holding (first ++ later) d2) (holding (first ++ later) d3))
+    → Refills up world happened a c (holding (first ++ one ∷ later) d1) (holding (first ++ later) d3)
+gives {B} world happened stays joins a c d1 d2 d3 m others back up first later one is ready refilling =
+    let before = first ++ one ∷ later in
+    let left = first ++ later in
+    let number : HandedOut → ℕ = λ x. x.number in
+    let P = Stands d1.counts (world a).memory in
+    let stand : All P left = all-without P first one later ready.stand in
+    let moves : (k : ℕ) → copies k d2.pool + copies k (numbers_of left) ≡ copies k d1.pool + copies k (numbers_of before) = λ k.
+    omega (
+      arith,
+      back k,
+      copies-cons k m d1.pool,
+      ap (copies k) (map-append number first later),
+      copies-append k (numbers_of first) (numbers_of later),
+      ap (copies k) (map-append number first (one ∷ later)),
+      copies-append k (numbers_of first) (one.number ∷ numbers_of later),
+      copies-cons k m (numbers_of later),
+      ap (λ (x : ℕ). copies k (x ∷ numbers_of later)) is,
+    ) in
+    let d2' : DriverState = record d1 { pool = d2.pool } in
+    let comes = ran_by-itself world happened stays a (holding before d1) (holding left d2') [] [] (buffers_can_come_back up (holding before d1) d2.pool left (world a) ready moves stand) in
+    let back_is : holding left d2' ≡ holding left d2 = ap (holding left) (sym others) in
+    let came = ran_by-same world happened [] [] a a (holding before d1) (holding left d2') (holding left d2) [] [] [] refl back_is refl comes in
+    let refilled = refilling came.goes.flows.ready in
+    let accesses : stores_from d2.counts (next_received d2) refilled.numbers ++ tail_write (next_received d3) (d2.staged ++ refilled.numbers)
+        ≡ stores_from d1.counts (next_received d1) refilled.numbers ++ tail_write (next_received d3) (d1.staged ++ refilled.numbers) =
+    ap (λ (d : DriverState). stores_from d.counts (next_received d) refilled.numbers ++ tail_write (next_received d3) (d.staged ++ refilled.numbers)) others in
+    record {
+      numbers = refilled.numbers;
+      offered = refilled.offered ∙ ap (λ (d : DriverState). d.buffers ++ (d.staged ++ refilled.numbers)) others;
+      ran =
+          subst (λ (list : List Access). RanBy up world happened list a c (holding before d1) (holding left d3) [] []) accesses
+          (ran_by-join world happened joins [] _ a a c (holding before d1) (holding left d2) (holding left d3) [] [] [] [] came refilled.ran);
+    }

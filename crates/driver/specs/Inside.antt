@@ -24,6 +24,8 @@ state_of driver = record {
   oldest_sent = driver.oldest_sent;
   sending = driver.sending;
   missed = driver.missed;
+  exact = driver.exact;
+  bad = driver.bad;
 }
 
 -- The receive side.

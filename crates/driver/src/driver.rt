@@ -33,6 +33,10 @@ pub struct Driver {
     pub(crate) sending: u16,
     /// The sum of what MPC was read as, up to the greatest `u64`.
     pub(crate) missed: u64,
+    /// Whether that is all of it: MPC was never read at its greatest, and the sum never stuck.
+    pub(crate) exact: bool,
+    /// How many finished slots weren't handed out, up to the greatest `u64`.
+    pub(crate) bad: u64,
 }
 
 impl Model for Driver {
@@ -68,5 +72,21 @@ impl Driver {
         ensures { result ≡ self.now.sending }
     {
         self.sending
+    }
+
+    /// How many frames the adapter missed, as MPC was read, and whether that is exact: else there were more.
+    pub fn missed(&self) -> (u64, bool)
+        ensures sum { result.0 ≡ self.now.missed }
+        ensures exact { result.1 ≡ self.now.exact }
+    {
+        (self.missed, self.exact)
+    }
+
+    /// How many finished slots weren't handed out, as they held no whole frame of a legal length. A bus that
+    /// obeys the law never has such a slot.
+    pub fn bad(&self) -> u64
+        ensures { result ≡ self.now.bad }
+    {
+        self.bad
     }
 }

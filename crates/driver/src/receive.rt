@@ -1,24 +1,46 @@
 // A driver takes received frames off its ring.
 
-ghost use Rattle.std.specs.Prelude.{◌≡◌, ◌+◌, ◌<◌, ◌≤◌, ◌++◌, ◌∷◌, Bool, List, [], length, IfNone, IfSome};
+ghost use Rattle.std.specs.Prelude.{◌≡◌, ◌↔◌, ◌+◌, ◌<◌, ◌≤◌, ◌++◌, ◌∷◌, Bool, List, [], length, IfNone, IfSome, IsTrue};
 ghost use Rattle.dma_memory.specs.Layout.{size_of};
 ghost use Rattle.dma_memory.specs.Owners.{HasNoSecondOwner, copies};
-ghost use Rattle.registers.specs.Bits.{is_set};
+ghost use Rattle.registers.specs.Bits.{HasBit, is_set};
 ghost use Rattle.descriptors.specs.RxStatus.{status_bits};
+ghost use Rattle.rx_filter.specs.Addresses.{ether_type};
+ghost use Rattle.adapter.specs.Conditions.{IsWhole};
 ghost use Rattle.adapter.specs.Slots.{finished};
-ghost use Rattle.driver_law.specs.Accesses.{last_load, loads_from};
-ghost use Rattle.driver_law.specs.DriverState.{HandedOut, holding, owners};
+ghost use Rattle.bus.specs.declared.event.Access.TheVariants.{Loads};
+ghost use Rattle.driver_law.specs.Accesses.{last_load};
+ghost use Rattle.driver_law.specs.DriverState.{HandedOut, buffer_at, holding, owners};
 ghost use Rattle.driver_law.specs.Goes.{RanBy};
 ghost use Rattle.driver_law.specs.OldestSlot.{TakesOldest};
 ghost use Rattle.driver_law.specs.Ready.{ReadyWith};
 ghost use Rattle.driver_law.specs.ReceiveSteps.{behind_oldest};
-ghost use Rattle.driver.specs.Takes.{Shows, ShowsAll, Takes};
+ghost use Rattle.driver.specs.Takes.{HandsOn, HandsOver, IsFrameSize, Shows, ShowsAll, Takes};
 
 use crate::refill::receive_slot;
 use crate::{Driver, Received, Receiver};
 use bitflags::Flags;
 use bus::Bus;
 use descriptors::{RX_DESC_BYTES, RxDesc, RxStatus};
+use dma_memory::BufId;
+
+/// The shortest frame that an adapter receives, without its check sequence.
+const SHORTEST_RECEIVED: u16 = 60;
+
+/// The longest frame that an adapter receives, without its check sequence.
+const LONGEST_RECEIVED: u16 = 1518;
+
+/// Where a frame has its EtherType.
+const ETHER_TYPE: u64 = 12;
+
+/// A slot that was taken off the ring.
+#[derive(Drop)]
+struct Finished {
+    buffer: BufId,
+    length: u16,
+    /// Whether its descriptor is that of a whole frame.
+    whole: bool,
+}
 
 /// Whether the adapter is done with a descriptor.
 fn is_done(descriptor: &RxDesc) -> bool
@@ -27,32 +49,46 @@ fn is_done(descriptor: &RxDesc) -> bool
     descriptor.status.contains(RxStatus::DD)
 }
 
+/// Whether a packet ends in a descriptor's buffer: EOP.
+fn is_ended(descriptor: &RxDesc) -> bool
+    ensures { IsTrue result ↔ HasBit (status_bits descriptor.now.status) 1 }
+{
+    descriptor.status.contains(RxStatus::EOP)
+}
+
+/// Whether a descriptor is that of a whole frame: EOP, no errors, and a legal length.
+fn is_whole(descriptor: &RxDesc) -> bool
+    ensures { IsTrue result ↔ IsWhole descriptor.now }
+{
+    if !is_ended(descriptor) || descriptor.errors != 0 {
+        return false;
+    }
+    SHORTEST_RECEIVED <= descriptor.length && descriptor.length <= LONGEST_RECEIVED
+}
+
 impl Driver {
     /// Looks at the oldest outstanding receive slot, by one load of its descriptor, and takes it where that
     /// is done. Length and done bit are of the same load.
-    fn take_next<B: Bus>(&mut self, bus: &mut B) -> Option<Received>
+    fn take_next<B: Bus>(&mut self, bus: &mut B) -> Option<Finished>
         requires memory { size_of self.old.counts ≤ B.extent bus.old }
         ensures extent { B.extent bus.new ≡ B.extent bus.old }
         ensures kept { B.kept bus.old bus.new }
         ensures honest { B.honest bus.old → B.honest bus.new }
         ensures lively { B.lively bus.old → B.lively bus.new }
         ensures stays { IfNone result (self.new ≡ self.old) }
-        ensures first { IfSome result (λ received. self.old.buffers ≡ received.buffer ∷ self.new.buffers) }
-        ensures behind { IfSome result
-            (λ received. self.new ≡ behind_oldest self.old self.new.buffers self.old.handed_out) }
-        ensures known { IfSome result (λ received. received.buffer < self.new.counts.buffers) }
-        ensures out { IfSome result (λ received. copies received.buffer (owners self.new) ≡ 0) }
-        ensures none { (up : Bool) (held : List HandedOut) → B.honest bus.old
-            → ReadyWith up (holding held self.old) (B.world bus.old)
+        ensures first { IfSome result (λ finished. self.old.buffers ≡ finished.buffer ∷ self.new.buffers) }
+        ensures behind { IfSome result (λ finished. self.new ≡ behind_oldest self.old self.new.buffers self.old.handed_out) }
+        ensures known { IfSome result (λ finished. finished.buffer < self.new.counts.buffers) }
+        ensures out { IfSome result (λ finished. copies finished.buffer (owners self.new) ≡ 0) }
+        ensures size { IfSome result (λ finished. IsTrue finished.whole → IsFrameSize finished.length) }
+        ensures whole { (up : Bool) (held : List HandedOut) → B.honest bus.old → ReadyWith up (holding held self.old) (B.world bus.old)
+            → IfSome result (λ finished. IsTrue finished.whole) }
+        ensures none { (up : Bool) (held : List HandedOut) → B.honest bus.old → ReadyWith up (holding held self.old) (B.world bus.old)
             → IfNone result (finished self.old.oldest_received (B.world bus.new) ≡ []) }
-        ensures looks { (up : Bool) (held : List HandedOut) → B.honest bus.old
-            → ReadyWith up (holding held self.old) (B.world bus.old)
-            → IfNone result (RanBy up B.world B.happened (last_load self.old.oldest_received self.old.buffers)
-            bus.old bus.new (holding held self.old) (holding held self.old) [] []) }
-        ensures takes { (up : Bool) (held : List HandedOut) → B.honest bus.old
-            → ReadyWith up (holding held self.old) (B.world bus.old)
-            → IfSome result (λ received. TakesOldest up B.world B.happened bus.old bus.new (holding held self.old)
-            received.buffer received.length self.new.buffers) }
+        ensures looks { (up : Bool) (held : List HandedOut) → B.honest bus.old → ReadyWith up (holding held self.old) (B.world bus.old)
+            → IfNone result (RanBy up B.world B.happened (last_load self.old.oldest_received self.old.buffers) bus.old bus.new (holding held self.old) (holding held self.old) [] []) }
+        ensures takes { (up : Bool) (held : List HandedOut) → B.honest bus.old → ReadyWith up (holding held self.old) (B.world bus.old)
+            → IfSome result (λ finished. TakesOldest up B.world B.happened bus.old bus.new (holding held self.old) finished.buffer finished.length self.new.buffers) }
     {
         if self.buffers.len() == usize::from(self.staged) {
             return None;
@@ -67,10 +103,32 @@ impl Driver {
             return None;
         };
         self.oldest_received = (self.oldest_received + 1) % self.layout.rx();
-        Some(Received {
+        Some(Finished {
             buffer,
             length: descriptor.length,
+            whole: is_whole(&descriptor),
         })
+    }
+
+    /// Bytes 12 and 13 of the frame in a buffer, by one load.
+    fn ether_type<B: Bus>(&self, bus: &mut B, buffer: u16) -> u16
+        requires memory { size_of self.now.counts ≤ B.extent bus.old }
+        requires known { buffer < self.now.counts.buffers }
+        ensures extent { B.extent bus.new ≡ B.extent bus.old }
+        ensures kept { B.kept bus.old bus.new }
+        ensures honest { B.honest bus.old → B.honest bus.new }
+        ensures lively { B.lively bus.old → B.lively bus.new }
+        ensures ran { (up : Bool) (held : List HandedOut) → B.honest bus.old → ReadyWith up (holding held self.now) (B.world bus.old)
+            → RanBy up B.world B.happened (Loads (buffer_at self.now.counts buffer + 12) 2 ∷ []) bus.old bus.new (holding held self.now) (holding held self.now) [] [] }
+        ensures shows { (up : Bool) (held : List HandedOut) (one : HandedOut) → B.honest bus.old → ReadyWith up (holding (held ++ one ∷ []) self.now) (B.world bus.old)
+            → one.number ≡ buffer → 14 ≤ length one.frame → result ≡ ether_type one.frame }
+    {
+        let mut bytes = [0; 2];
+        bus.load(
+            self.layout.receive_buffer(buffer) + ETHER_TYPE,
+            &mut bytes,
+        );
+        u16::from_be_bytes(bytes)
     }
 
     /// Shows a frame to the receiver, and puts its buffer into the pool where that comes back.
@@ -81,13 +139,44 @@ impl Driver {
         ensures shows { Shows R.took receiver.old receiver.new received self.old.pool self.new.pool }
     {
         if let Some(buffer) = receiver.take(received) {
-            self.pool.give(buffer);
+            self.put_back(buffer);
         }
     }
 
+    /// Hands on a slot that was taken: where its descriptor is that of a whole frame the receiver takes it,
+    /// else its buffer goes back to the pool, and it counts as bad.
+    fn hand_on<B: Bus, R: Receiver>(&mut self, bus: &mut B, finished: Finished, receiver: &mut R)
+        requires memory { size_of self.old.counts ≤ B.extent bus.old }
+        requires known { finished.buffer < self.old.counts.buffers }
+        requires out { copies finished.buffer (owners self.old) ≡ 0 }
+        requires size { IsTrue finished.whole → IsFrameSize finished.length }
+        ensures extent { B.extent bus.new ≡ B.extent bus.old }
+        ensures kept { B.kept bus.old bus.new }
+        ensures honest { B.honest bus.old → B.honest bus.new }
+        ensures lively { B.lively bus.old → B.lively bus.new }
+        ensures others { self.new ≡ record self.old { pool = self.new.pool; bad = self.new.bad } }
+        ensures hands { HandsOn R.took receiver.old receiver.new finished.buffer self.old self.new }
+        ensures over { (up : Bool) (held : List HandedOut) (one : HandedOut) → B.honest bus.old → ReadyWith up (holding (held ++ one ∷ []) self.old) (B.world bus.old)
+            → one.number ≡ finished.buffer → length one.frame ≡ finished.length → IsTrue finished.whole
+            → HandsOver up B.world B.happened R.took bus.old bus.new receiver.old receiver.new one (holding (held ++ one ∷ []) self.old) (holding (held ++ one ∷ []) self.new) }
+    {
+        if !finished.whole {
+            self.put_back(finished.buffer);
+            self.bad = self.bad.saturating_add(1);
+            return;
+        }
+        let ether_type = self.ether_type(bus, finished.buffer.number());
+        let received = Received {
+            buffer: finished.buffer,
+            length: finished.length,
+            ether_type,
+        };
+        self.show(received, receiver);
+    }
+
     /// Takes every finished receive slot, from the oldest on up to the first that isn't finished, shows each
-    /// frame to the receiver, and tells how many there were. Each slot is looked at by one load of its
-    /// descriptor.
+    /// frame to the receiver, and tells how many slots there were. Each is looked at by one load of its
+    /// descriptor, and behind it bytes 12 and 13 of its frame are loaded.
     pub fn take_finished<B: Bus, R: Receiver>(&mut self, bus: &mut B, receiver: &mut R) -> usize
         requires memory { size_of self.old.counts ≤ B.extent bus.old }
         ensures extent { B.extent bus.new ≡ B.extent bus.old }
@@ -96,9 +185,7 @@ impl Driver {
         ensures lively { B.lively bus.old → B.lively bus.new }
 
         // What it does to its slots and buffers, over any bus.
-        ensures others { self.new
-            ≡ record self.old
-            { oldest_received = self.new.oldest_received; buffers = self.new.buffers; pool = self.new.pool } }
+        ensures others { self.new ≡ record self.old { oldest_received = self.new.oldest_received; buffers = self.new.buffers; pool = self.new.pool; bad = self.new.bad } }
         ensures count { result + length self.new.buffers ≡ length self.old.buffers }
         ensures shows { ShowsAll R.took receiver.old receiver.new self.old self.new result }
         ensures one_owner { HasNoSecondOwner self.new.counts.buffers (owners self.new) }
@@ -107,16 +194,13 @@ impl Driver {
         ensures none_left { (up : Bool) (held : List HandedOut) → B.honest bus.old
             → ReadyWith up (holding held self.old) (B.world bus.old)
             → finished self.new.oldest_received (B.world bus.new) ≡ [] }
-        ensures takes { (up : Bool) (held : List HandedOut) → B.honest bus.old
-            → ReadyWith up (holding held self.old) (B.world bus.old)
-            → Takes up B.world B.happened R.took
-            (loads_from self.old.counts.rx self.old.oldest_received result
-            ++ last_load self.new.oldest_received self.new.buffers)
+        ensures takes { (up : Bool) (held : List HandedOut) → B.honest bus.old → ReadyWith up (holding held self.old) (B.world bus.old)
+            → Takes up B.world B.happened R.took (last_load self.new.oldest_received self.new.buffers)
             bus.old bus.new receiver.old receiver.new (holding held self.old) (holding held self.new) result }
     {
         let before = self.receiving();
-        while let Some(received) = self.take_next(bus) {
-            self.show(received, receiver);
+        while let Some(finished) = self.take_next(bus) {
+            self.hand_on(bus, finished, receiver);
         }
         before - self.receiving()
     }

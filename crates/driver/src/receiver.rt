@@ -10,8 +10,10 @@ use dma_memory::BufId;
 pub struct Received {
     /// The buffer, whose owner is who has this.
     pub buffer: BufId,
-    /// How many bytes the frame has.
+    /// How many bytes the frame has: from 60 to 1,518.
     pub length: u16,
+    /// Bytes 12 and 13 of the frame, the higher one first.
+    pub ether_type: u16,
 }
 
 /// Takes received frames: keeps a frame with its buffer, or gives the buffer back at once.

@@ -3,7 +3,7 @@
 ghost use Rattle.std.specs.Prelude.{◌≡◌, ◌⊎◌, ◌+◌, ◌*◌, ◌<◌, ◌≤◌, ◌++◌, ◌∷◌, ℕ, Bool, List, [], length};
 ghost use Rattle.std.specs.Bool.{OnFalse, OnTrue};
 ghost use Rattle.dma_memory.specs.Layout.{size_of};
-ghost use Rattle.dma_memory.specs.Owners.{HasNoSecondOwner, HaveSameNumbers};
+ghost use Rattle.dma_memory.specs.Owners.{HasNoSecondOwner, HaveSameNumbers, copies};
 ghost use Rattle.descriptors.specs.RxDesc.{rx_desc_bytes};
 ghost use Rattle.driver_law.specs.Accesses.{tail_write};
 ghost use Rattle.driver_law.specs.DriverState.{HandedOut, holding, next_received, owners, with_owners};
@@ -16,7 +16,7 @@ use adapter::offsets::RDT;
 use bitflags::Flags;
 use bus::Bus;
 use descriptors::{RxDesc, RxStatus};
-use dma_memory::DESCRIPTOR_BYTES;
+use dma_memory::{BufId, DESCRIPTOR_BYTES};
 
 /// The descriptor of a receive slot, by its place, where the ring begins at address 0.
 pub(crate) fn receive_slot(slot: u16) -> u64
@@ -92,6 +92,17 @@ impl Driver {
         self.staged = 0;
     }
 
+    /// Puts a buffer back into the pool.
+    pub(crate) fn put_back(&mut self, buffer: BufId)
+        requires known { buffer < self.old.counts.buffers }
+        requires out { copies buffer (owners self.old) ≡ 0 }
+        ensures others { self.new ≡ record self.old { pool = self.new.pool } }
+        ensures back { HaveSameNumbers (buffer ∷ self.old.pool) self.new.pool }
+        ensures one_owner { HasNoSecondOwner self.new.counts.buffers (owners self.new) }
+    {
+        self.pool.give(buffer);
+    }
+
     /// Offers receive slots with free buffers, as long as there is one, and room for it: one slot always
     /// stays the driver's. It stores their descriptors, and then writes RDT once, where any were stored.
     pub fn refill<B: Bus>(&mut self, bus: &mut B)
@@ -114,5 +125,30 @@ impl Driver {
     {
         while self.stage(bus) {}
         self.offer(bus);
+    }
+
+    /// Puts the buffer of a frame that was handed out back into the pool, and refills.
+    pub fn give<B: Bus>(&mut self, bus: &mut B, buffer: BufId)
+        requires memory { size_of self.old.counts ≤ B.extent bus.old }
+        requires known { buffer < self.old.counts.buffers }
+        requires out { copies buffer (owners self.old) ≡ 0 }
+        ensures extent { B.extent bus.new ≡ B.extent bus.old }
+        ensures kept { B.kept bus.old bus.new }
+        ensures honest { B.honest bus.old → B.honest bus.new }
+        ensures lively { B.lively bus.old → B.lively bus.new }
+
+        // What it does to its slots and buffers, over any bus.
+        ensures others { self.new ≡ with_owners self.old self.new.buffers [] self.new.pool [] }
+        ensures refilled { IsRefilled self.new }
+        ensures owners { HaveSameNumbers (buffer ∷ owners self.old) (owners self.new) }
+        ensures one_owner { HasNoSecondOwner self.new.counts.buffers (owners self.new) }
+
+        // And over one that obeys the law: the frame in that buffer isn't handed out any more.
+        ensures ran { (up : Bool) (first later : List HandedOut) (one : HandedOut) → one.number ≡ buffer
+            → B.honest bus.old → ReadyWith up (holding (first ++ one ∷ later) self.old) (B.world bus.old)
+            → Refills up B.world B.happened bus.old bus.new (holding (first ++ one ∷ later) self.old) (holding (first ++ later) self.new) }
+    {
+        self.put_back(buffer);
+        self.refill(bus);
     }
 }

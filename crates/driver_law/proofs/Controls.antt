@@ -51,6 +51,7 @@ transmitter_is_enabled driver control world ready below knows pads =
     (record {
       counts = refl;
       missed = refl;
+      exact = refl;
       to_send = refl;
       held = refl;
       finished_same = refl;

@@ -155,6 +155,8 @@ frame_is_offered driver frame world ready room least short stands =
         mask = refl;
         sum = omega arith;
         counted = λ fits low. omega arith;
+        at_most = omega arith;
+        exactly = λ exact loose. record { exact = exact; loose = loose; sum = omega arith };
       };
       causes = λ bit has. has;
       told = inl (omega (arith, ap length done.finished_same));
@@ -241,6 +243,7 @@ slot_is_freed driver world ready some done =
     (record {
       counts = refl;
       missed = refl;
+      exact = refl;
       to_send = refl;
       held = refl;
       finished_same = refl;

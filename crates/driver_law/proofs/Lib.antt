@@ -23,3 +23,4 @@ pub mod TransmitRuns
 pub mod InitialStores
 pub mod RegisterWrites
 pub mod Waits
+pub mod RegisterAccesses

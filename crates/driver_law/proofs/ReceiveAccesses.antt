@@ -1,29 +1,33 @@
 -- What a driver does with its receive slots over a bus.
-use Rattle.std.proofs.Common.{Bool, ◌≡◌, ◌<◌, ◌+◌, ◌%◌, ◌++◌, ◌∷◌, [], true, false, ℕ, zero, suc, List, length, slice_index, refl, sym, ap, subst, ◌∙◌, arith}
+use Rattle.std.proofs.Common.{Bool, ◌≡◌, ◌≤◌, ◌<◌, ◌+◌, ◌-◌, ◌%◌, ◌++◌, ◌∷◌, [], true, false, ℕ, List, length, take, drop, slice_index, refl, sym, ap, subst, ◌∙◌, arith}
 use Rattle.registers.specs.Bits.{is_set}
 use Rattle.dma_memory.specs.HostMemory.{bytes_at}
 use Rattle.dma_memory.specs.Layout.{Counts}
 use Rattle.dma_memory.specs.Owners.{HaveSameNumbers}
 use Rattle.descriptors.specs.RingLaws.{place}
 use Rattle.descriptors.specs.RxDesc.{rx_desc_of}
+use Rattle.adapter.specs.Conditions.{IsWhole}
 use Rattle.adapter.specs.World.{World, world_after_store, world_after_write}
 use Rattle.bus.specs.Initialising.{with_tail}
 use Rattle.bus.specs.Law.{Acts}
 use Rattle.bus.specs.Past.{Past, nothing}
 use Rattle.bus.specs.declared.event.Access.{Access}
 use Rattle.bus.specs.declared.event.Access.TheVariants.{Loads, Stores, Writes}
+use Rattle.std.specs.List.{All}
+use Rattle.std.proofs.lemmas.List.{drop-drop, drop-take, take-take}
+use Rattle.bus.proofs.Lists.{all-head, all-right}
 use Rattle.bus.proofs.KnownRings.{receive_tail-written}
 use Rattle.driver_law.proofs.Accesses.{load-sets, ran_by-acts, store-sets, write-sets}
 use Rattle.driver_law.proofs.Offers.{staged_can_be_offered}
 use Rattle.driver_law.proofs.Places.{place-below}
 use Rattle.driver_law.proofs.Steps.{goes-happens, goes-stays}
 use Rattle.driver_law.proofs.Stores.{slots_can_be_staged}
-use Rattle.driver_law.proofs.Takes.{finished-first, finished-none, oldest_can_be_taken, oldest_is_as_long}
-use Rattle.driver_law.specs.Accesses.{loads_from, stores_from}
-use Rattle.driver_law.specs.DriverState.{DriverState, buffer_at, next_received, receive_slot, with_owners}
+use Rattle.driver_law.proofs.Takes.{finished-first, finished-none, oldest_can_be_taken, oldest_is_as_long, oldest_is_whole}
+use Rattle.driver_law.specs.Accesses.{stores_from, takes_from}
+use Rattle.driver_law.specs.DriverState.{DriverState, HandedOut, buffer_at, next_received, receive_slot, with_owners}
 use Rattle.driver_law.specs.Goes.{GoesTo, RanBy}
 use Rattle.driver_law.specs.OldestSlot.{LeavesOldest, TakesOldest}
-use Rattle.driver_law.specs.Ready.{ReadyWith, empty_descriptor}
+use Rattle.driver_law.specs.Ready.{ReadyWith, Stands, empty_descriptor}
 
 -- The lists of accesses grow at their ends.
 
@@ -32,9 +36,11 @@ stores-append counts slot [] ys = refl
 stores-append counts slot (number ∷ xs) ys =
     ap (λ (list : List Access). Stores (receive_slot slot) (empty_descriptor (buffer_at counts number)) ∷ list) (stores-append counts ((slot + 1) % counts.rx) xs ys)
 
-pub loads-push : (count slot k : ℕ) → loads_from count slot (suc k) ≡ loads_from count slot k ++ Loads (receive_slot (place count slot k)) 16 ∷ []
-loads-push count slot zero = refl
-loads-push count slot (suc k) = ap (λ (list : List Access). Loads (receive_slot slot) 16 ∷ list) (loads-push count ((slot + 1) % count) k)
+pub takes-push : (counts : Counts) (slot m : ℕ) (xs : List ℕ)
+    → takes_from counts slot (xs ++ m ∷ []) ≡ takes_from counts slot xs ++ Loads (receive_slot (place counts.rx slot (length xs))) 16 ∷ Loads (buffer_at counts m + 12) 2 ∷ []
+takes-push counts slot m [] = refl
+takes-push counts slot m (number ∷ xs) =
+    ap (λ (list : List Access). Loads (receive_slot slot) 16 ∷ Loads (buffer_at counts number + 12) 2 ∷ list) (takes-push counts ((slot + 1) % counts.rx) m xs)
 
 -- The next slot's descriptor is stored.
 pub ran_by-stages : {up : Bool} {B : Type 0} (world : B → World) (happened : B → B → Past → Type 0) (lively : B → Type 0) (old new : B) (d : DriverState) (m address : ℕ) (pool bytes : List ℕ)
@@ -119,3 +125,45 @@ ran_by-takes {up} world happened lively old new d m address later bytes buffers 
       long = oldest_is_as_long up d m later first.0 (world new) it.ready buffers first.1 ∙ ap (λ (list : List ℕ). (rx_desc_of list).length) (sym it.shown);
       ran = ran_by-looks world happened lively old new d _ _ address bytes at acts ready (λ set. oldest_can_be_taken up d m later first.0 (world new) set buffers first.1);
     }
+
+-- Its descriptor is whole then.
+pub takes-whole : {up : Bool} {B : Type 0} (world : B → World) (happened : B → B → Past → Type 0) (lively : B → Type 0) (old new : B) (d : DriverState) (m address : ℕ) (later bytes : List ℕ)
+    → d.buffers ≡ m ∷ later → address ≡ receive_slot d.oldest_received → is_set (slice_index bytes 12) 0 ≡ true
+    → Acts world happened lively old new (Loads address 16) (Shows address bytes) → ReadyWith up d (world old) → IsWhole (rx_desc_of bytes)
+takes-whole {up} world happened lively old new d m address later bytes buffers at done acts ready =
+    let it = seen world happened lively old new d address bytes at acts ready in
+    let first = finished-first d (world new) m later buffers it.ready (ap (λ (list : List ℕ). is_set (slice_index list 12) 0) (sym it.shown) ∙ done) in
+    subst (λ (list : List ℕ). IsWhole (rx_desc_of list)) (sym it.shown) (oldest_is_whole d m later first.0 (world new) it.ready buffers first.1)
+
+-- Bytes of a frame that was handed out are loaded: they are the frame's.
+pub ran_by-reads : {up : Bool} {B : Type 0} (world : B → World) (happened : B → B → Past → Type 0) (lively : B → Type 0) (old new : B) (d : DriverState) (address n : ℕ) (bytes : List ℕ)
+    → Acts world happened lively old new (Loads address n) (λ before after. (bytes ≡ bytes_at before.memory address n) × (after ≡ before)) → ReadyWith up d (world old)
+    → RanBy up world happened (Loads address n ∷ []) old new d d [] []
+ran_by-reads {up} world happened lively old new d address n bytes acts ready =
+    ran_by-acts world happened lively old new (Loads address n) (λ before after. (bytes ≡ bytes_at before.memory address n) × (after ≡ before)) d d [] [] acts
+    (load-sets address n (λ before. bytes ≡ bytes_at before.memory address n) (world new)) ready
+    (λ middle set shows. subst (λ (w : World). GoesTo up d middle d w [] [] nothing) (sym shows.1) (goes-stays d middle set))
+
+pub frame-read : {up : Bool} {B : Type 0} (world : B → World) (happened : B → B → Past → Type 0) (lively : B → Type 0) (old new : B) (d : DriverState) (first later : List HandedOut) (one : HandedOut)
+    (address from n : ℕ) (bytes : List ℕ)
+    → Acts world happened lively old new (Loads address n) (λ before after. (bytes ≡ bytes_at before.memory address n) × (after ≡ before)) → ReadyWith up d (world old)
+    → d.handed_out ≡ first ++ one ∷ later → address ≡ buffer_at d.counts one.number + from → from + n ≤ length one.frame
+    → bytes ≡ take n (drop from one.frame)
+frame-read {up} world happened lively old new d first later one address from n bytes acts ready holds at fits =
+    let middle = acts.middle in
+    let set = (goes-happens d (world old) middle acts.past ready acts.before).flows.ready in
+    let P = Stands d.counts middle.memory in
+    let stands : P one = all-head P one later (all-right P first (one ∷ later) (subst (All P) holds set.stand)) in
+    let start = buffer_at d.counts one.number in
+    acts.effect_is.0
+    ∙ ap (λ (place : ℕ). bytes_at middle.memory place n) at
+    ∙ inner middle.memory start from n (length one.frame) fits
+    ∙ ap (λ (frame : List ℕ). take n (drop from frame)) stands.bytes
+  where
+    inner : (memory : List ℕ) (start from n size : ℕ) → from + n ≤ size → bytes_at memory (start + from) n ≡ take n (drop from (bytes_at memory start size))
+    inner memory start from n size fits =
+        let xs = drop start memory in
+        let whole : size ≡ from + (size - from) = omega arith in
+        ap (take n) (sym (drop-drop from start memory))
+        ∙ sym (take-take n (size - from) (drop from xs) (omega arith))
+        ∙ ap (take n) (sym (drop-take from (size - from) xs) ∙ ap (λ (i : ℕ). drop from (take i xs)) (sym whole))

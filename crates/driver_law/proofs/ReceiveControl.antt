@@ -110,4 +110,4 @@ receiver_is_enabled driver control world ready none idle plain big =
       stored = ready.stored;
       stand = ready.stand;
     })
-    (record { counts = refl; missed = refl; to_send = refl; held = refl; finished_same = refl; frees = omega arith; mask = refl; recorded = refl; missed_packets = refl })
+    (record { counts = refl; missed = refl; exact = refl; to_send = refl; held = refl; finished_same = refl; frees = omega arith; mask = refl; recorded = refl; missed_packets = refl })

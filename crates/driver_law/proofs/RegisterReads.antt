@@ -1,5 +1,6 @@
 -- A register is read.
-use Rattle.std.proofs.Common.{Bool, ◌≡◌, ◌≢◌, ◌≤◌, ◌<◌, ◌+◌, ◌-◌, ◌^◌, [], ℕ, Option, None, Some, length, min, inl, refl, sym, ap, subst, ◌∙◌, arith}
+use Rattle.std.proofs.Common.{Bool, IsTrue, nat_lt, ◌&&◌, ◌≡◌, ◌≢◌, ◌≤◌, ◌<◌, ◌+◌, ◌-◌, ◌^◌, [], ℕ, Option, None, Some, length, min, inl, refl, sym, ap, subst, ◌∙◌, arith}
+use Rattle.std.proofs.lemmas.Bool.{and_parts, ltb-true}
 use Rattle.std.proofs.lemmas.List.{append-nil}
 use Rattle.registers.specs.Bits.{HasBit}
 use Rattle.registers.specs.Counting.{greatest_count}
@@ -14,8 +15,8 @@ use Rattle.adapter.specs.declared.register.Register.TheVariants.{Icr, Mpc, Gprc,
 use Rattle.bus.proofs.Initialising.{reads_leave_frames}
 use Rattle.bus.specs.Past.{nothing}
 use Rattle.driver_law.specs.DriverState.{DriverState}
-use Rattle.driver_law.specs.Goes.{FlowsTo}
-use Rattle.driver_law.specs.Readings.{CausesAreRead, MissesAreRead, OthersAreRead}
+use Rattle.driver_law.specs.Goes.{FlowsTo, IsExact}
+use Rattle.driver_law.specs.Readings.{adds_exactly, CausesAreRead, MissesAreRead, OthersAreRead}
 use Rattle.driver_law.specs.Ready.{ReadyWith}
 use Rattle.driver_law.proofs.Parts.{SameParts, ready-left}
 
@@ -42,8 +43,8 @@ read-offset offset world = by_case (register_at offset)
     by_case (Some register) = read-register register world
     by_case None = record { parts = same-all world; mask = refl }
 
-resummed : {up : Bool} (driver : DriverState) (missed : ℕ) (world : World) → ReadyWith up driver world → ReadyWith up (record driver { missed = missed }) world
-resummed driver missed world ready = record {
+resummed : {up : Bool} (driver : DriverState) (missed : ℕ) (exact : Bool) (world : World) → ReadyWith up driver world → ReadyWith up (record driver { missed = missed; exact = exact }) world
+resummed driver missed exact world ready = record {
   driver_is = record { oldest_slot = ready.driver_is.oldest_slot; room = ready.driver_is.room; one_owner = ready.driver_is.one_owner; addresses = ready.driver_is.addresses };
   sound = ready.sound;
   runs = ready.runs;
@@ -63,15 +64,17 @@ abbrev IsCounted : ℕ → ℕ → ℕ → ℕ → Type 0
 IsCounted missed packets missed' packets' = packets + 0 ≤ greatest_count → missed + packets + 0 < 2 ^ 64 → missed' + packets' ≡ missed + packets + 0
 
 -- A read of any register, where it is known what becomes of the sum.
-flows-read : {up : Bool} (driver : DriverState) (offset missed : ℕ) (a : World) → ReadyWith up driver a → driver.missed ≤ missed
+flows-read : {up : Bool} (driver : DriverState) (offset missed : ℕ) (exact : Bool) (a : World) → ReadyWith up driver a → driver.missed ≤ missed
     → IsCounted driver.missed a.adapter.missed_packets missed (world_after_read offset a).adapter.missed_packets
-    → FlowsTo up driver a (record driver { missed = missed }) (world_after_read offset a) [] [] nothing
-flows-read {up} driver offset missed a ready more counted =
+    → missed + (world_after_read offset a).adapter.missed_packets ≤ driver.missed + a.adapter.missed_packets
+    → (IsTrue exact → (world_after_read offset a).adapter.missed_packets < greatest_count → IsExact driver a (record driver { missed = missed; exact = exact }) (world_after_read offset a) nothing)
+    → FlowsTo up driver a (record driver { missed = missed; exact = exact }) (world_after_read offset a) [] [] nothing
+flows-read {up} driver offset missed exact a ready more counted most exactly =
     let b = world_after_read offset a in
     let read = read-offset offset a in
     let leaves = reads_leave_frames driver.oldest_received driver.oldest_sent offset a ready.sound in
     record {
-      ready = resummed driver missed b (ready-left driver a b ready leaves read.parts);
+      ready = resummed driver missed exact b (ready-left driver a b ready leaves read.parts);
       counts = refl;
       sends = leaves.same.to_send ∙ sym (append-nil (frames_to_send a));
       holds = leaves.same.held ∙ sym (append-nil (frames_held driver.oldest_received a));
@@ -80,7 +83,16 @@ flows-read {up} driver offset missed a ready more counted =
       mask = read.mask;
       sum = more;
       counted = counted;
+      at_most = omega (arith, most);
+      exactly = exactly;
     }
+
+-- Where MPC and the sum are as they were.
+flows-same : {up : Bool} (driver : DriverState) (offset : ℕ) (a : World) → ReadyWith up driver a → (world_after_read offset a).adapter.missed_packets ≡ a.adapter.missed_packets
+    → FlowsTo up driver a driver (world_after_read offset a) [] [] nothing
+flows-same driver offset a ready same =
+    flows-read driver offset driver.missed driver.exact a ready (omega arith) (λ fits low. omega (arith, same)) (omega (arith, same))
+    (λ exact loose. record { exact = exact; loose = omega (arith, loose, same); sum = omega (arith, same) })
 
 -- ICR
 
@@ -88,7 +100,7 @@ pub causes_are_read : CausesAreRead
 unfolding register_at
 causes_are_read up driver world ready =
     let same : (world_after_read 0xC0 world).adapter.missed_packets ≡ world.adapter.missed_packets = refl in
-    record { flows = flows-read driver 0xC0 driver.missed world ready (omega arith) (λ fits low. omega (arith, same)); cleared = refl }
+    record { flows = flows-same driver 0xC0 world ready same; cleared = refl }
 
 -- MPC
 
@@ -99,9 +111,16 @@ misses_are_read up driver world fits ready =
     let shown : answer_at 0x4010 world.adapter ≡ world.adapter.missed_packets = refl in
     let none : b.adapter.missed_packets ≡ 0 = refl in
     let same : length (finished driver.oldest_received world) ≡ length (finished driver.oldest_received b) = refl in
-    let missed = min (driver.missed + answer_at 0x4010 world.adapter) (2 ^ 64 - 1) in
+    let value = answer_at 0x4010 world.adapter in
+    let missed = min (driver.missed + value) (2 ^ 64 - 1) in
     record {
-      flows = flows-read driver 0x4010 missed world ready (omega (arith, fits)) (λ most low. omega (arith, shown, none, low));
+      flows = flows-read driver 0x4010 missed (driver.exact && adds_exactly driver.missed value) world ready (omega (arith, fits)) (λ most low. omega (arith, shown, none, low)) (omega (arith, shown, none))
+          (λ exact loose.
+          let both = and_parts driver.exact (adds_exactly driver.missed value) exact in
+          let tests = and_parts (nat_lt value greatest_count) (nat_lt (driver.missed + value) (2 ^ 64)) both.1 in
+          let loose = ltb-true value greatest_count tests.0 in
+          let sum = ltb-true (driver.missed + value) (2 ^ 64) tests.1 in
+          record { exact = both.0; loose = omega (arith, loose, shown); sum = omega (arith, sum, shown, none) });
       causes = λ place has. has;
       told = inl (omega (arith, same));
     }
@@ -135,7 +154,7 @@ others_are_read up driver offset world no_causes no_count ready =
     let b = world_after_read offset world in
     let quiet = quiet-offset offset world no_causes no_count in
     let leaves = reads_leave_frames driver.oldest_received driver.oldest_sent offset world ready.sound in
-    let flows = flows-read driver offset driver.missed world ready (omega arith) (λ fits low. omega (arith, quiet.missed_packets)) in
+    let flows = flows-same driver offset world ready quiet.missed_packets in
     record {
       flows = flows;
       causes = λ place has. subst (λ (causes : ℕ). HasBit causes place) (sym quiet.recorded) has;

@@ -1,5 +1,5 @@
 -- A step of a driver by which no frame comes or goes.
-use Rattle.std.proofs.Common.{Bool, ◌≡◌, ◌+◌, [], ℕ, length, inl, sym, ap, subst, ◌∙◌, arith}
+use Rattle.std.proofs.Common.{Bool, IsTrue, ◌≡◌, ◌+◌, [], ℕ, length, inl, sym, ap, subst, ◌∙◌, arith}
 use Rattle.std.proofs.lemmas.List.{append-nil}
 use Rattle.registers.specs.Bits.{HasBit}
 use Rattle.adapter.specs.HostFrames.{frames_held, frames_to_send}
@@ -14,6 +14,7 @@ use Rattle.driver_law.specs.Ready.{ReadyWith}
 pub record Rests (driver : DriverState) (a : World) (driver' : DriverState) (b : World) : Type 0 where
   pub counts : driver'.counts ≡ driver.counts
   pub missed : driver'.missed ≡ driver.missed
+  pub exact : driver'.exact ≡ driver.exact
   pub to_send : frames_to_send b ≡ frames_to_send a
   pub held : frames_held driver'.oldest_received b ≡ frames_held driver.oldest_received a
   pub finished_same : finished driver'.oldest_received b ≡ finished driver.oldest_received a
@@ -34,6 +35,8 @@ goes-rests {up} driver a driver' b ready rests = record {
     mask = rests.mask;
     sum = omega (arith, rests.missed);
     counted = λ fits low. omega (arith, rests.missed, rests.missed_packets);
+    at_most = omega (arith, rests.missed, rests.missed_packets);
+    exactly = λ exact loose. record { exact = subst IsTrue rests.exact exact; loose = omega (arith, loose, rests.missed_packets); sum = omega (arith, rests.missed, rests.missed_packets) };
   };
   causes = λ place has. subst (λ (causes : ℕ). HasBit causes place) (sym rests.recorded) has;
   told = inl (omega (arith, ap length rests.finished_same));

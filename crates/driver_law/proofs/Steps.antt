@@ -35,6 +35,8 @@ pub record Passes (o p : ℕ) (a b : World) (past : Past) : Type 0 where
   pub mask : b.adapter.causes.mask ≡ a.adapter.causes.mask
   pub causes : (place : ℕ) → HasBit a.adapter.causes.recorded place → HasBit b.adapter.causes.recorded place
   pub missed : a.adapter.missed_packets + past.missed ≤ greatest_count → b.adapter.missed_packets ≡ a.adapter.missed_packets + past.missed
+  pub missed_most : b.adapter.missed_packets ≤ a.adapter.missed_packets + past.missed
+  pub missed_loose : b.adapter.missed_packets < greatest_count → b.adapter.missed_packets ≡ a.adapter.missed_packets + past.missed
 
 pub goes-passes : {up : Bool} (d : DriverState) (buffers staged pool : List ℕ) (handed_out : List HandedOut) (a b : World) (past : Past) → Passes d.oldest_received d.oldest_sent a b past
     → ReadyWith up (with_owners d buffers staged pool handed_out) b → GoesTo up d a (with_owners d buffers staged pool handed_out) b [] [] past
@@ -51,6 +53,8 @@ goes-passes {up} d buffers staged pool handed_out a b past passes ready =
         mask = passes.mask;
         sum = omega arith;
         counted = λ fits low. let same = passes.missed fits in omega (arith, same);
+        at_most = omega (arith, passes.missed_most);
+        exactly = λ exact loose. let same = passes.missed_loose loose in record { exact = exact; loose = omega (arith, same, loose); sum = omega (arith, same) };
       };
       causes = passes.causes;
       told =
@@ -74,6 +78,8 @@ passes-same o p a b same causes missed = record {
   mask = ap (λ (c : Interrupts). c.mask) causes;
   causes = λ place has. subst (λ (c : Interrupts). HasBit c.recorded place) (sym causes) has;
   missed = λ fits. omega (arith, missed);
+  missed_most = omega (arith, missed);
+  missed_loose = λ loose. omega (arith, missed);
 }
 
 -- Nothing is done.
@@ -112,9 +118,17 @@ goes-happens {up} d a b past ready happens =
       mask = happens.steady.mask;
       causes = happens.steady.causes;
       missed = λ fits. let same = grown a.adapter.missed_packets past.missed fits in omega (arith, same, happens.steady.missed);
+      missed_most = let most = grown-most a.adapter.missed_packets past.missed in omega (arith, most, happens.steady.missed);
+      missed_loose = λ loose.
+          let same = grown-loose a.adapter.missed_packets past.missed (omega (arith, loose, happens.steady.missed)) in
+          omega (arith, same, happens.steady.missed);
     })
     (ready-kept d d.staged d.pool a b ready (keeps-happening d a b past ready happens) ready.driver_is
     (stored-kept a.memory b.memory d.counts (receive_tail d) d.staged kept ready.stored) stand)
   where
     grown : (x y : ℕ) → x + y ≤ greatest_count → max x (min (x + y) greatest_count) ≡ x + y
     grown x y fits = omega (arith, fits)
+    grown-most : (x y : ℕ) → max x (min (x + y) greatest_count) ≤ x + y
+    grown-most x y = omega arith
+    grown-loose : (x y : ℕ) → max x (min (x + y) greatest_count) < greatest_count → max x (min (x + y) greatest_count) ≡ x + y
+    grown-loose x y loose = omega (arith, loose)

@@ -37,6 +37,11 @@ flows_join d1 d2 d3 a b c t1 t2 g1 g2 first later one two = record {
       let before = one.counted (omega (arith, fits)) (omega (arith, low)) in
       let behind = two.counted (omega (arith, before, one.sum, fits)) (omega (arith, before, low)) in
       omega (arith, before, behind);
+  at_most = omega (arith, one.at_most, two.at_most);
+  exactly = λ exact loose.
+      let behind = two.exactly exact loose in
+      let before = one.exactly behind.exact behind.loose in
+      record { exact = before.exact; loose = before.loose; sum = omega (arith, before.sum, behind.sum) };
 }
 
 pub goes_join : {first_up up : Bool} (d1 d2 d3 : DriverState) (a b c : World) (t1 t2 g1 g2 : List (List ℕ)) (first later : Past)

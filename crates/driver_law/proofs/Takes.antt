@@ -11,7 +11,7 @@ use Rattle.dma_memory.specs.OwnersLaws.{copies-cons, copies-itself, copies-push}
 use Rattle.descriptors.specs.Ring.{slots_from}
 use Rattle.descriptors.specs.RingLaws.{next-below, place}
 use Rattle.rx_engine.specs.Descriptors.{descriptor_at, named_address}
-use Rattle.adapter.specs.Conditions.{AreWhole, FitBuffers, Sound}
+use Rattle.adapter.specs.Conditions.{AreWhole, FitBuffers, IsWhole, Sound}
 use Rattle.adapter.specs.HostFrames.{frames_held, frames_to_send}
 use Rattle.adapter.specs.Slots.{finished, is_done, outstanding}
 use Rattle.adapter.specs.World.{World, receive_ring}
@@ -99,6 +99,10 @@ first-known {up} d world m rest slots buffers ready done =
 pub oldest_is_as_long : OldestIsAsLong
 oldest_is_as_long up d m rest slots world ready buffers done = (first-known d world m rest slots buffers ready done).size
 
+pub oldest_is_whole : {up : Bool} (d : DriverState) (m : ℕ) (rest slots : List ℕ) (world : World) → ReadyWith up d world → d.buffers ≡ m ∷ rest
+    → finished d.oldest_received world ≡ receive_slot d.oldest_received ∷ slots → IsWhole (descriptor_at world.memory (receive_slot d.oldest_received))
+oldest_is_whole d m rest slots world ready buffers done = ((first-known d world m rest slots buffers ready done).taken.whole ready.whole).0
+
 -- With the next place in the driver's own words.
 record IsNextOldest (d : DriverState) (world : World) (slots : List ℕ) (next : ℕ) : Type 0 where
   sound : Sound next d.oldest_sent world
@@ -157,6 +161,8 @@ oldest_can_be_taken up d m rest slots a ready buffers done =
         mask = refl;
         sum = omega arith;
         counted = λ fits low. omega arith;
+        at_most = omega arith;
+        exactly = λ exact loose. record { exact = exact; loose = loose; sum = omega arith };
       };
       causes = λ place has. has;
       told = inl (omega (arith, ap length done, ap length at.behind));

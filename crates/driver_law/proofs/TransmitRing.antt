@@ -130,6 +130,7 @@ transmit_ring_is_written driver ring world ready idle inside =
     (record {
       counts = refl;
       missed = refl;
+      exact = refl;
       to_send = set.none_to_send ∙ sym (none-to_send world.memory (transmit_ring world) world.adapter.transmitter.buffer ready.transmit.empty ready.transmit.idle);
       held = set.held;
       finished_same = set.finished_same;

@@ -1,5 +1,5 @@
 -- The accesses of a driver's calls, in order (own).
-use Rattle.std.specs.Prelude.{◌+◌, ◌%◌, ℕ, zero, suc, List, [], ◌∷◌}
+use Rattle.std.specs.Prelude.{◌+◌, ◌%◌, ℕ, List, [], ◌∷◌}
 use Rattle.dma_memory.specs.Layout.{Counts}
 use Rattle.bus.specs.declared.event.Access.{Access}
 use Rattle.bus.specs.declared.event.Access.TheVariants.{Loads, Stores, Writes}
@@ -17,10 +17,11 @@ abbrev pub tail_write : ℕ → (staged : List ℕ) → List Access
 tail_write slot [] = []
 tail_write slot (number ∷ later) = Writes 0x2818 slot ∷ []
 
--- the descriptors of so many receive slots are loaded, from a place on
-abbrev pub loads_from : (count slot : ℕ) → ℕ → List Access
-loads_from count slot zero = []
-loads_from count slot (suc k) = Loads (receive_slot slot) 16 ∷ loads_from count ((slot + 1) % count) k
+-- the receive slots from a place on are taken, with these buffers: for each its descriptor is loaded, and then bytes 12 and 13 of its frame
+abbrev pub takes_from : Counts → (slot : ℕ) → List ℕ → List Access
+takes_from counts slot [] = []
+takes_from counts slot (number ∷ later) =
+    Loads (receive_slot slot) 16 ∷ Loads (buffer_at counts number + 12) 2 ∷ takes_from counts ((slot + 1) % counts.rx) later
 
 -- the descriptor of the slot at a place is loaded, where any are outstanding
 abbrev pub last_load : ℕ → (outstanding : List ℕ) → List Access

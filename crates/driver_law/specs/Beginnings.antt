@@ -1,5 +1,5 @@
 -- The state in which a driver begins, and what it writes into registers up to the end of its initialisation (own).
-use Rattle.std.specs.Prelude.{◌≡◌, ◌≤◌, ◌<◌, ◌⊎◌, ◌*◌, ◌^◌, ◌++◌, ℕ, Bool, false, List, [], None, length}
+use Rattle.std.specs.Prelude.{◌≡◌, ◌≤◌, ◌<◌, ◌⊎◌, ◌*◌, ◌^◌, ◌++◌, ℕ, Bool, true, false, List, [], None, length}
 use Rattle.registers.specs.Bits.{HasBit, union}
 use Rattle.registers.specs.Kept.{causes_of}
 use Rattle.dma_memory.specs.Areas.{IsInside, area_at}
@@ -35,6 +35,8 @@ new_driver counts pool = record {
   oldest_sent = 0;
   sending = 0;
   missed = 0;
+  exact = true;
+  bad = 0;
 }
 
 -- The receive ring is set up, the transmit ring is or isn't, and neither offers a slot.

@@ -1,5 +1,5 @@
 -- What a driver keeps, as plain data, and where its rings and buffers stand (own).
-use Rattle.std.specs.Prelude.{◌+◌, ◌*◌, ◌++◌, ℕ, List, length, map}
+use Rattle.std.specs.Prelude.{◌+◌, ◌*◌, ◌++◌, ℕ, Bool, List, length, map}
 use Rattle.dma_memory.specs.Layout.{Counts, ReceiveBuffer, start_of}
 use Rattle.descriptors.specs.RingLaws.{place}
 
@@ -27,6 +27,10 @@ pub record DriverState : Type 0 where
   pub sending : ℕ
   -- the sum of all values that MPC was read as
   pub missed : ℕ
+  -- whether that is all: none of them was the greatest, at which MPC sticks, and the sum never stuck
+  pub exact : Bool
+  -- how many finished slots weren't handed out, as their descriptors were no whole frame's
+  pub bad : ℕ
 
 -- the same driver, but for who owns which buffer
 abbrev pub with_owners : DriverState → (buffers staged pool : List ℕ) → List HandedOut → DriverState

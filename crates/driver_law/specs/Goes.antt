@@ -1,5 +1,5 @@
 -- A stretch of a driver's run: what happens meanwhile, and what it does itself (own).
-use Rattle.std.specs.Prelude.{◌≡◌, ◌≤◌, ◌<◌, ◌⊎◌, ◌^◌, ◌+◌, ◌++◌, ℕ, Bool, true, List, [], All, length}
+use Rattle.std.specs.Prelude.{◌≡◌, ◌≤◌, ◌<◌, ◌⊎◌, ◌^◌, ◌+◌, ◌++◌, ℕ, Bool, true, List, [], All, IsTrue, length}
 use Rattle.registers.specs.Bits.{HasBit}
 use Rattle.registers.specs.Counting.{greatest_count}
 use Rattle.adapter.specs.HostFrames.{frames_held, frames_to_send}
@@ -10,6 +10,12 @@ use Rattle.bus.specs.Settings.{AreSet, WhileOff}
 use Rattle.bus.specs.declared.event.Access.{Access}
 use Rattle.driver_law.specs.DriverState.{DriverState}
 use Rattle.driver_law.specs.Ready.{ReadyWith}
+
+-- The sum of what MPC was read as was exact at the beginning, when MPC didn't stick, and has grown by what was missed and isn't read yet.
+pub record IsExact (d : DriverState) (a : World) (d' : DriverState) (b : World) (past : Past) : Type 0 where
+  pub exact : IsTrue d.exact
+  pub loose : a.adapter.missed_packets < greatest_count
+  pub sum : d'.missed + b.adapter.missed_packets ≡ d.missed + a.adapter.missed_packets + past.missed
 
 -- Frames were taken off the receive ring, and given to be sent, whichever registers were read meanwhile.
 pub record FlowsTo (up : Bool) (d : DriverState) (a : World) (d' : DriverState) (b : World) (taken given : List (List ℕ)) (past : Past) : Type 0 where
@@ -29,6 +35,9 @@ pub record FlowsTo (up : Bool) (d : DriverState) (a : World) (d' : DriverState) 
   pub counted :
       a.adapter.missed_packets + past.missed ≤ greatest_count → d.missed + a.adapter.missed_packets + past.missed < 2 ^ 64
       → d'.missed + b.adapter.missed_packets ≡ d.missed + a.adapter.missed_packets + past.missed
+  -- It never counts too many, and none too few where it is exact at the end and MPC doesn't stick.
+  pub at_most : d'.missed + b.adapter.missed_packets ≤ d.missed + a.adapter.missed_packets + past.missed
+  pub exactly : IsTrue d'.exact → b.adapter.missed_packets < greatest_count → IsExact d a d' b past
 
 -- And ICR wasn't read: causes are only added, and as many slots are finished as at the beginning, less those taken, or RXT0, bit 7, is recorded.
 pub record GoesTo (up : Bool) (d : DriverState) (a : World) (d' : DriverState) (b : World) (taken given : List (List ℕ)) (past : Past) : Type 0 where

@@ -2,8 +2,8 @@ use Rattle.std.proofs.Common.{◌≡◌, ℕ, length}
 use Rattle.driver.proofs.Takes.{Walks}
 use Rattle.driver.proofs.driver.Driver.take_finished.Given as goal
 
-abbrev pub invariant-loop-received : goal.invariant-loop-received
-invariant-loop-received g l = record {
+abbrev pub invariant-loop-finished : goal.invariant-loop-finished
+invariant-loop-finished g l = record {
   extent : g.B.Bus.extent l.bus ≡ g.B.Bus.extent l.initial.bus;
   kept : g.B.Bus.kept l.initial.bus l.bus;
   honest : g.B.Bus.honest l.initial.bus → g.B.Bus.honest l.bus;
@@ -11,5 +11,5 @@ invariant-loop-received g l = record {
   walks : (n : ℕ) × Walks g.B.Bus.honest g.B.Bus.world g.B.Bus.happened g.R.Receiver.took l.initial.bus l.bus l.initial.receiver l.receiver l.initial.self l.self n;
 }
 
-abbrev pub decreases-loop-received : goal.decreases-loop-received
-decreases-loop-received g l = length l.self.buffers
+abbrev pub decreases-loop-finished : goal.decreases-loop-finished
+decreases-loop-finished g l = length l.self.buffers

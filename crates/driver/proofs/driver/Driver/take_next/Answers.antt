@@ -3,8 +3,9 @@ use Rattle.registers.specs.Bits.{is_set}
 use Rattle.descriptors.specs.RxDesc.{rx_desc_of}
 use Rattle.descriptors.specs.RxStatus.{status_bits}
 use Rattle.descriptors.specs.declared.rx_desc.RxDesc.{RxDesc}
+use Rattle.adapter.specs.Conditions.{IsWhole}
 use Rattle.driver_law.proofs.Accesses.{ran_by-stays}
-use Rattle.driver_law.proofs.ReceiveAccesses.{ran_by-leaves, ran_by-takes}
+use Rattle.driver_law.proofs.ReceiveAccesses.{ran_by-leaves, ran_by-takes, takes-whole}
 use Rattle.driver_law.proofs.Stores.{status-bits}
 use Rattle.driver_law.proofs.Takes.{finished-empty}
 use Rattle.driver_law.specs.Accesses.{last_load}
@@ -55,7 +56,7 @@ returns-then-not-is_done-clause-looks g c = rw (← c.self.view_is) (λ up held 
 
 -- It is done.
 
-taken : (g : Over) (c : goal.After-self-1 g) → HasTaken c.self.inside ((c.self.inside.oldest_received + 1) % c.rx.result) c.in-Some.buffer c.pop_front.new.self
+taken : (g : Over) (c : goal.After-is_whole g) → HasTaken c.self.inside ((c.self.inside.oldest_received + 1) % c.rx.result) c.in-Some.buffer c.pop_front.new.self
 taken g c =
     taken-inside c.self.inside _ c.in-Some.buffer c.pop_front.new.self c.self.invariant.receives (λ none. c.if-len-from.false (c.len.ensures.len ∙ none ∙ sym c.from.ensures))
     (ap (λ (n : ℕ). (c.self.inside.oldest_received + 1) % n) c.rx.ensures.count) (sym c.in-Some.ensures.value) c.pop_front.ensures.items
@@ -74,6 +75,15 @@ returns-clause-known g c = (taken g c).known
 
 pub returns-clause-out : goal.returns-clause-out
 returns-clause-out g c = (taken g c).out
+
+pub returns-clause-whole : goal.returns-clause-whole
+returns-clause-whole g c = rw (← c.self.view_is) (λ up held honest ready.
+    let whole = takes-whole g.B.Bus.world g.B.Bus.happened g.B.Bus.lively c.args.bus.now c.load.new.self (holding held (state_of c.self.inside)) c.in-Some.buffer c.receive_slot.result _ c.load.new.into (taken g c).first c.receive_slot.ensures
+        (done-bit c.load.new.into c.from_bytes-descriptor.result true c.from_bytes-descriptor.ensures c.if-not-is_done.ensures) (c.load.ensures.acts honest) ready in
+    c.is_whole.ensures.1 (subst IsWhole (sym c.from_bytes-descriptor.ensures) whole))
+
+pub returns-clause-size : goal.returns-clause-size
+returns-clause-size g c whole = let is = c.is_whole.ensures.0 whole in record { least = is.least; most = is.most }
 
 pub returns-clause-takes : goal.returns-clause-takes
 returns-clause-takes g c = rw (← c.self.view_is) (λ up held honest ready.

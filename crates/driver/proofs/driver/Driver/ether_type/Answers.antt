@@ -1,0 +1,30 @@
+use Rattle.std.proofs.Common.{◌≡◌, ◌<◌, ◌+◌, ◌*◌, ◌++◌, ◌∷◌, [], ℕ, List, length, take, drop, slice_index, sym, ap, subst, ◌∙◌, refl, arith}
+use Rattle.std.proofs.lemmas.List.{get_or-drop, get_or-take}
+use Rattle.bus.specs.declared.event.Access.{Access}
+use Rattle.bus.specs.declared.event.Access.TheVariants.{Loads}
+use Rattle.driver_law.proofs.ReceiveAccesses.{frame-read, ran_by-reads}
+use Rattle.driver_law.specs.DriverState.{DriverState, buffer_at, holding}
+use Rattle.driver_law.specs.Goes.{RanBy}
+use Rattle.driver.specs.Inside.{state_of}
+use Rattle.driver.proofs.driver.Driver.ether_type.Given.{Over}
+use Rattle.driver.proofs.driver.Driver.ether_type.Goals as goal
+
+-- Where it is loaded.
+at : (g : Over) (c : goal.After-from_be_bytes g) → c.receive_buffer.result + 12 ≡ buffer_at c.args.self.now.counts c.args.buffer + 12
+at g c = rw (← c.self.view_is) (ap (λ (start : ℕ). start + 12) c.receive_buffer.ensures.start)
+
+pub returns-clause-ran : goal.returns-clause-ran
+returns-clause-ran g c up held honest ready =
+    let d = holding held c.args.self.now in
+    subst (λ (place : ℕ). RanBy up g.B.Bus.world g.B.Bus.happened (Loads place 2 ∷ []) c.args.bus.now c.load.new.self d d [] []) (at g c)
+    (ran_by-reads g.B.Bus.world g.B.Bus.happened g.B.Bus.lively c.args.bus.now c.load.new.self d (c.receive_buffer.result + 12) 2 c.load.new.into (c.load.ensures.acts honest) ready)
+
+pub returns-clause-shows : goal.returns-clause-shows
+returns-clause-shows g c up held one honest ready is least =
+    let d = holding (held ++ one ∷ []) c.args.self.now in
+    let two : c.load.new.into ≡ take 2 (drop 12 one.frame) =
+    frame-read g.B.Bus.world g.B.Bus.happened g.B.Bus.lively c.args.bus.now c.load.new.self d held [] one (c.receive_buffer.result + 12) 12 2 c.load.new.into (c.load.ensures.acts honest) ready refl
+    (at g c ∙ ap (λ (number : ℕ). buffer_at c.args.self.now.counts number + 12) (sym is)) (omega (arith, least)) in
+    let byte : (i : ℕ) → i < 2 → slice_index c.load.new.into i ≡ slice_index one.frame (12 + i) = λ i below.
+    ap (λ (list : List ℕ). slice_index list i) two ∙ get_or-take 2 (drop 12 one.frame) i 0 below ∙ get_or-drop 12 one.frame i 0 in
+    omega (arith, c.from_be_bytes.ensures, byte 0 (omega arith), byte 1 (omega arith))

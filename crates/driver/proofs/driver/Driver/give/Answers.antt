@@ -1,0 +1,28 @@
+use Rattle.std.proofs.Common.{◌∷◌, ◌∙◌, arith, ap}
+use Rattle.dma_memory.specs.Owners.{copies}
+use Rattle.dma_memory.specs.OwnersLaws.{copies-cons}
+use Rattle.driver_law.proofs.Owners.{owners-count}
+use Rattle.driver_law.specs.DriverState.{DriverState, owners}
+use Rattle.driver.proofs.Refills.{gives}
+use Rattle.driver.proofs.driver.Driver.give.Goals as goal
+
+pub returns-clause-owners : goal.returns-clause-owners
+returns-clause-owners g c k =
+    let d1 = c.args.self.now in
+    let d2 = c.put_back.new.self in
+    let later : DriverState = record d1 { pool = d2.pool } in
+    omega (
+      arith,
+      copies-cons k c.args.buffer (owners d1),
+      copies-cons k c.args.buffer d1.pool,
+      owners-count k d1,
+      owners-count k later,
+      ap (λ (s : DriverState). copies k (owners s)) c.put_back.ensures.others,
+      c.put_back.ensures.back k,
+      c.refill.ensures.owners k,
+    )
+
+pub returns-clause-ran : goal.returns-clause-ran
+returns-clause-ran g c up first later one is honest ready =
+    gives g.B.Bus.world g.B.Bus.happened g.met.B.Bus.stays g.met.B.Bus.joins c.args.bus.now c.refill.new.bus c.args.self.now c.put_back.new.self c.refill.new.self c.args.buffer
+    c.put_back.ensures.others c.put_back.ensures.back up first later one is ready (c.refill.ensures.ran up _ honest)

@@ -1,0 +1,71 @@
+-- ICR and MPC are read over a bus.
+use Rattle.std.proofs.Common.{Bool, inl, ⊎_elim, ◌≡◌, ◌<◌, ◌^◌, ◌∷◌, [], ℕ, refl, sym, ap, subst, ◌∙◌}
+use Rattle.registers.specs.Bits.{HasBit}
+use Rattle.adapter.specs.Registers.{answer_at}
+use Rattle.adapter.specs.Slots.{finished}
+use Rattle.adapter.specs.Table.{register_at}
+use Rattle.adapter.specs.World.{World, world_after_read}
+use Rattle.bus.proofs.Initialising.{reads_leave_frames}
+use Rattle.bus.proofs.Settings.{happens-off}
+use Rattle.bus.specs.Law.{Acts}
+use Rattle.bus.specs.Past.{Past, nothing}
+use Rattle.bus.specs.declared.event.Access.TheVariants.{Reads}
+use Rattle.driver_law.proofs.Accesses.{access-set, ran_by-acts, read-sets}
+use Rattle.driver_law.proofs.RegisterReads.{causes_are_read, misses_are_read}
+use Rattle.driver_law.proofs.Steps.{goes-happens}
+use Rattle.driver_law.proofs.Stretches.{flows_join, joined-nothing, work_kept}
+use Rattle.driver_law.specs.DriverState.{DriverState}
+use Rattle.driver_law.specs.Goes.{FlowsTo, GoesTo, RanBy}
+use Rattle.driver_law.specs.Readings.{ReadsCauses, with_missed}
+use Rattle.driver_law.specs.Ready.{ReadyWith}
+
+-- A register shows its value, and is read.
+abbrev IsRead : (offset value : ℕ) → World → World → Type 0
+IsRead offset value before after = (value ≡ answer_at offset before.adapter) × (after ≡ world_after_read offset before)
+
+shown-causes : (world : World) → answer_at 0xC0 world.adapter ≡ world.adapter.causes.recorded
+unfolding register_at
+shown-causes world = refl
+
+pub reads-causes : {up : Bool} {B : Type 0} (world : B → World) (happened : B → B → Past → Type 0) (lively : B → Type 0) (old new : B) (d : DriverState) (value : ℕ)
+    → Acts world happened lively old new (Reads 0xC0 value) (IsRead 0xC0 value) → ReadyWith up d (world old) → ReadsCauses up world happened old new d value
+reads-causes {up} world happened lively old new d value acts ready =
+    let middle = acts.middle in
+    let effect = acts.effect_is in
+    let first = goes-happens d (world old) middle acts.past ready acts.before in
+    let read = causes_are_read up d middle first.flows.ready in
+    let later = subst (λ (w : World). FlowsTo up d middle d w [] [] nothing) (sym effect.1) read.flows in
+    let leaves = reads_leave_frames d.oldest_received d.oldest_sent 0xC0 middle first.flows.ready.sound in
+    let same : finished d.oldest_received (world new) ≡ finished d.oldest_received middle = ap (finished d.oldest_received) effect.1 ∙ leaves.same.finished_same in
+    record {
+      past = acts.past;
+      told = acts.told;
+      only = acts.only;
+      flows =
+          subst (FlowsTo up d (world old) d (world new) [] []) (joined-nothing acts.past)
+          (flows_join d d d (world old) middle (world new) [] [] [] [] acts.past nothing first.flows later);
+      cleared = ap (λ (w : World). w.adapter.causes.recorded) effect.1 ∙ read.cleared;
+      work = λ unread work.
+          let before = work_kept d d (world old) middle [] [] acts.past first work in
+          record {
+            unmasked = subst (λ (mask : ℕ). HasBit mask 7) (sym later.mask) before.unmasked;
+            asked =
+                ⊎_elim
+                (λ (none : finished d.oldest_received middle ≡ []). inl (same ∙ none))
+                (λ (bit : HasBit middle.adapter.causes.recorded 7).
+                absurd (unread (subst (λ (causes : ℕ). HasBit causes 7) (sym (effect.0 ∙ shown-causes middle)) bit)))
+                before.asked;
+          };
+      set = access-set world happened lively old new (Reads 0xC0 value) (IsRead 0xC0 value) acts (read-sets 0xC0 value (λ before. value ≡ answer_at 0xC0 before.adapter) (world new));
+      off = λ off leaves. happens-off (world old) middle acts.past acts.before off;
+    }
+
+pub ran_by-misses : {up : Bool} {B : Type 0} (world : B → World) (happened : B → B → Past → Type 0) (lively : B → Type 0) (old new : B) (d : DriverState) (value : ℕ) → d.missed < 2 ^ 64
+    → Acts world happened lively old new (Reads 0x4010 value) (IsRead 0x4010 value) → ReadyWith up d (world old)
+    → RanBy up world happened (Reads 0x4010 value ∷ []) old new d (with_missed value d) [] []
+ran_by-misses {up} world happened lively old new d value fits acts ready =
+    ran_by-acts world happened lively old new (Reads 0x4010 value) (IsRead 0x4010 value) d (with_missed value d) [] [] acts
+    (read-sets 0x4010 value (λ before. value ≡ answer_at 0x4010 before.adapter) (world new)) ready
+    (λ middle set read.
+    subst (λ (shown : ℕ). GoesTo up d middle (with_missed shown d) (world new) [] [] nothing) (sym read.0)
+    (subst (λ (w : World). GoesTo up d middle (with_missed (answer_at 0x4010 middle.adapter) d) w [] [] nothing) (sym read.1) (misses_are_read up d middle fits set)))
