@@ -2,8 +2,8 @@
 
 ghost use Rattle.std.specs.Prelude.{⊤};
 
-use crate::{Driver, Received, Receiver};
-use adapter::offsets::{RCTL, RDLEN, RDT, TDBAL, TDLEN};
+use crate::{Driver, Received, Receiver, SendError};
+use adapter::offsets::{RCTL, RDLEN, RDT, TCTL, TDBAL, TDLEN, TDT};
 use adapter::{Adapter, Fate, StepKind, Stepped};
 use bus::{Bus, HonestBus, SoloBus};
 use circular_buffer::HeapCircularBuffer;
@@ -15,6 +15,9 @@ use std::test::Fail;
 
 /// RCTL with EN and BAM, and buffers of 2,048 bytes.
 const RECEIVE: u32 = 0x0000_8002;
+
+/// TCTL with EN and PSP.
+const TRANSMIT: u32 = 0x0000_000A;
 
 /// The bytes of a ring of eight slots.
 const RING_BYTES: u32 = 128;
@@ -106,5 +109,53 @@ fn frames_come_round_the_ring(rt: HostRuntime) -> Result<(), Fail> {
     driver.refill(&mut bus);
     assert_eq!(rt; driver.receiving(), 7);
     assert_eq!(rt; bus.read(RDT), 1);
+    Ok(())
+}
+
+#[test]
+fn frames_are_sent(rt: HostRuntime) -> Result<(), Fail> {
+    let layout = Layout::of(8, 8, 9)?;
+    let mut bus = new_bus(rt.alloc(), &layout)?;
+    bus.write(TCTL, TRANSMIT);
+    let mut driver = new_driver(rt.alloc(), layout)?;
+    let long = [0xFF; 1519];
+    assert!(rt; driver.layout().size() <= bus.size());
+    assert_eq!(rt;
+        driver.transmit(&mut bus, &BROADCAST[..13]),
+        Err(SendError::TooShort)
+    );
+    assert!(rt; driver.layout().size() <= bus.size());
+    assert_eq!(rt; driver.transmit(&mut bus, &long), Err(SendError::TooLong));
+    assert_eq!(rt; bus.accesses(), 5);
+    for sent in 0..7 {
+        assert_eq!(rt; driver.sending(), sent);
+        assert!(rt; driver.layout().size() <= bus.size());
+        assert_eq!(rt; driver.transmit(&mut bus, &BROADCAST[..14]), Ok(()));
+    }
+    // The first of them found nothing outstanding; each other one loaded a descriptor that wasn't done.
+    assert_eq!(rt; bus.accesses(), 5 + 7 * 3 + 6);
+    assert!(rt; driver.layout().size() <= bus.size());
+    assert_eq!(rt;
+        driver.transmit(&mut bus, &BROADCAST),
+        Err(SendError::RingFull)
+    );
+    assert_eq!(rt; bus.read(TDT), 7);
+    // One of them goes out, and its slot serves again.
+    assert_eq!(rt; bus.step(StepKind::TxTake), Stepped::Took);
+    assert!(rt; matches!(bus.step(StepKind::TxPut), Stepped::Put(_)));
+    assert!(rt; driver.layout().size() <= bus.size());
+    assert_eq!(rt; driver.transmit(&mut bus, &BROADCAST), Ok(()));
+    assert_eq!(rt; bus.read(TDT), 0);
+    Ok(())
+}
+
+#[test]
+fn refusals_have_texts(rt: HostRuntime) -> Result<(), Fail> {
+    let short = format!(in rt.alloc(); "{}", SendError::TooShort)?;
+    let long = format!(in rt.alloc(); "{}", SendError::TooLong)?;
+    let full = format!(in rt.alloc(); "{}", SendError::RingFull)?;
+    assert_eq!(rt; short.as_str(), "E20 TooShort");
+    assert_eq!(rt; long.as_str(), "E21 TooLong");
+    assert_eq!(rt; full.as_str(), "E22 RingFull");
     Ok(())
 }
