@@ -9,3 +9,4 @@ pub mod Link
 pub mod RestingRings
 pub mod DriverSteps
 pub mod ClearedDescriptors
+pub mod Quiet
