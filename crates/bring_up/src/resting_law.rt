@@ -21,6 +21,7 @@ pub fn drivers_begin_at_rest()
 pub fn quiet_drivers_stay_so()
     ensures quiet { QuietStays }
     ensures transmit_ring { NewTransmitRingStays }
-    ensures staged { (counts : Counts) (slot : ℕ) (numbers : List ℕ) → writes_in (stores_from counts slot numbers) ≡ [] }
+    ensures staged { (counts : Counts) (slot : ℕ) (numbers : List ℕ)
+        → writes_in (stores_from counts slot numbers) ≡ [] }
     ensures cleared { (first count : ℕ) → writes_in (clears_from first count) ≡ [] }
 {}
