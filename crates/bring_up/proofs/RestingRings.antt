@@ -185,7 +185,9 @@ drivers_begin_at_rest counts pool world allowed owner lies has =
     record {
       begun = begun;
       ready = drivers_begin false counts pool world begun;
-      none_held = held-none world rest has.knows.last;
-      none_to_send = none-to_send world.memory (transmit_ring world) world.adapter.transmitter.buffer buffer rest.rings.transmit;
-      off = subst (λ (control : ℕ). ¬ (HasBit control 1)) (sym rest.control) (HasBit-zero 1);
+      quiet = record {
+        off = subst (λ (control : ℕ). ¬ (HasBit control 1)) (sym rest.control) (HasBit-zero 1);
+        none_held = held-none world rest has.knows.last;
+        none_to_send = none-to_send world.memory (transmit_ring world) world.adapter.transmitter.buffer buffer rest.rings.transmit;
+      };
     }

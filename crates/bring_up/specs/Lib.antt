@@ -11,3 +11,4 @@ pub mod RestingRings
 pub mod DriverSteps
 pub mod ClearedDescriptors
 pub mod FilterSetting
+pub mod Quiet

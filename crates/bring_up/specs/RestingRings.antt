@@ -1,16 +1,16 @@
 -- An adapter at rest whose rings are set up, and the driver that begins over it (own).
-use Rattle.std.specs.Prelude.{◌≡◌, ◌≤◌, ◌*◌, ℕ, false, List, [], length}
+use Rattle.std.specs.Prelude.{◌≡◌, ◌≤◌, ◌*◌, ℕ, false, List, length}
 use Rattle.dma_memory.specs.Layout.{Counts, IsAllowed, size_of}
 use Rattle.dma_memory.specs.Owners.{HasOneOwner}
-use Rattle.adapter.specs.HostFrames.{frames_held, frames_to_send}
 use Rattle.adapter.specs.KnownRing.{KnowsRing}
 use Rattle.adapter.specs.Rings.{new_ring}
 use Rattle.adapter.specs.World.{World, receive_ring}
 use Rattle.bus.specs.Past.{Past}
 use Rattle.bus.specs.Rest.{IsAtRest, NoFrame}
-use Rattle.bus.specs.Settings.{IsOff, Write}
+use Rattle.bus.specs.Settings.{Write}
 use Rattle.driver_law.specs.Beginnings.{HasBegun, new_driver}
 use Rattle.driver_law.specs.Ready.{ReadyWith}
+use Rattle.bring_up.specs.Quiet.{IsQuiet}
 use Rattle.bring_up.specs.Sets.{Sets}
 
 -- At rest, with both rings as a reset leaves them; the memory has room for so many receive descriptors.
@@ -32,13 +32,11 @@ pub record SetsAtRest {B : Type 0} (world : B → World) (happened : B → B →
   pub behind_is : before (world old) → behind (world new)
   pub no_frame : before (world old) → NoFrame sets.past
 
--- A driver that has offered nothing is ready there: no frame is held and none is to be sent, and RCTL.EN is 0.
+-- A driver that has offered nothing is ready there, and all is quiet.
 pub record BeginsAtRest (counts : Counts) (pool : List ℕ) (world : World) : Type 0 where
   pub begun : HasBegun false counts pool world
   pub ready : ReadyWith false (new_driver counts pool) world
-  pub none_held : frames_held 0 world ≡ []
-  pub none_to_send : frames_to_send world ≡ []
-  pub off : IsOff world
+  pub quiet : IsQuiet (new_driver counts pool) world
 
 -- So it is wherever the receive ring is set up at rest, with allowed counts and one owner of each buffer.
 abbrev pub DriversBeginAtRest : Type 0

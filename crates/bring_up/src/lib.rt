@@ -29,7 +29,7 @@ pub use filter_setting::set_filter;
 pub use filter_tables::{group_table, vlan_table, write_addresses, write_groups, write_vlans};
 pub use init_error::InitError;
 pub use link::{await_link, negotiate};
-pub use resting_law::drivers_begin_at_rest;
+pub use resting_law::{drivers_begin_at_rest, quiet_drivers_stay_so};
 pub use ring_registers::{
     RingPlace, enable_receiver, enable_transmitter, set_receive_ring, set_transmit_ring,
 };

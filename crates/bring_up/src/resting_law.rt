@@ -1,9 +1,27 @@
 // A driver that begins over an adapter at rest.
 
+ghost use Rattle.std.specs.Prelude.{◌≡◌, ℕ, List, []};
+ghost use Rattle.dma_memory.specs.Layout.{Counts};
+ghost use Rattle.bus.specs.Settings.{writes_in};
+ghost use Rattle.driver_law.specs.Accesses.{stores_from};
+ghost use Rattle.bring_up.specs.ClearedDescriptors.{clears_from};
+ghost use Rattle.bring_up.specs.Quiet.{NewTransmitRingStays, QuietStays};
 ghost use Rattle.bring_up.specs.RestingRings.{DriversBeginAtRest};
 
 /// Over an adapter at rest whose receive ring is set up, with no slot offered, a driver begins ready, with
 /// its transmit side off.
 pub fn drivers_begin_at_rest()
     ensures { DriversBeginAtRest }
+{}
+
+/// What stays while a driver sets its receive ring up.
+/// - `quiet`: no frame comes, leaves or is held, while RCTL.EN is 0 and RCTL isn't written.
+/// - `transmit_ring`: a new transmit ring stays new, until one of its registers is written.
+/// - `staged`, `cleared`: stores of descriptors write no register.
+pub fn quiet_drivers_stay_so()
+    ensures quiet { QuietStays }
+    ensures transmit_ring { NewTransmitRingStays }
+    ensures staged { (counts : Counts) (slot : ℕ) (numbers : List ℕ)
+        → writes_in (stores_from counts slot numbers) ≡ [] }
+    ensures cleared { (first count : ℕ) → writes_in (clears_from first count) ≡ [] }
 {}

@@ -47,7 +47,8 @@ pub fn set_receive_ring<B: Bus>(bus: &mut B, ring: RingPlace)
     ensures lively { B.lively bus.old → B.lively bus.new }
     ensures sets { B.honest bus.old → Sets B.world B.happened bus.old bus.new (ring_writes 0x2800 ring.base ring.bytes) }
     ensures rests { (rx : ℕ) → B.honest bus.old → IsRingSize rx → ring.base ≡ 0 → ring.bytes ≡ 16 * rx
-        → SetsAtRest B.world B.happened bus.old bus.new (ring_writes 0x2800 ring.base ring.bytes) (HasNewRings rx) (HasReceiveRing rx) }
+        → SetsAtRest B.world B.happened bus.old bus.new (ring_writes 0x2800 ring.base ring.bytes)
+        (HasNewRings rx) (HasReceiveRing rx) }
 {
     bus.write(RDBAL, low_word(ring.base));
     bus.write(RDBAH, high_word(ring.base));
@@ -114,7 +115,8 @@ pub fn enable_transmitter<B: Bus>(bus: &mut B)
     ensures honest { B.honest bus.old → B.honest bus.new }
     ensures lively { B.lively bus.old → B.lively bus.new }
     ensures sets { B.honest bus.old → Sets B.world B.happened bus.old bus.new (transmit_writes) }
-    ensures ran { (d : DriverState) → B.honest bus.old → ReadyWith false d (B.world bus.old) → d.oldest_sent < d.counts.tx
+    ensures ran { (d : DriverState) → B.honest bus.old → ReadyWith false d (B.world bus.old)
+        → d.oldest_sent < d.counts.tx
         → KnowsRing (transmit_ring (B.world bus.old)) (16 * d.counts.rx) d.counts.tx (transmit_tail d)
         → LeavesDriver true B.world B.happened transmit_writes bus.old bus.new d }
 {
