@@ -5,11 +5,13 @@
 #![tactic(auto)]
 
 mod driver;
+mod interrupt;
 mod receive;
 mod receiver;
 mod refill;
 mod transmit;
 
 pub use driver::Driver;
+pub use interrupt::Handled;
 pub use receiver::{Received, Receiver};
 pub use transmit::SendError;
