@@ -6,6 +6,7 @@
 
 mod driver;
 mod interrupt;
+mod read;
 mod receive;
 mod receiver;
 mod refill;
