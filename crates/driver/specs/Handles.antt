@@ -13,7 +13,8 @@ use Rattle.driver_law.specs.Goes.{FlowsTo, HasNoForgottenWork, RanBy}
 use Rattle.driver_law.specs.Readings.{ReadsCauses, with_missed}
 use Rattle.driver.specs.Takes.{received_of}
 use Rattle.driver.specs.declared.interrupt.Handled.{Handled}
-use Rattle.driver.specs.declared.interrupt.Handled.TheVariants.{NotMine, Taken}
+use Rattle.driver.specs.declared.interrupt.Handled.TheVariants.{NotMine}
+use Rattle.driver.specs.declared.interrupt.Handled.TheVariants as answers
 use Rattle.driver.specs.declared.receiver.Received.{Received}
 
 -- the causes for which a driver does something: TXDW, RXDMT0, RXO and RXT0, bits 0, 4, 6 and 7
@@ -23,12 +24,12 @@ handled_causes = 0xD1
 -- what holds where the handler did something, by how many slots it took
 abbrev pub OnTaken : Handled → (ℕ → Type 0) → Type 0
 OnTaken NotMine P = Unit {0}
-OnTaken (Taken taken) P = P taken
+OnTaken (answers.Handled taken) P = P taken
 
 -- what holds where it did nothing
 abbrev pub OnNotMine : Handled → Type 0 → Type 0
 OnNotMine NotMine P = P
-OnNotMine (Taken taken) P = Unit {0}
+OnNotMine (answers.Handled taken) P = Unit {0}
 
 -- Behind ICR: MPC is read; the slots of these buffers are taken, the oldest first, up to one that isn't finished, if any is left; and then slots are
 -- offered with these buffers.
@@ -74,7 +75,7 @@ pub record HandlesIt (up : Bool) {B R : Type 0} (world : B → World) (happened 
 -- by the answer
 abbrev pub HandlesBy : Handled → Bool → {B R : Type 0} → (B → World) → (B → B → Past → Type 0) → (R → R → List Received → List Received → Type 0) → (old middle new : B) → Past → (before after : R) → (d d' : DriverState) → (causes : ℕ) → Type 0
 HandlesBy NotMine up world happened took old middle new first before after d d' causes = LeavesIt world old middle new d d' causes
-HandlesBy (Taken taken) up world happened took old middle new first before after d d' causes = HandlesIt up world happened took old middle new first before after d d' causes taken
+HandlesBy (answers.Handled taken) up world happened took old middle new first before after d d' causes = HandlesIt up world happened took old middle new first before after d d' causes taken
 
 -- First it reads ICR, alone. What it does behind that is by the causes that were read.
 pub record Handles (up : Bool) {B R : Type 0} (world : B → World) (happened : B → B → Past → Type 0) (took : R → R → List Received → List Received → Type 0) (old new : B) (before after : R) (d d' : DriverState) (result : Handled) : Type 0 where

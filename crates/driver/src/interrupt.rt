@@ -24,8 +24,11 @@ const HANDLED_CAUSES: u32 = 0xD1;
 pub enum Handled {
     /// The adapter had none of the causes for which a driver does something.
     NotMine,
-    /// It had one, and so many receive slots were taken.
-    Taken(u64),
+    /// It had one.
+    Handled {
+        /// How many receive slots were taken.
+        taken: u64,
+    },
 }
 
 /// Whether a driver does something for these causes.
@@ -85,6 +88,8 @@ impl Driver {
         self.count_missed(bus);
         let taken = self.take_finished(bus, receiver);
         self.refill(bus);
-        Handled::Taken(taken as u64)
+        Handled::Handled {
+            taken: taken as u64,
+        }
     }
 }
