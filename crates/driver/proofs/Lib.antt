@@ -3,3 +3,4 @@ pub mod SentFrames
 pub mod Queue
 pub mod Refills
 pub mod Takes
+pub mod Handles

@@ -2,3 +2,4 @@ pub mod Inside
 pub mod Sends
 pub mod Refills
 pub mod Takes
+pub mod Handles

@@ -5,12 +5,15 @@
 #![tactic(auto)]
 
 mod driver;
+mod interrupt;
+mod read;
 mod receive;
 mod receiver;
 mod refill;
 mod transmit;
 
 pub use driver::Driver;
+pub use interrupt::Handled;
 pub use receiver::{Received, Receiver};
 pub use transmit::SendError;
 

@@ -5,6 +5,7 @@ ghost use Rattle.dma_memory.specs.Layout.{size_of};
 ghost use Rattle.dma_memory.specs.Owners.{HasNoSecondOwner, copies};
 ghost use Rattle.registers.specs.Bits.{HasBit, is_set};
 ghost use Rattle.descriptors.specs.RxStatus.{status_bits};
+ghost use Rattle.descriptors.specs.RingLaws.{place};
 ghost use Rattle.rx_filter.specs.Addresses.{ether_type};
 ghost use Rattle.adapter.specs.Conditions.{IsWhole};
 ghost use Rattle.adapter.specs.Slots.{finished};
@@ -186,6 +187,7 @@ impl Driver {
 
         // What it does to its slots and buffers, over any bus.
         ensures others { self.new ≡ record self.old { oldest_received = self.new.oldest_received; buffers = self.new.buffers; pool = self.new.pool; bad = self.new.bad } }
+        ensures next { self.new.oldest_received ≡ place self.new.counts.rx self.old.oldest_received result }
         ensures count { result + length self.new.buffers ≡ length self.old.buffers }
         ensures shows { ShowsAll R.took receiver.old receiver.new self.old self.new result }
         ensures one_owner { HasNoSecondOwner self.new.counts.buffers (owners self.new) }
