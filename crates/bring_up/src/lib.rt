@@ -9,8 +9,8 @@
 mod config;
 mod configured_law;
 mod controls;
-mod device;
 mod descriptors_clearing;
+mod device;
 mod eeprom_reading;
 mod filter_tables;
 mod init_error;
@@ -21,8 +21,8 @@ mod ring_registers;
 pub use config::{Config, MOST_GROUPS, MOST_VLANS};
 pub use configured_law::writes_configure;
 pub use controls::{allocate_packet_buffer, reset_device, set_link_up, unmask_interrupts};
-pub use device::find_device;
 pub use descriptors_clearing::{clear_descriptor, clear_descriptors};
+pub use device::find_device;
 pub use eeprom_reading::read_image;
 pub use filter_tables::{group_table, vlan_table, write_addresses, write_groups, write_vlans};
 pub use init_error::InitError;
@@ -35,6 +35,10 @@ pub use ring_registers::{
 /// How often a driver reads a register in vain before it gives up (own).
 pub const MOST_READS: u16 = 1000;
 
+#[cfg(test)]
+mod bring_up_tests;
+#[cfg(test)]
+mod config_tests;
 #[cfg(test)]
 mod eeprom_reading_tests;
 #[cfg(test)]
