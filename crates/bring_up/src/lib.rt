@@ -38,6 +38,10 @@ pub use ring_registers::{
 pub const MOST_READS: u16 = 1000;
 
 #[cfg(test)]
+mod bring_up_tests;
+#[cfg(test)]
+mod config_tests;
+#[cfg(test)]
 mod eeprom_reading_tests;
 #[cfg(test)]
 mod link_tests;
