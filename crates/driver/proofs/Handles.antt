@@ -1,5 +1,5 @@
 -- A driver handles an interrupt: it reads MPC, takes slots, and refills.
-use Rattle.std.proofs.Common.{Bool, inl, ◌≡◌, ◌≤◌, ◌+◌, ◌++◌, ◌∷◌, [], ◌<◌, ◌^◌, ℕ, List, length, map, refl, sym, ap, subst, ◌∙◌, append_assoc, length-append, arith}
+use Rattle.std.proofs.Common.{Bool, inl, ◌≡◌, ◌+◌, ◌++◌, ◌∷◌, [], ◌<◌, ◌^◌, ℕ, List, length, map, refl, sym, ap, subst, ◌∙◌, length-append, arith}
 use Rattle.std.proofs.lemmas.List.{append-nil, length-map}
 use Rattle.registers.specs.Bits.{HasBit, Meet}
 use Rattle.registers.specs.Laws.{Meet-places}
@@ -16,8 +16,7 @@ use Rattle.driver_law.specs.Accesses.{last_load, stores_from, tail_write, takes_
 use Rattle.driver_law.specs.DriverState.{DriverState, HandedOut, holding, next_received, numbers_of, with_owners}
 use Rattle.driver_law.specs.Goes.{HasNoForgottenWork, RanBy}
 use Rattle.driver_law.specs.Readings.{ReadsCauses, with_missed}
-use Rattle.driver_law.specs.Ready.{ReadyWith}
-use Rattle.driver.specs.Handles.{HandlesIt, LeavesIt, Works, handled_accesses, handled_causes}
+use Rattle.driver.specs.Handles.{HandlesIt, Works, handled_accesses, handled_causes}
 use Rattle.driver.specs.Refills.{Refills}
 use Rattle.driver.specs.Takes.{Takes}
 use Rattle.driver.specs.declared.receiver.Received.{Received}

@@ -116,7 +116,7 @@ gives {B} world happened stays joins a c d1 d2 d3 m others back up first later o
     let came = ran_by-same world happened [] [] a a (holding before d1) (holding left d2') (holding left d2) [] [] [] refl back_is refl comes in
     let refilled = refilling came.goes.flows.ready in
     let accesses : stores_from d2.counts (next_received d2) refilled.numbers ++ tail_write (next_received d3) (d2.staged ++ refilled.numbers)
-        ≡ stores_from d1.counts (next_received d1) refilled.numbers ++ tail_write (next_received d3) (d1.staged ++ refilled.numbers) =
+    ≡ stores_from d1.counts (next_received d1) refilled.numbers ++ tail_write (next_received d3) (d1.staged ++ refilled.numbers) =
     ap (λ (d : DriverState). stores_from d.counts (next_received d) refilled.numbers ++ tail_write (next_received d3) (d.staged ++ refilled.numbers)) others in
     record {
       numbers = refilled.numbers;

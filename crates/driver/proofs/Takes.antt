@@ -128,7 +128,7 @@ takes-next : {up : Bool} {B R : Type 0} (world : B → World) (happened : B → 
     → d4 ≡ record d3 { pool = d4.pool; bad = d4.bad } → (before : Takes up world happened took [] a b r s (holding held d1) (holding held d2) n)
     → (take : TakesOldest up world happened b c (holding (held ++ before.handed_out) d2) m size d3.buffers)
     → ((one : HandedOut) → ReadyWith up (holding ((held ++ before.handed_out) ++ one ∷ []) d3) (world c) → one.number ≡ m → length one.frame ≡ size
-      → HandsOver up world happened took c e s t one (holding ((held ++ before.handed_out) ++ one ∷ []) d3) (holding ((held ++ before.handed_out) ++ one ∷ []) d4))
+    → HandsOver up world happened took c e s t one (holding ((held ++ before.handed_out) ++ one ∷ []) d3) (holding ((held ++ before.handed_out) ++ one ∷ []) d4))
     → Takes up world happened took [] a e r t (holding held d1) (holding held d4) (suc n)
 takes-next {up} world happened took stays joins also a b c e r s t d1 d2 d3 d4 n m size held at known clean first behind given before take over =
     let held2 = held ++ before.handed_out in
@@ -167,10 +167,10 @@ takes-next {up} world happened took stays joins also a b c e r s t d1 d2 d3 d4 n
     let accesses : ((((all numbers ++ []) ++ Loads (receive_slot d2.oldest_received) 16 ∷ []) ++ load ∷ []) ++ []) ≡ all (numbers_of (before.taken ++ one ∷ [])) ++ [] =
     ap (λ (list : List Access). ((list ++ Loads (receive_slot d2.oldest_received) 16 ∷ []) ++ load ∷ []) ++ []) (append-nil (all numbers))
     ∙ ap (λ (list : List Access). list ++ []) (append_assoc (all numbers) (Loads (receive_slot d2.oldest_received) 16 ∷ []) (load ∷ [])
-      ∙ ap (λ (place : ℕ). all numbers ++ Loads (receive_slot place) 16 ∷ load ∷ []) slot
-      ∙ ap (λ (n : Counts). all numbers ++ Loads (receive_slot (place d1.counts.rx d1.oldest_received (length numbers))) 16 ∷ Loads (buffer_at n m + 12) 2 ∷ []) counts
-      ∙ sym (takes-push d1.counts d1.oldest_received m numbers)
-      ∙ ap all (sym (map-append number_of before.taken (one ∷ [])))) in
+    ∙ ap (λ (place : ℕ). all numbers ++ Loads (receive_slot place) 16 ∷ load ∷ []) slot
+    ∙ ap (λ (n : Counts). all numbers ++ Loads (receive_slot (place d1.counts.rx d1.oldest_received (length numbers))) 16 ∷ Loads (buffer_at n m + 12) 2 ∷ []) counts
+    ∙ sym (takes-push d1.counts d1.oldest_received m numbers)
+    ∙ ap all (sym (map-append number_of before.taken (one ∷ [])))) in
     let shape : ℕ → DriverState = λ bad. record d3 { pool = d4.pool; bad = bad } in
     let last : holding held4 (shape d3.bad) ≡ holding (held ++ (before.handed_out ++ kept.entries)) d4 =
     ap (λ (bad : ℕ). holding held4 (shape bad)) (sym hands.bad) ∙ ap (holding held4) (sym given) ∙ ap (λ (list : List HandedOut). holding list d4) (append_assoc held before.handed_out kept.entries) in
@@ -205,7 +205,7 @@ pub walks-next : {B R : Type 0} (honest : B → Type 0) (world : B → World) (h
     → ((up : Bool) (held : List HandedOut) → honest b → ReadyWith up (holding held d2) (world b) → TakesOldest up world happened b c (holding held d2) m size d3.buffers)
     → d4 ≡ record d3 { pool = d4.pool; bad = d4.bad } → HandsOn took s t m d3 d4
     → ((up : Bool) (held before : List HandedOut) (one : HandedOut) → honest b → ReadyWith up (holding before d2) (world b) → ReadyWith up (holding (held ++ one ∷ []) d3) (world c)
-      → one.number ≡ m → length one.frame ≡ size → HandsOver up world happened took c e s t one (holding (held ++ one ∷ []) d3) (holding (held ++ one ∷ []) d4))
+    → one.number ≡ m → length one.frame ≡ size → HandsOver up world happened took c e s t one (holding (held ++ one ∷ []) d3) (holding (held ++ one ∷ []) d4))
     → Walks honest world happened took a e r t d1 d4 (suc n)
 walks-next honest world happened took stays joins also a b c e goes_on r s t d1 d2 d3 d4 n m size walks first behind takes given hands over =
     let n1 = d1.counts.rx in

@@ -125,10 +125,7 @@ impl Driver {
             → one.number ≡ buffer → 14 ≤ length one.frame → result ≡ ether_type one.frame }
     {
         let mut bytes = [0; 2];
-        bus.load(
-            self.layout.receive_buffer(buffer) + ETHER_TYPE,
-            &mut bytes,
-        );
+        bus.load(self.layout.receive_buffer(buffer) + ETHER_TYPE, &mut bytes);
         u16::from_be_bytes(bytes)
     }
 

@@ -128,7 +128,9 @@ goes-happens {up} d a b past ready happens =
   where
     grown : (x y : ℕ) → x + y ≤ greatest_count → max x (min (x + y) greatest_count) ≡ x + y
     grown x y fits = omega (arith, fits)
+
     grown-most : (x y : ℕ) → max x (min (x + y) greatest_count) ≤ x + y
     grown-most x y = omega arith
+
     grown-loose : (x y : ℕ) → max x (min (x + y) greatest_count) < greatest_count → max x (min (x + y) greatest_count) ≡ x + y
     grown-loose x y loose = omega (arith, loose)

@@ -13,8 +13,8 @@ is_exact : (g : Over) (c : goal.After-self-2-1 g) → c.if-self.self ≡ (c.self
 is_exact g c =
     let both : Bool → Bool = λ exact. exact && adds_exactly c.self.inside.missed c.read-value.result in
     elim c.if-self.branch [
-    | then-self w ↦ w.self-is ∙ w.adds_exactly-self-inside.ensures ∙ ap both (sym w.if-self.true)
-    | else-self w ↦ w.self-is ∙ w.if-self.false ∙ ap both (sym w.if-self.false)
+      | then-self w ↦ w.self-is ∙ w.adds_exactly-self-inside.ensures ∙ ap both (sym w.if-self.true)
+      | else-self w ↦ w.self-is ∙ w.if-self.false ∙ ap both (sym w.if-self.false)
     ]
 
 -- What it leaves.

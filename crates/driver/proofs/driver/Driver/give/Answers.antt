@@ -1,4 +1,4 @@
-use Rattle.std.proofs.Common.{◌∷◌, ◌∙◌, arith, ap}
+use Rattle.std.proofs.Common.{arith, ap}
 use Rattle.dma_memory.specs.Owners.{copies}
 use Rattle.dma_memory.specs.OwnersLaws.{copies-cons}
 use Rattle.driver_law.proofs.Owners.{owners-count}

@@ -1,4 +1,4 @@
-use Rattle.std.proofs.Common.{Bool, IsTrue, ◌≡◌, true, false, ◌++◌, length, refl, sym, ap, subst, ◌∙◌, arith}
+use Rattle.std.proofs.Common.{◌≡◌, true, false, ◌++◌, refl, ap, arith}
 use Rattle.dma_memory.specs.Owners.{copies}
 use Rattle.dma_memory.specs.OwnersLaws.{copies-append}
 use Rattle.registers.specs.Bits.{Meet}

@@ -1,5 +1,3 @@
-use Rattle.dma_memory.specs.Numbers.{Numbers}
-use Rattle.driver.specs.Inside.{IsReceiving}
 use Rattle.driver.proofs.Queue.{given-inside, no_second-inside}
 use Rattle.driver.proofs.driver.Driver.put_back.Goals as goal
 

@@ -1,10 +1,10 @@
-use Rattle.std.proofs.Common.{◌≡◌, ◌+◌, ◌++◌, ◌∷◌, [], ℕ, List, length, take, drop, sym, ap, subst, ◌∙◌, refl, arith}
+use Rattle.std.proofs.Common.{◌≡◌, ◌+◌, ◌++◌, ◌∷◌, [], ℕ, length, take, drop, sym, ap, subst, ◌∙◌, refl, arith}
 use Rattle.std.proofs.lemmas.List.{take_at}
 use Rattle.std.proofs.Math.Seq.{take-length}
 use Rattle.bus.specs.declared.event.Access.{Access}
 use Rattle.bus.specs.declared.event.Access.TheVariants.{Loads}
 use Rattle.driver_law.proofs.ReceiveAccesses.{frame-read, ran_by-reads}
-use Rattle.driver_law.specs.DriverState.{DriverState, HandedOut, buffer_at, holding}
+use Rattle.driver_law.specs.DriverState.{buffer_at, holding}
 use Rattle.driver_law.specs.Goes.{RanBy}
 use Rattle.driver.proofs.driver.Driver.read.Given.{Over}
 use Rattle.driver.proofs.driver.Driver.read.Goals as goal

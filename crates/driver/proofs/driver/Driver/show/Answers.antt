@@ -1,8 +1,7 @@
 use Rattle.std.proofs.Common.{inl, inr, ◌∷◌, [], ℕ, refl, sym, ap, ◌∙◌, arith}
 use Rattle.std.proofs.lemmas.List.{append-nil}
-use Rattle.dma_memory.specs.Owners.{HaveSameNumbers, copies}
+use Rattle.dma_memory.specs.Owners.{copies}
 use Rattle.dma_memory.specs.OwnersLaws.{copies-cons, copies-push}
-use Rattle.driver.proofs.driver.Driver.show.Given.{Over}
 use Rattle.driver.proofs.driver.Driver.show.Goals as goal
 
 -- The very buffer comes back.

@@ -79,7 +79,7 @@ returns-clause-out g c = (taken g c).out
 pub returns-clause-whole : goal.returns-clause-whole
 returns-clause-whole g c = rw (← c.self.view_is) (λ up held honest ready.
     let whole = takes-whole g.B.Bus.world g.B.Bus.happened g.B.Bus.lively c.args.bus.now c.load.new.self (holding held (state_of c.self.inside)) c.in-Some.buffer c.receive_slot.result _ c.load.new.into (taken g c).first c.receive_slot.ensures
-        (done-bit c.load.new.into c.from_bytes-descriptor.result true c.from_bytes-descriptor.ensures c.if-not-is_done.ensures) (c.load.ensures.acts honest) ready in
+    (done-bit c.load.new.into c.from_bytes-descriptor.result true c.from_bytes-descriptor.ensures c.if-not-is_done.ensures) (c.load.ensures.acts honest) ready in
     c.is_whole.ensures.1 (subst IsWhole (sym c.from_bytes-descriptor.ensures) whole))
 
 pub returns-clause-size : goal.returns-clause-size
