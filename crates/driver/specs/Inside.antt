@@ -1,6 +1,7 @@
 -- How a driver keeps its state (own): the buffers of outstanding and staged receive slots stand in one queue, and the places behind the
 -- last slots are kept beside it.
-use Rattle.std.specs.Prelude.{◌≡◌, ◌≤◌, ◌<◌, ◌-◌, ◌++◌, ℕ, [], length, take, drop}
+use Rattle.std.specs.Prelude.{◌≡◌, ◌≤◌, ◌<◌, ◌-◌, ◌++◌, ℕ, IsTrue, [], length, take, drop}
+use Rattle.registers.specs.Counting.{greatest_count}
 use Rattle.dma_memory.specs.Layout.{Counts}
 use Rattle.dma_memory.specs.Numbers.{Numbers}
 use Rattle.dma_memory.specs.Owners.{HasNoSecondOwner}
@@ -48,3 +49,5 @@ pub record IsSending (counts : Counts) (oldest next sending : ℕ) : Type 0 wher
 pub record IsSound (driver : Inside) : Type 0 where
   pub receives : IsReceiving driver.layout driver.oldest_received driver.next_received driver.staged driver.buffers driver.pool
   pub sends : IsSending driver.layout driver.oldest_sent driver.next_sent driver.sending
+  -- the sum of misses is exact wherever it is below the greatest value of MPC
+  pub sums : driver.missed < greatest_count → IsTrue driver.exact

@@ -1,6 +1,7 @@
 // What a driver keeps.
 
-ghost use Rattle.std.specs.Prelude.{◌≡◌, ◌+◌, length};
+ghost use Rattle.std.specs.Prelude.{◌≡◌, ◌+◌, ◌<◌, IsTrue, length};
+ghost use Rattle.registers.specs.Counting.{greatest_count};
 ghost use Rattle.dma_memory.specs.Owners.{HasNoSecondOwner};
 ghost use Rattle.driver_law.specs.DriverState.{owners};
 
@@ -78,6 +79,7 @@ impl Driver {
     pub fn missed(&self) -> (u64, bool)
         ensures sum { result.0 ≡ self.now.missed }
         ensures exact { result.1 ≡ self.now.exact }
+        ensures small { result.0 < greatest_count → IsTrue result.1 }
     {
         (self.missed, self.exact)
     }

@@ -38,6 +38,7 @@ invariant_of-self g c =
     let s = c.self.inside in
     record {
       receives = c.self.invariant.receives;
+      sums = c.self.invariant.sums;
       sends =
           subst (λ (n : ℕ). IsSending s.layout ((s.oldest_sent + 1) % n) s.next_sent (s.sending - 1)) (sym c.tx.ensures.count)
           (sending-freed s.layout s.oldest_sent s.next_sent s.sending (omega (arith, c.if-self-eq0.false)) c.self.invariant.sends);

@@ -8,6 +8,7 @@ invariant_of-self c =
     record {
       receives = given-inside c.self.inside c.args.buffer c.give.new.self c.self.invariant.receives known out c.give.ensures.given c.give.ensures.buffers;
       sends = c.self.invariant.sends;
+      sums = c.self.invariant.sums;
     }
 
 pub returns-clause-one_owner : goal.returns-clause-one_owner

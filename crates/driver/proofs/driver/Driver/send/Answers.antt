@@ -22,6 +22,7 @@ invariant_of-self g c =
     let sending = ap (λ (d : DriverState). d.sending) c.self.view_is in
     record {
       receives = c.self.invariant.receives;
+      sums = c.self.invariant.sums;
       sends =
           subst (λ (n : ℕ). IsSending s.layout s.oldest_sent ((s.next_sent + 1) % n) (s.sending + 1)) (sym c.tx.ensures.count)
           (sending-more s.layout s.oldest_sent s.next_sent s.sending (omega (arith, c.requires.room, count, sending)) c.self.invariant.sends);

@@ -62,7 +62,7 @@ taken g c =
     (ap (λ (n : ℕ). (c.self.inside.oldest_received + 1) % n) c.rx.ensures.count) (sym c.in-Some.ensures.value) c.pop_front.ensures.items
 
 pub invariant_of-self-2 : goal.invariant_of-self-2
-invariant_of-self-2 g c = record { receives = (taken g c).receives; sends = c.self.invariant.sends }
+invariant_of-self-2 g c = record { receives = (taken g c).receives; sends = c.self.invariant.sends; sums = c.self.invariant.sums }
 
 pub returns-clause-first : goal.returns-clause-first
 returns-clause-first g c = rw (← c.self.view_is) (taken g c).first
