@@ -16,11 +16,12 @@ pub record IsFound {B : Type 0} (world : B → World) (old new : B) (kilobytes :
   pub image_is : image ≡ (world old).adapter.image
   pub sum_is_right : HasRightSum image
   pub rests : IsAtRest (world new)
-  pub settings : settings_of (world new).adapter ≡ settings_after_all (reset_writes ++ (allocation_writes kilobytes ++ link_writes)) (settings_of (world old).adapter)
+  pub settings : settings_of (world new).adapter ≡ settings_after_all (reset_writes ++ (allocation_writes kilobytes ++ link_writes))
+      (settings_of (world old).adapter)
   pub up : StaysUp (world new)
 
--- When a device isn't found, by the error: over a bus that obeys the law a checksum only where it is wrong, and a time-out only behind so many
--- accesses.
+-- When a device isn't found, by the error: over a bus that obeys the law a checksum only where it is wrong, and a time-out only behind so
+-- many accesses.
 abbrev pub IsWhy : InitError → (image : List ℕ) (accesses : ℕ) → Type 0
 IsWhy EepromTimeout image accesses = 1000 ≤ accesses
 IsWhy Checksum image accesses = ¬ (HasRightSum image)
@@ -39,7 +40,8 @@ IsWhyLively Memory before = ⊤
 IsWhyLively errors.Config before = ⊤
 
 -- A device is looked for.
-pub record FindsDevice {B : Type 0} (world : B → World) (happened : B → B → Past → Type 0) (lively : B → Type 0) (old new : B) (kilobytes : ℕ)
+pub record FindsDevice {B : Type 0} (world : B → World) (happened : B → B → Past → Type 0) (lively : B → Type 0) (old new : B)
+    (kilobytes : ℕ)
     (result : Result (List ℕ) InitError) : Type 0 where
   pub past : Past
   pub told : happened old new past

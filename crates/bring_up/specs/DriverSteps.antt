@@ -18,25 +18,29 @@ use Rattle.driver_law.specs.Ready.{Ready}
 abbrev pub accesses_of : List Write → List Access
 accesses_of writes = map (λ (write : Write). Writes write.offset write.value) writes
 
--- A stretch over a bus with exactly these writes leaves the driver as it is, and takes and gives no frame; its transmit side is set up behind it,
--- or off.
-abbrev pub LeavesDriver : (up : Bool) {B : Type 0} (world : B → World) (happened : B → B → Past → Type 0) (writes : List Write) (old new : B) → DriverState → Type 0
+-- A stretch over a bus with exactly these writes leaves the driver as it is, and takes and gives no frame; its transmit side is set up
+-- behind it, or off.
+abbrev pub LeavesDriver : (up : Bool) {B : Type 0} (world : B → World) (happened : B → B → Past → Type 0) (writes : List Write)
+    (old new : B) → DriverState → Type 0
 LeavesDriver up world happened writes old new d = RanBy up world happened (accesses_of writes) old new d d [] []
 
 -- Frames are let in by these writes where none was held: none is held behind them, no slot is finished, and none came meanwhile.
-pub record LetsFramesIn {B : Type 0} (world : B → World) (happened : B → B → Past → Type 0) (writes : List Write) (old new : B) (d : DriverState) : Type 0 where
+pub record LetsFramesIn {B : Type 0} (world : B → World) (happened : B → B → Past → Type 0) (writes : List Write) (old new : B)
+    (d : DriverState) : Type 0 where
   pub ran : LeavesDriver false world happened writes old new d
   pub none_held : frames_held d.oldest_received (world new) ≡ []
   pub none_finished : finished d.oldest_received (world new) ≡ []
   pub no_arrival : NoArrival ran.past
 
 -- The transmit ring is set up by these writes, with no slot offered: the driver knows it.
-pub record SetsTransmitRing {B : Type 0} (world : B → World) (happened : B → B → Past → Type 0) (writes : List Write) (old new : B) (d : DriverState) : Type 0 where
+pub record SetsTransmitRing {B : Type 0} (world : B → World) (happened : B → B → Past → Type 0) (writes : List Write) (old new : B)
+    (d : DriverState) : Type 0 where
   pub ran : LeavesDriver false world happened writes old new d
   pub knows : KnowsRing (transmit_ring (world new)) (16 * d.counts.rx) d.counts.tx 0
 
 -- Causes are unmasked by one write of IMS: something happens, and then the mask alone changes.
-pub record UnmasksCauses {B : Type 0} (world : B → World) (happened : B → B → Past → Type 0) (causes : ℕ) (old new : B) (d : DriverState) : Type 0 where
+pub record UnmasksCauses {B : Type 0} (world : B → World) (happened : B → B → Past → Type 0) (causes : ℕ) (old new : B)
+    (d : DriverState) : Type 0 where
   pub past : Past
   pub told : happened old new past
   pub only : past.accesses ≡ Writes 0x00D0 causes ∷ []

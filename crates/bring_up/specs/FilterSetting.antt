@@ -10,7 +10,8 @@ use Rattle.bring_up.specs.Sets.{Sets}
 use Rattle.bring_up.specs.declared.config.Config.{Config}
 
 -- The tables are written with the bits of the configured groups and VLANs, and then the addresses.
-pub record SetsFilter {B : Type 0} (world : B → World) (happened : B → B → Past → Type 0) (old new : B) (config : Config) (address : List ℕ) : Type 0 where
+pub record SetsFilter {B : Type 0} (world : B → World) (happened : B → B → Past → Type 0) (old new : B) (config : Config)
+    (address : List ℕ) : Type 0 where
   pub groups : List ℕ
   pub vlans : List ℕ
   pub sets : Sets world happened old new (table_writes 0x5200 groups ++ (table_writes 0x5600 vlans ++ address_writes address))

@@ -58,16 +58,19 @@ pub record Ends (lively : Type 0) (words all : ℕ) (a b : Management) (answer :
   pub leaves : b.phy ≡ iterate after_tick later (phy_ended (operation_of words) (kept words) phy)
 
 -- A command over an honest bus.
-pub record Commands {B : Type 0} (world : B → World) (happened : B → B → Past → Type 0) (lively : B → Type 0) (old new : B) (words : ℕ) (result : Result ℕ InitError) : Type 0 where
+pub record Commands {B : Type 0} (world : B → World) (happened : B → B → Past → Type 0) (lively : B → Type 0) (old new : B) (words : ℕ)
+    (result : Result ℕ InitError) : Type 0 where
   pub asks : Asks world happened old new 0x0020
   pub accesses : 2 ≤ length asks.past.accesses
   pub link : (world new).adapter.phy.link ≡ (world old).adapter.phy.link
-  pub ends : IfOk result (Ends (lively old) words asks.past.phy_ticks (management_of (world old).adapter) (management_of (world new).adapter))
+  pub ends : IfOk result
+      (Ends (lively old) words asks.past.phy_ticks (management_of (world old).adapter) (management_of (world new).adapter))
   pub late : IfErr result (λ error. 1000 ≤ length asks.past.accesses)
   pub in_time : lively old → IsOk result
 
 -- Negotiation is started over an honest bus.
-pub record Negotiates {B : Type 0} (world : B → World) (happened : B → B → Past → Type 0) (lively : B → Type 0) (old new : B) (result : Result (Unit {0}) InitError) : Type 0 where
+pub record Negotiates {B : Type 0} (world : B → World) (happened : B → B → Past → Type 0) (lively : B → Type 0) (old new : B)
+    (result : Result (Unit {0}) InitError) : Type 0 where
   pub asks : Asks world happened old new 0x0020
   pub link : (world new).adapter.phy.link ≡ (world old).adapter.phy.link
   -- It was started in this call: more ticks fell here than since its start.
@@ -76,7 +79,8 @@ pub record Negotiates {B : Type 0} (world : B → World) (happened : B → B →
   pub in_time : lively old → IsOk result
 
 -- The link is awaited over an honest bus.
-pub record AwaitsLink {B : Type 0} (world : B → World) (happened : B → B → Past → Type 0) (lively : B → Type 0) (old new : B) (result : Result (Unit {0}) InitError) : Type 0 where
+pub record AwaitsLink {B : Type 0} (world : B → World) (happened : B → B → Past → Type 0) (lively : B → Type 0) (old new : B)
+    (result : Result (Unit {0}) InitError) : Type 0 where
   pub asks : Asks world happened old new 0x0020
   pub link : (world new).adapter.phy.link ≡ (world old).adapter.phy.link
   -- MDIC shows bits 5 and 2 of the PHY's status: negotiation is complete, and the link is up.

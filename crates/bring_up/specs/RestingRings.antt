@@ -26,8 +26,10 @@ pub record HasReceiveRing (rx : ℕ) (world : World) : Type 0 where
   pub knows : KnowsRing (receive_ring world) 0 rx 0
   pub transmits : world.adapter.transmit_ring ≡ new_ring
 
--- A step that sets these registers, over an adapter at rest: it stays so, no frame comes or leaves, and what held of its rings becomes another.
-pub record SetsAtRest {B : Type 0} (world : B → World) (happened : B → B → Past → Type 0) (old new : B) (writes : List Write) (before behind : World → Type 0) : Type 0 where
+-- A step that sets these registers, over an adapter at rest: it stays so, no frame comes or leaves, and what held of its rings becomes
+-- another.
+pub record SetsAtRest {B : Type 0} (world : B → World) (happened : B → B → Past → Type 0) (old new : B) (writes : List Write)
+    (before behind : World → Type 0) : Type 0 where
   pub sets : Sets world happened old new writes
   pub behind_is : before (world old) → behind (world new)
   pub no_frame : before (world old) → NoFrame sets.past
@@ -41,5 +43,6 @@ pub record BeginsAtRest (counts : Counts) (pool : List ℕ) (world : World) : Ty
 -- So it is wherever the receive ring is set up at rest, with allowed counts and one owner of each buffer.
 abbrev pub DriversBeginAtRest : Type 0
 DriversBeginAtRest =
-    (counts : Counts) (pool : List ℕ) (world : World) → IsAllowed counts → HasOneOwner counts.buffers pool → size_of counts ≤ length world.memory
+    (counts : Counts) (pool : List ℕ) (world : World) → IsAllowed counts → HasOneOwner counts.buffers pool
+    → size_of counts ≤ length world.memory
     → HasReceiveRing counts.rx world → BeginsAtRest counts pool world

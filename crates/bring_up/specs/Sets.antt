@@ -10,8 +10,8 @@ use Rattle.bus.specs.Settings.{Write, settings_after_all, settings_of, writes_in
 abbrev pub IsAside : Write → Type 0
 IsAside write = IsElsewhere (register_at write.offset)
 
--- These registers are written, in order, among reads and stores; what the driver has set is then what these writes make of it, whatever else
--- happened. An adapter at rest stays so, and no frame comes or leaves, where RCTL and the rings aren't among them.
+-- These registers are written, in order, among reads and stores; what the driver has set is then what these writes make of it, whatever
+-- else happened. An adapter at rest stays so, and no frame comes or leaves, where RCTL and the rings aren't among them.
 pub record Sets {B : Type 0} (world : B → World) (happened : B → B → Past → Type 0) (old new : B) (writes : List Write) : Type 0 where
   pub past : Past
   pub told : happened old new past

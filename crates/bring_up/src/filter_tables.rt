@@ -98,7 +98,8 @@ fn write_address<B: Bus>(bus: &mut B, entry: u32, words: AddressWords)
     ensures kept { B.kept bus.old bus.new }
     ensures honest { B.honest bus.old → B.honest bus.new }
     ensures lively { B.lively bus.old → B.lively bus.new }
-    ensures sets { B.honest bus.old → Sets B.world B.happened bus.old bus.new (entry_writes entry words.low words.high) }
+    ensures sets { B.honest bus.old
+        → Sets B.world B.happened bus.old bus.new (entry_writes entry words.low words.high) }
 {
     let low = RAL + ADDRESS_PAIR_BYTES * entry;
     bus.write(low, words.low);

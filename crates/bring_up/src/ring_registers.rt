@@ -45,7 +45,8 @@ pub fn set_receive_ring<B: Bus>(bus: &mut B, ring: RingPlace)
     ensures kept { B.kept bus.old bus.new }
     ensures honest { B.honest bus.old → B.honest bus.new }
     ensures lively { B.lively bus.old → B.lively bus.new }
-    ensures sets { B.honest bus.old → Sets B.world B.happened bus.old bus.new (ring_writes 0x2800 ring.base ring.bytes) }
+    ensures sets { B.honest bus.old
+        → Sets B.world B.happened bus.old bus.new (ring_writes 0x2800 ring.base ring.bytes) }
     ensures rests { (rx : ℕ) → B.honest bus.old → IsRingSize rx → ring.base ≡ 0 → ring.bytes ≡ 16 * rx
         → SetsAtRest B.world B.happened bus.old bus.new (ring_writes 0x2800 ring.base ring.bytes)
         (HasNewRings rx) (HasReceiveRing rx) }
@@ -64,7 +65,8 @@ pub fn set_transmit_ring<B: Bus>(bus: &mut B, ring: RingPlace)
     ensures kept { B.kept bus.old bus.new }
     ensures honest { B.honest bus.old → B.honest bus.new }
     ensures lively { B.lively bus.old → B.lively bus.new }
-    ensures sets { B.honest bus.old → Sets B.world B.happened bus.old bus.new (ring_writes 0x3800 ring.base ring.bytes) }
+    ensures sets { B.honest bus.old
+        → Sets B.world B.happened bus.old bus.new (ring_writes 0x3800 ring.base ring.bytes) }
     ensures ran { (d : DriverState) → B.honest bus.old → ReadyWith false d (B.world bus.old) → d.oldest_sent ≡ 0
         → (B.world bus.old).adapter.transmit_ring ≡ new_ring → IsRingSize d.counts.rx → IsRingSize d.counts.tx
         → ring.base ≡ 16 * d.counts.rx → ring.bytes ≡ 16 * d.counts.tx

@@ -31,15 +31,17 @@ abbrev pub OnNotMine : Handled → Type 0 → Type 0
 OnNotMine NotMine P = P
 OnNotMine (answers.Handled taken) P = Unit {0}
 
--- Behind ICR: MPC is read; the slots of these buffers are taken, the oldest first, up to one that isn't finished, if any is left; and then slots are
--- offered with these buffers.
+-- Behind ICR: MPC is read; the slots of these buffers are taken, the oldest first, up to one that isn't finished, if any is left; and then
+-- slots are offered with these buffers.
 abbrev pub handled_accesses : DriverState → (misses : ℕ) → (taken rest offered : List ℕ) → (last : ℕ) → List Access
 handled_accesses d misses taken rest offered last =
-    Reads 0x4010 misses ∷ (takes_from d.counts d.oldest_received taken ++ last_load (place d.counts.rx d.oldest_received (length taken)) rest)
+    Reads 0x4010 misses ∷
+    (takes_from d.counts d.oldest_received taken ++ last_load (place d.counts.rx d.oldest_received (length taken)) rest)
     ++ (stores_from d.counts (next_received d) offered ++ tail_write last (d.staged ++ offered))
 
 -- So many slots are taken, and their frames shown to the receiver, who has those that are handed out then.
-pub record Works (up : Bool) {B R : Type 0} (world : B → World) (happened : B → B → Past → Type 0) (took : R → R → List Received → List Received → Type 0) (old new : B) (before after : R) (d d' : DriverState) (n : ℕ) : Type 0 where
+pub record Works (up : Bool) {B R : Type 0} (world : B → World) (happened : B → B → Past → Type 0)
+    (took : R → R → List Received → List Received → Type 0) (old new : B) (before after : R) (d d' : DriverState) (n : ℕ) : Type 0 where
   pub misses : ℕ
   pub taken : List HandedOut
   pub handed_out : List HandedOut
@@ -53,7 +55,8 @@ pub record Works (up : Bool) {B R : Type 0} (world : B → World) (happened : B 
   pub exact : d'.exact ≡ (with_missed misses d).exact
   pub bad : d'.bad ≡ d.bad
   pub ran :
-      RanBy up world happened (handled_accesses d misses (numbers_of taken) rest offered (next_received d')) old new d (holding (d.handed_out ++ handed_out) d')
+      RanBy up world happened (handled_accesses d misses (numbers_of taken) rest offered (next_received d')) old new d
+      (holding (d.handed_out ++ handed_out) d')
       (map (λ (one : HandedOut). one.frame) taken) []
 
 -- It does nothing: ICR had none of its causes.
@@ -63,22 +66,29 @@ pub record LeavesIt {B : Type 0} (world : B → World) (old middle new : B) (d d
   pub work : HasNoForgottenWork d (world old) → HasNoForgottenWork d' (world new)
 
 -- It does its work.
-pub record HandlesIt (up : Bool) {B R : Type 0} (world : B → World) (happened : B → B → Past → Type 0) (took : R → R → List Received → List Received → Type 0) (old middle new : B) (first : Past) (before after : R) (d d' : DriverState) (causes n : ℕ) : Type 0 where
+pub record HandlesIt (up : Bool) {B R : Type 0} (world : B → World) (happened : B → B → Past → Type 0)
+    (took : R → R → List Received → List Received → Type 0) (old middle new : B) (first : Past) (before after : R) (d d' : DriverState)
+    (causes n : ℕ) : Type 0 where
   pub some : Meet causes handled_causes
   pub works : Works up world happened took middle new before after d d' n
   -- It takes at least what was finished at the beginning, and no work is forgotten.
   pub least : length (finished d.oldest_received (world old)) ≤ n
   pub work : HasBit (world old).adapter.causes.mask 7 → HasNoForgottenWork d' (world new)
   -- both parts together
-  pub flows : FlowsTo up d (world old) (holding (d.handed_out ++ works.handed_out) d') (world new) (map (λ (one : HandedOut). one.frame) works.taken) [] (joined first works.ran.past)
+  pub flows : FlowsTo up d (world old) (holding (d.handed_out ++ works.handed_out) d') (world new)
+      (map (λ (one : HandedOut). one.frame) works.taken) [] (joined first works.ran.past)
 
 -- by the answer
-abbrev pub HandlesBy : Handled → Bool → {B R : Type 0} → (B → World) → (B → B → Past → Type 0) → (R → R → List Received → List Received → Type 0) → (old middle new : B) → Past → (before after : R) → (d d' : DriverState) → (causes : ℕ) → Type 0
+abbrev pub HandlesBy : Handled → Bool → {B R : Type 0} → (B → World) → (B → B → Past → Type 0)
+    → (R → R → List Received → List Received → Type 0) → (old middle new : B) → Past → (before after : R) → (d d' : DriverState)
+    → (causes : ℕ) → Type 0
 HandlesBy NotMine up world happened took old middle new first before after d d' causes = LeavesIt world old middle new d d' causes
 HandlesBy (answers.Handled taken) up world happened took old middle new first before after d d' causes = HandlesIt up world happened took old middle new first before after d d' causes taken
 
 -- First it reads ICR, alone. What it does behind that is by the causes that were read.
-pub record Handles (up : Bool) {B R : Type 0} (world : B → World) (happened : B → B → Past → Type 0) (took : R → R → List Received → List Received → Type 0) (old new : B) (before after : R) (d d' : DriverState) (result : Handled) : Type 0 where
+pub record Handles (up : Bool) {B R : Type 0} (world : B → World) (happened : B → B → Past → Type 0)
+    (took : R → R → List Received → List Received → Type 0) (old new : B) (before after : R) (d d' : DriverState)
+    (result : Handled) : Type 0 where
   pub middle : B
   pub causes : ℕ
   pub reads : ReadsCauses up world happened old middle d causes

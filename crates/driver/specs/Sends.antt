@@ -15,8 +15,8 @@ use Rattle.driver.specs.declared.transmit.SendError.TheVariants.{TooShort, TooLo
 abbrev pub with_sending : DriverState → (oldest sending : ℕ) → DriverState
 with_sending d oldest sending = record d { oldest_sent = oldest; sending = sending }
 
--- how many descriptors are loaded until so many slots are left outstanding: that of each slot that is freed, and of the first that isn't, if
--- any is left
+-- how many descriptors are loaded until so many slots are left outstanding: that of each slot that is freed, and of the first that isn't,
+-- if any is left
 abbrev pub probes : (before left : ℕ) → ℕ
 probes before left = before - left + min left 1
 
@@ -51,6 +51,7 @@ IsRefused (Err TooShort) = ⊤
 IsRefused (Err TooLong) = ⊤
 IsRefused answer = ⊥
 
-pub record Transmits {B : Type 0} (world : B → World) (happened : B → B → Past → Type 0) (old new : B) (d d' : DriverState) (frame : List ℕ) (result : Answer) : Type 0 where
+pub record Transmits {B : Type 0} (world : B → World) (happened : B → B → Past → Type 0) (old new : B) (d d' : DriverState) (frame : List ℕ)
+    (result : Answer) : Type 0 where
   pub ran : RanBy true world happened (accesses_by result d d' frame) old new d d' [] (given_by result frame)
   pub answer : IsAnswer result d (world old)

@@ -42,7 +42,8 @@ pub record Shows {R : Type 0} (took : R → R → List Received → List Receive
   pub buffers : HaveSameNumbers (received.buffer ∷ pool) (pool' ++ buffers_of kept)
 
 -- A finished slot's frame was shown to the receiver; or its buffer went back to the pool at once, and counts as bad.
-pub record HandsOn {R : Type 0} (took : R → R → List Received → List Received → Type 0) (before after : R) (number : ℕ) (d d' : DriverState) : Type 0 where
+pub record HandsOn {R : Type 0} (took : R → R → List Received → List Received → Type 0) (before after : R) (number : ℕ)
+    (d d' : DriverState) : Type 0 where
   pub shown : List Received
   pub kept : List Received
   pub told : took before after shown kept
@@ -52,14 +53,17 @@ pub record HandsOn {R : Type 0} (took : R → R → List Received → List Recei
   pub buffers : HaveSameNumbers (number ∷ d.pool) (d'.pool ++ buffers_of kept)
 
 -- Over a bus that obeys the law its frame was shown, behind one load of its bytes 12 and 13.
-pub record HandsOver (up : Bool) {B R : Type 0} (world : B → World) (happened : B → B → Past → Type 0) (took : R → R → List Received → List Received → Type 0) (old new : B) (before after : R) (one : HandedOut) (d d' : DriverState) : Type 0 where
+pub record HandsOver (up : Bool) {B R : Type 0} (world : B → World) (happened : B → B → Past → Type 0)
+    (took : R → R → List Received → List Received → Type 0) (old new : B) (before after : R) (one : HandedOut)
+    (d d' : DriverState) : Type 0 where
   pub shows : Shows took before after (received_of one) d.pool d'.pool
   pub bad : d'.bad ≡ d.bad
   pub ran : RanBy up world happened (Loads (buffer_at d.counts one.number + 12) 2 ∷ []) old new d d [] []
 
--- So many slots were taken: frames were shown one after the other, and the receiver kept some of them; the others were bad. Each buffer has as many
--- owners as before, with the receiver among them.
-pub record ShowsAll {R : Type 0} (took : R → R → List Received → List Received → Type 0) (before after : R) (d d' : DriverState) (n : ℕ) : Type 0 where
+-- So many slots were taken: frames were shown one after the other, and the receiver kept some of them; the others were bad. Each buffer
+-- has as many owners as before, with the receiver among them.
+pub record ShowsAll {R : Type 0} (took : R → R → List Received → List Received → Type 0) (before after : R) (d d' : DriverState)
+    (n : ℕ) : Type 0 where
   pub shown : List Received
   pub kept : List Received
   pub told : took before after shown kept
@@ -68,9 +72,11 @@ pub record ShowsAll {R : Type 0} (took : R → R → List Received → List Rece
   pub bad : GrowsBy d.bad d'.bad (n - length shown)
   pub buffers : HaveSameNumbers (owners d) (owners d' ++ buffers_of kept)
 
--- So many frames were taken off the ring, the oldest first, and all shown to the receiver, who has those that are handed out then. Some accesses
--- follow.
-pub record Takes (up : Bool) {B R : Type 0} (world : B → World) (happened : B → B → Past → Type 0) (took : R → R → List Received → List Received → Type 0) (later : List Access) (old new : B) (before after : R) (d d' : DriverState) (n : ℕ) : Type 0 where
+-- So many frames were taken off the ring, the oldest first, and all shown to the receiver, who has those that are handed out then. Some
+-- accesses follow.
+pub record Takes (up : Bool) {B R : Type 0} (world : B → World) (happened : B → B → Past → Type 0)
+    (took : R → R → List Received → List Received → Type 0) (later : List Access) (old new : B) (before after : R) (d d' : DriverState)
+    (n : ℕ) : Type 0 where
   pub taken : List HandedOut
   pub handed_out : List HandedOut
   pub told : took before after (map received_of taken) (map received_of handed_out)
@@ -78,5 +84,6 @@ pub record Takes (up : Bool) {B R : Type 0} (world : B → World) (happened : B 
   pub oldest : d.buffers ≡ numbers_of taken ++ d'.buffers
   pub bad : d'.bad ≡ d.bad
   pub ran :
-      RanBy up world happened (takes_from d.counts d.oldest_received (numbers_of taken) ++ later) old new d (holding (d.handed_out ++ handed_out) d')
+      RanBy up world happened (takes_from d.counts d.oldest_received (numbers_of taken) ++ later) old new d
+      (holding (d.handed_out ++ handed_out) d')
       (map (λ (one : HandedOut). one.frame) taken) []

@@ -53,8 +53,10 @@ impl Driver {
         ensures honest { B.honest bus.old → B.honest bus.new }
         ensures lively { B.lively bus.old → B.lively bus.new }
         ensures others { self.new ≡ readings.with_missed result self.old }
-        ensures ran { (up : Bool) (held : List HandedOut) → B.honest bus.old → ReadyWith up (holding held self.old) (B.world bus.old)
-            → RanBy up B.world B.happened (Reads 0x4010 result ∷ []) bus.old bus.new (holding held self.old) (holding held self.new) [] [] }
+        ensures ran { (up : Bool) (held : List HandedOut) → B.honest bus.old
+            → ReadyWith up (holding held self.old) (B.world bus.old)
+            → RanBy up B.world B.happened (Reads 0x4010 result ∷ []) bus.old bus.new (holding held self.old)
+            (holding held self.new) [] [] }
     {
         let value = bus.read(MPC);
         self.exact = self.exact && adds_exactly(self.missed, value);
@@ -79,8 +81,10 @@ impl Driver {
         ensures one_owner { OnTaken result (λ taken. HasNoSecondOwner self.new.counts.buffers (owners self.new)) }
 
         // And over one that obeys the law.
-        ensures handles { (up : Bool) (held : List HandedOut) → B.honest bus.old → ReadyWith up (holding held self.old) (B.world bus.old)
-            → Handles up B.world B.happened R.took bus.old bus.new receiver.old receiver.new (holding held self.old) (holding held self.new) result }
+        ensures handles { (up : Bool) (held : List HandedOut) → B.honest bus.old
+            → ReadyWith up (holding held self.old) (B.world bus.old)
+            → Handles up B.world B.happened R.took bus.old bus.new receiver.old receiver.new (holding held self.old)
+            (holding held self.new) result }
     {
         if !is_mine(bus.read(ICR)) {
             return Handled::NotMine;

@@ -25,10 +25,15 @@ impl Driver {
         ensures rest { drop result into.new ≡ drop result into.old }
 
         // And over a bus that obeys the law.
-        ensures ran { (up : Bool) (held : List HandedOut) → B.honest bus.old → ReadyWith up (holding held self.now) (B.world bus.old)
-            → RanBy up B.world B.happened (Loads (buffer_at self.now.counts received.now.buffer) result ∷ []) bus.old bus.new (holding held self.now) (holding held self.now) [] [] }
-        ensures frame { (up : Bool) (first later : List HandedOut) (one : HandedOut) → B.honest bus.old → ReadyWith up (holding (first ++ one ∷ later) self.now) (B.world bus.old)
-            → one.number ≡ received.now.buffer → length one.frame ≡ received.now.length → take result into.new ≡ one.frame }
+        ensures ran { (up : Bool) (held : List HandedOut) → B.honest bus.old
+            → ReadyWith up (holding held self.now) (B.world bus.old)
+            → RanBy up B.world B.happened
+            (Loads (buffer_at self.now.counts received.now.buffer) result ∷ []) bus.old bus.new
+            (holding held self.now) (holding held self.now) [] [] }
+        ensures frame { (up : Bool) (first later : List HandedOut) (one : HandedOut) → B.honest bus.old
+            → ReadyWith up (holding (first ++ one ∷ later) self.now) (B.world bus.old)
+            → one.number ≡ received.now.buffer → length one.frame ≡ received.now.length
+            → take result into.new ≡ one.frame }
     {
         let size = usize::from(received.length);
         let buffer = self.layout.receive_buffer(received.buffer.number());

@@ -78,18 +78,27 @@ impl Driver {
         ensures lively { B.lively bus.old → B.lively bus.new }
         ensures stays { IfNone result (self.new ≡ self.old) }
         ensures first { IfSome result (λ finished. self.old.buffers ≡ finished.buffer ∷ self.new.buffers) }
-        ensures behind { IfSome result (λ finished. self.new ≡ behind_oldest self.old self.new.buffers self.old.handed_out) }
+        ensures behind { IfSome result
+            (λ finished. self.new ≡ behind_oldest self.old self.new.buffers self.old.handed_out) }
         ensures known { IfSome result (λ finished. finished.buffer < self.new.counts.buffers) }
         ensures out { IfSome result (λ finished. copies finished.buffer (owners self.new) ≡ 0) }
         ensures size { IfSome result (λ finished. IsTrue finished.whole → IsFrameSize finished.length) }
-        ensures whole { (up : Bool) (held : List HandedOut) → B.honest bus.old → ReadyWith up (holding held self.old) (B.world bus.old)
+        ensures whole { (up : Bool) (held : List HandedOut) → B.honest bus.old
+            → ReadyWith up (holding held self.old) (B.world bus.old)
             → IfSome result (λ finished. IsTrue finished.whole) }
-        ensures none { (up : Bool) (held : List HandedOut) → B.honest bus.old → ReadyWith up (holding held self.old) (B.world bus.old)
+        ensures none { (up : Bool) (held : List HandedOut) → B.honest bus.old
+            → ReadyWith up (holding held self.old) (B.world bus.old)
             → IfNone result (finished self.old.oldest_received (B.world bus.new) ≡ []) }
-        ensures looks { (up : Bool) (held : List HandedOut) → B.honest bus.old → ReadyWith up (holding held self.old) (B.world bus.old)
-            → IfNone result (RanBy up B.world B.happened (last_load self.old.oldest_received self.old.buffers) bus.old bus.new (holding held self.old) (holding held self.old) [] []) }
-        ensures takes { (up : Bool) (held : List HandedOut) → B.honest bus.old → ReadyWith up (holding held self.old) (B.world bus.old)
-            → IfSome result (λ finished. TakesOldest up B.world B.happened bus.old bus.new (holding held self.old) finished.buffer finished.length self.new.buffers) }
+        ensures looks { (up : Bool) (held : List HandedOut) → B.honest bus.old
+            → ReadyWith up (holding held self.old) (B.world bus.old)
+            → IfNone result
+            (RanBy up B.world B.happened (last_load self.old.oldest_received self.old.buffers) bus.old bus.new
+            (holding held self.old) (holding held self.old) [] []) }
+        ensures takes { (up : Bool) (held : List HandedOut) → B.honest bus.old
+            → ReadyWith up (holding held self.old) (B.world bus.old)
+            → IfSome result
+            (λ finished. TakesOldest up B.world B.happened bus.old bus.new
+            (holding held self.old) finished.buffer finished.length self.new.buffers) }
     {
         if self.buffers.len() == usize::from(self.staged) {
             return None;
@@ -119,9 +128,12 @@ impl Driver {
         ensures kept { B.kept bus.old bus.new }
         ensures honest { B.honest bus.old → B.honest bus.new }
         ensures lively { B.lively bus.old → B.lively bus.new }
-        ensures ran { (up : Bool) (held : List HandedOut) → B.honest bus.old → ReadyWith up (holding held self.now) (B.world bus.old)
-            → RanBy up B.world B.happened (Loads (buffer_at self.now.counts buffer + 12) 2 ∷ []) bus.old bus.new (holding held self.now) (holding held self.now) [] [] }
-        ensures shows { (up : Bool) (held : List HandedOut) (one : HandedOut) → B.honest bus.old → ReadyWith up (holding (held ++ one ∷ []) self.now) (B.world bus.old)
+        ensures ran { (up : Bool) (held : List HandedOut) → B.honest bus.old
+            → ReadyWith up (holding held self.now) (B.world bus.old)
+            → RanBy up B.world B.happened (Loads (buffer_at self.now.counts buffer + 12) 2 ∷ []) bus.old bus.new
+            (holding held self.now) (holding held self.now) [] [] }
+        ensures shows { (up : Bool) (held : List HandedOut) (one : HandedOut) → B.honest bus.old
+            → ReadyWith up (holding (held ++ one ∷ []) self.now) (B.world bus.old)
             → one.number ≡ buffer → 14 ≤ length one.frame → result ≡ ether_type one.frame }
     {
         let mut bytes = [0; 2];
@@ -154,9 +166,11 @@ impl Driver {
         ensures lively { B.lively bus.old → B.lively bus.new }
         ensures others { self.new ≡ record self.old { pool = self.new.pool; bad = self.new.bad } }
         ensures hands { HandsOn R.took receiver.old receiver.new finished.buffer self.old self.new }
-        ensures over { (up : Bool) (held : List HandedOut) (one : HandedOut) → B.honest bus.old → ReadyWith up (holding (held ++ one ∷ []) self.old) (B.world bus.old)
+        ensures over { (up : Bool) (held : List HandedOut) (one : HandedOut) → B.honest bus.old
+            → ReadyWith up (holding (held ++ one ∷ []) self.old) (B.world bus.old)
             → one.number ≡ finished.buffer → length one.frame ≡ finished.length → IsTrue finished.whole
-            → HandsOver up B.world B.happened R.took bus.old bus.new receiver.old receiver.new one (holding (held ++ one ∷ []) self.old) (holding (held ++ one ∷ []) self.new) }
+            → HandsOver up B.world B.happened R.took bus.old bus.new receiver.old receiver.new one
+            (holding (held ++ one ∷ []) self.old) (holding (held ++ one ∷ []) self.new) }
     {
         if !finished.whole {
             self.put_back(finished.buffer);
@@ -193,7 +207,8 @@ impl Driver {
         ensures none_left { (up : Bool) (held : List HandedOut) → B.honest bus.old
             → ReadyWith up (holding held self.old) (B.world bus.old)
             → finished self.new.oldest_received (B.world bus.new) ≡ [] }
-        ensures takes { (up : Bool) (held : List HandedOut) → B.honest bus.old → ReadyWith up (holding held self.old) (B.world bus.old)
+        ensures takes { (up : Bool) (held : List HandedOut) → B.honest bus.old
+            → ReadyWith up (holding held self.old) (B.world bus.old)
             → Takes up B.world B.happened R.took (last_load self.new.oldest_received self.new.buffers)
             bus.old bus.new receiver.old receiver.new (holding held self.old) (holding held self.new) result }
     {

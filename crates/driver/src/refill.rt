@@ -146,7 +146,8 @@ impl Driver {
         // And over one that obeys the law: the frame in that buffer isn't handed out any more.
         ensures ran { (up : Bool) (first later : List HandedOut) (one : HandedOut) → one.number ≡ buffer
             → B.honest bus.old → ReadyWith up (holding (first ++ one ∷ later) self.old) (B.world bus.old)
-            → Refills up B.world B.happened bus.old bus.new (holding (first ++ one ∷ later) self.old) (holding (first ++ later) self.new) }
+            → Refills up B.world B.happened bus.old bus.new (holding (first ++ one ∷ later) self.old)
+            (holding (first ++ later) self.new) }
     {
         self.put_back(buffer);
         self.refill(bus);

@@ -62,6 +62,8 @@ fn new_driver(alloc: Global, layout: Layout) -> Result<Driver, AllocError> {
         next_sent: 0,
         sending: 0,
         missed: 0,
+        exact: true,
+        bad: 0,
     })
 }
 

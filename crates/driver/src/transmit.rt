@@ -85,7 +85,8 @@ impl Driver {
         ensures freed { OnTrue result (self.new ≡ with_freed self.old) }
         ensures stays { OnFalse result (self.new ≡ self.old) }
         ensures ran { (held : List HandedOut) → B.honest bus.old → Ready (holding held self.old) (B.world bus.old)
-            → RanBy true B.world B.happened (transmit_loads self.old.counts self.old.oldest_sent (min self.old.sending 1)) bus.old bus.new
+            → RanBy true B.world B.happened
+            (transmit_loads self.old.counts self.old.oldest_sent (min self.old.sending 1)) bus.old bus.new
             (holding held self.old) (holding held self.new) [] [] }
         ensures none { (held : List HandedOut) → B.honest bus.old → Ready (holding held self.old) (B.world bus.old)
             → OnFalse result (written_back self.new.oldest_sent (B.world bus.new) ≡ []) }
@@ -135,7 +136,8 @@ impl Driver {
         ensures lively { B.lively bus.old → B.lively bus.new }
         ensures others { self.new ≡ with_sending self.old self.old.oldest_sent (self.old.sending + 1) }
         ensures ran { (held : List HandedOut) → B.honest bus.old → Ready (holding held self.old) (B.world bus.old)
-            → RanBy true B.world B.happened (send_accesses self.old frame.now) bus.old bus.new (holding held self.old) (holding held self.new)
+            → RanBy true B.world B.happened (send_accesses self.old frame.now) bus.old bus.new (holding held self.old)
+            (holding held self.new)
             [] (padded frame.now ∷ []) }
     {
         let layout = self.layout;
@@ -167,7 +169,8 @@ impl Driver {
 
         // And over one that obeys the law.
         ensures ran { (held : List HandedOut) → B.honest bus.old → Ready (holding held self.old) (B.world bus.old)
-            → Transmits B.world B.happened bus.old bus.new (holding held self.old) (holding held self.new) frame.now result }
+            → Transmits B.world B.happened bus.old bus.new (holding held self.old)
+            (holding held self.new) frame.now result }
     {
         if frame.len() < SHORTEST_SENT {
             return Err(SendError::TooShort);

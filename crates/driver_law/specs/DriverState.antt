@@ -34,7 +34,8 @@ pub record DriverState : Type 0 where
 
 -- the same driver, but for who owns which buffer
 abbrev pub with_owners : DriverState → (buffers staged pool : List ℕ) → List HandedOut → DriverState
-with_owners driver buffers staged pool handed_out = record driver { buffers = buffers; staged = staged; pool = pool; handed_out = handed_out }
+with_owners driver buffers staged pool handed_out = record driver
+    { buffers = buffers; staged = staged; pool = pool; handed_out = handed_out }
 
 -- the same driver, while others hold these frames
 abbrev pub holding : List HandedOut → DriverState → DriverState

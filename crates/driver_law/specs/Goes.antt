@@ -18,7 +18,8 @@ pub record IsExact (d : DriverState) (a : World) (d' : DriverState) (b : World) 
   pub sum : d'.missed + b.adapter.missed_packets ≡ d.missed + a.adapter.missed_packets + past.missed
 
 -- Frames were taken off the receive ring, and given to be sent, whichever registers were read meanwhile.
-pub record FlowsTo (up : Bool) (d : DriverState) (a : World) (d' : DriverState) (b : World) (taken given : List (List ℕ)) (past : Past) : Type 0 where
+pub record FlowsTo (up : Bool) (d : DriverState) (a : World) (d' : DriverState) (b : World) (taken given : List (List ℕ))
+    (past : Past) : Type 0 where
   pub ready : ReadyWith up d' b
   pub counts : d'.counts ≡ d.counts
   -- Frames leave in order, none lost or doubled,
@@ -28,7 +29,8 @@ pub record FlowsTo (up : Bool) (d : DriverState) (a : World) (d' : DriverState) 
   -- What was finished at the beginning is taken, or finished still.
   pub least : length (finished d.oldest_received a) ≤ length taken + length (finished d'.oldest_received b)
   -- Transmit slots become free as they are written back, one for each frame put.
-  pub frees : length (written_back d.oldest_sent a) + length past.put + d'.sending ≡ d.sending + length given + length (written_back d'.oldest_sent b)
+  pub frees : length (written_back d.oldest_sent a) + length past.put + d'.sending ≡ d.sending + length given + length
+      (written_back d'.oldest_sent b)
   pub mask : b.adapter.causes.mask ≡ a.adapter.causes.mask
   -- The sum of what MPC was read as, with what it holds now, grows by what was missed, while neither sticks.
   pub sum : d.missed ≤ d'.missed
@@ -39,11 +41,14 @@ pub record FlowsTo (up : Bool) (d : DriverState) (a : World) (d' : DriverState) 
   pub at_most : d'.missed + b.adapter.missed_packets ≤ d.missed + a.adapter.missed_packets + past.missed
   pub exactly : IsTrue d'.exact → b.adapter.missed_packets < greatest_count → IsExact d a d' b past
 
--- And ICR wasn't read: causes are only added, and as many slots are finished as at the beginning, less those taken, or RXT0, bit 7, is recorded.
-pub record GoesTo (up : Bool) (d : DriverState) (a : World) (d' : DriverState) (b : World) (taken given : List (List ℕ)) (past : Past) : Type 0 where
+-- And ICR wasn't read: causes are only added, and as many slots are finished as at the beginning, less those taken, or RXT0, bit 7, is
+-- recorded.
+pub record GoesTo (up : Bool) (d : DriverState) (a : World) (d' : DriverState) (b : World) (taken given : List (List ℕ))
+    (past : Past) : Type 0 where
   pub flows : FlowsTo up d a d' b taken given past
   pub causes : (place : ℕ) → HasBit a.adapter.causes.recorded place → HasBit b.adapter.causes.recorded place
-  pub told : (length (finished d.oldest_received a) ≡ length taken + length (finished d'.oldest_received b)) ⊎ HasBit b.adapter.causes.recorded 7
+  pub told : (length (finished d.oldest_received a) ≡ length taken + length
+      (finished d'.oldest_received b)) ⊎ HasBit b.adapter.causes.recorded 7
 
 abbrev pub Flows : DriverState → World → DriverState → World → List (List ℕ) → List (List ℕ) → Past → Type 0
 Flows = FlowsTo true
@@ -52,7 +57,8 @@ abbrev pub Goes : DriverState → World → DriverState → World → List (List
 Goes = GoesTo true
 
 -- A stretch over a bus, with these accesses alone.
-pub record RanTo (up : Bool) {B : Type 0} (world : B → World) (happened : B → B → Past → Type 0) (allowed : Access → Type 0) (old new : B) (d d' : DriverState) (taken given : List (List ℕ)) : Type 0 where
+pub record RanTo (up : Bool) {B : Type 0} (world : B → World) (happened : B → B → Past → Type 0) (allowed : Access → Type 0) (old new : B)
+    (d d' : DriverState) (taken given : List (List ℕ)) : Type 0 where
   pub past : Past
   pub told : happened old new past
   pub only : All allowed past.accesses
@@ -61,7 +67,8 @@ pub record RanTo (up : Bool) {B : Type 0} (world : B → World) (happened : B �
   pub set : AreSet (world old) (world new) past
   pub off : WhileOff (world old) past
 
-abbrev pub Ran : {B : Type 0} (world : B → World) (happened : B → B → Past → Type 0) (allowed : Access → Type 0) (old new : B) (d d' : DriverState) (taken given : List (List ℕ)) → Type 0
+abbrev pub Ran : {B : Type 0} (world : B → World) (happened : B → B → Past → Type 0) (allowed : Access → Type 0) (old new : B)
+    (d d' : DriverState) (taken given : List (List ℕ)) → Type 0
 Ran world happened allowed old new d d' taken given = RanTo true world happened allowed old new d d' taken given
 
 -- A stretch over a bus, with exactly these accesses, in this order.

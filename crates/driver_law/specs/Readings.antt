@@ -17,7 +17,8 @@ adds_exactly missed value = nat_lt value greatest_count && nat_lt (missed + valu
 
 -- the driver with what it read of MPC added to its sum, which stays at the greatest u64
 abbrev pub with_missed : ℕ → DriverState → DriverState
-with_missed value driver = record driver { missed = min (driver.missed + value) (2 ^ 64 - 1); exact = driver.exact && adds_exactly driver.missed value }
+with_missed value driver = record driver
+    { missed = min (driver.missed + value) (2 ^ 64 - 1); exact = driver.exact && adds_exactly driver.missed value }
 
 -- MPC is read, and what it held is added to the driver's sum.
 abbrev pub MissesAreRead : Type 0
@@ -36,7 +37,8 @@ CausesAreRead =
     → CausesRead up driver world (world_after_read 0xC0 world)
 
 -- ICR was read over a bus, by this access alone.
-pub record ReadsCauses (up : Bool) {B : Type 0} (world : B → World) (happened : B → B → Past → Type 0) (old new : B) (driver : DriverState) (causes : ℕ) : Type 0 where
+pub record ReadsCauses (up : Bool) {B : Type 0} (world : B → World) (happened : B → B → Past → Type 0) (old new : B) (driver : DriverState)
+    (causes : ℕ) : Type 0 where
   pub past : Past
   pub told : happened old new past
   pub only : past.accesses ≡ Reads 0xC0 causes ∷ []

@@ -31,13 +31,15 @@ pub record IsDriver (driver : DriverState) : Type 0 where
 
 -- a receive descriptor that names a buffer, and is else 0
 abbrev pub empty_descriptor : ℕ → List ℕ
-empty_descriptor buffer = rx_desc_bytes (record { address = buffer; length = 0; checksum = 0; status = status_of 0; errors = 0; special = 0 })
+empty_descriptor buffer = rx_desc_bytes
+    (record { address = buffer; length = 0; checksum = 0; status = status_of 0; errors = 0; special = 0 })
 
 -- The slots from a place on have such descriptors, of these buffers.
 abbrev pub AreStored : List ℕ → Counts → ℕ → List ℕ → Type 0
 AreStored memory counts slot [] = ⊤
 AreStored memory counts slot (number ∷ later) =
-    (bytes_at memory (receive_slot slot) 16 ≡ empty_descriptor (buffer_at counts number)) × AreStored memory counts ((slot + 1) % counts.rx) later
+    (bytes_at memory (receive_slot slot) 16 ≡ empty_descriptor (buffer_at counts number))
+    × AreStored memory counts ((slot + 1) % counts.rx) later
 
 -- A frame that was handed out stands in its buffer.
 pub record Stands (counts : Counts) (memory : List ℕ) (one : HandedOut) : Type 0 where
@@ -51,9 +53,11 @@ pub record TransmitIsUp (counts : Counts) (oldest sending : ℕ) (memory : List 
   -- TCTL.PSP
   pub pads : HasBit control 3
   pub knows : KnowsRing ring (16 * counts.rx) counts.tx (place counts.tx oldest sending)
-  pub sources : All (λ slot. IsInside (data_of memory (transmit_slot counts slot)) (area_of counts (TransmitBuffer slot))) (slots_from counts.tx oldest sending)
+  pub sources : All (λ slot. IsInside (data_of memory (transmit_slot counts slot)) (area_of counts (TransmitBuffer slot)))
+      (slots_from counts.tx oldest sending)
 
--- The transmit side isn't set up yet, as in initialisation: its ring ends before the buffers, nothing of it is outstanding, and no frame is in the packet buffer.
+-- The transmit side isn't set up yet, as in initialisation: its ring ends before the buffers, nothing of it is outstanding, and no frame
+-- is in the packet buffer.
 pub record TransmitIsOff (counts : Counts) (oldest sending : ℕ) (ring : Ring) (buffer : List Queued) : Type 0 where
   pub ends : ring.base + 16 * count_of ring ≤ 16 * counts.rx + 16 * counts.tx
   pub idle : ring.head ≡ ring.tail
@@ -77,9 +81,11 @@ pub record ReadyWith (up : Bool) (driver : DriverState) (world : World) : Type 0
   pub lies : size_of driver.counts ≤ length world.memory
   pub size : buffer_size world ≡ 2048
   pub receive : KnowsRing (receive_ring world) 0 driver.counts.rx (receive_tail driver)
-  pub transmit : TransmitIs up driver.counts driver.oldest_sent driver.sending world.memory (transmit_ring world) world.adapter.transmit_control world.adapter.transmitter.buffer
+  pub transmit : TransmitIs up driver.counts driver.oldest_sent driver.sending world.memory
+      (transmit_ring world) world.adapter.transmit_control world.adapter.transmitter.buffer
   -- Each outstanding slot names the buffer that the driver has for it.
-  pub names : map (named_address world.memory) (outstanding (receive_ring world) driver.oldest_received) ≡ map (buffer_at driver.counts) driver.buffers
+  pub names : map (named_address world.memory) (outstanding (receive_ring world) driver.oldest_received) ≡ map
+      (buffer_at driver.counts) driver.buffers
   pub stored : AreStored world.memory driver.counts (receive_tail driver) driver.staged
   pub stand : All (Stands driver.counts world.memory) driver.handed_out
 

@@ -31,7 +31,8 @@ oldest_frame d number world = record { number = number; frame = frame_named worl
 
 -- the driver behind that slot, which had the first of its buffers
 abbrev pub behind_oldest : DriverState → (later : List ℕ) → List HandedOut → DriverState
-behind_oldest d later handed_out = record d { oldest_received = (d.oldest_received + 1) % d.counts.rx; buffers = later; handed_out = handed_out }
+behind_oldest d later handed_out = record d
+    { oldest_received = (d.oldest_received + 1) % d.counts.rx; buffers = later; handed_out = handed_out }
 
 -- The oldest slot is taken, where it is finished: its frame is handed out.
 abbrev pub OldestCanBeTaken : Type 0

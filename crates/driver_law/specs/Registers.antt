@@ -9,12 +9,15 @@ use Rattle.bus.specs.Initialising.{with_receive_control, with_transmit_control, 
 abbrev pub TransmitRingWrites : Type 0
 TransmitRingWrites =
     (part : RingRegister) (value : ℕ) (world : World)
-    → world_after_write (0x3800 + ring_distance part) value world ≡ with_transmit_ring (ring_written part value world.adapter.transmit_ring) world
+    → world_after_write (0x3800 + ring_distance part) value world ≡ with_transmit_ring
+    (ring_written part value world.adapter.transmit_ring) world
 
 -- RCTL
 abbrev pub ReceiveControlWrites : Type 0
-ReceiveControlWrites = (value : ℕ) (world : World) → world_after_write 0x0100 value world ≡ with_receive_control (bit_and value 0x0607B33A) world
+ReceiveControlWrites = (value : ℕ) (world : World)
+    → world_after_write 0x0100 value world ≡ with_receive_control (bit_and value 0x0607B33A) world
 
 -- TCTL
 abbrev pub TransmitControlWrites : Type 0
-TransmitControlWrites = (value : ℕ) (world : World) → world_after_write 0x0400 value world ≡ with_transmit_control (bit_and value 0x003FFFFA) world
+TransmitControlWrites = (value : ℕ) (world : World)
+    → world_after_write 0x0400 value world ≡ with_transmit_control (bit_and value 0x003FFFFA) world

@@ -145,4 +145,5 @@ pub record EndsWithTail (accesses : List Access) (slot : ℕ) : Type 0 where
 abbrev pub SendsEndWithTail : Type 0
 SendsEndWithTail =
     (driver : DriverState) (frame : List ℕ) (k : ℕ)
-    → EndsWithTail (transmit_loads driver.counts driver.oldest_sent k ++ send_accesses driver frame) ((transmit_tail driver + 1) % driver.counts.tx)
+    → EndsWithTail (transmit_loads driver.counts driver.oldest_sent k ++ send_accesses driver frame)
+    ((transmit_tail driver + 1) % driver.counts.tx)
