@@ -35,3 +35,4 @@ pub mod Waiting
 pub mod Settings
 pub mod Rest
 pub mod PhyLinks
+pub mod Links

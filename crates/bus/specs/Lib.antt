@@ -26,3 +26,4 @@ pub mod SoundBuses
 pub mod Initialising
 pub mod Settings
 pub mod Rest
+pub mod Link

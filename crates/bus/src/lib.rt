@@ -7,6 +7,7 @@
 mod bus;
 mod event;
 mod law;
+mod link_law;
 mod settings_law;
 mod solo;
 mod solo_bus;
@@ -22,6 +23,7 @@ pub use law::{
     own_slots_can_be_written, own_stores_leave_frames, registers_can_be_set, rings_wait,
     slots_can_be_offered, steps_are_instances, tails_can_be_moved, written_slots_can_be_freed,
 };
+pub use link_law::links_stay_up;
 pub use settings_law::{adapters_rest, writes_alone_set};
 pub use solo::{MOST_TICKS, SoloBus, SoloTick, WIRE_FRAMES};
 pub use trail_law::{

@@ -1,0 +1,114 @@
+-- A link that is up stays up: whatever happens, and at accesses that leave the PHY.
+use Rattle.std.proofs.Common.{◌≡◌, [], ℕ, zero, suc, Bool, true, false, cond, Option, Some, None, refl, sym, subst}
+use Rattle.std.specs.Fn.{iterate}
+use Rattle.std.specs.List.{All}
+use Rattle.std.proofs.lemmas.Bool.{false≢true}
+use Rattle.mdic_phy.specs.declared.mdic.Operation.{Operation}
+use Rattle.mdic_phy.specs.declared.phy.Negotiation.{Negotiation}
+use Rattle.mdic_phy.specs.declared.phy.Negotiation.TheVariants.{NotStarted, Running, Complete}
+use Rattle.mdic_phy.specs.Mdic.{has_work, mdic_after_tick, phy_after_tick, phy_ended}
+use Rattle.mdic_phy.specs.Phy.{after_tick, counted, is_complete, link_is_up}
+use Rattle.adapter.specs.Registers.{after_read, after_write, left_by_read, left_by_write, read_of, write_of}
+use Rattle.adapter.specs.State.{AdapterState}
+use Rattle.adapter.specs.Table.{register_at}
+use Rattle.adapter.specs.World.{World}
+use Rattle.adapter.specs.declared.register.Register.{Register}
+use Rattle.adapter.specs.declared.register.Register.TheVariants.{Ctrl, Gprc, Gptc, Icr, Mdic, Mpc, Rnbc}
+use Rattle.bus.specs.Law.{Management, management_of, phy_ticked}
+use Rattle.bus.specs.Link.{AccessesKeepLink, HappeningsKeepLink, HasLink, IsNotOfPhy, LeavesPhy, LinkStretchesJoin}
+use Rattle.bus.specs.Settings.{Write, writes_in}
+use Rattle.bus.specs.declared.event.Access.TheVariants.{Loads, Reads, Stores, Writes}
+use Rattle.bus.proofs.Lists.{all-head, all-left, all-right}
+use Rattle.bus.proofs.Settings.{writes-append}
+
+-- Ticks.
+
+-- The link is up, and no command waits.
+record IsUp (line : Management) : Type 0 where
+  up : link_is_up line.phy ≡ true
+  no_command : line.mdic.pending ≡ None
+
+complete-stays : (negotiation : Negotiation) → is_complete negotiation ≡ true → is_complete (counted negotiation) ≡ true
+complete-stays NotStarted up = up
+complete-stays (Running left) up = absurd (false≢true up)
+complete-stays Complete up = refl
+
+abbrev ticked : Management → Management
+ticked line = record { mdic = mdic_after_tick line.mdic line.phy; phy = phy_after_tick line.mdic line.phy }
+
+tick-keeps : (line : Management) → IsUp line → IsUp (phy_ticked line)
+tick-keeps line is = by_case (has_work line.mdic line.phy)
+  where
+    ended : IsUp (ticked line)
+    ended = record {
+      up =
+          subst (λ (pending : Option Operation). link_is_up (phy_ended pending line.mdic.value (after_tick line.phy)) ≡ true) (sym is.no_command)
+          (complete-stays line.phy.negotiation is.up);
+      no_command = refl;
+    }
+
+    by_case : (works : Bool) → IsUp (cond works (ticked line) line)
+    by_case true = ended
+    by_case false = is
+
+ticks-keep : (n : ℕ) (line : Management) → IsUp line → IsUp (iterate phy_ticked n line)
+ticks-keep zero line is = is
+ticks-keep (suc n) line is = ticks-keep n (phy_ticked line) (tick-keeps line is)
+
+-- Whatever happens.
+pub happenings_keep_link : HappeningsKeepLink
+happenings_keep_link a b past happens link =
+    let before : IsUp (management_of a.adapter) = record { up = link.up; no_command = link.no_command } in
+    let behind = subst IsUp (sym happens.steady.management) (ticks-keep past.phy_ticks (management_of a.adapter) before) in
+    record { up = behind.up; no_command = behind.no_command }
+
+-- Accesses.
+
+-- MDIC and the PHY are those of before.
+same-line : (a b : World) → management_of b.adapter ≡ management_of a.adapter → HasLink a → HasLink b
+same-line a b same link =
+    let before : IsUp (management_of a.adapter) = record { up = link.up; no_command = link.no_command } in
+    let behind = subst IsUp (sym same) before in
+    record { up = behind.up; no_command = behind.no_command }
+
+read-leaves_line : (register : Register) (adapter : AdapterState) → management_of (read_of register adapter) ≡ management_of adapter
+read-leaves_line Icr adapter = refl
+read-leaves_line Mpc adapter = refl
+read-leaves_line Gprc adapter = refl
+read-leaves_line Gptc adapter = refl
+read-leaves_line Rnbc adapter = refl
+read-leaves_line _ adapter = refl
+
+reads-leave_line : (offset : ℕ) (adapter : AdapterState) → management_of (after_read offset adapter) ≡ management_of adapter
+reads-leave_line offset adapter = by_case (register_at offset)
+  where
+    by_case : (found : Option Register) → management_of (left_by_read found adapter) ≡ management_of adapter
+    by_case None = refl
+    by_case (Some register) = read-leaves_line register adapter
+
+write-leaves_line : (register : Register) (value : ℕ) (adapter : AdapterState) → IsNotOfPhy (Some register) → management_of (write_of register value adapter) ≡ management_of adapter
+write-leaves_line Ctrl value adapter other = absurd other
+write-leaves_line Mdic value adapter other = absurd other
+write-leaves_line _ value adapter other = refl
+
+writes-leave_line : (write : Write) (adapter : AdapterState) → LeavesPhy write → management_of (after_write write.offset write.value adapter) ≡ management_of adapter
+writes-leave_line write adapter leaves = by_case (register_at write.offset) leaves
+  where
+    by_case : (found : Option Register) → IsNotOfPhy found → management_of (left_by_write found write.value adapter) ≡ management_of adapter
+    by_case None other = refl
+    by_case (Some register) other = write-leaves_line register write.value adapter other
+
+pub accesses_keep_link : AccessesKeepLink
+accesses_keep_link (Reads offset value) world leaves link = same-line world _ (reads-leave_line offset world.adapter) link
+accesses_keep_link (Writes offset value) world leaves link =
+    let write : Write = record { offset = offset; value = value } in
+    same-line world _ (writes-leave_line write world.adapter (all-head LeavesPhy write [] leaves)) link
+accesses_keep_link (Loads address size) world leaves link = link
+accesses_keep_link (Stores address bytes) world leaves link = record { up = link.up; no_command = link.no_command }
+
+-- Two stretches.
+pub link_stretches_join : LinkStretchesJoin
+link_stretches_join a b c first later one two = λ leaves link.
+    let writes = subst (All LeavesPhy) (writes-append first.accesses later.accesses) leaves in
+    two (all-right LeavesPhy (writes_in first.accesses) (writes_in later.accesses) writes)
+    (one (all-left LeavesPhy (writes_in first.accesses) (writes_in later.accesses) writes) link)

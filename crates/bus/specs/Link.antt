@@ -1,0 +1,43 @@
+-- That a link which is up stays up while a driver sets the adapter up (own).
+use Rattle.std.specs.Prelude.{⊤, ◌≡◌, true, [], ◌∷◌, All, Option, Some, None}
+use Rattle.mdic_phy.specs.Phy.{link_is_up}
+use Rattle.adapter.specs.Table.{register_at}
+use Rattle.adapter.specs.World.{World}
+use Rattle.adapter.specs.declared.register.Register.{Register}
+use Rattle.adapter.specs.declared.register.Register.TheVariants.{Ctrl, Mdic}
+use Rattle.bus.specs.Law.{Happens}
+use Rattle.bus.specs.Past.{Past, joined}
+use Rattle.bus.specs.Settings.{Write, writes_in}
+use Rattle.bus.specs.Trails.{world_after_access}
+use Rattle.bus.specs.declared.event.Access.{Access}
+
+-- The link is up, and no command of MDIC waits for its end, so that ticks alone come to the PHY.
+pub record HasLink (world : World) : Type 0 where
+  pub up : link_is_up world.adapter.phy ≡ true
+  pub no_command : world.adapter.mdic.pending ≡ None
+
+abbrev pub IsNotOfPhy : Option Register → Type 0
+IsNotOfPhy (Some Ctrl) = ⊥
+IsNotOfPhy (Some Mdic) = ⊥
+IsNotOfPhy _ = ⊤
+
+-- the write is neither of CTRL nor of MDIC
+abbrev pub LeavesPhy : Write → Type 0
+LeavesPhy write = IsNotOfPhy (register_at write.offset)
+
+-- Where neither is written in a stretch, a link that is up at its beginning is up at its end.
+abbrev pub KeepsLink : World → World → Past → Type 0
+KeepsLink a b past = All LeavesPhy (writes_in past.accesses) → HasLink a → HasLink b
+
+-- So it is whatever happens between two accesses,
+abbrev pub HappeningsKeepLink : Type 0
+HappeningsKeepLink = (a b : World) (past : Past) → Happens a b past → HasLink a → HasLink b
+
+-- at each access but such a write,
+abbrev pub AccessesKeepLink : Type 0
+AccessesKeepLink =
+    (access : Access) (world : World) → All LeavesPhy (writes_in (access ∷ [])) → HasLink world → HasLink (world_after_access access world)
+
+-- and over two stretches, where it is over each.
+abbrev pub LinkStretchesJoin : Type 0
+LinkStretchesJoin = (a b c : World) (first later : Past) → KeepsLink a b first → KeepsLink b c later → KeepsLink a c (joined first later)
