@@ -10,7 +10,7 @@ use Rattle.bus.proofs.Settings.{happens-off}
 use Rattle.bus.specs.Law.{Acts}
 use Rattle.bus.specs.Past.{Past, nothing}
 use Rattle.bus.specs.declared.event.Access.TheVariants.{Reads}
-use Rattle.driver_law.proofs.Accesses.{access-set, ran_by-acts, read-sets}
+use Rattle.driver_law.proofs.Accesses.{access-link, access-set, ran_by-acts, read-sets}
 use Rattle.driver_law.proofs.RegisterReads.{causes_are_read, misses_are_read}
 use Rattle.driver_law.proofs.Steps.{goes-happens}
 use Rattle.driver_law.proofs.Stretches.{flows_join, joined-nothing, work_kept}
@@ -33,6 +33,7 @@ reads-causes {up} world happened lively old new d value acts ready =
     let middle = acts.middle in
     let effect = acts.effect_is in
     let first = goes-happens d (world old) middle acts.past ready acts.before in
+    let sets = read-sets 0xC0 value (λ before. value ≡ answer_at 0xC0 before.adapter) (world new) in
     let read = causes_are_read up d middle first.flows.ready in
     let later = subst (λ (w : World). FlowsTo up d middle d w [] [] nothing) (sym effect.1) read.flows in
     let leaves = reads_leave_frames d.oldest_received d.oldest_sent 0xC0 middle first.flows.ready.sound in
@@ -56,8 +57,9 @@ reads-causes {up} world happened lively old new d value acts ready =
                 absurd (unread (subst (λ (causes : ℕ). HasBit causes 7) (sym (effect.0 ∙ shown-causes middle)) bit)))
                 before.asked;
           };
-      set = access-set world happened lively old new (Reads 0xC0 value) (IsRead 0xC0 value) acts (read-sets 0xC0 value (λ before. value ≡ answer_at 0xC0 before.adapter) (world new));
+      set = access-set world happened lively old new (Reads 0xC0 value) (IsRead 0xC0 value) acts sets;
       off = λ off leaves. happens-off (world old) middle acts.past acts.before off;
+      link = access-link world happened lively old new (Reads 0xC0 value) (IsRead 0xC0 value) acts sets;
     }
 
 pub ran_by-misses : {up : Bool} {B : Type 0} (world : B → World) (happened : B → B → Past → Type 0) (lively : B → Type 0) (old new : B) (d : DriverState) (value : ℕ) → d.missed < 2 ^ 64

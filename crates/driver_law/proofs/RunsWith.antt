@@ -8,7 +8,7 @@ use Rattle.bus.specs.declared.event.Access.{Access}
 use Rattle.driver_law.specs.DriverState.{DriverState}
 use Rattle.driver_law.specs.Goes.{GoesTo, RanBy}
 use Rattle.driver_law.specs.Ready.{ReadyWith}
-use Rattle.driver_law.proofs.Accesses.{SetsBy, access-set}
+use Rattle.driver_law.proofs.Accesses.{SetsBy, access-link, access-set}
 use Rattle.driver_law.proofs.Steps.{goes-happens}
 use Rattle.driver_law.proofs.Stretches.{goes_join, joined-nothing}
 
@@ -38,6 +38,7 @@ run-with {first} {up} world happened lively old new access effect d d' taken giv
             (goes_join d d d' (world old) acts.middle (world new) [] taken [] given acts.past nothing one two.0);
         set = access-set world happened lively old new access effect acts sets;
         off = λ off leaves. happens-off (world old) acts.middle acts.past acts.before off;
+        link = access-link world happened lively old new access effect acts sets;
       };
       behind = two.1;
     }

@@ -6,6 +6,7 @@ use Rattle.registers.specs.Bits.{HasBit}
 use Rattle.adapter.specs.HostFrames.{frames_held, frames_to_send}
 use Rattle.adapter.specs.Slots.{finished}
 use Rattle.adapter.specs.World.{World}
+use Rattle.bus.proofs.Links.{link_stretches_join}
 use Rattle.bus.proofs.Settings.{settings_join, while_off-joins}
 use Rattle.bus.specs.Past.{Past, joined, nothing}
 use Rattle.bus.specs.declared.event.Access.{Access}
@@ -72,6 +73,7 @@ ran_join world happened allowed joins a b c d1 d2 d3 t1 t2 g1 g2 one two = recor
   goes = goes_join d1 d2 d3 (world a) (world b) (world c) t1 t2 g1 g2 one.past two.past one.goes two.goes;
   set = settings_join (world a) (world b) (world c) one.past two.past one.set two.set;
   off = while_off-joins (world a) (world b) one.past two.past one.set one.off two.off;
+  link = link_stretches_join (world a) (world b) (world c) one.past two.past one.link two.link;
 }
 
 pub joined-nothing : (past : Past) → joined past nothing ≡ past

@@ -5,6 +5,7 @@ use Rattle.registers.specs.Counting.{greatest_count}
 use Rattle.adapter.specs.HostFrames.{frames_held, frames_to_send}
 use Rattle.adapter.specs.Slots.{finished, written_back}
 use Rattle.adapter.specs.World.{World}
+use Rattle.bus.specs.Link.{KeepsLink}
 use Rattle.bus.specs.Past.{Past}
 use Rattle.bus.specs.Settings.{AreSet, WhileOff}
 use Rattle.bus.specs.declared.event.Access.{Access}
@@ -63,9 +64,10 @@ pub record RanTo (up : Bool) {B : Type 0} (world : B → World) (happened : B �
   pub told : happened old new past
   pub only : All allowed past.accesses
   pub goes : GoesTo up d (world old) d' (world new) taken given past
-  -- What the driver has set is what its writes make of it; and while RCTL.EN is 0 no frame comes.
+  -- What the driver has set is what its writes make of it; while RCTL.EN is 0 no frame comes; and a link that is up stays up.
   pub set : AreSet (world old) (world new) past
   pub off : WhileOff (world old) past
+  pub link : KeepsLink (world old) (world new) past
 
 abbrev pub Ran : {B : Type 0} (world : B → World) (happened : B → B → Past → Type 0) (allowed : Access → Type 0) (old new : B)
     (d d' : DriverState) (taken given : List (List ℕ)) → Type 0
@@ -78,9 +80,10 @@ pub record RanBy (up : Bool) {B : Type 0} (world : B → World) (happened : B �
   pub told : happened old new past
   pub only : past.accesses ≡ accesses
   pub goes : GoesTo up d (world old) d' (world new) taken given past
-  -- What the driver has set is what its writes make of it; and while RCTL.EN is 0 no frame comes.
+  -- What the driver has set is what its writes make of it; while RCTL.EN is 0 no frame comes; and a link that is up stays up.
   pub set : AreSet (world old) (world new) past
   pub off : WhileOff (world old) past
+  pub link : KeepsLink (world old) (world new) past
 
 -- No forgotten work: RXT0 isn't masked, and where the oldest receive slot is finished it is recorded.
 pub record HasNoForgottenWork (d : DriverState) (world : World) : Type 0 where

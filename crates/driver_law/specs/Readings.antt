@@ -4,6 +4,7 @@ use Rattle.registers.specs.Bits.{HasBit}
 use Rattle.registers.specs.Counting.{greatest_count}
 use Rattle.adapter.specs.Registers.{answer_at}
 use Rattle.adapter.specs.World.{World, world_after_read}
+use Rattle.bus.specs.Link.{KeepsLink}
 use Rattle.bus.specs.Past.{Past, nothing}
 use Rattle.bus.specs.Settings.{AreSet, WhileOff}
 use Rattle.bus.specs.declared.event.Access.TheVariants.{Reads}
@@ -48,6 +49,7 @@ pub record ReadsCauses (up : Bool) {B : Type 0} (world : B → World) (happened 
   pub work : ¬ HasBit causes 7 → HasNoForgottenWork driver (world old) → HasNoForgottenWork driver (world new)
   pub set : AreSet (world old) (world new) past
   pub off : WhileOff (world old) past
+  pub link : KeepsLink (world old) (world new) past
 
 -- Any other register is read, and nothing changes that a driver knows.
 abbrev pub OthersAreRead : Type 0
