@@ -29,7 +29,7 @@ use Rattle.driver_law.specs.Beginnings.{Unmasked}
 use Rattle.driver_law.specs.DriverState.{DriverState, transmit_tail}
 use Rattle.driver_law.specs.Goes.{Goes, GoesTo, RanBy}
 use Rattle.driver_law.specs.Ready.{Ready, ReadyWith}
-use Rattle.driver_law.proofs.Accesses.{SetsBy, access-set, write-sets}
+use Rattle.driver_law.proofs.Accesses.{SetsBy, access-link, access-set, write-sets}
 use Rattle.driver_law.proofs.Controls.{causes_are_unmasked, transmitter_is_enabled}
 use Rattle.driver_law.proofs.ReceiveControl.{receiver_is_enabled}
 use Rattle.driver_law.proofs.Steps.{goes-happens}
@@ -52,6 +52,7 @@ ran_by-begins {first_up} {up} world happened lively old new access effect d acts
           (goes_join d d d (world old) acts.middle (world new) [] [] [] [] acts.past nothing first (step first.flows.ready));
       set = access-set world happened lively old new access effect acts sets;
       off = λ off leaves. happens-off (world old) acts.middle acts.past acts.before off;
+      link = access-link world happened lively old new access effect acts sets;
     }
 
 abbrev pub WriteActs : {B : Type 0} (world : B → World) (happened : B → B → Past → Type 0) (lively : B → Type 0) (old new : B) (offset value : ℕ) → Type 0
@@ -153,6 +154,7 @@ unmasks-causes world happened lively old new value d is written ready =
     let acts = subst (WriteActs world happened lively old new 0x00D0) is written in
     let middle = acts.middle in
     let goes = goes-happens d (world old) middle acts.past ready acts.before in
+    let sets = write-sets 0x00D0 0xD1 (world new) in
     let unmasked : Unmasked true d 0xD1 middle (world new) =
     subst (Unmasked true d 0xD1 middle) (sym acts.effect_is) (causes_are_unmasked true d 0xD1 middle goes.flows.ready) in
     let mask : HasBit (world new).adapter.causes.mask 7 =
@@ -161,8 +163,9 @@ unmasks-causes world happened lively old new value d is written ready =
       past = acts.past;
       told = acts.told;
       only = acts.only;
-      set = access-set world happened lively old new (Writes 0x00D0 0xD1) _ acts (write-sets 0x00D0 0xD1 (world new));
+      set = access-set world happened lively old new (Writes 0x00D0 0xD1) _ acts sets;
       off = λ off leaves. happens-off (world old) middle acts.past acts.before off;
+      link = access-link world happened lively old new (Writes 0x00D0 0xD1) _ acts sets;
       middle = middle;
       goes = goes;
       unmasked = unmasked;

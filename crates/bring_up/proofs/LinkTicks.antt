@@ -14,7 +14,8 @@ use Rattle.registers.specs.Bits.{HasBit}
 use Rattle.adapter.specs.State.{AdapterState}
 use Rattle.adapter.specs.World.{World}
 use Rattle.bus.specs.Law.{Management, management_of}
-use Rattle.bring_up.specs.Link.{Ends, IsNegotiating, NeedsMoreThan, StaysUp, restart_words, started, status_words}
+use Rattle.bus.specs.Link.{HasLink}
+use Rattle.bring_up.specs.Link.{Ends, IsNegotiating, NeedsMoreThan, restart_words, started, status_words}
 use Rattle.bring_up.proofs.PhyLine.{shown_status, ticks-none}
 
 link-iterate : (n : ℕ) (phy : PhyState) → (iterate after_tick n phy).link ≡ phy.link
@@ -35,16 +36,6 @@ complete-stays Complete up = refl
 pub up-iterate : (n : ℕ) (phy : PhyState) → link_is_up phy ≡ true → link_is_up (iterate after_tick n phy) ≡ true
 up-iterate zero phy up = up
 up-iterate (suc n) phy up = up-iterate n (after_tick phy) (complete-stays phy.negotiation up)
-
-pub stays-up : (world : World) → world.adapter.mdic.pending ≡ None → link_is_up world.adapter.phy ≡ true → StaysUp world
-stays-up world none up = record {
-  up = up;
-  stays = λ later past happens.
-      let n = past.phy_ticks in
-      let line = management_of world.adapter in
-      let phy : later.adapter.phy ≡ iterate after_tick n world.adapter.phy = ap (λ (l : Management). l.phy) happens.steady.management ∙ ticks-none n line none in
-      ap link_is_up phy ∙ up-iterate n world.adapter.phy up;
-}
 
 -- Negotiation behind its start.
 
@@ -146,12 +137,14 @@ seen-of lively all a b answer ends set =
     subst HasBoth (sym (value ∙ ends.answers)) both
 
 -- and the link is up.
-pub up-of : (lively : Type 0) (all : ℕ) (a : Management) (world : World) (answer : ℕ) → Ends lively status_words all a (management_of world.adapter) answer → bit_and answer 0x04 ≢ 0 → StaysUp world
+pub up-of : (lively : Type 0) (all : ℕ) (a : Management) (world : World) (answer : ℕ) → Ends lively status_words all a (management_of world.adapter) answer → bit_and answer 0x04 ≢ 0 → HasLink world
 up-of lively all a world answer ends set =
     let at = ends.phy in
     let up : link_is_up at ≡ true = shows-up (link_is_up at) at.latched_low (λ unset. set (ap (λ (v : ℕ). bit_and v 0x04) ends.answers ∙ unset)) in
-    stays-up world (ap (λ (l : MdicState). l.pending) ends.mdic)
-    (ap link_is_up ends.leaves ∙ up-iterate ends.later (record at { latched_low = false }) up)
+    record {
+      up = ap link_is_up ends.leaves ∙ up-iterate ends.later (record at { latched_low = false }) up;
+      no_command = ap (λ (l : MdicState). l.pending) ends.mdic;
+    }
 
 -- Rounds of the wait.
 

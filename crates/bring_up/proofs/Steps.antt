@@ -4,11 +4,13 @@ use Rattle.std.specs.List.{All}
 use Rattle.std.proofs.lemmas.List.Elements.{All-append}
 use Rattle.adapter.specs.World.{World, world_after_read, world_after_write}
 use Rattle.bus.specs.Law.{Acts}
+use Rattle.bus.specs.Link.{HasLink, LeavesPhy}
 use Rattle.bus.specs.Past.{Past, joined, nothing}
 use Rattle.bus.specs.declared.event.Access.{Access}
 use Rattle.bus.specs.declared.event.Access.TheVariants.{Reads, Writes}
 use Rattle.bus.specs.Rest.{IsAtRest, NoFrame}
 use Rattle.bus.specs.Settings.{Settings, Write, settings_after_all, settings_of, writes_in}
+use Rattle.bus.proofs.Links.{accesses_keep_link, happenings_keep_link}
 use Rattle.bus.proofs.Lists.{all-head, all-left, all-none, all-right}
 use Rattle.bus.proofs.Rest.{accesses_keep_rest, happenings_keep_rest}
 use Rattle.bus.proofs.Settings.{happenings_leave_settings, reads-leave, settings-append, writes-append, writes-set}
@@ -22,6 +24,7 @@ sets-nothing world happened stays b = record {
   writes_are = refl;
   settings = refl;
   rests = λ aside rest. (rest, record { none_put = refl; none_stored = refl; none_missed = refl });
+  link = λ leaves link. link;
 }
 
 -- What came and left in two stretches, where none did in either.
@@ -44,13 +47,14 @@ sets-join world happened joins a b c first later one two = record {
       let middle = one.rests (all-left IsAside first later aside) rest in
       let end = two.rests (all-right IsAside first later aside) middle.0 in
       (end.0, no-frames one.past two.past middle.1 end.1);
+  link = λ leaves link. two.link (all-right LeavesPhy first later leaves) (one.link (all-left LeavesPhy first later leaves) link);
 }
 
 -- An access, behind whatever happens before it.
 unfoldable pub sets-access : {B : Type 0} (world : B → World) (happened : B → B → Past → Type 0) (lively : B → Type 0) (old new : B) (access : Access) (effect : World → World → Type 0) (writes : List Write)
     → (acts : Acts world happened lively old new access effect) → writes_in (access ∷ []) ≡ writes → settings_of (world new).adapter ≡ settings_after_all writes (settings_of acts.middle.adapter)
-    → (All IsAside writes → IsAtRest acts.middle → IsAtRest (world new)) → Sets world happened old new writes
-sets-access world happened lively old new access effect writes acts are set rests = record {
+    → (All IsAside writes → IsAtRest acts.middle → IsAtRest (world new)) → (All LeavesPhy writes → HasLink acts.middle → HasLink (world new)) → Sets world happened old new writes
+sets-access world happened lively old new access effect writes acts are set rests link = record {
   past = acts.past;
   told = acts.told;
   writes_are = ap writes_in acts.only ∙ are;
@@ -58,6 +62,7 @@ sets-access world happened lively old new access effect writes acts are set rest
   rests = λ aside rest.
       let waits = happenings_keep_rest (world old) acts.middle acts.past acts.before rest in
       (rests aside waits.0, waits.1);
+  link = λ leaves up. link leaves (happenings_keep_link (world old) acts.middle acts.past acts.before up);
 }
 
 pub sets-read : {B : Type 0} (world : B → World) (happened : B → B → Past → Type 0) (lively : B → Type 0) (old new : B) (offset value : ℕ) (answer : World → Type 0)
@@ -66,6 +71,7 @@ sets-read world happened lively old new offset value answer acts =
     sets-access world happened lively old new (Reads offset value) _ [] acts refl
     (ap (λ (w : World). settings_of w.adapter) acts.effect_is.1 ∙ reads-leave offset acts.middle.adapter)
     (λ aside rest. subst IsAtRest (sym acts.effect_is.1) (accesses_keep_rest (Reads offset value) acts.middle tt refl rest))
+    (λ leaves link. subst HasLink (sym acts.effect_is.1) (accesses_keep_link (Reads offset value) acts.middle leaves link))
 
 unfoldable pub sets-write : {B : Type 0} (world : B → World) (happened : B → B → Past → Type 0) (lively : B → Type 0) (old new : B) (offset value : ℕ)
     → Acts world happened lively old new (Writes offset value) (λ before after. after ≡ world_after_write offset value before) → Sets world happened old new (record { offset = offset; value = value } ∷ [])
@@ -74,6 +80,7 @@ sets-write world happened lively old new offset value acts =
     sets-access world happened lively old new (Writes offset value) _ (write ∷ []) acts refl
     (ap (λ (w : World). settings_of w.adapter) acts.effect_is ∙ writes-set offset value acts.middle.adapter)
     (λ aside rest. subst IsAtRest (sym acts.effect_is) (accesses_keep_rest (Writes offset value) acts.middle (all-head IsAside write [] aside) refl rest))
+    (λ leaves link. subst HasLink (sym acts.effect_is) (accesses_keep_link (Writes offset value) acts.middle leaves link))
 
 -- A write of a word that is known.
 pub sets-word : {B : Type 0} (world : B → World) (happened : B → B → Past → Type 0) (lively : B → Type 0) (old new : B) (offset value word : ℕ) → value ≡ word

@@ -2,10 +2,11 @@
 use Rattle.std.specs.Prelude.{⊤, ◌≡◌, ◌≤◌, ◌++◌, ℕ, List, Result, IfErr, IfOk, length}
 use Rattle.eeprom.specs.Image.{HasRightSum}
 use Rattle.adapter.specs.World.{World}
+use Rattle.bus.specs.Link.{HasLink}
 use Rattle.bus.specs.Past.{Past}
 use Rattle.bus.specs.Rest.{IsAtRest}
 use Rattle.bus.specs.Settings.{settings_after_all, settings_of}
-use Rattle.bring_up.specs.Link.{NeedsMoreThan, StaysUp}
+use Rattle.bring_up.specs.Link.{NeedsMoreThan}
 use Rattle.bring_up.specs.Table.{allocation_writes, link_writes, reset_writes}
 use Rattle.bring_up.specs.declared.init_error.InitError.{InitError}
 use Rattle.bring_up.specs.declared.init_error.InitError.TheVariants.{Checksum, EepromTimeout, Memory, NoLink, PhyTimeout}
@@ -18,7 +19,7 @@ pub record IsFound {B : Type 0} (world : B → World) (old new : B) (kilobytes :
   pub rests : IsAtRest (world new)
   pub settings : settings_of (world new).adapter ≡ settings_after_all (reset_writes ++ (allocation_writes kilobytes ++ link_writes))
       (settings_of (world old).adapter)
-  pub up : StaysUp (world new)
+  pub up : HasLink (world new)
 
 -- When a device isn't found, by the error: over a bus that obeys the law a checksum only where it is wrong, and a time-out only behind so
 -- many accesses.

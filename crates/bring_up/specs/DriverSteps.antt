@@ -5,6 +5,7 @@ use Rattle.adapter.specs.HostFrames.{frames_held}
 use Rattle.adapter.specs.KnownRing.{KnowsRing}
 use Rattle.adapter.specs.Slots.{finished}
 use Rattle.adapter.specs.World.{World, transmit_ring}
+use Rattle.bus.specs.Link.{KeepsLink}
 use Rattle.bus.specs.Past.{Past}
 use Rattle.bus.specs.Settings.{AreSet, NoArrival, WhileOff, Write}
 use Rattle.bus.specs.declared.event.Access.{Access}
@@ -46,6 +47,7 @@ pub record UnmasksCauses {B : Type 0} (world : B → World) (happened : B → B 
   pub only : past.accesses ≡ Writes 0x00D0 causes ∷ []
   pub set : AreSet (world old) (world new) past
   pub off : WhileOff (world old) past
+  pub link : KeepsLink (world old) (world new) past
   -- where the write begins
   pub middle : World
   pub goes : Goes d (world old) d middle [] [] past

@@ -4,20 +4,16 @@ use Rattle.std.specs.Fn.{iterate}
 use Rattle.mdic_phy.specs.declared.phy.Link.{Link}
 use Rattle.mdic_phy.specs.declared.phy.Link.TheVariants.{After, Never}
 use Rattle.mdic_phy.specs.Mdic.{ended, kept, operation_of, phy_ended}
-use Rattle.mdic_phy.specs.Phy.{PhyState, after_tick, link_is_up, negotiation_of}
+use Rattle.mdic_phy.specs.Phy.{PhyState, after_tick, negotiation_of}
 use Rattle.registers.specs.Bits.{HasBit}
 use Rattle.adapter.specs.State.{AdapterState}
 use Rattle.adapter.specs.World.{World}
-use Rattle.bus.specs.Law.{Happens, Management, management_of, phy_ticked}
+use Rattle.bus.specs.Law.{Management, management_of, phy_ticked}
+use Rattle.bus.specs.Link.{HasLink}
 use Rattle.bus.specs.Past.{Past}
 use Rattle.bring_up.specs.declared.init_error.InitError.{InitError}
 use Rattle.bring_up.specs.declared.init_error.InitError.TheVariants.{NoLink, PhyTimeout}
 use Rattle.bring_up.specs.Sets.{Asks}
-
--- The link is up, and stays so whatever happens.
-pub record StaysUp (world : World) : Type 0 where
-  pub up : link_is_up world.adapter.phy ≡ true
-  pub stays : (later : World) (past : Past) → Happens world later past → link_is_up later.adapter.phy ≡ true
 
 -- a PHY with this link, when its negotiation has been enabled and started
 abbrev pub started : Link → PhyState
@@ -85,7 +81,8 @@ pub record AwaitsLink {B : Type 0} (world : B → World) (happened : B → B →
   pub link : (world new).adapter.phy.link ≡ (world old).adapter.phy.link
   -- MDIC shows bits 5 and 2 of the PHY's status: negotiation is complete, and the link is up.
   pub seen : IfOk result (λ done. HasBit (world new).adapter.mdic.value 5 × HasBit (world new).adapter.mdic.value 2)
-  pub up : IfOk result (λ done. StaysUp (world new))
+  -- The link is up, and stays so by the law of links.
+  pub up : IfOk result (λ done. HasLink (world new))
   pub late : IfErr result (λ error. 1000 ≤ length asks.past.accesses)
   pub no_link : result ≡ Err NoLink → 2000 ≤ length asks.past.accesses
   pub in_time : lively old → result ≢ Err PhyTimeout
