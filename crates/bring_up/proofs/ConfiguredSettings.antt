@@ -20,7 +20,7 @@ use Rattle.bring_up.proofs.SettingGroups.{SetTo, allocation-sets, groups-join, l
 use Rattle.bring_up.proofs.TableSettings.{address-set, groups-set, vlans-set}
 
 -- the filter when its tables and addresses have been written
-abbrev filter_written : (address groups vlans : List ℕ) → FilterRegisters
+abbrev pub filter_written : (address groups vlans : List ℕ) → FilterRegisters
 filter_written address groups vlans = record {
   ral = low_word address ∷ replicate 15 0;
   rah = (high_word address + 2 ^ 31) ∷ replicate 15 0;
@@ -31,7 +31,7 @@ filter_written address groups vlans = record {
 }
 
 -- an adapter when all but the rings and what follows has been written
-abbrev adapter_before_rings : Config → (address groups vlans image : List ℕ) → Link → AdapterState
+abbrev pub adapter_before_rings : Config → (address groups vlans image : List ℕ) → Link → AdapterState
 adapter_before_rings config address groups vlans image link = record (adapter_at_reset image (new_phy link) config.rxa) {
   device_control = 0x60;
   filter = filter_written address groups vlans;
@@ -55,7 +55,7 @@ tables-set config address groups vlans image link is groups_whole vlans_whole gr
     set-join (table_writes 0x5200 groups) (table_writes 0x5600 vlans ++ address_writes address) linked grouped end
     (groups-set groups linked groups_whole empty groups_are) tags
 
-before-rings : (config : Config) (address groups vlans : List ℕ) (size : ℕ) (settings : Settings)
+pub before-rings : (config : Config) (address groups vlans : List ℕ) (size : ℕ) (settings : Settings)
     → CanBeHad config size → IsAddress address → length groups ≡ 128 → length vlans ≡ 128 → AreWords groups → AreWords vlans
     → settings_after_all (writes_before_rings config address groups vlans) settings
     ≡ settings_of (adapter_before_rings config address groups vlans settings.image settings.link)

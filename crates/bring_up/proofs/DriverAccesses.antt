@@ -136,7 +136,7 @@ no-slots [] none = refl
 no-slots (slot ∷ slots) none = absurd (omega (arith, none))
 
 -- What was told of finished slots before it.
-asked-still : (d : DriverState) (a b : World) (past : Past) → Goes d a d b [] [] past → (finished d.oldest_received a ≡ []) ⊎ HasBit a.adapter.causes.recorded 7
+pub asked-still : (d : DriverState) (a b : World) (past : Past) → Goes d a d b [] [] past → (finished d.oldest_received a ≡ []) ⊎ HasBit a.adapter.causes.recorded 7
     → (finished d.oldest_received b ≡ []) ⊎ HasBit b.adapter.causes.recorded 7
 asked-still d a b past goes asked =
     ⊎_elim

@@ -4,6 +4,7 @@ use Rattle.arrayvec.specs.declared.array_vec.ArrayVec.{ArrayVec}
 use Rattle.rx_filter.specs.Addresses.{IsAddress, high_word, low_word}
 use Rattle.adapter.specs.Rings.{ring_of}
 use Rattle.descriptors.specs.Ring.{count_of}
+use Rattle.bus.specs.Link.{LeavesPhy}
 use Rattle.bus.specs.Settings.{Settings, Write, settings_after_all}
 use Rattle.bring_up.specs.Configuration.{CanBeHad, vlans_of}
 use Rattle.bring_up.specs.FilterTables.{HasNumbers, address_writes, numbers_of_groups, table_writes}
@@ -85,3 +86,10 @@ abbrev pub RingsComeLast : Type 0
 RingsComeLast =
     (config : Config) (address groups vlans : List ℕ) → length groups ≡ 128 → length vlans ≡ 128
     → All IsAside (writes_before_rings config address groups vlans)
+
+-- None of those of the filter, nor of the rings and behind them, is of CTRL or of MDIC.
+abbrev pub LinkComesFirst : Type 0
+LinkComesFirst =
+    (config : Config) (address groups vlans : List ℕ) → length groups ≡ 128 → length vlans ≡ 128
+    → All LeavesPhy (table_writes 0x5200 groups ++ (table_writes 0x5600 vlans ++ address_writes address))
+    × All LeavesPhy (writes_from_rings config)

@@ -12,6 +12,12 @@ use Rattle.bring_up.specs.declared.init_error.InitError.{InitError}
 use Rattle.bring_up.specs.declared.init_error.InitError.TheVariants.{Checksum, EepromTimeout, Memory, NoLink, PhyTimeout}
 use Rattle.bring_up.specs.declared.init_error.InitError.TheVariants as errors
 
+-- Want of memory, and a configuration that can't be had, come before any access; every other error is the device's.
+abbrev pub IsBeforeAccess : InitError → Type 0
+IsBeforeAccess Memory = ⊤
+IsBeforeAccess errors.Config = ⊤
+IsBeforeAccess error = ⊥
+
 -- The image is the adapter's, and its sum is right; the adapter is at rest, set to this, and its link is up.
 pub record IsFound {B : Type 0} (world : B → World) (old new : B) (kilobytes : ℕ) (image : List ℕ) : Type 0 where
   pub image_is : image ≡ (world old).adapter.image

@@ -1,7 +1,7 @@
 //! The device is found: reset, its EEPROM read, and its link up.
 
-ghost use Rattle.std.specs.Prelude.{◌≡◌};
-ghost use Rattle.bring_up.specs.Device.{FindsDevice};
+ghost use Rattle.std.specs.Prelude.{◌≡◌, IfErr};
+ghost use Rattle.bring_up.specs.Device.{FindsDevice, IsBeforeAccess};
 
 use crate::controls::{allocate_packet_buffer, reset_device, set_link_up};
 use crate::eeprom_reading::read_image;
@@ -22,6 +22,7 @@ pub fn find_device<B: Bus>(bus: &mut B, kilobytes: u8) -> Result<Image, InitErro
     ensures kept { B.kept bus.old bus.new }
     ensures honest { B.honest bus.old → B.honest bus.new }
     ensures lively { B.lively bus.old → B.lively bus.new }
+    ensures errors { IfErr result (λ error. ¬ (IsBeforeAccess error)) }
     ensures finds { B.honest bus.old → FindsDevice B.world B.happened B.lively bus.old bus.new kilobytes result }
 {
     reset_device(bus);

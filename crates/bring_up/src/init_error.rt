@@ -1,5 +1,9 @@
 //! Why an adapter was not brought up.
 
+ghost use Rattle.std.specs.Prelude.{◌≡◌};
+ghost use Rattle.bring_up.specs.declared.init_error.InitError.TheVariants.{Memory};
+
+use std::alloc::AllocError;
 use thiserror::Error;
 
 /// Why an adapter was not brought up. The call may be made again.
@@ -23,4 +27,12 @@ pub enum InitError {
     /// The configuration isn't one that can be had. There was no access.
     #[error("E15 Config")]
     Config,
+}
+
+impl From<AllocError> for InitError {
+    ghost from_gives = { λ _ e. e ≡ Memory };
+
+    fn from(_error: AllocError) -> InitError {
+        InitError::Memory
+    }
 }

@@ -30,15 +30,15 @@ transmit_stays_idle o a b past sound same happens =
     }
 
 -- No frame is held where there is none of a finished slot and none in work.
-record HoldsNone (o : ℕ) (world : World) : Type 0 where
-  none_finished : finished o world ≡ []
-  no_work : world.adapter.receiver.work ≡ None
+pub record HoldsNone (o : ℕ) (world : World) : Type 0 where
+  pub none_finished : finished o world ≡ []
+  pub no_work : world.adapter.receiver.work ≡ None
 
 no_work-held : (memory : List ℕ) (work : Option Work) → engine.in_work memory work ≡ [] → work ≡ None
 no_work-held memory None none = refl
 no_work-held memory (Some work) none = absurd (cc)
 
-holds-none : (o : ℕ) (world : World) → frames_held o world ≡ [] → HoldsNone o world
+pub holds-none : (o : ℕ) (world : World) → frames_held o world ≡ [] → HoldsNone o world
 holds-none o world none =
     let frames = map (λ (descriptor : ℕ). bytes_in world.memory (named world.memory descriptor)) (finished o world) in
     let receiver = world.adapter.receiver in
@@ -50,7 +50,7 @@ holds-none o world none =
     }
 
 -- Then all outstanding slots are offered.
-all-offered : (o p : ℕ) (world : World) → Sound o p world → HoldsNone o world → outstanding (receive_ring world) o ≡ offered (receive_ring world)
+pub all-offered : (o p : ℕ) (world : World) → Sound o p world → HoldsNone o world → outstanding (receive_ring world) o ≡ offered (receive_ring world)
 all-offered o p world sound none =
     let slots = offered (receive_ring world) in
     sound.receive_slots.classes ∙ ap (λ (front : List ℕ). front ++ (in_work world ++ slots)) none.none_finished

@@ -1,4 +1,4 @@
-use Rattle.bring_up.proofs.AsideWrites.{rings-last}
+use Rattle.bring_up.proofs.WritesOf.{link-first, rings-last}
 use Rattle.bring_up.proofs.ConfiguredSettings.{writes-configure}
 use Rattle.bring_up.proofs.configured_law.writes_configure.Goals as goal
 
@@ -7,3 +7,6 @@ returns-clause-configure c = writes-configure
 
 pub returns-clause-rings_last : goal.returns-clause-rings_last
 returns-clause-rings_last c = rings-last
+
+pub returns-clause-link_first : goal.returns-clause-link_first
+returns-clause-link_first c = link-first
