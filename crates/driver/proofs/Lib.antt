@@ -4,3 +4,4 @@ pub mod Queue
 pub mod Refills
 pub mod Takes
 pub mod Handles
+pub mod Initialisation

@@ -3,3 +3,4 @@ pub mod Sends
 pub mod Refills
 pub mod Takes
 pub mod Handles
+pub mod Initialises

@@ -5,6 +5,7 @@
 #![tactic(auto)]
 
 mod driver;
+mod init;
 mod interrupt;
 mod read;
 mod receive;

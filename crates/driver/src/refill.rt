@@ -9,7 +9,7 @@ ghost use Rattle.driver_law.specs.Accesses.{tail_write};
 ghost use Rattle.driver_law.specs.DriverState.{HandedOut, holding, next_received, owners, with_owners};
 ghost use Rattle.driver_law.specs.Goes.{IsRefilled, RanBy};
 ghost use Rattle.driver_law.specs.Ready.{ReadyWith, empty_descriptor};
-ghost use Rattle.driver.specs.Refills.{Refills, Stages};
+ghost use Rattle.driver.specs.Refills.{Refills, Stages, StagesSome};
 
 use crate::Driver;
 use adapter::offsets::RDT;
@@ -71,8 +71,23 @@ impl Driver {
         true
     }
 
+    /// Stages slots as long as there is a free buffer, and room: one slot always stays the driver's.
+    pub(crate) fn stage_all<B: Bus>(&mut self, bus: &mut B)
+        requires memory { size_of self.old.counts ≤ B.extent bus.old }
+        ensures extent { B.extent bus.new ≡ B.extent bus.old }
+        ensures kept { B.kept bus.old bus.new }
+        ensures honest { B.honest bus.old → B.honest bus.new }
+        ensures lively { B.lively bus.old → B.lively bus.new }
+        ensures stages { StagesSome B.honest B.world B.happened bus.old bus.new self.old self.new }
+        ensures room { length self.new.buffers + length self.new.staged < self.new.counts.rx }
+        ensures full { (self.new.pool ≡ [])
+            ⊎ (length self.new.buffers + length self.new.staged + 1 ≡ self.new.counts.rx) }
+    {
+        while self.stage(bus) {}
+    }
+
     /// Offers all staged slots by one write of RDT, where there are any.
-    fn offer<B: Bus>(&mut self, bus: &mut B)
+    pub(crate) fn offer<B: Bus>(&mut self, bus: &mut B)
         ensures extent { B.extent bus.new ≡ B.extent bus.old }
         ensures kept { B.kept bus.old bus.new }
         ensures honest { B.honest bus.old → B.honest bus.new }
@@ -123,7 +138,7 @@ impl Driver {
             → ReadyWith up (holding held self.old) (B.world bus.old)
             → Refills up B.world B.happened bus.old bus.new (holding held self.old) (holding held self.new) }
     {
-        while self.stage(bus) {}
+        self.stage_all(bus);
         self.offer(bus);
     }
 

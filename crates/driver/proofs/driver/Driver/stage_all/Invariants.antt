@@ -1,6 +1,6 @@
 use Rattle.std.proofs.Common.{◌≡◌, ◌+◌, ◌-◌, length}
 use Rattle.driver.specs.Refills.{StagesSome}
-use Rattle.driver.proofs.driver.Driver.refill.Given as goal
+use Rattle.driver.proofs.driver.Driver.stage_all.Given as goal
 
 abbrev pub invariant-loop : goal.invariant-loop
 invariant-loop g l = record {

@@ -1,0 +1,496 @@
+-- An adapter is brought up, step by step.
+use Rattle.std.proofs.Common.{Bool, IsTrue, Option, None, Some, is_some, true, false, ◌≡◌, ◌≤◌, ◌<◌, ◌+◌, ◌-◌, ◌*◌, ◌%◌, ◌++◌, ◌∷◌, [], ℕ, List, length, ◌⊎◌, ⊎_elim, inl, refl, sym, ap, subst, ◌∙◌, append_assoc, length-append, arith}
+use Rattle.std.specs.List.{All}
+use Rattle.std.proofs.lemmas.List.{append-nil, length-map}
+use Rattle.std.proofs.lemmas.List.Elements.{All-cons}
+use Rattle.arrayvec.specs.declared.array_vec.ArrayVec.{ArrayVec}
+use Rattle.registers.specs.Counting.{greatest_count}
+use Rattle.dma_memory.specs.Layout.{Counts}
+use Rattle.dma_memory.specs.Owners.{HasOneOwner, HaveSameNumbers, copies}
+use Rattle.dma_memory.specs.OwnersLaws.{copies-append, length-one_owner, one_owner-same}
+use Rattle.descriptors.specs.declared.ring.Ring.{Ring}
+use Rattle.descriptors.specs.Ring.{address_of, distance_of, owned}
+use Rattle.descriptors.specs.RingLaws.{distance-forward, length-owned, place, place-distance}
+use Rattle.rx_filter.specs.Addresses.{IsAddress}
+use Rattle.eeprom.specs.Image.{HasRightSum, address_bytes}
+use Rattle.adapter.specs.HostFrames.{frames_held, frames_to_send}
+use Rattle.adapter.specs.Rings.{new_ring}
+use Rattle.adapter.specs.Slots.{finished}
+use Rattle.adapter.specs.TableLaws.{register_at-there}
+use Rattle.adapter.specs.KnownRing.{KnowsRing}
+use Rattle.adapter.specs.World.{World, receive_ring, transmit_ring}
+use Rattle.adapter.specs.declared.ring.RingRegisters.{RingRegisters}
+use Rattle.adapter.specs.declared.register.Register.TheVariants.{Rctl, Receive}
+use Rattle.adapter.specs.declared.register.RingRegister.TheVariants.{Tail}
+use Rattle.bus.specs.Link.{HasLink, KeepsLink, LeavesPhy}
+use Rattle.bus.specs.Past.{Past, joined}
+use Rattle.bus.specs.Rest.{NoFrame}
+use Rattle.bus.specs.Settings.{AreSet, IsNotReceiveControl, WhileOff, LeavesReceiver, Settings, Write, settings_after_all, settings_of, writes_in}
+use Rattle.bus.specs.declared.event.Access.{Access}
+use Rattle.bus.specs.declared.event.Access.TheVariants.{Writes}
+use Rattle.bus.proofs.Lists.{all-left, all-none, all-right, append-empty}
+use Rattle.bus.proofs.Settings.{settings-append, writes-append}
+use Rattle.bus.proofs.Waiting.{all-offered, holds-none}
+use Rattle.driver_law.proofs.Accesses.{ran_by-join, ran_by-same}
+use Rattle.driver_law.proofs.Owners.{owners-count}
+use Rattle.driver_law.specs.Accesses.{stores_from, tail_write}
+use Rattle.driver_law.specs.Beginnings.{new_driver}
+use Rattle.driver_law.specs.DriverState.{DriverState, holding, next_received, owners, receive_slot, transmit_tail, with_owners}
+use Rattle.driver_law.specs.Goes.{GoesTo, RanBy}
+use Rattle.driver_law.specs.Ready.{Ready, ReadyWith}
+use Rattle.bring_up.specs.ClearedDescriptors.{clears, clears_from}
+use Rattle.bring_up.specs.Configuration.{CanBeHad, counts_of}
+use Rattle.bring_up.specs.Configured.{IsConfigured, all_writes, names_vlans, writes_before_rings}
+use Rattle.bring_up.specs.DriverSteps.{LeavesDriver, LetsFramesIn, SetsTransmitRing, UnmasksCauses, accesses_of}
+use Rattle.bring_up.specs.Quiet.{IsNotTransmitRing, IsQuiet, LeavesTransmitRing}
+use Rattle.bring_up.specs.Device.{IsFound}
+use Rattle.bring_up.specs.FilterSetting.{SetsFilter}
+use Rattle.bring_up.specs.FilterTables.{address_writes, table_writes}
+use Rattle.bring_up.specs.RestingRings.{HasNewRings, HasReceiveRing, SetsAtRest}
+use Rattle.bring_up.specs.Sets.{IsAside}
+use Rattle.bring_up.proofs.WritesOf.{link-first, rings-last}
+use Rattle.bring_up.proofs.ConfiguredSettings.{before-rings, writes-configure}
+use Rattle.bring_up.specs.RingRegisters.{receive_control, receive_writes, ring_writes, transmit_writes}
+use Rattle.bring_up.specs.Table.{allocation_writes, link_writes, mask_writes, reset_writes, write_at}
+use Rattle.bring_up.specs.declared.config.Config.{Config}
+use Rattle.bring_up.proofs.DriverAccesses.{asked-still}
+use Rattle.bring_up.proofs.Quiet.{clears-write_none, new_transmit_ring_stays, quiet_stays, stores-write_none}
+use Rattle.driver.specs.Initialises.{HasFoundRing, Initialises, OffersFirst, first_accesses, transmit_accesses}
+use Rattle.driver.specs.Refills.{Stages}
+
+-- What the accesses of its steps write.
+
+pub first-writes : (counts : Counts) (numbers : List ℕ) → writes_in (first_accesses counts numbers) ≡ write_at 0x2818 (counts.rx - 1) ∷ []
+first-writes counts numbers =
+    writes-append (stores_from counts 0 numbers) _
+    ∙ ap (λ (writes : List Write). writes ++ write_at 0x2818 (counts.rx - 1) ∷ []) (stores-write_none counts 0 numbers)
+
+pub writes-of : (writes : List Write) → writes_in (accesses_of writes) ≡ writes
+writes-of [] = refl
+writes-of (write ∷ later) = ap (λ (rest : List Write). write ∷ rest) (writes-of later)
+
+pub transmit-writes : (counts : Counts)
+    → writes_in (transmit_accesses counts) ≡ ring_writes 0x3800 (16 * counts.rx) (16 * counts.tx) ++ transmit_writes
+transmit-writes counts =
+    let writes = ring_writes 0x3800 (16 * counts.rx) (16 * counts.tx) ++ transmit_writes in
+    writes-append (clears_from (16 * counts.rx) counts.tx) (accesses_of writes)
+    ∙ ap (λ (first : List Write). first ++ writes_in (accesses_of writes)) (clears-write_none (16 * counts.rx) counts.tx)
+    ∙ writes-of writes
+
+-- RDT is neither RCTL nor of the transmit ring, and RCTL isn't of that ring.
+
+leaves-one : (P : Write → Type 0) (write : Write) → P write → All P (write ∷ [])
+leaves-one P write leaves = All-cons P write [] leaves (all-none P)
+
+pub tail-leaves_receiver : (slot : ℕ) → All LeavesReceiver (write_at 0x2818 slot ∷ [])
+tail-leaves_receiver slot =
+    leaves-one LeavesReceiver (write_at 0x2818 slot) (subst IsNotReceiveControl (sym (register_at-there (Receive Tail) tt)) tt)
+
+pub tail-leaves_transmits : (slot : ℕ) → All LeavesTransmitRing (write_at 0x2818 slot ∷ [])
+tail-leaves_transmits slot =
+    leaves-one LeavesTransmitRing (write_at 0x2818 slot) (subst IsNotTransmitRing (sym (register_at-there (Receive Tail) tt)) tt)
+
+pub control-leaves_transmits : (control : ℕ) → All LeavesTransmitRing (write_at 0x0100 control ∷ [])
+control-leaves_transmits control =
+    leaves-one LeavesTransmitRing (write_at 0x0100 control) (subst IsNotTransmitRing (sym (register_at-there Rctl tt)) tt)
+
+-- Where no frame is held, the slot at the head is the oldest.
+
+distance-same : (n head : ℕ) → 0 < n → head < n → (n - 1 + n - head) % n ≡ n - 1 → head ≡ 0
+distance-same n head some below is =
+    let forward = distance-forward n head (n - 1) (omega arith) (omega arith) in
+    omega (arith, forward, is)
+
+-- the last place of a ring
+last-place : (n k : ℕ) → k + 1 ≡ n → place n 0 k ≡ n - 1
+last-place n k full =
+    place-distance n k 0 (n - 1) (omega (arith, full)) (omega (arith, full))
+    (distance-forward n 0 (n - 1) (omega (arith, full)) (omega arith) ∙ omega (arith, full))
+
+pub head-first : (d : DriverState) (world : World) → Ready d world → d.oldest_received ≡ 0 → length d.buffers + 1 ≡ d.counts.rx
+    → frames_held d.oldest_received world ≡ [] → (receive_ring world).head ≡ 0
+head-first d world ready first full none =
+    let ring = receive_ring world in
+    let n = d.counts.rx in
+    let knows = ready.receive in
+    let same = all-offered d.oldest_received d.oldest_sent world ready.sound (holds-none d.oldest_received world none) in
+    let from : Ring = record ring { head = d.oldest_received } in
+    let long : distance_of from d.oldest_received ring.tail ≡ distance_of ring ring.head ring.tail =
+    sym (length-owned from) ∙ sym (length-map (owned from) (address_of from)) ∙ ap length same ∙ length-map (owned ring) (address_of ring)
+        ∙ length-owned ring in
+    let tail : ring.tail ≡ n - 1 = knows.last ∙ ap (λ (oldest : ℕ). place n oldest (length d.buffers)) first
+        ∙ last-place n (length d.buffers) full in
+    let back : (n - 1 + n - ring.head) % n ≡ (n - 1 + n - 0) % n =
+    ap (λ (t : ℕ). (t + n - ring.head) % n) (sym tail) ∙ ap (λ (c : ℕ). (ring.tail + c - ring.head) % c) (sym knows.slots) ∙ sym long
+    ∙ ap (λ (c : ℕ). (ring.tail + c - d.oldest_received) % c) knows.slots ∙ ap (λ (o : ℕ). (ring.tail + n - o) % n) first
+        ∙ ap (λ (t : ℕ). (t + n - 0) % n) tail in
+    distance-same n ring.head (omega (arith, full)) knows.head_slot
+        (back ∙ distance-forward n 0 (n - 1) (omega (arith, full)) (omega arith) ∙ omega arith)
+
+-- The receive slots are offered.
+
+tail-written : (slot : ℕ) (numbers : List ℕ) → 0 < length numbers → tail_write slot numbers ≡ Writes 0x2818 slot ∷ []
+tail-written slot [] some = absurd (omega (arith, some))
+tail-written slot (number ∷ later) some = refl
+
+-- So many are staged as there are slots but one.
+all-staged : (n buffers : ℕ) (pool numbers left : List ℕ) → HasOneOwner buffers pool → n ≤ buffers → HaveSameNumbers pool (numbers ++ left)
+    → length numbers < n → (left ≡ []) ⊎ (0 + length numbers + 1 ≡ n) → length numbers + 1 ≡ n
+all-staged n buffers pool numbers left owner enough same room full =
+    ⊎_elim
+    (λ (none : left ≡ []).
+    let whole = length-one_owner buffers (numbers ++ left) (one_owner-same buffers pool (numbers ++ left) owner same) in
+    absurd (omega (arith, whole, length-append numbers left, ap length none, room, enough)))
+    (λ (all : 0 + length numbers + 1 ≡ n). omega (arith, all))
+    full
+
+-- with these slots staged, or offered
+abbrev staging : Counts → (pool numbers left : List ℕ) → DriverState
+staging counts pool numbers left = with_owners (new_driver counts pool) [] numbers left []
+
+abbrev pub offering : Counts → (pool numbers left : List ℕ) → DriverState
+offering counts pool numbers left = with_owners (new_driver counts pool) numbers [] left []
+
+pub offers-first : {B : Type 0} (honest : B → Type 0) (world : B → World) (happened : B → B → Past → Type 0)
+    → ((a b c : B) (first later : Past) → happened a b first → happened b c later → happened a c (joined first later))
+    → (b0 b1 b2 b3 : B) (counts : Counts) (pool numbers : List ℕ) (d2 d3 : DriverState)
+    → HasOneOwner counts.buffers pool → counts.rx ≤ counts.buffers → 1 < counts.rx
+    → Stages honest world happened b0 b1 (new_driver counts pool) d2 numbers
+    → length d2.buffers + length d2.staged < d2.counts.rx → (d2.pool ≡ []) ⊎ (length d2.buffers + length d2.staged + 1 ≡ d2.counts.rx)
+    → d3 ≡ with_owners d2 (d2.buffers ++ d2.staged) [] d2.pool [] → (honest b0 → honest b1) → (honest b1 → honest b2)
+    → ((d : DriverState) → honest b1 → ReadyWith false d (world b1) → d.oldest_received ≡ 0 → counts.rx ≡ d.counts.rx
+    → RanBy false world happened (clears (receive_slot (counts.rx - 1)) ∷ []) b1 b2 d d [] [])
+    → (honest b2 → ReadyWith false (holding [] d2) (world b2)
+    → RanBy false world happened (tail_write (next_received d2) d2.staged) b2 b3 (holding [] d2) (holding [] d3) [] [])
+    → OffersFirst honest world happened b0 b3 (new_driver counts pool) d3
+offers-first honest world happened joins b0 b1 b2 b3 counts pool numbers d2 d3 owner enough some stages room full behind obeys1 obeys2
+    clearing offers =
+    let n = counts.rx in
+    let staged : d2 ≡ staging counts pool numbers d2.pool = stages.others in
+    let done : d3 ≡ offering counts pool numbers d2.pool = behind
+        ∙ ap (λ (d : DriverState). with_owners d (d.buffers ++ d.staged) [] d.pool []) staged in
+    let few : 0 + length numbers < n = subst (λ (d : DriverState). length d.buffers + length d.staged < d.counts.rx) staged room in
+    let count : length numbers + 1 ≡ n =
+    all-staged n counts.buffers pool numbers d2.pool owner enough stages.pool (omega (arith, few))
+    (subst (λ (d : DriverState). (d.pool ≡ []) ⊎ (length d.buffers + length d.staged + 1 ≡ d.counts.rx)) staged full) in
+    let left : d3.pool ≡ d2.pool = ap (λ (d : DriverState). d.pool) done in
+    let same2 : holding [] d2 ≡ d2 = ap (holding []) staged ∙ sym staged in
+    let same3 : holding [] d3 ≡ d3 = ap (holding []) done ∙ sym done in
+    let next : next_received d2 ≡ n - 1 = ap next_received staged ∙ last-place n (0 + length numbers) (omega (arith, count)) in
+    let tail : tail_write (next_received d2) d2.staged ≡ Writes 0x2818 (n - 1) ∷ [] =
+    ap (λ (slot : ℕ). tail_write slot d2.staged) next ∙ ap (λ (d : DriverState). tail_write (n - 1) d.staged) staged
+        ∙ tail-written (n - 1) numbers (omega (arith, count, some)) in
+    record {
+      numbers = numbers;
+      count = count;
+      others = done ∙ ap (offering counts pool numbers) (sym left);
+      pool = λ k. stages.pool k ∙ ap (λ (rest : List ℕ). copies k (numbers ++ rest)) (sym left);
+      ran = λ obeys ready.
+          let first = stages.ran false [] obeys ready in
+          let ready1 = first.goes.flows.ready in
+          let second = clearing (holding [] d2) (obeys1 obeys) ready1 (ap (λ (d : DriverState). d.oldest_received) staged)
+              (sym (ap (λ (d : DriverState). d.counts.rx) staged)) in
+          let third = offers (obeys2 (obeys1 obeys)) second.goes.flows.ready in
+          let d1 = new_driver counts pool in
+          let later = ran_by-join world happened joins _ _ b1 b2 b3 (holding [] d2) (holding [] d2) (holding [] d3) [] [] [] [] second
+          (ran_by-same world happened _ _ b2 b3 (holding [] d2) (holding [] d3) (holding [] d3) [] [] [] tail refl refl third) in
+          ran_by-same world happened _ _ b0 b3 d1 (holding [] d3) d3 [] [] [] refl same3 refl
+          (ran_by-join world happened joins _ _ b0 b1 b3 d1 (holding [] d2) (holding [] d3) [] [] [] [] first later);
+    }
+
+-- The transmit side is set up.
+
+none-leaves_transmits : (accesses : List Access) (past : Past) → past.accesses ≡ accesses → writes_in accesses ≡ []
+    → All LeavesTransmitRing (writes_in past.accesses)
+none-leaves_transmits accesses past only none = subst (All LeavesTransmitRing) (sym (ap writes_in only ∙ none))
+    (all-none LeavesTransmitRing)
+
+pub sets-transmitter : {B : Type 0} (world : B → World) (happened : B → B → Past → Type 0)
+    → ((a b c : B) (first later : Past) → happened a b first → happened b c later → happened a c (joined first later))
+    → (b0 b1 b2 b3 : B) (d : DriverState) (counts : Counts) → d.counts ≡ counts → d.oldest_sent ≡ 0 → d.sending ≡ 0 → 0 < counts.tx
+    → (world b0).adapter.transmit_ring ≡ new_ring
+    → RanBy false world happened (clears_from (16 * counts.rx) counts.tx) b0 b1 d d [] []
+    → (ReadyWith false d (world b1) → (world b1).adapter.transmit_ring ≡ new_ring
+    → SetsTransmitRing world happened (ring_writes 0x3800 (16 * counts.rx) (16 * counts.tx)) b1 b2 d)
+    → (ReadyWith false d (world b2) → d.oldest_sent < d.counts.tx
+        → KnowsRing (transmit_ring (world b2)) (16 * d.counts.rx) d.counts.tx (transmit_tail d)
+    → LeavesDriver true world happened transmit_writes b2 b3 d)
+    → RanBy true world happened (transmit_accesses counts) b0 b3 d d [] []
+sets-transmitter world happened joins b0 b1 b2 b3 d counts is oldest none some new clearing rings enables =
+    let n1 = new_transmit_ring_stays d (world b0) (world b1) clearing.past clearing.goes.flows.ready clearing.set
+    (none-leaves_transmits (clears_from (16 * counts.rx) counts.tx) clearing.past clearing.only
+        (clears-write_none (16 * counts.rx) counts.tx)) new in
+    let sets = rings clearing.goes.flows.ready n1 in
+    let tail : 0 ≡ transmit_tail d = ap (λ (o : ℕ). place d.counts.tx o 0) (sym oldest) ∙ ap (place d.counts.tx d.oldest_sent) (sym none) in
+    let below : d.oldest_sent < d.counts.tx = omega (arith, oldest, some, ap (λ (c : Counts). c.tx) is) in
+    let runs = enables sets.ran.goes.flows.ready below
+        (subst (KnowsRing (transmit_ring (world b2)) (16 * d.counts.rx) d.counts.tx) tail sets.knows) in
+    ran_by-join world happened joins (clears_from (16 * counts.rx) counts.tx) _ b0 b1 b3 d d d [] [] [] [] clearing
+    (ran_by-join world happened joins _ (accesses_of transmit_writes) b1 b2 b3 d d d [] [] [] [] sets.ran runs)
+
+-- The device is found, and its receive ring set up.
+
+new-whole : (ring : RingRegisters) → record ring { head = 0 } ≡ new_ring → ring.head ≡ ring.tail → ring ≡ new_ring
+new-whole ring start idle =
+    let tail : ring.tail ≡ 0 = ap (λ (registers : RingRegisters). registers.tail) start in
+    ap (λ (registers : RingRegisters). let moved : RingRegisters = record registers { head = ring.head } in moved) start
+    ∙ ap (λ (head : ℕ). let moved : RingRegisters = record new_ring { head = head } in moved) (idle ∙ tail)
+
+-- what was written before the rings
+filtered : (config : Config) (address groups vlans : List ℕ) (settings : Settings)
+    → settings_after_all (table_writes 0x5200 groups ++ (table_writes 0x5600 vlans ++ address_writes address))
+    (settings_after_all (reset_writes ++ (allocation_writes config.rxa ++ link_writes)) settings)
+    ≡ settings_after_all (writes_before_rings config address groups vlans) settings
+filtered config address groups vlans settings =
+    let tables = table_writes 0x5200 groups ++ (table_writes 0x5600 vlans ++ address_writes address) in
+    let device = reset_writes ++ (allocation_writes config.rxa ++ link_writes) in
+    sym (settings-append device tables settings)
+    ∙ ap (λ (writes : List Write). settings_after_all writes settings)
+    (append_assoc reset_writes (allocation_writes config.rxa ++ link_writes) tables
+    ∙ ap (λ (writes : List Write). reset_writes ++ writes) (append_assoc (allocation_writes config.rxa) link_writes tables))
+
+-- what is written behind the registers of the receive ring
+abbrev behind-receive : Config → List Write
+behind-receive config =
+    (write_at 0x2818 (config.rx - 1) ∷ []) ++ (receive_writes config.promiscuous (names_vlans config.vlans)
+    ++ (ring_writes 0x3800 (16 * config.rx) (16 * config.tx) ++ (transmit_writes ++ mask_writes)))
+
+pub finds-ring : {B : Type 0} (world : B → World) (happened : B → B → Past → Type 0) (b0 b1 b2 b3 : B)
+    (config : Config) (size : ℕ) (image : List ℕ) → CanBeHad config size → 16 * config.rx ≤ length (world b2).memory
+    → IsFound world b0 b1 config.rxa image → SetsFilter world happened b1 b2 config (address_bytes image)
+    → SetsAtRest world happened b2 b3 (ring_writes 0x2800 0 (16 * config.rx)) (HasNewRings config.rx) (HasReceiveRing config.rx)
+    → HasFoundRing world b0 b3 config
+finds-ring world happened b0 b1 b2 b3 config size image had room found filter ring =
+    let old = settings_of (world b0).adapter in
+    let groups = filter.groups in
+    let vlans = filter.vlans in
+    let address = address_bytes image in
+    let words = address_bytes (world b0).adapter.image in
+    let same : address ≡ words = ap address_bytes found.image_is in
+    let receive = ring_writes 0x2800 0 (16 * config.rx) in
+    let set : settings_of (world b2).adapter ≡ settings_after_all (writes_before_rings config address groups vlans) old =
+    filter.sets.settings
+    ∙ ap (settings_after_all (table_writes 0x5200 groups ++ (table_writes 0x5600 vlans ++ address_writes address))) found.settings
+    ∙ filtered config address groups vlans old in
+    let whole = set ∙ before-rings config address groups vlans size old had filter.address_is filter.has_groups.words
+        filter.has_vlans.words filter.groups_are filter.vlans_are in
+    let all = rings-last config address groups vlans filter.has_groups.words filter.has_vlans.words in
+    let tables = table_writes 0x5200 groups ++ (table_writes 0x5600 vlans ++ address_writes address) in
+    let behind = all-right IsAside reset_writes (allocation_writes config.rxa ++ (link_writes ++ tables)) all in
+    let aside = all-right IsAside link_writes tables (all-right IsAside (allocation_writes config.rxa) (link_writes ++ tables) behind) in
+    let rest = (filter.sets.rests aside found.rests).0 in
+    let phy = link-first config address groups vlans filter.has_groups.words filter.has_vlans.words in
+    let rings : HasNewRings config.rx (world b2) = record {
+      rest = rest;
+      receives = new-whole (world b2).adapter.receive_ring (ap (λ (settings : Settings). settings.receive_ring) whole) rest.rings.receive;
+      transmits = new-whole (world b2).adapter.transmit_ring (ap (λ (settings : Settings). settings.transmit_ring) whole)
+          rest.rings.transmit;
+      room = room;
+    } in
+    record {
+      sum = subst HasRightSum found.image_is found.sum_is_right;
+      address = subst IsAddress same filter.address_is;
+      ring = ring.behind_is rings;
+      up = ring.sets.link (all-left LeavesPhy receive (behind-receive config) phy.1) (filter.sets.link phy.0 found.up);
+      groups = groups;
+      vlans = vlans;
+      has_groups = filter.has_groups;
+      has_vlans = filter.has_vlans;
+      groups_are = filter.groups_are;
+      vlans_are = filter.vlans_are;
+      settings =
+          ring.sets.settings ∙ ap (settings_after_all receive) set
+          ∙ sym (settings-append (writes_before_rings config address groups vlans) receive old)
+          ∙ ap (λ (bytes : List ℕ). settings_after_all (writes_before_rings config bytes groups vlans ++ receive) old) same;
+    }
+
+-- The whole.
+
+-- The mask is written behind the transmit side.
+settings-all : (config : Config) (address groups vlans : List ℕ) (s0 s1 s2 s3 s4 s5 : Settings)
+    → s1 ≡ settings_after_all (writes_before_rings config address groups vlans ++ ring_writes 0x2800 0 (16 * config.rx)) s0
+    → s2 ≡ settings_after_all (write_at 0x2818 (config.rx - 1) ∷ []) s1
+    → s3 ≡ settings_after_all (receive_writes config.promiscuous (names_vlans config.vlans)) s2
+    → s4 ≡ settings_after_all (ring_writes 0x3800 (16 * config.rx) (16 * config.tx) ++ transmit_writes) s3
+    → s5 ≡ settings_after_all mask_writes s4
+    → s5 ≡ settings_after_all (all_writes config address groups vlans) s0
+settings-all config address groups vlans s0 s1 s2 s3 s4 s5 one two three four five =
+    let before = writes_before_rings config address groups vlans in
+    let receive = ring_writes 0x2800 0 (16 * config.rx) in
+    let tail = write_at 0x2818 (config.rx - 1) ∷ [] in
+    let passing = receive_writes config.promiscuous (names_vlans config.vlans) in
+    let ring = ring_writes 0x3800 (16 * config.rx) (16 * config.tx) in
+    let after : List Write → Settings → Settings = settings_after_all in
+    five
+    ∙ ap (after mask_writes) four
+    ∙ sym (settings-append (ring ++ transmit_writes) mask_writes s3)
+    ∙ ap (after ((ring ++ transmit_writes) ++ mask_writes)) three
+    ∙ sym (settings-append passing ((ring ++ transmit_writes) ++ mask_writes) s2)
+    ∙ ap (after (passing ++ ((ring ++ transmit_writes) ++ mask_writes))) two
+    ∙ sym (settings-append tail (passing ++ ((ring ++ transmit_writes) ++ mask_writes)) s1)
+    ∙ ap (after (tail ++ (passing ++ ((ring ++ transmit_writes) ++ mask_writes)))) one
+    ∙ sym (settings-append (before ++ receive) (tail ++ (passing ++ ((ring ++ transmit_writes) ++ mask_writes))) s0)
+    ∙ ap (λ (writes : List Write). after writes s0)
+    (append_assoc before receive (tail ++ (passing ++ ((ring ++ transmit_writes) ++ mask_writes)))
+    ∙ ap (λ (writes : List Write). before ++ (receive ++ (tail ++ (passing ++ writes)))) (append_assoc ring transmit_writes mask_writes))
+
+-- The receive slots are offered, and all is quiet still, and the transmit ring new.
+pub stays-quiet : (counts : Counts) (numbers : List ℕ) (d d' : DriverState) (a b : World) (past : Past)
+    → past.accesses ≡ first_accesses counts numbers
+    → GoesTo false d a d' b [] [] past → AreSet a b past → WhileOff a past → IsQuiet d a → a.adapter.transmit_ring ≡ new_ring
+    → IsQuiet d' b × ((b.adapter.transmit_ring ≡ new_ring) × NoFrame past)
+stays-quiet counts numbers d d' a b past only goes set off quiet new =
+    let slot = counts.rx - 1 in
+    let writes = sym (ap writes_in only ∙ first-writes counts numbers) in
+    let still = quiet_stays d d' a b past goes set off (subst (All LeavesReceiver) writes (tail-leaves_receiver slot)) quiet in
+    (still.0, (new_transmit_ring_stays d' a b past goes.flows.ready set
+        (subst (All LeavesTransmitRing) writes (tail-leaves_transmits slot)) new, still.1))
+
+-- The transmit ring is new when frames were let in, too.
+pub new-still : (promiscuous by_vlan : Bool) (d : DriverState) (a b : World) (past : Past)
+    → past.accesses ≡ accesses_of (receive_writes promiscuous by_vlan)
+    → ReadyWith false d b → AreSet a b past → a.adapter.transmit_ring ≡ new_ring → b.adapter.transmit_ring ≡ new_ring
+new-still promiscuous by_vlan d a b past only ready set new =
+    new_transmit_ring_stays d a b past ready set
+    (subst (All LeavesTransmitRing) (sym (ap writes_in only)) (control-leaves_transmits (receive_control promiscuous by_vlan))) new
+
+-- From where frames are let in, up to where the mask is written.
+record Counts-from (d : DriverState) (a b c : World) (first later : Past) : Type 0 where
+  none_put : first.put ++ later.put ≡ []
+  none_to_send : frames_to_send c ≡ []
+  held : frames_held d.oldest_received c ≡ first.stored ++ later.stored
+  missed_most : c.adapter.missed_packets ≤ first.missed + later.missed
+  missed : IsTrue d.exact → c.adapter.missed_packets < greatest_count → c.adapter.missed_packets ≡ first.missed + later.missed
+
+counts-from : {up1 up2 : Bool} (d : DriverState) (a b c : World) (first later : Past) → GoesTo up1 d a d b [] [] first
+    → GoesTo up2 d b d c [] [] later
+    → frames_to_send a ≡ [] → frames_held d.oldest_received a ≡ [] → a.adapter.missed_packets ≡ 0 → Counts-from d a b c first later
+counts-from d a b c first later one two none_to_send none_held none_missed =
+    let out1 = append-empty first.put (frames_to_send b) (one.flows.sends ∙ append-nil (frames_to_send a) ∙ none_to_send) in
+    let out2 = append-empty later.put (frames_to_send c) (two.flows.sends ∙ append-nil (frames_to_send b) ∙ out1.1) in
+    record {
+      none_put = rw (out1.0, out2.0) refl;
+      none_to_send = out2.1;
+      held =
+          two.flows.holds ∙ ap (λ (frames : List (List ℕ)). frames ++ later.stored)
+          (one.flows.holds ∙ ap (λ (frames : List (List ℕ)). frames ++ first.stored) none_held);
+      missed_most = omega (arith, one.flows.at_most, two.flows.at_most, none_missed);
+      missed = λ exact loose.
+          let behind = two.flows.exactly exact loose in
+          let before = one.flows.exactly behind.exact behind.loose in
+          omega (arith, before.sum, behind.sum, none_missed);
+    }
+
+-- frames_held where none was stored
+none-finished : (oldest : ℕ) (world : World) → frames_held oldest world ≡ [] → finished oldest world ≡ []
+none-finished oldest world none = (holds-none oldest world none).none_finished
+
+-- The link stays up.
+link-up : (config : Config) (address groups vlans : List ℕ) → length groups ≡ 128 → length vlans ≡ 128
+    → (w1 w2 w3 w4 w5 : World) (p2 p3 p4 p5 : Past)
+    → writes_in p2.accesses ≡ write_at 0x2818 (config.rx - 1) ∷ []
+        → writes_in p3.accesses ≡ receive_writes config.promiscuous (names_vlans config.vlans)
+    → writes_in p4.accesses ≡ ring_writes 0x3800 (16 * config.rx) (16 * config.tx) ++ transmit_writes → writes_in p5.accesses ≡ mask_writes
+    → KeepsLink w1 w2 p2 → KeepsLink w2 w3 p3 → KeepsLink w3 w4 p4 → KeepsLink w4 w5 p5 → HasLink w1 → HasLink w5
+link-up config address groups vlans groups_whole vlans_whole w1 w2 w3 w4 w5 p2 p3 p4 p5 two three four five keeps2 keeps3 keeps4 keeps5 up =
+    let tail = write_at 0x2818 (config.rx - 1) ∷ [] in
+    let receives = receive_writes config.promiscuous (names_vlans config.vlans) in
+    let ring = ring_writes 0x3800 (16 * config.rx) (16 * config.tx) in
+    let masked = transmit_writes ++ mask_writes in
+    let all = (link-first config address groups vlans groups_whole vlans_whole).1 in
+    let from2 = all-right LeavesPhy (ring_writes 0x2800 0 (16 * config.rx)) (behind-receive config) all in
+    let from3 = all-right LeavesPhy tail (receives ++ (ring ++ masked)) from2 in
+    let from4 = subst (All LeavesPhy) (sym (append_assoc ring transmit_writes mask_writes))
+        (all-right LeavesPhy receives (ring ++ masked) from3) in
+    keeps5 (subst (All LeavesPhy) (sym five) (all-right LeavesPhy (ring ++ transmit_writes) mask_writes from4))
+    (keeps4 (subst (All LeavesPhy) (sym four) (all-left LeavesPhy (ring ++ transmit_writes) mask_writes from4))
+    (keeps3 (subst (All LeavesPhy) (sym three) (all-left LeavesPhy receives (ring ++ masked) from3))
+    (keeps2 (subst (All LeavesPhy) (sym two) (all-left LeavesPhy tail (receives ++ (ring ++ masked)) from2)) up)))
+
+pub initialises : {B : Type 0} (world : B → World) (happened : B → B → Past → Type 0)
+    → ((a b c : B) (first later : Past) → happened a b first → happened b c later → happened a c (joined first later))
+    → (b0 b1 b2 b3 b4 b5 : B) (config : Config) (size : ℕ) (pool numbers : List ℕ) (d : DriverState) (past : Past) → CanBeHad config size
+    → happened b0 b1 past → HasFoundRing world b0 b1 config → length numbers + 1 ≡ config.rx
+        → d ≡ offering (counts_of config) pool numbers d.pool
+    → (first : RanBy false world happened (first_accesses (counts_of config) numbers) b1 b2 (new_driver (counts_of config) pool) d [] [])
+    → IsQuiet d (world b2) → NoFrame first.past
+        → LetsFramesIn world happened (receive_writes config.promiscuous (names_vlans config.vlans)) b2 b3 d
+    → RanBy true world happened (transmit_accesses (counts_of config)) b3 b4 d d [] [] → UnmasksCauses world happened 0xD1 b4 b5 d
+    → Initialises world happened b0 b5 config d
+initialises world happened joins b0 b1 b2 b3 b4 b5 config size pool numbers d past had told found count is first quiet no_frame lets sends
+    masks =
+    let counts = counts_of config in
+    let control = receive_control config.promiscuous (names_vlans config.vlans) in
+    let device = world b0 in
+    let words = address_bytes device.adapter.image in
+    let later = joined sends.past masks.past in
+    let out3 = append-empty lets.ran.past.put (frames_to_send (world b3))
+        (lets.ran.goes.flows.sends ∙ append-nil (frames_to_send (world b2)) ∙ quiet.none_to_send) in
+    let new_missed : d.missed ≡ 0 = ap (λ (s : DriverState). s.missed) is in
+    let none_missed : (world b3).adapter.missed_packets ≡ 0 =
+    omega (arith, first.goes.flows.at_most, lets.ran.goes.flows.at_most, no_frame.none_missed, lets.no_arrival.none_missed,
+        found.ring.rest.none_missed, new_missed) in
+    let from = counts-from d (world b3) (world b4) masks.middle sends.past masks.past sends.goes masks.goes out3.1 lets.none_held
+        none_missed in
+    let held : frames_held d.oldest_received (world b5) ≡ later.stored = masks.unmasked.held ∙ from.held in
+    let exact : IsTrue d.exact = ap (λ (s : DriverState). s.exact) is in
+    let all =
+    settings-all config words found.groups found.vlans (settings_of device.adapter) (settings_of (world b1).adapter)
+        (settings_of (world b2).adapter)
+    (settings_of (world b3).adapter) (settings_of (world b4).adapter) (settings_of (world b5).adapter) found.settings
+    (first.set ∙ ap (λ (writes : List Write). settings_after_all writes (settings_of (world b1).adapter))
+        (ap writes_in first.only ∙ first-writes counts numbers))
+    (lets.ran.set ∙ ap (λ (writes : List Write). settings_after_all writes (settings_of (world b2).adapter)) (ap writes_in lets.ran.only))
+    (sends.set ∙ ap (λ (writes : List Write). settings_after_all writes (settings_of (world b3).adapter))
+        (ap writes_in sends.only ∙ transmit-writes counts))
+    (masks.set ∙ ap (λ (writes : List Write). settings_after_all writes (settings_of (world b4).adapter)) (ap writes_in masks.only)) in
+    let set = writes-configure config words found.groups found.vlans size (settings_of device.adapter) had found.address found.groups_are
+        found.vlans_are found.has_groups found.has_vlans in
+    let start = joined past (joined first.past lets.ran.past) in
+    record {
+      middle = b3;
+      first = start;
+      later = later;
+      told_first = joins b0 b1 b3 past (joined first.past lets.ran.past) told
+          (joins b1 b2 b3 first.past lets.ran.past first.told lets.ran.told);
+      told_later = joins b3 b4 b5 sends.past masks.past sends.told masks.told;
+      control = record {
+        earlier = past.accesses ++ first.past.accesses;
+        whole =
+            ap (λ (last : List Access). past.accesses ++ (first.past.accesses ++ last)) lets.ran.only
+            ∙ sym (append_assoc past.accesses first.past.accesses (Writes 0x0100 control ∷ []));
+      };
+      accesses = rw (sends.only, masks.only, is) refl;
+      ready = masks.ready;
+      work = masks.work (asked-still d (world b3) (world b4) sends.past sends.goes (inl lets.none_finished));
+      held = held;
+      none_put = from.none_put;
+      none_to_send = masks.unmasked.to_send ∙ from.none_to_send;
+      missed_most = omega (arith, from.missed_most, masks.unmasked.missed);
+      missed = λ loose. masks.unmasked.missed ∙ from.missed exact (omega (arith, loose, masks.unmasked.missed));
+      sum = found.sum;
+      image = ap (λ (settings : Settings). settings.image) all ∙ set.1;
+      configured = subst (IsConfigured config words) (sym all) set.0;
+      up = link-up config words found.groups found.vlans found.has_groups.words found.has_vlans.words (world b1) (world b2) (world b3)
+          (world b4) (world b5) first.past lets.ran.past sends.past masks.past
+          (ap writes_in first.only ∙ first-writes counts numbers) (ap writes_in lets.ran.only)
+              (ap writes_in sends.only ∙ transmit-writes counts) (ap writes_in masks.only)
+          first.link lets.ran.link sends.link masks.link found.up;
+      none_finished = λ none. none-finished d.oldest_received (world b5) (held ∙ none);
+      head = λ none.
+          head-first d (world b5) masks.ready (ap (λ (s : DriverState). s.oldest_received) is)
+          (ap (λ (s : DriverState). length s.buffers + 1) is ∙ count ∙ sym (ap (λ (s : DriverState). s.counts.rx) is)) (held ∙ none);
+    }
+
+-- Each buffer has one owner then.
+pub owners-offered : (buffers : ℕ) (counts : Counts) (pool numbers left : List ℕ) → HasOneOwner buffers pool
+    → HaveSameNumbers pool (numbers ++ left)
+    → HasOneOwner buffers (owners (offering counts pool numbers left))
+owners-offered buffers counts pool numbers left owner same k =
+    let d = offering counts pool numbers left in
+    omega (arith, owner k, same k, copies-append k numbers left, owners-count k d)
+
+-- Whether VLANs are named.
+pub vlans-named : (vlans : Option (ArrayVec ℕ 32 (Unit {0}))) → is_some vlans ≡ names_vlans vlans
+vlans-named None = refl
+vlans-named (Some list) = refl

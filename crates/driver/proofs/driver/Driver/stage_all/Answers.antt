@@ -1,0 +1,37 @@
+use Rattle.std.proofs.Common.{◌∷◌, [], refl, ◌∙◌}
+use Rattle.driver.proofs.Refills.{stages-join, stages-none}
+use Rattle.driver.proofs.driver.Driver.stage_all.Goals as goal
+
+pub loop-init : goal.loop-init
+loop-init g c = record {
+  extent = refl;
+  kept = g.met.B.Bus.keeps c.args.bus.now;
+  honest = λ honest. honest;
+  lively = λ lively. lively;
+  stages = record { numbers = []; stages = stages-none g.B.Bus.honest g.B.Bus.world g.B.Bus.happened g.met.B.Bus.stays c.args.bus.now
+      c.args.self.now };
+}
+
+pub loop-preserved : goal.loop-preserved
+loop-preserved g c =
+    let l = c.loop.invariant in
+    let s = c.stage.ensures in
+    let one = c.loop-test.ensures.stages in
+    record {
+      extent = s.extent ∙ l.extent;
+      kept = g.met.B.Bus.keeps_on c.args.bus.now c.loop.bus c.stage.new.bus l.kept s.kept;
+      honest = λ honest. s.honest (l.honest honest);
+      lively = λ lively. s.lively (l.lively lively);
+      stages = record {
+        numbers = _;
+        stages =
+            stages-join g.B.Bus.honest g.B.Bus.world g.B.Bus.happened g.met.B.Bus.joins c.args.bus.now c.loop.bus c.stage.new.bus l.honest
+                c.args.self.now c.loop.self c.stage.new.self
+            l.stages.numbers (one.0 ∷ []) l.stages.stages one.1;
+      };
+    }
+
+pub returns-clause-stages : goal.returns-clause-stages
+returns-clause-stages g c = record
+    { numbers = c.loop.invariant.stages.numbers; stages = rw (c.loop-test.ensures.still, c.loop-test.ensures.stays)
+    c.loop.invariant.stages.stages }

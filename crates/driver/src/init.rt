@@ -1,0 +1,153 @@
+// A driver brings its adapter up.
+
+ghost use Rattle.std.specs.Prelude.{◌≡◌, ◌↔◌, ◌+◌, ◌*◌, ◌≤◌, ◌++◌, ◌∷◌, ◌<◌, ℕ, List, [], Err, false, true, IfErr, IfOk, IsTrue, length};
+ghost use Rattle.dma_memory.specs.Layout.{IsAllowed, size_of};
+ghost use Rattle.dma_memory.specs.Owners.{HasOneOwner};
+ghost use Rattle.adapter.specs.Rings.{new_ring};
+ghost use Rattle.bring_up.specs.Configuration.{CanBeHad, counts_of};
+ghost use Rattle.bring_up.specs.Configured.{names_vlans};
+ghost use Rattle.bring_up.specs.Device.{IsBeforeAccess};
+ghost use Rattle.bring_up.specs.declared.init_error.InitError.TheVariants as InitError;
+ghost use Rattle.driver_law.specs.Beginnings.{new_driver};
+ghost use Rattle.driver_law.specs.DriverState.{DriverState, owners};
+ghost use Rattle.driver_law.specs.Goes.{IsRefilled, RanBy};
+ghost use Rattle.driver_law.specs.Ready.{ReadyWith};
+ghost use Rattle.driver.specs.Initialises.{FindsRing, Initialises, OffersFirst, Refuses, transmit_accesses};
+
+use crate::Driver;
+use crate::refill::receive_slot;
+use bring_up::{
+    Config, InitError, RingPlace, clear_descriptor, clear_descriptors, enable_receiver,
+    enable_transmitter, find_device, set_filter, set_receive_ring, set_transmit_ring,
+    unmask_interrupts,
+};
+use bus::Bus;
+use circular_buffer::HeapCircularBuffer;
+use dma_memory::{DESCRIPTOR_BYTES, Layout, Pool};
+use std::alloc::{AllocError, Global};
+
+/// Finds the device, and sets up its receive filter and its receive ring, with no slot offered.
+///
+/// # Errors
+///
+/// Those of [`find_device`].
+fn find_ring<B: Bus>(bus: &mut B, config: &Config, layout: Layout) -> Result<(), InitError>
+    requires counts { layout ≡ counts_of config.now }
+    requires had { CanBeHad config.now (B.extent bus.old) }
+    ensures extent { B.extent bus.new ≡ B.extent bus.old }
+    ensures kept { B.kept bus.old bus.new }
+    ensures honest { B.honest bus.old → B.honest bus.new }
+    ensures lively { B.lively bus.old → B.lively bus.new }
+    ensures errors { IfErr result (λ error. ¬ (IsBeforeAccess error)) }
+    ensures finds { B.honest bus.old → FindsRing B.world B.happened B.lively bus.old bus.new config.now result }
+{
+    let image = find_device(bus, config.rxa)?;
+    set_filter(bus, config, &image.address());
+    set_receive_ring(bus, place_of(layout.receive_ring(), layout.rx()));
+    Ok(())
+}
+
+/// Where a ring of so many slots stands, from an address on.
+fn place_of(base: u64, slots: u16) -> RingPlace
+    ensures { result ≡ record { base = base; bytes = 16 * slots } }
+{
+    RingPlace {
+        base,
+        bytes: DESCRIPTOR_BYTES as u32 * u32::from(slots),
+    }
+}
+
+/// Clears the descriptors of the transmit ring, sets it up with no slot offered, and lets frames leave.
+fn set_up_transmitter<B: Bus>(bus: &mut B, layout: Layout)
+    requires allowed { IsAllowed layout }
+    requires memory { size_of layout ≤ B.extent bus.old }
+    ensures extent { B.extent bus.new ≡ B.extent bus.old }
+    ensures kept { B.kept bus.old bus.new }
+    ensures honest { B.honest bus.old → B.honest bus.new }
+    ensures lively { B.lively bus.old → B.lively bus.new }
+    ensures ran { (d : DriverState) → B.honest bus.old → ReadyWith false d (B.world bus.old) → d.counts ≡ layout
+        → d.oldest_sent ≡ 0 → d.sending ≡ 0 → (B.world bus.old).adapter.transmit_ring ≡ new_ring
+        → RanBy true B.world B.happened (transmit_accesses layout) bus.old bus.new d d [] [] }
+{
+    let ring = layout.transmit_ring();
+    clear_descriptors(bus, ring, layout.tx());
+    set_transmit_ring(bus, place_of(ring, layout.tx()));
+    enable_transmitter(bus);
+}
+
+impl Driver {
+    /// A driver that has offered nothing, with all buffers in its pool.
+    fn new(alloc: Global, layout: Layout) -> Result<Driver, AllocError>
+        ensures new { IfOk result (λ driver. driver ≡ new_driver layout driver.pool) }
+        ensures one_owner { IfOk result (λ driver. HasOneOwner layout.buffers driver.pool) }
+    {
+        Ok(Driver {
+            layout,
+            oldest_received: 0,
+            next_received: 0,
+            buffers: HeapCircularBuffer::with_capacity(alloc, usize::from(layout.rx()))?,
+            staged: 0,
+            pool: Pool::new(alloc, layout.buffers())?,
+            oldest_sent: 0,
+            next_sent: 0,
+            sending: 0,
+            missed: 0,
+            exact: true,
+            bad: 0,
+        })
+    }
+
+    /// Offers all receive slots but the last, whose descriptor it clears.
+    fn offer_first<B: Bus>(&mut self, bus: &mut B)
+        requires memory { size_of self.old.counts ≤ B.extent bus.old }
+        requires new { self.old ≡ new_driver self.old.counts self.old.pool }
+        requires one_owner { HasOneOwner self.old.counts.buffers self.old.pool }
+        requires enough { self.old.counts.rx ≤ self.old.counts.buffers }
+        ensures extent { B.extent bus.new ≡ B.extent bus.old }
+        ensures kept { B.kept bus.old bus.new }
+        ensures honest { B.honest bus.old → B.honest bus.new }
+        ensures lively { B.lively bus.old → B.lively bus.new }
+        ensures offers { OffersFirst B.honest B.world B.happened bus.old bus.new self.old self.new }
+    {
+        self.stage_all(bus);
+        clear_descriptor(bus, receive_slot(self.layout.rx() - 1));
+        self.offer(bus);
+    }
+
+    /// Resets the adapter and brings it up, as `config` says: its EEPROM is read, its link awaited, its
+    /// filter, both rings and its interrupts set up. Frames come from the write of RCTL on.
+    ///
+    /// All memory that the driver ever needs is taken here. Where it is refused, or the configuration can't
+    /// be had, there is no access. Behind each error the call may be made again.
+    ///
+    /// # Errors
+    ///
+    /// [`Config`](InitError::Config), else [`Memory`](InitError::Memory), else those of [`find_device`].
+    pub fn init<B: Bus>(alloc: Global, bus: &mut B, config: &Config) -> Result<Driver, InitError>
+        ensures extent { B.extent bus.new ≡ B.extent bus.old }
+        ensures kept { B.kept bus.old bus.new }
+        ensures honest { B.honest bus.old → B.honest bus.new }
+        ensures lively { B.lively bus.old → B.lively bus.new }
+
+        // What it does over any bus.
+        ensures config { (result ≡ Err InitError.Config) ↔ ¬ CanBeHad config.now (B.extent bus.old) }
+        ensures unasked { IfErr result (λ error. IsBeforeAccess error → bus.new ≡ bus.old) }
+        ensures counts { IfOk result (λ driver. driver.counts ≡ counts_of config.now) }
+        ensures one_owner { IfOk result (λ driver. HasOneOwner driver.counts.buffers (owners driver)) }
+        ensures refilled { IfOk result IsRefilled }
+
+        // And over one that obeys the law.
+        ensures initialises { B.honest bus.old
+            → IfOk result (Initialises B.world B.happened bus.old bus.new config.now) }
+        ensures refuses { B.honest bus.old → IfErr result (Refuses B.world B.happened B.lively bus.old bus.new) }
+    {
+        let layout = config.layout(bus.size())?;
+        let mut driver = Driver::new(alloc, layout)?;
+        find_ring(bus, config, layout)?;
+        driver.offer_first(bus);
+        enable_receiver(bus, config.promiscuous, config.vlans.is_some());
+        set_up_transmitter(bus, layout);
+        unmask_interrupts(bus);
+        Ok(driver)
+    }
+}
