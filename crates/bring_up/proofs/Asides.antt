@@ -1,10 +1,10 @@
 -- Writes that leave an adapter at rest, and a reset, behind which it is.
-use Rattle.std.proofs.Common.{◌≡◌, ◌∷◌, [], ℕ, Option, Some, sym, ap, subst, ◌∙◌}
+use Rattle.std.proofs.Common.{◌≡◌, ◌∷◌, [], ℕ, Option, Some, refl, sym, ap, subst, ◌∙◌}
 use Rattle.std.specs.List.{All}
 use Rattle.std.proofs.lemmas.List.Elements.{All-cons}
-use Rattle.adapter.specs.Table.{IsInTable, row_of}
+use Rattle.adapter.specs.Table.{IsInTable, register_at, row_of}
 use Rattle.adapter.specs.TableLaws.{register_at-there}
-use Rattle.adapter.specs.World.{World, world_after_write}
+use Rattle.adapter.specs.World.{World, world_after_read, world_after_write}
 use Rattle.adapter.specs.declared.register.Register.{Register}
 use Rattle.adapter.specs.declared.register.Register.TheVariants.{Ctrl, Imc, Pba}
 use Rattle.adapter.specs.Registers.{after_reset, left_by_write}
@@ -34,3 +34,8 @@ reset-rests value before after is written =
     let resets : world_after_write 0x0000 0x04000000 before ≡ record before { adapter = after_reset before.adapter } =
     ap (λ (found : Option Register). let w : World = record before { adapter = left_by_write found 0x04000000 before.adapter } in w) (register_at-there Ctrl tt) in
     subst IsAtRest (sym (written ∙ ap (λ (v : ℕ). world_after_write 0x0000 v before) is ∙ resets)) (rest_after_reset before)
+
+-- A read of ICR leaves no cause recorded.
+pub read-forgets : (world : World) → (world_after_read 0x00C0 world).adapter.causes.recorded ≡ 0
+unfolding register_at
+read-forgets world = refl

@@ -22,6 +22,7 @@ pub fn reset_device<B: Bus>(bus: &mut B)
     ensures lively { B.lively bus.old → B.lively bus.new }
     ensures sets { B.honest bus.old → Sets B.world B.happened bus.old bus.new reset_writes }
     ensures rests { B.honest bus.old → IsAtRest (B.world bus.new) }
+    ensures forgets { B.honest bus.old → (B.world bus.new).adapter.causes.recorded ≡ 0 }
 {
     bus.write(CTRL, Ctrl::RST.bits());
     bus.write(IMC, u32::MAX);

@@ -1,5 +1,5 @@
--- What a driver does to bring its adapter up ("14.3 General Initialization", "14.4 Receive Initialization", "14.5 Transmit Initialization"; the
--- order is own).
+-- What a driver does to bring its adapter up ("14.3 General Initialization", "14.4 Receive Initialization", "14.5 Transmit
+-- Initialization"; the order is own).
 use Rattle.std.specs.Prelude.{◌≡◌, ◌≤◌, ◌<◌, ◌+◌, ◌-◌, ◌*◌, ◌++◌, ℕ, false, List, [], ◌∷◌, Result, IfErr, IfOk, length}
 use Rattle.registers.specs.Counting.{greatest_count}
 use Rattle.dma_memory.specs.Layout.{Counts}

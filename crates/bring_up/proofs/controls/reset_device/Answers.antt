@@ -1,5 +1,7 @@
+use Rattle.std.proofs.Common.{ap, ◌∙◌}
+use Rattle.adapter.specs.World.{World}
 use Rattle.bus.proofs.Lists.{all-none}
-use Rattle.bring_up.proofs.Asides.{mask-aside, reset-rests}
+use Rattle.bring_up.proofs.Asides.{mask-aside, read-forgets, reset-rests}
 use Rattle.bring_up.specs.Sets.{IsAside}
 use Rattle.bring_up.proofs.Steps.{sets-join, sets-read, sets-word, sets-write}
 use Rattle.bring_up.proofs.controls.reset_device.Goals as goal
@@ -28,3 +30,9 @@ returns-clause-rests g c honest =
     let reset = reset-rests c.bits.result first.middle (world c.write.new.self) (c.bits.ensures tt) first.effect_is in
     let masked = (sets-write world happened lively c.write.new.self c.write-2.new.self 0x00D8 0xFFFFFFFF (c.write-2.ensures.acts still)).rests mask-aside reset in
     ((sets-read world happened lively c.write-2.new.self c.read.new.self 0x00C0 c.read.result _ (c.read.ensures.acts (c.write-2.ensures.honest still))).rests (all-none IsAside) masked.0).0
+
+pub returns-clause-forgets : goal.returns-clause-forgets
+returns-clause-forgets g c honest =
+    let still = c.write-2.ensures.honest (c.write.ensures.honest honest) in
+    ap (λ (w : World). w.adapter.causes.recorded) (c.read.ensures.acts still).effect_is.1
+    ∙ read-forgets (c.read.ensures.acts still).middle
