@@ -24,3 +24,4 @@ pub mod InitialStores
 pub mod RegisterWrites
 pub mod Waits
 pub mod RegisterAccesses
+pub mod FramesCounted

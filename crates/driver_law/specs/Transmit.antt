@@ -7,6 +7,7 @@ use Rattle.descriptors.specs.Frames.{padded}
 use Rattle.descriptors.specs.Ring.{slots_from}
 use Rattle.descriptors.specs.TxDesc.{tx_desc_bytes}
 use Rattle.descriptors.specs.TxFields.{command_of, sent_of}
+use Rattle.adapter.specs.HostFrames.{frames_to_send}
 use Rattle.adapter.specs.Slots.{is_done, written_back}
 use Rattle.adapter.specs.World.{World, transmit_ring, world_after_store, world_after_write}
 use Rattle.bus.specs.Law.{Happens}
@@ -115,6 +116,15 @@ abbrev pub NoneIsWrittenBack : Type 0
 NoneIsWrittenBack =
     (driver : DriverState) (world : World) → Ready driver world
     → (driver.sending ≡ 0) ⊎ (is_done world.memory (oldest_slot driver) ≡ false) → written_back driver.oldest_sent world ≡ []
+
+-- Each outstanding slot has a frame that is still to be sent, or is written back; and one slot at least isn't outstanding. So never more
+-- frames are to be sent than the ring has slots less one.
+pub record HasFrames (driver : DriverState) (world : World) : Type 0 where
+  pub count : length (frames_to_send world) + length (written_back driver.oldest_sent world) ≡ driver.sending
+  pub most : length (frames_to_send world) + 1 ≤ driver.counts.tx
+
+abbrev pub SlotsHaveFrames : Type 0
+SlotsHaveFrames = (driver : DriverState) (world : World) → Ready driver world → HasFrames driver world
 
 -- Over a bus.
 

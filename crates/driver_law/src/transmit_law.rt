@@ -1,6 +1,6 @@
 // Laws of a driver's transmit side.
 
-ghost use Rattle.driver_law.specs.Transmit.{DataIsStored, DescriptorIsStored, FrameIsOffered, NextSlotIsOwn, NoneIsWrittenBack, SendsEndWithTail, SlotIsFreed, SlotsKeepBytes, TailIsMoved};
+ghost use Rattle.driver_law.specs.Transmit.{DataIsStored, DescriptorIsStored, FrameIsOffered, NextSlotIsOwn, NoneIsWrittenBack, SendsEndWithTail, SlotIsFreed, SlotsHaveFrames, SlotsKeepBytes, TailIsMoved};
 
 /// A driver stores what it likes into the buffer and the descriptor of a transmit slot that isn't
 /// outstanding, as the one at the tail is, and both stay whatever happens.
@@ -19,8 +19,11 @@ pub fn frames_are_offered()
     ensures accesses { SendsEndWithTail }
 {}
 
-/// A driver frees its oldest transmit slot where its descriptor is done; else none is written back.
+/// A driver frees its oldest transmit slot where its descriptor is done; else none is written back. Each
+/// outstanding slot has a frame that is still to be sent, or is written back, and one slot at least isn't
+/// outstanding.
 pub fn slots_are_freed()
     ensures done { SlotIsFreed }
     ensures waits { NoneIsWrittenBack }
+    ensures frames { SlotsHaveFrames }
 {}
