@@ -86,6 +86,7 @@ works {up} world happened took joins a b c e r s d1 d2 d3 d4 misses n held follo
       rest = d3.buffers;
       offered = xs;
       told = takes.told;
+      part = takes.part;
       count = takes.count;
       oldest = oldest;
       newest = refills.offered ∙ ap (λ (d : DriverState). d3.buffers ++ (d.staged ++ xs)) same;

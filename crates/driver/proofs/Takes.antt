@@ -23,7 +23,7 @@ use Rattle.driver_law.specs.Goes.{RanBy}
 use Rattle.driver_law.specs.OldestSlot.{TakesOldest}
 use Rattle.driver_law.specs.Ready.{ReadyWith, Stands}
 use Rattle.driver_law.specs.ReceiveSteps.{behind_oldest}
-use Rattle.driver.specs.Takes.{GrowsBy, HandsOn, HandsOver, IsFrameSize, ShowsAll, Takes, buffers_of, received_of}
+use Rattle.driver.specs.Takes.{GrowsBy, IsPart, part_none, part_with, part_without, HandsOn, HandsOver, IsFrameSize, ShowsAll, Takes, buffers_of, received_of}
 use Rattle.driver.specs.declared.receiver.Received.{Received}
 
 -- So many slots were taken, and their frames shown to the receiver.
@@ -45,6 +45,7 @@ walks-none honest world happened took stays waits b r d = record {
     taken = [];
     handed_out = [];
     told = waits r;
+    part = part_none;
     count = refl;
     oldest = refl;
     bad = refl;
@@ -55,19 +56,26 @@ walks-none honest world happened took stays waits b r d = record {
 -- One slot more: what is taken from d2 to d3, and what the receiver's answer leaves, d4.
 
 -- What the receiver kept, as what is handed out.
-record IsKept (P : HandedOut → Type 0) (held : List HandedOut) (kept : List Received) : Type 0 where
+record IsKept (P : HandedOut → Type 0) (held : List HandedOut) (one : HandedOut) (kept : List Received) : Type 0 where
   entries : List HandedOut
   told : map received_of entries ≡ kept
+  part : IsPart entries (one ∷ [])
   numbers : numbers_of entries ≡ buffers_of kept
   stand : All P (held ++ entries)
 
-is-kept : (P : HandedOut → Type 0) (held : List HandedOut) (one : HandedOut) (received : Received) (kept : List Received) → received_of one ≡ received → (kept ≡ []) ⊎ (kept ≡ received ∷ []) → All P (held ++ one ∷ []) → IsKept P held kept
+is-kept : (P : HandedOut → Type 0) (held : List HandedOut) (one : HandedOut) (received : Received) (kept : List Received) → received_of one ≡ received → (kept ≡ []) ⊎ (kept ≡ received ∷ []) → All P (held ++ one ∷ []) → IsKept P held one kept
 is-kept P held one received kept is whether stand =
     ⊎_elim
-    (λ (none : kept ≡ []). subst (IsKept P held) (sym none) (record { entries = []; told = refl; numbers = refl; stand = subst (All P) (sym (append-nil held)) (all-left P held (one ∷ []) stand) }))
+    (λ (none : kept ≡ []). subst (IsKept P held one) (sym none) (record { entries = []; told = refl; part = part_without part_none; numbers = refl; stand = subst (All P) (sym (append-nil held)) (all-left P held (one ∷ []) stand) }))
     (λ (some : kept ≡ received ∷ []).
-    subst (IsKept P held) (ap (λ (r : Received). r ∷ []) is ∙ sym some) (record { entries = one ∷ []; told = refl; numbers = refl; stand = stand }))
+    subst (IsKept P held one) (ap (λ (r : Received). r ∷ []) is ∙ sym some) (record { entries = one ∷ []; told = refl; part = part_with part_none; numbers = refl; stand = stand }))
     whether
+
+-- Parts of two lists, one behind the other.
+part-append : {some all later more : List HandedOut} → IsPart some all → IsPart later more → IsPart (some ++ later) (all ++ more)
+part-append part_none behind = behind
+part-append (part_with first) behind = part_with (part-append first behind)
+part-append (part_without first) behind = part_without (part-append first behind)
 
 -- Two counts of bad slots, one behind the other.
 grows : (a b c m n : ℕ) → GrowsBy a b m → GrowsBy b c n → GrowsBy a c (m + n)
@@ -187,6 +195,7 @@ takes-next {up} world happened took stays joins also a b c e r s t d1 d2 d3 d4 n
           subst (λ (list : List Received). took r t list (map received_of (before.handed_out ++ kept.entries))) shown
           (subst (λ (list : List Received). took r t (map received_of before.taken ++ received_of one ∷ []) list) has
           (also r s t (map received_of before.taken) (map received_of before.handed_out) (received_of one ∷ []) hands.shows.kept before.told hands.shows.told));
+      part = part-append before.part kept.part;
       count = omega (arith, length-append before.taken (one ∷ []), before.count);
       oldest =
           before.oldest
@@ -241,6 +250,7 @@ walks-look world happened took joins ys a b c r s d d' n takes looks =
       taken = takes.taken;
       handed_out = takes.handed_out;
       told = takes.told;
+      part = takes.part;
       count = takes.count;
       oldest = takes.oldest;
       bad = takes.bad;

@@ -11,7 +11,7 @@ use Rattle.driver_law.specs.Accesses.{last_load, stores_from, tail_write, takes_
 use Rattle.driver_law.specs.DriverState.{DriverState, HandedOut, holding, next_received, numbers_of}
 use Rattle.driver_law.specs.Goes.{FlowsTo, HasNoForgottenWork, RanBy}
 use Rattle.driver_law.specs.Readings.{ReadsCauses, with_missed}
-use Rattle.driver.specs.Takes.{received_of}
+use Rattle.driver.specs.Takes.{IsPart, received_of}
 use Rattle.driver.specs.declared.interrupt.Handled.{Handled}
 use Rattle.driver.specs.declared.interrupt.Handled.TheVariants.{NotMine}
 use Rattle.driver.specs.declared.interrupt.Handled.TheVariants as answers
@@ -39,7 +39,7 @@ handled_accesses d misses taken rest offered last =
     (takes_from d.counts d.oldest_received taken ++ last_load (place d.counts.rx d.oldest_received (length taken)) rest)
     ++ (stores_from d.counts (next_received d) offered ++ tail_write last (d.staged ++ offered))
 
--- So many slots are taken, and their frames shown to the receiver, who has those that are handed out then.
+-- So many slots are taken, and their frames shown to the receiver, who has those of them that are handed out then.
 pub record Works (up : Bool) {B R : Type 0} (world : B → World) (happened : B → B → Past → Type 0)
     (took : R → R → List Received → List Received → Type 0) (old new : B) (before after : R) (d d' : DriverState) (n : ℕ) : Type 0 where
   pub misses : ℕ
@@ -48,6 +48,7 @@ pub record Works (up : Bool) {B R : Type 0} (world : B → World) (happened : B 
   pub rest : List ℕ
   pub offered : List ℕ
   pub told : took before after (map received_of taken) (map received_of handed_out)
+  pub part : IsPart handed_out taken
   pub count : length taken ≡ n
   pub oldest : d.buffers ≡ numbers_of taken ++ rest
   pub newest : d'.buffers ≡ rest ++ (d.staged ++ offered)

@@ -19,6 +19,12 @@ received_of one = record { buffer = one.number; length = length one.frame; ether
 abbrev pub buffers_of : List Received → List ℕ
 buffers_of list = map (λ (received : Received). received.buffer) list
 
+-- Some of a list, in the same order.
+pub data IsPart : List HandedOut → List HandedOut → Type 0 where
+  part_none : IsPart [] []
+  part_with : {one : HandedOut} {some all : List HandedOut} → IsPart some all → IsPart (one ∷ some) (one ∷ all)
+  part_without : {one : HandedOut} {some all : List HandedOut} → IsPart some all → IsPart some (one ∷ all)
+
 -- A legal frame has so many bytes.
 pub record IsFrameSize (size : ℕ) : Type 0 where
   pub least : 60 ≤ size
@@ -72,14 +78,15 @@ pub record ShowsAll {R : Type 0} (took : R → R → List Received → List Rece
   pub bad : GrowsBy d.bad d'.bad (n - length shown)
   pub buffers : HaveSameNumbers (owners d) (owners d' ++ buffers_of kept)
 
--- So many frames were taken off the ring, the oldest first, and all shown to the receiver, who has those that are handed out then. Some
--- accesses follow.
+-- So many frames were taken off the ring, the oldest first, and all shown to the receiver, who has those of them that are handed out then.
+-- Some accesses follow.
 pub record Takes (up : Bool) {B R : Type 0} (world : B → World) (happened : B → B → Past → Type 0)
     (took : R → R → List Received → List Received → Type 0) (later : List Access) (old new : B) (before after : R) (d d' : DriverState)
     (n : ℕ) : Type 0 where
   pub taken : List HandedOut
   pub handed_out : List HandedOut
   pub told : took before after (map received_of taken) (map received_of handed_out)
+  pub part : IsPart handed_out taken
   pub count : length taken ≡ n
   pub oldest : d.buffers ≡ numbers_of taken ++ d'.buffers
   pub bad : d'.bad ≡ d.bad
