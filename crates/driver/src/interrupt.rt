@@ -76,6 +76,8 @@ impl Driver {
         // What it does to its slots and buffers, over any bus.
         ensures stays { OnNotMine result (self.new ≡ self.old) }
         ensures unasked { OnNotMine result (receiver.new ≡ receiver.old) }
+        ensures counts { self.new.counts ≡ self.old.counts }
+        ensures sends { (self.new.oldest_sent ≡ self.old.oldest_sent) × (self.new.sending ≡ self.old.sending) }
         ensures refilled { OnTaken result (λ taken. IsRefilled self.new) }
         ensures shows { OnTaken result (λ taken. ShowsAll R.took receiver.old receiver.new self.old self.new taken) }
         ensures one_owner { OnTaken result (λ taken. HasNoSecondOwner self.new.counts.buffers (owners self.new)) }
