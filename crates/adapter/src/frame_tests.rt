@@ -1,10 +1,10 @@
 //! Frames through both engines: worked examples.
 
+use crate::fixtures::{Host, RESET, check, check_bytes, check_step, new_host};
 use crate::offsets::*;
-use crate::{Adapter, Fate, StepKind, Stepped};
+use crate::{Fate, StepKind, Stepped};
 use descriptors::Frame;
-use dma_memory::{HostMemory, Layout};
-use eeprom::Image;
+use dma_memory::Layout;
 use mdic_phy::Link;
 use std::alloc::Global;
 use std::process::Abort;
@@ -15,9 +15,6 @@ const RECEIVE: u32 = 0x0000_8002;
 
 /// TCTL with EN and PSP.
 const TRANSMIT: u32 = 0x0000_000A;
-
-/// CTRL with RST.
-const RESET: u32 = 0x0400_0000;
 
 /// A frame that every receiver with BAM accepts.
 const BROADCAST: [u8; 60] = [0xFF; 60];
@@ -36,25 +33,15 @@ const TO_SEND: [u8; 32] = [
     0, 0, 0x03, 0, 0, 0, 0,
 ];
 
-/// A host.
-#[derive(Drop)]
-struct Host {
-    adapter: Adapter,
-    memory: HostMemory,
-}
-
 /// A host whose adapter is new, with a memory for rings of 8 and 16 receive buffers.
-fn new_host(alloc: Global) -> Result<Host, Fail> {
-    let image = Image::with_address([0x02, 0, 0, 0, 0, 0x01]);
+fn new_ring_host(alloc: Global) -> Result<Host, Fail> {
     let layout = Layout::of(8, 8, 16)?;
-    let memory = HostMemory::new(alloc, layout.size())?;
-    let adapter = Adapter::new(alloc, &image, Link::Never)?;
-    Ok(Host { adapter, memory })
+    Ok(new_host(alloc, Link::Never, layout.size())?)
 }
 
 /// A host with a receive ring of 8 descriptors, 7 of which are offered.
 fn new_receiver(alloc: Global) -> Result<Host, Fail> {
-    let mut host = new_host(alloc)?;
+    let mut host = new_ring_host(alloc)?;
     for slot in 0..8u8 {
         let place = 16 * u64::from(slot);
         let _ = host.memory.store(place, &[0x00, 0x48 + 8 * slot]);
@@ -70,26 +57,9 @@ fn offer(host: &mut Host) {
     host.adapter.write(RCTL, RECEIVE);
 }
 
-/// Asserts what a register reads.
-fn check(rt: &impl Abort, host: &mut Host, offset: u32, want: u32) {
-    let answer = host.adapter.read(offset);
-    assert_eq!(rt; answer, want, "at {offset:#06X}");
-}
-
-/// Asserts bytes of memory.
-fn check_bytes(rt: &impl Abort, host: &Host, address: u64, want: &[u8]) {
-    assert_eq!(rt; host.memory.view(address, want.len()), Ok(want));
-}
-
 /// Asserts the fate of a frame.
 fn check_fate(rt: &impl Abort, host: &mut Host, frame: &[u8], want: Fate) {
     assert_eq!(rt; host.adapter.arrive(frame), want);
-}
-
-/// Asserts what a step answers.
-fn check_step(rt: &impl Abort, host: &mut Host, kind: StepKind, want: Stepped) {
-    let answer = host.adapter.step(kind, &mut host.memory, true);
-    assert_eq!(rt; answer, want);
 }
 
 /// Takes a broadcast frame as far as its finished descriptor.
@@ -101,7 +71,7 @@ fn receive(rt: &impl Abort, host: &mut Host) {
 
 #[test]
 fn misses_are_counted(rt: HostRuntime) -> Result<(), Fail> {
-    let mut host = new_host(rt.alloc())?;
+    let mut host = new_ring_host(rt.alloc())?;
     host.adapter.write(PBA, 2);
     host.adapter.write(RCTL, RECEIVE);
     check_fate(&rt, &mut host, &BROADCAST, Fate::Stored);
@@ -116,7 +86,7 @@ fn misses_are_counted(rt: HostRuntime) -> Result<(), Fail> {
 
 #[test]
 fn fates_without_a_trace(rt: HostRuntime) -> Result<(), Fail> {
-    let mut host = new_host(rt.alloc())?;
+    let mut host = new_ring_host(rt.alloc())?;
     check_fate(&rt, &mut host, &BROADCAST, Fate::Off);
     host.adapter.write(RCTL, RECEIVE);
     check_fate(&rt, &mut host, &[0xFF; 59], Fate::Illegal);
@@ -186,7 +156,7 @@ fn a_missing_descriptor_is_no_miss(rt: HostRuntime) -> Result<(), Fail> {
 
 /// A host with two frames of 14 bytes in its transmit ring.
 fn new_sender(alloc: Global) -> Result<Host, Fail> {
-    let mut host = new_host(alloc)?;
+    let mut host = new_ring_host(alloc)?;
     let _ = host.memory.store(TRANSMIT_RING, &TO_SEND);
     for buffer in TRANSMIT_BUFFERS {
         let _ = host.memory.store(buffer, &[0xA5; 60]);
@@ -241,7 +211,7 @@ fn frames_are_put(rt: HostRuntime) -> Result<(), Fail> {
 
 #[test]
 fn a_fault_stops_reception(rt: HostRuntime) -> Result<(), Fail> {
-    let mut host = new_host(rt.alloc())?;
+    let mut host = new_ring_host(rt.alloc())?;
     host.adapter.write(RCTL, RECEIVE);
     host.adapter.write(RDLEN, 100);
     host.adapter.write(RDT, 1);

@@ -27,6 +27,10 @@ pub use rx_engine::Fate;
 pub use step::{StepKind, Stepped};
 
 #[cfg(test)]
+mod fixtures;
+#[cfg(test)]
 mod frame_tests;
+#[cfg(test)]
+mod readme;
 #[cfg(test)]
 mod tests;

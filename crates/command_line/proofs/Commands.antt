@@ -16,7 +16,7 @@ use Rattle.clap.specs.Values.{kind_of}
 use Rattle.clap.specs.declared.error.Error.{Error}
 use Rattle.command_line.specs.Errors.{IsMadeOf, IsRefusedBy}
 use Rattle.command_line.specs.declared.error.LineError.{LineError}
-use Rattle.command_line.specs.declared.error.LineError.TheVariants.{Memory, Value, Words}
+use Rattle.command_line.specs.declared.error.LineError.TheVariants.{Memory, NotUnicode, Value, Words}
 use Rattle.clap.specs.Takes.{is_given}
 use Rattle.clap.specs.Walk.{Row, Text, answers_to, nothing_held, rows_after, rows_of, walk}
 use Rattle.clap.specs.Matches.{found_of, subcommand_name_of}
@@ -149,6 +149,7 @@ found_is a words e = ap (λ (x : App). subcommand_of x words) e
 pub refused_by : (kinds : Kinds) (error : Error) (made : LineError) → HasKind kinds error → IsMadeOf error made → IsRefusedBy kinds made
 refused_by kinds error Memory h m = tt
 refused_by kinds error (Value value) h m = absurd m
+refused_by kinds error NotUnicode h m = absurd m
 refused_by kinds error (Words same) h m =
     elim h [
       | inl memory ↦ absurd (m.1 memory)

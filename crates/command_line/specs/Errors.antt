@@ -7,11 +7,12 @@ use Rattle.clap.specs.declared.error.Error.{Error}
 use Rattle.clap.specs.declared.error.kind.ErrorKind.TheVariants.{OutOfMemory}
 use Rattle.command_line.specs.declared.error.InvalidValue.{InvalidValue}
 use Rattle.command_line.specs.declared.error.LineError.{LineError}
-use Rattle.command_line.specs.declared.error.LineError.TheVariants.{Words, Value, Memory}
+use Rattle.command_line.specs.declared.error.LineError.TheVariants.{Words, Value, NotUnicode, Memory}
 
 abbrev pub status_of : LineError → ℕ
 status_of (Words error) = 2
 status_of (Value value) = 2
+status_of NotUnicode = 2
 status_of Memory = 4
 
 -- what clap's error becomes
@@ -19,6 +20,7 @@ abbrev pub IsMadeOf : Error → LineError → Type 0
 IsMadeOf error Memory = kind_of error ≡ OutOfMemory
 IsMadeOf error (Words same) = (same ≡ error) × (kind_of error ≢ OutOfMemory)
 IsMadeOf error (Value value) = ⊥
+IsMadeOf error NotUnicode = ⊥
 
 -- a fact of clap's error, where the words were refused
 abbrev pub IfWords : LineError → (Error → Type 0) → Type 0
@@ -38,4 +40,5 @@ IsRefusalOf words error = IsAmong (kind_of error) (refusals words)
 abbrev pub IsRefusedBy : Kinds → LineError → Type 0
 IsRefusedBy kinds (Words error) = IsAmong (kind_of error) kinds
 IsRefusedBy kinds (Value value) = ⊥
+IsRefusedBy kinds NotUnicode = ⊥
 IsRefusedBy kinds Memory = ⊤

@@ -6,21 +6,35 @@ ghost use Rattle.command_line.specs.declared.error.LineError.TheVariants.{Memory
 use crate::PassOption;
 use clap::error::ErrorKind;
 use std::alloc::AllocError;
-use std::{error, fmt};
+use std::fmt;
+use thiserror::Error;
 
 /// Why words were refused.
 ///
-/// The `Display` of `Words` and `Value` is the whole text for standard error, its last line feed
-/// included. That of `Memory` is the code and name that follow `nicbench: ` there.
-#[derive(Debug, Drop)]
+/// The text of `Memory` is the code and name that follow `nicbench: ` on standard error. That of
+/// the others is the whole text for it, its last line feed included.
+#[derive(Debug, Drop, Error)]
 pub enum LineError<'a> {
     /// clap refused the words, or was asked for help: its text is clap's.
+    #[error("{0}")]
     Words(clap::Error),
     /// clap took the words, and the value of an option isn't of its form.
+    #[error("{0}")]
     Value(InvalidValue<'a>),
+    /// A word isn't UTF-8. Told by who takes the words from the system, never by [`line`](crate::line).
+    #[error("{NOT_UNICODE}")]
+    NotUnicode,
     /// E57: memory was refused.
+    #[error("E57 Memory")]
     Memory,
 }
+
+const NOT_UNICODE: &str = "error: invalid UTF-8 was detected in one or more arguments
+
+Usage: nicbench <COMMAND>
+
+For more information, try '--help'.
+";
 
 /// A value that isn't of its option's form.
 #[derive(Clone, Copy, Debug, PartialEq, Eq)]
@@ -36,12 +50,12 @@ const REFUSED_WORDS: u8 = 2;
 const REFUSED_MEMORY: u8 = 4;
 
 impl LineError<'_> {
-    /// The exit status of the program: 2 for words and values, 4 for memory.
+    /// The exit status of the program: 4 for memory, 2 for the others.
     pub fn status(&self) -> u8
         ensures { result ≡ status_of self.now }
     {
         match self {
-            LineError::Words(_) | LineError::Value(_) => REFUSED_WORDS,
+            LineError::Words(_) | LineError::Value(_) | LineError::NotUnicode => REFUSED_WORDS,
             LineError::Memory => REFUSED_MEMORY,
         }
     }
@@ -74,16 +88,6 @@ impl<'a> From<InvalidValue<'a>> for LineError<'a> {
     }
 }
 
-impl fmt::Display for LineError<'_> {
-    fn fmt<W: fmt::Write>(&self, f: &mut fmt::Formatter<W>) -> fmt::Result {
-        match self {
-            LineError::Words(error) => write!(f, "{error}"),
-            LineError::Value(value) => write!(f, "{value}"),
-            LineError::Memory => write!(f, "E57 Memory"),
-        }
-    }
-}
-
 impl fmt::Display for InvalidValue<'_> {
     fn fmt<W: fmt::Write>(&self, f: &mut fmt::Formatter<W>) -> fmt::Result {
         let (option, form) = match self.option {
@@ -103,5 +107,3 @@ const ADDRESS_FORM: &str =
 const GROUP_FORM: &str = "a group is an address whose first byte is odd, as 01:00:5e:00:00:01";
 
 const VLAN_FORM: &str = "a VLAN is a decimal number from 0 to 4095, as 5";
-
-impl error::Error for LineError<'_> {}

@@ -16,4 +16,6 @@ pub use job::{Job, PassFilter, PassJob, PassOption};
 pub use reader::line;
 
 #[cfg(test)]
+mod readme;
+#[cfg(test)]
 mod tests;

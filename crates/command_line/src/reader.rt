@@ -1,11 +1,12 @@
 //! The reading of the program's words.
-ghost use Rattle.std.specs.Prelude.{◌≡◌, IfErr, IfOk, OnOk, [], codes, true};
+ghost use Rattle.std.specs.Prelude.{◌≡◌, ◌≢◌, IfErr, IfOk, OnOk, [], codes, true};
 ghost use Rattle.clap.specs.Walk.{texts};
 ghost use Rattle.clap.specs.Words.{found_of, has_subcommand, rows_of, subcommand_rows_of};
 ghost use Rattle.command_line.specs.Errors.{IfValue, IfWords, IsRefusalOf, IsRefusedBy};
 ghost use Rattle.command_line.specs.Jobs.{HasBounds, HasFiles, IsAskedBy, IsInvalidIn, IsJobOf};
 ghost use Rattle.command_line.specs.Jobs.{IsRefusedIn};
 ghost use Rattle.command_line.specs.Shape.{found_in, refusals};
+ghost use Rattle.command_line.specs.declared.error.LineError.TheVariants.{NotUnicode};
 
 use crate::command::program;
 use crate::pass::pass_job;
@@ -45,6 +46,7 @@ pub fn line<'a>(alloc: Global, words: &'a [&'a str]) -> Result<Job<'a>, LineErro
     ensures bounds { IfOk result HasBounds }
     ensures words { IfErr result (λ error. IfWords error (IsRefusalOf (texts words.entry.now))) }
     ensures value { IfErr result (λ error. IfValue error (IsRefusedIn (texts words.entry.now))) }
+    ensures unicode { IfErr result (λ error. error ≢ NotUnicode) }
 {
     let matches = matches_of(alloc, words)?;
     let (name, found) = matches.subcommand().unwrap();

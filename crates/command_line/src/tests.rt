@@ -12,20 +12,37 @@ const NOTHING: PassFilter = PassFilter {
     vlan: None,
 };
 
-fn is_pass(words: &[&str], filter: PassFilter, alloc: Global) -> bool {
+const ALL: PassFilter = PassFilter {
+    address: Some(ADDRESS),
+    group: Some(GROUP),
+    vlan: Some(5),
+};
+
+/// The words of a line, which single spaces separate.
+fn words_of<'a>(alloc: Global, line: &'a str) -> Result<Vec<&'a str>, AllocError> {
+    let mut words = Vec::new(alloc);
+    for word in line.split(' ') {
+        words.push(word)?;
+    }
+    Ok(words)
+}
+
+/// Whether a line asks for a `pass` from `in.pcap` to `out.pcap` with these options.
+fn is_pass(text: &str, filter: PassFilter, alloc: Global) -> Result<bool, AllocError> {
     let expected = PassJob {
         filter,
         input: "in.pcap",
         output: "out.pcap",
     };
-    match line(alloc, words) {
-        Ok(job) => job == Job::Pass(expected),
-        Err(_) => false,
+    let words = words_of(alloc, text)?;
+    match line(alloc, words.as_slice()) {
+        Ok(job) => Ok(job == Job::Pass(expected)),
+        Err(_) => Ok(false),
     }
 }
 
 #[test]
-fn options_have_the_values_of_their_texts(rt: HostRuntime) {
+fn options_have_the_values_of_their_texts(rt: HostRuntime) -> Result<(), Fail> {
     let address = PassFilter {
         address: Some(ADDRESS),
         ..NOTHING
@@ -34,98 +51,52 @@ fn options_have_the_values_of_their_texts(rt: HostRuntime) {
         group: Some(GROUP),
         ..NOTHING
     };
-    let all = PassFilter {
-        address: Some(ADDRESS),
-        group: Some(GROUP),
-        vlan: Some(5),
-    };
-    let table = [
+    for (text, filter) in [
+        ("nicbench pass in.pcap out.pcap", NOTHING),
         (
-            ["nicbench", "pass", "in.pcap", "out.pcap"].as_slice(),
-            NOTHING,
-        ),
-        (
-            [
-                "nicbench",
-                "pass",
-                "--address",
-                "02:0a:bc:de:f0:01",
-                "in.pcap",
-                "out.pcap",
-            ]
-            .as_slice(),
+            "nicbench pass --address 02:0a:bc:de:f0:01 in.pcap out.pcap",
             address,
         ),
         (
-            [
-                "nicbench",
-                "pass",
-                "--address=02:0A:BC:DE:F0:01",
-                "in.pcap",
-                "out.pcap",
-            ]
-            .as_slice(),
+            "nicbench pass --address=02:0A:BC:DE:F0:01 in.pcap out.pcap",
             address,
         ),
         (
-            [
-                "nicbench",
-                "pass",
-                "--group",
-                "01:00:5e:00:00:fb",
-                "in.pcap",
-                "out.pcap",
-            ]
-            .as_slice(),
+            "nicbench pass --group 01:00:5e:00:00:fb in.pcap out.pcap",
             group,
         ),
         (
-            [
-                "nicbench",
-                "pass",
-                "--group=01:00:5E:00:00:Fb",
-                "in.pcap",
-                "out.pcap",
-            ]
-            .as_slice(),
+            "nicbench pass --group=01:00:5E:00:00:Fb in.pcap out.pcap",
             group,
         ),
         (
-            [
-                "nicbench",
-                "pass",
-                "in.pcap",
-                "--vlan=5",
-                "out.pcap",
-                "--group",
-                "01:00:5e:00:00:fb",
-                "--address",
-                "02:0a:bc:de:f0:01",
-            ]
-            .as_slice(),
-            all,
+            "nicbench pass in.pcap --vlan=5 out.pcap --group 01:00:5e:00:00:fb --address 02:0a:bc:de:f0:01",
+            ALL,
         ),
-    ];
-    for (words, filter) in table {
-        assert!(rt; is_pass(words, filter, rt.alloc()), "{words:?}");
+    ] {
+        assert!(rt; is_pass(text, filter, rt.alloc())?, "{text}");
     }
+    Ok(())
 }
 
 #[test]
-fn a_vlan_is_a_decimal_number(rt: HostRuntime) {
+fn a_vlan_is_a_decimal_number(rt: HostRuntime) -> Result<(), Fail> {
     for (text, vlan) in [
-        ("0", 0),
-        ("5", 5),
-        ("0005", 5),
-        ("000000000000004095", 4095),
+        ("nicbench pass in.pcap out.pcap --vlan 0", 0),
+        ("nicbench pass in.pcap out.pcap --vlan 5", 5),
+        ("nicbench pass in.pcap out.pcap --vlan 0005", 5),
+        (
+            "nicbench pass in.pcap out.pcap --vlan 000000000000004095",
+            4095,
+        ),
     ] {
-        let words = ["nicbench", "pass", "in.pcap", "out.pcap", "--vlan", text];
         let filter = PassFilter {
             vlan: Some(vlan),
             ..NOTHING
         };
-        assert!(rt; is_pass(words.as_slice(), filter, rt.alloc()), "{text}");
+        assert!(rt; is_pass(text, filter, rt.alloc())?, "{text}");
     }
+    Ok(())
 }
 
 #[test]
@@ -210,6 +181,22 @@ Commands:
 
 Options:
   -h, --help  Print help
+
+Exit status: 0 done, 1 IN was refused, 2 the words were refused or help was asked for,
+3 a file failed, 4 memory was refused. For 1, 3 and 4 standard error has 'nicbench: CODE NAME':
+
+  E57 Memory    Memory was refused before anything was written. Free some, or split IN
+  E60 Header    IN has fewer than 24 bytes, so it is no trace. A pipe or a device has no length
+                and reads as empty: copy what it gives to a file first
+  E61 Magic     IN isn't a pcap file. Of a pcapng file make one: editcap -F pcap IN OUT
+  E62 Version   IN isn't of version 2.4. Write it anew: editcap -F pcap IN OUT
+  E63 LinkType  IN isn't a trace of Ethernet frames. Take it anew, at an Ethernet interface
+  E64 Record    A packet of IN claims more than 262,144 bytes, so IN is damaged. Take it anew
+  E65 Memory    Memory was refused while IN was read. Free some, or split IN:
+                editcap -F pcap -c 100000 IN OUT
+  E66 Read      IN failed while it was read. Name a file and no folder, or copy it to another disk
+  E67 Write     OUT or standard output failed while it was written. Make room there
+  E68 Open      IN couldn't be opened, or OUT made. Look at paths and permissions
 ";
 
 const PASS_HELP: &str = "2 Send the frames of a trace through a receive filter and a ring
@@ -227,6 +214,7 @@ Options:
   -h, --help         Print help
 
 Frames for the broadcast address pass too. Without --address and --group, frames for every address do.
+OUT is made once IN has been read whole, so both may name one file: its frames are replaced.
 ";
 
 #[test]
@@ -248,75 +236,52 @@ fn help_is_claps_text(rt: HostRuntime) -> Result<(), Fail> {
     Ok(())
 }
 
+/// Lines that clap refuses, each with the first words of its text behind `error: `.
+const REFUSED_LINES: [(&str, &str); 11] = [
+    ("nicbench fly", "unrecognized subcommand 'fly'"),
+    ("nicbench --fly", "unexpected argument '--fly' found"),
+    ("nicbench help fly", "unrecognized subcommand 'fly'"),
+    (
+        "nicbench pass",
+        "the following required arguments were not provided:\n  <IN>\n  <OUT>",
+    ),
+    (
+        "nicbench pass a",
+        "the following required arguments were not provided:\n  <OUT>",
+    ),
+    ("nicbench pass a b c", "unexpected argument 'c' found"),
+    (
+        "nicbench pass a b --ring 8",
+        "unexpected argument '--ring' found",
+    ),
+    (
+        "nicbench pass a b --vlan",
+        "a value is required for '--vlan <N>' but none was supplied",
+    ),
+    (
+        "nicbench pass --vlan 5 a b --vlan=5",
+        "the argument '--vlan <N>' cannot be used multiple times",
+    ),
+    (
+        "nicbench pass --group=01:00:5e:00:00:01 --group=xx a b",
+        "the argument '--group <G>' cannot be used multiple times",
+    ),
+    (
+        "nicbench pass a b --address xx --address xx",
+        "the argument '--address <A>' cannot be used multiple times",
+    ),
+];
+
 #[test]
 fn other_words_are_refused_by_clap(rt: HostRuntime) -> Result<(), Fail> {
-    let table = [
-        (
-            ["nicbench", "fly"].as_slice(),
-            "2 error: unrecognized subcommand 'fly'\n",
-        ),
-        (
-            ["nicbench", "--fly"].as_slice(),
-            "2 error: unexpected argument '--fly' found\n",
-        ),
-        (
-            ["nicbench", "help", "fly"].as_slice(),
-            "2 error: unrecognized subcommand 'fly'\n",
-        ),
-        (
-            ["nicbench", "pass"].as_slice(),
-            "2 error: the following required arguments were not provided:\n  <IN>\n  <OUT>\n",
-        ),
-        (
-            ["nicbench", "pass", "a"].as_slice(),
-            "2 error: the following required arguments were not provided:\n  <OUT>\n",
-        ),
-        (
-            ["nicbench", "pass", "a", "b", "c"].as_slice(),
-            "2 error: unexpected argument 'c' found\n",
-        ),
-        (
-            ["nicbench", "pass", "a", "b", "--ring", "8"].as_slice(),
-            "2 error: unexpected argument '--ring' found\n",
-        ),
-        (
-            ["nicbench", "pass", "a", "b", "--vlan"].as_slice(),
-            "2 error: a value is required for '--vlan <N>' but none was supplied\n",
-        ),
-        (
-            ["nicbench", "pass", "--vlan", "5", "a", "b", "--vlan=5"].as_slice(),
-            "2 error: the argument '--vlan <N>' cannot be used multiple times\n",
-        ),
-        (
-            [
-                "nicbench",
-                "pass",
-                "--group=01:00:5e:00:00:01",
-                "--group=xx",
-                "a",
-                "b",
-            ]
-            .as_slice(),
-            "2 error: the argument '--group <G>' cannot be used multiple times\n",
-        ),
-        (
-            [
-                "nicbench",
-                "pass",
-                "a",
-                "b",
-                "--address",
-                "xx",
-                "--address",
-                "xx",
-            ]
-            .as_slice(),
-            "2 error: the argument '--address <A>' cannot be used multiple times\n",
-        ),
-    ];
-    for (words, expected) in table {
-        let text = refusal(rt.alloc(), words)?;
-        assert!(rt; text.as_str().starts_with(expected), "{words:?}\n{text}");
+    for (text, expected) in REFUSED_LINES {
+        let words = words_of(rt.alloc(), text)?;
+        let told = refusal(rt.alloc(), words.as_slice())?;
+        let wanted = format!(in rt.alloc(); "2 error: {expected}\n")?;
+        assert!(rt;
+            told.as_str().starts_with(wanted.as_str()),
+            "{text}\n{told}"
+        );
     }
     Ok(())
 }
@@ -358,6 +323,20 @@ fn a_refused_allocation_is_memory(rt: HostRuntime) {
             assert!(rt; text.as_str() == expected, "{words:?}\n{text}");
         }
     }
+}
+
+#[test]
+fn words_that_are_no_text_are_refused_words(rt: HostRuntime) -> Result<(), Fail> {
+    let text = format!(in rt.alloc();
+        "{} {}",
+        LineError::NotUnicode.status(),
+        LineError::NotUnicode
+    )?;
+    let expected = "2 error: invalid UTF-8 was detected in one or more arguments\n\
+                    \nUsage: nicbench <COMMAND>\n\
+                    \nFor more information, try '--help'.\n";
+    assert!(rt; text.as_str() == expected, "{text}");
+    Ok(())
 }
 
 #[test]

@@ -26,4 +26,6 @@ pub use tx_desc::{TX_DESC_BYTES, TxDesc};
 pub use tx_status::TxStatus;
 
 #[cfg(test)]
+mod readme;
+#[cfg(test)]
 mod tests;

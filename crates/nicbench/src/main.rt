@@ -6,13 +6,14 @@ ghost use Rattle.pcap_bench.specs.Options.{HasVlanNumber};
 
 use command_line::{Job, LineError, PassFilter, line};
 use pcap_bench::{
-    BenchError, Fault, PassCounts, ReaderSource, Sink, Source, Trace, WriterSink, pass, print_pass,
+    Fault, PassCounts, ReaderSource, Sink, Source, Trace, WriterSink, pass, print_pass,
 };
 use std::alloc::Global;
+use std::env;
 use std::fs::{self, OpenFile};
+use std::io::{self, ErrorKind};
 use std::process::ExitCode;
 use std::rt::{Env, Files};
-use std::{env, io};
 
 /// A file as a source of the bytes that it has now.
 fn open<R: Files>(rt: &R, path: &str) -> Result<ReaderSource<R::File>, Fault>
@@ -67,27 +68,25 @@ fn run_pass<R: Files + Print + AllocGlobal>(
     Ok(())
 }
 
-/// The words that the program was called with.
-fn words<R: Env + AllocGlobal>(rt: &R) -> Result<Vec<String>, Fault> {
-    let mut words = Vec::new(rt.alloc());
-    let Ok(args) = env::args(rt) else {
-        return Err(Fault::Bench(BenchError::Memory));
+/// The words that the program was called with, which are texts.
+fn words<R: Env + AllocGlobal>(rt: &R) -> Result<Vec<String>, LineError<'static>> {
+    let args = match env::args(rt) {
+        Ok(args) => args,
+        Err(error) if error.kind() == ErrorKind::InvalidData => return Err(LineError::NotUnicode),
+        Err(_) => return Err(LineError::Memory),
     };
+    let mut words = Vec::new(rt.alloc());
     for word in args {
-        if words.push(word).is_err() {
-            return Err(Fault::Bench(BenchError::Memory));
-        }
+        words.push(word).map_err(|_| LineError::Memory)?;
     }
     Ok(words)
 }
 
 /// The same words, borrowed.
-fn borrowed<'a>(alloc: Global, words: &'a [String]) -> Result<Vec<&'a str>, Fault> {
+fn borrowed<'a>(alloc: Global, words: &'a [String]) -> Result<Vec<&'a str>, LineError<'a>> {
     let mut texts = Vec::new(alloc);
     for word in words {
-        if texts.push(word.as_str()).is_err() {
-            return Err(Fault::Bench(BenchError::Memory));
-        }
+        texts.push(word.as_str()).map_err(|_| LineError::Memory)?;
     }
     Ok(texts)
 }
@@ -102,7 +101,9 @@ fn tell<R: Eprint>(rt: &R, fault: &Fault) -> ExitCode {
 fn tell_line<R: Eprint>(rt: &R, error: &LineError<'_>) -> ExitCode {
     let _ = match error {
         LineError::Memory => eprintln!(rt; "nicbench: {error}"),
-        LineError::Words(_) | LineError::Value(_) => eprint!(rt; "{error}"),
+        LineError::Words(_) | LineError::Value(_) | LineError::NotUnicode => {
+            eprint!(rt; "{error}")
+        }
     };
     ExitCode::from(error.status())
 }
@@ -110,11 +111,11 @@ fn tell_line<R: Eprint>(rt: &R, error: &LineError<'_>) -> ExitCode {
 fn main(rt: HostRuntime) -> ExitCode {
     let words = match words(&rt) {
         Ok(words) => words,
-        Err(fault) => return tell(&rt, &fault),
+        Err(error) => return tell_line(&rt, &error),
     };
     let texts = match borrowed(rt.alloc(), &words) {
         Ok(texts) => texts,
-        Err(fault) => return tell(&rt, &fault),
+        Err(error) => return tell_line(&rt, &error),
     };
     let job = match line(rt.alloc(), texts.as_slice()) {
         Ok(job) => job,

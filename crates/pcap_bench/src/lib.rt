@@ -7,6 +7,8 @@ mod fault;
 mod lane;
 mod passing;
 mod printing;
+#[cfg(test)]
+mod readme;
 mod slots;
 #[cfg(test)]
 mod tests;

@@ -1,5 +1,6 @@
 //! What no clause says: that frames go through memory, printed texts, and devices that fail.
 ghost use Rattle.std.specs.Prelude.{◌≡◌, Some};
+ghost use Rattle.pcap_bench.specs.Options.{HasVlanNumber};
 
 use crate::lane::ReceiveLane;
 use crate::passing::{Watch, pass_watched};
@@ -10,11 +11,21 @@ use crate::{
 use bitflags::Flags;
 use descriptors::{RxDesc, RxStatus};
 use std::alloc::Global;
+use std::process::Abort;
 use std::test::Fail;
 
 const FILE_HEADER: [u8; 24] = [
     0xd4, 0xc3, 0xb2, 0xa1, 2, 0, 4, 0, 0, 0, 0, 0, 0, 0, 0, 0, 0xff, 0xff, 0, 0, 1, 0, 0, 0,
 ];
+
+/// A trace that has these frames, and no packet beside them.
+fn whole_trace(frames: Frames) -> Trace {
+    Trace {
+        frames,
+        skipped: 0,
+        cut: false,
+    }
+}
 
 /// A trace of frames of these lengths, the first of ones, the second of twos and so on.
 fn trace_of(alloc: Global, lengths: &[usize]) -> Result<Trace, Fail> {
@@ -26,11 +37,20 @@ fn trace_of(alloc: Global, lengths: &[usize]) -> Result<Trace, Fail> {
         }
         frames.push(bytes.get(..*length).ok_or("a length up to 1,600")?)?;
     }
-    Ok(Trace {
-        frames,
-        skipped: 0,
-        cut: false,
-    })
+    Ok(whole_trace(frames))
+}
+
+/// Asserts the line that is printed of a trace and its counts.
+fn check_line<R: Abort + AllocGlobal>(
+    rt: &R,
+    trace: &Trace,
+    counts: &PassCounts,
+    want: &[u8],
+) -> Result<(), Fail> {
+    let mut line = VecSink::new(rt.alloc());
+    print_pass(trace, counts, &mut line)?;
+    assert_eq!(rt; line.bytes(), want);
+    Ok(())
 }
 
 /// Notes the descriptor at the driver's slot when a frame is read.
@@ -73,13 +93,8 @@ fn three_frames_of_which_one_is_too_short(rt: HostRuntime) -> Result<(), Fail> {
         [0, 0, 0, 0, 2, 0, 0, 0, 0xee, 5, 0, 0, 0xee, 5, 0, 0].as_slice()
     );
     assert_eq!(rt; &text[116..], [3; 1518].as_slice());
-    let mut line = VecSink::new(rt.alloc());
-    print_pass(&trace, &counts, &mut line)?;
-    assert_eq!(rt;
-        line.bytes(),
-        b"read 3 skipped 0 illegal 1 filtered 0 written 2 cut no\n".as_slice()
-    );
-    Ok(())
+    let want = b"read 3 skipped 0 illegal 1 filtered 0 written 2 cut no\n";
+    check_line(&rt, &trace, &counts, want.as_slice())
 }
 
 #[test]
@@ -125,11 +140,7 @@ fn trace_of_beginnings(alloc: Global, beginnings: &[[u8; 16]]) -> Result<Trace, 
         frame[..16].copy_from_slice(beginning);
         frames.push(&frame)?;
     }
-    Ok(Trace {
-        frames,
-        skipped: 0,
-        cut: false,
-    })
+    Ok(whole_trace(frames))
 }
 
 /// The times of the packets of a written trace of frames of 60 bytes, in microseconds.
@@ -139,6 +150,28 @@ fn times(alloc: Global, text: &[u8]) -> Result<Vec<u8>, Fail> {
         times.push(*packet.get(4).ok_or("a packet header")?)?;
     }
     Ok(times)
+}
+
+/// Asserts how many frames of a trace the filter turns away, and the numbers of those that are written.
+fn check_filter<R: Abort + AllocGlobal>(
+    rt: &R,
+    trace: &Trace,
+    filter: &PassFilter,
+    filtered: u64,
+    written: &[u8],
+) -> Result<(), Fail>
+    requires { HasVlanNumber filter.now }
+{
+    let mut sink = VecSink::new(rt.alloc());
+    let want = PassCounts {
+        read: trace.frames.len() as u64,
+        illegal: 0,
+        filtered,
+        written: written.len() as u64,
+    };
+    assert_eq!(rt; pass(rt.alloc(), trace, filter, &mut sink)?, want);
+    assert_eq!(rt; times(rt.alloc(), sink.bytes())?.as_slice(), written);
+    Ok(())
 }
 
 #[test]
@@ -160,22 +193,7 @@ fn a_group_is_asked_for(rt: HostRuntime) -> Result<(), Fail> {
         group: Some([0x01, 0x00, 0x5e, 0x00, 0x00, 0x01]),
         ..PassFilter::default()
     };
-    let mut sink = VecSink::new(rt.alloc());
-    let counts = pass(rt.alloc(), &trace, &filter, &mut sink)?;
-    assert_eq!(rt;
-        counts,
-        PassCounts {
-            read: 5,
-            illegal: 0,
-            filtered: 2,
-            written: 3
-        }
-    );
-    assert_eq!(rt;
-        times(rt.alloc(), sink.bytes())?.as_slice(),
-        [0, 1, 4].as_slice()
-    );
-    Ok(())
+    check_filter(&rt, &trace, &filter, 2, [0, 1, 4].as_slice())
 }
 
 #[test]
@@ -196,22 +214,7 @@ fn a_vlan_is_asked_for(rt: HostRuntime) -> Result<(), Fail> {
         vlan: Some(5),
         ..PassFilter::default()
     };
-    let mut sink = VecSink::new(rt.alloc());
-    let counts = pass(rt.alloc(), &trace, &filter, &mut sink)?;
-    assert_eq!(rt;
-        counts,
-        PassCounts {
-            read: 4,
-            illegal: 0,
-            filtered: 1,
-            written: 3
-        }
-    );
-    assert_eq!(rt;
-        times(rt.alloc(), sink.bytes())?.as_slice(),
-        [0, 2, 3].as_slice()
-    );
-    Ok(())
+    check_filter(&rt, &trace, &filter, 1, [0, 2, 3].as_slice())
 }
 
 #[test]
@@ -222,19 +225,7 @@ fn an_address_is_asked_for(rt: HostRuntime) -> Result<(), Fail> {
         address: Some([2, 0, 0, 0, 0, 1]),
         ..PassFilter::default()
     };
-    let mut sink = VecSink::new(rt.alloc());
-    let counts = pass(rt.alloc(), &trace, &filter, &mut sink)?;
-    assert_eq!(rt;
-        counts,
-        PassCounts {
-            read: 3,
-            illegal: 0,
-            filtered: 2,
-            written: 1
-        }
-    );
-    assert_eq!(rt; times(rt.alloc(), sink.bytes())?.as_slice(), [0].as_slice());
-    Ok(())
+    check_filter(&rt, &trace, &filter, 2, [0].as_slice())
 }
 
 #[test]
@@ -244,13 +235,8 @@ fn a_bare_header(rt: HostRuntime) -> Result<(), Fail> {
     let mut sink = VecSink::new(rt.alloc());
     let counts = pass(rt.alloc(), &trace, &PassFilter::default(), &mut sink)?;
     assert_eq!(rt; sink.bytes(), FILE_HEADER.as_slice());
-    let mut line = VecSink::new(rt.alloc());
-    print_pass(&trace, &counts, &mut line)?;
-    assert_eq!(rt;
-        line.bytes(),
-        b"read 0 skipped 0 illegal 0 filtered 0 written 0 cut no\n".as_slice()
-    );
-    Ok(())
+    let want = b"read 0 skipped 0 illegal 0 filtered 0 written 0 cut no\n";
+    check_line(&rt, &trace, &counts, want.as_slice())
 }
 
 #[test]
@@ -266,13 +252,9 @@ fn a_skipped_and_a_cut_packet_are_told(rt: HostRuntime) -> Result<(), Fail> {
         filtered: 300,
         written: 4_000,
     };
-    let mut line = VecSink::new(rt.alloc());
-    print_pass(&trace, &counts, &mut line)?;
-    assert_eq!(rt;
-        line.bytes(),
-        b"read 1 skipped 18446744073709551615 illegal 20 filtered 300 written 4000 cut yes\n".as_slice()
-    );
-    Ok(())
+    let want =
+        b"read 1 skipped 18446744073709551615 illegal 20 filtered 300 written 4000 cut yes\n";
+    check_line(&rt, &trace, &counts, want.as_slice())
 }
 
 /// A sink that takes so many writes, and fails at each further one.

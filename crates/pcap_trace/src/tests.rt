@@ -3,4 +3,5 @@
 mod devices;
 mod fixtures;
 mod reading;
+mod readme;
 mod writing;

@@ -19,4 +19,6 @@ pub use engine::{MOST_FRAMES, RxEngine, Work};
 pub use laws::frames_held_by_the_receive_engine;
 
 #[cfg(test)]
+mod readme;
+#[cfg(test)]
 mod tests;

@@ -19,4 +19,6 @@ pub use putting::put;
 pub use taking::take;
 
 #[cfg(test)]
+mod readme;
+#[cfg(test)]
 mod tests;

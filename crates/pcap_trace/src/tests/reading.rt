@@ -6,6 +6,7 @@ use super::fixtures::{
 };
 use crate::{DeviceError, Frames, ReadError, SliceSource, Source, Trace, WriteError};
 use std::alloc::Global;
+use std::process::Abort;
 use std::test::Fail;
 
 /// What is read of these bytes: how many frames, how many skipped packets, and whether they are cut.
@@ -89,56 +90,81 @@ fn each_beginning_of_a_trace(rt: HostRuntime) -> Result<(), Fail> {
     Ok(())
 }
 
+/// Asserts the fault of a file header some of whose bytes are others, and that of its first 23 bytes.
+fn check_fault<R: Abort + AllocGlobal>(
+    rt: &R,
+    from: &[u8; 24],
+    place: usize,
+    bytes: &[u8],
+    want: ReadError,
+) -> Result<(), Fail> {
+    let header = with(from, place, bytes);
+    assert_eq!(rt;
+        read(rt.alloc(), &header),
+        Err(want),
+        "{bytes:?} at {place}"
+    );
+    assert_eq!(rt;
+        read(rt.alloc(), header.get(..23).ok_or("23 bytes")?),
+        Err(ReadError::Header)
+    );
+    Ok(())
+}
+
 /// Of two faults of a file header the one that is looked for first is answered.
 #[test]
 fn faults_of_the_file_header(rt: HostRuntime) -> Result<(), Fail> {
-    for (from, place, bytes, want) in [
-        (HEADER, 0, &[0xd4, 0xc3, 0xb2, 0xa0][..], ReadError::Magic),
-        (HEADER, 0, &[0xd4, 0xc3, 0xb2, 0xa0, 3], ReadError::Magic),
-        (HEADER, 0, &[0x34, 0xcd, 0xb2, 0xa1], ReadError::Magic), // longer packet headers
-        (HEADER, 0, &[0x0a, 0x0d, 0x0d, 0x0a], ReadError::Magic), // pcapng
-        (HEADER, 0, &[0xb2, 0xa1, 0xd4, 0xc3], ReadError::Magic), // halves swapped
-        (HEADER, 0, &[0xa1, 0xb2, 0xc3, 0xd4], ReadError::Version), // the other byte order
-        (HEADER, 4, &[3], ReadError::Version),
-        (HEADER, 4, &[2, 1], ReadError::Version),
-        (HEADER, 4, &[0, 2, 0, 4], ReadError::Version), // big-endian
-        (HEADER, 6, &[3], ReadError::Version),
-        (HEADER, 6, &[4, 1], ReadError::Version),
+    for (place, bytes, want) in [
+        (0, &[0xd4, 0xc3, 0xb2, 0xa0][..], ReadError::Magic),
+        (0, &[0xd4, 0xc3, 0xb2, 0xa0, 3], ReadError::Magic),
+        (0, &[0x34, 0xcd, 0xb2, 0xa1], ReadError::Magic), // longer packet headers
+        (0, &[0x0a, 0x0d, 0x0d, 0x0a], ReadError::Magic), // pcapng
+        (0, &[0xb2, 0xa1, 0xd4, 0xc3], ReadError::Magic), // halves swapped
+        (0, &[0xa1, 0xb2, 0xc3, 0xd4], ReadError::Version), // the other byte order
+        (4, &[3], ReadError::Version),
+        (4, &[2, 1], ReadError::Version),
+        (4, &[0, 2, 0, 4], ReadError::Version), // big-endian
+        (6, &[3], ReadError::Version),
+        (6, &[4, 1], ReadError::Version),
         (
-            HEADER,
             6,
             &[3, 0, 0, 0, 0, 0, 0, 0, 0, 0, 0, 0, 0, 0, 2],
             ReadError::Version,
         ),
-        (HEADER, 20, &[0], ReadError::LinkType),
-        (HEADER, 20, &[101], ReadError::LinkType),
-        (HEADER, 20, &[1, 0, 0, 4], ReadError::LinkType),
-        (HEADER, 20, &[0, 0, 0, 1], ReadError::LinkType), // big-endian
-        (BIG_HEADER, 0, &[0xa1, 0xb2, 0xcd, 0x34], ReadError::Magic),
-        (BIG_HEADER, 0, &[0xa1, 0xb2, 0x4d, 0x3c], ReadError::Magic),
-        (BIG_HEADER, 0, &[0x4d, 0x3c, 0xb2, 0xa1], ReadError::Version), // the other byte order
-        (BIG_HEADER, 4, &[2, 0, 4, 0], ReadError::Version), // little-endian
-        (BIG_HEADER, 7, &[3], ReadError::Version),
-        (BIG_HEADER, 20, &[1, 0, 0, 0], ReadError::LinkType), // little-endian
-        (BIG_HEADER, 20, &[4], ReadError::LinkType),
+        (20, &[0], ReadError::LinkType),
+        (20, &[101], ReadError::LinkType),
+        (20, &[1, 0, 0, 4], ReadError::LinkType),
+        (20, &[0, 0, 0, 1], ReadError::LinkType), // big-endian
     ] {
-        let header = with(&from, place, bytes);
-        assert_eq!(rt;
-            read(rt.alloc(), &header),
-            Err(want),
-            "{bytes:?} at {place}"
-        );
-        assert_eq!(rt;
-            read(rt.alloc(), header.get(..23).ok_or("23 bytes")?),
-            Err(ReadError::Header)
-        );
+        check_fault(&rt, &HEADER, place, bytes, want)?;
     }
-    // Two words and the snapshot length are ignored.
+    Ok(())
+}
+
+/// The same in the other byte order.
+#[test]
+fn faults_of_the_big_endian_file_header(rt: HostRuntime) -> Result<(), Fail> {
+    for (place, bytes, want) in [
+        (0, &[0xa1, 0xb2, 0xcd, 0x34][..], ReadError::Magic),
+        (0, &[0xa1, 0xb2, 0x4d, 0x3c], ReadError::Magic),
+        (0, &[0x4d, 0x3c, 0xb2, 0xa1], ReadError::Version), // the other byte order
+        (4, &[2, 0, 4, 0], ReadError::Version), // little-endian
+        (7, &[3], ReadError::Version),
+        (20, &[1, 0, 0, 0], ReadError::LinkType), // little-endian
+        (20, &[4], ReadError::LinkType),
+    ] {
+        check_fault(&rt, &BIG_HEADER, place, bytes, want)?;
+    }
+    Ok(())
+}
+
+/// Two words and the snapshot length are ignored.
+#[test]
+fn ignored_words_of_the_file_header(rt: HostRuntime) {
     for from in [HEADER, BIG_HEADER] {
         let ignored = with(&from, 8, &[9; 12]);
         assert_eq!(rt; read(rt.alloc(), &ignored), Ok((0, 0, false)));
     }
-    Ok(())
 }
 
 /// A packet header that tells a captured and an original length, behind a file header with a link type.

@@ -7,8 +7,9 @@ use Rattle.command_line.proofs.command.program.Goals as goal
 pub returns-clause-app : goal.returns-clause-app
 unfolding program_app
 returns-clause-app c =
-    let named : app_of c.about.result ≡ new_app (codes "nicbench") = ap app_of_fields c.about.ensures ∙ c.new.ensures.app in
-    let needs : app_of c.subcommand_required.result ≡ on_top (λ s. record s { subcommand_required = true }) (app_of c.about.result) =
+    let named : app_of c.after_help.result ≡ new_app (codes "nicbench") =
+    ap app_of_fields c.after_help.ensures ∙ ap app_of_fields c.about.ensures ∙ c.new.ensures.app in
+    let needs : app_of c.subcommand_required.result ≡ on_top (λ s. record s { subcommand_required = true }) (app_of c.after_help.result) =
     ap app_of_fields c.subcommand_required.ensures in
     let helps : app_of c.arg_required_else_help-program.result ≡ on_top (λ s. record s { arg_required_else_help = true }) (app_of c.subcommand_required.result) =
     ap app_of_fields c.arg_required_else_help-program.ensures in

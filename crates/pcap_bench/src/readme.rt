@@ -1,0 +1,30 @@
+//! The code of README.md, word for word.
+
+use crate::{Frames, PassFilter, Trace, VecSink, pass, print_pass};
+use std::test::Fail;
+
+#[test]
+fn the_code_of_the_readme(rt: HostRuntime) -> Result<(), Fail> {
+    // One of two frames goes to the address that is asked for.
+    let mut frames = Frames::new(rt.alloc());
+    frames.push(&[0x02, 0, 0, 0, 0, 0x01, 0x02, 0, 0, 0, 0, 0x09, 0x08, 0])?;
+    frames.push(&[0x02, 0, 0, 0, 0, 0x07, 0x02, 0, 0, 0, 0, 0x09, 0x08, 0])?;
+    let trace = Trace {
+        frames,
+        skipped: 0,
+        cut: false,
+    };
+    let filter = PassFilter {
+        address: Some([0x02, 0, 0, 0, 0, 0x01]),
+        ..PassFilter::default()
+    };
+    let mut sink = VecSink::new(rt.alloc());
+    let counts = pass(rt.alloc(), &trace, &filter, &mut sink)?;
+    // A file header, a packet header and the frame, padded to 60 bytes.
+    assert_eq!(rt; sink.bytes().len(), 24 + 16 + 60);
+    let mut printed = VecSink::new(rt.alloc());
+    print_pass(&trace, &counts, &mut printed)?;
+    let line = b"read 2 skipped 0 illegal 0 filtered 1 written 1 cut no\n";
+    assert_eq!(rt; printed.bytes(), line.as_slice());
+    Ok(())
+}
