@@ -19,4 +19,6 @@ pub use receiver::{Received, Receiver};
 pub use transmit::SendError;
 
 #[cfg(test)]
+mod init_tests;
+#[cfg(test)]
 mod tests;
