@@ -45,3 +45,5 @@ mod config_tests;
 mod eeprom_reading_tests;
 #[cfg(test)]
 mod link_tests;
+#[cfg(test)]
+mod readme;
