@@ -4,4 +4,5 @@ pub mod Queue
 pub mod Refills
 pub mod Takes
 pub mod Handles
+pub mod FirstSlots
 pub mod Initialisation

@@ -21,7 +21,7 @@ use Rattle.bring_up.specs.Device.{IsWhy, IsWhyLively}
 use Rattle.bring_up.specs.DriverSteps.{accesses_of}
 use Rattle.bring_up.specs.FilterTables.{HasNumbers, numbers_of_groups}
 use Rattle.bring_up.specs.RestingRings.{HasReceiveRing}
-use Rattle.bring_up.specs.RingRegisters.{receive_control, ring_writes, transmit_writes}
+use Rattle.bring_up.specs.RingRegisters.{receive_writes, ring_writes, transmit_writes}
 use Rattle.bring_up.specs.Table.{mask_writes}
 use Rattle.bring_up.specs.declared.config.Config.{Config}
 use Rattle.bring_up.specs.declared.init_error.InitError.{InitError}
@@ -96,10 +96,10 @@ transmit_accesses counts =
 
 -- The whole.
 
--- Only accesses, and then this one.
-pub record EndsWith (accesses : List Access) (last : Access) : Type 0 where
+-- Some accesses, and then these.
+pub record EndsWith (accesses last : List Access) : Type 0 where
   pub earlier : List Access
-  pub whole : accesses ≡ earlier ++ last ∷ []
+  pub whole : accesses ≡ earlier ++ last
 
 -- An adapter is brought up. Frames count from the write of RCTL on.
 pub record Initialises {B : Type 0} (world : B → World) (happened : B → B → Past → Type 0) (old new : B) (config : Config)
@@ -110,7 +110,9 @@ pub record Initialises {B : Type 0} (world : B → World) (happened : B → B �
   pub later : Past
   pub told_first : happened old middle first
   pub told_later : happened middle new later
-  pub control : EndsWith first.accesses (Writes 0x0100 (receive_control config.promiscuous (names_vlans config.vlans)))
+  -- The receive slots are stored and offered, RCTL is written; then the transmit side is set up, and the mask written.
+  pub ends : EndsWith first.accesses
+      (first_accesses d.counts d.buffers ++ accesses_of (receive_writes config.promiscuous (names_vlans config.vlans)))
   pub accesses : later.accesses ≡ transmit_accesses d.counts ++ accesses_of mask_writes
   -- The driver is ready, and no work is forgotten.
   pub ready : Ready d (world new)

@@ -9,7 +9,7 @@ ghost use Rattle.bring_up.specs.Configured.{names_vlans};
 ghost use Rattle.bring_up.specs.Device.{IsBeforeAccess};
 ghost use Rattle.bring_up.specs.declared.init_error.InitError.TheVariants as InitError;
 ghost use Rattle.driver_law.specs.Beginnings.{new_driver};
-ghost use Rattle.driver_law.specs.DriverState.{DriverState, owners};
+ghost use Rattle.driver_law.specs.DriverState.{DriverState, owners, with_owners};
 ghost use Rattle.driver_law.specs.Goes.{IsRefilled, RanBy};
 ghost use Rattle.driver_law.specs.Ready.{ReadyWith};
 ghost use Rattle.driver.specs.Initialises.{FindsRing, Initialises, OffersFirst, Refuses, transmit_accesses};
@@ -133,6 +133,8 @@ impl Driver {
         ensures config { (result ≡ Err InitError.Config) ↔ ¬ CanBeHad config.now (B.extent bus.old) }
         ensures unasked { IfErr result (λ error. IsBeforeAccess error → bus.new ≡ bus.old) }
         ensures counts { IfOk result (λ driver. driver.counts ≡ counts_of config.now) }
+        ensures new { IfOk result (λ driver. driver
+            ≡ with_owners (new_driver (counts_of config.now) []) driver.buffers [] driver.pool []) }
         ensures one_owner { IfOk result (λ driver. HasOneOwner driver.counts.buffers (owners driver)) }
         ensures refilled { IfOk result IsRefilled }
 

@@ -1,4 +1,4 @@
-use Rattle.std.proofs.Common.{◌≡◌, ◌≤◌, [], Bool, true, Err, IfErr, length, ap, refl, sym, subst, ◌∙◌, arith}
+use Rattle.std.proofs.Common.{List, ℕ, ◌≡◌, ◌≤◌, [], Bool, true, Err, IfErr, length, ap, refl, sym, subst, ◌∙◌, arith}
 use Rattle.std.proofs.lemmas.Result.{err_from_is_err_and}
 use Rattle.dma_memory.specs.Layout.{Counts, size_of}
 use Rattle.dma_memory.specs.Owners.{HasOneOwner}
@@ -14,7 +14,8 @@ use Rattle.driver_law.specs.DriverState.{DriverState, owners}
 use Rattle.driver_law.specs.Goes.{RanBy}
 use Rattle.bus.specs.Past.{nothing}
 use Rattle.driver.specs.Initialises.{OffersFirst, Refuses, transmit_accesses}
-use Rattle.driver.proofs.Initialisation.{initialises, new-still, owners-offered, stays-quiet, vlans-named}
+use Rattle.driver.proofs.Initialisation.{initialises, new-still, stays-quiet, vlans-named}
+use Rattle.driver.proofs.FirstSlots.{offering, owners-offered}
 use Rattle.driver.proofs.driver.Driver.init.Given.{Over}
 use Rattle.driver.proofs.driver.Driver.init.Goals as goal
 
@@ -97,3 +98,10 @@ returns-clause-initialises g c honest =
     initialises world happened g.met.B.Bus.joins b0 b1 b2 b3 b4 c.unmask_interrupts.new.bus config (g.B.Bus.extent b0) pool o.numbers d
         finds.past had finds.told finds.found o.count o.others
     first still.0 still.1.1 lets sends (c.unmask_interrupts.ensures.unmasks d h4 sends.goes.flows.ready)
+
+pub returns-clause-new : goal.returns-clause-new
+returns-clause-new g c =
+    let o = offered g c in
+    let d = c.offer_first.new.self in
+    o.others ∙ ap (λ (numbers : List ℕ). offering (counts_of c.args.config.now) [] numbers d.pool)
+        (sym (ap (λ (s : DriverState). s.buffers) o.others))

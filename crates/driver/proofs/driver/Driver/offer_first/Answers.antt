@@ -5,7 +5,7 @@ use Rattle.driver_law.specs.Ready.{ReadyWith}
 use Rattle.driver_law.specs.DriverState.{DriverState}
 use Rattle.driver.specs.Initialises.{OffersFirst}
 use Rattle.driver.specs.Refills.{Stages}
-use Rattle.driver.proofs.Initialisation.{offers-first}
+use Rattle.driver.proofs.FirstSlots.{offers-first}
 use Rattle.driver.proofs.driver.Driver.offer_first.Goals as goal
 
 pub returns-clause-kept : goal.returns-clause-kept
