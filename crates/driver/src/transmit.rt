@@ -23,7 +23,8 @@ use thiserror::Error;
 /// The bytes of the shortest frame that can be sent: its addresses and its type (own).
 const SHORTEST_SENT: usize = 14;
 
-/// The bytes of the longest frame that can be sent: Ethernet's longest without VLAN tag and check sequence.
+/// The bytes of the longest frame that can be sent: Ethernet's longest with a VLAN tag, without check sequence. Its
+/// header has 14, the tag 4, and its data 1,500.
 const LONGEST_SENT: usize = 1518;
 
 /// Why a frame isn't sent.
