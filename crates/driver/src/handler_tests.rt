@@ -102,7 +102,12 @@ pub(crate) fn new_bus(alloc: Global) -> Result<SoloBus, AllocError> {
 }
 
 /// Handles an interrupt over a bus whose memory is large enough.
-pub(crate) fn handle(rt: &impl Abort, driver: &mut Driver, bus: &mut SoloBus, keeper: &mut Keeper) -> Handled {
+pub(crate) fn handle(
+    rt: &impl Abort,
+    driver: &mut Driver,
+    bus: &mut SoloBus,
+    keeper: &mut Keeper,
+) -> Handled {
     assert!(rt; driver.layout().size() <= bus.size());
     driver.interrupt(bus, keeper)
 }
@@ -115,14 +120,17 @@ struct Holding {
 }
 
 impl Model for Holding {
-    ghost use Rattle.std.specs.Prelude.{⊤};
-    ghost use Rattle.driver.proofs.TestOwners.{IsSingle};
+    ghost use Rattle.std.specs.Prelude.{⊤, ◌≤◌, ◌++◌, ℕ};
+    ghost use Rattle.dma_memory.specs.Owners.{copies};
+    ghost use Rattle.driver_law.specs.DriverState.{owners};
+    ghost use Rattle.driver.specs.Takes.{buffers_of};
 
     ghost Value = { ⊤ };
 
     ghost view = { λ holding. tt };
 
-    ghost invariant = { λ holding. IsSingle holding.driver holding.keeper.kept.items };
+    ghost invariant = { λ holding. (k : ℕ)
+        → copies k (owners holding.driver ++ buffers_of holding.keeper.kept.items) ≤ 1 };
 }
 
 impl Holding {
@@ -171,7 +179,11 @@ pub(crate) fn check_kept(
     let mut bytes = [0x55; 1518];
     assert_eq!(rt; driver.read(bus, received, &mut bytes), 70);
     for (place, byte) in bytes.iter().enumerate() {
-        assert_eq!(rt; *byte, want.get(place).copied().unwrap_or(0x55), "at {place}");
+        assert_eq!(rt;
+            *byte,
+            want.get(place).copied().unwrap_or(0x55),
+            "at {place}"
+        );
     }
 }
 
@@ -209,19 +221,28 @@ fn frames_come_between_interrupts(rt: HostRuntime) -> Result<(), Fail> {
     let mut driver = Driver::init(rt.alloc(), &mut bus, &config(16, KILOBYTES))?;
     let mut keeper = new_keeper(rt.alloc(), 0)?;
     // What bring-up leaves is of no concern to the handler.
-    assert_eq!(rt; handle(&rt, &mut driver, &mut bus, &mut keeper), Handled::NotMine);
+    assert_eq!(rt;
+        handle(&rt, &mut driver, &mut bus, &mut keeper),
+        Handled::NotMine
+    );
     assert_eq!(rt; bus.arrive(&broadcast(0)), Fate::Stored);
     assert_eq!(rt; bus.arrive(&broadcast(1)), Fate::Stored);
     for _ in 0..2 {
         assert_eq!(rt; bus.step(StepKind::RxData), Stepped::Moved);
         assert!(rt; !is_line_high(&mut bus));
-        assert_eq!(rt; handle(&rt, &mut driver, &mut bus, &mut keeper), Handled::NotMine);
+        assert_eq!(rt;
+            handle(&rt, &mut driver, &mut bus, &mut keeper),
+            Handled::NotMine
+        );
         assert_eq!(rt; bus.step(StepKind::RxDone), Stepped::Done);
         assert!(rt; is_line_high(&mut bus));
         assert_eq!(rt; handle(&rt, &mut driver, &mut bus, &mut keeper), took(1));
         assert!(rt; !is_line_high(&mut bus));
     }
-    assert_eq!(rt; handle(&rt, &mut driver, &mut bus, &mut keeper), Handled::NotMine);
+    assert_eq!(rt;
+        handle(&rt, &mut driver, &mut bus, &mut keeper),
+        Handled::NotMine
+    );
     assert_eq!(rt; (keeper.shown, driver.receiving(), driver.bad()), (2, 7, 0));
     assert_eq!(rt; driver.missed(), (0, true));
     Ok(())
@@ -238,7 +259,10 @@ fn an_interrupt_that_is_not_mine_changes_nothing(rt: HostRuntime) -> Result<(), 
         bus.write(ICS, causes);
         assert!(rt; !is_line_high(&mut bus));
         let before = bus.accesses();
-        assert_eq!(rt; handle(&rt, &mut driver, &mut bus, &mut keeper), Handled::NotMine);
+        assert_eq!(rt;
+            handle(&rt, &mut driver, &mut bus, &mut keeper),
+            Handled::NotMine
+        );
         assert_eq!(rt; bus.accesses() - before, 1);
         assert_eq!(rt; (keeper.shown, driver.receiving()), (0, 7));
     }
@@ -277,20 +301,40 @@ fn buffers_that_are_given_back_are_offered(rt: HostRuntime) -> Result<(), Fail> 
     receive_frames(&rt, &mut bus, 7);
     assert_eq!(rt; holding.handle(&rt, &mut bus), took(7));
     // One buffer was free, and is offered.
-    assert_eq!(rt; (holding.keeper.kept.len(), holding.driver.receiving(), bus.read(RDT)), (7, 1, 0));
+    assert_eq!(rt;
+        (
+            holding.keeper.kept.len(),
+            holding.driver.receiving(),
+            bus.read(RDT)
+        ),
+        (7, 1, 0)
+    );
     for place in 0..6u8 {
-        check_kept(&rt, &holding.driver, &mut bus, &holding.keeper, 0, &broadcast(place));
+        check_kept(
+            &rt,
+            &holding.driver,
+            &mut bus,
+            &holding.keeper,
+            0,
+            &broadcast(place),
+        );
         let before = bus.accesses();
         holding.give_oldest(&rt, &mut bus);
         // One descriptor, and RDT.
         assert_eq!(rt; bus.accesses() - before, 2);
-        assert_eq!(rt; (holding.driver.receiving(), bus.read(RDT)), (usize::from(place) + 2, u32::from(place) + 1));
+        assert_eq!(rt;
+            (holding.driver.receiving(), bus.read(RDT)),
+            (usize::from(place) + 2, u32::from(place) + 1)
+        );
     }
     // The ring is full but for the slot that is always the driver's: the last waits in the pool.
     let before = bus.accesses();
     holding.give_oldest(&rt, &mut bus);
     assert_eq!(rt; bus.accesses() - before, 0);
-    assert_eq!(rt; (holding.keeper.kept.len(), holding.driver.receiving()), (0, 7));
+    assert_eq!(rt;
+        (holding.keeper.kept.len(), holding.driver.receiving()),
+        (0, 7)
+    );
     receive_frames(&rt, &mut bus, 7);
     assert_eq!(rt; holding.handle(&rt, &mut bus), took(7));
     Ok(())

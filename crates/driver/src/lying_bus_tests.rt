@@ -1,6 +1,6 @@
 //! A driver over a bus that lies: each call ends, no buffer is lost, and what can't be a frame is handed to nobody.
 
-use crate::handler_tests::{KILOBYTES, broadcast, config, new_keeper, new_bus, took};
+use crate::handler_tests::{KILOBYTES, broadcast, config, new_bus, new_keeper, took};
 use crate::{Driver, Handled};
 use bus::Bus;
 use std::test::Fail;

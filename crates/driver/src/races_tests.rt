@@ -1,10 +1,9 @@
 //! Races between a driver and its adapter, each played as a schedule of steps between the driver's accesses.
 
 use crate::handler_tests::{
-    KILOBYTES, broadcast, config, handle, is_line_high, new_keeper, move_frame, new_bus,
-    receive_frames, took,
+    KILOBYTES, Keeper, RECEIVED, broadcast, config, handle, is_line_high, move_frame, new_bus,
+    new_keeper, receive_frames, took,
 };
-use crate::handler_tests::{Keeper, RECEIVED};
 use crate::{Driver, Handled, SendError};
 use adapter::offsets::{ICR, RDH, RDT, TDH, TDT};
 use adapter::{Fate, StepKind, Stepped};
@@ -36,7 +35,12 @@ fn play_accesses(rt: &impl Abort, bus: &mut SoloBus, count: u8) {
 }
 
 /// Sends a frame over a bus whose memory is large enough.
-fn send(rt: &impl Abort, driver: &mut Driver, bus: &mut SoloBus, frame: &[u8]) -> Result<(), SendError> {
+fn send(
+    rt: &impl Abort,
+    driver: &mut Driver,
+    bus: &mut SoloBus,
+    frame: &[u8],
+) -> Result<(), SendError> {
     assert!(rt; driver.layout().size() <= bus.size());
     driver.transmit(bus, frame)
 }
@@ -56,21 +60,36 @@ fn a_slot_is_free_behind_its_put(rt: HostRuntime) -> Result<(), Fail> {
     let mut bus = new_bus(rt.alloc())?;
     let mut driver = Driver::init(rt.alloc(), &mut bus, &config(16, KILOBYTES))?;
     let mut keeper = new_keeper(rt.alloc(), 0)?;
-    assert_eq!(rt; handle(&rt, &mut driver, &mut bus, &mut keeper), Handled::NotMine);
+    assert_eq!(rt;
+        handle(&rt, &mut driver, &mut bus, &mut keeper),
+        Handled::NotMine
+    );
     fill_transmit_ring(&rt, &mut driver, &mut bus);
-    assert_eq!(rt; send(&rt, &mut driver, &mut bus, &broadcast(7)), Err(SendError::RingFull));
+    assert_eq!(rt;
+        send(&rt, &mut driver, &mut bus, &broadcast(7)),
+        Err(SendError::RingFull)
+    );
     assert_eq!(rt; bus.step(StepKind::TxTake), Stepped::Took);
     assert_eq!(rt; bus.read(TDH), 1);
-    assert_eq!(rt; send(&rt, &mut driver, &mut bus, &broadcast(7)), Err(SendError::RingFull));
+    assert_eq!(rt;
+        send(&rt, &mut driver, &mut bus, &broadcast(7)),
+        Err(SendError::RingFull)
+    );
     assert!(rt; !is_line_high(&mut bus));
     assert!(rt; matches!(bus.step(StepKind::TxPut), Stepped::Put(_)));
     // TXDW: the handler is told, and finds nothing to take.
     assert!(rt; is_line_high(&mut bus));
     assert_eq!(rt; handle(&rt, &mut driver, &mut bus, &mut keeper), took(0));
-    assert_eq!(rt; handle(&rt, &mut driver, &mut bus, &mut keeper), Handled::NotMine);
+    assert_eq!(rt;
+        handle(&rt, &mut driver, &mut bus, &mut keeper),
+        Handled::NotMine
+    );
     assert_eq!(rt; send(&rt, &mut driver, &mut bus, &broadcast(7)), Ok(()));
     assert_eq!(rt; (driver.sending(), bus.read(TDT)), (7, 0));
-    assert_eq!(rt; send(&rt, &mut driver, &mut bus, &broadcast(8)), Err(SendError::RingFull));
+    assert_eq!(rt;
+        send(&rt, &mut driver, &mut bus, &broadcast(8)),
+        Err(SendError::RingFull)
+    );
     Ok(())
 }
 
@@ -90,7 +109,10 @@ fn a_slot_is_done_behind_its_load(rt: HostRuntime) -> Result<(), Fail> {
         ],
     );
     let before = bus.accesses();
-    assert_eq!(rt; send(&rt, &mut driver, &mut bus, &broadcast(7)), Err(SendError::RingFull));
+    assert_eq!(rt;
+        send(&rt, &mut driver, &mut bus, &broadcast(7)),
+        Err(SendError::RingFull)
+    );
     assert_eq!(rt; bus.accesses() - before, 1);
     assert_eq!(rt; send(&rt, &mut driver, &mut bus, &broadcast(7)), Ok(()));
     // Two descriptors are loaded, of which one is done; the frame, its descriptor, and TDT.
@@ -118,7 +140,10 @@ fn a_frame_is_sent_between_the_accesses_of_its_sending(rt: HostRuntime) -> Resul
                 SoloTick::Go,
             ],
         );
-        assert_eq!(rt; send(&rt, &mut driver, &mut bus, &broadcast(number)[..20]), Ok(()));
+        assert_eq!(rt;
+            send(&rt, &mut driver, &mut bus, &broadcast(number)[..20]),
+            Ok(())
+        );
         bus.finish();
         assert_eq!(rt; bus.step(StepKind::TxTake), Stepped::Took);
         assert!(rt; matches!(bus.step(StepKind::TxPut), Stepped::Put(_)));
@@ -129,8 +154,8 @@ fn a_frame_is_sent_between_the_accesses_of_its_sending(rt: HostRuntime) -> Resul
     Ok(())
 }
 
-/// Brings two frames, the first of them finished and the second finished before the handler's access behind so many, and
-/// checks that both are handed out, each once, and no cause is left.
+/// Brings two frames, of which the first is finished, and the second is finished before the handler's access
+/// behind so many. Tells what two interrupts answer.
 fn finish_before(
     rt: &impl Abort,
     driver: &mut Driver,
@@ -149,10 +174,8 @@ fn finish_before(
             SoloTick::Step(StepKind::RxDone),
         ],
     );
-    assert!(rt; driver.layout().size() <= bus.size());
-    let first = driver.interrupt(bus, keeper);
-    assert!(rt; driver.layout().size() <= bus.size());
-    (first, driver.interrupt(bus, keeper))
+    let first = handle(rt, driver, bus, keeper);
+    (first, handle(rt, driver, bus, keeper))
 }
 
 /// A frame is finished between any two of the handler's accesses. Before the read of ICR its cause is cleared, and the
@@ -173,7 +196,10 @@ fn a_frame_is_finished_between_the_accesses_of_the_handler(rt: HostRuntime) -> R
             (took(1), took(1))
         };
         assert_eq!(rt; answers, want, "behind {accesses}");
-        assert_eq!(rt; handle(&rt, &mut driver, &mut bus, &mut keeper), Handled::NotMine);
+        assert_eq!(rt;
+            handle(&rt, &mut driver, &mut bus, &mut keeper),
+            Handled::NotMine
+        );
         assert_eq!(rt; (driver.receiving(), driver.bad()), (7, 0));
         assert_eq!(rt; keeper.shown, 2 * (u64::from(accesses) + 1));
     }
@@ -190,7 +216,10 @@ fn a_slot_that_the_head_has_passed_is_in_work(rt: HostRuntime) -> Result<(), Fai
     move_frame(&rt, &mut bus, 1);
     assert_eq!(rt; bus.read(RDH), 2);
     assert_eq!(rt; handle(&rt, &mut driver, &mut bus, &mut keeper), took(1));
-    assert_eq!(rt; handle(&rt, &mut driver, &mut bus, &mut keeper), Handled::NotMine);
+    assert_eq!(rt;
+        handle(&rt, &mut driver, &mut bus, &mut keeper),
+        Handled::NotMine
+    );
     assert_eq!(rt; bus.step(StepKind::RxDone), Stepped::Done);
     assert_eq!(rt; handle(&rt, &mut driver, &mut bus, &mut keeper), took(1));
     assert_eq!(rt; (keeper.shown, driver.bad()), (2, 0));
@@ -223,7 +252,10 @@ fn frames_that_find_no_room_are_counted_once(rt: HostRuntime) -> Result<(), Fail
     assert_eq!(rt; driver.missed(), (4, true));
     assert_eq!(rt; handle(&rt, &mut driver, &mut bus, &mut keeper), took(0));
     assert_eq!(rt; driver.missed(), (4, true));
-    assert_eq!(rt; handle(&rt, &mut driver, &mut bus, &mut keeper), Handled::NotMine);
+    assert_eq!(rt;
+        handle(&rt, &mut driver, &mut bus, &mut keeper),
+        Handled::NotMine
+    );
     assert_eq!(rt; bus.step(StepKind::RxData), Stepped::Moved);
     assert_eq!(rt; bus.step(StepKind::RxDone), Stepped::Done);
     assert_eq!(rt; handle(&rt, &mut driver, &mut bus, &mut keeper), took(1));
@@ -247,7 +279,10 @@ fn a_ring_that_ran_full_is_refilled(rt: HostRuntime) -> Result<(), Fail> {
     assert_eq!(rt; bus.step(StepKind::RxDone), Stepped::Done);
     assert_eq!(rt; handle(&rt, &mut driver, &mut bus, &mut keeper), took(1));
     assert_eq!(rt; (driver.receiving(), bus.read(RDT)), (7, 7));
-    assert_eq!(rt; (keeper.shown, driver.bad(), driver.missed()), (8, 0, (0, true)));
+    assert_eq!(rt;
+        (keeper.shown, driver.bad(), driver.missed()),
+        (8, 0, (0, true))
+    );
     Ok(())
 }
 
@@ -263,7 +298,11 @@ fn a_slot_is_looked_for_between_the_stores_of_a_refill(rt: HostRuntime) -> Resul
     // ICR and MPC, then descriptor and EtherType of seven frames.
     play_accesses(&rt, &mut bus, 2 + 14);
     for _ in 0..7 {
-        play(&rt, &mut bus, &[SoloTick::Step(StepKind::RxData), SoloTick::Go]);
+        play(
+            &rt,
+            &mut bus,
+            &[SoloTick::Step(StepKind::RxData), SoloTick::Go],
+        );
     }
     play(&rt, &mut bus, &[SoloTick::Step(StepKind::RxData)]);
     assert_eq!(rt; handle(&rt, &mut driver, &mut bus, &mut keeper), took(7));

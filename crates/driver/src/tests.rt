@@ -1,6 +1,6 @@
 //! Worked examples over a solo bus: frames come round the receive ring, and others are sent.
 
-use crate::handler_tests::{KILOBYTES, broadcast, config, new_keeper, new_bus, receive_frames};
+use crate::handler_tests::{KILOBYTES, broadcast, config, new_bus, new_keeper, receive_frames};
 use crate::{Driver, SendError};
 use adapter::offsets::{RDT, TDT};
 use adapter::{StepKind, Stepped};
@@ -40,7 +40,10 @@ fn frames_are_sent(rt: HostRuntime) -> Result<(), Fail> {
     let long = [0xFF; 1519];
     let before = bus.accesses();
     assert!(rt; driver.layout().size() <= bus.size());
-    assert_eq!(rt; driver.transmit(&mut bus, &frame[..13]), Err(SendError::TooShort));
+    assert_eq!(rt;
+        driver.transmit(&mut bus, &frame[..13]),
+        Err(SendError::TooShort)
+    );
     assert!(rt; driver.layout().size() <= bus.size());
     assert_eq!(rt; driver.transmit(&mut bus, &long), Err(SendError::TooLong));
     assert_eq!(rt; bus.accesses() - before, 0);
