@@ -1,0 +1,9 @@
+pub mod InsideQueues
+pub mod Parts
+pub mod Sound
+pub mod Standing
+pub mod Accounting
+pub mod Stretches
+pub mod Receiving
+pub mod Shown
+pub mod Handling

@@ -1,0 +1,137 @@
+-- Stretches of a host's run.
+use Rattle.std.proofs.Common.{Bool, ◌≡◌, ◌≤◌, ◌<◌, ◌+◌, ◌-◌, ◌^◌, ◌++◌, ◌∷◌, [], ℕ, List, length, map, refl, sym, ap, subst, ◌∙◌, arith}
+use Rattle.std.specs.List.{All}
+use Rattle.std.proofs.lemmas.List.{append-nil}
+use Rattle.dma_memory.specs.Layout.{Counts}
+use Rattle.adapter.specs.HostFrames.{frames_held}
+use Rattle.adapter.specs.World.{World}
+use Rattle.bus.specs.Law.{Happens}
+use Rattle.bus.specs.Past.{Past, joined}
+use Rattle.bus.specs.declared.event.Access.{Access}
+use Rattle.driver_law.proofs.Steps.{goes-happens}
+use Rattle.driver_law.proofs.Stretches.{flows_join, goes_join}
+use Rattle.driver_law.specs.DriverState.{DriverState, HandedOut, holding}
+use Rattle.driver_law.specs.Goes.{FlowsTo, GoesTo, RanBy}
+use Rattle.driver_law.specs.Ready.{ReadyWith, Stands}
+use Rattle.driver.specs.Sends.{Answer, Transmits, accesses_by, given_by}
+use Rattle.driver.specs.Takes.{GrowsBy}
+use Rattle.driver.specs.declared.receiver.Received.{Received}
+use Rattle.packet_socket.specs.Calls.{HostTransmits}
+use Rattle.packet_socket.specs.Goes.{Accounts, Given, HostFlowsTo, HostGoesTo}
+use Rattle.packet_socket.specs.Holding.{HostReady, HostReadyWith, driver_of, frame_at, frames_in, waiting_at}
+use Rattle.packet_socket.specs.HostState.{HostState}
+use Rattle.packet_socket.specs.SocketsState.{all_of, queue_at}
+use Rattle.packet_socket.proofs.Accounting.{accounts, accounts-join}
+use Rattle.packet_socket.proofs.Standing.{AreSame, all-long, all-same, ends-as, queue-frames-same}
+
+-- The host with another state of its driver.
+abbrev pub with_driver : DriverState → HostState → HostState
+with_driver driver host = record host { driver = driver }
+
+-- Its queues stay: the frames in them are the same behind a stretch in which they stand.
+pub queues-stand : {up : Bool} (h : HostState) (d : DriverState) (a b : World) → HostReadyWith up h a → d.counts ≡ h.driver.counts
+    → All (Stands d.counts b.memory) (driver_of h a).handed_out → AreSame h.driver.counts a.memory b.memory (all_of h.queues)
+queues-stand h d a b host counts stand =
+    all-same h.driver.counts a.memory b.memory (all_of h.queues) (all-long h a host) (subst (λ (c : Counts). All (Stands c b.memory) (driver_of h a).handed_out) counts stand)
+
+pub driver-stays : {up : Bool} (h : HostState) (d : DriverState) (a b : World) → HostReadyWith up h a → d.counts ≡ h.driver.counts
+    → All (Stands d.counts b.memory) (driver_of h a).handed_out → driver_of (with_driver d h) b ≡ holding (driver_of h a).handed_out d
+driver-stays h d a b host counts stand = ends-as (with_driver d h) b h.driver.counts a.memory (all_of h.queues) refl counts (queues-stand h d a b host counts stand)
+
+-- Nothing is taken or given.
+pub accounts-stay : {up : Bool} (h : HostState) (d : DriverState) (a b : World) (stored : List (List ℕ)) → HostReadyWith up h a → d.counts ≡ h.driver.counts
+    → All (Stands d.counts b.memory) (driver_of h a).handed_out → frames_held d.oldest_received b ≡ frames_held h.driver.oldest_received a ++ stored
+    → Accounts h a (with_driver d h) b [] stored
+accounts-stay h d a b stored host counts stand holds =
+    let same = queues-stand h d a b host counts stand in
+    accounts h a (with_driver d h) b [] [] stored refl holds
+    (λ socket.
+    ap (λ (c : Counts). map (frame_at c b.memory) (queue_at h.queues socket)) counts
+    ∙ queue-frames-same h.driver.counts a.memory b.memory h.queues same socket
+    ∙ sym (append-nil (frames_in h socket a)))
+    (record { least = omega arith; most = omega arith; exactly = λ below. omega arith })
+
+-- The same stretch, while others hold other frames at its end.
+abbrev pub flows-hold : {up : Bool} (d : DriverState) (a : World) (e : DriverState) (b : World) (taken sent : List (List ℕ)) (past : Past) (held : List HandedOut)
+    → FlowsTo up d a e b taken sent past → ReadyWith up (holding held e) b → FlowsTo up d a (holding held e) b taken sent past
+flows-hold d a e b taken sent past held flows ready = record {
+  ready = ready;
+  counts = flows.counts;
+  sends = flows.sends;
+  holds = flows.holds;
+  least = flows.least;
+  frees = flows.frees;
+  mask = flows.mask;
+  sum = flows.sum;
+  counted = flows.counted;
+  at_most = flows.at_most;
+  exactly = λ exact loose. let all = flows.exactly exact loose in record { exact = all.exact; loose = all.loose; sum = all.sum };
+}
+
+abbrev pub goes-hold : {up : Bool} (d : DriverState) (a : World) (e : DriverState) (b : World) (taken sent : List (List ℕ)) (past : Past) (held : List HandedOut)
+    → GoesTo up d a e b taken sent past → ReadyWith up (holding held e) b → GoesTo up d a (holding held e) b taken sent past
+goes-hold d a e b taken sent past held goes ready = record {
+  flows = flows-hold d a e b taken sent past held goes.flows ready;
+  causes = goes.causes;
+  told = goes.told;
+}
+
+-- A stretch over a bus, whose end is told otherwise.
+abbrev pub ran-as : {up : Bool} {B : Type 0} (world : B → World) (happened : B → B → Past → Type 0) (xs ys : List Access) (old new : B) (d e e' : DriverState) (taken sent : List (List ℕ))
+    → xs ≡ ys → e ≡ e' → RanBy up world happened xs old new d e taken sent → RanBy up world happened ys old new d e' taken sent
+ran-as {up} world happened xs ys old new d e e' taken sent accesses last ran = record {
+  past = ran.past;
+  told = ran.told;
+  only = ran.only ∙ accesses;
+  goes = subst (λ (end : DriverState). GoesTo up d (world old) end (world new) taken sent ran.past) last ran.goes;
+  set = ran.set;
+  off = ran.off;
+}
+
+-- A frame is sent.
+pub host-transmits : {B : Type 0} (world : B → World) (happened : B → B → Past → Type 0) (old new : B) (h : HostState) (d' : DriverState) (frame : List ℕ) (result : Answer) → HostReady h (world old)
+    → Transmits world happened old new (driver_of h (world old)) (holding (driver_of h (world old)).handed_out d') frame result
+    → HostTransmits world happened old new h (with_driver d' h) frame result
+host-transmits world happened old new h d' frame result host transmits =
+    let d = driver_of h (world old) in
+    let e = holding d.handed_out d' in
+    let e' = driver_of (with_driver d' h) (world new) in
+    let flows = transmits.ran.goes.flows in
+    let end : e ≡ e' = sym (driver-stays h d' (world old) (world new) host flows.counts flows.ready.stand) in
+    record {
+      ran = record {
+        sizes = host.sizes;
+        ran = ran-as world happened (accesses_by result d e frame) (accesses_by result d e' frame) old new d e e' [] (given_by result frame) (ap (λ (s : DriverState). accesses_by result d s frame) end) end transmits.ran;
+        accounts = accounts-stay h d' (world old) (world new) transmits.ran.past.stored host flows.counts flows.ready.stand flows.holds;
+      };
+      answer = transmits.answer;
+    }
+
+-- Whatever happens between two calls.
+pub host-happens : {up : Bool} (h : HostState) (a b : World) (past : Past) → HostReadyWith up h a → Happens a b past → HostGoesTo up h a h b [] [] [] past
+host-happens {up} h a b past host happens =
+    let d = driver_of h a in
+    let goes = goes-happens d a b past host.ready happens in
+    let stand = goes.flows.ready.stand in
+    record {
+      sizes = host.sizes;
+      goes = subst (λ (end : DriverState). GoesTo up d a end b [] [] past) (sym (driver-stays h h.driver a b host refl stand)) goes;
+      accounts = accounts-stay h h.driver a b past.stored host refl stand goes.flows.holds;
+    }
+
+-- Two stretches are one.
+pub host-flows-join : {first_up up : Bool} (h1 h2 h3 : HostState) (a b c : World) (t1 t2 : List (List ℕ)) (given more : List Given) (s1 s2 : List (List ℕ)) (first later : Past)
+    → HostFlowsTo first_up h1 a h2 b t1 given s1 first → HostFlowsTo up h2 b h3 c t2 more s2 later → HostFlowsTo up h1 a h3 c (t1 ++ t2) (given ++ more) (s1 ++ s2) (joined first later)
+host-flows-join h1 h2 h3 a b c t1 t2 given more s1 s2 first later one two = record {
+  sizes = two.sizes;
+  flows = flows_join (driver_of h1 a) (driver_of h2 b) (driver_of h3 c) a b c t1 t2 s1 s2 first later one.flows two.flows;
+  accounts = accounts-join h1 h2 h3 a b c given more first.stored later.stored one.accounts two.accounts;
+}
+
+pub host-goes-join : {first_up up : Bool} (h1 h2 h3 : HostState) (a b c : World) (t1 t2 : List (List ℕ)) (given more : List Given) (s1 s2 : List (List ℕ)) (first later : Past)
+    → HostGoesTo first_up h1 a h2 b t1 given s1 first → HostGoesTo up h2 b h3 c t2 more s2 later → HostGoesTo up h1 a h3 c (t1 ++ t2) (given ++ more) (s1 ++ s2) (joined first later)
+host-goes-join h1 h2 h3 a b c t1 t2 given more s1 s2 first later one two = record {
+  sizes = two.sizes;
+  goes = goes_join (driver_of h1 a) (driver_of h2 b) (driver_of h3 c) a b c t1 t2 s1 s2 first later one.goes two.goes;
+  accounts = accounts-join h1 h2 h3 a b c given more first.stored later.stored one.accounts two.accounts;
+}

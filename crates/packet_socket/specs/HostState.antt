@@ -1,0 +1,14 @@
+-- A host, as plain data: its driver, the table of its sockets, and the frames that wait for them (own).
+use Rattle.std.specs.Prelude.{ℕ, List}
+use Rattle.driver.specs.declared.receiver.Received.{Received}
+use Rattle.driver_law.specs.DriverState.{DriverState}
+use Rattle.packet_socket.specs.declared.socket_kind.SocketKind.{SocketKind}
+
+pub record HostState : Type 0 where
+  -- the driver, in whose state nobody holds frames
+  pub driver : DriverState
+  pub kinds : List SocketKind
+  -- the frames that wait for each socket, the oldest first
+  pub queues : List (List Received)
+  -- how many frames no socket took, up to the greatest u64
+  pub unclaimed : ℕ

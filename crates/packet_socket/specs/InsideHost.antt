@@ -1,0 +1,26 @@
+-- How a host keeps its state (own).
+use Rattle.std.specs.Prelude.{◌≡◌, ◌++◌, ℕ, List, length}
+use Rattle.dma_memory.specs.Owners.{HasNoSecondOwner}
+use Rattle.driver_law.specs.DriverState.{DriverState, owners}
+use Rattle.driver.specs.Takes.{AreFrames, buffers_of}
+use Rattle.driver.specs.declared.receiver.Received.{Received}
+use Rattle.packet_socket.specs.HostState.{HostState}
+use Rattle.packet_socket.specs.SocketsState.{SocketsState, all_of}
+use Rattle.packet_socket.specs.declared.host.Host.TheInside.{Inside}
+
+-- a host of these parts
+abbrev pub host_with : DriverState → SocketsState → HostState
+host_with driver sockets = record { driver = driver; kinds = sockets.kinds; queues = sockets.queues; unclaimed = sockets.unclaimed }
+
+abbrev pub host_of : Inside → HostState
+host_of host = host_with host.driver host.sockets
+
+-- Each queue has room for all buffers, and no buffer has two owners: driver and queues together.
+pub record IsHost (driver : DriverState) (sockets : SocketsState) : Type 0 where
+  pub room : sockets.room ≡ driver.counts.buffers
+  pub count : length sockets.queues ≡ length sockets.kinds
+  pub owners : HasNoSecondOwner driver.counts.buffers (owners driver ++ buffers_of (all_of sockets.queues))
+  pub sizes : AreFrames (all_of sockets.queues)
+
+abbrev pub IsSound : Inside → Type 0
+IsSound host = IsHost host.driver host.sockets

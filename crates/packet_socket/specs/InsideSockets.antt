@@ -1,0 +1,22 @@
+-- How a host keeps its sockets (own).
+use Rattle.std.specs.Prelude.{◌≡◌, ℕ, List, All, length, map}
+use Rattle.circular_buffer.specs.Buffer.{Buffer}
+use Rattle.driver.specs.declared.receiver.Received.{Received}
+use Rattle.packet_socket.specs.SocketsState.{SocketsState}
+use Rattle.packet_socket.specs.declared.sockets.Sockets.TheInside.{Inside}
+
+abbrev pub items_of : Buffer Received → List Received
+items_of queue = queue.items
+
+abbrev pub sockets_of : Inside → SocketsState
+sockets_of sockets = record {
+  kinds = sockets.kinds.items;
+  queues = map items_of sockets.queues.items;
+  room = sockets.room;
+  unclaimed = sockets.unclaimed;
+}
+
+-- There is a queue for each socket, with room for as many frames.
+pub record AreSound (sockets : Inside) : Type 0 where
+  pub queues : length sockets.queues.items ≡ length sockets.kinds.items
+  pub rooms : All (λ (queue : Buffer Received). queue.capacity ≡ sockets.room) sockets.queues.items

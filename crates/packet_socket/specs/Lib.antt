@@ -1,0 +1,11 @@
+pub mod Kinds
+pub mod KindLaws
+pub mod SocketsState
+pub mod QueueLaws
+pub mod SortingLaws
+pub mod InsideSockets
+pub mod HostState
+pub mod InsideHost
+pub mod Holding
+pub mod Goes
+pub mod Calls

@@ -1,0 +1,15 @@
+//! Packet sockets over a driver of the 82540EM: frames in and frames out, by EtherType.
+#![tactic(auto)]
+
+mod host;
+mod interrupt;
+mod receive;
+mod socket_kind;
+mod sockets;
+
+pub use host::Host;
+pub use receive::RecvError;
+pub use socket_kind::SocketKind;
+
+#[cfg(test)]
+mod tests;

@@ -1,0 +1,61 @@
+// Which frames a socket takes.
+
+ghost use Rattle.std.specs.Prelude.{◌≡◌, ◌<◌, IfSome, length, position};
+ghost use Rattle.packet_socket.specs.Kinds as kinds;
+
+/// Which frames a socket takes.
+#[derive(Clone, Copy, Debug, Default, PartialEq, Eq)]
+pub enum SocketKind {
+    /// Those with this number in bytes 12 and 13, the EtherType, where no socket before it has the same.
+    Ether(u16),
+    /// Those that no socket of their number takes, where no socket before it does.
+    #[default]
+    All,
+}
+
+impl SocketKind {
+    /// Whether it takes the frames of an EtherType, and no others.
+    fn is_of(self, ether_type: u16) -> bool
+        ensures { result ≡ kinds.is_of ether_type self }
+    {
+        match self {
+            SocketKind::Ether(own) => own == ether_type,
+            SocketKind::All => false,
+        }
+    }
+
+    /// Whether it takes the frames of all EtherTypes.
+    fn takes_all(self) -> bool
+        ensures { result ≡ kinds.takes_all self }
+    {
+        match self {
+            SocketKind::Ether(_) => false,
+            SocketKind::All => true,
+        }
+    }
+}
+
+/// The first socket of an EtherType.
+fn first_of(table: &[SocketKind], ether_type: u16) -> Option<usize>
+    ensures { result ≡ position (kinds.is_of ether_type) table.now }
+{
+    table.iter().position(|kind| kind.is_of(ether_type))
+}
+
+/// The first socket that takes all frames.
+fn first_for_all(table: &[SocketKind]) -> Option<usize>
+    ensures { result ≡ position kinds.takes_all table.now }
+{
+    table.iter().position(|kind| kind.takes_all())
+}
+
+/// The socket that takes the frames of an EtherType: the first of that number, else the first that takes all.
+pub(crate) fn socket_of(table: &[SocketKind], ether_type: u16) -> Option<usize>
+    ensures socket { result ≡ kinds.socket_of table.now ether_type }
+    ensures there { IfSome result (λ socket. socket < length table.now) }
+{
+    match first_of(table, ether_type) {
+        Some(own) => Some(own),
+        None => first_for_all(table),
+    }
+}
