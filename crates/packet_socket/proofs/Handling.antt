@@ -181,6 +181,7 @@ works {up} world happened old middle new first driver driver' before after cause
         goes = goes-hold d (world middle) last (world new) frames [] w.ran.past list w.ran.goes all.ready;
         set = w.ran.set;
         off = w.ran.off;
+        link = w.ran.link;
       };
       least = it.least;
       work = λ unmasked. let behind = it.work unmasked in record { unmasked = behind.unmasked; asked = behind.asked };

@@ -86,6 +86,7 @@ ran-as {up} world happened xs ys old new d e e' taken sent accesses last ran = r
   goes = subst (λ (end : DriverState). GoesTo up d (world old) end (world new) taken sent ran.past) last ran.goes;
   set = ran.set;
   off = ran.off;
+  link = ran.link;
 }
 
 -- A frame is sent.

@@ -3,13 +3,13 @@
 
 mod host;
 mod interrupt;
+mod law;
 mod receive;
 mod socket_kind;
 mod sockets;
 
 pub use host::Host;
+pub use law::{host_stretches_join, hosts_go_on};
 pub use receive::RecvError;
 pub use socket_kind::SocketKind;
 
-#[cfg(test)]
-mod tests;
