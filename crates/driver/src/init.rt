@@ -136,6 +136,7 @@ impl Driver {
         ensures new { IfOk result (λ driver. driver
             ≡ with_owners (new_driver (counts_of config.now) []) driver.buffers [] driver.pool []) }
         ensures one_owner { IfOk result (λ driver. HasOneOwner driver.counts.buffers (owners driver)) }
+        ensures none_out { IfOk result (λ driver. driver.handed_out ≡ []) }
         ensures refilled { IfOk result IsRefilled }
 
         // And over one that obeys the law.

@@ -8,8 +8,10 @@ use Rattle.std.proofs.lemmas.List.Sorted.{All-permutation, IsPermutation-map, le
 use Rattle.dma_memory.specs.Owners.{HasNoSecondOwner, HaveSameNumbers, copies}
 use Rattle.dma_memory.specs.OwnersLaws.{copies-append, copies-cons, copies-itself, if_same, known_from_no_second, length-no_second, once_from_no_second}
 use Rattle.dma_memory.specs.Layout.{Counts}
+use Rattle.adapter.specs.World.{World}
 use Rattle.bus.proofs.Lists.{all-head, all-none, all-right, all-without}
-use Rattle.driver_law.specs.DriverState.{DriverState, owners}
+use Rattle.driver_law.specs.DriverState.{DriverState, HandedOut, holding, owners}
+use Rattle.driver_law.specs.Ready.{ReadyWith}
 use Rattle.driver.specs.Handles.{OnNotMine, OnTaken}
 use Rattle.driver.specs.Takes.{AreFrames, IsFrameSize, ShowsAll, buffers_of}
 use Rattle.driver.specs.declared.interrupt.Handled.{Handled}
@@ -17,6 +19,7 @@ use Rattle.driver.specs.declared.interrupt.Handled.TheVariants.{NotMine}
 use Rattle.driver.specs.declared.interrupt.Handled.TheVariants as answers
 use Rattle.driver.specs.declared.receiver.Received.{Received}
 use Rattle.packet_socket.specs.Calls.{SortsAll}
+use Rattle.packet_socket.specs.Holding.{HostReadyWith, driver_of, waiting_at}
 use Rattle.packet_socket.specs.InsideHost.{IsHost, host_with}
 use Rattle.packet_socket.specs.Kinds.{has_socket}
 use Rattle.packet_socket.specs.SocketsState.{Queues, SocketsState, Sorts, all_of, queue_at}
@@ -198,3 +201,15 @@ sorts-all (answers.Handled taken) driver driver' before after host shows = recor
   unclaimed = shows.told.unclaimed;
   bad = shows.bad;
 }
+
+pub new-ready : {up : Bool} (driver : DriverState) (sockets : SocketsState) (kinds : List SocketKind) (room : ℕ) (world : World)
+    → sockets ≡ record { kinds = kinds; queues = replicate (length kinds) []; room = room; unclaimed = 0 } → driver.handed_out ≡ [] → ReadyWith up driver world
+    → HostReadyWith up (host_with driver sockets) world
+new-ready {up} driver sockets kinds room world is out ready =
+    let none : all_of sockets.queues ≡ [] = ap (λ (s : SocketsState). all_of s.queues) is ∙ none-wait (length kinds) in
+    let same : driver_of (host_with driver sockets) world ≡ driver =
+    ap (λ (list : List Received). holding (map (waiting_at driver.counts world.memory) list) driver) none ∙ ap (λ (list : List HandedOut). holding list driver) (sym out) in
+    record {
+      sizes = subst AreFrames (sym none) (all-none (λ (r : Received). IsFrameSize r.length));
+      ready = subst (λ (d : DriverState). ReadyWith up d world) (sym same) ready;
+    }

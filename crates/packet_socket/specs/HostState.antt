@@ -1,5 +1,5 @@
 -- A host, as plain data: its driver, the table of its sockets, and the frames that wait for them (own).
-use Rattle.std.specs.Prelude.{ℕ, List}
+use Rattle.std.specs.Prelude.{ℕ, List, [], length, replicate}
 use Rattle.driver.specs.declared.receiver.Received.{Received}
 use Rattle.driver_law.specs.DriverState.{DriverState}
 use Rattle.packet_socket.specs.declared.socket_kind.SocketKind.{SocketKind}
@@ -12,3 +12,7 @@ pub record HostState : Type 0 where
   pub queues : List (List Received)
   -- how many frames no socket took, up to the greatest u64
   pub unclaimed : ℕ
+
+-- one for which nothing waits, and that has counted nothing
+abbrev pub new_host : DriverState → List SocketKind → HostState
+new_host driver kinds = record { driver = driver; kinds = kinds; queues = replicate (length kinds) []; unclaimed = 0 }

@@ -1,22 +1,29 @@
 // A host: a driver with sockets above it.
 
-ghost use Rattle.std.specs.Prelude.{◌≡◌, ◌↔◌, ◌≤◌, ◌<◌, ◌++◌, [], Err, IfOk, length, replicate};
+ghost use Rattle.std.specs.Prelude.{◌≡◌, ◌↔◌, ◌≤◌, ◌<◌, ◌++◌, Err, IfErr, IfOk, length};
 ghost use Rattle.dma_memory.specs.Layout.{size_of};
 ghost use Rattle.dma_memory.specs.Owners.{HasNoSecondOwner};
+ghost use Rattle.bring_up.specs.Configuration.{CanBeHad, counts_of};
+ghost use Rattle.bring_up.specs.Device.{IsBeforeAccess};
+ghost use Rattle.bring_up.specs.declared.init_error.InitError.TheVariants as InitError;
 ghost use Rattle.driver_law.specs.DriverState.{owners};
+ghost use Rattle.driver_law.specs.Goes.{IsRefilled};
+ghost use Rattle.driver.specs.Initialises.{Initialises, Refuses};
 ghost use Rattle.driver.specs.Sends.{IsRefused, with_sending};
 ghost use Rattle.driver.specs.Takes.{AreFrames, buffers_of};
 ghost use Rattle.driver.specs.declared.transmit.SendError.TheVariants as SendError;
 ghost use Rattle.packet_socket.specs.Calls.{HostTransmits};
 ghost use Rattle.packet_socket.specs.Holding.{HostReady};
+ghost use Rattle.packet_socket.specs.HostState.{new_host};
 ghost use Rattle.packet_socket.specs.SocketsState.{all_of, queue_at};
 
 use crate::SocketKind;
 use crate::sockets::{MOST_SOCKETS, Sockets};
 use arrayvec::ArrayVec;
+use bring_up::{Config, InitError};
 use bus::Bus;
 use driver::{Driver, SendError};
-use std::alloc::{AllocError, Global};
+use std::alloc::Global;
 use std::marker::Model;
 
 /// A host: a driver of an adapter, and the sockets that its frames go to.
@@ -39,26 +46,40 @@ impl Model for Host {
 }
 
 impl Host {
-    /// A host over a driver, with these sockets. Each queue has room for all buffers of the driver.
+    /// Brings the adapter up as `config` says, and makes a host with these sockets. Their queues have room
+    /// for all buffers, so no call takes memory behind this one.
     ///
     /// # Errors
     ///
-    /// Want of memory alone.
-    pub(crate) fn over(
+    /// Those of [`Driver::init`]. Want of memory for the queues comes without an access, too. Behind each error
+    /// the call may be made again.
+    pub fn new<B: Bus>(
         alloc: Global,
-        driver: Driver,
+        bus: &mut B,
+        config: &Config,
         kinds: ArrayVec<SocketKind, MOST_SOCKETS>,
-    ) -> Result<Host, AllocError>
-        requires one_owner { HasNoSecondOwner driver.counts.buffers (owners driver) }
-        ensures new { IfOk result (λ host. host ≡ record {
-          driver = driver;
-          kinds = kinds.items;
-          queues = replicate (length kinds.items) [];
-          unclaimed = 0;
-        }) }
+    ) -> Result<Host, InitError>
+        ensures extent { B.extent bus.new ≡ B.extent bus.old }
+        ensures kept { B.kept bus.old bus.new }
+        ensures honest { B.honest bus.old → B.honest bus.new }
+        ensures lively { B.lively bus.old → B.lively bus.new }
+
+        // What it does over any bus.
+        ensures config { (result ≡ Err InitError.Config) ↔ ¬ CanBeHad config.now (B.extent bus.old) }
+        ensures unasked { IfErr result (λ error. IsBeforeAccess error → bus.new ≡ bus.old) }
+        ensures new { IfOk result (λ host. host ≡ new_host host.driver kinds.items) }
+        ensures counts { IfOk result (λ host. host.driver.counts ≡ counts_of config.now) }
+        ensures refilled { IfOk result (λ host. IsRefilled host.driver) }
+
+        // And over one that obeys the law.
+        ensures initialises { B.honest bus.old
+            → IfOk result (λ host. Initialises B.world B.happened bus.old bus.new config.now host.driver) }
+        ensures ready { B.honest bus.old → IfOk result (λ host. HostReady host (B.world bus.new)) }
+        ensures refuses { B.honest bus.old → IfErr result (Refuses B.world B.happened B.lively bus.old bus.new) }
     {
-        let room = usize::from(driver.layout().buffers());
-        let sockets = Sockets::new(alloc, kinds, room)?;
+        let layout = config.layout(bus.size())?;
+        let sockets = Sockets::new(alloc, kinds, usize::from(layout.buffers()))?;
+        let driver = Driver::init(alloc, bus, config)?;
         Ok(Host { driver, sockets })
     }
 

@@ -57,6 +57,9 @@ returns-clause-one_owner g c =
     subst (λ (d : DriverState). HasOneOwner d.counts.buffers (owners d)) (sym o.others)
     (owners-offered counts.buffers counts c.in_ok-driver.driver.pool o.numbers c.offer_first.new.self.pool (owner g c) o.pool)
 
+pub returns-clause-none_out : goal.returns-clause-none_out
+returns-clause-none_out g c = ap (λ (d : DriverState). d.handed_out) (offered g c).others
+
 pub returns-clause-initialises : goal.returns-clause-initialises
 returns-clause-initialises g c honest =
     let world = g.B.Bus.world in

@@ -1,0 +1,37 @@
+use Rattle.std.proofs.Common.{◌≡◌, ◌≤◌, [], Err, IfErr, List, length, map, ap, refl, sym, subst, ◌∙◌, arith}
+use Rattle.std.proofs.lemmas.Result.{err_from_is_err_and}
+use Rattle.dma_memory.specs.Layout.{Counts}
+use Rattle.dma_memory.specs.OwnersLaws.{no_second_from_one}
+use Rattle.bring_up.specs.declared.init_error.InitError.TheVariants.{Memory}
+use Rattle.bring_up.specs.declared.init_error.InitError.TheVariants as errors
+use Rattle.bus.specs.Past.{nothing}
+use Rattle.driver_law.specs.DriverState.{DriverState, owners}
+use Rattle.driver.specs.Initialises.{Refuses}
+use Rattle.packet_socket.specs.InsideHost.{IsHost}
+use Rattle.packet_socket.proofs.Sound.{new-host, new-ready}
+use Rattle.packet_socket.proofs.host.Host.new.Given.{Over}
+use Rattle.packet_socket.proofs.host.Host.new.Goals as goal
+
+pub returns-in_err-layout-clause-refuses : goal.returns-in_err-layout-clause-refuses
+returns-in_err-layout-clause-refuses g c honest =
+    let told = err_from_is_err_and c.from_residual.result c.from_residual.ensures.1 in
+    let is : c.from_residual.result ≡ Err errors.Config = told.1 ∙ ap Err (told.2 ∙ c.in_err-layout.ensures.err) in
+    subst (λ result. IfErr result (Refuses g.B.Bus.world g.B.Bus.happened g.B.Bus.lively c.args.bus.now c.args.bus.now)) (sym is)
+    (record { past = nothing; told = g.met.B.Bus.stays c.args.bus.now; why = refl; why_lively = λ lively. tt })
+
+pub returns-in_err-sockets-clause-refuses : goal.returns-in_err-sockets-clause-refuses
+returns-in_err-sockets-clause-refuses g c honest =
+    let told = err_from_is_err_and c.from_residual-in_err-sockets.result c.from_residual-in_err-sockets.ensures.1 in
+    let is : c.from_residual-in_err-sockets.result ≡ Err Memory = told.1 ∙ ap Err told.2 in
+    subst (λ result. IfErr result (Refuses g.B.Bus.world g.B.Bus.happened g.B.Bus.lively c.args.bus.now c.args.bus.now)) (sym is)
+    (record { past = nothing; told = g.met.B.Bus.stays c.args.bus.now; why = refl; why_lively = λ lively. tt })
+
+pub invariant_of-result : goal.invariant_of-result
+invariant_of-result g c =
+    new-host c.in_ok-driver.driver c.in_ok-sockets.sockets c.args.kinds.items c.from.result c.in_ok-sockets.ensures.new
+    (c.from.ensures ∙ c.buffers.ensures.count ∙ ap (λ (counts : Counts). counts.buffers) (c.in_ok-layout.ensures.counts ∙ sym c.in_ok-driver.ensures.counts))
+    (no_second_from_one c.in_ok-driver.driver.counts.buffers (owners c.in_ok-driver.driver) c.in_ok-driver.ensures.one_owner)
+
+pub returns-clause-ready : goal.returns-clause-ready
+returns-clause-ready g c honest =
+    new-ready c.in_ok-driver.driver c.in_ok-sockets.sockets c.args.kinds.items c.from.result (g.B.Bus.world c.init.new.bus) c.in_ok-sockets.ensures.new c.in_ok-driver.ensures.none_out (c.in_ok-driver.ensures.initialises honest).ready
