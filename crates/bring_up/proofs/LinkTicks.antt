@@ -10,7 +10,7 @@ use Rattle.mdic_phy.specs.declared.phy.Negotiation.{Negotiation}
 use Rattle.mdic_phy.specs.declared.phy.Negotiation.TheVariants.{NotStarted, Running, Complete}
 use Rattle.mdic_phy.specs.Mdic.{MdicState}
 use Rattle.mdic_phy.specs.Phy.{PhyState, after_tick, counted, is_complete, link_is_up}
-use Rattle.registers.specs.Bits.{HasBit}
+use Rattle.registers.specs.Bits.{HasBit, Meet}
 use Rattle.adapter.specs.State.{AdapterState}
 use Rattle.adapter.specs.World.{World}
 use Rattle.bus.specs.Law.{Management, management_of}
@@ -107,6 +107,14 @@ down-needs ticks (After d) Complete some has down = absurd (true≢false down)
 -- bits 5 and 2 aren't both set
 abbrev pub NotBoth : ℕ → Type 0
 NotBoth answer = (bit_and answer 0x20 ≡ 0) ⊎ (bit_and answer 0x04 ≡ 0)
+
+pub not-both : (answer : ℕ) → ¬ (Meet answer 0x20 × Meet answer 0x04) → NotBoth answer
+not-both answer none = by_cases (bit_and answer 0x20) (bit_and answer 0x04) none
+  where
+    by_cases : (a b : ℕ) → ¬ ((0 < a) × (0 < b)) → (a ≡ 0) ⊎ (b ≡ 0)
+    by_cases zero b none = inl refl
+    by_cases (suc a) zero none = inr refl
+    by_cases (suc a) (suc b) none = absurd (none (omega arith, omega arith))
 
 shows-up : (up latched : Bool) → bit_and (shown_status up latched) 0x04 ≢ 0 → up ≡ true
 shows-up true latched set = refl

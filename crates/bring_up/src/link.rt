@@ -1,6 +1,7 @@
 //! The PHY and its link ("13.4.7 MDI Control Register"; IEEE 802.3, clause 22).
 
-ghost use Rattle.std.specs.Prelude.{◌≡◌, ◌⊎◌, IfErr, IsOkUnless};
+ghost use Rattle.std.specs.Prelude.{◌≡◌, ◌⊎◌, ◌↔◌, IfErr, IsOkUnless, IsTrue};
+ghost use Rattle.registers.specs.Bits.{Meet};
 ghost use Rattle.bring_up.specs.Link.{AwaitsLink, Commands, IsCommand, Negotiates};
 
 use crate::MOST_READS;
@@ -71,11 +72,18 @@ pub fn await_link<B: Bus>(bus: &mut B) -> Result<(), InitError>
 {
     for _ in 0..MOST_READS {
         let status = command(bus, OP_READ | PHY_ADDRESS | STATUS_REGISTER)?;
-        if status & NEGOTIATED != 0 && status & LINK != 0 {
+        if shows_link(status) {
             return Ok(());
         }
     }
     Err(InitError::NoLink)
+}
+
+/// Whether the PHY's status shows that negotiation is complete, bit 5, and the link up, bit 2.
+fn shows_link(status: u32) -> bool
+    ensures { IsTrue result ↔ (Meet status 0x20 × Meet status 0x04) }
+{
+    status & NEGOTIATED != 0 && status & LINK != 0
 }
 
 /// Gives the PHY a command, and waits for its end. Answers MDIC as it was then.

@@ -1,9 +1,9 @@
-use Rattle.std.proofs.Common.{◌∙◌, inl, inr, refl, arith}
+use Rattle.std.proofs.Common.{◌∙◌, refl, sym, arith}
+use Rattle.std.proofs.lemmas.Bool.{false≢true}
 use Rattle.std.proofs.lemmas.Result.{err_from_is_err_and}
-use Rattle.bring_up.proofs.LinkTicks.{NotBoth}
+use Rattle.bring_up.proofs.LinkTicks.{NotBoth, not-both}
 use Rattle.bring_up.proofs.Negotiations.{awaits-late, awaits-none, awaits-on, awaits-up, begins}
 use Rattle.bring_up.proofs.link.await_link.Goals as goal
-use Rattle.bring_up.proofs.link.await_link.Goals.{else-status-ne0-via-then-status-ne0+else-status-ne0-2, else-status-ne0-via-else-status-ne0}
 
 pub loop-init : goal.loop-init
 loop-init g c = record {
@@ -17,10 +17,8 @@ loop-init g c = record {
 pub loop-preserved : goal.loop-preserved
 loop-preserved g c =
     let before = c.loop.invariant in
-    let down : NotBoth c.in_ok-status.status = elim c.else-status-ne0.branch [
-      | else-status-ne0-via-then-status-ne0+else-status-ne0-2 w ↦ inr w.if-status-ne0-2.false
-      | else-status-ne0-via-else-status-ne0 w ↦ inl w.if-status-ne0.false
-    ] in
+    let down : NotBoth c.in_ok-status.status =
+    not-both c.in_ok-status.status (λ both. absurd (false≢true (sym c.if-shows_link.false ∙ c.shows_link.ensures.1 both))) in
     record {
       extent = c.in_ok-status.ensures.extent ∙ before.extent;
       kept = g.met.B.Bus.keeps_on _ _ _ before.kept c.in_ok-status.ensures.kept;
@@ -39,11 +37,12 @@ returns-in_err-status-clause-awaits g c honest =
     (awaits-late g.B.Bus.world g.B.Bus.happened g.B.Bus.lively g.met.B.Bus.joins c.args.bus.now c.loop.bus c.command.new.bus c.loop.counter c.in_err-status.field-0.0 told.0 (told.2 ∙ c.in_err-status.ensures.error)
     before.lively (before.awaits honest) (c.in_err-status.ensures.commands (before.honest honest)))
 
-pub returns-then-status-ne0-2-clause-awaits : goal.returns-then-status-ne0-2-clause-awaits
-returns-then-status-ne0-2-clause-awaits g c honest =
+pub returns-then-shows_link-clause-awaits : goal.returns-then-shows_link-clause-awaits
+returns-then-shows_link-clause-awaits g c honest =
     let before = c.loop.invariant in
+    let both = c.shows_link.ensures.0 c.if-shows_link.true in
     awaits-up g.B.Bus.world g.B.Bus.happened g.B.Bus.lively g.met.B.Bus.joins c.args.bus.now c.loop.bus c.command.new.bus c.loop.counter c.in_ok-status.status tt
-    (before.awaits honest) (c.in_ok-status.ensures.commands (before.honest honest)) c.if-status-ne0-2.true
+    (before.awaits honest) (c.in_ok-status.ensures.commands (before.honest honest)) (λ unset. absurd (omega (arith, both.1, unset)))
 
 pub returns-clause-awaits : goal.returns-clause-awaits
 returns-clause-awaits g c honest =
