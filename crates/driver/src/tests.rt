@@ -16,18 +16,21 @@ fn frames_come_round_the_ring(rt: HostRuntime) -> Result<(), Fail> {
     // All slots but one are offered.
     let before = bus.accesses();
     driver.refill(&mut bus);
-    assert_eq!(rt; (bus.accesses() - before, driver.receiving()), (0, 7));
+    assert_eq!(rt;
+        (bus.accesses().wrapping_sub(before), driver.receiving()),
+        (0, 7)
+    );
     receive_frames(&rt, &mut bus, 2);
     assert!(rt; driver.layout().size() <= bus.size());
     assert_eq!(rt; driver.take_finished(&mut bus, &mut keeper), 2);
     // Three descriptors, of which the last isn't done, and two EtherTypes.
-    assert_eq!(rt; bus.accesses() - before, 5);
+    assert_eq!(rt; bus.accesses().wrapping_sub(before), 5);
     assert_eq!(rt; (keeper.shown, keeper.kept.len()), (2, 1));
     assert_eq!(rt; driver.receiving(), 5);
     assert!(rt; driver.layout().size() <= bus.size());
     driver.refill(&mut bus);
     // Two descriptors, and RDT.
-    assert_eq!(rt; bus.accesses() - before, 5 + 3);
+    assert_eq!(rt; bus.accesses().wrapping_sub(before), 5 + 3);
     assert_eq!(rt; (driver.receiving(), bus.read(RDT)), (7, 1));
     Ok(())
 }
@@ -46,14 +49,14 @@ fn frames_are_sent(rt: HostRuntime) -> Result<(), Fail> {
     );
     assert!(rt; driver.layout().size() <= bus.size());
     assert_eq!(rt; driver.transmit(&mut bus, &long), Err(SendError::TooLong));
-    assert_eq!(rt; bus.accesses() - before, 0);
+    assert_eq!(rt; bus.accesses().wrapping_sub(before), 0);
     for sent in 0..7 {
         assert_eq!(rt; driver.sending(), sent);
         assert!(rt; driver.layout().size() <= bus.size());
         assert_eq!(rt; driver.transmit(&mut bus, &frame[..14]), Ok(()));
     }
     // The first of them found nothing outstanding; each other one loaded a descriptor that wasn't done.
-    assert_eq!(rt; bus.accesses() - before, 7 * 3 + 6);
+    assert_eq!(rt; bus.accesses().wrapping_sub(before), 7 * 3 + 6);
     assert!(rt; driver.layout().size() <= bus.size());
     assert_eq!(rt; driver.transmit(&mut bus, &frame), Err(SendError::RingFull));
     assert_eq!(rt; bus.read(TDT), 7);
