@@ -69,6 +69,7 @@ impl Host {
         ensures unasked { IfErr result (λ error. IsBeforeAccess error → bus.new ≡ bus.old) }
         ensures new { IfOk result (λ host. host ≡ new_host host.driver kinds.items) }
         ensures counts { IfOk result (λ host. host.driver.counts ≡ counts_of config.now) }
+        ensures had { IfOk result (λ host. CanBeHad config.now (B.extent bus.old)) }
         ensures refilled { IfOk result (λ host. IsRefilled host.driver) }
 
         // And over one that obeys the law.

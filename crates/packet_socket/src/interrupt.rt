@@ -23,6 +23,7 @@ impl Host {
 
         // What it does over any bus.
         ensures stays { OnNotMine result (self.new ≡ self.old) }
+        ensures counts { self.new.driver.counts ≡ self.old.driver.counts }
         ensures sorts { OnTaken result (SortsAll self.old self.new) }
         ensures refilled { OnTaken result (λ taken. IsRefilled self.new.driver) }
 

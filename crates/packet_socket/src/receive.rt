@@ -49,6 +49,7 @@ impl Host {
             ↔ ((socket < length self.old.kinds) × (queue_at self.old.queues socket ≡ [])) }
         ensures unasked { IfErr result (λ error. (bus.new ≡ bus.old) × (self.new ≡ self.old)) }
         ensures untouched { IfErr result (λ error. into.new ≡ into.old) }
+        ensures counts { self.new.driver.counts ≡ self.old.driver.counts }
         ensures leaves { IfOk result (LeavesSome self.old self.new socket) }
         ensures refilled { IfOk result (λ size. IsRefilled self.new.driver) }
         ensures rest { IfOk result (λ size. drop size into.new ≡ drop size into.old) }

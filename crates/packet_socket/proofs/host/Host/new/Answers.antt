@@ -2,6 +2,7 @@ use Rattle.std.proofs.Common.{◌≡◌, ◌≤◌, [], Err, IfErr, List, length
 use Rattle.std.proofs.lemmas.Result.{err_from_is_err_and}
 use Rattle.dma_memory.specs.Layout.{Counts}
 use Rattle.dma_memory.specs.OwnersLaws.{no_second_from_one}
+use Rattle.bring_up.specs.Configuration.{CanBeHad}
 use Rattle.bring_up.specs.declared.init_error.InitError.TheVariants.{Memory}
 use Rattle.bring_up.specs.declared.init_error.InitError.TheVariants as errors
 use Rattle.bus.specs.Past.{nothing}
@@ -35,3 +36,6 @@ invariant_of-result g c =
 pub returns-clause-ready : goal.returns-clause-ready
 returns-clause-ready g c honest =
     new-ready c.in_ok-driver.driver c.in_ok-sockets.sockets c.args.kinds.items c.from.result (g.B.Bus.world c.init.new.bus) c.in_ok-sockets.ensures.new c.in_ok-driver.ensures.none_out (c.in_ok-driver.ensures.initialises honest).ready
+
+pub returns-clause-had : goal.returns-clause-had
+returns-clause-had g c = subst (CanBeHad c.args.config.now) c.size.ensures (c.in_ok-layout.ensures.ok.0 refl)
