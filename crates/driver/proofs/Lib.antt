@@ -6,4 +6,3 @@ pub mod Takes
 pub mod Handles
 pub mod FirstSlots
 pub mod Initialisation
-pub mod TestOwners

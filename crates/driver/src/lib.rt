@@ -19,12 +19,6 @@ pub use receiver::{Received, Receiver};
 pub use transmit::SendError;
 
 #[cfg(test)]
-mod handler_tests;
-#[cfg(test)]
 mod init_tests;
-#[cfg(test)]
-mod lying_bus_tests;
-#[cfg(test)]
-mod races_tests;
 #[cfg(test)]
 mod tests;

@@ -1,70 +1,152 @@
-//! Worked examples over a solo bus: frames come round the receive ring, and others are sent.
+//! A worked example over a solo bus: frames come round the receive ring.
 
-use crate::handler_tests::{KILOBYTES, broadcast, config, new_bus, new_keeper, receive_frames};
-use crate::{Driver, SendError};
-use adapter::offsets::{RDT, TDT};
-use adapter::{StepKind, Stepped};
-use bus::{Bus, HonestBus};
+ghost use Rattle.std.specs.Prelude.{⊤};
+
+use crate::{Driver, Received, Receiver, SendError};
+use adapter::offsets::{RCTL, RDLEN, RDT, TCTL, TDBAL, TDLEN, TDT};
+use adapter::{Adapter, Fate, StepKind, Stepped};
+use bus::{Bus, HonestBus, SoloBus};
+use circular_buffer::HeapCircularBuffer;
+use dma_memory::{BufId, HostMemory, Layout, Pool};
+use eeprom::Image;
+use mdic_phy::Link;
+use std::alloc::{AllocError, Global};
 use std::test::Fail;
+
+/// RCTL with EN and BAM, and buffers of 2,048 bytes.
+const RECEIVE: u32 = 0x0000_8002;
+
+/// TCTL with EN and PSP.
+const TRANSMIT: u32 = 0x0000_000A;
+
+/// The bytes of a ring of eight slots.
+const RING_BYTES: u32 = 128;
+
+/// A frame that every receiver with BAM accepts.
+const BROADCAST: [u8; 70] = [0xFF; 70];
+
+/// Keeps the first frame that it is shown, and gives the buffers of all others back.
+#[derive(Drop)]
+struct Keeper {
+    first: Option<Received>,
+    bytes: u64,
+}
+
+impl Receiver for Keeper {
+    ghost took = { λ old new shown kept. ⊤ };
+
+    fn take(&mut self, received: Received) -> Option<BufId> {
+        self.bytes = self.bytes.saturating_add(u64::from(received.length));
+        if self.first.is_some() {
+            return Some(received.buffer);
+        }
+        self.first = Some(received);
+        None
+    }
+
+    ghost stays = { λ receiver. tt };
+
+    ghost joins = { λ a b c shown kept later more one two. tt };
+}
+
+/// A driver with all of nine buffers in its pool.
+fn new_driver(alloc: Global, layout: Layout) -> Result<Driver, AllocError> {
+    Ok(Driver {
+        layout,
+        oldest_received: 0,
+        next_received: 0,
+        buffers: HeapCircularBuffer::with_capacity(alloc, usize::from(layout.rx()))?,
+        staged: 0,
+        pool: Pool::new(alloc, layout.buffers())?,
+        oldest_sent: 0,
+        next_sent: 0,
+        sending: 0,
+        missed: 0,
+        exact: true,
+        bad: 0,
+    })
+}
+
+/// A solo bus with a new adapter that receives, and a receive ring at 0.
+fn new_bus(alloc: Global, layout: &Layout) -> Result<SoloBus, AllocError> {
+    let image = Image::with_address([0x02, 0, 0, 0, 0, 0x01]);
+    let adapter = Adapter::new(alloc, &image, Link::Never)?;
+    let memory = HostMemory::new(alloc, layout.size())?;
+    let mut bus = SoloBus::new(alloc, adapter, memory, false)?;
+    bus.write(RDLEN, RING_BYTES);
+    bus.write(TDBAL, RING_BYTES);
+    bus.write(TDLEN, RING_BYTES);
+    bus.write(RCTL, RECEIVE);
+    Ok(bus)
+}
 
 #[test]
 fn frames_come_round_the_ring(rt: HostRuntime) -> Result<(), Fail> {
-    let mut bus = new_bus(rt.alloc())?;
-    let mut driver = Driver::init(rt.alloc(), &mut bus, &config(9, KILOBYTES))?;
-    let mut keeper = new_keeper(rt.alloc(), 1)?;
+    let layout = Layout::of(8, 8, 9)?;
+    let mut bus = new_bus(rt.alloc(), &layout)?;
+    let mut driver = new_driver(rt.alloc(), layout)?;
+    let mut keeper = Keeper {
+        first: None,
+        bytes: 0,
+    };
     assert!(rt; driver.layout().size() <= bus.size());
-    // All slots but one are offered.
-    let before = bus.accesses();
     driver.refill(&mut bus);
-    assert_eq!(rt;
-        (bus.accesses().wrapping_sub(before), driver.receiving()),
-        (0, 7)
-    );
-    receive_frames(&rt, &mut bus, 2);
+    // Seven descriptors, and RDT.
+    assert_eq!(rt; driver.receiving(), 7);
+    assert_eq!(rt; bus.accesses(), 4 + 8);
+    driver.refill(&mut bus);
+    assert_eq!(rt; bus.accesses(), 4 + 8);
+    assert_eq!(rt; bus.read(RDT), 7);
+    for _ in 0..2 {
+        assert_eq!(rt; bus.arrive(&BROADCAST), Fate::Stored);
+        assert_eq!(rt; bus.step(StepKind::RxData), Stepped::Moved);
+        assert_eq!(rt; bus.step(StepKind::RxDone), Stepped::Done);
+    }
     assert!(rt; driver.layout().size() <= bus.size());
     assert_eq!(rt; driver.take_finished(&mut bus, &mut keeper), 2);
-    // Three descriptors, of which the last isn't done, and two EtherTypes.
-    assert_eq!(rt; bus.accesses().wrapping_sub(before), 5);
-    assert_eq!(rt; (keeper.shown, keeper.kept.len()), (2, 1));
+    assert_eq!(rt; keeper.bytes, 140);
+    assert!(rt; keeper.first.is_some());
     assert_eq!(rt; driver.receiving(), 5);
     assert!(rt; driver.layout().size() <= bus.size());
     driver.refill(&mut bus);
-    // Two descriptors, and RDT.
-    assert_eq!(rt; bus.accesses().wrapping_sub(before), 5 + 3);
-    assert_eq!(rt; (driver.receiving(), bus.read(RDT)), (7, 1));
+    assert_eq!(rt; driver.receiving(), 7);
+    assert_eq!(rt; bus.read(RDT), 1);
     Ok(())
 }
 
 #[test]
 fn frames_are_sent(rt: HostRuntime) -> Result<(), Fail> {
-    let mut bus = new_bus(rt.alloc())?;
-    let mut driver = Driver::init(rt.alloc(), &mut bus, &config(9, KILOBYTES))?;
-    let frame = broadcast(0);
+    let layout = Layout::of(8, 8, 9)?;
+    let mut bus = new_bus(rt.alloc(), &layout)?;
+    bus.write(TCTL, TRANSMIT);
+    let mut driver = new_driver(rt.alloc(), layout)?;
     let long = [0xFF; 1519];
-    let before = bus.accesses();
     assert!(rt; driver.layout().size() <= bus.size());
     assert_eq!(rt;
-        driver.transmit(&mut bus, &frame[..13]),
+        driver.transmit(&mut bus, &BROADCAST[..13]),
         Err(SendError::TooShort)
     );
     assert!(rt; driver.layout().size() <= bus.size());
     assert_eq!(rt; driver.transmit(&mut bus, &long), Err(SendError::TooLong));
-    assert_eq!(rt; bus.accesses().wrapping_sub(before), 0);
+    assert_eq!(rt; bus.accesses(), 5);
     for sent in 0..7 {
         assert_eq!(rt; driver.sending(), sent);
         assert!(rt; driver.layout().size() <= bus.size());
-        assert_eq!(rt; driver.transmit(&mut bus, &frame[..14]), Ok(()));
+        assert_eq!(rt; driver.transmit(&mut bus, &BROADCAST[..14]), Ok(()));
     }
     // The first of them found nothing outstanding; each other one loaded a descriptor that wasn't done.
-    assert_eq!(rt; bus.accesses().wrapping_sub(before), 7 * 3 + 6);
+    assert_eq!(rt; bus.accesses(), 5 + 7 * 3 + 6);
     assert!(rt; driver.layout().size() <= bus.size());
-    assert_eq!(rt; driver.transmit(&mut bus, &frame), Err(SendError::RingFull));
+    assert_eq!(rt;
+        driver.transmit(&mut bus, &BROADCAST),
+        Err(SendError::RingFull)
+    );
     assert_eq!(rt; bus.read(TDT), 7);
     // One of them goes out, and its slot serves again.
     assert_eq!(rt; bus.step(StepKind::TxTake), Stepped::Took);
     assert!(rt; matches!(bus.step(StepKind::TxPut), Stepped::Put(_)));
     assert!(rt; driver.layout().size() <= bus.size());
-    assert_eq!(rt; driver.transmit(&mut bus, &frame), Ok(()));
+    assert_eq!(rt; driver.transmit(&mut bus, &BROADCAST), Ok(()));
     assert_eq!(rt; bus.read(TDT), 0);
     Ok(())
 }
