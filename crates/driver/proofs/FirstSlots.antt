@@ -46,15 +46,15 @@ head-first d world ready first full none =
     let from : Ring = record ring { head = d.oldest_received } in
     let long : distance_of from d.oldest_received ring.tail ≡ distance_of ring ring.head ring.tail =
     sym (length-owned from) ∙ sym (length-map (owned from) (address_of from)) ∙ ap length same ∙ length-map (owned ring) (address_of ring)
-        ∙ length-owned ring in
+    ∙ length-owned ring in
     let tail : ring.tail ≡ n - 1 = knows.last ∙ ap (λ (oldest : ℕ). place n oldest (length d.buffers)) first
-        ∙ last-place n (length d.buffers) full in
+    ∙ last-place n (length d.buffers) full in
     let back : (n - 1 + n - ring.head) % n ≡ (n - 1 + n - 0) % n =
     ap (λ (t : ℕ). (t + n - ring.head) % n) (sym tail) ∙ ap (λ (c : ℕ). (ring.tail + c - ring.head) % c) (sym knows.slots) ∙ sym long
     ∙ ap (λ (c : ℕ). (ring.tail + c - d.oldest_received) % c) knows.slots ∙ ap (λ (o : ℕ). (ring.tail + n - o) % n) first
-        ∙ ap (λ (t : ℕ). (t + n - 0) % n) tail in
+    ∙ ap (λ (t : ℕ). (t + n - 0) % n) tail in
     distance-same n ring.head (omega (arith, full)) knows.head_slot
-        (back ∙ distance-forward n 0 (n - 1) (omega (arith, full)) (omega arith) ∙ omega arith)
+    (back ∙ distance-forward n 0 (n - 1) (omega (arith, full)) (omega arith) ∙ omega arith)
 
 -- The receive slots are offered.
 
@@ -97,7 +97,7 @@ offers-first honest world happened joins b0 b1 b2 b3 counts pool numbers d2 d3 o
     let n = counts.rx in
     let staged : d2 ≡ staging counts pool numbers d2.pool = stages.others in
     let done : d3 ≡ offering counts pool numbers d2.pool = behind
-        ∙ ap (λ (d : DriverState). with_owners d (d.buffers ++ d.staged) [] d.pool []) staged in
+    ∙ ap (λ (d : DriverState). with_owners d (d.buffers ++ d.staged) [] d.pool []) staged in
     let few : 0 + length numbers < n = subst (λ (d : DriverState). length d.buffers + length d.staged < d.counts.rx) staged room in
     let count : length numbers + 1 ≡ n =
     all-staged n counts.buffers pool numbers d2.pool owner enough stages.pool (omega (arith, few))
@@ -108,7 +108,7 @@ offers-first honest world happened joins b0 b1 b2 b3 counts pool numbers d2 d3 o
     let next : next_received d2 ≡ n - 1 = ap next_received staged ∙ last-place n (0 + length numbers) (omega (arith, count)) in
     let tail : tail_write (next_received d2) d2.staged ≡ Writes 0x2818 (n - 1) ∷ [] =
     ap (λ (slot : ℕ). tail_write slot d2.staged) next ∙ ap (λ (d : DriverState). tail_write (n - 1) d.staged) staged
-        ∙ tail-written (n - 1) numbers (omega (arith, count, some)) in
+    ∙ tail-written (n - 1) numbers (omega (arith, count, some)) in
     record {
       numbers = numbers;
       count = count;
@@ -118,7 +118,7 @@ offers-first honest world happened joins b0 b1 b2 b3 counts pool numbers d2 d3 o
           let first = stages.ran false [] obeys ready in
           let ready1 = first.goes.flows.ready in
           let second = clearing (holding [] d2) (obeys1 obeys) ready1 (ap (λ (d : DriverState). d.oldest_received) staged)
-              (sym (ap (λ (d : DriverState). d.counts.rx) staged)) in
+          (sym (ap (λ (d : DriverState). d.counts.rx) staged)) in
           let third = offers (obeys2 (obeys1 obeys)) second.goes.flows.ready in
           let d1 = new_driver counts pool in
           let later = ran_by-join world happened joins _ _ b1 b2 b3 (holding [] d2) (holding [] d2) (holding [] d3) [] [] [] [] second

@@ -103,18 +103,18 @@ pub sets-transmitter : {B : Type 0} (world : B → World) (happened : B → B �
     → (ReadyWith false d (world b1) → (world b1).adapter.transmit_ring ≡ new_ring
     → SetsTransmitRing world happened (ring_writes 0x3800 (16 * counts.rx) (16 * counts.tx)) b1 b2 d)
     → (ReadyWith false d (world b2) → d.oldest_sent < d.counts.tx
-        → KnowsRing (transmit_ring (world b2)) (16 * d.counts.rx) d.counts.tx (transmit_tail d)
+    → KnowsRing (transmit_ring (world b2)) (16 * d.counts.rx) d.counts.tx (transmit_tail d)
     → LeavesDriver true world happened transmit_writes b2 b3 d)
     → RanBy true world happened (transmit_accesses counts) b0 b3 d d [] []
 sets-transmitter world happened joins b0 b1 b2 b3 d counts is oldest none some new clearing rings enables =
     let n1 = new_transmit_ring_stays d (world b0) (world b1) clearing.past clearing.goes.flows.ready clearing.set
     (none-leaves_transmits (clears_from (16 * counts.rx) counts.tx) clearing.past clearing.only
-        (clears-write_none (16 * counts.rx) counts.tx)) new in
+    (clears-write_none (16 * counts.rx) counts.tx)) new in
     let sets = rings clearing.goes.flows.ready n1 in
     let tail : 0 ≡ transmit_tail d = ap (λ (o : ℕ). place d.counts.tx o 0) (sym oldest) ∙ ap (place d.counts.tx d.oldest_sent) (sym none) in
     let below : d.oldest_sent < d.counts.tx = omega (arith, oldest, some, ap (λ (c : Counts). c.tx) is) in
     let runs = enables sets.ran.goes.flows.ready below
-        (subst (KnowsRing (transmit_ring (world b2)) (16 * d.counts.rx) d.counts.tx) tail sets.knows) in
+    (subst (KnowsRing (transmit_ring (world b2)) (16 * d.counts.rx) d.counts.tx) tail sets.knows) in
     ran_by-join world happened joins (clears_from (16 * counts.rx) counts.tx) _ b0 b1 b3 d d d [] [] [] [] clearing
     (ran_by-join world happened joins _ (accesses_of transmit_writes) b1 b2 b3 d d d [] [] [] [] sets.ran runs)
 
@@ -163,7 +163,7 @@ finds-ring world happened b0 b1 b2 b3 config size image had room found filter ri
     ∙ ap (settings_after_all (table_writes 0x5200 groups ++ (table_writes 0x5600 vlans ++ address_writes address))) found.settings
     ∙ filtered config address groups vlans old in
     let whole = set ∙ before-rings config address groups vlans size old had filter.address_is filter.has_groups.words
-        filter.has_vlans.words filter.groups_are filter.vlans_are in
+    filter.has_vlans.words filter.groups_are filter.vlans_are in
     let all = rings-last config address groups vlans filter.has_groups.words filter.has_vlans.words in
     let tables = table_writes 0x5200 groups ++ (table_writes 0x5600 vlans ++ address_writes address) in
     let behind = all-right IsAside reset_writes (allocation_writes config.rxa ++ (link_writes ++ tables)) all in
@@ -232,9 +232,14 @@ pub stays-quiet : (counts : Counts) (numbers : List ℕ) (d d' : DriverState) (a
 stays-quiet counts numbers d d' a b past only goes set off quiet new =
     let slot = counts.rx - 1 in
     let writes = sym (ap writes_in only ∙ first-writes counts numbers) in
-    let still = quiet_stays d d' a b past goes set off (subst (All LeavesReceiver) writes (tail-leaves_receiver slot)) quiet in
-    (still.0, (new_transmit_ring_stays d' a b past goes.flows.ready set
-        (subst (All LeavesTransmitRing) writes (tail-leaves_transmits slot)) new, still.1))
+    let still = quiet_stays d d' a b past goes set off (subst (All LeavesReceiver) writes (tail-leaves_receiver slot)) quiet in (
+      still.0,
+      (
+        new_transmit_ring_stays d' a b past goes.flows.ready set
+            (subst (All LeavesTransmitRing) writes (tail-leaves_transmits slot)) new,
+        still.1,
+      ),
+    )
 
 -- The transmit ring is new when frames were let in, too.
 pub new-still : (promiscuous by_vlan : Bool) (d : DriverState) (a b : World) (past : Past)
@@ -279,7 +284,7 @@ none-finished oldest world none = (holds-none oldest world none).none_finished
 link-up : (config : Config) (address groups vlans : List ℕ) → length groups ≡ 128 → length vlans ≡ 128
     → (w1 w2 w3 w4 w5 : World) (p2 p3 p4 p5 : Past)
     → writes_in p2.accesses ≡ write_at 0x2818 (config.rx - 1) ∷ []
-        → writes_in p3.accesses ≡ receive_writes config.promiscuous (names_vlans config.vlans)
+    → writes_in p3.accesses ≡ receive_writes config.promiscuous (names_vlans config.vlans)
     → writes_in p4.accesses ≡ ring_writes 0x3800 (16 * config.rx) (16 * config.tx) ++ transmit_writes → writes_in p5.accesses ≡ mask_writes
     → KeepsLink w1 w2 p2 → KeepsLink w2 w3 p3 → KeepsLink w3 w4 p4 → KeepsLink w4 w5 p5 → HasLink w1 → HasLink w5
 link-up config address groups vlans groups_whole vlans_whole w1 w2 w3 w4 w5 p2 p3 p4 p5 two three four five keeps2 keeps3 keeps4 keeps5 up =
@@ -291,7 +296,7 @@ link-up config address groups vlans groups_whole vlans_whole w1 w2 w3 w4 w5 p2 p
     let from2 = all-right LeavesPhy (ring_writes 0x2800 0 (16 * config.rx)) (behind-receive config) all in
     let from3 = all-right LeavesPhy tail (receives ++ (ring ++ masked)) from2 in
     let from4 = subst (All LeavesPhy) (sym (append_assoc ring transmit_writes mask_writes))
-        (all-right LeavesPhy receives (ring ++ masked) from3) in
+    (all-right LeavesPhy receives (ring ++ masked) from3) in
     keeps5 (subst (All LeavesPhy) (sym five) (all-right LeavesPhy (ring ++ transmit_writes) mask_writes from4))
     (keeps4 (subst (All LeavesPhy) (sym four) (all-left LeavesPhy (ring ++ transmit_writes) mask_writes from4))
     (keeps3 (subst (All LeavesPhy) (sym three) (all-left LeavesPhy receives (ring ++ masked) from3))
@@ -301,10 +306,10 @@ pub initialises : {B : Type 0} (world : B → World) (happened : B → B → Pas
     → ((a b c : B) (first later : Past) → happened a b first → happened b c later → happened a c (joined first later))
     → (b0 b1 b2 b3 b4 b5 : B) (config : Config) (size : ℕ) (pool numbers : List ℕ) (d : DriverState) (past : Past) → CanBeHad config size
     → happened b0 b1 past → HasFoundRing world b0 b1 config → length numbers + 1 ≡ config.rx
-        → d ≡ offering (counts_of config) pool numbers d.pool
+    → d ≡ offering (counts_of config) pool numbers d.pool
     → (first : RanBy false world happened (first_accesses (counts_of config) numbers) b1 b2 (new_driver (counts_of config) pool) d [] [])
     → IsQuiet d (world b2) → NoFrame first.past
-        → LetsFramesIn world happened (receive_writes config.promiscuous (names_vlans config.vlans)) b2 b3 d
+    → LetsFramesIn world happened (receive_writes config.promiscuous (names_vlans config.vlans)) b2 b3 d
     → RanBy true world happened (transmit_accesses (counts_of config)) b3 b4 d d [] [] → UnmasksCauses world happened 0xD1 b4 b5 d
     → Initialises world happened b0 b5 config d
 initialises world happened joins b0 b1 b2 b3 b4 b5 config size pool numbers d past had told found count is first quiet no_frame lets sends
@@ -314,27 +319,34 @@ initialises world happened joins b0 b1 b2 b3 b4 b5 config size pool numbers d pa
     let words = address_bytes device.adapter.image in
     let later = joined sends.past masks.past in
     let out3 = append-empty lets.ran.past.put (frames_to_send (world b3))
-        (lets.ran.goes.flows.sends ∙ append-nil (frames_to_send (world b2)) ∙ quiet.none_to_send) in
+    (lets.ran.goes.flows.sends ∙ append-nil (frames_to_send (world b2)) ∙ quiet.none_to_send) in
     let new_missed : d.missed ≡ 0 = ap (λ (s : DriverState). s.missed) is in
     let none_missed : (world b3).adapter.missed_packets ≡ 0 =
-    omega (arith, first.goes.flows.at_most, lets.ran.goes.flows.at_most, no_frame.none_missed, lets.no_arrival.none_missed,
-        found.ring.rest.none_missed, new_missed) in
+    omega (
+      arith,
+      first.goes.flows.at_most,
+      lets.ran.goes.flows.at_most,
+      no_frame.none_missed,
+      lets.no_arrival.none_missed,
+      found.ring.rest.none_missed,
+      new_missed,
+    ) in
     let from = counts-from d (world b3) (world b4) masks.middle sends.past masks.past sends.goes masks.goes out3.1 lets.none_held
-        none_missed in
+    none_missed in
     let held : frames_held d.oldest_received (world b5) ≡ later.stored = masks.unmasked.held ∙ from.held in
     let exact : IsTrue d.exact = ap (λ (s : DriverState). s.exact) is in
     let all =
     settings-all config words found.groups found.vlans (settings_of device.adapter) (settings_of (world b1).adapter)
-        (settings_of (world b2).adapter)
+    (settings_of (world b2).adapter)
     (settings_of (world b3).adapter) (settings_of (world b4).adapter) (settings_of (world b5).adapter) found.settings
     (first.set ∙ ap (λ (writes : List Write). settings_after_all writes (settings_of (world b1).adapter))
-        (ap writes_in first.only ∙ first-writes counts numbers))
+    (ap writes_in first.only ∙ first-writes counts numbers))
     (lets.ran.set ∙ ap (λ (writes : List Write). settings_after_all writes (settings_of (world b2).adapter)) (ap writes_in lets.ran.only))
     (sends.set ∙ ap (λ (writes : List Write). settings_after_all writes (settings_of (world b3).adapter))
-        (ap writes_in sends.only ∙ transmit-writes counts))
+    (ap writes_in sends.only ∙ transmit-writes counts))
     (masks.set ∙ ap (λ (writes : List Write). settings_after_all writes (settings_of (world b4).adapter)) (ap writes_in masks.only)) in
     let set = writes-configure config words found.groups found.vlans size (settings_of device.adapter) had found.address found.groups_are
-        found.vlans_are found.has_groups found.has_vlans in
+    found.vlans_are found.has_groups found.has_vlans in
     let start = joined past (joined first.past lets.ran.past) in
     record {
       middle = b3;
@@ -348,10 +360,10 @@ initialises world happened joins b0 b1 b2 b3 b4 b5 config size pool numbers d pa
         whole =
             rw (first.only, lets.ran.only) refl
             ∙ ap (λ (slots : List ℕ). past.accesses ++
-                (first_accesses counts slots ++ accesses_of (receive_writes config.promiscuous (names_vlans config.vlans))))
+            (first_accesses counts slots ++ accesses_of (receive_writes config.promiscuous (names_vlans config.vlans))))
             (sym (ap (λ (s : DriverState). s.buffers) is))
             ∙ ap (λ (c : Counts). past.accesses ++
-                (first_accesses c d.buffers ++ accesses_of (receive_writes config.promiscuous (names_vlans config.vlans))))
+            (first_accesses c d.buffers ++ accesses_of (receive_writes config.promiscuous (names_vlans config.vlans))))
             (sym (ap (λ (s : DriverState). s.counts) is));
       };
       accesses = rw (sends.only, masks.only, is) refl;
@@ -368,7 +380,7 @@ initialises world happened joins b0 b1 b2 b3 b4 b5 config size pool numbers d pa
       up = link-up config words found.groups found.vlans found.has_groups.words found.has_vlans.words (world b1) (world b2) (world b3)
           (world b4) (world b5) first.past lets.ran.past sends.past masks.past
           (ap writes_in first.only ∙ first-writes counts numbers) (ap writes_in lets.ran.only)
-              (ap writes_in sends.only ∙ transmit-writes counts) (ap writes_in masks.only)
+          (ap writes_in sends.only ∙ transmit-writes counts) (ap writes_in masks.only)
           first.link lets.ran.link sends.link masks.link found.up;
       none_finished = λ none. none-finished d.oldest_received (world b5) (held ∙ none);
       head = λ none.

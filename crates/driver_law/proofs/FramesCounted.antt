@@ -19,9 +19,15 @@ unfolding to_send
 frames-count memory ring buffer =
     let first = map (λ (queued : Queued). queued.frame) buffer in
     let later = map (λ (slot : ℕ). frame_at true memory (address_of ring slot)) (owned ring) in
-    omega (arith, length-append first later, length-map buffer (λ (queued : Queued). queued.frame), length-map buffer
-        (λ (queued : Queued). queued.descriptor),
-      length-map (owned ring) (λ (slot : ℕ). frame_at true memory (address_of ring slot)), length-map (owned ring) (address_of ring))
+    omega (
+      arith,
+      length-append first later,
+      length-map buffer (λ (queued : Queued). queued.frame),
+      length-map buffer
+          (λ (queued : Queued). queued.descriptor),
+      length-map (owned ring) (λ (slot : ℕ). frame_at true memory (address_of ring slot)),
+      length-map (owned ring) (address_of ring),
+    )
 
 pub slots_have_frames : SlotsHaveFrames
 slots_have_frames driver world ready =
@@ -33,9 +39,16 @@ slots_have_frames driver world ready =
     let frames = frames-count world.memory ring world.adapter.transmitter.buffer in
     let all : length (outstanding ring o) ≡ driver.sending =
     ap length known ∙ length-map (slots_from counts.tx o driver.sending) (λ (slot : ℕ). 16 * counts.rx + 16 * slot)
-        ∙ length-slots_from counts.tx o driver.sending in
+    ∙ length-slots_from counts.tx o driver.sending in
     let dealt = ap length ready.sound.transmit_slots.classes in
     let count : length (frames_to_send world) + length (written_back o world) ≡ driver.sending =
-    omega (arith, all, dealt, frames, length-append (written_back o world) (buffered world ++ offered ring), length-append (buffered world)
-        (offered ring)) in
+    omega (
+      arith,
+      all,
+      dealt,
+      frames,
+      length-append (written_back o world) (buffered world ++ offered ring),
+      length-append (buffered world)
+          (offered ring),
+    ) in
     record { count = count; most = omega (arith, count, up.room) }

@@ -139,7 +139,7 @@ sorted {up} driver driver' before after a b taken handed_out sound sound' host c
           ap (map frame) (queues.ends socket)
           ∙ map-append frame (queue_at before.queues socket) (frames_of before.kinds socket kept)
           ∙ ap (λ (front : List (List ℕ)). front ++ map frame (frames_of before.kinds socket kept))
-            (ap (λ (c : Counts). map (frame_at c new) (queue_at before.queues socket)) counts ∙ queue-frames-same driver.counts old new before.queues same socket)
+          (ap (λ (c : Counts). map (frame_at c new) (queue_at before.queues socket)) counts ∙ queue-frames-same driver.counts old new before.queues same socket)
           ∙ ap (λ (behind : List (List ℕ)). frames_in h socket a ++ behind) (queue-frames before.kinds socket frame handed_out taken part told.claimed outs);
     }
 

@@ -96,14 +96,14 @@ host-receives {up} world happened joins a b c h h' socket size received bytes ho
     ∙ ap (map frame) (get_or-set_other h.queues socket s (queue_at h'.queues socket) [] differ) in
     let moved : (s : ℕ) → given_for s given ++ frames_in h' s (world c) ≡ frames_in h s (world a) ++ [] = λ s.
     elim (eqb_tells socket s) [
-      inl is ↦
-        ap (λ (list : List (List ℕ)). list ++ frames_in h' s (world c)) (given-here socket bytes s true is.0)
-        ∙ subst (λ (t : ℕ). bytes ∷ frames_in h' t (world c) ≡ frames_in h t (world a)) is.1 (sym front)
-        ∙ sym (append-nil (frames_in h s (world a)))
-    | inr not ↦
-        ap (λ (list : List (List ℕ)). list ++ frames_in h' s (world c)) (given-here socket bytes s false not.0)
-        ∙ others s (λ is. not.1 (sym is))
-        ∙ sym (append-nil (frames_in h s (world a)))
+      | inl is ↦
+          ap (λ (list : List (List ℕ)). list ++ frames_in h' s (world c)) (given-here socket bytes s true is.0)
+          ∙ subst (λ (t : ℕ). bytes ∷ frames_in h' t (world c) ≡ frames_in h t (world a)) is.1 (sym front)
+          ∙ sym (append-nil (frames_in h s (world a)))
+      | inr not ↦
+          ap (λ (list : List (List ℕ)). list ++ frames_in h' s (world c)) (given-here socket bytes s false not.0)
+          ∙ others s (λ is. not.1 (sym is))
+          ∙ sym (append-nil (frames_in h s (world a)))
     ] in
     record {
       received = received;

@@ -37,9 +37,9 @@ all-long h a host =
     let numbers : All Known (numbers_of d.handed_out) = all-copies Known (numbers_of d.handed_out) (λ m some. (elsewhere-number d m host.ready.driver_is (omega (arith, some))).known) in
     let known = all-unmapped (λ (one : HandedOut). Known one.number) (waiting_at counts a.memory) list (all-unmapped Known number d.handed_out numbers) in
     λ k r below.
-        let lies = buffer-lies d a _ host.ready (known k r below) in
-        let short = (host.sizes k r below).most in
-        length-bytes_at a.memory _ _ (omega (arith, lies, short))
+    let lies = buffer-lies d a _ host.ready (known k r below) in
+    let short = (host.sizes k r below).most in
+    length-bytes_at a.memory _ _ (omega (arith, lies, short))
 
 -- They stand in another memory, too, where they were handed out: there they are the same.
 abbrev pub AreSame : Counts → (memory memory' : List ℕ) → List Received → Type 0

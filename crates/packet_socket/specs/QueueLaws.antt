@@ -40,13 +40,13 @@ queues-pushed kinds queues socket received there is =
     record {
       ends = λ other.
           elim (eqb_tells socket other) [
-            inl same ↦
-              subst (λ (t : ℕ). queue_at (slice_set queues socket pushed) t ≡ queue_at queues t ++ frames_of kinds t (received ∷ [])) same.1
-              (get_or-set_same queues socket pushed [] there ∙ ap (λ (goes : Bool). queue_at queues socket ++ one goes) (sym (goes-there kinds socket received.ether_type is)))
-          | inr differ ↦
-              get_or-set_other queues socket other pushed [] (λ same. differ.1 (sym same))
-              ∙ sym (append-nil (queue_at queues other))
-              ∙ ap (λ (goes : Bool). queue_at queues other ++ one goes) (sym (goes-nowhere-else kinds socket other received.ether_type is differ.1))
+            | inl same ↦
+                subst (λ (t : ℕ). queue_at (slice_set queues socket pushed) t ≡ queue_at queues t ++ frames_of kinds t (received ∷ [])) same.1
+                (get_or-set_same queues socket pushed [] there ∙ ap (λ (goes : Bool). queue_at queues socket ++ one goes) (sym (goes-there kinds socket received.ether_type is)))
+            | inr differ ↦
+                get_or-set_other queues socket other pushed [] (λ same. differ.1 (sym same))
+                ∙ sym (append-nil (queue_at queues other))
+                ∙ ap (λ (goes : Bool). queue_at queues other ++ one goes) (sym (goes-nowhere-else kinds socket other received.ether_type is differ.1))
           ];
       all = all-pushed queues socket received there;
     }

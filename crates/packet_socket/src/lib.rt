@@ -12,4 +12,3 @@ pub use host::Host;
 pub use law::{host_stretches_join, hosts_go_on};
 pub use receive::RecvError;
 pub use socket_kind::SocketKind;
-

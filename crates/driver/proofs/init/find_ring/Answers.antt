@@ -29,13 +29,19 @@ returns-clause-finds g c honest =
     let bytes : c.place_of.result.bytes ≡ 16 * config.rx =
     ap (λ (ring : RingPlace). ring.bytes) c.place_of.ensures ∙ ap (λ (n : ℕ). 16 * n) slots in
     let Rests : ℕ → ℕ → Type 0 = λ b n. SetsAtRest world happened b2 b3 (ring_writes 0x2800 b n) (HasNewRings config.rx)
-        (HasReceiveRing config.rx) in
+    (HasReceiveRing config.rx) in
     let ring : Rests 0 (16 * config.rx) =
     subst (Rests 0) bytes (subst (λ (b : ℕ). Rests b c.place_of.result.bytes) base
     (c.set_receive_ring.ensures.rests config.rx h2 c.requires.had.counts.rx base bytes)) in
     let room : 16 * config.rx ≤ length (world b2).memory =
-    omega (arith, place-below_size (counts_of config) ReceiveRing tt, c.requires.had.room, g.met.B.Bus.sized b2 h2,
-        c.set_filter.ensures.extent, c.in_ok-image.ensures.extent) in
+    omega (
+      arith,
+      place-below_size (counts_of config) ReceiveRing tt,
+      c.requires.had.room,
+      g.met.B.Bus.sized b2 h2,
+      c.set_filter.ensures.extent,
+      c.in_ok-image.ensures.extent,
+    ) in
     let one = finds.past in
     let two = filter.sets.past in
     let three = ring.sets.past in

@@ -43,7 +43,7 @@ offered : (g : Over) (c : goal.After-unmask_interrupts g)
     (new_driver (counts_of c.args.config.now) c.in_ok-driver.driver.pool) c.offer_first.new.self
 offered g c =
     subst (λ (d : DriverState). OffersFirst g.B.Bus.honest g.B.Bus.world g.B.Bus.happened c.find_ring.new.bus c.offer_first.new.bus d
-        c.offer_first.new.self)
+    c.offer_first.new.self)
     (made g c) c.offer_first.ensures.offers
 
 owner : (g : Over) (c : goal.After-unmask_interrupts g) → HasOneOwner c.args.config.now.buffers c.in_ok-driver.driver.pool
@@ -82,24 +82,24 @@ returns-clause-initialises g c honest =
     let h3 = c.enable_receiver.ensures.honest h2 in
     let h4 = c.set_up_transmitter.ensures.honest h3 in
     let lies : size_of counts ≤ length (world b1).memory = omega
-        (arith, had.room, g.met.B.Bus.sized b1 h1, c.in_ok-find_ring.ensures.extent) in
+    (arith, had.room, g.met.B.Bus.sized b1 h1, c.in_ok-find_ring.ensures.extent) in
     let begins = drivers_begin_at_rest counts pool (world b1) had.counts (owner g c) lies finds.found.ring in
     let first = o.ran h1 begins.ready in
     let still = stays-quiet counts o.numbers (new_driver counts pool) d (world b1) (world b2) first.past first.only first.goes first.set
-        first.off begins.quiet finds.found.ring.transmits in
+    first.off begins.quiet finds.found.ring.transmits in
     let tagged : c.is_some.result ≡ names_vlans config.vlans = c.is_some.ensures ∙ vlans-named config.vlans in
     let lets : LetsFramesIn world happened (receive_writes config.promiscuous (names_vlans config.vlans)) b2 b3 d =
     subst (λ (by_vlan : Bool). LetsFramesIn world happened (receive_writes config.promiscuous by_vlan) b2 b3 d) tagged
     (c.enable_receiver.ensures.ran d h2 first.goes.flows.ready still.0.none_held still.0.off) in
     let new = new-still config.promiscuous (names_vlans config.vlans) d (world b2) (world b3) lets.ran.past lets.ran.only
-        lets.ran.goes.flows.ready lets.ran.set still.1.0 in
+    lets.ran.goes.flows.ready lets.ran.set still.1.0 in
     let same : d.counts ≡ counts = ap (λ (s : DriverState). s.counts) o.others in
     let sends : RanBy true world happened (transmit_accesses counts) b3 b4 d d [] [] =
     subst (λ (layout : Counts). RanBy true world happened (transmit_accesses layout) b3 b4 d d [] []) c.in_ok-layout.ensures.counts
     (c.set_up_transmitter.ensures.ran d h3 lets.ran.goes.flows.ready (same ∙ sym c.in_ok-layout.ensures.counts)
     (ap (λ (s : DriverState). s.oldest_sent) o.others) (ap (λ (s : DriverState). s.sending) o.others) new) in
     initialises world happened g.met.B.Bus.joins b0 b1 b2 b3 b4 c.unmask_interrupts.new.bus config (g.B.Bus.extent b0) pool o.numbers d
-        finds.past had finds.told finds.found o.count o.others
+    finds.past had finds.told finds.found o.count o.others
     first still.0 still.1.1 lets sends (c.unmask_interrupts.ensures.unmasks d h4 sends.goes.flows.ready)
 
 pub returns-clause-new : goal.returns-clause-new
@@ -107,4 +107,4 @@ returns-clause-new g c =
     let o = offered g c in
     let d = c.offer_first.new.self in
     o.others ∙ ap (λ (numbers : List ℕ). offering (counts_of c.args.config.now) [] numbers d.pool)
-        (sym (ap (λ (s : DriverState). s.buffers) o.others))
+    (sym (ap (λ (s : DriverState). s.buffers) o.others))

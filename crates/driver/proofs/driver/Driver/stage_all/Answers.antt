@@ -8,8 +8,11 @@ loop-init g c = record {
   kept = g.met.B.Bus.keeps c.args.bus.now;
   honest = λ honest. honest;
   lively = λ lively. lively;
-  stages = record { numbers = []; stages = stages-none g.B.Bus.honest g.B.Bus.world g.B.Bus.happened g.met.B.Bus.stays c.args.bus.now
-      c.args.self.now };
+  stages = record {
+    numbers = [];
+    stages = stages-none g.B.Bus.honest g.B.Bus.world g.B.Bus.happened g.met.B.Bus.stays c.args.bus.now
+        c.args.self.now;
+  };
 }
 
 pub loop-preserved : goal.loop-preserved
@@ -26,12 +29,14 @@ loop-preserved g c =
         numbers = _;
         stages =
             stages-join g.B.Bus.honest g.B.Bus.world g.B.Bus.happened g.met.B.Bus.joins c.args.bus.now c.loop.bus c.stage.new.bus l.honest
-                c.args.self.now c.loop.self c.stage.new.self
+            c.args.self.now c.loop.self c.stage.new.self
             l.stages.numbers (one.0 ∷ []) l.stages.stages one.1;
       };
     }
 
 pub returns-clause-stages : goal.returns-clause-stages
-returns-clause-stages g c = record
-    { numbers = c.loop.invariant.stages.numbers; stages = rw (c.loop-test.ensures.still, c.loop-test.ensures.stays)
-    c.loop.invariant.stages.stages }
+returns-clause-stages g c = record {
+  numbers = c.loop.invariant.stages.numbers;
+  stages = rw (c.loop-test.ensures.still, c.loop-test.ensures.stays)
+      c.loop.invariant.stages.stages;
+}
