@@ -1,5 +1,6 @@
 -- What an adapter is set to behind bring-up, by its configuration and its Ethernet address, whatever else happened meanwhile.
 use Rattle.std.specs.Prelude.{◌≡◌, ◌<◌, ◌+◌, ◌-◌, ◌*◌, ◌^◌, ◌++◌, ℕ, Bool, true, false, List, ◌∷◌, [], All, Option, None, Some, length, replicate}
+use Rattle.adapter.specs.declared.offsets.TheConstants.{MTA, RDBAL, RDT, TDBAL, VFTA}
 use Rattle.arrayvec.specs.declared.array_vec.ArrayVec.{ArrayVec}
 use Rattle.rx_filter.specs.Addresses.{IsAddress, high_word, low_word}
 use Rattle.adapter.specs.Rings.{ring_of}
@@ -8,9 +9,9 @@ use Rattle.bus.specs.Link.{LeavesPhy}
 use Rattle.bus.specs.Settings.{Settings, Write, settings_after_all}
 use Rattle.bring_up.specs.Configuration.{CanBeHad, vlans_of}
 use Rattle.bring_up.specs.FilterTables.{HasNumbers, address_writes, numbers_of_groups, table_writes}
-use Rattle.bring_up.specs.RingRegisters.{receive_control, receive_writes, ring_writes, transmit_writes}
+use Rattle.bring_up.specs.RingRegisters.{receive_control, receive_writes, ring_writes, transmit_control, transmit_writes}
 use Rattle.bring_up.specs.Sets.{IsAside}
-use Rattle.bring_up.specs.Table.{allocation_writes, link_writes, mask_writes, reset_writes, write_at}
+use Rattle.bring_up.specs.Table.{allocation_writes, handled_causes, link_control, link_writes, mask_writes, reset_writes, write_at}
 use Rattle.bring_up.specs.declared.config.Config.{Config}
 
 -- whether VLANs are named, an empty list among them
@@ -31,17 +32,17 @@ writes_before_rings config address groups vlans =
     reset_writes
     ++ (allocation_writes config.rxa
     ++ (link_writes
-    ++ (table_writes 0x5200 groups
-    ++ (table_writes 0x5600 vlans
+    ++ (table_writes MTA groups
+    ++ (table_writes VFTA vlans
     ++ address_writes address))))
 
 -- and those from there on
 abbrev pub writes_from_rings : Config → List Write
 writes_from_rings config =
-    ring_writes 0x2800 0 (16 * config.rx)
-    ++ (write_at 0x2818 (config.rx - 1) ∷ []
+    ring_writes RDBAL 0 (16 * config.rx)
+    ++ (write_at RDT (config.rx - 1) ∷ []
     ++ (receive_writes config.promiscuous (names_vlans config.vlans)
-    ++ (ring_writes 0x3800 (16 * config.rx) (16 * config.tx)
+    ++ (ring_writes TDBAL (16 * config.rx) (16 * config.tx)
     ++ (transmit_writes
     ++ mask_writes))))
 
@@ -51,13 +52,13 @@ all_writes config address groups vlans = writes_before_rings config address grou
 -- So the registers stand then.
 pub record IsConfigured (config : Config) (address : List ℕ) (settings : Settings) : Type 0 where
   -- CTRL: SLU and ASDE
-  pub device_control : settings.device_control ≡ 0x60
+  pub device_control : settings.device_control ≡ link_control
   pub receive_control_is : settings.filter.rctl ≡ receive_control config.promiscuous (names_vlans config.vlans)
-  pub transmit_control : settings.transmit_control ≡ 0x000400FA
+  pub transmit_control : settings.transmit_control ≡ transmit_control
   -- PBA.RXA
   pub allocation : settings.receive_kilobytes ≡ config.rxa
   -- IMS: TXDW, RXDMT0, RXO and RXT0
-  pub mask : settings.mask ≡ 0xD1
+  pub mask : settings.mask ≡ handled_causes
   pub groups : HasNumbers settings.filter.mta (numbers_of_groups config.groups.items)
   pub vlans : HasNumbers settings.filter.vfta (vlans_of config.vlans)
   -- The address is the first exact one, and valid; the other 15 entries are 0.
@@ -91,5 +92,5 @@ RingsComeLast =
 abbrev pub LinkComesFirst : Type 0
 LinkComesFirst =
     (config : Config) (address groups vlans : List ℕ) → length groups ≡ 128 → length vlans ≡ 128
-    → All LeavesPhy (table_writes 0x5200 groups ++ (table_writes 0x5600 vlans ++ address_writes address))
+    → All LeavesPhy (table_writes MTA groups ++ (table_writes VFTA vlans ++ address_writes address))
     × All LeavesPhy (writes_from_rings config)

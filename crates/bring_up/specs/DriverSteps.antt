@@ -1,5 +1,6 @@
 -- What the steps of bring-up behind the receive ring leave of what a driver knows (own).
 use Rattle.std.specs.Prelude.{◌≡◌, ◌⊎◌, ◌*◌, ◌++◌, ℕ, Bool, true, false, List, [], ◌∷◌, map}
+use Rattle.adapter.specs.declared.offsets.TheConstants.{IMS}
 use Rattle.registers.specs.Bits.{HasBit}
 use Rattle.adapter.specs.HostFrames.{frames_held}
 use Rattle.adapter.specs.KnownRing.{KnowsRing}
@@ -14,6 +15,7 @@ use Rattle.driver_law.specs.Beginnings.{Unmasked}
 use Rattle.driver_law.specs.DriverState.{DriverState}
 use Rattle.driver_law.specs.Goes.{Goes, HasNoForgottenWork, RanBy}
 use Rattle.driver_law.specs.Ready.{Ready}
+use Rattle.registers.specs.Places.{rxt0}
 
 -- these writes, and no other access
 abbrev pub accesses_of : List Write → List Access
@@ -44,7 +46,7 @@ pub record UnmasksCauses {B : Type 0} (world : B → World) (happened : B → B 
     (d : DriverState) : Type 0 where
   pub past : Past
   pub told : happened old new past
-  pub only : past.accesses ≡ Writes 0x00D0 causes ∷ []
+  pub only : past.accesses ≡ Writes IMS causes ∷ []
   pub set : AreSet (world old) (world new) past
   pub off : WhileOff (world old) past
   pub link : KeepsLink (world old) (world new) past
@@ -55,6 +57,6 @@ pub record UnmasksCauses {B : Type 0} (world : B → World) (happened : B → B 
   -- So the driver is ready, the frames held are those before and those stored, and RXT0 isn't masked;
   pub ready : Ready d (world new)
   pub holds : frames_held d.oldest_received (world new) ≡ frames_held d.oldest_received (world old) ++ past.stored
-  pub mask : HasBit (world new).adapter.causes.mask 7
+  pub mask : HasBit (world new).adapter.causes.mask rxt0
   -- and no work is forgotten, where no slot was finished before it, or RXT0 was recorded.
-  pub work : (finished d.oldest_received (world old) ≡ []) ⊎ HasBit (world old).adapter.causes.recorded 7 → HasNoForgottenWork d (world new)
+  pub work : (finished d.oldest_received (world old) ≡ []) ⊎ HasBit (world old).adapter.causes.recorded rxt0 → HasNoForgottenWork d (world new)

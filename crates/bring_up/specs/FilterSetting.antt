@@ -1,5 +1,6 @@
 -- The receive filter of a configuration is set up.
 use Rattle.std.specs.Prelude.{◌++◌, ℕ, List}
+use Rattle.adapter.specs.declared.offsets.TheConstants.{MTA, VFTA}
 use Rattle.rx_filter.specs.Addresses.{IsAddress}
 use Rattle.adapter.specs.World.{World}
 use Rattle.bus.specs.Past.{Past}
@@ -14,7 +15,7 @@ pub record SetsFilter {B : Type 0} (world : B → World) (happened : B → B →
     (address : List ℕ) : Type 0 where
   pub groups : List ℕ
   pub vlans : List ℕ
-  pub sets : Sets world happened old new (table_writes 0x5200 groups ++ (table_writes 0x5600 vlans ++ address_writes address))
+  pub sets : Sets world happened old new (table_writes MTA groups ++ (table_writes VFTA vlans ++ address_writes address))
   pub has_groups : HasNumbers groups (numbers_of_groups config.groups.items)
   pub has_vlans : HasNumbers vlans (vlans_of config.vlans)
   pub groups_are : AreWords groups

@@ -2,6 +2,7 @@
 -- Address High", "13.5.4 VLAN Filter Table Array").
 use Rattle.std.specs.Prelude.{◌≡◌, ◌<◌, ◌↔◌, ◌+◌, ◌*◌, ◌^◌, ◌++◌, ℕ, zero, suc, List, [], ◌∷◌, length, map}
 use Rattle.std.specs.List.{Contains}
+use Rattle.adapter.specs.declared.offsets.TheConstants.{RAL}
 use Rattle.rx_filter.specs.Addresses.{group_number, high_word, low_word}
 use Rattle.rx_filter.specs.Registers.{HasTableBit}
 use Rattle.bus.specs.Settings.{Write}
@@ -23,7 +24,7 @@ table_writes offset (word ∷ later) = write_at offset word ∷ table_writes (of
 
 -- an entry of the exact addresses
 abbrev pub entry_writes : ℕ → ℕ → ℕ → List Write
-entry_writes entry low high = write_at (0x5400 + 8 * entry) low ∷ write_at (0x5404 + 8 * entry) high ∷ []
+entry_writes entry low high = write_at (RAL + 8 * entry) low ∷ write_at (RAL + 4 + 8 * entry) high ∷ []
 
 -- so many entries of 0, from one on
 abbrev pub empty_entries : ℕ → ℕ → List Write

@@ -1,6 +1,7 @@
 -- What bring-up asks of the PHY, and what its link is then.
 use Rattle.std.specs.Prelude.{⊤, ◌≡◌, ◌≢◌, ◌≤◌, ◌<◌, ◌+◌, ◌⊎◌, ℕ, true, Err, None, Result, IfErr, IfOk, IsOk, length}
 use Rattle.std.specs.Fn.{iterate}
+use Rattle.adapter.specs.declared.offsets.TheConstants.{MDIC}
 use Rattle.mdic_phy.specs.declared.phy.Link.{Link}
 use Rattle.mdic_phy.specs.declared.phy.Link.TheVariants.{After, Never}
 use Rattle.mdic_phy.specs.Mdic.{ended, kept, operation_of, phy_ended}
@@ -56,7 +57,7 @@ pub record Ends (lively : Type 0) (words all : ℕ) (a b : Management) (answer :
 -- A command over an honest bus.
 pub record Commands {B : Type 0} (world : B → World) (happened : B → B → Past → Type 0) (lively : B → Type 0) (old new : B) (words : ℕ)
     (result : Result ℕ InitError) : Type 0 where
-  pub asks : Asks world happened old new 0x0020
+  pub asks : Asks world happened old new MDIC
   pub accesses : 2 ≤ length asks.past.accesses
   pub link : (world new).adapter.phy.link ≡ (world old).adapter.phy.link
   pub ends : IfOk result
@@ -67,7 +68,7 @@ pub record Commands {B : Type 0} (world : B → World) (happened : B → B → P
 -- Negotiation is started over an honest bus.
 pub record Negotiates {B : Type 0} (world : B → World) (happened : B → B → Past → Type 0) (lively : B → Type 0) (old new : B)
     (result : Result (Unit {0}) InitError) : Type 0 where
-  pub asks : Asks world happened old new 0x0020
+  pub asks : Asks world happened old new MDIC
   pub link : (world new).adapter.phy.link ≡ (world old).adapter.phy.link
   -- It was started in this call: more ticks fell here than since its start.
   pub started : IfOk result (λ done. (begun : IsNegotiating (world new).adapter) × (begun.ticks < asks.past.phy_ticks))
@@ -77,7 +78,7 @@ pub record Negotiates {B : Type 0} (world : B → World) (happened : B → B →
 -- The link is awaited over an honest bus.
 pub record AwaitsLink {B : Type 0} (world : B → World) (happened : B → B → Past → Type 0) (lively : B → Type 0) (old new : B)
     (result : Result (Unit {0}) InitError) : Type 0 where
-  pub asks : Asks world happened old new 0x0020
+  pub asks : Asks world happened old new MDIC
   pub link : (world new).adapter.phy.link ≡ (world old).adapter.phy.link
   -- MDIC shows bits 5 and 2 of the PHY's status: negotiation is complete, and the link is up.
   pub seen : IfOk result (λ done. HasBit (world new).adapter.mdic.value 5 × HasBit (world new).adapter.mdic.value 2)

@@ -1,25 +1,35 @@
 -- What bring-up writes into the registers of the rings, and into those that let them run.
-use Rattle.std.specs.Prelude.{◌+◌, ◌%◌, ◌/◌, ◌^◌, ℕ, Bool, List, [], ◌∷◌, if◌then◌else◌}
+use Rattle.std.specs.Prelude.{◌+◌, ◌*◌, ◌%◌, ◌/◌, ◌^◌, ℕ, Bool, List, [], ◌∷◌, if◌then◌else◌}
+use Rattle.adapter.specs.declared.offsets.TheConstants.{RCTL, TCTL}
+use Rattle.adapter.specs.Rings.{ring_distance}
+use Rattle.adapter.specs.declared.register.RingRegister.TheVariants.{BaseHigh, Length, Head, Tail}
 use Rattle.bus.specs.Settings.{Write}
 use Rattle.bring_up.specs.Table.{write_at}
+use Rattle.registers.specs.Places.{alone, rctl_bam, rctl_en, rctl_mpe, rctl_secrc, rctl_upe, rctl_vfe, tctl_cold, tctl_ct, tctl_en, tctl_psp}
 
 -- a ring's base, its length in bytes, and head and tail at its first slot, from the offset of the base's low word on
 abbrev pub ring_writes : (offset base bytes : ℕ) → List Write
 ring_writes offset base bytes =
     write_at offset (base % 2 ^ 32)
-    ∷ write_at (offset + 0x04) (base / 2 ^ 32)
-    ∷ write_at (offset + 0x08) bytes
-    ∷ write_at (offset + 0x10) 0
-    ∷ write_at (offset + 0x18) 0
+    ∷ write_at (offset + ring_distance BaseHigh) (base / 2 ^ 32)
+    ∷ write_at (offset + ring_distance Length) bytes
+    ∷ write_at (offset + ring_distance Head) 0
+    ∷ write_at (offset + ring_distance Tail) 0
     ∷ []
 
 -- RCTL: EN, BAM and SECRC, with UPE and MPE where everything is to pass, and VFE where VLANs are named
 abbrev pub receive_control : (promiscuous by_vlan : Bool) → ℕ
-receive_control promiscuous by_vlan = 0x04008002 + (if promiscuous then 0x18 else 0) + (if by_vlan then 0x40000 else 0)
+receive_control promiscuous by_vlan =
+    alone rctl_en + alone rctl_bam + alone rctl_secrc
+    + (if promiscuous then alone rctl_upe + alone rctl_mpe else 0)
+    + (if by_vlan then alone rctl_vfe else 0)
 
 abbrev pub receive_writes : (promiscuous by_vlan : Bool) → List Write
-receive_writes promiscuous by_vlan = write_at 0x0100 (receive_control promiscuous by_vlan) ∷ []
+receive_writes promiscuous by_vlan = write_at RCTL (receive_control promiscuous by_vlan) ∷ []
 
 -- TCTL: EN, PSP, CT 0x0F, COLD 0x40
+abbrev pub transmit_control : ℕ
+transmit_control = alone tctl_en + alone tctl_psp + 0x0F * alone tctl_ct + 0x40 * alone tctl_cold
+
 abbrev pub transmit_writes : List Write
-transmit_writes = write_at 0x0400 0x000400FA ∷ []
+transmit_writes = write_at TCTL transmit_control ∷ []

@@ -1,23 +1,31 @@
 -- What bring-up writes, register by register, in order ("14.3 General Initialization", "14.4 Receive Initialization", "14.5 Transmit
 -- Initialization"; the order is own).
-use Rattle.std.specs.Prelude.{ℕ, List, [], ◌∷◌}
+use Rattle.std.specs.Prelude.{◌+◌, ℕ, List, [], ◌∷◌}
+use Rattle.adapter.specs.declared.offsets.TheConstants.{CTRL, IMC, IMS, PBA}
 use Rattle.bus.specs.Settings.{Write}
+use Rattle.registers.specs.Places.{alone, ctrl_asde, ctrl_rst, ctrl_slu, rxdmt0, rxo, rxt0, txdw}
 
 abbrev pub write_at : ℕ → ℕ → Write
 write_at offset value = record { offset = offset; value = value }
 
 -- CTRL.RST, and all causes out of the mask
 abbrev pub reset_writes : List Write
-reset_writes = write_at 0x0000 0x04000000 ∷ write_at 0x00D8 0xFFFFFFFF ∷ []
+reset_writes = write_at CTRL (alone ctrl_rst) ∷ write_at IMC 0xFFFFFFFF ∷ []
 
 -- PBA.RXA
 abbrev pub allocation_writes : ℕ → List Write
-allocation_writes kilobytes = write_at 0x1000 kilobytes ∷ []
+allocation_writes kilobytes = write_at PBA kilobytes ∷ []
 
--- CTRL.SLU and CTRL.ASDE
+-- CTRL: SLU and ASDE
+abbrev pub link_control : ℕ
+link_control = alone ctrl_slu + alone ctrl_asde
+
 abbrev pub link_writes : List Write
-link_writes = write_at 0x0000 0x60 ∷ []
+link_writes = write_at CTRL link_control ∷ []
 
--- IMS: TXDW, RXDMT0, RXO, RXT0
+-- IMS: the causes for which a driver does something
+abbrev pub handled_causes : ℕ
+handled_causes = alone txdw + alone rxdmt0 + alone rxo + alone rxt0
+
 abbrev pub mask_writes : List Write
-mask_writes = write_at 0x00D0 0xD1 ∷ []
+mask_writes = write_at IMS handled_causes ∷ []

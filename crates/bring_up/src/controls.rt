@@ -4,7 +4,7 @@ ghost use Rattle.std.specs.Prelude.{◌≡◌};
 ghost use Rattle.bus.specs.Rest.{IsAtRest};
 ghost use Rattle.bring_up.specs.DriverSteps.{UnmasksCauses};
 ghost use Rattle.bring_up.specs.Sets.{Sets};
-ghost use Rattle.bring_up.specs.Table.{allocation_writes, link_writes, mask_writes, reset_writes};
+ghost use Rattle.bring_up.specs.Table.{allocation_writes, handled_causes, link_writes, mask_writes, reset_writes};
 ghost use Rattle.driver_law.specs.DriverState.{DriverState};
 ghost use Rattle.driver_law.specs.Ready.{Ready};
 
@@ -61,7 +61,7 @@ pub fn unmask_interrupts<B: Bus>(bus: &mut B)
     ensures lively { B.lively bus.old → B.lively bus.new }
     ensures sets { B.honest bus.old → Sets B.world B.happened bus.old bus.new mask_writes }
     ensures unmasks { (d : DriverState) → B.honest bus.old → Ready d (B.world bus.old)
-        → UnmasksCauses B.world B.happened 0xD1 bus.old bus.new d }
+        → UnmasksCauses B.world B.happened handled_causes bus.old bus.new d }
 {
     let causes = Cause::TXDW
         .union(Cause::RXDMT0)

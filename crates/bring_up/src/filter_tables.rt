@@ -58,7 +58,7 @@ pub fn write_groups<B: Bus>(bus: &mut B, table: &[u32; TABLE_WORDS])
     ensures kept { B.kept bus.old bus.new }
     ensures honest { B.honest bus.old → B.honest bus.new }
     ensures lively { B.lively bus.old → B.lively bus.new }
-    ensures sets { B.honest bus.old → Sets B.world B.happened bus.old bus.new (table_writes 0x5200 table.now) }
+    ensures sets { B.honest bus.old → Sets B.world B.happened bus.old bus.new (table_writes MTA table.now) }
     ensures words { AreWords table.now }
 {
     write_table(bus, MTA, table);
@@ -70,7 +70,7 @@ pub fn write_vlans<B: Bus>(bus: &mut B, table: &[u32; TABLE_WORDS])
     ensures kept { B.kept bus.old bus.new }
     ensures honest { B.honest bus.old → B.honest bus.new }
     ensures lively { B.lively bus.old → B.lively bus.new }
-    ensures sets { B.honest bus.old → Sets B.world B.happened bus.old bus.new (table_writes 0x5600 table.now) }
+    ensures sets { B.honest bus.old → Sets B.world B.happened bus.old bus.new (table_writes VFTA table.now) }
     ensures words { AreWords table.now }
 {
     write_table(bus, VFTA, table);

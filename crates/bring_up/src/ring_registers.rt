@@ -12,7 +12,7 @@ ghost use Rattle.driver_law.specs.DriverState.{DriverState, transmit_tail};
 ghost use Rattle.driver_law.specs.Ready.{ReadyWith};
 ghost use Rattle.bring_up.specs.DriverSteps.{LeavesDriver, LetsFramesIn, SetsTransmitRing};
 ghost use Rattle.bring_up.specs.RestingRings.{HasNewRings, HasReceiveRing, SetsAtRest};
-ghost use Rattle.bring_up.specs.RingRegisters.{receive_control, receive_writes, ring_writes, transmit_writes};
+ghost use Rattle.bring_up.specs.RingRegisters.{receive_control, receive_writes, ring_writes, transmit_control, transmit_writes};
 ghost use Rattle.bring_up.specs.Sets.{Sets};
 
 use adapter::offsets::{RCTL, RDBAH, RDBAL, RDH, RDLEN, RDT, TCTL, TDBAH, TDBAL, TDH, TDLEN, TDT};
@@ -46,9 +46,9 @@ pub fn set_receive_ring<B: Bus>(bus: &mut B, ring: RingPlace)
     ensures honest { B.honest bus.old → B.honest bus.new }
     ensures lively { B.lively bus.old → B.lively bus.new }
     ensures sets { B.honest bus.old
-        → Sets B.world B.happened bus.old bus.new (ring_writes 0x2800 ring.base ring.bytes) }
+        → Sets B.world B.happened bus.old bus.new (ring_writes RDBAL ring.base ring.bytes) }
     ensures rests { (rx : ℕ) → B.honest bus.old → IsRingSize rx → ring.base ≡ 0 → ring.bytes ≡ 16 * rx
-        → SetsAtRest B.world B.happened bus.old bus.new (ring_writes 0x2800 ring.base ring.bytes)
+        → SetsAtRest B.world B.happened bus.old bus.new (ring_writes RDBAL ring.base ring.bytes)
         (HasNewRings rx) (HasReceiveRing rx) }
 {
     bus.write(RDBAL, low_word(ring.base));
@@ -66,11 +66,11 @@ pub fn set_transmit_ring<B: Bus>(bus: &mut B, ring: RingPlace)
     ensures honest { B.honest bus.old → B.honest bus.new }
     ensures lively { B.lively bus.old → B.lively bus.new }
     ensures sets { B.honest bus.old
-        → Sets B.world B.happened bus.old bus.new (ring_writes 0x3800 ring.base ring.bytes) }
+        → Sets B.world B.happened bus.old bus.new (ring_writes TDBAL ring.base ring.bytes) }
     ensures ran { (d : DriverState) → B.honest bus.old → ReadyWith false d (B.world bus.old) → d.oldest_sent ≡ 0
         → (B.world bus.old).adapter.transmit_ring ≡ new_ring → IsRingSize d.counts.rx → IsRingSize d.counts.tx
         → ring.base ≡ 16 * d.counts.rx → ring.bytes ≡ 16 * d.counts.tx
-        → SetsTransmitRing B.world B.happened (ring_writes 0x3800 ring.base ring.bytes) bus.old bus.new d }
+        → SetsTransmitRing B.world B.happened (ring_writes TDBAL ring.base ring.bytes) bus.old bus.new d }
 {
     bus.write(TDBAL, low_word(ring.base));
     bus.write(TDBAH, high_word(ring.base));
@@ -127,7 +127,7 @@ pub fn enable_transmitter<B: Bus>(bus: &mut B)
 
 /// TCTL as it lets frames leave.
 fn transmit_control() -> u32
-    ensures { result ≡ 0x000400FA }
+    ensures { result ≡ transmit_control }
 {
     Tctl::EN.union(Tctl::PSP).bits() | COLLISION_THRESHOLD | COLLISION_DISTANCE
 }

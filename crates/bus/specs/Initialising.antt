@@ -4,6 +4,7 @@ use Rattle.std.specs.Prelude.{⊤, ◌≡◌, ◌<◌, ◌+◌, ◌%◌, ◌++�
 use Rattle.dma_memory.specs.Areas.{AreSeparate}
 use Rattle.registers.specs.Bits.{HasBit}
 use Rattle.descriptors.specs.Ring.{address_of, count_of, slots_from}
+use Rattle.registers.specs.Places.{rctl_bsex, rctl_en, tctl_psp}
 use Rattle.rx_engine.specs.Descriptors.{named_address}
 use Rattle.adapter.specs.Registers.{is_reset, write_of}
 use Rattle.adapter.specs.declared.register.Register.{Register}
@@ -55,7 +56,7 @@ with_receive_control control world = record world { adapter = record world.adapt
 -- could run still can.
 pub record ReceiverSet (oldest_received oldest_sent : ℕ) (a b : World) : Type 0 where
   pub same : SameFrames oldest_received oldest_sent a b
-  pub runs : ¬ (HasBit b.adapter.filter.rctl 25) → AreWithin (buffer_size b) b.adapter.receiver.buffer → GoOn a b
+  pub runs : ¬ (HasBit b.adapter.filter.rctl rctl_bsex) → AreWithin (buffer_size b) b.adapter.receiver.buffer → GoOn a b
 
 -- RCTL may be written where the rings, the frames and the buffers that then count are apart, in memory.
 abbrev pub ReceiverCanBeSet : Type 0
@@ -72,7 +73,7 @@ with_transmit_control control world = record world { adapter = record world.adap
 abbrev pub TransmitterCanBeSet : Type 0
 TransmitterCanBeSet =
     (oldest_received oldest_sent control : ℕ) (world : World) → Sound oldest_received oldest_sent world
-    → (¬ (world.adapter.transmit_ring.head ≡ world.adapter.transmit_ring.tail) → HasBit control 3)
+    → (¬ (world.adapter.transmit_ring.head ≡ world.adapter.transmit_ring.tail) → HasBit control tctl_psp)
     → LeavesFrames oldest_received oldest_sent world (with_transmit_control control world)
 
 -- The transmit ring.
@@ -146,4 +147,4 @@ pub record OffersStay (oldest_received : ℕ) (a b : World) : Type 0 where
 abbrev pub OffersWait : Type 0
 OffersWait =
     (oldest_received oldest_sent : ℕ) (a b : World) (past : Past) → Sound oldest_received oldest_sent a → oldest_received < count_of (receive_ring a)
-    → ¬ (HasBit a.adapter.filter.rctl 1) → frames_held oldest_received a ≡ [] → Happens a b past → OffersStay oldest_received a b
+    → ¬ (HasBit a.adapter.filter.rctl rctl_en) → frames_held oldest_received a ≡ [] → Happens a b past → OffersStay oldest_received a b

@@ -1,5 +1,6 @@
 -- What a driver knows of its rings stays known, and a write of a tail moves it alone (own).
 use Rattle.std.specs.Prelude.{◌≡◌, ◌<◌, ℕ}
+use Rattle.adapter.specs.declared.offsets.TheConstants.{RDT, TDT}
 use Rattle.descriptors.specs.declared.ring.Ring.{Ring}
 use Rattle.adapter.specs.KnownRing.{KnowsRing}
 use Rattle.adapter.specs.World.{World, world_after_write}
@@ -15,9 +16,9 @@ KnownRingStays ring =
 abbrev pub ReceiveTailMoves : Type 0
 ReceiveTailMoves =
     (index : ℕ) (world : World) → index < 65536
-    → world_after_write 0x2818 index world ≡ record world { adapter = record world.adapter { receive_ring = record world.adapter.receive_ring { tail = index } } }
+    → world_after_write RDT index world ≡ record world { adapter = record world.adapter { receive_ring = record world.adapter.receive_ring { tail = index } } }
 
 abbrev pub TransmitTailMoves : Type 0
 TransmitTailMoves =
     (index : ℕ) (world : World) → index < 65536
-    → world_after_write 0x3818 index world ≡ record world { adapter = record world.adapter { transmit_ring = record world.adapter.transmit_ring { tail = index } } }
+    → world_after_write TDT index world ≡ record world { adapter = record world.adapter { transmit_ring = record world.adapter.transmit_ring { tail = index } } }

@@ -19,6 +19,7 @@ use Rattle.adapter.specs.State.{AdapterState, IsAdapter}
 use Rattle.adapter.specs.World.{World}
 use Rattle.bus.specs.Past.{Past}
 use Rattle.bus.specs.declared.event.Access.{Access}
+use Rattle.registers.specs.Places.{rctl_en, rxt0}
 
 -- Registers.
 
@@ -56,7 +57,7 @@ pub record Steady (a b : World) (past : Past) : Type 0 where
   pub allocation : b.adapter.receive_kilobytes ≡ a.adapter.receive_kilobytes
   pub missed : b.adapter.missed_packets ≡ max a.adapter.missed_packets (min (a.adapter.missed_packets + past.missed) greatest_count)
   -- Where RCTL.EN is 0 no frame is stored or missed.
-  pub off : ¬ (HasBit a.adapter.filter.rctl 1) → (past.stored ≡ []) × (past.missed ≡ 0)
+  pub off : ¬ (HasBit a.adapter.filter.rctl rctl_en) → (past.stored ≡ []) × (past.missed ≡ 0)
   pub legal : All IsLegal past.stored
   pub eerd : b.adapter.eerd ≡ iterate (eeprom.after_tick a.adapter.image) past.eeprom_ticks a.adapter.eerd
   pub management : management_of b.adapter ≡ iterate phy_ticked past.phy_ticks (management_of a.adapter)
@@ -75,7 +76,7 @@ pub record Between (oldest_received oldest_sent : ℕ) (a b : World) (past : Pas
   -- The finished slots from the oldest on only grow, and where they grew RXT0, bit 7, is recorded.
   pub more : List ℕ
   pub done : finished oldest_received b ≡ finished oldest_received a ++ more
-  pub told : (more ≡ []) ⊎ HasBit b.adapter.causes.recorded 7
+  pub told : (more ≡ []) ⊎ HasBit b.adapter.causes.recorded rxt0
   -- Frames that fit into their buffers still do, and new ones do.
   pub fits : FitBuffers oldest_received a → FitBuffers oldest_received b
   -- Finished slots that are whole stay whole, and new ones are.

@@ -4,6 +4,7 @@ use Rattle.dma_memory.specs.Areas.{AreApart, Area}
 use Rattle.dma_memory.specs.HostMemory.{LiesIn}
 use Rattle.registers.specs.Bits.{HasBit}
 use Rattle.descriptors.specs.Ring.{address_of, count_of, next_of}
+use Rattle.registers.specs.Places.{tctl_psp}
 use Rattle.tx_engine.specs.Fetching.{fetched, frame_at}
 use Rattle.adapter.specs.HostAreas.{areas, buffer_of, data_of, IsForeign, reported_half, status_byte}
 use Rattle.adapter.specs.Slots.{finished, is_done, outstanding, written_back}
@@ -68,7 +69,7 @@ pub record CanSend (oldest_received oldest_sent : ℕ) (world : World) : Type 0 
   pub room : next_of (transmit_ring world) world.adapter.transmit_ring.tail ≢ oldest_sent
   pub fresh : is_done world.memory (address_of (transmit_ring world) world.adapter.transmit_ring.tail) ≡ false
   pub reports : Reports (fetched true world.memory (address_of (transmit_ring world) world.adapter.transmit_ring.tail))
-  pub pads : HasBit world.adapter.transmit_control 3
+  pub pads : HasBit world.adapter.transmit_control tctl_psp
   pub lies :
       LiesIn world.memory (data_of world.memory (address_of (transmit_ring world) world.adapter.transmit_ring.tail)).address
       (data_of world.memory (address_of (transmit_ring world) world.adapter.transmit_ring.tail)).size

@@ -3,6 +3,7 @@ use Rattle.std.specs.Prelude.{⊤, ◌≡◌, ℕ, List, [], ◌∷◌, All, Opt
 use Rattle.registers.specs.Bits.{HasBit}
 use Rattle.mdic_phy.specs.Phy.{new_phy}
 use Rattle.mdic_phy.specs.declared.phy.Link.{Link}
+use Rattle.registers.specs.Places.{rctl_en}
 use Rattle.rx_filter.specs.Registers.{FilterRegisters}
 use Rattle.adapter.specs.declared.ring.RingRegisters.{RingRegisters}
 use Rattle.adapter.specs.Registers.{adapter_at_reset, after_write}
@@ -102,7 +103,7 @@ WritesSet =
 
 -- RCTL.EN is 0
 abbrev pub IsOff : World → Type 0
-IsOff world = ¬ (HasBit world.adapter.filter.rctl 1)
+IsOff world = ¬ (HasBit world.adapter.filter.rctl rctl_en)
 
 abbrev pub IsNotReceiveControl : Option Register → Type 0
 IsNotReceiveControl (Some Rctl) = ⊥
@@ -123,4 +124,4 @@ WhileOff a past = IsOff a → All LeavesReceiver (writes_in past.accesses) → N
 
 -- It stays 0 then, a reset among the writes or not.
 abbrev pub StaysOff : Type 0
-StaysOff = (writes : List Write) (settings : Settings) → All LeavesReceiver writes → ¬ (HasBit settings.filter.rctl 1) → ¬ (HasBit (settings_after_all writes settings).filter.rctl 1)
+StaysOff = (writes : List Write) (settings : Settings) → All LeavesReceiver writes → ¬ (HasBit settings.filter.rctl rctl_en) → ¬ (HasBit (settings_after_all writes settings).filter.rctl rctl_en)

@@ -16,7 +16,8 @@ use Rattle.driver_law.specs.Accesses.{last_load, stores_from, tail_write, takes_
 use Rattle.driver_law.specs.DriverState.{DriverState, HandedOut, holding, next_received, numbers_of, with_owners}
 use Rattle.driver_law.specs.Goes.{HasNoForgottenWork, RanBy}
 use Rattle.driver_law.specs.Readings.{ReadsCauses, with_missed}
-use Rattle.driver.specs.Handles.{HandlesIt, Works, handled_accesses, handled_causes}
+use Rattle.driver.specs.Handles.{HandlesIt, Works, handled_accesses}
+use Rattle.bring_up.specs.Table.{handled_causes}
 use Rattle.driver.specs.Refills.{Refills}
 use Rattle.driver.specs.Takes.{Takes}
 use Rattle.driver.specs.declared.receiver.Received.{Received}

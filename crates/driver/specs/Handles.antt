@@ -1,12 +1,15 @@
 -- What a driver does in its interrupt handler.
 use Rattle.std.specs.Prelude.{◌≡◌, ◌≤◌, ◌++◌, ◌∷◌, ℕ, Bool, List, [], length, map}
+use Rattle.adapter.specs.declared.offsets.TheConstants.{MPC}
 use Rattle.registers.specs.Bits.{HasBit, Meet}
+use Rattle.registers.specs.Places.{rxt0}
 use Rattle.descriptors.specs.RingLaws.{place}
 use Rattle.adapter.specs.Slots.{finished}
 use Rattle.adapter.specs.World.{World}
 use Rattle.bus.specs.Past.{Past, joined}
 use Rattle.bus.specs.declared.event.Access.{Access}
 use Rattle.bus.specs.declared.event.Access.TheVariants.{Reads}
+use Rattle.bring_up.specs.Table.{handled_causes}
 use Rattle.driver_law.specs.Accesses.{last_load, stores_from, tail_write, takes_from}
 use Rattle.driver_law.specs.DriverState.{DriverState, HandedOut, holding, next_received, numbers_of}
 use Rattle.driver_law.specs.Goes.{FlowsTo, HasNoForgottenWork, RanBy}
@@ -16,10 +19,6 @@ use Rattle.driver.specs.declared.interrupt.Handled.{Handled}
 use Rattle.driver.specs.declared.interrupt.Handled.TheVariants.{NotMine}
 use Rattle.driver.specs.declared.interrupt.Handled.TheVariants as answers
 use Rattle.driver.specs.declared.receiver.Received.{Received}
-
--- the causes for which a driver does something: TXDW, RXDMT0, RXO and RXT0, bits 0, 4, 6 and 7
-abbrev pub handled_causes : ℕ
-handled_causes = 0xD1
 
 -- what holds where the handler did something, by how many slots it took
 abbrev pub OnTaken : Handled → (ℕ → Type 0) → Type 0
@@ -35,7 +34,7 @@ OnNotMine (answers.Handled taken) P = Unit {0}
 -- slots are offered with these buffers.
 abbrev pub handled_accesses : DriverState → (misses : ℕ) → (taken rest offered : List ℕ) → (last : ℕ) → List Access
 handled_accesses d misses taken rest offered last =
-    Reads 0x4010 misses ∷
+    Reads MPC misses ∷
     (takes_from d.counts d.oldest_received taken ++ last_load (place d.counts.rx d.oldest_received (length taken)) rest)
     ++ (stores_from d.counts (next_received d) offered ++ tail_write last (d.staged ++ offered))
 
@@ -74,7 +73,7 @@ pub record HandlesIt (up : Bool) {B R : Type 0} (world : B → World) (happened 
   pub works : Works up world happened took middle new before after d d' n
   -- It takes at least what was finished at the beginning, and no work is forgotten.
   pub least : length (finished d.oldest_received (world old)) ≤ n
-  pub work : HasBit (world old).adapter.causes.mask 7 → HasNoForgottenWork d' (world new)
+  pub work : HasBit (world old).adapter.causes.mask rxt0 → HasNoForgottenWork d' (world new)
   -- both parts together
   pub flows : FlowsTo up d (world old) (holding (d.handed_out ++ works.handed_out) d') (world new)
       (map (λ (one : HandedOut). one.frame) works.taken) [] (joined first works.ran.past)

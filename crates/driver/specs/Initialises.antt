@@ -1,6 +1,7 @@
 -- What a driver does to bring its adapter up ("14.3 General Initialization", "14.4 Receive Initialization", "14.5 Transmit
 -- Initialization"; the order is own).
 use Rattle.std.specs.Prelude.{◌≡◌, ◌≤◌, ◌<◌, ◌+◌, ◌-◌, ◌*◌, ◌++◌, ℕ, false, List, [], ◌∷◌, Result, IfErr, IfOk, length}
+use Rattle.adapter.specs.declared.offsets.TheConstants.{RDBAL, RDT, TDBAL}
 use Rattle.registers.specs.Counting.{greatest_count}
 use Rattle.dma_memory.specs.Layout.{Counts}
 use Rattle.dma_memory.specs.Owners.{HaveSameNumbers}
@@ -64,7 +65,7 @@ pub record HasFoundRing {B : Type 0} (world : B → World) (old new : B) (config
   pub groups_are : AreWords groups
   pub vlans_are : AreWords vlans
   pub settings : settings_of (world new).adapter ≡ settings_after_all
-      (writes_before_rings config (address_bytes (world old).adapter.image) groups vlans ++ ring_writes 0x2800 0 (16 * config.rx))
+      (writes_before_rings config (address_bytes (world old).adapter.image) groups vlans ++ ring_writes RDBAL 0 (16 * config.rx))
       (settings_of (world old).adapter)
 
 pub record FindsRing {B : Type 0} (world : B → World) (happened : B → B → Past → Type 0) (lively : B → Type 0) (old new : B)
@@ -78,7 +79,7 @@ pub record FindsRing {B : Type 0} (world : B → World) (happened : B → B → 
 -- The receive slots are stored, the last one cleared, and then all but that one offered.
 abbrev pub first_accesses : Counts → List ℕ → List Access
 first_accesses counts numbers =
-    stores_from counts 0 numbers ++ (clears (receive_slot (counts.rx - 1)) ∷ Writes 0x2818 (counts.rx - 1) ∷ [])
+    stores_from counts 0 numbers ++ (clears (receive_slot (counts.rx - 1)) ∷ Writes RDT (counts.rx - 1) ∷ [])
 
 pub record OffersFirst {B : Type 0} (honest : B → Type 0) (world : B → World) (happened : B → B → Past → Type 0) (old new : B)
     (d d' : DriverState) : Type 0 where
@@ -92,7 +93,7 @@ pub record OffersFirst {B : Type 0} (honest : B → Type 0) (world : B → World
 abbrev pub transmit_accesses : Counts → List Access
 transmit_accesses counts =
     clears_from (16 * counts.rx) counts.tx
-    ++ accesses_of (ring_writes 0x3800 (16 * counts.rx) (16 * counts.tx) ++ transmit_writes)
+    ++ accesses_of (ring_writes TDBAL (16 * counts.rx) (16 * counts.tx) ++ transmit_writes)
 
 -- The whole.
 

@@ -9,7 +9,8 @@ ghost use Rattle.driver_law.specs.DriverState.{HandedOut, holding, owners};
 ghost use Rattle.driver_law.specs.Goes.{IsRefilled, RanBy};
 ghost use Rattle.driver_law.specs.Readings as readings;
 ghost use Rattle.driver_law.specs.Ready.{ReadyWith};
-ghost use Rattle.driver.specs.Handles.{Handles, OnNotMine, OnTaken, handled_causes};
+ghost use Rattle.driver.specs.Handles.{Handles, OnNotMine, OnTaken};
+ghost use Rattle.bring_up.specs.Table.{handled_causes};
 ghost use Rattle.driver.specs.Takes.{ShowsAll};
 
 use crate::{Driver, Receiver};
@@ -55,7 +56,7 @@ impl Driver {
         ensures others { self.new ≡ readings.with_missed result self.old }
         ensures ran { (up : Bool) (held : List HandedOut) → B.honest bus.old
             → ReadyWith up (holding held self.old) (B.world bus.old)
-            → RanBy up B.world B.happened (Reads 0x4010 result ∷ []) bus.old bus.new (holding held self.old)
+            → RanBy up B.world B.happened (Reads MPC result ∷ []) bus.old bus.new (holding held self.old)
             (holding held self.new) [] [] }
     {
         let value = bus.read(MPC);

@@ -14,7 +14,9 @@ use Rattle.bus.proofs.Lists.{all-none}
 use Rattle.driver_law.specs.Beginnings.{DriversBegin}
 use Rattle.driver_law.specs.Ready.{TransmitIs}
 
-tail-known : (up : Bool) (counts : Counts) (world : World) → TransmitIs up counts 0 0 world.memory (transmit_ring world) world.adapter.transmit_control world.adapter.transmitter.buffer → world.adapter.transmit_ring.tail ≡ 0
+tail-known : (up : Bool) (counts : Counts) (world : World)
+    → TransmitIs up counts 0 0 world.memory (transmit_ring world) world.adapter.transmit_control world.adapter.transmitter.buffer
+    → world.adapter.transmit_ring.tail ≡ 0
 tail-known true counts world known = known.knows.last
 tail-known false counts world off = off.last
 
@@ -22,15 +24,18 @@ tail-known false counts world off = off.last
 begun-fits : (world : World) → finished 0 world ≡ [] → world.adapter.receiver.work ≡ None → FitBuffers 0 world
 begun-fits world none idle = record {
   finished_fit = subst (λ (slots : List ℕ). All (λ slot. (named world.memory slot).size ≤ buffer_size world) slots) (sym none) (all-none _);
-  work_fits = subst (λ (work : Option Work). All (λ area. area.size ≤ buffer_size world) (work_areas world.memory work)) (sym idle) (all-none _);
+  work_fits = subst (λ (work : Option Work). All (λ area. area.size ≤ buffer_size world) (work_areas world.memory work)) (sym idle)
+      (all-none _);
 }
 
 pub drivers_begin : DriversBegin
 drivers_begin up counts pool world begun =
     let first : world.adapter.receive_ring.tail ≡ 0 = begun.receive.last in
     let last : world.adapter.transmit_ring.tail ≡ 0 = tail-known up counts world begun.transmit in
-    let own : Sound 0 world.adapter.transmit_ring.tail world = subst (λ (oldest : ℕ). Sound oldest world.adapter.transmit_ring.tail world) first (idle_rings_are_sound world begun.idle) in
-    let clear : outstanding (receive_ring world) 0 ≡ [] = subst (λ (oldest : ℕ). outstanding (receive_ring world) oldest ≡ []) first (outstanding-none (receive_ring world)) in
+    let own : Sound 0 world.adapter.transmit_ring.tail world = subst
+    (λ (oldest : ℕ). Sound oldest world.adapter.transmit_ring.tail world) first (idle_rings_are_sound world begun.idle) in
+    let clear : outstanding (receive_ring world) 0
+    ≡ [] = subst (λ (oldest : ℕ). outstanding (receive_ring world) oldest ≡ []) first (outstanding-none (receive_ring world)) in
     let none : finished 0 world ≡ [] = ap (take_while (is_done world.memory)) clear in
     record {
       driver_is = record { oldest_slot = begun.slots; room = begun.slots; one_owner = begun.one_owner; addresses = begun.addresses };

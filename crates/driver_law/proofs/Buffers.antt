@@ -1,5 +1,6 @@
 -- A receive buffer that no outstanding slot has is nowhere in the adapter's way.
-use Rattle.std.proofs.Common.{inl, true, false, Bool, ◌≡◌, ◌≢◌, ◌≤◌, ◌<◌, ◌+◌, ◌*◌, ◌∷◌, [], ℕ, zero, suc, List, length, take, drop, map, refl, sym, ap, subst, ◌∙◌, arith}
+use Rattle.std.proofs.Common.{inl, true, false, Bool, ◌≡◌, ◌≢◌, ◌≤◌, ◌<◌, ◌+◌, ◌*◌, ◌∷◌, [], ℕ, zero, suc, List, length, take, drop, map}
+use Rattle.std.proofs.Common.{refl, sym, ap, subst, ◌∙◌, arith}
 use Rattle.std.specs.List.{All}
 use Rattle.std.proofs.lemmas.List.Elements.{All-cons, All-map}
 use Rattle.dma_memory.specs.Areas.{AreApart, Area, area_at, bytes_in}
@@ -36,58 +37,72 @@ record IsAway (p : ℕ) (world : World) (area : Area) : Type 0 where
   sources : All (λ slot. AreApart (data_of world.memory slot) area) (outstanding (transmit_ring world) p)
 
 transmit-away : (up : Bool) (counts : Counts) (p sending : ℕ) (world : World) (number : ℕ) → number < counts.buffers
-    → TransmitIs up counts p sending world.memory (transmit_ring world) world.adapter.transmit_control world.adapter.transmitter.buffer → IsAway p world (area_of counts (ReceiveBuffer number))
+    → TransmitIs up counts p sending world.memory (transmit_ring world) world.adapter.transmit_control world.adapter.transmitter.buffer
+    → IsAway p world (area_of counts (ReceiveBuffer number))
 transmit-away true counts p sending world number known side =
     let area = area_of counts (ReceiveBuffer number) in
     let slots = slots_from counts.tx p sending in
     record {
-      ring = subst (λ (other : Area). AreApart other area) (sym (known-area _ _ _ _ side.knows)) (places-apart counts TransmitRing (ReceiveBuffer number) tt known (λ same. absurd (cc)));
+      ring = subst (λ (other : Area). AreApart other area) (sym (known-area _ _ _ _ side.knows))
+          (places-apart counts TransmitRing (ReceiveBuffer number) tt known (λ same. absurd (cc)));
       sources =
           subst (λ (list : List ℕ). All (λ slot. AreApart (data_of world.memory slot) area) list)
           (sym (outstanding-known (transmit_ring world) (16 * counts.rx) counts.tx p sending side.knows side.oldest_slot side.room))
           (All-map (λ slot. AreApart (data_of world.memory slot) area) (transmit_slot counts) slots (λ k d below.
           apart-inside _ (area_of counts (TransmitBuffer _)) area (side.sources k d below)
-          (places-apart counts (TransmitBuffer _) (ReceiveBuffer number) (slots-below counts.tx p sending side.oldest_slot k d below) known (λ same. absurd (cc)))));
+          (places-apart counts (TransmitBuffer _) (ReceiveBuffer number) (slots-below counts.tx p sending side.oldest_slot k d below) known
+          (λ same. absurd (cc)))));
     }
 transmit-away false counts p sending world number known side =
     let area = area_of counts (ReceiveBuffer number) in
-    let none : outstanding (transmit_ring world) p ≡ [] = subst (λ (oldest : ℕ). outstanding (transmit_ring world) oldest ≡ []) side.last (outstanding-none (transmit_ring world)) in
+    let none : outstanding (transmit_ring world) p
+    ≡ [] = subst (λ (oldest : ℕ). outstanding (transmit_ring world) oldest ≡ []) side.last (outstanding-none (transmit_ring world)) in
     let behind = begins counts in
-    let before : (transmit_ring world).base + 16 * count_of (transmit_ring world) ≤ area.address = omega (arith, side.ends, behind.behind_rings) in
+    let before : (transmit_ring world).base + 16 * count_of (transmit_ring world) ≤ area.address = omega
+    (arith, side.ends, behind.behind_rings) in
     record {
       ring = inl before;
       sources = subst (λ (list : List ℕ). All (λ slot. AreApart (data_of world.memory slot) area) list) (sym none) (all-none _);
     }
 
-buffer-spare : {up : Bool} (d : DriverState) (world : World) (number : ℕ) → ReadyWith up d world → number < d.counts.buffers → copies number d.buffers ≡ 0
+buffer-spare : {up : Bool} (d : DriverState) (world : World) (number : ℕ) → ReadyWith up d world → number < d.counts.buffers
+    → copies number d.buffers ≡ 0
     → IsSpare d.oldest_received d.oldest_sent world (area_of d.counts (ReceiveBuffer number))
 buffer-spare {up} d world number ready known free =
     let area = area_of d.counts (ReceiveBuffer number) in
     let Away : ℕ → Type 0 = λ address. AreApart (area_at address (buffer_size world)) area in
-    let each : All Away (map (buffer_at d.counts) d.buffers) = All-map Away (buffer_at d.counts) d.buffers (all-copies (λ m. Away (buffer_at d.counts m)) d.buffers (λ m some.
+    let each : All Away (map (buffer_at d.counts) d.buffers) = All-map Away (buffer_at d.counts) d.buffers
+    (all-copies (λ m. Away (buffer_at d.counts m)) d.buffers (λ m some.
     let differ : m ≢ number = λ same. absurd (omega (arith, some, free, ap (λ (k : ℕ). copies k d.buffers) same)) in
     subst (λ (size : ℕ). AreApart (area_at (buffer_at d.counts m) size) area) (sym ready.size)
-    (places-apart d.counts (ReceiveBuffer m) (ReceiveBuffer number) (outstanding-number d m ready.driver_is some) known (λ same. differ (cc))))) in
+    (places-apart d.counts (ReceiveBuffer m) (ReceiveBuffer number) (outstanding-number d m ready.driver_is some) known
+    (λ same. differ (cc))))) in
     let away = transmit-away up d.counts d.oldest_sent d.sending world number known ready.transmit in
     record {
-      receive_slots = subst (λ (other : Area). AreApart other area) (sym (known-area _ _ _ _ ready.receive)) (places-apart d.counts ReceiveRing (ReceiveBuffer number) tt known (λ same. absurd (cc)));
+      receive_slots = subst (λ (other : Area). AreApart other area) (sym (known-area _ _ _ _ ready.receive))
+          (places-apart d.counts ReceiveRing (ReceiveBuffer number) tt known (λ same. absurd (cc)));
       transmit_slots = away.ring;
-      buffers = all-unmapped Away (named_address world.memory) (outstanding (receive_ring world) d.oldest_received) (subst (λ (list : List ℕ). All Away list) (sym ready.names) each);
+      buffers = all-unmapped Away (named_address world.memory) (outstanding (receive_ring world) d.oldest_received)
+          (subst (λ (list : List ℕ). All Away list) (sym ready.names) each);
       sources = away.sources;
     }
 
 -- Each buffer lies in memory.
-pub buffer-lies : {up : Bool} (d : DriverState) (world : World) (number : ℕ) → ReadyWith up d world → number < d.counts.buffers → LiesIn world.memory (buffer_at d.counts number) 2048
-buffer-lies {up} d world number ready known = let ends = place-below_size d.counts (ReceiveBuffer number) known in omega (arith, ends, ready.lies)
+pub buffer-lies : {up : Bool} (d : DriverState) (world : World) (number : ℕ) → ReadyWith up d world → number < d.counts.buffers
+    → LiesIn world.memory (buffer_at d.counts number) 2048
+buffer-lies {up} d world number ready known = let ends = place-below_size d.counts (ReceiveBuffer number) known in omega
+    (arith, ends, ready.lies)
 
--- It lies in memory, apart from all that the conditions of the law name, and isn't the adapter's to write. This ends what is said of areas: from
+-- It lies in memory, apart from all that the conditions of the law name, and isn't the adapter's to write. This ends what is said of areas:
+-- from
 -- here on numbers are counted.
 pub record IsAside (d : DriverState) (world : World) (number : ℕ) : Type 0 where
   pub lies : LiesIn world.memory (buffer_at d.counts number) 2048
   pub apart : All (λ other. AreApart other (area_of d.counts (ReceiveBuffer number))) (areas d.oldest_received world)
   pub foreign : IsForeign world (area_of d.counts (ReceiveBuffer number))
 
-pub buffer-aside : {up : Bool} (d : DriverState) (world : World) (number : ℕ) → ReadyWith up d world → number < d.counts.buffers → copies number d.buffers ≡ 0 → IsAside d world number
+pub buffer-aside : {up : Bool} (d : DriverState) (world : World) (number : ℕ) → ReadyWith up d world → number < d.counts.buffers
+    → copies number d.buffers ≡ 0 → IsAside d world number
 buffer-aside {up} d world number ready known free =
     let o = d.oldest_received in
     let p = d.oldest_sent in
@@ -99,7 +114,8 @@ buffer-aside {up} d world number ready known free =
     }
 
 -- The first bytes of an area stay where all of them do.
-pub front-same : (memory memory' : List ℕ) (address n size : ℕ) → n ≤ size → bytes_at memory' address size ≡ bytes_at memory address size → bytes_at memory' address n ≡ bytes_at memory address n
+pub front-same : (memory memory' : List ℕ) (address n size : ℕ) → n ≤ size → bytes_at memory' address size ≡ bytes_at memory address size
+    → bytes_at memory' address n ≡ bytes_at memory address n
 front-same memory memory' address n size short same =
     sym (take-shorter n size (drop address memory') short) ∙ ap (take n) same ∙ take-shorter n size (drop address memory) short
   where
@@ -111,7 +127,8 @@ front-same memory memory' address n size short same =
 
 -- Frames that were handed out stand, where the buffers stay that no outstanding slot has.
 pub stand-kept : {up : Bool} (d : DriverState) (a b : World) → ReadyWith up d a
-    → ((number : ℕ) → number < d.counts.buffers → copies number d.buffers ≡ 0 → bytes_in b.memory (area_of d.counts (ReceiveBuffer number)) ≡ bytes_in a.memory (area_of d.counts (ReceiveBuffer number)))
+    → ((number : ℕ) → number < d.counts.buffers → copies number d.buffers ≡ 0
+    → bytes_in b.memory (area_of d.counts (ReceiveBuffer number)) ≡ bytes_in a.memory (area_of d.counts (ReceiveBuffer number)))
     → All (Stands d.counts b.memory) d.handed_out
 stand-kept {up} d a b ready same = each d.handed_out (λ k. omega arith) ready.stand
   where
@@ -121,14 +138,17 @@ stand-kept {up} d a b ready same = each d.handed_out (λ k. omega arith) ready.s
     Behind : HandedOut → Type 0
     Behind = Stands d.counts b.memory
 
-    each : (list : List HandedOut) → ((k : ℕ) → copies k (numbers_of list) ≤ copies k (numbers_of d.handed_out)) → All Before list → All Behind list
+    each : (list : List HandedOut) → ((k : ℕ) → copies k (numbers_of list) ≤ copies k (numbers_of d.handed_out)) → All Before list
+        → All Behind list
     each [] among stand = all-none Behind
     each (one ∷ list) among stand =
-        let elsewhere = elsewhere-number d one.number ready.driver_is (omega (arith, among one.number, copies-itself one.number (numbers_of list))) in
+        let elsewhere = elsewhere-number d one.number ready.driver_is
+        (omega (arith, among one.number, copies-itself one.number (numbers_of list))) in
         let stands = all-head Before one list stand in
         All-cons Behind one list
         (record {
-          bytes = front-same a.memory b.memory (buffer_at d.counts one.number) (length one.frame) 2048 (omega (arith, stands.short)) (same one.number elsewhere.known elsewhere.free) ∙ stands.bytes;
+          bytes = front-same a.memory b.memory (buffer_at d.counts one.number) (length one.frame) 2048 (omega (arith, stands.short))
+              (same one.number elsewhere.known elsewhere.free) ∙ stands.bytes;
           short = stands.short;
         })
         (each list (λ k. omega (arith, among k, copies-cons k one.number (numbers_of list))) (all-tail Before one list stand))

@@ -65,8 +65,10 @@ pub causes_are_unmasked : CausesAreUnmasked
 unfolding register_at
 causes_are_unmasked up driver causes world ready =
     let b = world_after_write 0xD0 causes world in
-    let leaves : LeavesFrames driver.oldest_received driver.oldest_sent world b = other_writes_leave_frames driver.oldest_received driver.oldest_sent Ims causes world ready.sound (λ no. no) refl in
-    let same : SameParts world b = record { memory = refl; receives = refl; transmits = refl; receive_control = refl; transmit_control = refl; buffer = refl } in
+    let leaves : LeavesFrames driver.oldest_received driver.oldest_sent world b = other_writes_leave_frames driver.oldest_received
+    driver.oldest_sent Ims causes world ready.sound (λ no. no) refl in
+    let same : SameParts world b = record
+    { memory = refl; receives = refl; transmits = refl; receive_control = refl; transmit_control = refl; buffer = refl } in
     record {
       ready = ready-left driver world b ready leaves same;
       to_send = leaves.same.to_send;
@@ -80,7 +82,8 @@ causes_are_unmasked up driver causes world ready =
 
 pub unmasked_forgets_no_work : UnmaskedForgetsNoWork
 unmasked_forgets_no_work up driver causes a b unmasked set asked = record {
-  unmasked = subst (λ (mask : ℕ). HasBit mask 7) (sym unmasked.mask) ((HasBit-union a.adapter.causes.mask (causes_of causes) 7).1 (inr set));
+  unmasked = subst (λ (mask : ℕ). HasBit mask 7) (sym unmasked.mask)
+      ((HasBit-union a.adapter.causes.mask (causes_of causes) 7).1 (inr set));
   asked =
       ⊎_elim
       (λ (none : finished driver.oldest_received a ≡ []). inl (unmasked.finished_same ∙ none))

@@ -1,5 +1,6 @@
 -- TDT is moved on by one, and the oldest slot is freed.
-use Rattle.std.proofs.Common.{Bool, true, false, cond, ◌≡◌, ◌≤◌, ◌<◌, ◌+◌, ◌-◌, ◌*◌, ◌%◌, ◌^◌, ◌++◌, ◌∷◌, [], ℕ, suc, List, length, slice_index, map, inl, inr, ⊎_elim, refl, sym, ap, subst, ◌∙◌, arith}
+use Rattle.std.proofs.Common.{Bool, true, false, cond, ◌≡◌, ◌≤◌, ◌<◌, ◌+◌, ◌-◌, ◌*◌, ◌%◌, ◌^◌, ◌++◌, ◌∷◌, [], ℕ, suc, List, length}
+use Rattle.std.proofs.Common.{slice_index, map, inl, inr, ⊎_elim, refl, sym, ap, subst, ◌∙◌, arith}
 use Rattle.std.specs.List.{All, take_while}
 use Rattle.std.proofs.lemmas.Bool.{cases_eq}
 use Rattle.std.proofs.lemmas.List.{append-nil}
@@ -40,7 +41,8 @@ use Rattle.driver_law.proofs.TransmitSlots.{next_slot_is_own, own-buffer}
 -- The descriptor of a frame.
 
 abbrev whole_desc : ℕ → ℕ → TxDesc
-whole_desc address size = record { address = address; length = size; cso = 0; command = command_of 0x0B; status = sent_of 0; css = 0; special = 0 }
+whole_desc address size = record
+    { address = address; length = size; cso = 0; command = command_of 0x0B; status = sent_of 0; css = 0; special = 0 }
 
 pub length-whole : (address size : ℕ) → length (whole_descriptor address size) ≡ 16
 length-whole address size = length-tx_desc_bytes (whole_desc address size)
@@ -48,7 +50,16 @@ length-whole address size = length-tx_desc_bytes (whole_desc address size)
 whole-read : (address size : ℕ) → address < 2 ^ 64 → size ≤ 1518 → tx_desc_of (whole_descriptor address size) ≡ whole_desc address size
 whole-read address size fits short =
     tx_desc_of-tx_desc_bytes (whole_desc address size)
-    (record { address = fits; length = omega (arith, short); cso = omega arith; command = omega arith; status = omega arith; css = omega arith; special = omega arith })
+    (record {
+      address = fits;
+      length = omega (arith, short);
+      cso = omega arith;
+      command = omega arith;
+      status = omega arith;
+      css = omega
+          arith;
+      special = omega arith;
+    })
 
 pub status-byte : (bytes : List ℕ) → sent_bits (tx_desc_of bytes).status ≡ slice_index bytes 12
 unfolding tx_desc_of
@@ -62,10 +73,12 @@ record Says (memory : List ℕ) (slot address size : ℕ) : Type 0 where
   frame : frame_at true memory slot ≡ padded (bytes_at memory address size)
   transmittable : 14 ≤ size → LiesIn memory address size → CanTransmit memory slot
 
-whole-says : (memory : List ℕ) (slot address size : ℕ) → address < 2 ^ 64 → size ≤ 1518 → bytes_at memory slot 16 ≡ whole_descriptor address size → Says memory slot address size
+whole-says : (memory : List ℕ) (slot address size : ℕ) → address < 2 ^ 64 → size ≤ 1518
+    → bytes_at memory slot 16 ≡ whole_descriptor address size → Says memory slot address size
 whole-says memory slot address size fits short bytes =
     let read : descriptor_at memory slot ≡ whole_desc address size = ap tx_desc_of bytes ∙ whole-read address size fits short in
-    let none : slice_index (bytes_at memory slot 16) 12 ≡ 0 = sym (status-byte (bytes_at memory slot 16)) ∙ ap (λ (desc : TxDesc). sent_bits desc.status) read in
+    let none : slice_index (bytes_at memory slot 16) 12 ≡ 0 = sym (status-byte (bytes_at memory slot 16))
+    ∙ ap (λ (desc : TxDesc). sent_bits desc.status) read in
     record {
       clear = ap (λ (status : ℕ). is_set status 0) none;
       reports = ap (λ (desc : TxDesc). is_set (command_bits desc.command) 3) read;
@@ -104,8 +117,10 @@ frame_is_offered driver frame world ready room least short stands =
     let reads = whole-says world.memory at start size (omega (arith, ends, ready.driver_is.addresses)) short stands.descriptor in
     let says = subst (λ (address : ℕ). Says world.memory address start size) is reads in
     let lies : LiesIn world.memory start size = omega (arith, buffer.lies, short) in
-    let apart : All (λ other. AreApart other area) (areas o world) = λ i d below. inside-apart _ area whole inside (buffer.apart i d below) in
-    let next : next_of ring ring.tail ≡ (slot + 1) % n = ap (λ (count : ℕ). (ring.tail + 1) % count) up.knows.slots ∙ ap (λ (tail : ℕ). (tail + 1) % n) up.knows.last in
+    let apart : All (λ other. AreApart other area) (areas o world) = λ i d below. inside-apart _ area whole inside
+    (buffer.apart i d below) in
+    let next : next_of ring ring.tail ≡ (slot + 1) % n = ap (λ (count : ℕ). (ring.tail + 1) % count) up.knows.slots
+    ∙ ap (λ (tail : ℕ). (tail + 1) % n) up.knows.last in
     let moved : place n p (k + 1) ≡ (slot + 1) % n = place-next n p k in
     let more : k + 1 ≡ suc k = omega arith in
     let can : CanSend o p world = record {
@@ -128,7 +143,13 @@ frame_is_offered driver frame world ready room least short stands =
     record {
       flows = record {
         ready = record {
-          driver_is = record { oldest_slot = ready.driver_is.oldest_slot; room = ready.driver_is.room; one_owner = ready.driver_is.one_owner; addresses = ready.driver_is.addresses };
+          driver_is = record {
+            oldest_slot = ready.driver_is.oldest_slot;
+            room = ready.driver_is.room;
+            one_owner =
+                ready.driver_is.one_owner;
+            addresses = ready.driver_is.addresses;
+          };
           sound = done.sound;
           runs = done.runs (says.transmittable least lies) ready.runs;
           fit = done.fits ready.fit;
@@ -167,28 +188,38 @@ frame_is_offered driver frame world ready room least short stands =
 -- The outstanding slots begin with the oldest.
 outstanding-first : (driver : DriverState) (world : World) → Ready driver world → 0 < driver.sending
     → outstanding (transmit_ring world) driver.oldest_sent
-    ≡ transmit_slot driver.counts driver.oldest_sent ∷ map (transmit_slot driver.counts) (slots_from driver.counts.tx ((driver.oldest_sent + 1) % driver.counts.tx) (driver.sending - 1))
+    ≡ transmit_slot driver.counts driver.oldest_sent ∷ map (transmit_slot driver.counts)
+    (slots_from driver.counts.tx ((driver.oldest_sent + 1) % driver.counts.tx) (driver.sending - 1))
 outstanding-first driver world ready some =
     let up = ready.transmit in
     let more : driver.sending ≡ suc (driver.sending - 1) = omega (arith, some) in
-    outstanding-known (transmit_ring world) (16 * driver.counts.rx) driver.counts.tx driver.oldest_sent driver.sending up.knows up.oldest_slot up.room
+    outstanding-known (transmit_ring world) (16 * driver.counts.rx) driver.counts.tx driver.oldest_sent driver.sending up.knows
+    up.oldest_slot up.room
     ∙ ap (λ (k : ℕ). map (transmit_slot driver.counts) (slots_from driver.counts.tx driver.oldest_sent k)) more
 
 -- So it is written back where it is done, and else none is.
-written-first : (driver : DriverState) (world : World) (done : Bool) → Ready driver world → 0 < driver.sending → is_done world.memory (transmit_slot driver.counts driver.oldest_sent) ≡ done
+written-first : (driver : DriverState) (world : World) (done : Bool) → Ready driver world → 0 < driver.sending
+    → is_done world.memory (transmit_slot driver.counts driver.oldest_sent) ≡ done
     → written_back driver.oldest_sent world
-    ≡ cond done (transmit_slot driver.counts driver.oldest_sent ∷ take_while (is_done world.memory) (map (transmit_slot driver.counts) (slots_from driver.counts.tx ((driver.oldest_sent + 1) % driver.counts.tx) (driver.sending - 1)))) []
+    ≡ cond done (transmit_slot driver.counts driver.oldest_sent
+    ∷ take_while (is_done world.memory)
+    (map (transmit_slot driver.counts)
+    (slots_from driver.counts.tx ((driver.oldest_sent + 1) % driver.counts.tx) (driver.sending - 1)))) []
 written-first driver world done ready some is =
     let test = is_done world.memory in
     let first = transmit_slot driver.counts driver.oldest_sent in
-    let others = map (transmit_slot driver.counts) (slots_from driver.counts.tx ((driver.oldest_sent + 1) % driver.counts.tx) (driver.sending - 1)) in
-    ap (take_while test) (outstanding-first driver world ready some) ∙ take_while-cons test first others ∙ ap (λ (b : Bool). cond b (first ∷ take_while test others) []) is
+    let others = map (transmit_slot driver.counts)
+    (slots_from driver.counts.tx ((driver.oldest_sent + 1) % driver.counts.tx) (driver.sending - 1)) in
+    ap (take_while test) (outstanding-first driver world ready some) ∙ take_while-cons test first others
+    ∙ ap (λ (b : Bool). cond b (first ∷ take_while test others) []) is
 
-none-outstanding : (driver : DriverState) (world : World) → Ready driver world → driver.sending ≡ 0 → written_back driver.oldest_sent world ≡ []
+none-outstanding : (driver : DriverState) (world : World) → Ready driver world → driver.sending ≡ 0
+    → written_back driver.oldest_sent world ≡ []
 none-outstanding driver world ready none =
     let up = ready.transmit in
     ap (take_while (is_done world.memory))
-    (outstanding-known (transmit_ring world) (16 * driver.counts.rx) driver.counts.tx driver.oldest_sent driver.sending up.knows up.oldest_slot up.room
+    (outstanding-known (transmit_ring world) (16 * driver.counts.rx) driver.counts.tx driver.oldest_sent driver.sending up.knows
+    up.oldest_slot up.room
     ∙ ap (λ (k : ℕ). map (transmit_slot driver.counts) (slots_from driver.counts.tx driver.oldest_sent k)) none)
 
 pub none_is_written_back : NoneIsWrittenBack
@@ -215,13 +246,20 @@ slot_is_freed driver world ready some done =
     let first : written_back p world ≡ transmit_slot driver.counts p ∷ later = written-first driver world true ready some done in
     let freed = written_slots_can_be_freed driver.oldest_received p world (transmit_slot driver.counts p) later ready.sound first in
     let here : FreedTo driver world later (next_sent p world) = record { sound = freed.sound; behind = freed.behind } in
-    let there : FreedTo driver world later next = subst (FreedTo driver world later) (ap (λ (count : ℕ). (p + 1) % count) up.knows.slots) here in
+    let there : FreedTo driver world later next = subst (FreedTo driver world later)
+    (ap (λ (count : ℕ). (p + 1) % count) up.knows.slots) here in
     let more : driver.sending ≡ suc (driver.sending - 1) = omega (arith, some) in
     let Source = HasSource driver world.memory in
-    let sources : All Source (p ∷ slots_from n next (driver.sending - 1)) = subst (λ (k : ℕ). All Source (slots_from n p k)) more up.sources in
+    let sources : All Source (p ∷ slots_from n next (driver.sending - 1)) = subst
+    (λ (k : ℕ). All Source (slots_from n p k)) more up.sources in
     goes-rests driver world (with_freed driver) world
     (record {
-      driver_is = record { oldest_slot = ready.driver_is.oldest_slot; room = ready.driver_is.room; one_owner = ready.driver_is.one_owner; addresses = ready.driver_is.addresses };
+      driver_is = record {
+        oldest_slot = ready.driver_is.oldest_slot;
+        room = ready.driver_is.room;
+        one_owner = ready.driver_is.one_owner;
+        addresses = ready.driver_is.addresses;
+      };
       sound = there.sound;
       runs = ready.runs;
       fit = ready.fit;
@@ -233,7 +271,13 @@ slot_is_freed driver world ready some done =
         oldest_slot = next-below n p up.oldest_slot;
         room = omega (arith, up.room);
         pads = up.pads;
-        knows = record { begins = up.knows.begins; slots = up.knows.slots; last = up.knows.last ∙ ap (place n p) more; head_slot = up.knows.head_slot };
+        knows = record {
+          begins = up.knows.begins;
+          slots = up.knows.slots;
+          last = up.knows.last
+              ∙ ap (place n p) more;
+          head_slot = up.knows.head_slot;
+        };
         sources = all-tail Source p (slots_from n next (driver.sending - 1)) sources;
       };
       names = ready.names;

@@ -37,35 +37,43 @@ last_slot_is_stored up driver bytes world ready long =
     let slot = receive_slot (next_received driver) in
     let area = area_at slot (length bytes) in
     let walked : place n (receive_tail driver) j ≡ next_received driver = sym (place-add n o i j) in
-    let at : address_of (receive_ring world) (place n (receive_tail driver) j) ≡ slot = omega (arith, ready.receive.begins, ap (λ (index : ℕ). 16 * index) walked) in
-    let own : CanBeWritten o p world slot = subst (CanBeWritten o p world) at (own_receive_slots_can_be_written o p _ world ready.sound (own-staged driver world j ready room)) in
+    let at : address_of (receive_ring world) (place n (receive_tail driver) j)
+    ≡ slot = omega (arith, ready.receive.begins, ap (λ (index : ℕ). 16 * index) walked) in
+    let own : CanBeWritten o p world slot = subst (CanBeWritten o p world) at
+    (own_receive_slots_can_be_written o p _ world ready.sound (own-staged driver world j ready room)) in
     let lies : LiesIn world.memory slot (length bytes) = subst (LiesIn world.memory slot) (sym long) own.lies in
     let below : next_received driver < n = place-below n o (i + j) ready.driver_is.oldest_slot in
     let inside : IsInside area (area_of driver.counts ReceiveRing) = record { from = omega arith; to = omega (arith, long, below) } in
     let staged : ℕ → ℕ = λ k. receive_slot (place n (receive_tail driver) k) in
-    let others : (k : ℕ) → k < j → bytes_at (with_bytes world.memory slot bytes) (staged k) 16 ≡ bytes_at world.memory (staged k) 16 = λ k before.
+    let others : (k : ℕ) → k < j
+    → bytes_at (with_bytes world.memory slot bytes) (staged k) 16 ≡ bytes_at world.memory (staged k) 16 = λ k before.
     bytes_at-elsewhere world.memory bytes slot (staged k) 16 lies
     (slots-apart (next_received driver) (place n (receive_tail driver) k) (length bytes) long
     (λ same. places-differ n o (i + k) (i + j) ready.driver_is.oldest_slot (omega (arith, before)) room (place-add n o i k ∙ same))) in
-    goes-stores driver driver.staged driver.pool world slot bytes ready lies (subst (λ (size : ℕ). IsOwn o p world (area_at slot size)) (sym long) own.own) ready.driver_is
+    goes-stores driver driver.staged driver.pool world slot bytes ready lies
+    (subst (λ (size : ℕ). IsOwn o p world (area_at slot size)) (sym long) own.own) ready.driver_is
     (stored-kept world.memory (with_bytes world.memory slot bytes) driver.counts (receive_tail driver) driver.staged others ready.stored)
     (λ number known.
     apart-inside area (area_of driver.counts ReceiveRing) (area_of driver.counts (ReceiveBuffer number)) inside
     (places-apart driver.counts ReceiveRing (ReceiveBuffer number) tt known (λ same. absurd (cc))))
 
 -- While the side is off, the place of the transmit ring is the driver's own.
-place-own : (driver : DriverState) (area : Area) (world : World) → ReadyWith false driver world → IsInside area (area_of driver.counts TransmitRing) → IsOwn driver.oldest_received driver.oldest_sent world area
+place-own : (driver : DriverState) (area : Area) (world : World) → ReadyWith false driver world
+    → IsInside area (area_of driver.counts TransmitRing) → IsOwn driver.oldest_received driver.oldest_sent world area
 place-own driver area world ready inside =
     let o = driver.oldest_received in
     let p = driver.oldest_sent in
     let r = ring_area (receive_ring world) in
     let whole = area_of driver.counts TransmitRing in
     let received = outstanding-inside (receive_ring world) o ready.sound.receive_slots.slot in
-    let rings : AreApart whole r = subst (AreApart whole) (sym (known-area _ _ _ _ ready.receive)) (places-apart driver.counts TransmitRing ReceiveRing tt tt (λ same. absurd (cc))) in
-    let away : All (λ other. AreApart area other) (received_areas o world) = λ k d below. apart-inside area whole _ inside (apart-sym _ whole (place-away driver world ready k d below)) in
+    let rings : AreApart whole r = subst (AreApart whole) (sym (known-area _ _ _ _ ready.receive))
+    (places-apart driver.counts TransmitRing ReceiveRing tt tt (λ same. absurd (cc))) in
+    let away : All (λ other. AreApart area other) (received_areas o world) = λ k d below. apart-inside area whole _ inside
+    (apart-sym _ whole (place-away driver world ready k d below)) in
     record {
       received = λ k d below. apart-inside area whole _ inside (inside-apart whole _ r (received k d below) rings);
-      sent = subst (λ (slots : List ℕ). All (λ slot. AreApart area (descriptor_area slot)) slots) (sym (none-outstanding driver world ready)) (all-none _);
+      sent = subst (λ (slots : List ℕ). All (λ slot. AreApart area (descriptor_area slot)) slots)
+          (sym (none-outstanding driver world ready)) (all-none _);
       frames = subst (λ (list : List Area). All (AreApart area) list) (sym (areas-idle o world ready.transmit.idle)) away;
     }
 
@@ -77,5 +85,8 @@ transmit_place_is_stored driver address bytes world ready inside =
     let ends = place-below_size counts TransmitRing tt in
     let lies : LiesIn world.memory address (length bytes) = lies-inside world.memory area whole inside (omega (arith, ends, ready.lies)) in
     goes-stores driver driver.staged driver.pool world address bytes ready lies (place-own driver area world ready inside) ready.driver_is
-    (stored-elsewhere driver world address bytes ready lies (inside-apart (area_of counts ReceiveRing) area whole inside (places-apart counts ReceiveRing TransmitRing tt tt (λ same. absurd (cc)))))
-    (λ number known. apart-inside area whole (area_of counts (ReceiveBuffer number)) inside (places-apart counts TransmitRing (ReceiveBuffer number) tt known (λ same. absurd (cc))))
+    (stored-elsewhere driver world address bytes ready lies
+    (inside-apart (area_of counts ReceiveRing) area whole inside
+    (places-apart counts ReceiveRing TransmitRing tt tt (λ same. absurd (cc)))))
+    (λ number known. apart-inside area whole (area_of counts (ReceiveBuffer number)) inside
+    (places-apart counts TransmitRing (ReceiveBuffer number) tt known (λ same. absurd (cc))))

@@ -1,5 +1,6 @@
 -- Staged slots are offered, all by one write of RDT.
-use Rattle.std.proofs.Common.{Bool, ◌≡◌, ◌<◌, ◌+◌, ◌%◌, ◌++◌, ◌∷◌, [], ℕ, List, length, map, refl, sym, ap, subst, ◌∙◌, append_assoc, length-append, arith}
+use Rattle.std.proofs.Common.{Bool, ◌≡◌, ◌<◌, ◌+◌, ◌%◌, ◌++◌, ◌∷◌, [], ℕ, List, length, map, refl, sym, ap, subst, ◌∙◌, append_assoc}
+use Rattle.std.proofs.Common.{length-append, arith}
 use Rattle.std.specs.List.{All}
 use Rattle.std.proofs.lemmas.List.{append-nil, map-append}
 use Rattle.dma_memory.specs.Areas.{AreApart, Area, area_at}
@@ -54,9 +55,11 @@ next-offer {up} d m rest a staged ready =
     let ends = place-below_size d.counts (ReceiveBuffer m) elsewhere.known in
     let here = subst (λ (list : List ℕ). AreStored a.memory d.counts (receive_tail d) list) staged ready.stored in
     let is : slot ≡ receive_slot (receive_tail d) = omega (arith, ready.receive.begins, ready.receive.last) in
-    let empty = empty-stored a.memory slot at (omega (arith, ends, ready.driver_is.addresses)) (ap (λ (address : ℕ). bytes_at a.memory address 16) is ∙ here.0) in
+    let empty = empty-stored a.memory slot at (omega (arith, ends, ready.driver_is.addresses))
+    (ap (λ (address : ℕ). bytes_at a.memory address 16) is ∙ here.0) in
     let stands : buffer_of a slot ≡ area = ap (λ (address : ℕ). area_at address (buffer_size a)) empty.names ∙ ap (area_at at) ready.size in
-    let moved : next_of ring ring.tail ≡ place n o (i + 1) = ap (λ (count : ℕ). (ring.tail + 1) % count) ready.receive.slots ∙ ap (λ (tail : ℕ). (tail + 1) % n) ready.receive.last ∙ sym (place-next n o i) in
+    let moved : next_of ring ring.tail ≡ place n o (i + 1) = ap (λ (count : ℕ). (ring.tail + 1) % count) ready.receive.slots
+    ∙ ap (λ (tail : ℕ). (tail + 1) % n) ready.receive.last ∙ sym (place-next n o i) in
     let room : i + 1 < n = omega (arith, ready.driver_is.room, ap length staged) in
     record {
       free = aside.apart;
@@ -68,12 +71,14 @@ next-offer {up} d m rest a staged ready =
         tail_slot = omega (arith, ready.receive.slots, ready.receive.last, place-below n o i ready.driver_is.oldest_slot);
         room = λ same. places-differ n o 0 (i + 1) ready.driver_is.oldest_slot (omega arith) room (sym (sym moved ∙ same));
         fresh = empty.clear;
-        lies = subst (λ (there : Area). LiesIn a.memory there.address (buffer_of a 0).size) (sym stands) (subst (λ (size : ℕ). LiesIn a.memory at size) (sym ready.size) aside.lies);
+        lies = subst (λ (there : Area). LiesIn a.memory there.address (buffer_of a 0).size) (sym stands)
+            (subst (λ (size : ℕ). LiesIn a.memory at size) (sym ready.size) aside.lies);
         apart = subst (λ (there : Area). All (λ other. AreApart other there) (areas o a)) (sym stands) aside.apart;
       };
     }
 
-goes-offers_one : {up : Bool} (d : DriverState) (m : ℕ) (rest : List ℕ) (a : World) → d.staged ≡ m ∷ rest → ReadyWith up d a → GoesTo up d a (with_offered d (m ∷ []) rest) (offering a) [] [] nothing
+goes-offers_one : {up : Bool} (d : DriverState) (m : ℕ) (rest : List ℕ) (a : World) → d.staged ≡ m ∷ rest → ReadyWith up d a
+    → GoesTo up d a (with_offered d (m ∷ []) rest) (offering a) [] [] nothing
 goes-offers_one {up} d m rest a staged ready =
     let o = d.oldest_received in
     let ring = receive_ring a in
@@ -83,12 +88,14 @@ goes-offers_one {up} d m rest a staged ready =
     let here = subst (λ (list : List ℕ). AreStored a.memory d.counts (receive_tail d) list) staged ready.stored in
     let longer = length-append d.buffers (m ∷ []) in
     let tail : receive_tail d' ≡ place d.counts.rx o (length d.buffers + 1) = ap (place d.counts.rx o) longer in
-    goes-passes d (d.buffers ++ m ∷ []) rest d.pool d.handed_out a (offering a) nothing (passes-same o d.oldest_sent a (offering a) done.same refl refl)
+    goes-passes d (d.buffers ++ m ∷ []) rest d.pool d.handed_out a (offering a) nothing
+    (passes-same o d.oldest_sent a (offering a) done.same refl refl)
     (record {
       driver_is = record {
         oldest_slot = ready.driver_is.oldest_slot;
         room = omega (arith, ready.driver_is.room, longer, ap length staged);
-        one_owner = one_owner-dealt d.counts.buffers d d' (λ k. omega (arith, copies-push k m d.buffers, ap (copies k) staged, copies-cons k m rest)) ready.driver_is.one_owner;
+        one_owner = one_owner-dealt d.counts.buffers d d'
+            (λ k. omega (arith, copies-push k m d.buffers, ap (copies k) staged, copies-cons k m rest)) ready.driver_is.one_owner;
         addresses = ready.driver_is.addresses;
       };
       sound = done.same.sound;
@@ -97,7 +104,13 @@ goes-offers_one {up} d m rest a staged ready =
       whole = done.same.whole ready.whole;
       lies = ready.lies;
       size = ready.size;
-      receive = record { begins = ready.receive.begins; slots = ready.receive.slots; last = next.moved ∙ sym tail; head_slot = ready.receive.head_slot };
+      receive = record {
+        begins = ready.receive.begins;
+        slots = ready.receive.slots;
+        last = next.moved
+            ∙ sym tail;
+        head_slot = ready.receive.head_slot;
+      };
       transmit = ready.transmit;
       names =
           ap (map (named_address a.memory)) done.last
@@ -105,14 +118,17 @@ goes-offers_one {up} d m rest a staged ready =
           ∙ ap (λ (list : List ℕ). list ++ named_address a.memory (address_of ring ring.tail) ∷ []) ready.names
           ∙ ap (λ (address : ℕ). map (buffer_at d.counts) d.buffers ++ address ∷ []) next.names
           ∙ sym (map-append (buffer_at d.counts) d.buffers (m ∷ []));
-      stored = subst (λ (slot : ℕ). AreStored a.memory d.counts slot rest) (sym (tail ∙ place-next d.counts.rx o (length d.buffers))) here.1;
+      stored = subst (λ (slot : ℕ). AreStored a.memory d.counts slot rest)
+          (sym (tail ∙ place-next d.counts.rx o (length d.buffers))) here.1;
       stand = ready.stand;
     })
 
-goes-offers : {up : Bool} (numbers : List ℕ) (d : DriverState) (a : World) → d.staged ≡ numbers → ReadyWith up d a → GoesTo up d a (with_offered d numbers []) (with_tail (next_received d) a) [] [] nothing
+goes-offers : {up : Bool} (numbers : List ℕ) (d : DriverState) (a : World) → d.staged ≡ numbers → ReadyWith up d a
+    → GoesTo up d a (with_offered d numbers []) (with_tail (next_received d) a) [] [] nothing
 goes-offers {up} [] d a staged ready =
     let driver : d ≡ with_offered d [] [] =
-    ap (λ (list : List ℕ). with_owners d d.buffers list d.pool d.handed_out) staged ∙ ap (λ (list : List ℕ). with_owners d list [] d.pool d.handed_out) (sym (append-nil d.buffers)) in
+    ap (λ (list : List ℕ). with_owners d d.buffers list d.pool d.handed_out) staged
+    ∙ ap (λ (list : List ℕ). with_owners d list [] d.pool d.handed_out) (sym (append-nil d.buffers)) in
     let none : length d.buffers + length d.staged ≡ length d.buffers = omega (arith, ap length staged) in
     let last : a.adapter.receive_ring.tail ≡ next_received d = ready.receive.last ∙ ap (place d.counts.rx d.oldest_received) (sym none) in
     subst (λ (d' : DriverState). GoesTo up d a d' (with_tail (next_received d) a) [] [] nothing) driver
@@ -121,9 +137,13 @@ goes-offers {up} (m ∷ numbers) d a staged ready =
     let d1 = with_offered d (m ∷ []) numbers in
     let one = goes-offers_one d m numbers a staged ready in
     let rest = goes-offers numbers d1 (offering a) refl one.flows.ready in
-    let both = goes_join d d1 (with_offered d1 numbers []) a (offering a) (with_tail (next_received d1) (offering a)) [] [] [] [] nothing nothing one rest in
-    let driver : with_offered d1 numbers [] ≡ with_offered d (m ∷ numbers) [] = ap (λ (list : List ℕ). with_owners d list [] d.pool d.handed_out) (append_assoc d.buffers (m ∷ []) numbers) in
-    let count : length (d.buffers ++ m ∷ []) + length numbers ≡ length d.buffers + length d.staged = omega (arith, length-append d.buffers (m ∷ []), ap length staged) in
+    let both = goes_join d d1 (with_offered d1 numbers []) a (offering a)
+    (with_tail (next_received d1) (offering a)) [] [] [] [] nothing nothing one rest in
+    let driver : with_offered d1 numbers []
+    ≡ with_offered d (m ∷ numbers) [] = ap (λ (list : List ℕ). with_owners d list [] d.pool d.handed_out)
+    (append_assoc d.buffers (m ∷ []) numbers) in
+    let count : length (d.buffers ++ m ∷ []) + length numbers
+    ≡ length d.buffers + length d.staged = omega (arith, length-append d.buffers (m ∷ []), ap length staged) in
     let next : next_received d1 ≡ next_received d = ap (place d.counts.rx d.oldest_received) count in
     subst (λ (d' : DriverState). GoesTo up d a d' (with_tail (next_received d) a) [] [] nothing) driver
     (subst (λ (tail : ℕ). GoesTo up d a (with_offered d1 numbers []) (with_tail tail a) [] [] nothing) next both)

@@ -3,26 +3,36 @@ use Rattle.std.proofs.Common.{◌≡◌, ◌<◌, ◌+◌, ◌++◌, ◌∷◌, 
 use Rattle.std.specs.List.{All}
 use Rattle.std.proofs.lemmas.List.Elements.{All-cons}
 use Rattle.dma_memory.specs.Owners.{HasOneOwner, copies}
-use Rattle.dma_memory.specs.OwnersLaws.{copies-append, copies-cons, copies-itself, known_from_no_second, no_second_from_one, once_from_no_second}
+use Rattle.dma_memory.specs.OwnersLaws.{copies-append, copies-cons, copies-itself, known_from_no_second, no_second_from_one}
+use Rattle.dma_memory.specs.OwnersLaws.{once_from_no_second}
 use Rattle.bus.proofs.Lists.{all-none}
 use Rattle.driver_law.specs.DriverState.{DriverState, numbers_of, owners}
 use Rattle.driver_law.specs.Ready.{IsDriver}
 
-pub owners-count : (k : ℕ) (d : DriverState) → copies k (owners d) ≡ copies k d.pool + (copies k d.buffers + (copies k d.staged + copies k (numbers_of d.handed_out)))
+pub owners-count : (k : ℕ) (d : DriverState)
+    → copies k (owners d) ≡ copies k d.pool + (copies k d.buffers + (copies k d.staged + copies k (numbers_of d.handed_out)))
 owners-count k d =
     let others = d.staged ++ numbers_of d.handed_out in
-    omega (arith, copies-append k d.pool (d.buffers ++ others), copies-append k d.buffers others, copies-append k d.staged (numbers_of d.handed_out))
+    omega (
+      arith,
+      copies-append k d.pool (d.buffers ++ others),
+      copies-append k d.buffers others,
+      copies-append k d.staged
+          (numbers_of d.handed_out),
+    )
 
 -- Where each number has as many owners as before, it has one.
 pub one_owner-dealt : (n : ℕ) (d d' : DriverState)
-    → ((k : ℕ) → copies k d'.pool + (copies k d'.buffers + (copies k d'.staged + copies k (numbers_of d'.handed_out))) ≡ copies k d.pool + (copies k d.buffers + (copies k d.staged + copies k (numbers_of d.handed_out))))
+    → ((k : ℕ) → copies k d'.pool + (copies k d'.buffers + (copies k d'.staged + copies k (numbers_of d'.handed_out)))
+    ≡ copies k d.pool + (copies k d.buffers + (copies k d.staged + copies k (numbers_of d.handed_out))))
     → HasOneOwner n (owners d) → HasOneOwner n (owners d')
 one_owner-dealt n d d' same one k = owners-count k d' ∙ same k ∙ sym (owners-count k d) ∙ one k
 
 -- What a slot of the ring has is a buffer.
 pub outstanding-number : (d : DriverState) (m : ℕ) → IsDriver d → 0 < copies m d.buffers → m < d.counts.buffers
 outstanding-number d m driver some =
-    known_from_no_second d.counts.buffers m (owners d) (no_second_from_one d.counts.buffers (owners d) driver.one_owner) (omega (arith, some, owners-count m d))
+    known_from_no_second d.counts.buffers m (owners d) (no_second_from_one d.counts.buffers (owners d) driver.one_owner)
+    (omega (arith, some, owners-count m d))
 
 -- What is staged or handed out is a buffer too, and no outstanding slot has it.
 pub record IsElsewhere (d : DriverState) (m : ℕ) : Type 0 where

@@ -25,16 +25,22 @@ pub record SameParts (a b : World) : Type 0 where
   pub transmit_control : b.adapter.transmit_control ≡ a.adapter.transmit_control
   pub buffer : b.adapter.transmitter.buffer ≡ a.adapter.transmitter.buffer
 
-transmit-left : (up : Bool) (driver : DriverState) (a b : World) → SameParts a b → TransmitIs up driver.counts driver.oldest_sent driver.sending a.memory (transmit_ring a) a.adapter.transmit_control a.adapter.transmitter.buffer → TransmitIs up driver.counts driver.oldest_sent driver.sending b.memory (transmit_ring b) b.adapter.transmit_control b.adapter.transmitter.buffer
+transmit-left : (up : Bool) (driver : DriverState) (a b : World) → SameParts a b
+    → TransmitIs up driver.counts driver.oldest_sent driver.sending a.memory
+    (transmit_ring a) a.adapter.transmit_control a.adapter.transmitter.buffer
+    → TransmitIs up driver.counts driver.oldest_sent driver.sending b.memory
+    (transmit_ring b) b.adapter.transmit_control b.adapter.transmitter.buffer
 transmit-left up driver a b same transmit =
     let Is = TransmitIs up driver.counts driver.oldest_sent driver.sending in
     subst (λ (memory : List ℕ). Is memory (transmit_ring b) b.adapter.transmit_control b.adapter.transmitter.buffer) (sym same.memory)
-    (subst (λ (ring : RingRegisters). Is a.memory (ring_of ring) b.adapter.transmit_control b.adapter.transmitter.buffer) (sym same.transmits)
+    (subst (λ (ring : RingRegisters). Is a.memory (ring_of ring) b.adapter.transmit_control b.adapter.transmitter.buffer)
+    (sym same.transmits)
     (subst (λ (control : ℕ). Is a.memory (transmit_ring a) control b.adapter.transmitter.buffer) (sym same.transmit_control)
     (subst (λ (buffer : List Queued). Is a.memory (transmit_ring a) a.adapter.transmit_control buffer) (sym same.buffer) transmit)))
 
 -- A driver is ready in the one as in the other, where frames and slots are the same.
-pub ready-left : {up : Bool} (driver : DriverState) (a b : World) → ReadyWith up driver a → LeavesFrames driver.oldest_received driver.oldest_sent a b → SameParts a b → ReadyWith up driver b
+pub ready-left : {up : Bool} (driver : DriverState) (a b : World) → ReadyWith up driver a
+    → LeavesFrames driver.oldest_received driver.oldest_sent a b → SameParts a b → ReadyWith up driver b
 ready-left {up} driver a b ready leaves same =
     let counts = driver.counts in
     let size : buffer_size b ≡ buffer_size a = ap (λ (rctl : ℕ). buffer_size_of (field rctl 16 2)) same.receive_control in
@@ -46,7 +52,8 @@ ready-left {up} driver a b ready leaves same =
       whole = leaves.same.whole ready.whole;
       lies = subst (λ (memory : List ℕ). size_of counts ≤ length memory) (sym same.memory) ready.lies;
       size = size ∙ ready.size;
-      receive = subst (λ (ring : RingRegisters). KnowsRing (ring_of ring) 0 counts.rx (receive_tail driver)) (sym same.receives) ready.receive;
+      receive = subst (λ (ring : RingRegisters). KnowsRing (ring_of ring) 0 counts.rx (receive_tail driver))
+          (sym same.receives) ready.receive;
       transmit = transmit-left up driver a b same ready.transmit;
       names =
           ap (λ (memory : List ℕ). map (named_address memory) (outstanding (receive_ring b) driver.oldest_received)) same.memory

@@ -45,7 +45,8 @@ distance-place n from i slot short =
     (λ (around : n ≤ from + i).
     let wrapped : (from + i) % n ≡ from + i - n = mod-eq-sub-mod around ∙ mod-eq_of_lt (omega (arith, around, slot, short)) in
     let at : place n from i ≡ from + i - n = place-sum n from i slot ∙ wrapped in
-    ap (λ (index : ℕ). (index + n - from) % n) at ∙ distance-around n from (from + i - n) slot (omega (arith, around, short)) ∙ omega (arith, around, slot))
+    ap (λ (index : ℕ). (index + n - from) % n) at ∙ distance-around n from (from + i - n) slot (omega (arith, around, short))
+    ∙ omega (arith, around, slot))
     (cases_lt (from + i) n)
 
 -- So different walks, within the ring, end at different places.
@@ -57,22 +58,26 @@ places-differ n from i j slot before short same =
     absurd (omega (arith, near, far, both, before))
 
 -- The outstanding slots of a ring that the driver knows, by their places.
-pub outstanding-known : (ring : Ring) (base n oldest i : ℕ) → KnowsRing ring base n (place n oldest i) → oldest < n → i < n → outstanding ring oldest ≡ map (λ (slot : ℕ). base + 16 * slot) (slots_from n oldest i)
+pub outstanding-known : (ring : Ring) (base n oldest i : ℕ) → KnowsRing ring base n (place n oldest i) → oldest < n → i < n
+    → outstanding ring oldest ≡ map (λ (slot : ℕ). base + 16 * slot) (slots_from n oldest i)
 unfolding owned
 outstanding-known ring base n oldest i knows slot short =
     let far : distance_of ring oldest ring.tail ≡ i =
-    ap (λ (count : ℕ). (ring.tail + count - oldest) % count) knows.slots ∙ ap (λ (tail : ℕ). (tail + n - oldest) % n) knows.last ∙ distance-place n oldest i slot short in
+    ap (λ (count : ℕ). (ring.tail + count - oldest) % count) knows.slots ∙ ap (λ (tail : ℕ). (tail + n - oldest) % n) knows.last
+    ∙ distance-place n oldest i slot short in
     ap (λ (count : ℕ). map (address_of ring) (slots_from (count_of ring) oldest count)) far
     ∙ ap (λ (count : ℕ). map (address_of ring) (slots_from count oldest i)) knows.slots
     ∙ ap (λ (first : ℕ). map (λ (index : ℕ). first + 16 * index) (slots_from n oldest i)) knows.begins
 
 -- A place behind them is the driver's own.
-pub own-behind : (ring : Ring) (base n oldest i j : ℕ) → KnowsRing ring base n (place n oldest i) → oldest < n → i + j < n → IsOwnSlot ring oldest (place n (place n oldest i) j)
+pub own-behind : (ring : Ring) (base n oldest i j : ℕ) → KnowsRing ring base n (place n oldest i) → oldest < n → i + j < n
+    → IsOwnSlot ring oldest (place n (place n oldest i) j)
 own-behind ring base n oldest i j knows slot short = subst (IsOwnSlot ring oldest) (place-add n oldest i j) (record {
   below = subst (λ (count : ℕ). place n oldest (i + j) < count) (sym knows.slots) within;
   apart =
       subst (λ (list : List ℕ). All Other list) (sym (outstanding-known ring base n oldest i knows slot (omega (arith, short))))
-      (All-map Other (λ (index : ℕ). base + 16 * index) (slots_from n oldest i) (λ k d below same. others k d below (omega (arith, same, knows.begins))));
+      (All-map Other (λ (index : ℕ). base + 16 * index) (slots_from n oldest i)
+      (λ k d below same. others k d below (omega (arith, same, knows.begins))));
 })
   where
     Other : ℕ → Type 0
@@ -82,4 +87,5 @@ own-behind ring base n oldest i j knows slot short = subst (IsOwnSlot ring oldes
     within = place-below n oldest (i + j) slot
 
     others : All (λ other. ¬ (other ≡ place n oldest (i + j))) (slots_from n oldest i)
-    others = slots-other n oldest i (place n oldest (i + j)) slot within (let far = distance-place n oldest (i + j) slot short in omega (arith, far))
+    others = slots-other n oldest i (place n oldest (i + j)) slot within
+        (let far = distance-place n oldest (i + j) slot short in omega (arith, far))

@@ -1,5 +1,6 @@
 -- A driver stays ready from one world to another, where slots keep what they name.
-use Rattle.std.proofs.Common.{true, ◌⊎◌, false, Bool, ◌≡◌, ◌≤◌, ◌<◌, ◌+◌, ◌*◌, ◌%◌, ◌++◌, ◌∷◌, [], ℕ, suc, List, length, get_or, map, sym, ap, subst, ◌∙◌, arith}
+use Rattle.std.proofs.Common.{true, ◌⊎◌, false, Bool, ◌≡◌, ◌≤◌, ◌<◌, ◌+◌, ◌*◌, ◌%◌, ◌++◌, ◌∷◌, [], ℕ, suc, List, length, get_or, map, sym}
+use Rattle.std.proofs.Common.{ap, subst, ◌∙◌, arith}
 use Rattle.std.specs.List.{All}
 use Rattle.registers.specs.Bits.{HasBit, field}
 use Rattle.registers.specs.ReceiveControl.{buffer_size_of}
@@ -43,17 +44,25 @@ with_staged d staged pool = with_owners d d.buffers staged pool d.handed_out
 -- Staged slots.
 
 pub stored-kept : (memory memory' : List ℕ) (counts : Counts) (slot : ℕ) (numbers : List ℕ)
-    → ((i : ℕ) → i < length numbers → bytes_at memory' (receive_slot (place counts.rx slot i)) 16 ≡ bytes_at memory (receive_slot (place counts.rx slot i)) 16)
+    → ((i : ℕ) → i < length numbers
+    → bytes_at memory' (receive_slot (place counts.rx slot i)) 16 ≡ bytes_at memory (receive_slot (place counts.rx slot i)) 16)
     → AreStored memory counts slot numbers → AreStored memory' counts slot numbers
 stored-kept memory memory' counts slot [] same stored = tt
-stored-kept memory memory' counts slot (number ∷ later) same stored =
-    (same 0 (omega arith) ∙ stored.0, stored-kept memory memory' counts ((slot + 1) % counts.rx) later (λ i below. same (suc i) (omega (arith, below))) stored.1)
+stored-kept memory memory' counts slot (number ∷ later) same stored = (
+  same 0 (omega arith)
+      ∙ stored.0,
+  stored-kept memory memory' counts ((slot + 1) % counts.rx) later
+      (λ i below. same (suc i) (omega (arith, below))) stored.1,
+)
 
 -- A slot behind the tail is the driver's own.
-pub own-staged : {up : Bool} (d : DriverState) (world : World) (i : ℕ) → ReadyWith up d world → length d.buffers + i < d.counts.rx → IsOwnSlot (receive_ring world) d.oldest_received (place d.counts.rx (receive_tail d) i)
-own-staged {up} d world i ready below = own-behind (receive_ring world) 0 d.counts.rx d.oldest_received (length d.buffers) i ready.receive ready.driver_is.oldest_slot below
+pub own-staged : {up : Bool} (d : DriverState) (world : World) (i : ℕ) → ReadyWith up d world → length d.buffers + i < d.counts.rx
+    → IsOwnSlot (receive_ring world) d.oldest_received (place d.counts.rx (receive_tail d) i)
+own-staged {up} d world i ready below = own-behind (receive_ring world) 0 d.counts.rx d.oldest_received
+    (length d.buffers) i ready.receive ready.driver_is.oldest_slot below
 
--- What a driver rests on stays from the first world to the second: the conditions, and what outstanding slots name; registers but the heads.
+-- What a driver rests on stays from the first world to the second: the conditions, and what outstanding slots name; registers but the
+-- heads.
 pub record Keeps (o p : ℕ) (a b : World) : Type 0 where
   pub sound : Sound o p b
   pub runs : CanRun b
@@ -72,14 +81,16 @@ pub record Keeps (o p : ℕ) (a b : World) : Type 0 where
 
 -- The transmit side.
 
-pub none-to_send : (memory : List ℕ) (ring : Ring) (buffer : List Queued) → buffer ≡ [] → ring.head ≡ ring.tail → to_send memory ring true buffer ≡ []
+pub none-to_send : (memory : List ℕ) (ring : Ring) (buffer : List Queued) → buffer ≡ [] → ring.head ≡ ring.tail
+    → to_send memory ring true buffer ≡ []
 unfolding to_send
 none-to_send memory ring buffer none same =
     let behind = map (λ (slot : ℕ). frame_at true memory (address_of ring slot)) (owned ring) in
     ap (λ (queue : List Queued). map (λ (queued : Queued). queued.frame) queue ++ behind) none
     ∙ ap (map (λ (slot : ℕ). frame_at true memory (address_of ring slot))) (owned-none ring same)
 
-none-left : (memory : List ℕ) (ring : Ring) (buffer : List Queued) → to_send memory ring true buffer ≡ [] → (buffer ≡ []) × (offered ring ≡ [])
+none-left : (memory : List ℕ) (ring : Ring) (buffer : List Queued) → to_send memory ring true buffer ≡ [] → (buffer ≡ [])
+    × (offered ring ≡ [])
 unfolding to_send
 none-left memory ring buffer none =
     let parts = append-empty _ _ none in
@@ -92,27 +103,35 @@ transmit-kept true o counts p sending a b keeps side =
     let slots = slots_from counts.tx p sending in
     let Same : ℕ → Type 0 = λ slot. data_of b.memory slot ≡ data_of a.memory slot in
     let known = outstanding-known (transmit_ring a) (16 * counts.rx) counts.tx p sending side.knows side.oldest_slot side.room in
-    let same : All (λ slot. Same (transmit_slot counts slot)) slots = all-unmapped Same (transmit_slot counts) slots (subst (λ (list : List ℕ). All Same list) known keeps.sources) in
+    let same : All (λ slot. Same (transmit_slot counts slot)) slots = all-unmapped Same (transmit_slot counts) slots
+    (subst (λ (list : List ℕ). All Same list) known keeps.sources) in
     record {
       oldest_slot = side.oldest_slot;
       room = side.room;
       pads = subst (λ (control : ℕ). HasBit control 3) (sym keeps.control) side.pads;
-      knows = knows-carried a.adapter.transmit_ring b.adapter.transmit_ring (16 * counts.rx) counts.tx _ keeps.transmits keeps.transmit_head side.knows;
-      sources = λ k d below. subst (λ (area : Area). IsInside area (area_of counts (TransmitBuffer (get_or slots k d)))) (sym (same k d below)) (side.sources k d below);
+      knows = knows-carried a.adapter.transmit_ring b.adapter.transmit_ring
+          (16 * counts.rx) counts.tx _ keeps.transmits keeps.transmit_head side.knows;
+      sources = λ k d below. subst (λ (area : Area). IsInside area (area_of counts (TransmitBuffer (get_or slots k d))))
+          (sym (same k d below)) (side.sources k d below);
     }
 transmit-kept false o counts p sending a b keeps side =
     let before = a.adapter.transmit_ring in
     let behind = b.adapter.transmit_ring in
-    let none = none-left b.memory (transmit_ring b) b.adapter.transmitter.buffer (keeps.none_to_send (none-to_send a.memory (transmit_ring a) a.adapter.transmitter.buffer side.empty side.idle)) in
+    let none = none-left b.memory (transmit_ring b) b.adapter.transmitter.buffer
+    (keeps.none_to_send (none-to_send a.memory (transmit_ring a) a.adapter.transmitter.buffer side.empty side.idle)) in
     let tail : behind.tail ≡ before.tail = ap (λ (ring : RingRegisters). ring.tail) keeps.transmits in
-    let head : behind.head ≡ before.head = still-idle before behind keeps.transmits keeps.transmit_head side.idle none.1 ∙ tail ∙ sym side.idle in
-    let same : behind ≡ before = keeps.transmits ∙ ap (λ (index : ℕ). let ring : RingRegisters = record before { head = index } in ring) head in
+    let head : behind.head ≡ before.head = still-idle before behind keeps.transmits keeps.transmit_head side.idle none.1 ∙ tail
+    ∙ sym side.idle in
+    let same : behind ≡ before = keeps.transmits
+    ∙ ap (λ (index : ℕ). let ring : RingRegisters = record before { head = index } in ring) head in
     subst (λ (ring : RingRegisters). TransmitIsOff counts p sending (ring_of ring) b.adapter.transmitter.buffer) (sym same)
     (record { ends = side.ends; idle = side.idle; last = side.last; nothing = side.nothing; empty = none.0 })
 
 -- All of it.
-pub ready-kept : {up : Bool} (d : DriverState) (staged pool : List ℕ) (a b : World) → ReadyWith up d a → Keeps d.oldest_received d.oldest_sent a b
-    → IsDriver (with_staged d staged pool) → AreStored b.memory d.counts (receive_tail d) staged → All (Stands d.counts b.memory) d.handed_out
+pub ready-kept : {up : Bool} (d : DriverState) (staged pool : List ℕ) (a b : World) → ReadyWith up d a
+    → Keeps d.oldest_received d.oldest_sent a b
+    → IsDriver (with_staged d staged pool) → AreStored b.memory d.counts (receive_tail d) staged
+    → All (Stands d.counts b.memory) d.handed_out
     → ReadyWith up (with_staged d staged pool) b
 ready-kept {up} d staged pool a b ready keeps driver stored stand =
     let before = a.adapter.receive_ring in
@@ -136,7 +155,8 @@ ready-kept {up} d staged pool a b ready keeps driver stored stand =
     }
 
 -- What happens keeps it.
-pub keeps-happening : {up : Bool} (d : DriverState) (a b : World) (past : Past) → ReadyWith up d a → Happens a b past → Keeps d.oldest_received d.oldest_sent a b
+pub keeps-happening : {up : Bool} (d : DriverState) (a b : World) (past : Past) → ReadyWith up d a → Happens a b past
+    → Keeps d.oldest_received d.oldest_sent a b
 keeps-happening {up} d a b past ready happens =
     let o = d.oldest_received in
     let p = d.oldest_sent in
@@ -146,7 +166,8 @@ keeps-happening {up} d a b past ready happens =
     let Fits : List ℕ → Type 0 = λ frame. length frame ≤ buffer_size a in
     record {
       sound = between.sound;
-      runs = between.runs (all-weaker IsLegal Fits past.stored (λ frame legal. omega (arith, legal.most, ready.size)) steady.legal) ready.runs;
+      runs = between.runs (all-weaker IsLegal Fits past.stored (λ frame legal. omega (arith, legal.most, ready.size)) steady.legal)
+          ready.runs;
       fit = between.fits ready.fit;
       whole = between.whole ready.whole;
       size = steady.size;
@@ -156,7 +177,8 @@ keeps-happening {up} d a b past ready happens =
       transmits = steady.transmit_ring;
       receive_head = steady.receive_head;
       transmit_head = steady.transmit_head;
-      addresses = each-outstanding (receive_ring a) o (λ slot. named_address b.memory slot ≡ named_address a.memory slot) ready.sound.receive_slots.slot own.addresses;
+      addresses = each-outstanding (receive_ring a) o (λ slot. named_address b.memory slot
+          ≡ named_address a.memory slot) ready.sound.receive_slots.slot own.addresses;
       sources =
           each-outstanding (transmit_ring a) p (λ slot. data_of b.memory slot ≡ data_of a.memory slot) ready.sound.transmit_slots.slot
           (λ slot below. ap (λ (desc : TxDesc). area_at desc.address desc.length) (own.requests slot below).fields);

@@ -1,5 +1,6 @@
 -- What a driver does with its receive slots over a bus.
-use Rattle.std.proofs.Common.{Bool, ◌≡◌, ◌≤◌, ◌<◌, ◌+◌, ◌-◌, ◌%◌, ◌++◌, ◌∷◌, [], true, false, ℕ, List, length, take, drop, slice_index, refl, sym, ap, subst, ◌∙◌, arith}
+use Rattle.std.proofs.Common.{Bool, ◌≡◌, ◌≤◌, ◌<◌, ◌+◌, ◌-◌, ◌%◌, ◌++◌, ◌∷◌, [], true, false, ℕ, List, length, take, drop, slice_index}
+use Rattle.std.proofs.Common.{refl, sym, ap, subst, ◌∙◌, arith}
 use Rattle.registers.specs.Bits.{is_set}
 use Rattle.dma_memory.specs.HostMemory.{bytes_at}
 use Rattle.dma_memory.specs.Layout.{Counts}
@@ -31,42 +32,62 @@ use Rattle.driver_law.specs.Ready.{ReadyWith, Stands, empty_descriptor}
 
 -- The lists of accesses grow at their ends.
 
-pub stores-append : (counts : Counts) (slot : ℕ) (xs ys : List ℕ) → stores_from counts slot (xs ++ ys) ≡ stores_from counts slot xs ++ stores_from counts (place counts.rx slot (length xs)) ys
+pub stores-append : (counts : Counts) (slot : ℕ) (xs ys : List ℕ)
+    → stores_from counts slot (xs ++ ys) ≡ stores_from counts slot xs ++ stores_from counts (place counts.rx slot (length xs)) ys
 stores-append counts slot [] ys = refl
 stores-append counts slot (number ∷ xs) ys =
-    ap (λ (list : List Access). Stores (receive_slot slot) (empty_descriptor (buffer_at counts number)) ∷ list) (stores-append counts ((slot + 1) % counts.rx) xs ys)
+    ap (λ (list : List Access). Stores (receive_slot slot) (empty_descriptor (buffer_at counts number)) ∷ list)
+    (stores-append counts ((slot + 1) % counts.rx) xs ys)
 
 pub takes-push : (counts : Counts) (slot m : ℕ) (xs : List ℕ)
-    → takes_from counts slot (xs ++ m ∷ []) ≡ takes_from counts slot xs ++ Loads (receive_slot (place counts.rx slot (length xs))) 16 ∷ Loads (buffer_at counts m + 12) 2 ∷ []
+    → takes_from counts slot (xs ++ m ∷ []) ≡ takes_from counts slot xs ++ Loads (receive_slot (place counts.rx slot (length xs))) 16
+    ∷ Loads (buffer_at counts m + 12) 2 ∷ []
 takes-push counts slot m [] = refl
 takes-push counts slot m (number ∷ xs) =
-    ap (λ (list : List Access). Loads (receive_slot slot) 16 ∷ Loads (buffer_at counts number + 12) 2 ∷ list) (takes-push counts ((slot + 1) % counts.rx) m xs)
+    ap (λ (list : List Access). Loads (receive_slot slot) 16 ∷ Loads (buffer_at counts number + 12) 2 ∷ list)
+    (takes-push counts ((slot + 1) % counts.rx) m xs)
 
 -- The next slot's descriptor is stored.
-pub ran_by-stages : {up : Bool} {B : Type 0} (world : B → World) (happened : B → B → Past → Type 0) (lively : B → Type 0) (old new : B) (d : DriverState) (m address : ℕ) (pool bytes : List ℕ)
+pub ran_by-stages : {up : Bool} {B : Type 0} (world : B → World) (happened : B → B → Past → Type 0) (lively : B
+    → Type 0) (old new : B) (d : DriverState) (m address : ℕ) (pool bytes : List ℕ)
     → length d.buffers + length d.staged + 1 < d.counts.rx → m < d.counts.buffers → HaveSameNumbers d.pool (m ∷ pool)
     → address ≡ receive_slot (next_received d) → bytes ≡ empty_descriptor (buffer_at d.counts m)
-    → Acts world happened lively old new (Stores address bytes) (λ before after. after ≡ world_after_store address bytes before) → ReadyWith up d (world old)
-    → RanBy up world happened (stores_from d.counts (next_received d) (m ∷ [])) old new d (with_owners d d.buffers (d.staged ++ m ∷ []) pool d.handed_out) [] []
+    → Acts world happened lively old new (Stores address bytes) (λ before after. after ≡ world_after_store address bytes before)
+    → ReadyWith up d (world old)
+    → RanBy up world happened (stores_from d.counts (next_received d) (m ∷ [])) old new d
+    (with_owners d d.buffers (d.staged ++ m ∷ []) pool d.handed_out) [] []
 ran_by-stages {up} world happened lively old new d m address pool bytes room known moves at is acts ready =
     let d' = with_owners d d.buffers (d.staged ++ m ∷ []) pool d.handed_out in
     let slot = receive_slot (next_received d) in
-    let access : Stores address bytes ≡ Stores slot (empty_descriptor (buffer_at d.counts m)) = ap (λ (x : ℕ). Stores x bytes) at ∙ ap (Stores slot) is in
+    let access : Stores address bytes ≡ Stores slot (empty_descriptor (buffer_at d.counts m)) = ap (λ (x : ℕ). Stores x bytes) at
+    ∙ ap (Stores slot) is in
     subst (λ (one : Access). RanBy up world happened (one ∷ []) old new d d' [] []) access
-    (ran_by-acts world happened lively old new (Stores address bytes) (λ before after. after ≡ world_after_store address bytes before) d d' [] [] acts (store-sets address bytes (world new)) ready
+    (ran_by-acts world happened lively old new (Stores address bytes)
+    (λ before after. after ≡ world_after_store address bytes before) d d' [] [] acts (store-sets address bytes (world new)) ready
     (λ middle set stored.
-    let done = stored ∙ ap (λ (x : ℕ). world_after_store x bytes middle) at ∙ ap (λ (list : List ℕ). world_after_store slot list middle) is in
+    let done = stored ∙ ap (λ (x : ℕ). world_after_store x bytes middle) at
+    ∙ ap (λ (list : List ℕ). world_after_store slot list middle) is in
     subst (λ (w : World). GoesTo up d middle d' w [] [] nothing) (sym done) (slots_can_be_staged up d m pool middle set room known moves)))
 
 -- RDT is written, and offers all that are staged.
-pub ran_by-offers : {up : Bool} {B : Type 0} (world : B → World) (happened : B → B → Past → Type 0) (lively : B → Type 0) (old new : B) (d : DriverState) (value : ℕ) → value ≡ next_received d
-    → Acts world happened lively old new (Writes 0x2818 value) (λ before after. after ≡ world_after_write 0x2818 value before) → ReadyWith up d (world old)
-    → RanBy up world happened (Writes 0x2818 (next_received d) ∷ []) old new d (with_owners d (d.buffers ++ d.staged) [] d.pool d.handed_out) [] []
+pub ran_by-offers : {up : Bool} {B : Type 0} (world : B → World) (happened : B → B → Past → Type 0) (lively : B
+    → Type 0) (old new : B) (d : DriverState) (value : ℕ) → value ≡ next_received d
+    → Acts world happened lively old new (Writes 0x2818 value) (λ before after. after ≡ world_after_write 0x2818 value before)
+    → ReadyWith up d (world old)
+    → RanBy up world happened (Writes 0x2818 (next_received d) ∷ []) old new d
+    (with_owners d (d.buffers ++ d.staged) [] d.pool d.handed_out) [] []
 ran_by-offers {up} world happened lively old new d value at acts ready =
     let d' = with_owners d (d.buffers ++ d.staged) [] d.pool d.handed_out in
-    let below : value < 65536 = omega (arith, at, ready.receive.slots, place-below d.counts.rx d.oldest_received (length d.buffers + length d.staged) ready.driver_is.oldest_slot) in
+    let below : value < 65536 = omega (
+      arith,
+      at,
+      ready.receive.slots,
+      place-below d.counts.rx d.oldest_received
+          (length d.buffers + length d.staged) ready.driver_is.oldest_slot,
+    ) in
     subst (λ (place : ℕ). RanBy up world happened (Writes 0x2818 place ∷ []) old new d d' [] []) at
-    (ran_by-acts world happened lively old new (Writes 0x2818 value) (λ before after. after ≡ world_after_write 0x2818 value before) d d' [] [] acts (write-sets 0x2818 value (world new)) ready
+    (ran_by-acts world happened lively old new (Writes 0x2818 value)
+    (λ before after. after ≡ world_after_write 0x2818 value before) d d' [] [] acts (write-sets 0x2818 value (world new)) ready
     (λ middle set written.
     let done = written ∙ receive_tail-written value middle below ∙ ap (λ (place : ℕ). with_tail place middle) at in
     subst (λ (w : World). GoesTo up d middle d' w [] [] nothing) (sym done) (staged_can_be_offered up d middle set)))
@@ -77,12 +98,16 @@ ran_by-offers {up} world happened lively old new d value at acts ready =
 abbrev Shows : (address : ℕ) (bytes : List ℕ) → World → World → Type 0
 Shows address bytes before after = (bytes ≡ bytes_at before.memory address 16) × (after ≡ before)
 
-ran_by-looks : {up : Bool} {B : Type 0} (world : B → World) (happened : B → B → Past → Type 0) (lively : B → Type 0) (old new : B) (d d' : DriverState) (taken : List (List ℕ)) (address : ℕ) (bytes : List ℕ)
-    → address ≡ receive_slot d.oldest_received → Acts world happened lively old new (Loads address 16) (Shows address bytes) → ReadyWith up d (world old)
-    → (ReadyWith up d (world new) → GoesTo up d (world new) d' (world new) taken [] nothing) → RanBy up world happened (Loads (receive_slot d.oldest_received) 16 ∷ []) old new d d' taken []
+ran_by-looks : {up : Bool} {B : Type 0} (world : B → World) (happened : B → B → Past → Type 0) (lively : B
+    → Type 0) (old new : B) (d d' : DriverState) (taken : List (List ℕ)) (address : ℕ) (bytes : List ℕ)
+    → address ≡ receive_slot d.oldest_received → Acts world happened lively old new (Loads address 16) (Shows address bytes)
+    → ReadyWith up d (world old)
+    → (ReadyWith up d (world new) → GoesTo up d (world new) d' (world new) taken [] nothing)
+    → RanBy up world happened (Loads (receive_slot d.oldest_received) 16 ∷ []) old new d d' taken []
 ran_by-looks {up} world happened lively old new d d' taken address bytes at acts ready step =
     subst (λ (place : ℕ). RanBy up world happened (Loads place 16 ∷ []) old new d d' taken []) at
-    (ran_by-acts world happened lively old new (Loads address 16) (Shows address bytes) d d' taken [] acts (load-sets address 16 (λ before. bytes ≡ bytes_at before.memory address 16) (world new)) ready
+    (ran_by-acts world happened lively old new (Loads address 16) (Shows address bytes) d d' taken [] acts
+    (load-sets address 16 (λ before. bytes ≡ bytes_at before.memory address 16) (world new)) ready
     (λ middle set shows.
     subst (λ (w : World). GoesTo up d w d' (world new) taken [] nothing) shows.1 (step (subst (ReadyWith up d) (sym shows.1) set))))
 
@@ -91,8 +116,10 @@ record IsSeen (up : Bool) (d : DriverState) (world : World) (bytes : List ℕ) :
   ready : ReadyWith up d world
   shown : bytes ≡ bytes_at world.memory (receive_slot d.oldest_received) 16
 
-seen : {up : Bool} {B : Type 0} (world : B → World) (happened : B → B → Past → Type 0) (lively : B → Type 0) (old new : B) (d : DriverState) (address : ℕ) (bytes : List ℕ)
-    → address ≡ receive_slot d.oldest_received → Acts world happened lively old new (Loads address 16) (Shows address bytes) → ReadyWith up d (world old) → IsSeen up d (world new) bytes
+seen : {up : Bool} {B : Type 0} (world : B → World) (happened : B → B → Past → Type 0) (lively : B
+    → Type 0) (old new : B) (d : DriverState) (address : ℕ) (bytes : List ℕ)
+    → address ≡ receive_slot d.oldest_received → Acts world happened lively old new (Loads address 16) (Shows address bytes)
+    → ReadyWith up d (world old) → IsSeen up d (world new) bytes
 seen {up} world happened lively old new d address bytes at acts ready = record {
   ready = subst (ReadyWith up d) (sym acts.effect_is.1) (goes-happens d (world old) acts.middle acts.past ready acts.before).flows.ready;
   shown =
@@ -102,51 +129,66 @@ seen {up} world happened lively old new d address bytes at acts ready = record {
 }
 
 -- It isn't done.
-pub ran_by-leaves : {up : Bool} {B : Type 0} (world : B → World) (happened : B → B → Past → Type 0) (lively : B → Type 0) (old new : B) (d : DriverState) (m address : ℕ) (later bytes : List ℕ)
+pub ran_by-leaves : {up : Bool} {B : Type 0} (world : B → World) (happened : B → B → Past → Type 0) (lively : B
+    → Type 0) (old new : B) (d : DriverState) (m address : ℕ) (later bytes : List ℕ)
     → d.buffers ≡ m ∷ later → address ≡ receive_slot d.oldest_received → is_set (slice_index bytes 12) 0 ≡ false
-    → Acts world happened lively old new (Loads address 16) (Shows address bytes) → ReadyWith up d (world old) → LeavesOldest up world happened old new d
+    → Acts world happened lively old new (Loads address 16) (Shows address bytes) → ReadyWith up d (world old)
+    → LeavesOldest up world happened old new d
 ran_by-leaves {up} world happened lively old new d m address later bytes buffers at clear acts ready =
     let it = seen world happened lively old new d address bytes at acts ready in
     record {
-      none = finished-none d (world new) m later buffers it.ready (ap (λ (list : List ℕ). is_set (slice_index list 12) 0) (sym it.shown) ∙ clear);
+      none = finished-none d (world new) m later buffers it.ready (ap (λ (list : List ℕ). is_set (slice_index list 12) 0) (sym it.shown)
+          ∙ clear);
       ran = ran_by-looks world happened lively old new d d [] address bytes at acts ready (goes-stays d (world new));
     }
 
 -- It is done.
-pub ran_by-takes : {up : Bool} {B : Type 0} (world : B → World) (happened : B → B → Past → Type 0) (lively : B → Type 0) (old new : B) (d : DriverState) (m address : ℕ) (later bytes : List ℕ)
+pub ran_by-takes : {up : Bool} {B : Type 0} (world : B → World) (happened : B → B → Past → Type 0) (lively : B
+    → Type 0) (old new : B) (d : DriverState) (m address : ℕ) (later bytes : List ℕ)
     → d.buffers ≡ m ∷ later → address ≡ receive_slot d.oldest_received → is_set (slice_index bytes 12) 0 ≡ true
     → Acts world happened lively old new (Loads address 16) (Shows address bytes) → ReadyWith up d (world old)
     → TakesOldest up world happened old new d m (rx_desc_of bytes).length later
 ran_by-takes {up} world happened lively old new d m address later bytes buffers at done acts ready =
     let it = seen world happened lively old new d address bytes at acts ready in
-    let first = finished-first d (world new) m later buffers it.ready (ap (λ (list : List ℕ). is_set (slice_index list 12) 0) (sym it.shown) ∙ done) in
+    let first = finished-first d (world new) m later buffers it.ready (ap (λ (list : List ℕ). is_set (slice_index list 12) 0) (sym it.shown)
+    ∙ done) in
     record {
       frame = _;
-      long = oldest_is_as_long up d m later first.0 (world new) it.ready buffers first.1 ∙ ap (λ (list : List ℕ). (rx_desc_of list).length) (sym it.shown);
-      ran = ran_by-looks world happened lively old new d _ _ address bytes at acts ready (λ set. oldest_can_be_taken up d m later first.0 (world new) set buffers first.1);
+      long = oldest_is_as_long up d m later first.0 (world new) it.ready buffers first.1
+          ∙ ap (λ (list : List ℕ). (rx_desc_of list).length) (sym it.shown);
+      ran = ran_by-looks world happened lively old new d _ _ address bytes at acts ready
+          (λ set. oldest_can_be_taken up d m later first.0 (world new) set buffers first.1);
     }
 
 -- Its descriptor is whole then.
-pub takes-whole : {up : Bool} {B : Type 0} (world : B → World) (happened : B → B → Past → Type 0) (lively : B → Type 0) (old new : B) (d : DriverState) (m address : ℕ) (later bytes : List ℕ)
+pub takes-whole : {up : Bool} {B : Type 0} (world : B → World) (happened : B → B → Past → Type 0) (lively : B
+    → Type 0) (old new : B) (d : DriverState) (m address : ℕ) (later bytes : List ℕ)
     → d.buffers ≡ m ∷ later → address ≡ receive_slot d.oldest_received → is_set (slice_index bytes 12) 0 ≡ true
     → Acts world happened lively old new (Loads address 16) (Shows address bytes) → ReadyWith up d (world old) → IsWhole (rx_desc_of bytes)
 takes-whole {up} world happened lively old new d m address later bytes buffers at done acts ready =
     let it = seen world happened lively old new d address bytes at acts ready in
-    let first = finished-first d (world new) m later buffers it.ready (ap (λ (list : List ℕ). is_set (slice_index list 12) 0) (sym it.shown) ∙ done) in
-    subst (λ (list : List ℕ). IsWhole (rx_desc_of list)) (sym it.shown) (oldest_is_whole d m later first.0 (world new) it.ready buffers first.1)
+    let first = finished-first d (world new) m later buffers it.ready (ap (λ (list : List ℕ). is_set (slice_index list 12) 0) (sym it.shown)
+    ∙ done) in
+    subst (λ (list : List ℕ). IsWhole (rx_desc_of list)) (sym it.shown)
+    (oldest_is_whole d m later first.0 (world new) it.ready buffers first.1)
 
 -- Bytes of a frame that was handed out are loaded: they are the frame's.
-pub ran_by-reads : {up : Bool} {B : Type 0} (world : B → World) (happened : B → B → Past → Type 0) (lively : B → Type 0) (old new : B) (d : DriverState) (address n : ℕ) (bytes : List ℕ)
-    → Acts world happened lively old new (Loads address n) (λ before after. (bytes ≡ bytes_at before.memory address n) × (after ≡ before)) → ReadyWith up d (world old)
+pub ran_by-reads : {up : Bool} {B : Type 0} (world : B → World) (happened : B → B → Past → Type 0) (lively : B
+    → Type 0) (old new : B) (d : DriverState) (address n : ℕ) (bytes : List ℕ)
+    → Acts world happened lively old new (Loads address n) (λ before after. (bytes ≡ bytes_at before.memory address n) × (after ≡ before))
+    → ReadyWith up d (world old)
     → RanBy up world happened (Loads address n ∷ []) old new d d [] []
 ran_by-reads {up} world happened lively old new d address n bytes acts ready =
-    ran_by-acts world happened lively old new (Loads address n) (λ before after. (bytes ≡ bytes_at before.memory address n) × (after ≡ before)) d d [] [] acts
+    ran_by-acts world happened lively old new (Loads address n) (λ before after. (bytes ≡ bytes_at before.memory address n)
+    × (after ≡ before)) d d [] [] acts
     (load-sets address n (λ before. bytes ≡ bytes_at before.memory address n) (world new)) ready
     (λ middle set shows. subst (λ (w : World). GoesTo up d middle d w [] [] nothing) (sym shows.1) (goes-stays d middle set))
 
-pub frame-read : {up : Bool} {B : Type 0} (world : B → World) (happened : B → B → Past → Type 0) (lively : B → Type 0) (old new : B) (d : DriverState) (first later : List HandedOut) (one : HandedOut)
+pub frame-read : {up : Bool} {B : Type 0} (world : B → World) (happened : B → B → Past → Type 0) (lively : B
+    → Type 0) (old new : B) (d : DriverState) (first later : List HandedOut) (one : HandedOut)
     (address from n : ℕ) (bytes : List ℕ)
-    → Acts world happened lively old new (Loads address n) (λ before after. (bytes ≡ bytes_at before.memory address n) × (after ≡ before)) → ReadyWith up d (world old)
+    → Acts world happened lively old new (Loads address n) (λ before after. (bytes ≡ bytes_at before.memory address n) × (after ≡ before))
+    → ReadyWith up d (world old)
     → d.handed_out ≡ first ++ one ∷ later → address ≡ buffer_at d.counts one.number + from → from + n ≤ length one.frame
     → bytes ≡ take n (drop from one.frame)
 frame-read {up} world happened lively old new d first later one address from n bytes acts ready holds at fits =
@@ -160,7 +202,8 @@ frame-read {up} world happened lively old new d first later one address from n b
     ∙ inner middle.memory start from n (length one.frame) fits
     ∙ ap (λ (frame : List ℕ). take n (drop from frame)) stands.bytes
   where
-    inner : (memory : List ℕ) (start from n size : ℕ) → from + n ≤ size → bytes_at memory (start + from) n ≡ take n (drop from (bytes_at memory start size))
+    inner : (memory : List ℕ) (start from n size : ℕ) → from + n ≤ size
+        → bytes_at memory (start + from) n ≡ take n (drop from (bytes_at memory start size))
     inner memory start from n size fits =
         let xs = drop start memory in
         let whole : size ≡ from + (size - from) = omega arith in

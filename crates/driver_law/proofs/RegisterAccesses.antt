@@ -27,8 +27,10 @@ shown-causes : (world : World) → answer_at 0xC0 world.adapter ≡ world.adapte
 unfolding register_at
 shown-causes world = refl
 
-pub reads-causes : {up : Bool} {B : Type 0} (world : B → World) (happened : B → B → Past → Type 0) (lively : B → Type 0) (old new : B) (d : DriverState) (value : ℕ)
-    → Acts world happened lively old new (Reads 0xC0 value) (IsRead 0xC0 value) → ReadyWith up d (world old) → ReadsCauses up world happened old new d value
+pub reads-causes : {up : Bool} {B : Type 0} (world : B → World) (happened : B → B → Past → Type 0) (lively : B
+    → Type 0) (old new : B) (d : DriverState) (value : ℕ)
+    → Acts world happened lively old new (Reads 0xC0 value) (IsRead 0xC0 value) → ReadyWith up d (world old)
+    → ReadsCauses up world happened old new d value
 reads-causes {up} world happened lively old new d value acts ready =
     let middle = acts.middle in
     let effect = acts.effect_is in
@@ -37,7 +39,8 @@ reads-causes {up} world happened lively old new d value acts ready =
     let read = causes_are_read up d middle first.flows.ready in
     let later = subst (λ (w : World). FlowsTo up d middle d w [] [] nothing) (sym effect.1) read.flows in
     let leaves = reads_leave_frames d.oldest_received d.oldest_sent 0xC0 middle first.flows.ready.sound in
-    let same : finished d.oldest_received (world new) ≡ finished d.oldest_received middle = ap (finished d.oldest_received) effect.1 ∙ leaves.same.finished_same in
+    let same : finished d.oldest_received (world new) ≡ finished d.oldest_received middle = ap (finished d.oldest_received) effect.1
+    ∙ leaves.same.finished_same in
     record {
       past = acts.past;
       told = acts.told;
@@ -62,7 +65,8 @@ reads-causes {up} world happened lively old new d value acts ready =
       link = access-link world happened lively old new (Reads 0xC0 value) (IsRead 0xC0 value) acts sets;
     }
 
-pub ran_by-misses : {up : Bool} {B : Type 0} (world : B → World) (happened : B → B → Past → Type 0) (lively : B → Type 0) (old new : B) (d : DriverState) (value : ℕ) → d.missed < 2 ^ 64
+pub ran_by-misses : {up : Bool} {B : Type 0} (world : B → World) (happened : B → B → Past → Type 0) (lively : B
+    → Type 0) (old new : B) (d : DriverState) (value : ℕ) → d.missed < 2 ^ 64
     → Acts world happened lively old new (Reads 0x4010 value) (IsRead 0x4010 value) → ReadyWith up d (world old)
     → RanBy up world happened (Reads 0x4010 value ∷ []) old new d (with_missed value d) [] []
 ran_by-misses {up} world happened lively old new d value fits acts ready =
@@ -70,4 +74,5 @@ ran_by-misses {up} world happened lively old new d value fits acts ready =
     (read-sets 0x4010 value (λ before. value ≡ answer_at 0x4010 before.adapter) (world new)) ready
     (λ middle set read.
     subst (λ (shown : ℕ). GoesTo up d middle (with_missed shown d) (world new) [] [] nothing) (sym read.0)
-    (subst (λ (w : World). GoesTo up d middle (with_missed (answer_at 0x4010 middle.adapter) d) w [] [] nothing) (sym read.1) (misses_are_read up d middle fits set)))
+    (subst (λ (w : World). GoesTo up d middle (with_missed (answer_at 0x4010 middle.adapter) d) w [] [] nothing) (sym read.1)
+    (misses_are_read up d middle fits set)))

@@ -1,5 +1,6 @@
 -- A register is read.
-use Rattle.std.proofs.Common.{Bool, IsTrue, nat_lt, ◌&&◌, ◌≡◌, ◌≢◌, ◌≤◌, ◌<◌, ◌+◌, ◌-◌, ◌^◌, [], ℕ, Option, None, Some, length, min, inl, refl, sym, ap, subst, ◌∙◌, arith}
+use Rattle.std.proofs.Common.{Bool, IsTrue, nat_lt, ◌&&◌, ◌≡◌, ◌≢◌, ◌≤◌, ◌<◌, ◌+◌, ◌-◌, ◌^◌, [], ℕ, Option, None, Some, length, min, inl}
+use Rattle.std.proofs.Common.{refl, sym, ap, subst, ◌∙◌, arith}
 use Rattle.std.proofs.lemmas.Bool.{and_parts, ltb-true}
 use Rattle.std.proofs.lemmas.List.{append-nil}
 use Rattle.registers.specs.Bits.{HasBit}
@@ -29,11 +30,26 @@ same-all : (world : World) → SameParts world world
 same-all world = record { memory = refl; receives = refl; transmits = refl; receive_control = refl; transmit_control = refl; buffer = refl }
 
 read-register : (register : Register) (world : World) → Read world (record world { adapter = read_of register world.adapter })
-read-register Icr world = record { parts = record { memory = refl; receives = refl; transmits = refl; receive_control = refl; transmit_control = refl; buffer = refl }; mask = refl }
-read-register Mpc world = record { parts = record { memory = refl; receives = refl; transmits = refl; receive_control = refl; transmit_control = refl; buffer = refl }; mask = refl }
-read-register Gprc world = record { parts = record { memory = refl; receives = refl; transmits = refl; receive_control = refl; transmit_control = refl; buffer = refl }; mask = refl }
-read-register Gptc world = record { parts = record { memory = refl; receives = refl; transmits = refl; receive_control = refl; transmit_control = refl; buffer = refl }; mask = refl }
-read-register Rnbc world = record { parts = record { memory = refl; receives = refl; transmits = refl; receive_control = refl; transmit_control = refl; buffer = refl }; mask = refl }
+read-register Icr world = record {
+  parts = record { memory = refl; receives = refl; transmits = refl; receive_control = refl; transmit_control = refl; buffer = refl };
+  mask = refl;
+}
+read-register Mpc world = record {
+  parts = record { memory = refl; receives = refl; transmits = refl; receive_control = refl; transmit_control = refl; buffer = refl };
+  mask = refl;
+}
+read-register Gprc world = record {
+  parts = record { memory = refl; receives = refl; transmits = refl; receive_control = refl; transmit_control = refl; buffer = refl };
+  mask = refl;
+}
+read-register Gptc world = record {
+  parts = record { memory = refl; receives = refl; transmits = refl; receive_control = refl; transmit_control = refl; buffer = refl };
+  mask = refl;
+}
+read-register Rnbc world = record {
+  parts = record { memory = refl; receives = refl; transmits = refl; receive_control = refl; transmit_control = refl; buffer = refl };
+  mask = refl;
+}
 read-register _ world = record { parts = same-all world; mask = refl }
 
 read-offset : (offset : ℕ) (world : World) → Read world (world_after_read offset world)
@@ -43,9 +59,15 @@ read-offset offset world = by_case (register_at offset)
     by_case (Some register) = read-register register world
     by_case None = record { parts = same-all world; mask = refl }
 
-resummed : {up : Bool} (driver : DriverState) (missed : ℕ) (exact : Bool) (world : World) → ReadyWith up driver world → ReadyWith up (record driver { missed = missed; exact = exact }) world
+resummed : {up : Bool} (driver : DriverState) (missed : ℕ) (exact : Bool) (world : World) → ReadyWith up driver world
+    → ReadyWith up (record driver { missed = missed; exact = exact }) world
 resummed driver missed exact world ready = record {
-  driver_is = record { oldest_slot = ready.driver_is.oldest_slot; room = ready.driver_is.room; one_owner = ready.driver_is.one_owner; addresses = ready.driver_is.addresses };
+  driver_is = record {
+    oldest_slot = ready.driver_is.oldest_slot;
+    room = ready.driver_is.room;
+    one_owner = ready.driver_is.one_owner;
+    addresses = ready.driver_is.addresses;
+  };
   sound = ready.sound;
   runs = ready.runs;
   fit = ready.fit;
@@ -61,13 +83,16 @@ resummed driver missed exact world ready = record {
 
 -- The sum and MPC together are what they were, while neither sticks.
 abbrev IsCounted : ℕ → ℕ → ℕ → ℕ → Type 0
-IsCounted missed packets missed' packets' = packets + 0 ≤ greatest_count → missed + packets + 0 < 2 ^ 64 → missed' + packets' ≡ missed + packets + 0
+IsCounted missed packets missed' packets' = packets + 0 ≤ greatest_count → missed + packets + 0 < 2 ^ 64
+    → missed' + packets' ≡ missed + packets + 0
 
 -- A read of any register, where it is known what becomes of the sum.
-flows-read : {up : Bool} (driver : DriverState) (offset missed : ℕ) (exact : Bool) (a : World) → ReadyWith up driver a → driver.missed ≤ missed
+flows-read : {up : Bool} (driver : DriverState) (offset missed : ℕ) (exact : Bool) (a : World) → ReadyWith up driver a
+    → driver.missed ≤ missed
     → IsCounted driver.missed a.adapter.missed_packets missed (world_after_read offset a).adapter.missed_packets
     → missed + (world_after_read offset a).adapter.missed_packets ≤ driver.missed + a.adapter.missed_packets
-    → (IsTrue exact → (world_after_read offset a).adapter.missed_packets < greatest_count → IsExact driver a (record driver { missed = missed; exact = exact }) (world_after_read offset a) nothing)
+    → (IsTrue exact → (world_after_read offset a).adapter.missed_packets < greatest_count
+    → IsExact driver a (record driver { missed = missed; exact = exact }) (world_after_read offset a) nothing)
     → FlowsTo up driver a (record driver { missed = missed; exact = exact }) (world_after_read offset a) [] [] nothing
 flows-read {up} driver offset missed exact a ready more counted most exactly =
     let b = world_after_read offset a in
@@ -88,7 +113,8 @@ flows-read {up} driver offset missed exact a ready more counted most exactly =
     }
 
 -- Where MPC and the sum are as they were.
-flows-same : {up : Bool} (driver : DriverState) (offset : ℕ) (a : World) → ReadyWith up driver a → (world_after_read offset a).adapter.missed_packets ≡ a.adapter.missed_packets
+flows-same : {up : Bool} (driver : DriverState) (offset : ℕ) (a : World) → ReadyWith up driver a
+    → (world_after_read offset a).adapter.missed_packets ≡ a.adapter.missed_packets
     → FlowsTo up driver a driver (world_after_read offset a) [] [] nothing
 flows-same driver offset a ready same =
     flows-read driver offset driver.missed driver.exact a ready (omega arith) (λ fits low. omega (arith, same)) (omega (arith, same))
@@ -114,7 +140,8 @@ misses_are_read up driver world fits ready =
     let value = answer_at 0x4010 world.adapter in
     let missed = min (driver.missed + value) (2 ^ 64 - 1) in
     record {
-      flows = flows-read driver 0x4010 missed (driver.exact && adds_exactly driver.missed value) world ready (omega (arith, fits)) (λ most low. omega (arith, shown, none, low)) (omega (arith, shown, none))
+      flows = flows-read driver 0x4010 missed (driver.exact && adds_exactly driver.missed value) world ready (omega (arith, fits))
+          (λ most low. omega (arith, shown, none, low)) (omega (arith, shown, none))
           (λ exact loose.
           let both = and_parts driver.exact (adds_exactly driver.missed value) exact in
           let tests = and_parts (nat_lt value greatest_count) (nat_lt (driver.missed + value) (2 ^ 64)) both.1 in
@@ -132,7 +159,8 @@ record Quiet (a b : World) : Type 0 where
   recorded : b.adapter.causes.recorded ≡ a.adapter.causes.recorded
   missed_packets : b.adapter.missed_packets ≡ a.adapter.missed_packets
 
-quiet-register : (register : Register) (world : World) → register ≢ Icr → register ≢ Mpc → Quiet world (record world { adapter = read_of register world.adapter })
+quiet-register : (register : Register) (world : World) → register ≢ Icr → register ≢ Mpc
+    → Quiet world (record world { adapter = read_of register world.adapter })
 quiet-register Icr world no_causes no_count = absurd (no_causes refl)
 quiet-register Mpc world no_causes no_count = absurd (no_count refl)
 quiet-register Gprc world no_causes no_count = record { recorded = refl; missed_packets = refl }
@@ -143,10 +171,12 @@ quiet-register _ world no_causes no_count = record { recorded = refl; missed_pac
 quiet-offset : (offset : ℕ) (world : World) → offset ≢ 0xC0 → offset ≢ 0x4010 → Quiet world (world_after_read offset world)
 quiet-offset offset world no_causes no_count = by_case (register_at offset) refl
   where
-    by_case : (found : Option Register) → register_at offset ≡ found → Quiet world (record world { adapter = left_by_read found world.adapter })
+    by_case : (found : Option Register) → register_at offset ≡ found
+        → Quiet world (record world { adapter = left_by_read found world.adapter })
     by_case (Some register) is =
         let there = (register_at-only offset register is).there in
-        quiet-register register world (λ same. no_causes (sym there ∙ ap (λ (r : Register). (row_of r).offset) same)) (λ same. no_count (sym there ∙ ap (λ (r : Register). (row_of r).offset) same))
+        quiet-register register world (λ same. no_causes (sym there ∙ ap (λ (r : Register). (row_of r).offset) same))
+        (λ same. no_count (sym there ∙ ap (λ (r : Register). (row_of r).offset) same))
     by_case None is = record { recorded = refl; missed_packets = refl }
 
 pub others_are_read : OthersAreRead

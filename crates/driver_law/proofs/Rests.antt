@@ -23,7 +23,8 @@ pub record Rests (driver : DriverState) (a : World) (driver' : DriverState) (b :
   pub recorded : b.adapter.causes.recorded ≡ a.adapter.causes.recorded
   pub missed_packets : b.adapter.missed_packets ≡ a.adapter.missed_packets
 
-pub goes-rests : {up : Bool} (driver : DriverState) (a : World) (driver' : DriverState) (b : World) → ReadyWith up driver' b → Rests driver a driver' b → GoesTo up driver a driver' b [] [] nothing
+pub goes-rests : {up : Bool} (driver : DriverState) (a : World) (driver' : DriverState) (b : World) → ReadyWith up driver' b
+    → Rests driver a driver' b → GoesTo up driver a driver' b [] [] nothing
 goes-rests {up} driver a driver' b ready rests = record {
   flows = record {
     ready = ready;
@@ -36,7 +37,12 @@ goes-rests {up} driver a driver' b ready rests = record {
     sum = omega (arith, rests.missed);
     counted = λ fits low. omega (arith, rests.missed, rests.missed_packets);
     at_most = omega (arith, rests.missed, rests.missed_packets);
-    exactly = λ exact loose. record { exact = subst IsTrue rests.exact exact; loose = omega (arith, loose, rests.missed_packets); sum = omega (arith, rests.missed, rests.missed_packets) };
+    exactly = λ exact loose. record {
+      exact = subst IsTrue rests.exact exact;
+      loose = omega (arith, loose, rests.missed_packets);
+      sum = omega
+          (arith, rests.missed, rests.missed_packets);
+    };
   };
   causes = λ place has. subst (λ (causes : ℕ). HasBit causes place) (sym rests.recorded) has;
   told = inl (omega (arith, ap length rests.finished_same));

@@ -20,7 +20,8 @@ pub record RanWith (up : Bool) {B : Type 0} (world : B → World) (happened : B 
 -- One access. The transmit side may be set up by it.
 pub run-with : {first up : Bool} {B : Type 0} (world : B → World) (happened : B → B → Past → Type 0) (lively : B → Type 0) (old new : B)
     (access : Access) (effect : World → World → Type 0) (d d' : DriverState) (taken given : List (List ℕ)) (Before Behind : World → Type 0)
-    → Acts world happened lively old new access effect → SetsBy access effect (world new) → ReadyWith first d (world old) → Before (world old)
+    → Acts world happened lively old new access effect → SetsBy access effect (world new) → ReadyWith first d (world old)
+    → Before (world old)
     → ((a b : World) (past : Past) → ReadyWith first d a → Happens a b past → Before a → Before b)
     → ((middle : World) → ReadyWith first d middle → Before middle → effect middle (world new)
     → GoesTo up d middle d' (world new) taken given nothing × Behind (world new))

@@ -1,5 +1,6 @@
 -- Steps that take no slot and give no frame: what they leave of frames, slots and causes makes a stretch of a driver's run.
-use Rattle.std.proofs.Common.{Bool, max, min, inl, inr, ⊎_elim, ◌≡◌, ◌≤◌, ◌<◌, ◌⊎◌, ◌+◌, ◌++◌, [], ℕ, List, length, refl, sym, ap, subst, ◌∙◌, length-append, arith}
+use Rattle.std.proofs.Common.{Bool, max, min, inl, inr, ⊎_elim, ◌≡◌, ◌≤◌, ◌<◌, ◌⊎◌, ◌+◌, ◌++◌, [], ℕ, List, length, refl, sym, ap, subst}
+use Rattle.std.proofs.Common.{◌∙◌, length-append, arith}
 use Rattle.std.specs.List.{All}
 use Rattle.std.proofs.lemmas.List.{append-nil}
 use Rattle.registers.specs.Bits.{HasBit}
@@ -38,8 +39,10 @@ pub record Passes (o p : ℕ) (a b : World) (past : Past) : Type 0 where
   pub missed_most : b.adapter.missed_packets ≤ a.adapter.missed_packets + past.missed
   pub missed_loose : b.adapter.missed_packets < greatest_count → b.adapter.missed_packets ≡ a.adapter.missed_packets + past.missed
 
-pub goes-passes : {up : Bool} (d : DriverState) (buffers staged pool : List ℕ) (handed_out : List HandedOut) (a b : World) (past : Past) → Passes d.oldest_received d.oldest_sent a b past
-    → ReadyWith up (with_owners d buffers staged pool handed_out) b → GoesTo up d a (with_owners d buffers staged pool handed_out) b [] [] past
+pub goes-passes : {up : Bool} (d : DriverState) (buffers staged pool : List ℕ) (handed_out : List HandedOut) (a b : World) (past : Past)
+    → Passes d.oldest_received d.oldest_sent a b past
+    → ReadyWith up (with_owners d buffers staged pool handed_out) b
+    → GoesTo up d a (with_owners d buffers staged pool handed_out) b [] [] past
 goes-passes {up} d buffers staged pool handed_out a b past passes ready =
     let longer = length-append (finished d.oldest_received a) passes.more in
     record {
@@ -54,7 +57,8 @@ goes-passes {up} d buffers staged pool handed_out a b past passes ready =
         sum = omega arith;
         counted = λ fits low. let same = passes.missed fits in omega (arith, same);
         at_most = omega (arith, passes.missed_most);
-        exactly = λ exact loose. let same = passes.missed_loose loose in record { exact = exact; loose = omega (arith, same, loose); sum = omega (arith, same) };
+        exactly = λ exact loose. let same = passes.missed_loose loose in record
+            { exact = exact; loose = omega (arith, same, loose); sum = omega (arith, same) };
       };
       causes = passes.causes;
       told =
@@ -65,7 +69,8 @@ goes-passes {up} d buffers staged pool handed_out a b past passes ready =
     }
 
 -- Frames, slots, causes and MPC are the same.
-pub passes-same : (o p : ℕ) (a b : World) → SameFrames o p a b → b.adapter.causes ≡ a.adapter.causes → b.adapter.missed_packets ≡ a.adapter.missed_packets → Passes o p a b nothing
+pub passes-same : (o p : ℕ) (a b : World) → SameFrames o p a b → b.adapter.causes ≡ a.adapter.causes
+    → b.adapter.missed_packets ≡ a.adapter.missed_packets → Passes o p a b nothing
 passes-same o p a b same causes missed = record {
   sends = same.to_send;
   holds = same.held ∙ sym (append-nil (frames_held o a));
@@ -87,18 +92,29 @@ pub goes-stays : {up : Bool} (d : DriverState) (a : World) → ReadyWith up d a 
 goes-stays {up} d a ready =
     goes-passes d d.buffers d.staged d.pool d.handed_out a a nothing
     (passes-same d.oldest_received d.oldest_sent a a
-    (record { sound = ready.sound; held = refl; to_send = refl; finished_same = refl; written_same = refl; whole = λ whole. whole; fits = λ size fits. fits }) refl refl)
+    (record {
+      sound = ready.sound;
+      held = refl;
+      to_send = refl;
+      finished_same = refl;
+      written_same = refl;
+      whole = λ whole. whole;
+      fits =
+          λ size fits. fits;
+    }) refl refl)
     ready
 
 -- Something happens.
-pub goes-happens : {up : Bool} (d : DriverState) (a b : World) (past : Past) → ReadyWith up d a → Happens a b past → GoesTo up d a d b [] [] past
+pub goes-happens : {up : Bool} (d : DriverState) (a b : World) (past : Past) → ReadyWith up d a → Happens a b past
+    → GoesTo up d a d b [] [] past
 goes-happens {up} d a b past ready happens =
     let o = d.oldest_received in
     let p = d.oldest_sent in
     let between = happens.between o p ready.sound in
     let own = drivers_keep_their_own o p a b past ready.sound happens in
     let slot : ℕ → ℕ = λ i. place d.counts.rx (receive_tail d) i in
-    let kept : (i : ℕ) → i < length d.staged → bytes_at b.memory (receive_slot (slot i)) 16 ≡ bytes_at a.memory (receive_slot (slot i)) 16 = λ i below.
+    let kept : (i : ℕ) → i < length d.staged
+    → bytes_at b.memory (receive_slot (slot i)) 16 ≡ bytes_at a.memory (receive_slot (slot i)) 16 = λ i below.
     let stays = own.own_received _ (own-staged d a i ready (omega (arith, below, ready.driver_is.room))) in
     let at : address_of (receive_ring a) (slot i) ≡ receive_slot (slot i) = omega (arith, ready.receive.begins) in
     subst (λ (address : ℕ). bytes_at b.memory address 16 ≡ bytes_at a.memory address 16) at stays.bytes in

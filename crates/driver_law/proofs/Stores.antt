@@ -1,5 +1,6 @@
 -- A driver stores to memory of its own, as the descriptor of its next slot.
-use Rattle.std.proofs.Common.{Bool, inl, ◌≡◌, ◌<◌, ◌+◌, ◌*◌, ◌%◌, ◌^◌, ◌++◌, ◌∷◌, [], false, ℕ, List, length, slice_index, refl, sym, ap, subst, ◌∙◌, length-append, arith}
+use Rattle.std.proofs.Common.{Bool, inl, ◌≡◌, ◌<◌, ◌+◌, ◌*◌, ◌%◌, ◌^◌, ◌++◌, ◌∷◌, [], false, ℕ, List, length, slice_index, refl, sym, ap}
+use Rattle.std.proofs.Common.{subst, ◌∙◌, length-append, arith}
 use Rattle.registers.specs.Bits.{is_set}
 use Rattle.dma_memory.specs.Areas.{AreApart, area_at}
 use Rattle.dma_memory.specs.AreaLaws.{apart-inside, changes_only_stored}
@@ -36,8 +37,10 @@ use Rattle.driver_law.specs.Ready.{AreStored, IsDriver, ReadyWith, empty_descrip
 use Rattle.driver_law.specs.ReceiveSteps.{SlotsCanBeStaged}
 
 -- It keeps what the driver rests on.
-keeps-store : {up : Bool} (d : DriverState) (a : World) (address : ℕ) (bytes : List ℕ) → ReadyWith up d a → LiesIn a.memory address (length bytes)
-    → IsOwn d.oldest_received d.oldest_sent a (area_at address (length bytes)) → Keeps d.oldest_received d.oldest_sent a (world_after_store address bytes a)
+keeps-store : {up : Bool} (d : DriverState) (a : World) (address : ℕ) (bytes : List ℕ) → ReadyWith up d a
+    → LiesIn a.memory address (length bytes)
+    → IsOwn d.oldest_received d.oldest_sent a (area_at address (length bytes))
+    → Keeps d.oldest_received d.oldest_sent a (world_after_store address bytes a)
 keeps-store {up} d a address bytes ready lies own =
     let o = d.oldest_received in
     let p = d.oldest_sent in
@@ -65,7 +68,8 @@ keeps-store {up} d a address bytes ready lies own =
     }
 
 -- A store to memory of its own that is no receive buffer.
-pub goes-stores : {up : Bool} (d : DriverState) (staged pool : List ℕ) (a : World) (address : ℕ) (bytes : List ℕ) → ReadyWith up d a → LiesIn a.memory address (length bytes)
+pub goes-stores : {up : Bool} (d : DriverState) (staged pool : List ℕ) (a : World) (address : ℕ) (bytes : List ℕ) → ReadyWith up d a
+    → LiesIn a.memory address (length bytes)
     → IsOwn d.oldest_received d.oldest_sent a (area_at address (length bytes)) → IsDriver (with_staged d staged pool)
     → AreStored (with_bytes a.memory address bytes) d.counts (receive_tail d) staged
     → ((number : ℕ) → number < d.counts.buffers → AreApart (area_at address (length bytes)) (area_of d.counts (ReceiveBuffer number)))
@@ -74,7 +78,8 @@ goes-stores {up} d staged pool a address bytes ready lies own driver stored away
     let b = world_after_store address bytes a in
     let leaves = own_stores_leave_frames d.oldest_received d.oldest_sent a address bytes ready.sound lies own in
     let changes = changes_only_stored a.memory bytes address lies in
-    let stand = stand-kept d a b ready (λ number known free. changes.others (area_of d.counts (ReceiveBuffer number)) (away number known)) in
+    let stand = stand-kept d a b ready (λ number known free. changes.others (area_of d.counts (ReceiveBuffer number)) (away number known))
+    in
     goes-passes d d.buffers staged pool d.handed_out a b nothing (passes-same d.oldest_received d.oldest_sent a b leaves.same refl refl)
     (ready-kept d staged pool a b ready (keeps-store d a address bytes ready lies own) driver stored stand)
 
@@ -96,22 +101,34 @@ pub record IsEmpty (memory : List ℕ) (slot buffer : ℕ) : Type 0 where
   pub clear : is_done memory slot ≡ false
   pub names : named_address memory slot ≡ buffer
 
-pub empty-stored : (memory : List ℕ) (slot buffer : ℕ) → buffer < 2 ^ 64 → bytes_at memory slot 16 ≡ empty_descriptor buffer → IsEmpty memory slot buffer
+pub empty-stored : (memory : List ℕ) (slot buffer : ℕ) → buffer < 2 ^ 64 → bytes_at memory slot 16 ≡ empty_descriptor buffer
+    → IsEmpty memory slot buffer
 empty-stored memory slot buffer fits bytes =
     let fields : rx_desc_of (bytes_at memory slot 16) ≡ empty_fields buffer =
     ap rx_desc_of bytes ∙ rx_desc_of-rx_desc_bytes (empty_fields buffer)
-    (record { address = fits; length = omega arith; checksum = omega arith; status = omega arith; errors = omega arith; special = omega arith }) in
+    (record {
+      address = fits;
+      length = omega arith;
+      checksum = omega arith;
+      status = omega arith;
+      errors = omega arith;
+      special = omega
+          arith;
+    }) in
     record {
-      clear = ap (λ (status : ℕ). is_set status 0) (sym (status-bits (bytes_at memory slot 16)) ∙ ap (λ (desc : RxDesc). status_bits desc.status) fields);
+      clear = ap (λ (status : ℕ). is_set status 0) (sym (status-bits (bytes_at memory slot 16))
+          ∙ ap (λ (desc : RxDesc). status_bits desc.status) fields);
       names = ap (λ (desc : RxDesc). desc.address) fields;
     }
 
 -- One more slot is staged.
 
 stored-push : (memory : List ℕ) (counts : Counts) (slot : ℕ) (numbers : List ℕ) (m : ℕ) → AreStored memory counts slot numbers
-    → bytes_at memory (receive_slot (place counts.rx slot (length numbers))) 16 ≡ empty_descriptor (buffer_at counts m) → AreStored memory counts slot (numbers ++ m ∷ [])
+    → bytes_at memory (receive_slot (place counts.rx slot (length numbers))) 16 ≡ empty_descriptor (buffer_at counts m)
+    → AreStored memory counts slot (numbers ++ m ∷ [])
 stored-push memory counts slot [] m stored here = (here, tt)
-stored-push memory counts slot (number ∷ later) m stored here = (stored.0, stored-push memory counts ((slot + 1) % counts.rx) later m stored.1 here)
+stored-push memory counts slot (number ∷ later) m stored here =
+    (stored.0, stored-push memory counts ((slot + 1) % counts.rx) later m stored.1 here)
 
 pub slots-apart : (x y size : ℕ) → size ≡ 16 → ¬ (y ≡ x) → AreApart (area_at (receive_slot x) size) (area_at (receive_slot y) 16)
 slots-apart x y size long differ =
@@ -132,14 +149,20 @@ slots_can_be_staged up d m pool a ready room known moves =
     let staged' = d.staged ++ m ∷ [] in
     let long = length-empty_descriptor (buffer_at d.counts m) in
     let walked : place n (receive_tail d) j ≡ next_received d = sym (place-add n first i j) in
-    let at : address_of (receive_ring a) (place n (receive_tail d) j) ≡ slot = omega (arith, ready.receive.begins, ap (λ (index : ℕ). 16 * index) walked) in
-    let own : CanBeWritten first d.oldest_sent a slot = subst (CanBeWritten first d.oldest_sent a) at (own_receive_slots_can_be_written first d.oldest_sent _ a ready.sound (own-staged d a j ready (omega (arith, room)))) in
+    let at : address_of (receive_ring a) (place n (receive_tail d) j)
+    ≡ slot = omega (arith, ready.receive.begins, ap (λ (index : ℕ). 16 * index) walked) in
+    let own : CanBeWritten first d.oldest_sent a slot = subst (CanBeWritten first d.oldest_sent a) at
+    (own_receive_slots_can_be_written first d.oldest_sent _ a ready.sound (own-staged d a j ready (omega (arith, room)))) in
     let lies : LiesIn a.memory slot (length bytes) = subst (λ (size : ℕ). LiesIn a.memory slot size) (sym long) own.lies in
-    let mine : IsOwn first d.oldest_sent a (area_at slot (length bytes)) = subst (λ (size : ℕ). IsOwn first d.oldest_sent a (area_at slot size)) (sym long) own.own in
-    let others : (k : ℕ) → k < j → bytes_at memory' (receive_slot (place n (receive_tail d) k)) 16 ≡ bytes_at a.memory (receive_slot (place n (receive_tail d) k)) 16 = λ k before.
+    let mine : IsOwn first d.oldest_sent a (area_at slot (length bytes)) = subst
+    (λ (size : ℕ). IsOwn first d.oldest_sent a (area_at slot size)) (sym long) own.own in
+    let others : (k : ℕ) → k < j
+    → bytes_at memory' (receive_slot (place n (receive_tail d) k)) 16
+    ≡ bytes_at a.memory (receive_slot (place n (receive_tail d) k)) 16 = λ k before.
     bytes_at-elsewhere a.memory bytes slot (receive_slot (place n (receive_tail d) k)) 16 lies
     (slots-apart (next_received d) (place n (receive_tail d) k) (length bytes) long
-    (λ equal. places-differ n first (i + k) (i + j) ready.driver_is.oldest_slot (omega (arith, before)) (omega (arith, room)) (place-add n first i k ∙ equal))) in
+    (λ equal. places-differ n first (i + k) (i + j) ready.driver_is.oldest_slot (omega (arith, before)) (omega (arith, room))
+    (place-add n first i k ∙ equal))) in
     let here : bytes_at memory' (receive_slot (place n (receive_tail d) j)) 16 ≡ bytes =
     ap (λ (index : ℕ). bytes_at memory' (receive_slot index) 16) walked
     ∙ subst (λ (size : ℕ). bytes_at memory' slot size ≡ bytes) long (bytes_at-stored a.memory bytes slot lies) in
@@ -148,10 +171,13 @@ slots_can_be_staged up d m pool a ready room known moves =
     (record {
       oldest_slot = ready.driver_is.oldest_slot;
       room = omega (arith, room, length-append d.staged (m ∷ []));
-      one_owner = one_owner-dealt d.counts.buffers d (with_staged d staged' pool) (λ k. omega (arith, moves k, copies-cons k m pool, copies-push k m d.staged)) ready.driver_is.one_owner;
+      one_owner = one_owner-dealt d.counts.buffers d (with_staged d staged' pool)
+          (λ k. omega (arith, moves k, copies-cons k m pool, copies-push k m d.staged)) ready.driver_is.one_owner;
       addresses = ready.driver_is.addresses;
     })
-    (stored-push memory' d.counts (receive_tail d) d.staged m (stored-kept a.memory memory' d.counts (receive_tail d) d.staged others ready.stored) here)
+    (stored-push memory' d.counts (receive_tail d) d.staged m
+    (stored-kept a.memory memory' d.counts (receive_tail d) d.staged others ready.stored) here)
     (λ number within.
-    apart-inside (area_at slot (length bytes)) (area_of d.counts ReceiveRing) (area_of d.counts (ReceiveBuffer number)) (record { from = omega arith; to = omega (arith, long, below) })
+    apart-inside (area_at slot (length bytes)) (area_of d.counts ReceiveRing) (area_of d.counts (ReceiveBuffer number))
+    (record { from = omega arith; to = omega (arith, long, below) })
     (places-apart d.counts ReceiveRing (ReceiveBuffer number) tt within (λ same. absurd (cc))))

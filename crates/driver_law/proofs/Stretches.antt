@@ -1,5 +1,6 @@
 -- Two stretches of a driver's run join, and no work is forgotten over one.
-use Rattle.std.proofs.Common.{Bool, ◌≡◌, ◌+◌, ◌++◌, ◌∷◌, [], ℕ, List, length, refl, inl, inr, ⊎_elim, subst, sym, ap, ◌∙◌, add-zero, append_assoc, length-append, arith}
+use Rattle.std.proofs.Common.{Bool, ◌≡◌, ◌+◌, ◌++◌, ◌∷◌, [], ℕ, List, length, refl, inl, inr, ⊎_elim, subst, sym, ap, ◌∙◌, add-zero}
+use Rattle.std.proofs.Common.{append_assoc, length-append, arith}
 use Rattle.std.proofs.lemmas.List.{append-nil}
 use Rattle.std.proofs.lemmas.List.Elements.{All-append}
 use Rattle.registers.specs.Bits.{HasBit}
@@ -14,7 +15,8 @@ use Rattle.driver_law.specs.DriverState.{DriverState}
 use Rattle.driver_law.specs.Goes.{FlowsTo, GoesTo, HasNoForgottenWork, RanTo}
 
 pub flows_join : {first_up up : Bool} (d1 d2 d3 : DriverState) (a b c : World) (t1 t2 g1 g2 : List (List ℕ)) (first later : Past)
-    → FlowsTo first_up d1 a d2 b t1 g1 first → FlowsTo up d2 b d3 c t2 g2 later → FlowsTo up d1 a d3 c (t1 ++ t2) (g1 ++ g2) (joined first later)
+    → FlowsTo first_up d1 a d2 b t1 g1 first → FlowsTo up d2 b d3 c t2 g2 later
+    → FlowsTo up d1 a d3 c (t1 ++ t2) (g1 ++ g2) (joined first later)
 flows_join d1 d2 d3 a b c t1 t2 g1 g2 first later one two = record {
   ready = two.ready;
   counts = two.counts ∙ one.counts;
@@ -46,7 +48,8 @@ flows_join d1 d2 d3 a b c t1 t2 g1 g2 first later one two = record {
 }
 
 pub goes_join : {first_up up : Bool} (d1 d2 d3 : DriverState) (a b c : World) (t1 t2 g1 g2 : List (List ℕ)) (first later : Past)
-    → GoesTo first_up d1 a d2 b t1 g1 first → GoesTo up d2 b d3 c t2 g2 later → GoesTo up d1 a d3 c (t1 ++ t2) (g1 ++ g2) (joined first later)
+    → GoesTo first_up d1 a d2 b t1 g1 first → GoesTo up d2 b d3 c t2 g2 later
+    → GoesTo up d1 a d3 c (t1 ++ t2) (g1 ++ g2) (joined first later)
 goes_join d1 d2 d3 a b c t1 t2 g1 g2 first later one two = record {
   flows = flows_join d1 d2 d3 a b c t1 t2 g1 g2 first later one.flows two.flows;
   causes = λ place has. two.causes place (one.causes place has);
@@ -54,7 +57,8 @@ goes_join d1 d2 d3 a b c t1 t2 g1 g2 first later one two = record {
       ⊎_elim
       (λ (same : length (finished d2.oldest_received b) ≡ length t2 + length (finished d3.oldest_received c)).
       ⊎_elim
-      (λ (before : length (finished d1.oldest_received a) ≡ length t1 + length (finished d2.oldest_received b)). inl (omega (arith, before, same, length-append t1 t2)))
+      (λ (before : length (finished d1.oldest_received a) ≡ length t1 + length (finished d2.oldest_received b)). inl
+      (omega (arith, before, same, length-append t1 t2)))
       (λ (bit : HasBit b.adapter.causes.recorded 7). inr (two.causes 7 bit))
       one.told)
       (λ (bit : HasBit c.adapter.causes.recorded 7). inr bit)
@@ -65,7 +69,8 @@ goes_join d1 d2 d3 a b c t1 t2 g1 g2 first later one two = record {
 pub ran_join : {first_up up : Bool} {B : Type 0} (world : B → World) (happened : B → B → Past → Type 0) (allowed : Access → Type 0)
     → ((a b c : B) (first later : Past) → happened a b first → happened b c later → happened a c (joined first later))
     → (a b c : B) (d1 d2 d3 : DriverState) (t1 t2 g1 g2 : List (List ℕ))
-    → RanTo first_up world happened allowed a b d1 d2 t1 g1 → RanTo up world happened allowed b c d2 d3 t2 g2 → RanTo up world happened allowed a c d1 d3 (t1 ++ t2) (g1 ++ g2)
+    → RanTo first_up world happened allowed a b d1 d2 t1 g1 → RanTo up world happened allowed b c d2 d3 t2 g2
+    → RanTo up world happened allowed a c d1 d3 (t1 ++ t2) (g1 ++ g2)
 ran_join world happened allowed joins a b c d1 d2 d3 t1 t2 g1 g2 one two = record {
   past = joined one.past two.past;
   told = joins a b c one.past two.past one.told two.told;
@@ -78,11 +83,20 @@ ran_join world happened allowed joins a b c d1 d2 d3 t1 t2 g1 g2 one two = recor
 
 pub joined-nothing : (past : Past) → joined past nothing ≡ past
 joined-nothing past =
-    let same : record { put = past.put; stored = past.stored; missed = past.missed; eeprom_ticks = past.eeprom_ticks; phy_ticks = past.phy_ticks; accesses = past.accesses } ≡ past = refl in
+    let same : record {
+      put = past.put;
+      stored = past.stored;
+      missed = past.missed;
+      eeprom_ticks = past.eeprom_ticks;
+      phy_ticks =
+          past.phy_ticks;
+      accesses = past.accesses;
+    } ≡ past = refl in
     rw (append-nil, append-nil, append-nil, add-zero, add-zero, add-zero) same
 
 -- Where ICR isn't read no work is forgotten.
-pub work_kept : {up : Bool} (d d' : DriverState) (a b : World) (taken given : List (List ℕ)) (past : Past) → GoesTo up d a d' b taken given past → HasNoForgottenWork d a → HasNoForgottenWork d' b
+pub work_kept : {up : Bool} (d d' : DriverState) (a b : World) (taken given : List (List ℕ)) (past : Past)
+    → GoesTo up d a d' b taken given past → HasNoForgottenWork d a → HasNoForgottenWork d' b
 work_kept d d' a b taken given past goes work = record {
   unmasked = subst (λ (mask : ℕ). HasBit mask 7) (sym goes.flows.mask) work.unmasked;
   asked =

@@ -1,5 +1,6 @@
 -- The oldest receive slot is taken where it is finished, and a buffer comes back.
-use Rattle.std.proofs.Common.{inl, ◌≡◌, ◌+◌, ◌*◌, ◌%◌, ◌++◌, ◌∷◌, [], Bool, true, false, cond, ℕ, suc, List, length, map, refl, sym, ap, subst, ◌∙◌, arith}
+use Rattle.std.proofs.Common.{inl, ◌≡◌, ◌+◌, ◌*◌, ◌%◌, ◌++◌, ◌∷◌, [], Bool, true, false, cond, ℕ, suc, List, length, map, refl, sym, ap}
+use Rattle.std.proofs.Common.{subst, ◌∙◌, arith}
 use Rattle.std.specs.List.{take_while}
 use Rattle.std.proofs.lemmas.List.{append-nil, map-append}
 use Rattle.std.proofs.lemmas.List.Elements.{All-append, All-cons}
@@ -41,7 +42,8 @@ oldest-first : {up : Bool} (d : DriverState) (world : World) (m : ℕ) (rest : L
     → outstanding (receive_ring world) d.oldest_received ≡ receive_slot d.oldest_received ∷ behind_it d (length rest)
 oldest-first {up} d world m rest buffers ready =
     let n = d.counts.rx in
-    outstanding-known (receive_ring world) 0 n d.oldest_received (length d.buffers) ready.receive ready.driver_is.oldest_slot (omega (arith, ready.driver_is.room))
+    outstanding-known (receive_ring world) 0 n d.oldest_received (length d.buffers) ready.receive ready.driver_is.oldest_slot
+    (omega (arith, ready.driver_is.room))
     ∙ ap (λ (i : ℕ). map (λ (slot : ℕ). 0 + 16 * slot) (slots_from n d.oldest_received i)) (ap length buffers)
     ∙ from-zero (slots_from n d.oldest_received (suc (length rest)))
   where
@@ -49,26 +51,33 @@ oldest-first {up} d world m rest buffers ready =
     from-zero [] = refl
     from-zero (x ∷ xs) = let here : 0 + 16 * x ≡ 16 * x = omega arith in rw (here, from-zero xs) refl
 
-finished-by : {up : Bool} (d : DriverState) (world : World) (m : ℕ) (rest : List ℕ) → d.buffers ≡ m ∷ rest → ReadyWith up d world → (done : Bool) → is_done world.memory (receive_slot d.oldest_received) ≡ done
-    → finished d.oldest_received world ≡ cond done (receive_slot d.oldest_received ∷ take_while (is_done world.memory) (behind_it d (length rest))) []
+finished-by : {up : Bool} (d : DriverState) (world : World) (m : ℕ) (rest : List ℕ) → d.buffers ≡ m ∷ rest → ReadyWith up d world
+    → (done : Bool) → is_done world.memory (receive_slot d.oldest_received) ≡ done
+    → finished d.oldest_received world
+    ≡ cond done (receive_slot d.oldest_received ∷ take_while (is_done world.memory) (behind_it d (length rest))) []
 finished-by {up} d world m rest buffers ready done is =
     let slot = receive_slot d.oldest_received in
     let others = behind_it d (length rest) in
     let test = is_done world.memory in
-    ap (take_while test) (oldest-first d world m rest buffers ready) ∙ take_while-cons test slot others ∙ ap (λ (b : Bool). cond b (slot ∷ take_while test others) []) is
+    ap (take_while test) (oldest-first d world m rest buffers ready) ∙ take_while-cons test slot others
+    ∙ ap (λ (b : Bool). cond b (slot ∷ take_while test others) []) is
 
-pub finished-first : {up : Bool} (d : DriverState) (world : World) (m : ℕ) (rest : List ℕ) → d.buffers ≡ m ∷ rest → ReadyWith up d world → is_done world.memory (receive_slot d.oldest_received) ≡ true
+pub finished-first : {up : Bool} (d : DriverState) (world : World) (m : ℕ) (rest : List ℕ) → d.buffers ≡ m ∷ rest → ReadyWith up d world
+    → is_done world.memory (receive_slot d.oldest_received) ≡ true
     → (later : List ℕ) × (finished d.oldest_received world ≡ receive_slot d.oldest_received ∷ later)
 finished-first {up} d world m rest buffers ready done = (_, finished-by d world m rest buffers ready true done)
 
-pub finished-none : {up : Bool} (d : DriverState) (world : World) (m : ℕ) (rest : List ℕ) → d.buffers ≡ m ∷ rest → ReadyWith up d world → is_done world.memory (receive_slot d.oldest_received) ≡ false
+pub finished-none : {up : Bool} (d : DriverState) (world : World) (m : ℕ) (rest : List ℕ) → d.buffers ≡ m ∷ rest → ReadyWith up d world
+    → is_done world.memory (receive_slot d.oldest_received) ≡ false
     → finished d.oldest_received world ≡ []
 finished-none {up} d world m rest buffers ready clear = finished-by d world m rest buffers ready false clear
 
-pub finished-empty : {up : Bool} (d : DriverState) (world : World) → d.buffers ≡ [] → ReadyWith up d world → finished d.oldest_received world ≡ []
+pub finished-empty : {up : Bool} (d : DriverState) (world : World) → d.buffers ≡ [] → ReadyWith up d world
+    → finished d.oldest_received world ≡ []
 finished-empty {up} d world none ready =
     ap (take_while (is_done world.memory))
-    (outstanding-known (receive_ring world) 0 d.counts.rx d.oldest_received (length d.buffers) ready.receive ready.driver_is.oldest_slot (omega (arith, ready.driver_is.room))
+    (outstanding-known (receive_ring world) 0 d.counts.rx d.oldest_received (length d.buffers) ready.receive ready.driver_is.oldest_slot
+    (omega (arith, ready.driver_is.room))
     ∙ ap (λ (i : ℕ). map (λ (slot : ℕ). 0 + 16 * slot) (slots_from d.counts.rx d.oldest_received i)) (ap length none))
 
 -- What the law says of it, with its frame.
@@ -77,7 +86,8 @@ record IsFirst (d : DriverState) (world : World) (m : ℕ) (slots : List ℕ) : 
   size : length (frame_named world (receive_slot d.oldest_received)) ≡ (descriptor_at world.memory (receive_slot d.oldest_received)).length
   stands : Stands d.counts world.memory (oldest_frame d m world)
 
-first-known : {up : Bool} (d : DriverState) (world : World) (m : ℕ) (rest slots : List ℕ) → d.buffers ≡ m ∷ rest → ReadyWith up d world → finished d.oldest_received world ≡ receive_slot d.oldest_received ∷ slots → IsFirst d world m slots
+first-known : {up : Bool} (d : DriverState) (world : World) (m : ℕ) (rest slots : List ℕ) → d.buffers ≡ m ∷ rest → ReadyWith up d world
+    → finished d.oldest_received world ≡ receive_slot d.oldest_received ∷ slots → IsFirst d world m slots
 first-known {up} d world m rest slots buffers ready done =
     let slot = receive_slot d.oldest_received in
     let at = buffer_at d.counts m in
@@ -85,11 +95,15 @@ first-known {up} d world m rest slots buffers ready done =
     let taken = finished_slots_can_be_taken d.oldest_received d.oldest_sent world slot slots ready.sound done in
     let whole = (taken.whole ready.whole).0 in
     let names : map (named_address world.memory) (slot ∷ behind_it d (length rest)) ≡ map (buffer_at d.counts) (m ∷ rest) =
-    sym (ap (map (named_address world.memory)) (oldest-first d world m rest buffers ready)) ∙ ready.names ∙ ap (map (buffer_at d.counts)) buffers in
+    sym (ap (map (named_address world.memory)) (oldest-first d world m rest buffers ready)) ∙ ready.names
+    ∙ ap (map (buffer_at d.counts)) buffers in
     let address : desc.address ≡ at = (cons-parts _ _ _ _ names).0 in
-    let lies = buffer-lies d world m ready (outstanding-number d m ready.driver_is (omega (arith, ap (copies m) buffers, copies-itself m rest))) in
-    let stands : frame_named world slot ≡ bytes_at world.memory at desc.length = ap (λ (place : ℕ). bytes_at world.memory place desc.length) address in
-    let size : length (frame_named world slot) ≡ desc.length = ap length stands ∙ length-bytes_at world.memory at desc.length (omega (arith, lies, whole.most)) in
+    let lies = buffer-lies d world m ready
+    (outstanding-number d m ready.driver_is (omega (arith, ap (copies m) buffers, copies-itself m rest))) in
+    let stands : frame_named world slot
+    ≡ bytes_at world.memory at desc.length = ap (λ (place : ℕ). bytes_at world.memory place desc.length) address in
+    let size : length (frame_named world slot) ≡ desc.length = ap length stands
+    ∙ length-bytes_at world.memory at desc.length (omega (arith, lies, whole.most)) in
     record {
       taken = taken;
       size = size;
@@ -99,8 +113,10 @@ first-known {up} d world m rest slots buffers ready done =
 pub oldest_is_as_long : OldestIsAsLong
 oldest_is_as_long up d m rest slots world ready buffers done = (first-known d world m rest slots buffers ready done).size
 
-pub oldest_is_whole : {up : Bool} (d : DriverState) (m : ℕ) (rest slots : List ℕ) (world : World) → ReadyWith up d world → d.buffers ≡ m ∷ rest
-    → finished d.oldest_received world ≡ receive_slot d.oldest_received ∷ slots → IsWhole (descriptor_at world.memory (receive_slot d.oldest_received))
+pub oldest_is_whole : {up : Bool} (d : DriverState) (m : ℕ) (rest slots : List ℕ) (world : World) → ReadyWith up d world
+    → d.buffers ≡ m ∷ rest
+    → finished d.oldest_received world ≡ receive_slot d.oldest_received ∷ slots
+    → IsWhole (descriptor_at world.memory (receive_slot d.oldest_received))
 oldest_is_whole d m rest slots world ready buffers done = ((first-known d world m rest slots buffers ready done).taken.whole ready.whole).0
 
 -- With the next place in the driver's own words.
@@ -121,13 +137,15 @@ oldest_can_be_taken up d m rest slots a ready buffers done =
     let d' = behind_oldest d rest (d.handed_out ++ one ∷ []) in
     let known = first-known d a m rest slots buffers ready done in
     let taken = known.taken in
-    let here : IsNextOldest d a slots (next_received o a) = record { sound = taken.sound; behind = taken.behind; held = taken.held; first = taken.first; fits = taken.fits ready.fit } in
+    let here : IsNextOldest d a slots (next_received o a) = record
+    { sound = taken.sound; behind = taken.behind; held = taken.held; first = taken.first; fits = taken.fits ready.fit } in
     let at : IsNextOldest d a slots next = subst (IsNextOldest d a slots) (ap (λ (count : ℕ). (o + 1) % count) ready.receive.slots) here in
     let count : length d.buffers ≡ suc (length rest) = ap length buffers in
     let tail : receive_tail d ≡ place n next (length rest) = ap (place n o) count in
     let names : map (named_address a.memory) (slot ∷ outstanding (receive_ring a) next) ≡ map (buffer_at d.counts) (m ∷ rest) =
     sym (ap (map (named_address a.memory)) at.first) ∙ ready.names ∙ ap (map (buffer_at d.counts)) buffers in
-    let numbers : numbers_of (d.handed_out ++ one ∷ []) ≡ numbers_of d.handed_out ++ m ∷ [] = map-append (λ (entry : HandedOut). entry.number) d.handed_out (one ∷ []) in
+    let numbers : numbers_of (d.handed_out ++ one ∷ []) ≡ numbers_of d.handed_out ++ m
+    ∷ [] = map-append (λ (entry : HandedOut). entry.number) d.handed_out (one ∷ []) in
     let Standing = Stands d.counts a.memory in
     record {
       flows = record {
@@ -137,7 +155,14 @@ oldest_can_be_taken up d m rest slots a ready buffers done =
             room = omega (arith, ready.driver_is.room, count);
             one_owner =
                 one_owner-dealt d.counts.buffers d d'
-                (λ k. omega (arith, ap (copies k) buffers, copies-cons k m rest, ap (copies k) numbers, copies-push k m (numbers_of d.handed_out)))
+                (λ k. omega (
+                  arith,
+                  ap (copies k) buffers,
+                  copies-cons k m rest,
+                  ap (copies k) numbers,
+                  copies-push k m
+                      (numbers_of d.handed_out),
+                ))
                 ready.driver_is.one_owner;
             addresses = ready.driver_is.addresses;
           };
@@ -147,7 +172,13 @@ oldest_can_be_taken up d m rest slots a ready buffers done =
           whole = subst (AreWhole a.memory) (sym at.behind) (taken.whole ready.whole).1;
           lies = ready.lies;
           size = ready.size;
-          receive = record { begins = ready.receive.begins; slots = ready.receive.slots; last = ready.receive.last ∙ tail; head_slot = ready.receive.head_slot };
+          receive = record {
+            begins = ready.receive.begins;
+            slots = ready.receive.slots;
+            last = ready.receive.last
+                ∙ tail;
+            head_slot = ready.receive.head_slot;
+          };
           transmit = ready.transmit;
           names = (cons-parts _ _ _ _ names).1;
           stored = subst (λ (place : ℕ). AreStored a.memory d.counts place d.staged) tail ready.stored;
@@ -172,12 +203,22 @@ pub buffers_can_come_back : BuffersCanComeBack
 buffers_can_come_back up d pool handed_out a ready moves stand =
     goes-passes d d.buffers d.staged pool handed_out a a nothing
     (passes-same d.oldest_received d.oldest_sent a a
-    (record { sound = ready.sound; held = refl; to_send = refl; finished_same = refl; written_same = refl; whole = λ whole. whole; fits = λ size fits. fits }) refl refl)
+    (record {
+      sound = ready.sound;
+      held = refl;
+      to_send = refl;
+      finished_same = refl;
+      written_same = refl;
+      whole = λ whole. whole;
+      fits =
+          λ size fits. fits;
+    }) refl refl)
     (record {
       driver_is = record {
         oldest_slot = ready.driver_is.oldest_slot;
         room = ready.driver_is.room;
-        one_owner = one_owner-dealt d.counts.buffers d (with_owners d d.buffers d.staged pool handed_out) (λ k. omega (arith, moves k)) ready.driver_is.one_owner;
+        one_owner = one_owner-dealt d.counts.buffers d (with_owners d d.buffers d.staged pool handed_out)
+            (λ k. omega (arith, moves k)) ready.driver_is.one_owner;
         addresses = ready.driver_is.addresses;
       };
       sound = ready.sound;

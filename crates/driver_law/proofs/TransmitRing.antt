@@ -32,7 +32,8 @@ use Rattle.driver_law.proofs.Rests.{goes-rests}
 -- Areas.
 
 -- The second of some areas is replaced by another that is apart from the others.
-separate-replaced : (memory : List ℕ) (first old area : Area) (rest : List Area) → AreSeparate memory (first ∷ old ∷ rest) → LiesIn memory area.address area.size
+separate-replaced : (memory : List ℕ) (first old area : Area) (rest : List Area) → AreSeparate memory (first ∷ old ∷ rest)
+    → LiesIn memory area.address area.size
     → AreApart first area → All (AreApart area) rest → AreSeparate memory (first ∷ area ∷ rest)
 separate-replaced memory first old area rest separate lies apart away =
     let Lies : Area → Type 0 = λ other. LiesIn memory other.address other.size in
@@ -40,9 +41,11 @@ separate-replaced memory first old area rest separate lies apart away =
     let from_first = pairs-head AreApart first (old ∷ rest) separate.apart in
     let rest_apart = pairs-tail AreApart old rest (pairs-tail AreApart first (old ∷ rest) separate.apart) in
     record {
-      lie = All-cons Lies first (area ∷ rest) (all-head Lies first (old ∷ rest) separate.lie) (All-cons Lies area rest lies (all-tail Lies old rest behind));
+      lie = All-cons Lies first (area ∷ rest) (all-head Lies first (old ∷ rest) separate.lie)
+          (All-cons Lies area rest lies (all-tail Lies old rest behind));
       apart =
-          AllPairs-cons AreApart first (area ∷ rest) (All-cons (AreApart first) area rest apart (all-tail (AreApart first) old rest from_first))
+          AllPairs-cons AreApart first (area ∷ rest)
+          (All-cons (AreApart first) area rest apart (all-tail (AreApart first) old rest from_first))
           (AllPairs-cons AreApart area rest away rest_apart);
     }
 
@@ -53,38 +56,51 @@ pub outstanding-buffers : {up : Bool} (driver : DriverState) (world : World) (ar
 outstanding-buffers driver world area ready away =
     let counts = driver.counts in
     let Away : ℕ → Type 0 = λ address. AreApart (area_at address (buffer_size world)) area in
-    let each : All Away (map (buffer_at counts) driver.buffers) = All-map Away (buffer_at counts) driver.buffers (all-copies (λ number. Away (buffer_at counts number)) driver.buffers (λ number some.
-    subst (λ (size : ℕ). AreApart (area_at (buffer_at counts number) size) area) (sym ready.size) (away number (outstanding-number driver number ready.driver_is some)))) in
-    all-unmapped Away (named_address world.memory) (outstanding (receive_ring world) driver.oldest_received) (subst (λ (list : List ℕ). All Away list) (sym ready.names) each)
+    let each : All Away (map (buffer_at counts) driver.buffers) = All-map Away (buffer_at counts) driver.buffers
+    (all-copies (λ number. Away (buffer_at counts number)) driver.buffers (λ number some.
+    subst (λ (size : ℕ). AreApart (area_at (buffer_at counts number) size) area) (sym ready.size)
+    (away number (outstanding-number driver number ready.driver_is some)))) in
+    all-unmapped Away (named_address world.memory) (outstanding (receive_ring world) driver.oldest_received)
+    (subst (λ (list : List ℕ). All Away list) (sym ready.names) each)
 
 -- A transmit side that is off.
 
-pub none-outstanding : (driver : DriverState) (world : World) → ReadyWith false driver world → outstanding (transmit_ring world) driver.oldest_sent ≡ []
-none-outstanding driver world ready = subst (λ (oldest : ℕ). outstanding (transmit_ring world) oldest ≡ []) ready.transmit.last (outstanding-none (transmit_ring world))
+pub none-outstanding : (driver : DriverState) (world : World) → ReadyWith false driver world
+    → outstanding (transmit_ring world) driver.oldest_sent ≡ []
+none-outstanding driver world ready = subst (λ (oldest : ℕ). outstanding (transmit_ring world) oldest ≡ []) ready.transmit.last
+    (outstanding-none (transmit_ring world))
 
 -- the areas that don't belong to the transmit ring
 abbrev pub received_areas : ℕ → World → List Area
-received_areas oldest world = map (named world.memory) (finished oldest world) ++ (work_areas world.memory world.adapter.receiver.work ++ offered_buffers world)
+received_areas oldest world = map (named world.memory) (finished oldest world)
+    ++ (work_areas world.memory world.adapter.receiver.work ++ offered_buffers world)
 
 -- With its head at its tail the ring adds none.
-pub areas-idle : (oldest : ℕ) (world : World) → (transmit_ring world).head ≡ (transmit_ring world).tail → frame_areas oldest world ≡ received_areas oldest world
-areas-idle oldest world idle = ap (λ (slots : List ℕ). map (data_of world.memory) slots ++ received_areas oldest world) (offered-none (transmit_ring world) idle)
+pub areas-idle : (oldest : ℕ) (world : World) → (transmit_ring world).head ≡ (transmit_ring world).tail
+    → frame_areas oldest world ≡ received_areas oldest world
+areas-idle oldest world idle = ap (λ (slots : List ℕ). map (data_of world.memory) slots ++ received_areas oldest world)
+    (offered-none (transmit_ring world) idle)
 
 -- The ring may be any that is apart from the others, with its head at its tail.
 ring-set : (driver : DriverState) (ring : RingRegisters) (world : World) → ReadyWith false driver world → ring.head ≡ ring.tail
     → LiesIn world.memory (ring_area (ring_of ring)).address (ring_area (ring_of ring)).size
-    → AreApart (ring_area (receive_ring world)) (ring_area (ring_of ring)) → All (AreApart (ring_area (ring_of ring))) (received_areas driver.oldest_received world)
+    → AreApart (ring_area (receive_ring world)) (ring_area (ring_of ring))
+    → All (AreApart (ring_area (ring_of ring))) (received_areas driver.oldest_received world)
     → TransmitRingSet driver.oldest_received world (with_transmit_ring ring world)
 ring-set driver ring world ready idle lies apart away =
     let o = driver.oldest_received in
     let r = ring_area (receive_ring world) in
-    let before = subst (λ (list : List Area). AreSeparate world.memory (r ∷ ring_area (transmit_ring world) ∷ list)) (areas-idle o world ready.transmit.idle) ready.sound.separate in
-    let after = separate-replaced world.memory r (ring_area (transmit_ring world)) (ring_area (ring_of ring)) (received_areas o world) before lies apart away in
+    let before = subst (λ (list : List Area). AreSeparate world.memory (r ∷ ring_area (transmit_ring world) ∷ list))
+    (areas-idle o world ready.transmit.idle) ready.sound.separate in
+    let after = separate-replaced world.memory r (ring_area (transmit_ring world)) (ring_area (ring_of ring))
+    (received_areas o world) before lies apart away in
     transmit_ring_can_be_set o driver.oldest_sent ring world ready.sound ready.transmit.empty idle
-    (subst (λ (list : List Area). AreSeparate world.memory (r ∷ ring_area (ring_of ring) ∷ list)) (sym (areas-idle o (with_transmit_ring ring world) idle)) after)
+    (subst (λ (list : List Area). AreSeparate world.memory (r ∷ ring_area (ring_of ring) ∷ list))
+    (sym (areas-idle o (with_transmit_ring ring world) idle)) after)
 
 -- The place of the transmit ring is apart from all that is received: this is seen where the ring itself has no slots, as after a reset.
-pub place-away : (driver : DriverState) (world : World) → ReadyWith false driver world → All (λ other. AreApart other (area_of driver.counts TransmitRing)) (received_areas driver.oldest_received world)
+pub place-away : (driver : DriverState) (world : World) → ReadyWith false driver world
+    → All (λ other. AreApart other (area_of driver.counts TransmitRing)) (received_areas driver.oldest_received world)
 place-away driver world ready =
     let o = driver.oldest_received in
     let area = area_of driver.counts TransmitRing in
@@ -92,13 +108,17 @@ place-away driver world ready =
     let set = ring-set driver new_ring world ready refl (omega arith) (inr (omega arith)) (λ k d below. inl (omega arith)) in
     let Apart : Area → Type 0 = λ other. AreApart other area in
     let spare : IsSpare o 0 bare area = record {
-      receive_slots = subst Apart (sym (known-area _ _ _ _ ready.receive)) (places-apart driver.counts ReceiveRing TransmitRing tt tt (λ same. absurd (cc)));
+      receive_slots = subst Apart (sym (known-area _ _ _ _ ready.receive))
+          (places-apart driver.counts ReceiveRing TransmitRing tt tt (λ same. absurd (cc)));
       transmit_slots = inl (omega arith);
-      buffers = outstanding-buffers driver world area ready (λ number known. places-apart driver.counts (ReceiveBuffer number) TransmitRing known tt (λ same. absurd (cc)));
-      sources = subst (λ (slots : List ℕ). All (λ slot. AreApart (data_of world.memory slot) area) slots) (sym set.none_outstanding) (all-none _);
+      buffers = outstanding-buffers driver world area ready
+          (λ number known. places-apart driver.counts (ReceiveBuffer number) TransmitRing known tt (λ same. absurd (cc)));
+      sources = subst (λ (slots : List ℕ). All (λ slot. AreApart (data_of world.memory slot) area) slots) (sym set.none_outstanding)
+          (all-none _);
     } in
     let all = spare-apart o 0 bare area set.sound (set.fits ready.fit) spare in
-    let behind = all-tail Apart (ring_area (transmit_ring bare)) (frame_areas o bare) (all-tail Apart (ring_area (receive_ring bare)) (ring_area (transmit_ring bare) ∷ frame_areas o bare) all) in
+    let behind = all-tail Apart (ring_area (transmit_ring bare)) (frame_areas o bare)
+    (all-tail Apart (ring_area (receive_ring bare)) (ring_area (transmit_ring bare) ∷ frame_areas o bare) all) in
     subst (λ (list : List Area). All Apart list) (areas-idle o bare refl) behind
 
 pub transmit_ring_is_written : TransmitRingIsWritten
@@ -109,12 +129,20 @@ transmit_ring_is_written driver ring world ready idle inside =
     let place = area_of counts TransmitRing in
     let area = ring_area (ring_of ring) in
     let ends = place-below_size counts TransmitRing tt in
-    let received : AreApart (ring_area (receive_ring world)) place = subst (λ (other : Area). AreApart other place) (sym (known-area _ _ _ _ ready.receive)) (places-apart counts ReceiveRing TransmitRing tt tt (λ same. absurd (cc))) in
-    let away = all-weaker (λ other. AreApart other place) (AreApart area) (received_areas o world) (λ other apart. apart-inside area place other inside (apart-sym other place apart)) (place-away driver world ready) in
-    let set = ring-set driver ring world ready idle (lies-inside world.memory area place inside (omega (arith, ends, ready.lies))) (inside-apart (ring_area (receive_ring world)) area place inside received) away in
+    let received : AreApart (ring_area (receive_ring world)) place = subst (λ (other : Area). AreApart other place)
+    (sym (known-area _ _ _ _ ready.receive)) (places-apart counts ReceiveRing TransmitRing tt tt (λ same. absurd (cc))) in
+    let away = all-weaker (λ other. AreApart other place) (AreApart area) (received_areas o world)
+    (λ other apart. apart-inside area place other inside (apart-sym other place apart)) (place-away driver world ready) in
+    let set = ring-set driver ring world ready idle (lies-inside world.memory area place inside (omega (arith, ends, ready.lies)))
+    (inside-apart (ring_area (receive_ring world)) area place inside received) away in
     goes-rests driver world (record driver { oldest_sent = ring.tail }) b
     (record {
-      driver_is = record { oldest_slot = ready.driver_is.oldest_slot; room = ready.driver_is.room; one_owner = ready.driver_is.one_owner; addresses = ready.driver_is.addresses };
+      driver_is = record {
+        oldest_slot = ready.driver_is.oldest_slot;
+        room = ready.driver_is.room;
+        one_owner = ready.driver_is.one_owner;
+        addresses = ready.driver_is.addresses;
+      };
       sound = set.sound;
       runs = set.runs ready.runs;
       fit = set.fits ready.fit;
@@ -122,7 +150,14 @@ transmit_ring_is_written driver ring world ready idle inside =
       lies = ready.lies;
       size = ready.size;
       receive = ready.receive;
-      transmit = record { ends = omega (arith, inside.to); idle = idle; last = refl; nothing = ready.transmit.nothing; empty = ready.transmit.empty };
+      transmit = record {
+        ends = omega (arith, inside.to);
+        idle = idle;
+        last = refl;
+        nothing = ready.transmit.nothing;
+        empty =
+            ready.transmit.empty;
+      };
       names = ready.names;
       stored = ready.stored;
       stand = ready.stand;
@@ -131,10 +166,18 @@ transmit_ring_is_written driver ring world ready idle inside =
       counts = refl;
       missed = refl;
       exact = refl;
-      to_send = set.none_to_send ∙ sym (none-to_send world.memory (transmit_ring world) world.adapter.transmitter.buffer ready.transmit.empty ready.transmit.idle);
+      to_send = set.none_to_send
+          ∙ sym (none-to_send world.memory (transmit_ring world) world.adapter.transmitter.buffer ready.transmit.empty ready.transmit.idle);
       held = set.held;
       finished_same = set.finished_same;
-      frees = omega (arith, ready.transmit.nothing, ap length (ap (take_while (is_done world.memory)) (none-outstanding driver world ready)), ap length (ap (take_while (is_done world.memory)) set.none_outstanding));
+      frees = omega (
+        arith,
+        ready.transmit.nothing,
+        ap length
+            (ap (take_while (is_done world.memory)) (none-outstanding driver world ready)),
+        ap length
+            (ap (take_while (is_done world.memory)) set.none_outstanding),
+      );
       mask = refl;
       recorded = refl;
       missed_packets = refl;

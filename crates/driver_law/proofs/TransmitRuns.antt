@@ -1,5 +1,6 @@
 -- The steps of the transmit side over a bus.
-use Rattle.std.proofs.Common.{true, false, ◌≡◌, ◌≤◌, ◌<◌, ◌+◌, ◌%◌, ◌++◌, ◌∷◌, [], ℕ, List, length, slice_index, inr, sym, ap, subst, ◌∙◌, append_assoc, arith}
+use Rattle.std.proofs.Common.{true, false, ◌≡◌, ◌≤◌, ◌<◌, ◌+◌, ◌%◌, ◌++◌, ◌∷◌, [], ℕ, List, length, slice_index, inr, sym, ap, subst, ◌∙◌}
+use Rattle.std.proofs.Common.{append_assoc, arith}
 use Rattle.std.proofs.lemmas.List.Elements.{All-append, All-cons, All-map}
 use Rattle.registers.specs.Bits.{is_set}
 use Rattle.dma_memory.specs.Areas.{IsInside, area_at}
@@ -21,32 +22,39 @@ use Rattle.bus.specs.declared.event.Access.TheVariants.{Loads, Stores, Writes}
 use Rattle.driver_law.specs.DriverState.{DriverState, transmit_slot, transmit_tail}
 use Rattle.driver_law.specs.Goes.{Goes, RanBy}
 use Rattle.driver_law.specs.Ready.{Ready}
-use Rattle.driver_law.specs.Transmit.{FrameStands, IsQuiet, SendsEndWithTail, TailIsMoved, tail_buffer, tail_slot, transmit_loads, send_accesses, transmit_buffer, whole_descriptor, with_freed}
+use Rattle.driver_law.specs.Transmit.{FrameStands, IsQuiet, SendsEndWithTail, TailIsMoved, tail_buffer, tail_slot, transmit_loads}
+use Rattle.driver_law.specs.Transmit.{send_accesses, transmit_buffer, whole_descriptor, with_freed}
 use Rattle.driver_law.proofs.Accesses.{load-sets, ran_by-join, store-sets, write-sets}
 use Rattle.driver_law.proofs.Buffers.{front-same}
 use Rattle.driver_law.proofs.FramesToSend.{frame_is_offered, length-whole, none_is_written_back, slot_is_freed}
 use Rattle.driver_law.proofs.RunsWith.{RanWith, run-with}
 use Rattle.driver_law.proofs.Steps.{goes-stays}
-use Rattle.driver_law.proofs.TransmitSlots.{data_is_stored, descriptor_is_stored, next_slot_is_own, own-buffer, own-descriptor, slots_keep_bytes}
+use Rattle.driver_law.proofs.TransmitSlots.{data_is_stored, descriptor_is_stored, next_slot_is_own, own-buffer, own-descriptor}
+use Rattle.driver_law.proofs.TransmitSlots.{slots_keep_bytes}
 
 -- A frame is sent.
 
 abbrev HasBytes : DriverState → List ℕ → World → Type 0
 HasBytes d frame world = bytes_at world.memory (transmit_buffer d.counts (transmit_tail d)) (length frame) ≡ frame
 
-bytes-stay : (d : DriverState) (frame : List ℕ) → length frame ≤ 1518 → (a b : World) (past : Past) → Ready d a → Happens a b past → HasBytes d frame a → HasBytes d frame b
+bytes-stay : (d : DriverState) (frame : List ℕ) → length frame ≤ 1518 → (a b : World) (past : Past) → Ready d a → Happens a b past
+    → HasBytes d frame a → HasBytes d frame b
 bytes-stay d frame short a b past ready happens has =
     let same = slots_keep_bytes d (transmit_tail d) a b past ready (next_slot_is_own d a ready) happens in
-    front-same a.memory b.memory (transmit_buffer d.counts (transmit_tail d)) (length frame) 2048 (omega (arith, short)) same.data_same ∙ has
+    front-same a.memory b.memory (transmit_buffer d.counts (transmit_tail d)) (length frame) 2048 (omega (arith, short)) same.data_same
+    ∙ has
 
-stands-stay : (d : DriverState) (frame : List ℕ) → length frame ≤ 1518 → (a b : World) (past : Past) → Ready d a → Happens a b past → FrameStands d frame a → FrameStands d frame b
+stands-stay : (d : DriverState) (frame : List ℕ) → length frame ≤ 1518 → (a b : World) (past : Past) → Ready d a → Happens a b past
+    → FrameStands d frame a → FrameStands d frame b
 stands-stay d frame short a b past ready happens stands =
     let same = slots_keep_bytes d (transmit_tail d) a b past ready (next_slot_is_own d a ready) happens in
     record { bytes = bytes-stay d frame short a b past ready happens stands.bytes; descriptor = same.descriptor_same ∙ stands.descriptor }
 
 -- The descriptor's store leaves the frame's bytes.
 stands-stored : (d : DriverState) (frame : List ℕ) (world : World) → Ready d world → length frame ≤ 1518 → HasBytes d frame world
-    → FrameStands d frame (world_after_store (transmit_slot d.counts (transmit_tail d)) (whole_descriptor (transmit_buffer d.counts (transmit_tail d)) (length frame)) world)
+    → FrameStands d frame
+    (world_after_store (transmit_slot d.counts (transmit_tail d))
+    (whole_descriptor (transmit_buffer d.counts (transmit_tail d)) (length frame)) world)
 stands-stored d frame world ready short has =
     let counts = d.counts in
     let slot = transmit_tail d in
@@ -57,12 +65,16 @@ stands-stored d frame world ready short has =
     let long = length-whole start (length frame) in
     let own = next_slot_is_own d world ready in
     let below = (own-buffer d slot world ready own).below in
-    let lies : LiesIn world.memory at (length bytes) = subst (LiesIn world.memory at) (sym long) (own-descriptor d slot world ready own).lies in
-    let in_ring : IsInside (area_at at (length bytes)) (area_of counts TransmitRing) = record { from = omega arith; to = omega (arith, long, below) } in
-    let in_buffer : IsInside (area_at start (length frame)) (area_of counts (TransmitBuffer slot)) = record { from = omega arith; to = omega (arith, short) } in
+    let lies : LiesIn world.memory at (length bytes) = subst (LiesIn world.memory at) (sym long)
+    (own-descriptor d slot world ready own).lies in
+    let in_ring : IsInside (area_at at (length bytes)) (area_of counts TransmitRing) = record
+    { from = omega arith; to = omega (arith, long, below) } in
+    let in_buffer : IsInside (area_at start (length frame)) (area_of counts (TransmitBuffer slot)) = record
+    { from = omega arith; to = omega (arith, short) } in
     let apart =
     apart-inside (area_at at (length bytes)) (area_of counts TransmitRing) (area_at start (length frame)) in_ring
-    (inside-apart (area_of counts TransmitRing) (area_at start (length frame)) (area_of counts (TransmitBuffer slot)) in_buffer (places-apart counts TransmitRing (TransmitBuffer slot) tt below (λ same. absurd (cc)))) in
+    (inside-apart (area_of counts TransmitRing) (area_at start (length frame)) (area_of counts (TransmitBuffer slot)) in_buffer
+    (places-apart counts TransmitRing (TransmitBuffer slot) tt below (λ same. absurd (cc)))) in
     record {
       bytes = bytes_at-elsewhere world.memory bytes at start (length frame) lies apart ∙ has;
       descriptor = subst (λ (size : ℕ). bytes_at b.memory at size ≡ bytes) long (bytes_at-stored world.memory bytes at lies);
@@ -73,72 +85,121 @@ tail_is_moved d world ready =
     let ring = world.adapter.transmit_ring in
     let up = ready.transmit in
     let below = (own-buffer d (transmit_tail d) world ready (next_slot_is_own d world ready)).below in
-    let next : (transmit_tail d + 1) % d.counts.tx ≡ next_of (transmit_ring world) ring.tail = ap (λ (tail : ℕ). (tail + 1) % d.counts.tx) (sym up.knows.last) ∙ ap (λ (count : ℕ). (ring.tail + 1) % count) (sym up.knows.slots) in
-    transmit_tail-written ((transmit_tail d + 1) % d.counts.tx) world (omega (arith, up.knows.slots, next-below d.counts.tx (transmit_tail d) below))
-    ∙ ap (λ (tail : ℕ). let after : World = record world { adapter = record world.adapter { transmit_ring = record world.adapter.transmit_ring { tail = tail } } } in after) next
+    let next : (transmit_tail d + 1) % d.counts.tx
+    ≡ next_of (transmit_ring world) ring.tail = ap (λ (tail : ℕ). (tail + 1) % d.counts.tx) (sym up.knows.last)
+    ∙ ap (λ (count : ℕ). (ring.tail + 1) % count) (sym up.knows.slots) in
+    transmit_tail-written ((transmit_tail d + 1) % d.counts.tx) world
+    (omega (arith, up.knows.slots, next-below d.counts.tx (transmit_tail d) below))
+    ∙ ap (λ (tail : ℕ). let after : World = record world
+    { adapter = record world.adapter { transmit_ring = record world.adapter.transmit_ring { tail = tail } } } in after) next
 
-pub run-sends : {B : Type 0} (world : B → World) (happened : B → B → Past → Type 0) (lively : B → Type 0) → ((a b c : B) (s t : Past) → happened a b s → happened b c t → happened a c (joined s t))
+pub run-sends : {B : Type 0} (world : B → World) (happened : B → B → Past → Type 0) (lively : B → Type 0)
+    → ((a b c : B) (s t : Past) → happened a b s → happened b c t → happened a c (joined s t))
     → (old one two new : B) (d : DriverState) (frame : List ℕ) → d.sending + 1 < d.counts.tx → 14 ≤ length frame → length frame ≤ 1518
-    → (buffer slot next : ℕ) (bytes : List ℕ) → buffer ≡ transmit_buffer d.counts (transmit_tail d) → slot ≡ transmit_slot d.counts (transmit_tail d)
+    → (buffer slot next : ℕ) (bytes : List ℕ) → buffer ≡ transmit_buffer d.counts (transmit_tail d)
+    → slot ≡ transmit_slot d.counts (transmit_tail d)
     → bytes ≡ whole_descriptor (transmit_buffer d.counts (transmit_tail d)) (length frame) → next ≡ (transmit_tail d + 1) % d.counts.tx
     → Acts world happened lively old one (Stores buffer frame) (λ before after. after ≡ world_after_store buffer frame before)
     → Acts world happened lively one two (Stores slot bytes) (λ before after. after ≡ world_after_store slot bytes before)
     → Acts world happened lively two new (Writes 0x3818 next) (λ before after. after ≡ world_after_write 0x3818 next before)
-    → Ready d (world old) → RanBy true world happened (send_accesses d frame) old new d (record d { sending = d.sending + 1 }) [] (padded frame ∷ [])
-run-sends {B} world happened lively joins old one two new d frame room least short buffer slot next bytes buffer_is slot_is bytes_is next_is stores_data stores_descriptor writes ready =
+    → Ready d (world old)
+    → RanBy true world happened (send_accesses d frame) old new d (record d { sending = d.sending + 1 }) [] (padded frame ∷ [])
+run-sends {B} world happened lively joins old one two new d frame room least short buffer slot next bytes buffer_is slot_is bytes_is next_is
+    stores_data stores_descriptor writes ready =
     let at = transmit_slot d.counts (transmit_tail d) in
     let start = transmit_buffer d.counts (transmit_tail d) in
     let descriptor = whole_descriptor start (length frame) in
     let tail = (transmit_tail d + 1) % d.counts.tx in
     let sent : DriverState = record d { sending = d.sending + 1 } in
-    let Stored : B → B → ℕ → List ℕ → Type 0 = λ a b address list. Acts world happened lively a b (Stores address list) (λ before after. after ≡ world_after_store address list before) in
-    let Written : ℕ → Type 0 = λ value. Acts world happened lively two new (Writes 0x3818 value) (λ before after. after ≡ world_after_write 0x3818 value before) in
+    let Stored : B → B → ℕ → List ℕ
+    → Type 0 = λ a b address list. Acts world happened lively a b (Stores address list)
+    (λ before after. after ≡ world_after_store address list before) in
+    let Written : ℕ → Type 0 = λ value. Acts world happened lively two new (Writes 0x3818 value)
+    (λ before after. after ≡ world_after_write 0x3818 value before) in
     let first : Stored old one start frame = subst (λ (address : ℕ). Stored old one address frame) buffer_is stores_data in
-    let second : Stored one two at descriptor = subst (Stored one two at) bytes_is (subst (λ (address : ℕ). Stored one two address bytes) slot_is stores_descriptor) in
+    let second : Stored one two at descriptor = subst (Stored one two at) bytes_is
+    (subst (λ (address : ℕ). Stored one two address bytes) slot_is stores_descriptor) in
     let third : Written tail = subst Written next_is writes in
-    let stored_data : RanWith true world happened (Stores start frame ∷ []) old one d d [] [] (HasBytes d frame) = run-with world happened lively old one (Stores start frame) (λ before after. after ≡ world_after_store start frame before) d d [] [] (λ world. Unit {0}) (HasBytes d frame) first (store-sets start frame (world one)) ready tt (λ a b past set happens u. tt)
+    let stored_data : RanWith true world happened (Stores start frame ∷ []) old one d d [] []
+    (HasBytes d frame) = run-with world happened lively old one (Stores start frame)
+    (λ before after. after ≡ world_after_store start frame before) d d [] [] (λ world. Unit {0}) (HasBytes d frame) first
+    (store-sets start frame (world one)) ready tt (λ a b past set happens u. tt)
     (λ middle set u stored.
     let own = next_slot_is_own d middle set in
     let lies : LiesIn middle.memory start (length frame) = omega (arith, (own-buffer d (transmit_tail d) middle set own).lies, short) in (
-      subst (λ (after : World). Goes d middle d after [] [] nothing) (sym stored) (data_is_stored d (transmit_tail d) frame middle set own (omega (arith, short))),
+      subst (λ (after : World). Goes d middle d after [] [] nothing) (sym stored)
+          (data_is_stored d (transmit_tail d) frame middle set own (omega (arith, short))),
       subst (HasBytes d frame) (sym stored) (bytes_at-stored middle.memory frame start lies),
     )) in
-    let named : RanWith true world happened (Stores at descriptor ∷ []) one two d d [] [] (FrameStands d frame) = run-with world happened lively one two (Stores at descriptor) (λ before after. after ≡ world_after_store at descriptor before) d d [] [] (HasBytes d frame) (FrameStands d frame) second (store-sets at descriptor (world two)) stored_data.ran.goes.flows.ready stored_data.behind (bytes-stay d frame short)
+    let named : RanWith true world happened (Stores at descriptor ∷ []) one two d d [] []
+    (FrameStands d frame) = run-with world happened lively one two (Stores at descriptor)
+    (λ before after. after ≡ world_after_store at descriptor before) d d [] [] (HasBytes d frame) (FrameStands d frame) second
+    (store-sets at descriptor (world two)) stored_data.ran.goes.flows.ready stored_data.behind (bytes-stay d frame short)
     (λ middle set has stored. (
-      subst (λ (after : World). Goes d middle d after [] [] nothing) (sym stored) (descriptor_is_stored d (transmit_tail d) descriptor middle set (next_slot_is_own d middle set) (length-whole start (length frame))),
+      subst (λ (after : World). Goes d middle d after [] [] nothing) (sym stored)
+          (descriptor_is_stored d (transmit_tail d) descriptor middle set (next_slot_is_own d middle set)
+          (length-whole start (length frame))),
       subst (FrameStands d frame) (sym stored) (stands-stored d frame middle set short has),
     )) in
-    let offered : RanWith true world happened (Writes 0x3818 tail ∷ []) two new d sent [] (padded frame ∷ []) (λ world. Unit {0}) = run-with world happened lively two new (Writes 0x3818 tail) (λ before after. after ≡ world_after_write 0x3818 tail before) d sent [] (padded frame ∷ []) (FrameStands d frame) (λ world. Unit {0}) third (write-sets 0x3818 tail (world new)) named.ran.goes.flows.ready named.behind (stands-stay d frame short)
-    (λ middle set stands written.
-    (subst (λ (after : World). Goes d middle sent after [] (padded frame ∷ []) nothing) (sym (written ∙ tail_is_moved d middle set)) (frame_is_offered d frame middle set room least short stands), tt)) in
-    ran_by-join world happened joins (Stores start frame ∷ Stores at descriptor ∷ []) (Writes 0x3818 tail ∷ []) old two new d d sent [] [] [] (padded frame ∷ [])
-    (ran_by-join world happened joins (Stores start frame ∷ []) (Stores at descriptor ∷ []) old one two d d d [] [] [] [] stored_data.ran named.ran) offered.ran
+    let offered : RanWith true world happened (Writes 0x3818 tail ∷ []) two new d sent [] (padded frame ∷ [])
+    (λ world. Unit {0}) = run-with world happened lively two new (Writes 0x3818 tail)
+    (λ before after. after ≡ world_after_write 0x3818 tail before) d sent [] (padded frame ∷ []) (FrameStands d frame)
+    (λ world. Unit {0}) third (write-sets 0x3818 tail (world new)) named.ran.goes.flows.ready named.behind
+    (stands-stay d frame short)
+    (λ middle set stands written. (
+      subst (λ (after : World). Goes d middle sent after [] (padded frame ∷ []) nothing) (sym (written ∙ tail_is_moved d middle set))
+          (frame_is_offered d frame middle set room least short stands),
+      tt,
+    )) in
+    ran_by-join world happened joins (Stores start frame ∷ Stores at descriptor ∷ [])
+    (Writes 0x3818 tail ∷ []) old two new d d sent [] [] [] (padded frame ∷ [])
+    (ran_by-join world happened joins (Stores start frame ∷ [])
+    (Stores at descriptor ∷ []) old one two d d d [] [] [] [] stored_data.ran named.ran) offered.ran
 
 -- The oldest slot's descriptor is loaded.
 
-abbrev pub LoadsOldest : {B : Type 0} (world : B → World) (happened : B → B → Past → Type 0) (lively : B → Type 0) (old new : B) (d : DriverState) (bytes : List ℕ) → Type 0
+abbrev pub LoadsOldest : {B : Type 0} (world : B → World) (happened : B → B → Past → Type 0) (lively : B
+    → Type 0) (old new : B) (d : DriverState) (bytes : List ℕ) → Type 0
 LoadsOldest world happened lively old new d bytes =
     Acts world happened lively old new (Loads (transmit_slot d.counts d.oldest_sent) 16)
     (λ before after. (bytes ≡ bytes_at before.memory (transmit_slot d.counts d.oldest_sent) 16) × (after ≡ before))
 
 -- It is done: the slot is freed.
-pub run-frees : {B : Type 0} (world : B → World) (happened : B → B → Past → Type 0) (lively : B → Type 0) (old new : B) (d : DriverState) (bytes : List ℕ) → 0 < d.sending → is_set (slice_index bytes 12) 0 ≡ true
+pub run-frees : {B : Type 0} (world : B → World) (happened : B → B → Past → Type 0) (lively : B
+    → Type 0) (old new : B) (d : DriverState) (bytes : List ℕ) → 0 < d.sending → is_set (slice_index bytes 12) 0 ≡ true
     → LoadsOldest world happened lively old new d bytes → Ready d (world old)
     → RanBy true world happened (Loads (transmit_slot d.counts d.oldest_sent) 16 ∷ []) old new d (with_freed d) [] []
 run-frees world happened lively old new d bytes some done acts ready =
-    (run-with world happened lively old new (Loads (transmit_slot d.counts d.oldest_sent) 16) (λ before after. (bytes ≡ bytes_at before.memory (transmit_slot d.counts d.oldest_sent) 16) × (after ≡ before)) d (with_freed d) [] [] (λ world. Unit {0}) (λ world. Unit {0}) acts (load-sets (transmit_slot d.counts d.oldest_sent) 16 (λ before. bytes ≡ bytes_at before.memory (transmit_slot d.counts d.oldest_sent) 16) (world new)) ready tt (λ a b past set happens u. tt)
+    (run-with world happened lively old new (Loads (transmit_slot d.counts d.oldest_sent) 16)
+    (λ before after. (bytes ≡ bytes_at before.memory (transmit_slot d.counts d.oldest_sent) 16)
+    × (after ≡ before)) d (with_freed d) [] [] (λ world. Unit {0}) (λ world. Unit {0}) acts
+    (load-sets (transmit_slot d.counts d.oldest_sent) 16
+    (λ before. bytes ≡ bytes_at before.memory (transmit_slot d.counts d.oldest_sent) 16) (world new)) ready tt
+    (λ a b past set happens u. tt)
     (λ middle set u loaded.
-    let is : is_done middle.memory (transmit_slot d.counts d.oldest_sent) ≡ true = ap (λ (list : List ℕ). is_set (slice_index list 12) 0) (sym loaded.0) ∙ done in
-    (subst (λ (after : World). Goes d middle (with_freed d) after [] [] nothing) (sym loaded.1) (slot_is_freed d middle set some is), tt))).ran
+    let is : is_done middle.memory (transmit_slot d.counts d.oldest_sent)
+    ≡ true = ap (λ (list : List ℕ). is_set (slice_index list 12) 0) (sym loaded.0) ∙ done in (
+      subst (λ (after : World). Goes d middle (with_freed d) after [] [] nothing) (sym loaded.1)
+          (slot_is_freed d middle set some is),
+      tt,
+    ))).ran
 
 -- It isn't: none is written back.
-pub run-waits : {B : Type 0} (world : B → World) (happened : B → B → Past → Type 0) (lively : B → Type 0) (old new : B) (d : DriverState) (bytes : List ℕ) → is_set (slice_index bytes 12) 0 ≡ false
+pub run-waits : {B : Type 0} (world : B → World) (happened : B → B → Past → Type 0) (lively : B
+    → Type 0) (old new : B) (d : DriverState) (bytes : List ℕ) → is_set (slice_index bytes 12) 0 ≡ false
     → LoadsOldest world happened lively old new d bytes → Ready d (world old)
-    → RanWith true world happened (Loads (transmit_slot d.counts d.oldest_sent) 16 ∷ []) old new d d [] [] (λ world. written_back d.oldest_sent world ≡ [])
+    → RanWith true world happened (Loads (transmit_slot d.counts d.oldest_sent) 16 ∷ []) old new d d [] []
+    (λ world. written_back d.oldest_sent world ≡ [])
 run-waits world happened lively old new d bytes clear acts ready =
-    run-with world happened lively old new (Loads (transmit_slot d.counts d.oldest_sent) 16) (λ before after. (bytes ≡ bytes_at before.memory (transmit_slot d.counts d.oldest_sent) 16) × (after ≡ before)) d d [] [] (λ world. Unit {0}) (λ world. written_back d.oldest_sent world ≡ []) acts (load-sets (transmit_slot d.counts d.oldest_sent) 16 (λ before. bytes ≡ bytes_at before.memory (transmit_slot d.counts d.oldest_sent) 16) (world new)) ready tt (λ a b past set happens u. tt)
+    run-with world happened lively old new (Loads (transmit_slot d.counts d.oldest_sent) 16)
+    (λ before after. (bytes ≡ bytes_at before.memory (transmit_slot d.counts d.oldest_sent) 16)
+    × (after ≡ before)) d d [] [] (λ world. Unit {0}) (λ world. written_back d.oldest_sent world ≡ []) acts
+    (load-sets (transmit_slot d.counts d.oldest_sent) 16
+    (λ before. bytes ≡ bytes_at before.memory (transmit_slot d.counts d.oldest_sent) 16) (world new)) ready tt
+    (λ a b past set happens u. tt)
     (λ middle set u loaded.
-    let is : is_done middle.memory (transmit_slot d.counts d.oldest_sent) ≡ false = ap (λ (list : List ℕ). is_set (slice_index list 12) 0) (sym loaded.0) ∙ clear in (
+    let is : is_done middle.memory (transmit_slot d.counts d.oldest_sent)
+    ≡ false = ap (λ (list : List ℕ). is_set (slice_index list 12) 0) (sym loaded.0) ∙ clear in (
       subst (λ (after : World). Goes d middle d after [] [] nothing) (sym loaded.1) (goes-stays d middle set),
       subst (λ (after : World). written_back d.oldest_sent after ≡ []) (sym loaded.1) (none_is_written_back d middle set (inr is)),
     ))
@@ -154,7 +215,9 @@ sends_end_with_tail d frame k =
     record {
       quiet = loads ++ stores;
       all =
-          All-append IsQuiet loads stores (All-map IsQuiet (λ slot. Loads (transmit_slot d.counts slot) 16) (slots_from d.counts.tx d.oldest_sent k) (λ i index below. tt))
+          All-append IsQuiet loads stores
+          (All-map IsQuiet (λ slot. Loads (transmit_slot d.counts slot) 16) (slots_from d.counts.tx d.oldest_sent k)
+          (λ i index below. tt))
           (All-cons IsQuiet data_store (descriptor_store ∷ []) tt (All-cons IsQuiet descriptor_store [] tt (all-none IsQuiet)));
       whole = sym (append_assoc loads stores (Writes 0x3818 ((transmit_tail d + 1) % d.counts.tx) ∷ []));
     }

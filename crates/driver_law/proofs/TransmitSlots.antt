@@ -33,45 +33,55 @@ use Rattle.driver_law.proofs.TransmitRing.{outstanding-buffers}
 pub next_slot_is_own : NextSlotIsOwn
 next_slot_is_own driver world ready =
     let up = ready.transmit in
-    own-behind (transmit_ring world) (16 * driver.counts.rx) driver.counts.tx driver.oldest_sent driver.sending 0 up.knows up.oldest_slot (omega (arith, up.room))
+    own-behind (transmit_ring world) (16 * driver.counts.rx) driver.counts.tx driver.oldest_sent driver.sending 0 up.knows up.oldest_slot
+    (omega (arith, up.room))
 
 -- Its descriptor.
 
-pub own-descriptor : (driver : DriverState) (slot : ℕ) (world : World) → Ready driver world → IsOwnSlot (transmit_ring world) driver.oldest_sent slot
+pub own-descriptor : (driver : DriverState) (slot : ℕ) (world : World) → Ready driver world
+    → IsOwnSlot (transmit_ring world) driver.oldest_sent slot
     → CanBeWritten driver.oldest_received driver.oldest_sent world (transmit_slot driver.counts slot)
 own-descriptor driver slot world ready own =
     let at : address_of (transmit_ring world) slot ≡ transmit_slot driver.counts slot = omega (arith, ready.transmit.knows.begins) in
-    subst (CanBeWritten driver.oldest_received driver.oldest_sent world) at (own_transmit_slots_can_be_written driver.oldest_received driver.oldest_sent slot world ready.sound own)
+    subst (CanBeWritten driver.oldest_received driver.oldest_sent world) at
+    (own_transmit_slots_can_be_written driver.oldest_received driver.oldest_sent slot world ready.sound own)
 
 -- Its buffer.
 
-below-count : (driver : DriverState) (slot : ℕ) (world : World) → Ready driver world → IsOwnSlot (transmit_ring world) driver.oldest_sent slot → slot < driver.counts.tx
+below-count : (driver : DriverState) (slot : ℕ) (world : World) → Ready driver world
+    → IsOwnSlot (transmit_ring world) driver.oldest_sent slot → slot < driver.counts.tx
 below-count driver slot world ready own = omega (arith, own.below, ready.transmit.knows.slots)
 
 -- It is apart from the data of each outstanding slot,
-sources-apart : (driver : DriverState) (slot : ℕ) (world : World) → Ready driver world → IsOwnSlot (transmit_ring world) driver.oldest_sent slot
-    → All (λ other. AreApart (data_of world.memory other) (area_of driver.counts (TransmitBuffer slot))) (outstanding (transmit_ring world) driver.oldest_sent)
+sources-apart : (driver : DriverState) (slot : ℕ) (world : World) → Ready driver world
+    → IsOwnSlot (transmit_ring world) driver.oldest_sent slot
+    → All (λ other. AreApart (data_of world.memory other) (area_of driver.counts (TransmitBuffer slot)))
+    (outstanding (transmit_ring world) driver.oldest_sent)
 sources-apart driver slot world ready own =
     let counts = driver.counts in
     let up = ready.transmit in
     let area = area_of counts (TransmitBuffer slot) in
     let slots = slots_from counts.tx driver.oldest_sent driver.sending in
-    let known = outstanding-known (transmit_ring world) (16 * counts.rx) counts.tx driver.oldest_sent driver.sending up.knows up.oldest_slot up.room in
+    let known = outstanding-known (transmit_ring world) (16 * counts.rx) counts.tx driver.oldest_sent driver.sending up.knows up.oldest_slot
+    up.room in
     let Other : ℕ → Type 0 = λ address. address ≢ address_of (transmit_ring world) slot in
-    let others : All (λ index. Other (transmit_slot counts index)) slots = all-unmapped Other (transmit_slot counts) slots (subst (λ (list : List ℕ). All Other list) known own.apart) in
+    let others : All (λ index. Other (transmit_slot counts index)) slots = all-unmapped Other (transmit_slot counts) slots
+    (subst (λ (list : List ℕ). All Other list) known own.apart) in
     let Apart : ℕ → Type 0 = λ address. AreApart (data_of world.memory address) area in
     subst (λ (list : List ℕ). All Apart list) (sym known)
     (All-map Apart (transmit_slot counts) slots (λ k index below.
     let other = get_or slots k index in
     apart-inside (data_of world.memory (transmit_slot counts other)) (area_of counts (TransmitBuffer other)) area (up.sources k index below)
-    (places-apart counts (TransmitBuffer other) (TransmitBuffer slot) (slots-below counts.tx driver.oldest_sent driver.sending up.oldest_slot k index below) (below-count driver slot world ready own)
+    (places-apart counts (TransmitBuffer other) (TransmitBuffer slot)
+    (slots-below counts.tx driver.oldest_sent driver.sending up.oldest_slot k index below) (below-count driver slot world ready own)
     (λ same. others k index below (omega (arith, up.knows.begins, number other slot same))))))
   where
     number : (a b : ℕ) → TransmitBuffer a ≡ TransmitBuffer b → a ≡ b
     number a b same = cc
 
 -- so no outstanding slot uses it.
-buffer-spare : (driver : DriverState) (slot : ℕ) (world : World) → Ready driver world → IsOwnSlot (transmit_ring world) driver.oldest_sent slot
+buffer-spare : (driver : DriverState) (slot : ℕ) (world : World) → Ready driver world
+    → IsOwnSlot (transmit_ring world) driver.oldest_sent slot
     → IsSpare driver.oldest_received driver.oldest_sent world (area_of driver.counts (TransmitBuffer slot))
 buffer-spare driver slot world ready own =
     let counts = driver.counts in
@@ -79,9 +89,12 @@ buffer-spare driver slot world ready own =
     let below = below-count driver slot world ready own in
     let Apart : Area → Type 0 = λ other. AreApart other area in
     record {
-      receive_slots = subst Apart (sym (known-area _ _ _ _ ready.receive)) (places-apart counts ReceiveRing (TransmitBuffer slot) tt below (λ same. absurd (cc)));
-      transmit_slots = subst Apart (sym (known-area _ _ _ _ ready.transmit.knows)) (places-apart counts TransmitRing (TransmitBuffer slot) tt below (λ same. absurd (cc)));
-      buffers = outstanding-buffers driver world area ready (λ number known. places-apart counts (ReceiveBuffer number) (TransmitBuffer slot) known below (λ same. absurd (cc)));
+      receive_slots = subst Apart (sym (known-area _ _ _ _ ready.receive))
+          (places-apart counts ReceiveRing (TransmitBuffer slot) tt below (λ same. absurd (cc)));
+      transmit_slots = subst Apart (sym (known-area _ _ _ _ ready.transmit.knows))
+          (places-apart counts TransmitRing (TransmitBuffer slot) tt below (λ same. absurd (cc)));
+      buffers = outstanding-buffers driver world area ready
+          (λ number known. places-apart counts (ReceiveBuffer number) (TransmitBuffer slot) known below (λ same. absurd (cc)));
       sources = sources-apart driver slot world ready own;
     }
 
@@ -92,7 +105,8 @@ pub record OwnBuffer (driver : DriverState) (slot : ℕ) (world : World) : Type 
   pub apart : All (λ other. AreApart other (area_of driver.counts (TransmitBuffer slot))) (areas driver.oldest_received world)
   pub foreign : IsForeign world (area_of driver.counts (TransmitBuffer slot))
 
-pub own-buffer : (driver : DriverState) (slot : ℕ) (world : World) → Ready driver world → IsOwnSlot (transmit_ring world) driver.oldest_sent slot → OwnBuffer driver slot world
+pub own-buffer : (driver : DriverState) (slot : ℕ) (world : World) → Ready driver world
+    → IsOwnSlot (transmit_ring world) driver.oldest_sent slot → OwnBuffer driver slot world
 own-buffer driver slot world ready own =
     let o = driver.oldest_received in
     let p = driver.oldest_sent in
@@ -122,23 +136,30 @@ buffer-own driver slot size world ready buffer short =
     let received = outstanding-inside (receive_ring world) o ready.sound.receive_slots.slot in
     let sent = outstanding-inside (transmit_ring world) p ready.sound.transmit_slots.slot in
     record {
-      received = λ k d below. apart-inside area whole _ inside (inside-apart whole _ r (received k d below) (apart-sym r whole (all-head Apart r (t ∷ frame_areas o world) buffer.apart)));
-      sent = λ k d below. apart-inside area whole _ inside (inside-apart whole _ t (sent k d below) (apart-sym t whole (all-head Apart t (frame_areas o world) behind)));
+      received = λ k d below. apart-inside area whole _ inside
+          (inside-apart whole _ r (received k d below) (apart-sym r whole (all-head Apart r (t ∷ frame_areas o world) buffer.apart)));
+      sent = λ k d below. apart-inside area whole _ inside
+          (inside-apart whole _ t (sent k d below) (apart-sym t whole (all-head Apart t (frame_areas o world) behind)));
       frames = λ k d below. apart-inside area whole _ inside (apart-sym _ whole (all-tail Apart t (frame_areas o world) behind k d below));
     }
 
 -- Stores.
 
 -- Where nothing of the receive ring is stored to, what is staged stays.
-pub stored-elsewhere : {up : Bool} (d : DriverState) (a : World) (address : ℕ) (bytes : List ℕ) → ReadyWith up d a → LiesIn a.memory address (length bytes)
-    → AreApart (area_of d.counts ReceiveRing) (area_at address (length bytes)) → AreStored (with_bytes a.memory address bytes) d.counts (receive_tail d) d.staged
+pub stored-elsewhere : {up : Bool} (d : DriverState) (a : World) (address : ℕ) (bytes : List ℕ) → ReadyWith up d a
+    → LiesIn a.memory address (length bytes)
+    → AreApart (area_of d.counts ReceiveRing) (area_at address (length bytes))
+    → AreStored (with_bytes a.memory address bytes) d.counts (receive_tail d) d.staged
 stored-elsewhere d a address bytes ready lies apart =
     stored-kept a.memory (with_bytes a.memory address bytes) d.counts (receive_tail d) d.staged
     (λ i below.
-    let index = place-below d.counts.rx (receive_tail d) i (place-below d.counts.rx d.oldest_received (length d.buffers) ready.driver_is.oldest_slot) in
+    let index = place-below d.counts.rx (receive_tail d) i
+    (place-below d.counts.rx d.oldest_received (length d.buffers) ready.driver_is.oldest_slot) in
     let slot = receive_slot (place d.counts.rx (receive_tail d) i) in
     let inside : IsInside (area_at slot 16) (area_of d.counts ReceiveRing) = record { from = omega arith; to = omega (arith, index) } in
-    bytes_at-elsewhere a.memory bytes address slot 16 lies (apart-sym (area_at slot 16) (area_at address (length bytes)) (apart-inside (area_at slot 16) (area_of d.counts ReceiveRing) (area_at address (length bytes)) inside apart)))
+    bytes_at-elsewhere a.memory bytes address slot 16 lies
+    (apart-sym (area_at slot 16) (area_at address (length bytes))
+    (apart-inside (area_at slot 16) (area_of d.counts ReceiveRing) (area_at address (length bytes)) inside apart)))
     ready.stored
 
 pub data_is_stored : DataIsStored
@@ -149,9 +170,13 @@ data_is_stored driver slot bytes world ready own short =
     let area = area_at (transmit_buffer counts slot) (length bytes) in
     let inside : IsInside area whole = record { from = omega arith; to = omega (arith, short) } in
     let lies : LiesIn world.memory (transmit_buffer counts slot) (length bytes) = omega (arith, buffer.lies, short) in
-    goes-stores driver driver.staged driver.pool world (transmit_buffer counts slot) bytes ready lies (buffer-own driver slot (length bytes) world ready buffer short) ready.driver_is
-    (stored-elsewhere driver world (transmit_buffer counts slot) bytes ready lies (inside-apart (area_of counts ReceiveRing) area whole inside (places-apart counts ReceiveRing (TransmitBuffer slot) tt buffer.below (λ same. absurd (cc)))))
-    (λ number known. apart-inside area whole (area_of counts (ReceiveBuffer number)) inside (places-apart counts (TransmitBuffer slot) (ReceiveBuffer number) buffer.below known (λ same. absurd (cc))))
+    goes-stores driver driver.staged driver.pool world (transmit_buffer counts slot) bytes ready lies
+    (buffer-own driver slot (length bytes) world ready buffer short) ready.driver_is
+    (stored-elsewhere driver world (transmit_buffer counts slot) bytes ready lies
+    (inside-apart (area_of counts ReceiveRing) area whole inside
+    (places-apart counts ReceiveRing (TransmitBuffer slot) tt buffer.below (λ same. absurd (cc)))))
+    (λ number known. apart-inside area whole (area_of counts (ReceiveBuffer number)) inside
+    (places-apart counts (TransmitBuffer slot) (ReceiveBuffer number) buffer.below known (λ same. absurd (cc))))
 
 pub descriptor_is_stored : DescriptorIsStored
 descriptor_is_stored driver slot bytes world ready own long =
@@ -162,9 +187,14 @@ descriptor_is_stored driver slot bytes world ready own long =
     let inside : IsInside area (area_of counts TransmitRing) = record { from = omega arith; to = omega (arith, long, below) } in
     let mine = own-descriptor driver slot world ready own in
     let lies : LiesIn world.memory address (length bytes) = omega (arith, mine.lies, long) in
-    goes-stores driver driver.staged driver.pool world address bytes ready lies (subst (λ (size : ℕ). IsOwn driver.oldest_received driver.oldest_sent world (area_at address size)) (sym long) mine.own) ready.driver_is
-    (stored-elsewhere driver world address bytes ready lies (inside-apart (area_of counts ReceiveRing) area (area_of counts TransmitRing) inside (places-apart counts ReceiveRing TransmitRing tt tt (λ same. absurd (cc)))))
-    (λ number known. apart-inside area (area_of counts TransmitRing) (area_of counts (ReceiveBuffer number)) inside (places-apart counts TransmitRing (ReceiveBuffer number) tt known (λ same. absurd (cc))))
+    goes-stores driver driver.staged driver.pool world address bytes ready lies
+    (subst (λ (size : ℕ). IsOwn driver.oldest_received driver.oldest_sent world (area_at address size)) (sym long) mine.own)
+    ready.driver_is
+    (stored-elsewhere driver world address bytes ready lies
+    (inside-apart (area_of counts ReceiveRing) area (area_of counts TransmitRing) inside
+    (places-apart counts ReceiveRing TransmitRing tt tt (λ same. absurd (cc)))))
+    (λ number known. apart-inside area (area_of counts TransmitRing) (area_of counts (ReceiveBuffer number)) inside
+    (places-apart counts TransmitRing (ReceiveBuffer number) tt known (λ same. absurd (cc))))
 
 -- Whatever happens.
 
@@ -173,5 +203,6 @@ slots_keep_bytes driver slot a b past ready own happens =
     let between = happens.between driver.oldest_received driver.oldest_sent ready.sound in
     record {
       data_same = between.untouched (area_of driver.counts (TransmitBuffer slot)) (own-buffer driver slot a ready own).foreign;
-      descriptor_same = between.untouched (descriptor_area (transmit_slot driver.counts slot)) (own-descriptor driver slot a ready own).foreign;
+      descriptor_same = between.untouched (descriptor_area (transmit_slot driver.counts slot))
+          (own-descriptor driver slot a ready own).foreign;
     }

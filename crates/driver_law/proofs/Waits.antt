@@ -19,7 +19,8 @@ no_frame_comes up driver a b past ready happens waits =
     let stored = (happens.steady.off waits.disabled).0 in
     record {
       disabled = subst (λ (filter : FilterRegisters). ¬ (HasBit filter.rctl 1)) (sym happens.steady.filter) waits.disabled;
-      none = between.holds ∙ ap (λ (frames : List (List ℕ)). frames_held driver.oldest_received a ++ frames) stored ∙ append-nil (frames_held driver.oldest_received a) ∙ waits.none;
+      none = between.holds ∙ ap (λ (frames : List (List ℕ)). frames_held driver.oldest_received a ++ frames) stored
+          ∙ append-nil (frames_held driver.oldest_received a) ∙ waits.none;
     }
 
 none-in_work : (memory : List ℕ) (work : Option Work) → in_work memory work ≡ [] → work ≡ None
@@ -28,9 +29,13 @@ none-in_work memory (Some work) none = absurd (cc)
 
 pub nothing_is_held : NothingIsHeld
 nothing_is_held driver world waits =
-    let parts = append-empty (map (λ (slot : ℕ). bytes_in world.memory (named world.memory slot)) (finished driver.oldest_received world)) (held world.memory world.adapter.receiver) waits.none in
-    let work = append-empty (in_work world.memory world.adapter.receiver.work) world.adapter.receiver.buffer parts.1 in
-    (map-empty (λ (slot : ℕ). bytes_in world.memory (named world.memory slot)) (finished driver.oldest_received world) parts.0, none-in_work world.memory world.adapter.receiver.work work.0)
+    let parts = append-empty (map (λ (slot : ℕ). bytes_in world.memory (named world.memory slot)) (finished driver.oldest_received world))
+    (held world.memory world.adapter.receiver) waits.none in
+    let work = append-empty (in_work world.memory world.adapter.receiver.work) world.adapter.receiver.buffer parts.1 in (
+      map-empty (λ (slot : ℕ). bytes_in world.memory (named world.memory slot))
+          (finished driver.oldest_received world) parts.0,
+      none-in_work world.memory world.adapter.receiver.work work.0,
+    )
 
 pub rings_that_are_off_stay : RingsThatAreOffStay
 rings_that_are_off_stay driver a b past ready happens =

@@ -1,5 +1,6 @@
 -- The accesses of a driver's calls, in order (own).
 use Rattle.std.specs.Prelude.{◌+◌, ◌%◌, ℕ, List, [], ◌∷◌}
+use Rattle.adapter.specs.declared.offsets.TheConstants.{RDT}
 use Rattle.dma_memory.specs.Layout.{Counts}
 use Rattle.bus.specs.declared.event.Access.{Access}
 use Rattle.bus.specs.declared.event.Access.TheVariants.{Loads, Stores, Writes}
@@ -15,7 +16,7 @@ stores_from counts slot (number ∷ later) =
 -- RDT is written with this place, where any slots are to be offered
 abbrev pub tail_write : ℕ → (staged : List ℕ) → List Access
 tail_write slot [] = []
-tail_write slot (number ∷ later) = Writes 0x2818 slot ∷ []
+tail_write slot (number ∷ later) = Writes RDT slot ∷ []
 
 -- the receive slots from a place on are taken, with these buffers: for each its descriptor is loaded, and then bytes 12 and 13 of its frame
 abbrev pub takes_from : Counts → (slot : ℕ) → List ℕ → List Access

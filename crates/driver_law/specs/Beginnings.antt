@@ -1,5 +1,6 @@
 -- The state in which a driver begins, and what it writes into registers up to the end of its initialisation (own).
 use Rattle.std.specs.Prelude.{◌≡◌, ◌≤◌, ◌<◌, ◌⊎◌, ◌*◌, ◌^◌, ◌++◌, ℕ, Bool, true, false, List, [], None, length}
+use Rattle.adapter.specs.declared.offsets.TheConstants.{IMS}
 use Rattle.registers.specs.Bits.{HasBit, union}
 use Rattle.registers.specs.Kept.{causes_of}
 use Rattle.dma_memory.specs.Areas.{IsInside, area_at}
@@ -20,6 +21,7 @@ use Rattle.adapter.specs.KnownRing.{KnowsRing}
 use Rattle.driver_law.specs.DriverState.{DriverState, next_received, receive_slot, transmit_tail}
 use Rattle.driver_law.specs.Goes.{Goes, GoesTo, HasNoForgottenWork}
 use Rattle.driver_law.specs.Ready.{ReadyWith, TransmitIs}
+use Rattle.registers.specs.Places.{rctl_bsex, rctl_en, rxt0, tctl_psp}
 
 -- The beginning.
 
@@ -71,7 +73,7 @@ TransmitRingIsWritten =
 abbrev pub TransmitterIsEnabled : Type 0
 TransmitterIsEnabled =
     (driver : DriverState) (control : ℕ) (world : World) → ReadyWith false driver world → driver.oldest_sent < driver.counts.tx
-    → KnowsRing (transmit_ring world) (16 * driver.counts.rx) driver.counts.tx (transmit_tail driver) → HasBit control 3
+    → KnowsRing (transmit_ring world) (16 * driver.counts.rx) driver.counts.tx (transmit_tail driver) → HasBit control tctl_psp
     → Goes driver world driver (with_transmit_control control world) [] [] nothing
 
 -- RCTL is written, with EN or without it, while no receive slot is finished or in work and the transmit side is off. BSEX is 0, and buffers
@@ -79,7 +81,7 @@ TransmitterIsEnabled =
 abbrev pub ReceiverIsEnabled : Type 0
 ReceiverIsEnabled =
     (driver : DriverState) (control : ℕ) (world : World) → ReadyWith false driver world
-    → finished driver.oldest_received world ≡ [] → world.adapter.receiver.work ≡ None → ¬ (HasBit control 25)
+    → finished driver.oldest_received world ≡ [] → world.adapter.receiver.work ≡ None → ¬ (HasBit control rctl_bsex)
     → buffer_size (with_receive_control control world) ≡ 2048
     → GoesTo false driver world driver (with_receive_control control world) [] [] nothing
 
@@ -98,13 +100,13 @@ pub record Unmasked (up : Bool) (driver : DriverState) (causes : ℕ) (a b : Wor
 abbrev pub CausesAreUnmasked : Type 0
 CausesAreUnmasked =
     (up : Bool) (driver : DriverState) (causes : ℕ) (world : World) → ReadyWith up driver world
-    → Unmasked up driver causes world (world_after_write 0xD0 causes world)
+    → Unmasked up driver causes world (world_after_write IMS causes world)
 
 -- Where RXT0, bit 7, is unmasked, and the oldest receive slot isn't finished or RXT0 is recorded, no work is forgotten then.
 abbrev pub UnmaskedForgetsNoWork : Type 0
 UnmaskedForgetsNoWork =
-    (up : Bool) (driver : DriverState) (causes : ℕ) (a b : World) → Unmasked up driver causes a b → HasBit (causes_of causes) 7
-    → (finished driver.oldest_received a ≡ []) ⊎ HasBit a.adapter.causes.recorded 7 → HasNoForgottenWork driver b
+    (up : Bool) (driver : DriverState) (causes : ℕ) (a b : World) → Unmasked up driver causes a b → HasBit (causes_of causes) rxt0
+    → (finished driver.oldest_received a ≡ []) ⊎ HasBit a.adapter.causes.recorded rxt0 → HasNoForgottenWork driver b
 
 -- Stores, beside those that stage slots.
 
@@ -125,7 +127,7 @@ TransmitPlaceIsStored =
 
 -- RCTL.EN is 0, and no frame is held, as before the write of RCTL.
 pub record IsWaiting (driver : DriverState) (world : World) : Type 0 where
-  pub disabled : ¬ (HasBit world.adapter.filter.rctl 1)
+  pub disabled : ¬ (HasBit world.adapter.filter.rctl rctl_en)
   pub none : frames_held driver.oldest_received world ≡ []
 
 -- No frame comes then,

@@ -11,6 +11,7 @@ use Rattle.bus.specs.Settings.{AreSet, WhileOff}
 use Rattle.bus.specs.declared.event.Access.{Access}
 use Rattle.driver_law.specs.DriverState.{DriverState}
 use Rattle.driver_law.specs.Ready.{ReadyWith}
+use Rattle.registers.specs.Places.{rxt0}
 
 -- The sum of what MPC was read as was exact at the beginning, when MPC didn't stick, and has grown by what was missed and isn't read yet.
 pub record IsExact (d : DriverState) (a : World) (d' : DriverState) (b : World) (past : Past) : Type 0 where
@@ -49,7 +50,7 @@ pub record GoesTo (up : Bool) (d : DriverState) (a : World) (d' : DriverState) (
   pub flows : FlowsTo up d a d' b taken given past
   pub causes : (place : ℕ) → HasBit a.adapter.causes.recorded place → HasBit b.adapter.causes.recorded place
   pub told : (length (finished d.oldest_received a) ≡ length taken + length
-      (finished d'.oldest_received b)) ⊎ HasBit b.adapter.causes.recorded 7
+      (finished d'.oldest_received b)) ⊎ HasBit b.adapter.causes.recorded rxt0
 
 abbrev pub Flows : DriverState → World → DriverState → World → List (List ℕ) → List (List ℕ) → Past → Type 0
 Flows = FlowsTo true
@@ -87,8 +88,8 @@ pub record RanBy (up : Bool) {B : Type 0} (world : B → World) (happened : B �
 
 -- No forgotten work: RXT0 isn't masked, and where the oldest receive slot is finished it is recorded.
 pub record HasNoForgottenWork (d : DriverState) (world : World) : Type 0 where
-  pub unmasked : HasBit world.adapter.causes.mask 7
-  pub asked : (finished d.oldest_received world ≡ []) ⊎ HasBit world.adapter.causes.recorded 7
+  pub unmasked : HasBit world.adapter.causes.mask rxt0
+  pub asked : (finished d.oldest_received world ≡ []) ⊎ HasBit world.adapter.causes.recorded rxt0
 
 -- Refilled: no buffer is free, or all slots but one are outstanding.
 abbrev pub IsRefilled : DriverState → Type 0

@@ -10,6 +10,7 @@ use Rattle.descriptors.specs.Ring.{count_of, slots_from}
 use Rattle.descriptors.specs.RingLaws.{place}
 use Rattle.descriptors.specs.RxDesc.{rx_desc_bytes}
 use Rattle.descriptors.specs.RxStatus.{status_of}
+use Rattle.registers.specs.Places.{tctl_psp}
 use Rattle.rx_engine.specs.Descriptors.{named_address}
 use Rattle.tx_engine.specs.Transmitter.{Queued}
 use Rattle.adapter.specs.Conditions.{AreWhole, FitBuffers, Sound}
@@ -51,7 +52,7 @@ pub record TransmitIsUp (counts : Counts) (oldest sending : ℕ) (memory : List 
   pub oldest_slot : oldest < counts.tx
   pub room : sending < counts.tx
   -- TCTL.PSP
-  pub pads : HasBit control 3
+  pub pads : HasBit control tctl_psp
   pub knows : KnowsRing ring (16 * counts.rx) counts.tx (place counts.tx oldest sending)
   pub sources : All (λ slot. IsInside (data_of memory (transmit_slot counts slot)) (area_of counts (TransmitBuffer slot)))
       (slots_from counts.tx oldest sending)

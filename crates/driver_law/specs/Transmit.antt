@@ -1,5 +1,6 @@
 -- The steps of a driver's transmit side (own).
 use Rattle.std.specs.Prelude.{⊤, ◌≡◌, ◌≤◌, ◌<◌, ◌+◌, ◌-◌, ◌%◌, ◌⊎◌, ◌++◌, ℕ, true, false, List, [], ◌∷◌, All, length, map}
+use Rattle.adapter.specs.declared.offsets.TheConstants.{TDT}
 use Rattle.dma_memory.specs.Areas.{bytes_in}
 use Rattle.dma_memory.specs.HostMemory.{bytes_at}
 use Rattle.dma_memory.specs.Layout.{Counts, TransmitBuffer, area_of, start_of}
@@ -91,7 +92,7 @@ pub record FrameStands (driver : DriverState) (frame : List ℕ) (world : World)
 abbrev pub TailIsMoved : Type 0
 TailIsMoved =
     (driver : DriverState) (world : World) → Ready driver world
-    → world_after_write 0x3818 ((transmit_tail driver + 1) % driver.counts.tx) world ≡ offering_frame world
+    → world_after_write TDT ((transmit_tail driver + 1) % driver.counts.tx) world ≡ offering_frame world
 
 -- the frame, padded, is the last that is to be sent.
 abbrev pub FrameIsOffered : Type 0
@@ -137,7 +138,7 @@ abbrev pub send_accesses : DriverState → List ℕ → List Access
 send_accesses driver frame =
     Stores (tail_buffer driver) frame
     ∷ Stores (tail_slot driver) (whole_descriptor (tail_buffer driver) (length frame))
-    ∷ Writes 0x3818 ((transmit_tail driver + 1) % driver.counts.tx) ∷ []
+    ∷ Writes TDT ((transmit_tail driver + 1) % driver.counts.tx) ∷ []
 
 -- loads and stores, by which no register changes
 abbrev pub IsQuiet : Access → Type 0
@@ -149,7 +150,7 @@ IsQuiet access = ⊥
 pub record EndsWithTail (accesses : List Access) (slot : ℕ) : Type 0 where
   pub quiet : List Access
   pub all : All IsQuiet quiet
-  pub whole : accesses ≡ quiet ++ Writes 0x3818 slot ∷ []
+  pub whole : accesses ≡ quiet ++ Writes TDT slot ∷ []
 
 -- Such is the sending of a frame behind loads of descriptors.
 abbrev pub SendsEndWithTail : Type 0

@@ -21,7 +21,8 @@ use Rattle.driver_law.specs.DriverState.{DriverState, HandedOut, buffer_at, hold
 use Rattle.driver_law.specs.Goes.{FlowsTo, GoesTo, HasNoForgottenWork, RanBy}
 use Rattle.driver_law.specs.Readings.{ReadsCauses, with_missed}
 use Rattle.driver_law.specs.Ready.{IsDriver, ReadyWith, Stands}
-use Rattle.driver.specs.Handles.{Handles, HandlesBy, HandlesIt, LeavesIt, OnNotMine, OnTaken, handled_accesses, handled_causes}
+use Rattle.driver.specs.Handles.{Handles, HandlesBy, HandlesIt, LeavesIt, OnNotMine, OnTaken, handled_accesses}
+use Rattle.bring_up.specs.Table.{handled_causes}
 use Rattle.driver.specs.Takes.{AreFrames, GrowsBy, IsFrameSize, IsPart, buffers_of, received_of}
 use Rattle.driver.specs.declared.interrupt.Handled.{Handled}
 use Rattle.driver.specs.declared.interrupt.Handled.TheVariants.{NotMine}

@@ -11,7 +11,8 @@ use Rattle.driver_law.specs.Accesses.{stores_from, tail_write}
 use Rattle.driver_law.specs.DriverState.{DriverState, HandedOut, buffer_at, next_received, numbers_of}
 use Rattle.driver_law.specs.Goes.{HasNoForgottenWork, IsRefilled, RanBy}
 use Rattle.driver_law.specs.Readings.{ReadsCauses, with_missed}
-use Rattle.driver.specs.Handles.{LeavesIt, handled_accesses, handled_causes}
+use Rattle.bring_up.specs.Table.{handled_causes}
+use Rattle.driver.specs.Handles.{LeavesIt, handled_accesses}
 use Rattle.driver.specs.Sends.{Answer, IsAnswer, accesses_by, given_by}
 use Rattle.driver.specs.Takes.{AreFrames, GrowsBy, received_of}
 use Rattle.driver.specs.declared.interrupt.Handled.{Handled}
@@ -22,6 +23,7 @@ use Rattle.packet_socket.specs.Goes.{Accounts, Given, HostFlowsTo, HostRanBy}
 use Rattle.packet_socket.specs.Holding.{driver_of, frames_in}
 use Rattle.packet_socket.specs.HostState.{HostState}
 use Rattle.packet_socket.specs.SocketsState.{Queues, claimed_of, queue_at, unclaimed_of}
+use Rattle.registers.specs.Places.{rxt0}
 
 abbrev pub frames_taken : List HandedOut → List (List ℕ)
 frames_taken taken = map (λ (one : HandedOut). one.frame) taken
@@ -102,7 +104,7 @@ pub record HostWorks (up : Bool) {B : Type 0} (world : B → World) (happened : 
       (driver_of h (world old)) (driver_of h' (world new)) (frames_taken taken) []
   -- It takes at least what was finished at the beginning, and no work is forgotten.
   pub least : length (finished h.driver.oldest_received (world old)) ≤ n
-  pub work : HasBit (world old).adapter.causes.mask 7 → HasNoForgottenWork h'.driver (world new)
+  pub work : HasBit (world old).adapter.causes.mask rxt0 → HasNoForgottenWork h'.driver (world new)
   -- both parts together
   pub flows : HostFlowsTo up h (world old) h' (world new) (frames_taken taken) [] [] (joined first ran.past)
 

@@ -3,4 +3,5 @@ pub mod Counting
 pub mod Interrupts
 pub mod Kept
 pub mod Laws
+pub mod Places
 pub mod ReceiveControl

@@ -5,4 +5,10 @@ use Rattle.driver_law.proofs.TransmitRing.{transmit_ring_is_written}
 use Rattle.driver_law.proofs.beginning_law.registers_are_set.Goals as goal
 
 pub returns : goal.returns
-returns c = record { receiver = receiver_is_enabled; transmit_ring = transmit_ring_is_written; transmitter = transmitter_is_enabled; causes = causes_are_unmasked; work = unmasked_forgets_no_work }
+returns c = record {
+  receiver = receiver_is_enabled;
+  transmit_ring = transmit_ring_is_written;
+  transmitter = transmitter_is_enabled;
+  causes = causes_are_unmasked;
+  work = unmasked_forgets_no_work;
+}

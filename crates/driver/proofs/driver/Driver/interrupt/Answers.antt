@@ -4,7 +4,7 @@ use Rattle.dma_memory.specs.OwnersLaws.{copies-append}
 use Rattle.registers.specs.Bits.{Meet}
 use Rattle.driver_law.proofs.RegisterAccesses.{reads-causes}
 use Rattle.driver_law.specs.DriverState.{DriverState, holding, owners}
-use Rattle.driver.specs.Handles.{handled_causes}
+use Rattle.bring_up.specs.Table.{handled_causes}
 use Rattle.driver.specs.Takes.{buffers_of}
 use Rattle.driver.proofs.Handles.{handled-timer, handles-it}
 use Rattle.driver.proofs.driver.Driver.interrupt.Goals as goal
