@@ -8,6 +8,7 @@ pub mod Recording
 pub mod Transmitting
 pub mod Receiving
 pub mod Steps
+pub mod Outcomes
 pub mod View
 pub mod AccessLaws
 pub mod TableLaws

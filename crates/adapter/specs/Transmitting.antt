@@ -69,12 +69,15 @@ causes_of_putting [] = 0
 causes_of_putting (queued ∷ later) = if queued.report then 0x1 else 0
 
 -- The oldest frame has left the packet buffer, and is counted by GPTC.
-abbrev pub after_put : Stepped → AdapterState → AdapterState
-after_put (Put frame) state =
+abbrev pub without_oldest : AdapterState → AdapterState
+without_oldest state =
     with_causes (causes_of_putting state.transmitter.buffer) (record state {
       transmitter = record state.transmitter { buffer = drop 1 state.transmitter.buffer };
       transmitted_packets = one_more state.transmitted_packets;
     })
+
+abbrev pub after_put : Stepped → AdapterState → AdapterState
+after_put (Put frame) state = without_oldest state
 after_put _ state = state
 
 -- memory, once the oldest frame of a packet buffer is on the wire

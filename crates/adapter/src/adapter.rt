@@ -1,6 +1,6 @@
 // The adapter: its registers joined.
 
-ghost use Rattle.std.specs.Prelude.{◌≡◌, ◌↔◌, ◌≤◌, IsTrue, IfOk, length};
+ghost use Rattle.std.specs.Prelude.{◌≡◌, ◌↔◌, ◌≤◌, ◌++◌, IsTrue, IfOk, length};
 ghost use Rattle.registers.specs.Bits.{Meet};
 ghost use Rattle.adapter.specs.Registers.{is_reset};
 ghost use Rattle.adapter.specs.Steps.{causes_told};
@@ -8,10 +8,11 @@ ghost use Rattle.adapter.specs.Steps.{causes_told};
 use crate::packet_buffer::PacketBufferAllocation;
 use crate::register::Register;
 use crate::register_file::RegisterFile;
-use crate::step::{StepKind, Stepped};
+use crate::step::{StepKind, StepOutcome, Stepped};
 use bitflags::Flags;
 use dma_memory::HostMemory;
 use eeprom::Image;
+use frame_queue::FrameQueue;
 use mdic_phy::{Link, Phy, Ticked};
 use registers::{Cause, Ctrl, Status, Tctl};
 use rx_engine::{MOST_FRAMES, RxEngine};
@@ -52,10 +53,12 @@ impl Model for Adapter {
 }
 
 impl Adapter {
+    ghost use Rattle.adapter.specs.Outcomes.{has_place, put_by, stepped_of};
     ghost use Rattle.adapter.specs.Receiving.{room};
     ghost use Rattle.adapter.specs.Registers.{after_read, after_write, answer_at, new_adapter};
     ghost use Rattle.adapter.specs.State.{IsAdapter};
     ghost use Rattle.adapter.specs.Steps.{Answers, ChangesAtMost, after_step, memory_after_step};
+    ghost use Rattle.adapter.specs.declared.step.StepOutcome.TheVariants as outcome;
     ghost use Rattle.adapter.specs.declared.step.Stepped.TheVariants.{Fault, Nothing};
 
     /// An adapter after power-on, with this EEPROM and a PHY whose link comes up as `link` says. Both
@@ -145,8 +148,38 @@ impl Adapter {
         ensures adapter { IsAdapter self.old }
     {
         match kind {
-            StepKind::TxTake => self.take_frame(memory),
+            StepKind::TxTake => self.take_frame(memory).without_frame(),
             StepKind::TxPut => self.put_frame(memory, wire_free),
+            StepKind::RxData => self.move_frame(memory).without_frame(),
+            StepKind::RxDone => self.finish_frame(memory).without_frame(),
+            StepKind::EepromTick => self.tick_eeprom().without_frame(),
+            StepKind::PhyTick => self.tick_phy().without_frame(),
+        }
+    }
+
+    /// A [`step`](Adapter::step) whose wire is a queue of frames: it has room while it isn't full, and a frame that is put
+    /// goes behind the others, from the packet buffer by one copy. What is answered is the outcome alone; in contracts
+    /// `stepped_of` tells the answer of `step`, with the frame.
+    pub fn step_onto(
+        &mut self,
+        kind: StepKind,
+        memory: &mut HostMemory,
+        wire: &mut FrameQueue,
+    ) -> StepOutcome
+        ensures answer { Answers kind (has_place wire.old) memory.old self.old (stepped_of result self.old) }
+        ensures state { self.new ≡ after_step kind (stepped_of result self.old) memory.old self.old }
+        ensures memory { memory.new ≡ memory_after_step kind (stepped_of result self.old) memory.old self.old }
+        ensures wire { wire.new ≡ record wire.old { frames = wire.old.frames ++ put_by (stepped_of result self.old) } }
+        ensures nothing { result ≡ outcome.Nothing → (self.new ≡ self.old) × (memory.new ≡ memory.old) }
+        ensures fault { result ≡ outcome.Fault → (memory.new ≡ memory.old)
+            × (self.new.receive_ring ≡ self.old.receive_ring) × (self.new.transmit_ring ≡ self.old.transmit_ring) }
+        ensures only { ChangesAtMost kind self.old memory.old memory.new }
+        ensures size { length memory.new ≡ length memory.old }
+        ensures adapter { IsAdapter self.old }
+    {
+        match kind {
+            StepKind::TxTake => self.take_frame(memory),
+            StepKind::TxPut => self.put_frame_onto(memory, wire),
             StepKind::RxData => self.move_frame(memory),
             StepKind::RxDone => self.finish_frame(memory),
             StepKind::EepromTick => self.tick_eeprom(),
@@ -160,7 +193,8 @@ impl Adapter {
 impl Adapter {
     ghost use Rattle.adapter.specs.Registers.{answer, read_of, write_of};
     ghost use Rattle.adapter.specs.State.{IsAdapter};
-    ghost use Rattle.adapter.specs.declared.step.Stepped.TheVariants.{Nothing};
+    ghost use Rattle.adapter.specs.declared.step.StepOutcome.TheVariants as outcome;
+    ghost use Rattle.adapter.specs.Outcomes.{stepped_of};
     ghost use Rattle.eeprom.specs.Eerd.{is_pending};
     ghost use Rattle.mdic_phy.specs.Mdic.{has_work};
     ghost use Rattle.adapter.specs.Steps.{after_eeprom_tick, after_phy_tick, ticked};
@@ -251,31 +285,31 @@ impl Adapter {
     }
 
     /// A pending read of the EEPROM ends.
-    fn tick_eeprom(&mut self) -> Stepped
+    fn tick_eeprom(&mut self) -> StepOutcome
         ensures state { self.new ≡ after_eeprom_tick self.old }
-        ensures answer { result ≡ ticked (is_pending self.old.eerd) }
-        ensures nothing { result ≡ Nothing → self.new ≡ self.old }
+        ensures answer { stepped_of result self.old ≡ ticked (is_pending self.old.eerd) }
+        ensures nothing { result ≡ outcome.Nothing → self.new ≡ self.old }
         ensures adapter { IsAdapter self.old }
     {
         if self.file.eerd.tick(&self.image) {
-            Stepped::Ticked
+            StepOutcome::Ticked
         } else {
-            Stepped::Nothing
+            StepOutcome::Nothing
         }
     }
 
     /// A moment of the PHY passes, and the causes that it tells are recorded.
-    fn tick_phy(&mut self) -> Stepped
+    fn tick_phy(&mut self) -> StepOutcome
         ensures state { self.new ≡ after_phy_tick self.old }
-        ensures answer { result ≡ ticked (has_work self.old.mdic self.old.phy) }
-        ensures nothing { result ≡ Nothing → self.new ≡ self.old }
+        ensures answer { stepped_of result self.old ≡ ticked (has_work self.old.mdic self.old.phy) }
+        ensures nothing { result ≡ outcome.Nothing → self.new ≡ self.old }
         ensures adapter { IsAdapter self.old }
     {
         let Some(ticked) = self.file.mdic.tick(&mut self.phy) else {
-            return Stepped::Nothing;
+            return StepOutcome::Nothing;
         };
         self.file.causes.raise(causes_of(ticked));
-        Stepped::Ticked
+        StepOutcome::Ticked
     }
 }
 

@@ -2,9 +2,10 @@
 
 use crate::fixtures::{Host, RESET, check, check_bytes, check_step, new_host};
 use crate::offsets::*;
-use crate::{Fate, StepKind, Stepped};
+use crate::{Fate, StepKind, StepOutcome, Stepped};
 use descriptors::Frame;
 use dma_memory::Layout;
+use frame_queue::FrameQueue;
 use mdic_phy::Link;
 use std::alloc::Global;
 use std::process::Abort;
@@ -206,6 +207,49 @@ fn frames_are_put(rt: HostRuntime) -> Result<(), Fail> {
     check_bytes(&rt, &host, TRANSMIT_RING + 28, &[0, 0, 0, 0]);
     check(&rt, &mut host, ICR, 0);
     check(&rt, &mut host, GPTC, 2);
+    Ok(())
+}
+
+/// Asserts the outcome of a step, and how many frames are on the wire behind it.
+fn check_outcome(
+    rt: &impl Abort,
+    host: &mut Host,
+    wire: &mut FrameQueue,
+    kind: StepKind,
+    want: (StepOutcome, u8),
+) {
+    let outcome = host.adapter.step_onto(kind, &mut host.memory, wire);
+    assert_eq!(rt; (outcome, wire.len()), want);
+}
+
+#[test]
+fn frames_are_put_onto_a_queue(rt: HostRuntime) -> Result<(), Fail> {
+    let mut host = new_sender(rt.alloc())?;
+    let mut wire = FrameQueue::new(rt.alloc(), 1)?;
+    let (take, put) = (StepKind::TxTake, StepKind::TxPut);
+    check_outcome(&rt, &mut host, &mut wire, put, (StepOutcome::Nothing, 0));
+    check_outcome(&rt, &mut host, &mut wire, take, (StepOutcome::Took, 0));
+    check_outcome(&rt, &mut host, &mut wire, take, (StepOutcome::Took, 0));
+    check_outcome(&rt, &mut host, &mut wire, put, (StepOutcome::Put, 1));
+    assert_eq!(rt; wire.front(), Some(padded().as_slice()));
+    check_bytes(&rt, &host, TRANSMIT_RING + 12, &[0x01, 0, 0, 0]);
+    check_outcome(&rt, &mut host, &mut wire, put, (StepOutcome::WireFull, 1));
+    wire.pop();
+    check_outcome(&rt, &mut host, &mut wire, put, (StepOutcome::Put, 1));
+    check(&rt, &mut host, GPTC, 2);
+    Ok(())
+}
+
+#[test]
+fn frames_are_received_beside_a_queue(rt: HostRuntime) -> Result<(), Fail> {
+    let mut host = new_receiver(rt.alloc())?;
+    let mut wire = FrameQueue::new(rt.alloc(), 1)?;
+    let (data, done) = (StepKind::RxData, StepKind::RxDone);
+    check_outcome(&rt, &mut host, &mut wire, data, (StepOutcome::Nothing, 0));
+    check_fate(&rt, &mut host, &BROADCAST, Fate::Stored);
+    check_outcome(&rt, &mut host, &mut wire, data, (StepOutcome::Moved, 0));
+    check_outcome(&rt, &mut host, &mut wire, done, (StepOutcome::Done, 0));
+    check_bytes(&rt, &host, RECEIVE_BUFFER, &BROADCAST);
     Ok(())
 }
 

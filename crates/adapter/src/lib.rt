@@ -24,7 +24,7 @@ pub use laws::{
 pub use register::{Register, RingRegister};
 pub use ring::RingRegisters;
 pub use rx_engine::Fate;
-pub use step::{StepKind, Stepped};
+pub use step::{StepKind, StepOutcome, Stepped};
 
 #[cfg(test)]
 mod fixtures;

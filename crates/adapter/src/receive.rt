@@ -3,11 +3,12 @@
 ghost use Rattle.std.specs.Prelude.{◌≡◌, length, if◌then◌else◌};
 ghost use Rattle.registers.specs.Bits.{IsSubset};
 ghost use Rattle.registers.specs.Kept.{all_causes};
+ghost use Rattle.adapter.specs.Outcomes.{stepped_of};
 ghost use Rattle.adapter.specs.State.{IsAdapter};
 ghost use Rattle.adapter.specs.Receiving.{DataAnswers, DataChangesOnly, DoneAnswers, DoneChangesOnly, IsFate, after_arrive, after_data, after_done, memory_after_data_step, memory_after_done_step, no_buffers_counted};
 
 use crate::Adapter;
-use crate::step::Stepped;
+use crate::step::StepOutcome;
 use bitflags::Flags;
 use dma_memory::HostMemory;
 use registers::Cause;
@@ -41,10 +42,10 @@ impl Adapter {
     }
 
     /// Writes the oldest frame of the packet buffer to memory.
-    pub(crate) fn move_frame(&mut self, memory: &mut HostMemory) -> Stepped
-        ensures answer { DataAnswers memory.old self.old result }
-        ensures state { self.new ≡ after_data result self.old }
-        ensures memory { memory.new ≡ memory_after_data_step result memory.old self.old }
+    pub(crate) fn move_frame(&mut self, memory: &mut HostMemory) -> StepOutcome
+        ensures answer { DataAnswers memory.old self.old (stepped_of result self.old) }
+        ensures state { self.new ≡ after_data (stepped_of result self.old) self.old }
+        ensures memory { memory.new ≡ memory_after_data_step (stepped_of result self.old) memory.old self.old }
         ensures only { DataChangesOnly self.old memory.old memory.new }
         ensures size { length memory.new ≡ length memory.old }
         ensures adapter { IsAdapter self.old }
@@ -52,31 +53,31 @@ impl Adapter {
         let file = &mut self.file;
         let mut ring = file.receive_ring.ring();
         match rx_data(&mut self.receiver, &mut ring, file.filter.rctl(), memory) {
-            Data::Nothing => Stepped::Nothing,
-            Data::Fault => Stepped::Fault,
+            Data::Nothing => StepOutcome::Nothing,
+            Data::Fault => StepOutcome::Fault,
             Data::Moved { low } => {
                 file.receive_ring.head = ring.head;
                 file.causes.raise(causes_of_moving(low));
-                Stepped::Moved
+                StepOutcome::Moved
             }
         }
     }
 
     /// Writes the descriptor of the frame in work back.
-    pub(crate) fn finish_frame(&mut self, memory: &mut HostMemory) -> Stepped
-        ensures answer { DoneAnswers self.old result }
-        ensures state { self.new ≡ after_done result self.old }
+    pub(crate) fn finish_frame(&mut self, memory: &mut HostMemory) -> StepOutcome
+        ensures answer { DoneAnswers self.old (stepped_of result self.old) }
+        ensures state { self.new ≡ after_done (stepped_of result self.old) self.old }
         ensures memory { memory.new ≡ memory_after_done_step memory.old self.old }
         ensures only { DoneChangesOnly self.old memory.old memory.new }
         ensures size { length memory.new ≡ length memory.old }
         ensures adapter { IsAdapter self.old }
     {
         match rx_done(&mut self.receiver, memory) {
-            Done::Nothing => Stepped::Nothing,
+            Done::Nothing => StepOutcome::Nothing,
             Done::Done => {
                 self.file.causes.raise(Cause::RXT0);
                 self.file.gprc.bump();
-                Stepped::Done
+                StepOutcome::Done
             }
         }
     }

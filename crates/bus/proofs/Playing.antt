@@ -3,6 +3,7 @@ use Rattle.std.proofs.Common.{length-append, length, ◌≡◌, ◌+◌, ◌<◌
 use Rattle.std.proofs.lemmas.List.{append-nil, map-append, take_more}
 use Rattle.std.proofs.lemmas.List.Elements.{All-append, All-cons}
 use Rattle.rx_engine.specs.declared.arrival.Fate.{Fate}
+use Rattle.adapter.specs.Outcomes.{put_by}
 use Rattle.adapter.specs.Receiving.{IsFate}
 use Rattle.adapter.specs.State.{IsAdapter}
 use Rattle.adapter.specs.Steps.{Answers, ticked}
@@ -16,7 +17,6 @@ use Rattle.bus.specs.Groups.{behind_group, group_of, without_go}
 use Rattle.bus.specs.Past.{Past}
 use Rattle.bus.specs.Solo.{Plays, Prepared, SoloState, has_room, is_go, most_accesses, own_ticks, solo_after_arrival, solo_after_step, tick_of}
 use Rattle.bus.specs.SoloLaws.{are_free_joins}
-use Rattle.bus.specs.Steps.{put_by}
 use Rattle.bus.specs.TrailLaws.{past_of-append, trail_joins}
 use Rattle.bus.specs.Trails.{IsStep, past_of}
 use Rattle.bus.specs.declared.event.Event.TheVariants.{Arrives, Steps}

@@ -1,14 +1,16 @@
 -- What a solo bus is, and what its calls leave.
 use Rattle.std.specs.Prelude.{⊤, ◌≡◌, ◌+◌, ◌-◌, ◌^◌, ◌++◌, ℕ, Bool, true, false, List, [], ◌∷◌, All, length, map, min, nat_lt, sum_by, if◌then◌else◌}
 use Rattle.rx_engine.specs.declared.arrival.Fate.{Fate}
+use Rattle.adapter.specs.Outcomes.{put_by, stepped_of}
 use Rattle.adapter.specs.World.{World}
 use Rattle.adapter.specs.declared.step.StepKind.{StepKind}
 use Rattle.adapter.specs.declared.step.StepKind.TheVariants.{EepromTick, PhyTick}
+use Rattle.adapter.specs.declared.step.StepOutcome.{StepOutcome}
 use Rattle.adapter.specs.declared.step.Stepped.{Stepped}
 use Rattle.bus.specs.Groups.{behind_group, group_of, groups_of, played_in, waiting_after}
 use Rattle.bus.specs.Past.{Past}
 use Rattle.bus.specs.declared.event.Access.{Access}
-use Rattle.bus.specs.Steps.{past_of_step, put_by, world_after_arrival, world_after_step}
+use Rattle.bus.specs.Steps.{past_of_step, world_after_arrival, world_after_step}
 use Rattle.bus.specs.Trails.{IsStep, Trail, past_of}
 use Rattle.bus.specs.declared.event.Event.{Event}
 use Rattle.bus.specs.declared.event.Event.TheVariants.{Accesses, Arrives, Steps}
@@ -29,6 +31,10 @@ pub record SoloState : Type 0 where
 -- the wire has room while less than 64 frames are on it
 abbrev pub has_room : SoloState → Bool
 has_room solo = nat_lt (length solo.wire) 64
+
+-- the answer of a step with this outcome
+abbrev pub solo_stepped : StepOutcome → SoloState → Stepped
+solo_stepped outcome solo = stepped_of outcome solo.world.adapter
 
 -- a frame that a step put is behind the others on the wire
 abbrev pub solo_after_step : StepKind → Stepped → SoloState → SoloState

@@ -1,23 +1,18 @@
 -- Adapter steps and deliveries as what may happen between two accesses.
-use Rattle.std.specs.Prelude.{ℕ, Bool, List, [], ◌∷◌}
+use Rattle.std.specs.Prelude.{ℕ, Bool, List}
 use Rattle.rx_engine.specs.Arriving.{kept}
 use Rattle.rx_engine.specs.declared.arrival.Fate.{Fate}
 use Rattle.rx_engine.specs.declared.arrival.Fate.TheVariants.{Off, Illegal, Filtered, Missed, Stored}
+use Rattle.adapter.specs.Outcomes.{put_by}
 use Rattle.adapter.specs.Receiving.{IsFate, after_arrive}
 use Rattle.adapter.specs.State.{IsAdapter}
 use Rattle.adapter.specs.Steps.{Answers, after_step, memory_after_step}
 use Rattle.adapter.specs.declared.step.StepKind.{StepKind}
 use Rattle.adapter.specs.declared.step.StepKind.TheVariants.{TxTake, TxPut, RxData, RxDone, EepromTick, PhyTick}
 use Rattle.adapter.specs.declared.step.Stepped.{Stepped}
-use Rattle.adapter.specs.declared.step.Stepped.TheVariants.{Put}
 use Rattle.bus.specs.Law.{Happens}
 use Rattle.bus.specs.Past.{Past, nothing}
 use Rattle.adapter.specs.World.{World}
-
--- the frame that a step put
-abbrev pub put_by : Stepped → List (List ℕ)
-put_by (Put frame) = frame ∷ []
-put_by _ = []
 
 -- what happens in a step with this answer
 abbrev pub past_of_step : StepKind → Stepped → Past

@@ -2,7 +2,7 @@
 
 ghost use Rattle.std.specs.Prelude.{◌≡◌, ◌≤◌, ◌+◌, ◌++◌, ◌↔◌, [], drop, length, min, slice_get, IfOk, IfSome, IsNone, Some};
 
-use adapter::{Adapter, Fate, StepKind, Stepped};
+use adapter::{Adapter, Fate, StepKind, StepOutcome};
 use circular_buffer::HeapCircularBuffer;
 use descriptors::Frame;
 use dma_memory::HostMemory;
@@ -58,7 +58,7 @@ impl SoloBus {
     ghost use Rattle.adapter.specs.Registers.{answer_at};
     ghost use Rattle.adapter.specs.Steps.{Answers};
     ghost use Rattle.bus.specs.Groups.{behind_group, group_of, without_go};
-    ghost use Rattle.bus.specs.Solo.{Plays, Prepared, has_room, is_go, most_accesses, own_ticks, solo_after_arrival, solo_after_step};
+    ghost use Rattle.bus.specs.Solo.{Plays, Prepared, has_room, is_go, most_accesses, own_ticks, solo_after_arrival, solo_after_step, solo_stepped};
     ghost use Rattle.adapter.specs.State.{IsAdapter};
     ghost use Rattle.adapter.specs.World.{world_after_read, world_after_store, world_after_write};
     ghost use Rattle.dma_memory.specs.HostMemory.{bytes_at, LiesIn};
@@ -94,18 +94,14 @@ impl SoloBus {
     }
 
     /// A step of the adapter. The wire has room while less than 64 frames are on it; a frame that is put
-    /// stands there behind the others.
-    pub fn step(&mut self, kind: StepKind) -> Stepped
-        ensures answer { Answers kind (has_room self.old) self.old.world.memory self.old.world.adapter result }
-        ensures state { self.new ≡ solo_after_step kind result self.old }
+    /// stands there behind the others, and is taken off it by [`take_put`](SoloBus::take_put).
+    pub fn step(&mut self, kind: StepKind) -> StepOutcome
+        ensures answer { Answers kind (has_room self.old) self.old.world.memory self.old.world.adapter (solo_stepped result self.old) }
+        ensures state { self.new ≡ solo_after_step kind (solo_stepped result self.old) self.old }
         ensures running { IsAdapter self.old.world.adapter }
     {
-        let wire_free = self.wire.len() < WIRE_FRAMES;
-        let stepped = self.adapter.step(kind, &mut self.memory, wire_free);
-        if let Stepped::Put(frame) = &stepped {
-            self.wire.push(frame.as_slice());
-        }
-        stepped
+        self.adapter
+            .step_onto(kind, &mut self.memory, &mut self.wire)
     }
 
     /// A frame is delivered to the adapter, and meets its fate.

@@ -8,7 +8,7 @@ use crate::{
     registers_can_be_set, rings_wait,
 };
 use adapter::offsets::*;
-use adapter::{Fate, StepKind, Stepped};
+use adapter::{Fate, StepKind, StepOutcome};
 use eeprom::Image;
 use std::process::Abort;
 use std::test::Fail;
@@ -40,8 +40,8 @@ fn a_bus_with_rings_takes_a_frame(rt: HostRuntime) -> Result<(), Fail> {
     check(&rt, &mut bus, RDT, 1);
     check(&rt, &mut bus, TDT, 0);
     assert_eq!(rt; bus.arrive(&[0xFF; 60]), Fate::Stored);
-    assert_eq!(rt; bus.step(StepKind::RxData), Stepped::Moved);
-    assert_eq!(rt; bus.step(StepKind::RxDone), Stepped::Done);
+    assert_eq!(rt; bus.step(StepKind::RxData), StepOutcome::Moved);
+    assert_eq!(rt; bus.step(StepKind::RxDone), StepOutcome::Done);
     Ok(())
 }
 
@@ -51,7 +51,7 @@ fn a_frame_in_work_is_finished(rt: HostRuntime) -> Result<(), Fail> {
     check(&rt, &mut bus, RDH, 1);
     check_bytes(&rt, &mut bus, 2048, &[0; 16]);
     check_bytes(&rt, &mut bus, 44, &[0xFF; 16]);
-    assert_eq!(rt; bus.step(StepKind::RxDone), Stepped::Done);
+    assert_eq!(rt; bus.step(StepKind::RxDone), StepOutcome::Done);
     Ok(())
 }
 
@@ -65,7 +65,7 @@ fn a_finished_slot_names_its_frame(rt: HostRuntime) -> Result<(), Fail> {
         &[0, 0, 0, 0, 0, 0, 0, 0, 60, 0, 0, 0, 3, 0, 0, 0],
     );
     check(&rt, &mut bus, ICR, 0x80);
-    assert_eq!(rt; bus.step(StepKind::RxDone), Stepped::Nothing);
+    assert_eq!(rt; bus.step(StepKind::RxDone), StepOutcome::Nothing);
     Ok(())
 }
 
@@ -74,7 +74,7 @@ fn a_frame_to_send_is_taken(rt: HostRuntime) -> Result<(), Fail> {
     let mut bus = with_frame_to_send(rt.alloc(), &image())?;
     check(&rt, &mut bus, TDH, 0);
     check(&rt, &mut bus, TDT, 1);
-    assert_eq!(rt; bus.step(StepKind::TxTake), Stepped::Took);
+    assert_eq!(rt; bus.step(StepKind::TxTake), StepOutcome::Took);
     Ok(())
 }
 
@@ -82,7 +82,7 @@ fn a_frame_to_send_is_taken(rt: HostRuntime) -> Result<(), Fail> {
 fn a_buffered_frame_is_put(rt: HostRuntime) -> Result<(), Fail> {
     let mut bus = with_buffered_frame(rt.alloc(), &image())?;
     check(&rt, &mut bus, TDH, 1);
-    assert!(rt; matches!(bus.step(StepKind::TxPut), Stepped::Put(_)));
+    assert!(rt; matches!(bus.step(StepKind::TxPut), StepOutcome::Put));
     let frame = bus.take_put().unwrap_or_default();
     assert_eq!(rt; frame.as_slice(), [0; 60].as_slice());
     check_bytes(

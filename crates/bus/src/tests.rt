@@ -8,7 +8,7 @@ use crate::{
     written_slots_can_be_freed,
 };
 use adapter::offsets::*;
-use adapter::{Adapter, Fate, StepKind, Stepped};
+use adapter::{Adapter, Fate, StepKind, StepOutcome};
 use descriptors::Frame;
 use dma_memory::HostMemory;
 use eeprom::Image;
@@ -135,9 +135,9 @@ fn frames_go_onto_the_wire_while_it_has_room(rt: HostRuntime) -> Result<(), Fail
             &[0, 0x08, 0, 0, 0, 0, 0, 0, 14, 0, 0, 0x0B, 0, 0, 0, 0],
         );
         bus.write(TDT, u32::from((slot + 1) % 8));
-        assert_eq!(rt; bus.step(StepKind::TxTake), Stepped::Took);
+        assert_eq!(rt; bus.step(StepKind::TxTake), StepOutcome::Took);
         let put = bus.step(StepKind::TxPut);
-        assert_eq!(rt; put == Stepped::WireFull, sent == 64);
+        assert_eq!(rt; put == StepOutcome::WireFull, sent == 64);
     }
     let first = bus.take_put().unwrap_or_default();
     assert_eq!(rt; first.len(), 60);
@@ -149,7 +149,7 @@ fn frames_go_onto_the_wire_while_it_has_room(rt: HostRuntime) -> Result<(), Fail
             .count(),
         14
     );
-    assert!(rt; matches!(bus.step(StepKind::TxPut), Stepped::Put(_)));
+    assert!(rt; matches!(bus.step(StepKind::TxPut), StepOutcome::Put));
     for _ in 0..64 {
         assert!(rt; bus.take_put().is_some());
     }

@@ -2,7 +2,7 @@
 
 use crate::{Driver, Handled, Received, Receiver};
 use adapter::offsets::*;
-use adapter::{Adapter, Fate, StepKind, Stepped};
+use adapter::{Adapter, Fate, StepKind, StepOutcome};
 use arrayvec::ArrayVec;
 use bring_up::{Config, InitError, MOST_VLANS};
 use bus::{Bus, HonestBus, SoloBus};
@@ -263,8 +263,8 @@ fn frames_that_come_behind_bring_up_are_held(rt: HostRuntime) -> Result<(), Fail
     let mut driver = Driver::init(rt.alloc(), &mut bus, &config())?;
     for _ in 0..3 {
         assert_eq!(rt; bus.arrive(&frame), Fate::Stored);
-        assert_eq!(rt; bus.step(StepKind::RxData), Stepped::Moved);
-        assert_eq!(rt; bus.step(StepKind::RxDone), Stepped::Done);
+        assert_eq!(rt; bus.step(StepKind::RxData), StepOutcome::Moved);
+        assert_eq!(rt; bus.step(StepKind::RxDone), StepOutcome::Done);
     }
     let mut counter = Counter {
         frames: 0,

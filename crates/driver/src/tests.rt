@@ -4,7 +4,7 @@ ghost use Rattle.std.specs.Prelude.{⊤};
 
 use crate::{Driver, Received, Receiver, SendError};
 use adapter::offsets::{RCTL, RDLEN, RDT, TCTL, TDBAL, TDLEN, TDT};
-use adapter::{Adapter, Fate, StepKind, Stepped};
+use adapter::{Adapter, Fate, StepKind, StepOutcome};
 use bus::{Bus, HonestBus, SoloBus};
 use circular_buffer::HeapCircularBuffer;
 use dma_memory::{BufId, HostMemory, Layout, Pool};
@@ -99,8 +99,8 @@ fn frames_come_round_the_ring(rt: HostRuntime) -> Result<(), Fail> {
     assert_eq!(rt; bus.read(RDT), 7);
     for _ in 0..2 {
         assert_eq!(rt; bus.arrive(&BROADCAST), Fate::Stored);
-        assert_eq!(rt; bus.step(StepKind::RxData), Stepped::Moved);
-        assert_eq!(rt; bus.step(StepKind::RxDone), Stepped::Done);
+        assert_eq!(rt; bus.step(StepKind::RxData), StepOutcome::Moved);
+        assert_eq!(rt; bus.step(StepKind::RxDone), StepOutcome::Done);
     }
     assert!(rt; driver.layout().size() <= bus.size());
     assert_eq!(rt; driver.take_finished(&mut bus, &mut keeper), 2);
@@ -143,8 +143,8 @@ fn frames_are_sent(rt: HostRuntime) -> Result<(), Fail> {
     );
     assert_eq!(rt; bus.read(TDT), 7);
     // One of them goes out, and its slot serves again.
-    assert_eq!(rt; bus.step(StepKind::TxTake), Stepped::Took);
-    assert!(rt; matches!(bus.step(StepKind::TxPut), Stepped::Put(_)));
+    assert_eq!(rt; bus.step(StepKind::TxTake), StepOutcome::Took);
+    assert!(rt; matches!(bus.step(StepKind::TxPut), StepOutcome::Put));
     assert!(rt; driver.layout().size() <= bus.size());
     assert_eq!(rt; driver.transmit(&mut bus, &BROADCAST), Ok(()));
     assert_eq!(rt; bus.read(TDT), 0);
