@@ -9,6 +9,7 @@ use Rattle.adapter.specs.declared.register.Register.TheVariants.{Ctrl, Status, I
 use Rattle.adapter.specs.Registers.{answer, answer_at, after_read, after_write, is_reset, new_adapter, read_of, write_of}
 use Rattle.adapter.specs.State.{AdapterState, HasRegisters}
 use Rattle.adapter.specs.Table.{IsInTable, StandsAt, register_at, row_of}
+use Rattle.registers.specs.Places.{ctrl_slu}
 
 -- Each register of the table stands at its offset, and no other does.
 pub record OffsetsByTable : Type 0 where
@@ -64,7 +65,7 @@ OthersStayAtRead =
 pub record TouchedRead (value : ℕ) (state : AdapterState) : Type 0 where
   -- behind a write of CTRL, STATUS shows the link where SLU, bit 6, was written
   pub link_shown : is_reset Ctrl value ≡ false
-      → answer Status (write_of Ctrl value state) ≡ (if link_is_up state.phy && is_set value 6 then status_of_link_up else 0)
+      → answer Status (write_of Ctrl value state) ≡ (if link_is_up state.phy && is_set value ctrl_slu then status_of_link_up else 0)
   -- behind a write of ICS, ICR reads the causes written, too
   pub causes_set : answer Icr (write_of Ics value state) ≡ union (answer Icr state) (causes_of value)
   -- behind a write of IMC, IMS reads the mask without them

@@ -3,7 +3,8 @@ use Rattle.std.specs.Prelude.{◌≡◌, ◌≤◌, ◌++◌, ℕ, true, List, A
 use Rattle.dma_memory.specs.Areas.{AreSeparate}
 use Rattle.registers.specs.Bits.{HasBit}
 use Rattle.descriptors.specs.declared.rx_desc.RxDesc.{RxDesc}
-use Rattle.descriptors.specs.RxStatus.{status_bits}
+use Rattle.descriptors.specs.RxStatus.{status_bits, eop}
+use Rattle.registers.specs.Places.{tctl_psp}
 use Rattle.rx_engine.specs.Descriptors.{descriptor_at}
 use Rattle.tx_engine.specs.Fetching.{fetched}
 use Rattle.tx_engine.specs.Transmitter.{Queued}
@@ -24,11 +25,11 @@ pub record Sound (oldest_received oldest_sent : ℕ) (world : World) : Type 0 wh
   -- every frame to be sent asks for a report
   pub reports : All Reports (world.adapter.transmitter.buffer ++ map (fetched true world.memory) (offered (transmit_ring world)))
   -- TCTL.PSP
-  pub pads : ¬ (world.adapter.transmit_ring.head ≡ world.adapter.transmit_ring.tail) → HasBit world.adapter.transmit_control 3
+  pub pads : ¬ (world.adapter.transmit_ring.head ≡ world.adapter.transmit_ring.tail) → HasBit world.adapter.transmit_control tctl_psp
 
 -- a descriptor as this adapter finishes one: EOP, no errors, and the length of a legal frame
 pub record IsWhole (descriptor : RxDesc) : Type 0 where
-  pub ended : HasBit (status_bits descriptor.status) 1
+  pub ended : HasBit (status_bits descriptor.status) eop
   pub unharmed : descriptor.errors ≡ 0
   pub least : 60 ≤ descriptor.length
   pub most : descriptor.length ≤ 1518

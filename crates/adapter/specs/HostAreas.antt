@@ -2,6 +2,7 @@
 use Rattle.std.specs.Prelude.{◌+◌, ◌*◌, ◌++◌, ℕ, Bool, List, [], ◌∷◌, All, Option, None, Some, map, if◌then◌else◌}
 use Rattle.dma_memory.specs.Areas.{AreApart, Area}
 use Rattle.registers.specs.Bits.{field, is_set}
+use Rattle.registers.specs.Places.{rctl_bsize, rctl_en}
 use Rattle.registers.specs.ReceiveControl.{buffer_size_of}
 use Rattle.descriptors.specs.declared.ring.Ring.{Ring}
 use Rattle.descriptors.specs.Ring.{count_of}
@@ -23,7 +24,7 @@ work_areas memory (Some work) = record { address = receive.named_address memory 
 
 -- how many bytes each receive buffer has, as RCTL.BSIZE names it
 abbrev pub buffer_size : World → ℕ
-buffer_size world = buffer_size_of (field world.adapter.filter.rctl 16 2)
+buffer_size world = buffer_size_of (field world.adapter.filter.rctl rctl_bsize 2)
 
 -- the buffer that a receive descriptor names
 abbrev pub buffer_of : World → ℕ → Area
@@ -34,7 +35,7 @@ buffer_of world descriptor = record {
 
 -- RCTL.EN
 abbrev pub receives : World → Bool
-receives world = is_set world.adapter.filter.rctl 1
+receives world = is_set world.adapter.filter.rctl rctl_en
 
 -- the buffers of the offered slots, where the adapter receives at all
 abbrev pub offered_buffers : World → List Area

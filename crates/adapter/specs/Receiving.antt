@@ -5,6 +5,7 @@ use Rattle.dma_memory.specs.Areas.{ChangesOnly, area_at}
 use Rattle.registers.specs.Bits.{HasBit}
 use Rattle.descriptors.specs.Frames.{IsLegal}
 use Rattle.descriptors.specs.Ring.{address_of}
+use Rattle.registers.specs.Places.{alone, rctl_en, rxdmt0, rxo, rxt0}
 use Rattle.rx_engine.specs.Arriving.{IsAccepted, after_arrival}
 use Rattle.rx_engine.specs.Descriptors.{named_address}
 use Rattle.rx_engine.specs.Receiver.{oldest}
@@ -35,9 +36,9 @@ GetsIn state frame = IsAccepted state.filter frame
 
 -- what each fate of a frame says of the adapter before it: the first that applies
 abbrev pub IsFate : AdapterState → List ℕ → Fate → Type 0
-IsFate state frame Off = ¬ (HasBit state.filter.rctl 1)
-IsFate state frame Illegal = HasBit state.filter.rctl 1 × (¬ (IsLegal frame))
-IsFate state frame Filtered = HasBit state.filter.rctl 1 × IsLegal frame × (¬ (Passes (filter_of state.filter) frame))
+IsFate state frame Off = ¬ (HasBit state.filter.rctl rctl_en)
+IsFate state frame Illegal = HasBit state.filter.rctl rctl_en × (¬ (IsLegal frame))
+IsFate state frame Filtered = HasBit state.filter.rctl rctl_en × IsLegal frame × (¬ (Passes (filter_of state.filter) frame))
 IsFate state frame Missed = GetsIn state frame × (room state ≤ length state.receiver.buffer)
 IsFate state frame Stored = GetsIn state frame × (length state.receiver.buffer < room state)
 
@@ -51,7 +52,7 @@ after_arrive Off frame state = state
 after_arrive Illegal frame state = state
 after_arrive Filtered frame state = state
 after_arrive Missed frame state =
-    with_causes 0x40 (record state { missed_packets = one_more state.missed_packets; no_receive_buffers = no_buffers_counted state })
+    with_causes (alone rxo) (record state { missed_packets = one_more state.missed_packets; no_receive_buffers = no_buffers_counted state })
 after_arrive Stored frame state =
     record state { receiver = after_arrival Stored frame state.receiver; no_receive_buffers = no_buffers_counted state }
 
@@ -74,7 +75,7 @@ DataAnswers memory state _ = ⊥
 
 -- RXDMT0, bit 4, where the free descriptors become half the ring (13.4.17; 13.4.22, RDMTS 00)
 abbrev pub causes_of_moving : RingRegisters → ℕ
-causes_of_moving ring = if is_half_free (ring_of (moved_on ring)) then 0x10 else 0
+causes_of_moving ring = if is_half_free (ring_of (moved_on ring)) then alone rxdmt0 else 0
 
 -- The oldest frame has left the packet buffer and is in work, and RDH has moved on. A fault stops the engine.
 abbrev pub after_data : Stepped → AdapterState → AdapterState
@@ -108,7 +109,7 @@ DoneAnswers state _ = ⊥
 -- No frame is in work; RXT0, bit 7, is recorded, and the frame is counted by GPRC (its place of counting is own).
 abbrev pub after_done : Stepped → AdapterState → AdapterState
 after_done Done state =
-    with_causes 0x80 (record state { receiver = engine_after_done state.receiver; received_packets = one_more state.received_packets })
+    with_causes (alone rxt0) (record state { receiver = engine_after_done state.receiver; received_packets = one_more state.received_packets })
 after_done _ state = state
 
 -- Bytes 8 to 15 of the descriptor in work are written, where it lies in memory.

@@ -7,6 +7,7 @@ use Rattle.mdic_phy.specs.Mdic as mdi
 use Rattle.mdic_phy.specs.Phy.{PhyState, link_is_up, new_phy}
 use Rattle.registers.specs.Bits.{is_set, union, difference}
 use Rattle.registers.specs.Kept.{causes_of, status_of_link_up}
+use Rattle.registers.specs.Places.{ctrl_rst, ctrl_slu}
 use Rattle.rx_filter.specs.Registers.{FilterRegisters}
 use Rattle.rx_engine.specs.Receiver.{new_receiver}
 use Rattle.tx_engine.specs.Transmitter.{new_transmitter}
@@ -16,6 +17,7 @@ use Rattle.adapter.specs.PacketBuffer.{allocation_shown, allocation_written}
 use Rattle.adapter.specs.Rings.{new_ring, ring_answer, with_ring}
 use Rattle.adapter.specs.State.{AdapterState}
 use Rattle.adapter.specs.Table.{row_of, register_at, address_low_at_reset, address_high_at_reset}
+use Rattle.rx_filter.specs.declared.filter.TheConstants.{VLAN_TYPE}
 
 -- After power-on and after a reset.
 
@@ -27,7 +29,7 @@ filter_at_reset words = record {
   mta = replicate 128 0;
   vfta = replicate 128 0;
   rctl = 0;
-  vet = 0x8100;
+  vet = VLAN_TYPE;
 }
 
 -- an adapter after a reset, by the words of its EEPROM, its PHY and its PBA
@@ -65,7 +67,7 @@ after_reset state = adapter_at_reset state.image state.phy state.receive_kilobyt
 
 -- STATUS shows the link of the PHY while CTRL.SLU, bit 6, is set (own)
 abbrev pub shows_link : AdapterState → Bool
-shows_link state = link_is_up state.phy && is_set state.device_control 6
+shows_link state = link_is_up state.phy && is_set state.device_control ctrl_slu
 
 -- what a read of a register answers
 abbrev pub answer : Register → AdapterState → ℕ
@@ -130,7 +132,7 @@ by_rule register value state = state
 
 -- a write of CTRL with RST, bit 26, resets, and the rest of it is ignored (own)
 abbrev pub is_reset : Register → ℕ → Bool
-is_reset Ctrl value = is_set value 26
+is_reset Ctrl value = is_set value ctrl_rst
 is_reset register value = false
 
 -- by the kept bits of the table's row, or by the register's own rule

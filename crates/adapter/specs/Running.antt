@@ -2,6 +2,7 @@
 use Rattle.std.specs.Prelude.{◌≡◌, ◌≢◌, ℕ, false, List, All}
 use Rattle.registers.specs.Bits.{HasBit}
 use Rattle.descriptors.specs.Ring.{IsSound}
+use Rattle.registers.specs.Places.{rctl_bsex}
 use Rattle.tx_engine.specs.Fetching.{IsTransmittable, descriptor_at}
 use Rattle.adapter.specs.HostAreas.{buffer_size}
 use Rattle.adapter.specs.HostFrames.{AreWithin}
@@ -20,7 +21,7 @@ pub record CanRun (world : World) : Type 0 where
   pub receive_indices : world.adapter.receive_ring.head ≢ world.adapter.receive_ring.tail → IsSound (receive_ring world)
   pub transmit_indices : world.adapter.transmit_ring.head ≢ world.adapter.transmit_ring.tail → IsSound (transmit_ring world)
   -- RCTL.BSEX is 0, and each frame in the receive packet buffer fits into a buffer of the size that RCTL.BSIZE names.
-  pub not_extended : ¬ (HasBit world.adapter.filter.rctl 25)
+  pub not_extended : ¬ (HasBit world.adapter.filter.rctl rctl_bsex)
   pub frames : AreWithin (buffer_size world) world.adapter.receiver.buffer
   -- The descriptors from TDH to TDT can be transmitted.
   pub transmittable : All (CanTransmit world.memory) (offered (transmit_ring world))

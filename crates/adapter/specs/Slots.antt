@@ -8,6 +8,7 @@ use Rattle.descriptors.specs.Ring.{address_of, count_of, owned}
 use Rattle.rx_engine.specs.declared.engine.Work.{Work}
 use Rattle.tx_engine.specs.Transmitter.{Queued}
 use Rattle.adapter.specs.World.{World, receive_ring, transmit_ring}
+use Rattle.descriptors.specs.RxStatus.{dd}
 
 -- the slots that the adapter owns: from head up to, not including, tail
 abbrev pub offered : Ring → List ℕ
@@ -19,7 +20,7 @@ outstanding ring oldest = offered (record ring { head = oldest })
 
 -- the descriptor at an address is done: DD, bit 0 of its byte 12 (3.2.3.1, 3.3.3.2)
 abbrev pub is_done : List ℕ → ℕ → Bool
-is_done memory descriptor = is_set (slice_index (bytes_at memory descriptor 16) 12) 0
+is_done memory descriptor = is_set (slice_index (bytes_at memory descriptor 16) 12) dd
 
 -- the slots from the oldest on that are done
 abbrev pub done_slots : List ℕ → Ring → ℕ → List ℕ

@@ -12,6 +12,7 @@ use Rattle.adapter.specs.Receiving.{DataAnswers, DataChangesOnly, DoneAnswers, D
 use Rattle.adapter.specs.Recording.{with_causes}
 use Rattle.adapter.specs.State.{AdapterState}
 use Rattle.adapter.specs.Transmitting.{PutAnswers, PutChangesOnly, TakeAnswers, after_put, after_take, memory_after_put}
+use Rattle.registers.specs.Places.{alone, lsc, mdac}
 
 -- Ticks.
 
@@ -22,7 +23,7 @@ after_eeprom_tick state = record state { eerd = eeprom.after_tick state.image st
 -- the causes that a tick of the PHY records: LSC, bit 2, where the link came up, and MDAC, bit 9, where a command has ended whose end is
 -- told (13.4.17 "Interrupt Cause Read Register")
 abbrev pub causes_told : Ticked → ℕ
-causes_told ticked = union (if ticked.link_changed then 0x4 else 0) (if ticked.access_complete then 0x200 else 0)
+causes_told ticked = union (if ticked.link_changed then alone lsc else 0) (if ticked.access_complete then alone mdac else 0)
 
 -- a tick of the PHY that tells this
 abbrev pub after_phy_told : Option Ticked → AdapterState → AdapterState

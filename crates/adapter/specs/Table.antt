@@ -5,6 +5,9 @@ use Rattle.adapter.specs.declared.register.RingRegister.TheVariants.{BaseLow, Ba
 use Rattle.adapter.specs.declared.register.Register.{Register}
 use Rattle.adapter.specs.declared.register.Register.TheVariants.{Ctrl, Status, Eerd, Mdic, Vet, Icr, Ics, Ims, Imc, Rctl, Tctl, Pba, Receive, Transmit, Mpc, Gprc, Gptc, Rnbc, Mta, Ral, Rah, Vfta}
 use Rattle.adapter.specs.Rings.{ring_distance, ring_kept}
+use Rattle.registers.specs.Places.{alone, rah_av}
+use Rattle.registers.specs.Kept.{control_mask, receive_control_mask, transmit_control_mask}
+use Rattle.rx_filter.specs.Registers.{address_high_mask}
 
 -- A line of the table.
 pub record Row : Type 0 where
@@ -29,10 +32,10 @@ address_low_at_reset entry words = if entry == 0 then slice_index words 1 * 6553
 
 -- RAH(0) is word 2 of the EEPROM with AV, bit 31; the other entries are 0 (own)
 abbrev pub address_high_at_reset : ℕ → List ℕ → ℕ
-address_high_at_reset entry words = if entry == 0 then 0x80000000 + slice_index words 2 else 0
+address_high_at_reset entry words = if entry == 0 then alone rah_av + slice_index words 2 else 0
 
 abbrev pub row_of : Register → Row
-row_of Ctrl = plain 0x0000 0x40000061 0
+row_of Ctrl = plain 0x0000 control_mask 0
 row_of Status = ruled 0x0008 0
 row_of Eerd = ruled 0x0014 0
 row_of Mdic = ruled 0x0020 0
@@ -41,8 +44,8 @@ row_of Icr = ruled 0x00C0 0
 row_of Ics = ruled 0x00C8 0
 row_of Ims = ruled 0x00D0 0
 row_of Imc = ruled 0x00D8 0
-row_of Rctl = plain 0x0100 0x0607B33A 0
-row_of Tctl = plain 0x0400 0x003FFFFA 0
+row_of Rctl = plain 0x0100 receive_control_mask 0
+row_of Tctl = plain 0x0400 transmit_control_mask 0
 row_of Pba = ruled 0x1000 0x00100030
 row_of (Receive part) = plain (0x2800 + ring_distance part) (ring_kept part) 0
 row_of (Transmit part) = plain (0x3800 + ring_distance part) (ring_kept part) 0
@@ -52,7 +55,7 @@ row_of Gptc = ruled 0x4080 0
 row_of Rnbc = ruled 0x40A0 0
 row_of (Mta word) = plain (0x5200 + 4 * word) 0xFFFFFFFF 0
 row_of (Ral entry) = record { offset = 0x5400 + 8 * entry; kept = Some 0xFFFFFFFF; reset = address_low_at_reset entry }
-row_of (Rah entry) = record { offset = 0x5404 + 8 * entry; kept = Some 0x8000FFFF; reset = address_high_at_reset entry }
+row_of (Rah entry) = record { offset = 0x5404 + 8 * entry; kept = Some address_high_mask; reset = address_high_at_reset entry }
 row_of (Vfta word) = plain (0x5600 + 4 * word) 0xFFFFFFFF 0
 
 -- which numbers the arrays have

@@ -1,6 +1,7 @@
 -- The two steps of transmission ("3.3 Packet Transmission"): a frame is taken from the ring, and a frame is put onto the wire.
 use Rattle.std.specs.Prelude.{◌≡◌, ◌≢◌, ◌==◌, ◌++◌, ◌∷◌, [], ℕ, List, Bool, true, false, drop, if◌then◌else◌}
 use Rattle.descriptors.specs.Ring.{address_of, next_of}
+use Rattle.registers.specs.Places.{alone, txdw, txqe}
 use Rattle.tx_engine.specs.Fetching.{IsIdle, IsFetchable, fetched, pads}
 use Rattle.tx_engine.specs.Steps.{DiffersAtMostAt, IfFront, status_place, written_back}
 use Rattle.tx_engine.specs.Transmitter.{Queued}
@@ -34,7 +35,7 @@ moved_on ring = record ring { head = next_of (ring_of ring) ring.head }
 
 -- TXQE, bit 1, where head has become tail (13.4.17)
 abbrev pub causes_of_taking : RingRegisters → ℕ
-causes_of_taking ring = if (moved_on ring).head == ring.tail then 0x2 else 0
+causes_of_taking ring = if (moved_on ring).head == ring.tail then alone txqe else 0
 
 -- The frame is behind the others in the packet buffer, and TDH has moved on. A fault stops the engine.
 abbrev pub after_take : Stepped → List ℕ → AdapterState → AdapterState
@@ -66,7 +67,7 @@ PutAnswers wire_free state _ = ⊥
 -- TXDW, bit 0, where the descriptor of the oldest frame asks for a report (13.4.17; that it waits until the frame is on the wire is own)
 abbrev pub causes_of_putting : List Queued → ℕ
 causes_of_putting [] = 0
-causes_of_putting (queued ∷ later) = if queued.report then 0x1 else 0
+causes_of_putting (queued ∷ later) = if queued.report then alone txdw else 0
 
 -- The oldest frame has left the packet buffer, and is counted by GPTC.
 abbrev pub without_oldest : AdapterState → AdapterState

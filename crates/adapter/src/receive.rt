@@ -3,6 +3,7 @@
 ghost use Rattle.std.specs.Prelude.{◌≡◌, length, if◌then◌else◌};
 ghost use Rattle.registers.specs.Bits.{IsSubset};
 ghost use Rattle.registers.specs.Kept.{all_causes};
+ghost use Rattle.registers.specs.Places.{alone, rxdmt0};
 ghost use Rattle.adapter.specs.Outcomes.{stepped_of};
 ghost use Rattle.adapter.specs.State.{IsAdapter};
 ghost use Rattle.adapter.specs.Receiving.{DataAnswers, DataChangesOnly, DoneAnswers, DoneChangesOnly, IsFate, after_arrive, after_data, after_done, memory_after_data_step, memory_after_done_step, no_buffers_counted};
@@ -85,7 +86,7 @@ impl Adapter {
 
 /// The causes that a moved frame records: RXDMT0 where the free descriptors have become half the ring.
 fn causes_of_moving(low: bool) -> Cause
-    ensures causes { result.0 ≡ (if low then 0x10 else 0) }
+    ensures causes { result.0 ≡ (if low then alone rxdmt0 else 0) }
     ensures alone { IsSubset result.0 all_causes }
 {
     if low { Cause::RXDMT0 } else { Cause::empty() }

@@ -3,6 +3,7 @@
 ghost use Rattle.std.specs.Prelude.{◌≡◌, ◌≢◌, ◌++◌, [], drop, length, if◌then◌else◌};
 ghost use Rattle.registers.specs.Bits.{IsSubset};
 ghost use Rattle.registers.specs.Kept.{all_causes};
+ghost use Rattle.registers.specs.Places.{alone, txqe};
 ghost use Rattle.tx_engine.specs.Steps.{DiffersAtMostAt, IfFront, status_place};
 ghost use Rattle.adapter.specs.Outcomes.{has_place, put_by, stepped_of};
 ghost use Rattle.adapter.specs.State.{IsAdapter};
@@ -97,7 +98,7 @@ impl Adapter {
 
 /// The causes that a taken frame records: TXQE where head has become tail.
 fn causes_of_taking(emptied: bool) -> Cause
-    ensures causes { result.0 ≡ (if emptied then 0x2 else 0) }
+    ensures causes { result.0 ≡ (if emptied then alone txqe else 0) }
     ensures alone { IsSubset result.0 all_causes }
 {
     if emptied { Cause::TXQE } else { Cause::empty() }

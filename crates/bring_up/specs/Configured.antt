@@ -2,6 +2,7 @@
 use Rattle.std.specs.Prelude.{◌≡◌, ◌<◌, ◌+◌, ◌-◌, ◌*◌, ◌^◌, ◌++◌, ℕ, Bool, true, false, List, ◌∷◌, [], All, Option, None, Some, length, replicate}
 use Rattle.adapter.specs.declared.offsets.TheConstants.{MTA, RDBAL, RDT, TDBAL, VFTA}
 use Rattle.arrayvec.specs.declared.array_vec.ArrayVec.{ArrayVec}
+use Rattle.registers.specs.Places.{alone, rah_av}
 use Rattle.rx_filter.specs.Addresses.{IsAddress, high_word, low_word}
 use Rattle.adapter.specs.Rings.{ring_of}
 use Rattle.descriptors.specs.Ring.{count_of}
@@ -13,6 +14,7 @@ use Rattle.bring_up.specs.RingRegisters.{receive_control, receive_writes, ring_w
 use Rattle.bring_up.specs.Sets.{IsAside}
 use Rattle.bring_up.specs.Table.{allocation_writes, handled_causes, link_control, link_writes, mask_writes, reset_writes, write_at}
 use Rattle.bring_up.specs.declared.config.Config.{Config}
+use Rattle.rx_filter.specs.declared.filter.TheConstants.{VLAN_TYPE}
 
 -- whether VLANs are named, an empty list among them
 abbrev pub names_vlans : Option (ArrayVec ℕ 32 (Unit {0})) → Bool
@@ -63,8 +65,8 @@ pub record IsConfigured (config : Config) (address : List ℕ) (settings : Setti
   pub vlans : HasNumbers settings.filter.vfta (vlans_of config.vlans)
   -- The address is the first exact one, and valid; the other 15 entries are 0.
   pub address_low : settings.filter.ral ≡ low_word address ∷ replicate 15 0
-  pub address_high : settings.filter.rah ≡ (high_word address + 2 ^ 31) ∷ replicate 15 0
-  pub vlan_type : settings.filter.vet ≡ 0x8100
+  pub address_high : settings.filter.rah ≡ (high_word address + alone rah_av) ∷ replicate 15 0
+  pub vlan_type : settings.filter.vet ≡ VLAN_TYPE
   -- the rings: base, number of slots, tail
   pub receive_base : (ring_of settings.receive_ring).base ≡ 0
   pub receive_count : count_of (ring_of settings.receive_ring) ≡ config.rx

@@ -15,6 +15,7 @@ use Rattle.bus.specs.Past.{Past}
 use Rattle.bring_up.specs.declared.init_error.InitError.{InitError}
 use Rattle.bring_up.specs.declared.init_error.InitError.TheVariants.{NoLink, PhyTimeout}
 use Rattle.bring_up.specs.Sets.{Asks}
+use Rattle.mdic_phy.specs.Places.{status_complete, status_link}
 
 -- a PHY with this link, when its negotiation has been enabled and started
 abbrev pub started : Link → PhyState
@@ -81,7 +82,7 @@ pub record AwaitsLink {B : Type 0} (world : B → World) (happened : B → B →
   pub asks : Asks world happened old new MDIC
   pub link : (world new).adapter.phy.link ≡ (world old).adapter.phy.link
   -- MDIC shows bits 5 and 2 of the PHY's status: negotiation is complete, and the link is up.
-  pub seen : IfOk result (λ done. HasBit (world new).adapter.mdic.value 5 × HasBit (world new).adapter.mdic.value 2)
+  pub seen : IfOk result (λ done. HasBit (world new).adapter.mdic.value status_complete × HasBit (world new).adapter.mdic.value status_link)
   -- The link is up, and stays so by the law of links.
   pub up : IfOk result (λ done. HasLink (world new))
   pub late : IfErr result (λ error. 1000 ≤ length asks.past.accesses)

@@ -1,7 +1,8 @@
 -- What the buses of `src/sound_buses.rt` hold (own), by the bytes of their memory and the words of their EEPROM. The memory is all zeros, so
 -- each receive descriptor names the buffer at address 0, behind which both rings of eight slots stand.
-use Rattle.std.specs.Prelude.{ℕ, List, [], ◌∷◌, replicate}
+use Rattle.std.specs.Prelude.{◌+◌, ℕ, List, [], ◌∷◌, replicate}
 use Rattle.mdic_phy.specs.declared.phy.Link.TheVariants.{Never}
+use Rattle.registers.specs.Places.{alone, rctl_bam, rctl_en, tctl_en, tctl_psp}
 use Rattle.rx_engine.specs.declared.arrival.Fate.TheVariants.{Stored}
 use Rattle.adapter.specs.Registers.{filter_at_reset, new_adapter}
 use Rattle.adapter.specs.declared.step.StepKind.TheVariants.{RxData, RxDone, TxTake}
@@ -15,8 +16,8 @@ abbrev pub resting : ℕ → List ℕ → World
 resting size words = record {
   memory = replicate size 0;
   adapter = record (new_adapter words Never) {
-    filter = record (filter_at_reset words) { rctl = 0x8002 };
-    transmit_control = 0xA;
+    filter = record (filter_at_reset words) { rctl = alone rctl_en + alone rctl_bam };
+    transmit_control = alone tctl_en + alone tctl_psp;
     receive_ring = record { base_low = 2048; base_high = 0; length_bytes = 128; head = 0; tail = 0 };
     transmit_ring = record { base_low = 2176; base_high = 0; length_bytes = 128; head = 0; tail = 0 };
   };

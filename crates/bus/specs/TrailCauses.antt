@@ -3,6 +3,7 @@ use Rattle.std.specs.Prelude.{◌≡◌, ℕ, Bool, true, List, [], ◌∷◌, O
 use Rattle.mdic_phy.specs.declared.mdic.Ticked.{Ticked}
 use Rattle.mdic_phy.specs.Mdic.{told}
 use Rattle.registers.specs.Bits.{HasBit, union}
+use Rattle.registers.specs.Places.{alone, lsc, mdac, rxdmt0, rxo, rxt0, txdw, txqe}
 use Rattle.rx_engine.specs.Moving.{is_half_free}
 use Rattle.rx_engine.specs.declared.arrival.Fate.{Fate}
 use Rattle.rx_engine.specs.declared.arrival.Fate.TheVariants.{Missed}
@@ -34,13 +35,13 @@ abbrev pub causes_by_step : StepKind → Stepped → AdapterState → ℕ
 causes_by_step TxTake Took adapter = causes_of_taking adapter.transmit_ring
 causes_by_step TxPut (Put frame) adapter = causes_of_putting adapter.transmitter.buffer
 causes_by_step RxData Moved adapter = causes_of_moving adapter.receive_ring
-causes_by_step RxDone Done adapter = 0x80
+causes_by_step RxDone Done adapter = alone rxt0
 causes_by_step PhyTick answer adapter = causes_by_tick (told adapter.mdic adapter.phy)
 causes_by_step kind answer adapter = 0
 
 -- an arrival: RXO, bit 6, where the frame is missed
 abbrev pub causes_by_arrival : Fate → ℕ
-causes_by_arrival Missed = 0x40
+causes_by_arrival Missed = alone rxo
 causes_by_arrival fate = 0
 
 abbrev pub causes_by : Event → World → ℕ
@@ -69,25 +70,25 @@ MasksStay =
 pub record IsRecorded (later : List Event) (a b : World) : Type 0 where
   -- TXDW, bit 0: a frame was put whose descriptor asks for a report.
   pub put : (wire_free : Bool) (frame : List ℕ) → Trail (Steps TxPut wire_free (Put frame) ∷ later) a b
-      → IfFront a.adapter.transmitter.buffer (λ queued. queued.report ≡ true) → HasBit b.adapter.causes.recorded 0
+      → IfFront a.adapter.transmitter.buffer (λ queued. queued.report ≡ true) → HasBit b.adapter.causes.recorded txdw
   -- TXQE, bit 1: the descriptor taken was the last before TDT.
   pub taken : (wire_free : Bool) → Trail (Steps TxTake wire_free Took ∷ later) a b
-      → (moved_on a.adapter.transmit_ring).head ≡ a.adapter.transmit_ring.tail → HasBit b.adapter.causes.recorded 1
+      → (moved_on a.adapter.transmit_ring).head ≡ a.adapter.transmit_ring.tail → HasBit b.adapter.causes.recorded txqe
   -- LSC, bit 2: the link came up at a tick of the PHY.
   pub link : (wire_free : Bool) (answer : Stepped) → Trail (Steps PhyTick wire_free answer ∷ later) a b
       → (ticked : Ticked) → told a.adapter.mdic a.adapter.phy ≡ Some ticked → ticked.link_changed ≡ true
-      → HasBit b.adapter.causes.recorded 2
+      → HasBit b.adapter.causes.recorded lsc
   -- RXDMT0, bit 4: the descriptors from RDH to RDT became half the ring as a frame was moved.
   pub moved : (wire_free : Bool) → Trail (Steps RxData wire_free Moved ∷ later) a b
-      → is_half_free (ring_of (moved_on a.adapter.receive_ring)) ≡ true → HasBit b.adapter.causes.recorded 4
+      → is_half_free (ring_of (moved_on a.adapter.receive_ring)) ≡ true → HasBit b.adapter.causes.recorded rxdmt0
   -- RXO, bit 6: a frame was missed.
-  pub missed : (frame : List ℕ) → Trail (Arrives frame Missed ∷ later) a b → HasBit b.adapter.causes.recorded 6
+  pub missed : (frame : List ℕ) → Trail (Arrives frame Missed ∷ later) a b → HasBit b.adapter.causes.recorded rxo
   -- RXT0, bit 7: a received frame was written back.
-  pub done : (wire_free : Bool) → Trail (Steps RxDone wire_free Done ∷ later) a b → HasBit b.adapter.causes.recorded 7
+  pub done : (wire_free : Bool) → Trail (Steps RxDone wire_free Done ∷ later) a b → HasBit b.adapter.causes.recorded rxt0
   -- MDAC, bit 9: a command of MDIC whose end is told ended at a tick of the PHY.
   pub management : (wire_free : Bool) (answer : Stepped) → Trail (Steps PhyTick wire_free answer ∷ later) a b
       → (ticked : Ticked) → told a.adapter.mdic a.adapter.phy ≡ Some ticked → ticked.access_complete ≡ true
-      → HasBit b.adapter.causes.recorded 9
+      → HasBit b.adapter.causes.recorded mdac
 
 -- It is, where no access behind it moves causes; accesses in front of it may.
 abbrev pub RecordedCausesStay : Type 0

@@ -6,6 +6,13 @@ use Rattle.descriptors.specs.declared.rx_status.RxStatus.{RxStatus}
 abbrev pub status_bits : RxStatus → ℕ
 status_bits status = status.0
 
+-- Where DD, descriptor done, and EOP, end of packet, stand.
+abbrev pub dd : ℕ
+dd = 0
+
+abbrev pub eop : ℕ
+eop = 1
+
 -- The status with these bits, those without a name among them.
 abbrev pub status_of : ℕ → RxStatus
 status_of bits = record { 0 = bits }

@@ -1,4 +1,5 @@
 pub mod Phy
+pub mod Places
 pub mod Mdic
 pub mod PhyHistory
 pub mod MdicHistory

@@ -7,6 +7,7 @@ use Rattle.mdic_phy.specs.declared.mdic.Operation.TheVariants.{Write, Read}
 use Rattle.mdic_phy.specs.declared.mdic.Ticked.{Ticked}
 use Rattle.mdic_phy.specs.Phy.{PhyState}
 use Rattle.mdic_phy.specs.Phy as phy
+use Rattle.mdic_phy.specs.Places.{mdic_i}
 
 -- The register's number, and the command that is pending.
 pub record MdicState : Type 0 where
@@ -90,7 +91,7 @@ has_work mdic state = phy.is_counting state || is_some mdic.pending
 
 -- Where the command's I is set, its end is told, as the cause MDAC (13.4.7).
 abbrev pub tells_end : MdicState → Bool
-tells_end mdic = is_some mdic.pending && is_set mdic.value 29
+tells_end mdic = is_some mdic.pending && is_set mdic.value mdic_i
 
 -- What a tick gives the adapter to record: the cause LSC where the link comes up, and the cause MDAC.
 abbrev pub told : MdicState → PhyState → Option Ticked

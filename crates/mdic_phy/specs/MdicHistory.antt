@@ -9,6 +9,7 @@ use Rattle.mdic_phy.specs.Phy.{PhyState, read_value, comes_up, is_counting}
 use Rattle.mdic_phy.specs.Mdic.{MdicState, new_mdic, after_write, mdic_after_tick, phy_after_tick, kept, with_ready, with_error, with_data, data_of, regadd, phyadd, operation_of, reaches_phy, told}
 use Rattle.mdic_phy.specs.PhyHistory.{PhyEvent, after_events}
 use Rattle.mdic_phy.specs.PhyHistory as phy
+use Rattle.mdic_phy.specs.Places.{mdic_i}
 
 -- What may come to the register: a write of a value, or a tick of the PHY. A read changes nothing.
 pub data MdicEvent : Type 0 where
@@ -87,7 +88,7 @@ pub record ToldByHistory : Type 0 where
   pub no_command : (state : PhyState) (before : List MdicEvent) (value : ℕ) → operation_of value ≡ None
       → told_behind state (before ++ Write value ∷ []) ≡ told_of_link (phy_of state (before ++ Write value ∷ []))
   pub command : (state : PhyState) (before : List MdicEvent) (value : ℕ) (asked : Operation) → operation_of value ≡ Some asked
-      → told_behind state (before ++ Write value ∷ []) ≡ Some (record { link_changed = comes_up (phy_of state (before ++ Write value ∷ [])); access_complete = is_set value 29 })
+      → told_behind state (before ++ Write value ∷ []) ≡ Some (record { link_changed = comes_up (phy_of state (before ++ Write value ∷ [])); access_complete = is_set value mdic_i })
 
 -- What MDIC reads follows from the last write, from whether a tick came behind it, and from what the PHY's register
 -- was at that tick (manual, 13.4.7). Commands of writes before the last have no part in it.

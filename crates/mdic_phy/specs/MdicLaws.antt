@@ -15,6 +15,7 @@ use Rattle.mdic_phy.specs.PhyHistory.{PhyEvent, after_event, after_events}
 use Rattle.mdic_phy.specs.PhyHistory as phy
 use Rattle.mdic_phy.specs.MdicHistory.{MdicEvent, Write, Tick, MdicAndPhy, after_mdic_event, after_mdic_events, both_behind, access_of, accesses, AccessesByHistory, NoWrite, mdic_reads, ticked_phy, MdicByHistory, told_of_link, ToldByHistory}
 use Rattle.mdic_phy.specs.PhyLaws.{after_events-append}
+use Rattle.mdic_phy.specs.Places.{mdic_i}
 
 -- ---- the fields of what a write keeps are those of what was written
 
@@ -148,9 +149,9 @@ pub both-behind : (s : PhyState) (before : List MdicEvent) (event : MdicEvent) �
 both-behind s before event = after_mdic_events-append before (event ∷ []) (record { mdic = new_mdic; phy = s })
 
 -- bit 29 is kept
-pub interrupt-kept : (value : ℕ) → is_set (kept value) 29 ≡ is_set value 29
+pub interrupt-kept : (value : ℕ) → is_set (kept value) mdic_i ≡ is_set value mdic_i
 interrupt-kept value =
-    sym (contains_is_set (kept value) 29) ∙ ap (λ (bit : ℕ). bit == 2 ^ 29) (and_assoc (2 ^ 29) value 0x2FFF_FFFF) ∙ contains_is_set value 29
+    sym (contains_is_set (kept value) mdic_i) ∙ ap (λ (bit : ℕ). bit == 2 ^ 29) (and_assoc (2 ^ 29) value 0x2FFF_FFFF) ∙ contains_is_set value mdic_i
 
 abbrev told_by : Bool → Bool → Option Ticked
 told_by up complete = Some (record { link_changed = up; access_complete = complete })
@@ -185,7 +186,7 @@ told_by_history = record {
   command = λ s before value asked is.
       ap told_both (both-behind s before (Write value))
       ∙ ap (λ (p : Option Operation). told (record { value = kept value; pending = p }) (both_behind s before).phy) is
-      ∙ told-command (is_counting (both_behind s before).phy) (comes_up (both_behind s before).phy) (is_set (kept value) 29)
+      ∙ told-command (is_counting (both_behind s before).phy) (comes_up (both_behind s before).phy) (is_set (kept value) mdic_i)
       ∙ ap (told_by (comes_up (both_behind s before).phy)) (interrupt-kept value)
-      ∙ ap (λ (phy : PhyState). told_by (comes_up phy) (is_set value 29)) (sym (ap (λ (both : MdicAndPhy). both.phy) (both-behind s before (Write value))) ∙ accesses_by_history s (before ++ Write value ∷ []));
+      ∙ ap (λ (phy : PhyState). told_by (comes_up phy) (is_set value mdic_i)) (sym (ap (λ (both : MdicAndPhy). both.phy) (both-behind s before (Write value))) ∙ accesses_by_history s (before ++ Write value ∷ []));
 }

@@ -5,6 +5,7 @@ use Rattle.mdic_phy.specs.declared.phy.Link.{Link}
 use Rattle.mdic_phy.specs.declared.phy.Link.TheVariants.{After, Never}
 use Rattle.mdic_phy.specs.declared.phy.Negotiation.{Negotiation}
 use Rattle.mdic_phy.specs.declared.phy.Negotiation.TheVariants.{NotStarted, Running, Complete}
+use Rattle.mdic_phy.specs.Places.{control_enable, control_reset, control_restart}
 
 -- What a PHY knows: when its link comes up, whether negotiation is enabled (register 0, bit 12), how far
 -- negotiation stands, and whether the link status (register 1, bit 2) is latched low.
@@ -41,9 +42,9 @@ restarted phy = record phy { negotiation = negotiation_of phy.link; latched_low 
 -- and with it bit 9 starts negotiation anew; bit 9 without bit 12 does nothing.
 abbrev pub after_control : ℕ → PhyState → PhyState
 after_control value phy =
-    if is_set value 15 then new_phy phy.link else
-    (let kept : PhyState = record phy { negotiation_enabled = is_set value 12 } in
-    if is_set value 12 && is_set value 9 then restarted kept else kept)
+    if is_set value control_reset then new_phy phy.link else
+    (let kept : PhyState = record phy { negotiation_enabled = is_set value control_enable } in
+    if is_set value control_enable && is_set value control_restart then restarted kept else kept)
 
 -- All registers but 0 ignore a write (own).
 abbrev pub after_write : ℕ → ℕ → PhyState → PhyState

@@ -5,6 +5,7 @@ use Rattle.registers.specs.Bits.{is_set}
 use Rattle.mdic_phy.specs.declared.phy.Link.{Link}
 use Rattle.mdic_phy.specs.declared.phy.Link.TheVariants.{After, Never}
 use Rattle.mdic_phy.specs.Phy.{PhyState, new_phy, after_write, after_read, after_tick, read_value, link_is_up}
+use Rattle.mdic_phy.specs.Places.{control_enable, control_reset, control_restart}
 
 -- What may come to a PHY: a tick, a read of a register, a write of a value to a register.
 pub data PhyEvent : Type 0 where
@@ -45,13 +46,13 @@ is_control_write (Write register value) = register == 0
 abbrev pub is_reset : PhyEvent → Bool
 is_reset Tick = false
 is_reset (Read register) = false
-is_reset (Write register value) = register == 0 && is_set value 15
+is_reset (Write register value) = register == 0 && is_set value control_reset
 
 -- Register 0 is written with bits 12 and 9, and without bit 15 (22.2.4.1, "Restart Auto-Negotiation").
 abbrev pub is_restart : PhyEvent → Bool
 is_restart Tick = false
 is_restart (Read register) = false
-is_restart (Write register value) = register == 0 && (not (is_set value 15) && (is_set value 12 && is_set value 9))
+is_restart (Write register value) = register == 0 && (not (is_set value control_reset) && (is_set value control_enable && is_set value control_restart))
 
 -- A reset or a restart: whatever takes the link down.
 abbrev pub takes_down : PhyEvent → Bool
@@ -101,7 +102,7 @@ control_behind link events = read_value 0 (phy_behind link events)
 -- The control register reads bit 12 of what was last written to it, or 1000h where that was a reset or nothing.
 pub record ControlByHistory : Type 0 where
   pub never_written : (link : Link) (all : List PhyEvent) → HasNo is_control_write all → control_behind link all ≡ 0x1000
-  pub reset : (link : Link) (before : List PhyEvent) (value : ℕ) (after : List PhyEvent) → is_set value 15 ≡ true → HasNo is_control_write after
+  pub reset : (link : Link) (before : List PhyEvent) (value : ℕ) (after : List PhyEvent) → is_set value control_reset ≡ true → HasNo is_control_write after
       → control_behind link (before ++ Write 0 value ∷ after) ≡ 0x1000
-  pub kept : (link : Link) (before : List PhyEvent) (value : ℕ) (after : List PhyEvent) → is_set value 15 ≡ false → HasNo is_control_write after
-      → control_behind link (before ++ Write 0 value ∷ after) ≡ (if is_set value 12 then 0x1000 else 0)
+  pub kept : (link : Link) (before : List PhyEvent) (value : ℕ) (after : List PhyEvent) → is_set value control_reset ≡ false → HasNo is_control_write after
+      → control_behind link (before ++ Write 0 value ∷ after) ≡ (if is_set value control_enable then 0x1000 else 0)

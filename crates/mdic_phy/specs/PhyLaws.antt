@@ -11,6 +11,7 @@ use Rattle.mdic_phy.specs.declared.phy.Negotiation.TheVariants.{NotStarted, Runn
 use Rattle.mdic_phy.specs.Phy.{PhyState, new_phy, after_write, after_read, after_tick, link_is_up, is_complete, counted, negotiation_of, status_value}
 use Rattle.mdic_phy.specs.PhyHistory.{PhyEvent, Tick, Read, Write, after_event, after_events, phy_behind, is_tick, is_status_read, is_control_write, is_reset, is_restart, takes_down, HasNo, LinkByHistory, LatchByHistory, ControlByHistory}
 use Rattle.mdic_phy.specs.WriteLaws.{link-by_tests, not_started-by_tests, reset-by_tests, restart-by_tests, negotiation-by_tests, latch-by_tests, latched-by_tests, still_latched-by_tests, never-by_tests, enabled-by_tests, enabled_stays-by_tests}
+use Rattle.mdic_phy.specs.Places.{control_enable, control_reset, control_restart}
 
 -- one list of events behind another
 pub after_events-append : (before after : List PhyEvent) (phy : PhyState) → after_events (before ++ after) phy ≡ after_events after (after_events before phy)
@@ -32,7 +33,7 @@ link-after_read false phy = refl
 pub link-after_event : (event : PhyEvent) (phy : PhyState) → (after_event event phy).link ≡ phy.link
 link-after_event Tick phy = refl
 link-after_event (Read register) phy = link-after_read (register == 1) phy
-link-after_event (Write register value) phy = link-by_tests (register == 0) (is_set value 15) (is_set value 12) (is_set value 9) phy
+link-after_event (Write register value) phy = link-by_tests (register == 0) (is_set value control_reset) (is_set value control_enable) (is_set value control_restart) phy
 
 pub link-after_events : (events : List PhyEvent) (phy : PhyState) → (after_events events phy).link ≡ phy.link
 link-after_events [] phy = refl
@@ -48,7 +49,7 @@ negotiation-after_read false phy = refl
 pub not_started-after_event : (event : PhyEvent) (phy : PhyState) → is_restart event ≡ false → phy.negotiation ≡ NotStarted → (after_event event phy).negotiation ≡ NotStarted
 not_started-after_event Tick phy none idle = ap counted idle
 not_started-after_event (Read register) phy none idle = negotiation-after_read (register == 1) phy ∙ idle
-not_started-after_event (Write register value) phy none idle = not_started-by_tests (register == 0) (is_set value 15) (is_set value 12) (is_set value 9) phy none idle
+not_started-after_event (Write register value) phy none idle = not_started-by_tests (register == 0) (is_set value control_reset) (is_set value control_enable) (is_set value control_restart) phy none idle
 
 pub not_started-after_events : (events : List PhyEvent) (phy : PhyState) → HasNo is_restart events → phy.negotiation ≡ NotStarted → (after_events events phy).negotiation ≡ NotStarted
 not_started-after_events [] phy none idle = idle
@@ -59,18 +60,18 @@ not_started-after_events (event ∷ later) phy none idle =
 pub reset-after_event : (event : PhyEvent) (phy : PhyState) → is_reset event ≡ true → (after_event event phy).negotiation ≡ NotStarted
 reset-after_event Tick phy is = absurd (false≢true is)
 reset-after_event (Read register) phy is = absurd (false≢true is)
-reset-after_event (Write register value) phy is = reset-by_tests (register == 0) (is_set value 15) (is_set value 12) (is_set value 9) phy is
+reset-after_event (Write register value) phy is = reset-by_tests (register == 0) (is_set value control_reset) (is_set value control_enable) (is_set value control_restart) phy is
 
 pub restart-after_event : (event : PhyEvent) (phy : PhyState) → is_restart event ≡ true → (after_event event phy).negotiation ≡ negotiation_of phy.link
 restart-after_event Tick phy is = absurd (false≢true is)
 restart-after_event (Read register) phy is = absurd (false≢true is)
-restart-after_event (Write register value) phy is = restart-by_tests (register == 0) (is_set value 15) (is_set value 12) (is_set value 9) phy is
+restart-after_event (Write register value) phy is = restart-by_tests (register == 0) (is_set value control_reset) (is_set value control_enable) (is_set value control_restart) phy is
 
 -- a link that never comes up
 pub never-after_event : (event : PhyEvent) (phy : PhyState) → phy.link ≡ Never → phy.negotiation ≡ NotStarted → (after_event event phy).negotiation ≡ NotStarted
 never-after_event Tick phy never idle = ap counted idle
 never-after_event (Read register) phy never idle = negotiation-after_read (register == 1) phy ∙ idle
-never-after_event (Write register value) phy never idle = never-by_tests (register == 0) (is_set value 15) (is_set value 12) (is_set value 9) phy never idle
+never-after_event (Write register value) phy never idle = never-by_tests (register == 0) (is_set value control_reset) (is_set value control_enable) (is_set value control_restart) phy never idle
 
 pub never-after_events : (events : List PhyEvent) (phy : PhyState) → phy.link ≡ Never → phy.negotiation ≡ NotStarted → (after_events events phy).negotiation ≡ NotStarted
 never-after_events [] phy never idle = idle
@@ -83,7 +84,7 @@ never-after_events (event ∷ later) phy never idle =
 pub counted-after_event : (event : PhyEvent) (phy : PhyState) → takes_down event ≡ false → is_tick event ≡ false → (after_event event phy).negotiation ≡ phy.negotiation
 counted-after_event Tick phy none still = absurd (true≢false still)
 counted-after_event (Read register) phy none still = negotiation-after_read (register == 1) phy
-counted-after_event (Write register value) phy none still = negotiation-by_tests (register == 0) (is_set value 15) (is_set value 12) (is_set value 9) phy none
+counted-after_event (Write register value) phy none still = negotiation-by_tests (register == 0) (is_set value control_reset) (is_set value control_enable) (is_set value control_restart) phy none
 
 -- what is complete stays so
 pub complete-after_events : (events : List PhyEvent) (phy : PhyState) → HasNo takes_down events → phy.negotiation ≡ Complete → (after_events events phy).negotiation ≡ Complete
@@ -163,7 +164,7 @@ unlatched-after_read false phy was = was
 pub latched-after_event : (event : PhyEvent) (phy : PhyState) → is_status_read event ≡ false → phy.latched_low ≡ true → (after_event event phy).latched_low ≡ true
 latched-after_event Tick phy none was = was
 latched-after_event (Read register) phy none was = latched-after_read (register == 1) phy none ∙ was
-latched-after_event (Write register value) phy none was = still_latched-by_tests (register == 0) (is_set value 15) (is_set value 12) (is_set value 9) phy was
+latched-after_event (Write register value) phy none was = still_latched-by_tests (register == 0) (is_set value control_reset) (is_set value control_enable) (is_set value control_restart) phy was
 
 pub latched-after_events : (events : List PhyEvent) (phy : PhyState) → HasNo is_status_read events → phy.latched_low ≡ true → (after_events events phy).latched_low ≡ true
 latched-after_events [] phy none was = was
@@ -175,13 +176,13 @@ latched-after_events (event ∷ later) phy none was =
 pub taken_down-after_event : (event : PhyEvent) (phy : PhyState) → takes_down event ≡ true → (after_event event phy).latched_low ≡ true
 taken_down-after_event Tick phy is = absurd (false≢true is)
 taken_down-after_event (Read register) phy is = absurd (false≢true is)
-taken_down-after_event (Write register value) phy is = latched-by_tests (register == 0) (is_set value 15) (is_set value 12) (is_set value 9) phy is
+taken_down-after_event (Write register value) phy is = latched-by_tests (register == 0) (is_set value control_reset) (is_set value control_enable) (is_set value control_restart) phy is
 
 -- and nothing else does
 pub unlatched-after_event : (event : PhyEvent) (phy : PhyState) → takes_down event ≡ false → phy.latched_low ≡ false → (after_event event phy).latched_low ≡ false
 unlatched-after_event Tick phy none was = was
 unlatched-after_event (Read register) phy none was = unlatched-after_read (register == 1) phy was
-unlatched-after_event (Write register value) phy none was = latch-by_tests (register == 0) (is_set value 15) (is_set value 12) (is_set value 9) phy none ∙ was
+unlatched-after_event (Write register value) phy none was = latch-by_tests (register == 0) (is_set value control_reset) (is_set value control_enable) (is_set value control_restart) phy none ∙ was
 
 pub unlatched-after_events : (events : List PhyEvent) (phy : PhyState) → HasNo takes_down events → phy.latched_low ≡ false → (after_events events phy).latched_low ≡ false
 unlatched-after_events [] phy none was = was
@@ -227,7 +228,7 @@ enabled-after_read false phy = refl
 pub enabled-after_event : (event : PhyEvent) (phy : PhyState) → is_control_write event ≡ false → (after_event event phy).negotiation_enabled ≡ phy.negotiation_enabled
 enabled-after_event Tick phy none = refl
 enabled-after_event (Read register) phy none = enabled-after_read (register == 1) phy
-enabled-after_event (Write register value) phy none = enabled_stays-by_tests (register == 0) (is_set value 15) (is_set value 12) (is_set value 9) phy none
+enabled-after_event (Write register value) phy none = enabled_stays-by_tests (register == 0) (is_set value control_reset) (is_set value control_enable) (is_set value control_restart) phy none
 
 pub enabled-after_events : (events : List PhyEvent) (phy : PhyState) → HasNo is_control_write events → (after_events events phy).negotiation_enabled ≡ phy.negotiation_enabled
 enabled-after_events [] phy none = refl
@@ -237,11 +238,11 @@ enabled-after_events (event ∷ later) phy none =
 
 -- bit 12 behind the last write of the control register
 enabled-behind : (link : Link) (before : List PhyEvent) (value : ℕ) (after : List PhyEvent) → HasNo is_control_write after
-    → (phy_behind link (before ++ Write 0 value ∷ after)).negotiation_enabled ≡ cond (is_set value 15) true (is_set value 12)
+    → (phy_behind link (before ++ Write 0 value ∷ after)).negotiation_enabled ≡ cond (is_set value control_reset) true (is_set value control_enable)
 enabled-behind link before value after none =
     ap (λ (phy : PhyState). phy.negotiation_enabled) (after_events-append before (Write 0 value ∷ after) (new_phy link))
     ∙ enabled-after_events after (after_write 0 value (phy_behind link before)) none
-    ∙ enabled-by_tests (is_set value 15) (is_set value 12) (is_set value 9) (phy_behind link before)
+    ∙ enabled-by_tests (is_set value control_reset) (is_set value control_enable) (is_set value control_restart) (phy_behind link before)
 
 shown : Bool → ℕ
 shown enabled = cond enabled 0x1000 0
@@ -250,6 +251,6 @@ pub control_by_history : ControlByHistory
 unfolding shown
 control_by_history = record {
   never_written = λ link all none. ap shown (enabled-after_events all (new_phy link) none);
-  reset = λ link before value after is none. ap shown (enabled-behind link before value after none ∙ ap (λ (b : Bool). cond b true (is_set value 12)) is);
-  kept = λ link before value after is none. ap shown (enabled-behind link before value after none ∙ ap (λ (b : Bool). cond b true (is_set value 12)) is);
+  reset = λ link before value after is none. ap shown (enabled-behind link before value after none ∙ ap (λ (b : Bool). cond b true (is_set value control_enable)) is);
+  kept = λ link before value after is none. ap shown (enabled-behind link before value after none ∙ ap (λ (b : Bool). cond b true (is_set value control_enable)) is);
 }

@@ -5,13 +5,14 @@ use Rattle.registers.specs.Bits.{is_set}
 use Rattle.mdic_phy.specs.declared.phy.Link.TheVariants.{Never}
 use Rattle.mdic_phy.specs.declared.phy.Negotiation.TheVariants.{NotStarted}
 use Rattle.mdic_phy.specs.Phy.{PhyState, new_phy, restarted, negotiation_of, after_write}
+use Rattle.mdic_phy.specs.Places.{control_enable, control_reset, control_restart}
 
 -- A write, where it is known whether it is of register 0, and whether it has bits 15, 12 and 9.
 abbrev pub by_tests : Bool → Bool → Bool → Bool → PhyState → PhyState
 by_tests control reset enable again phy =
     cond control (cond reset (new_phy phy.link) (let kept : PhyState = record phy { negotiation_enabled = enable } in cond (enable && again) (restarted kept) kept)) phy
 
-pub after_write-by_tests : (register value : ℕ) (phy : PhyState) → after_write register value phy ≡ by_tests (register == 0) (is_set value 15) (is_set value 12) (is_set value 9) phy
+pub after_write-by_tests : (register value : ℕ) (phy : PhyState) → after_write register value phy ≡ by_tests (register == 0) (is_set value control_reset) (is_set value control_enable) (is_set value control_restart) phy
 after_write-by_tests register value phy = refl
 
 -- whether it resets, and whether it starts negotiation anew

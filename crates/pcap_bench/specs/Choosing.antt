@@ -4,6 +4,8 @@ use Rattle.std.specs.Prelude.{◌+◌, ◌/◌, ◌%◌, ◌^◌, ◌&&◌, ℕ,
 use Rattle.rx_filter.specs.Addresses.{low_word, high_word, group_number}
 use Rattle.rx_filter.specs.Registers.{FilterRegisters}
 use Rattle.command_line.specs.declared.job.PassFilter.{PassFilter}
+use Rattle.rx_filter.specs.declared.filter.TheConstants.{VLAN_TYPE}
+use Rattle.registers.specs.Places.{alone, rctl_bam, rctl_en, rctl_mpe, rctl_upe, rctl_vfe}
 
 -- RAL(0) and RAH(0): the address, with AV, or 0 where none is given
 abbrev pub with_address : Option (List ℕ) → FilterRegisters → FilterRegisters
@@ -26,14 +28,14 @@ with_vlan (Some number) r = record r { vfta = with_bit r.vfta number }
 
 -- all of these, and VET
 abbrev pub with_tables : PassFilter → FilterRegisters → FilterRegisters
-with_tables options r = record (with_vlan options.vlan (with_group options.group (with_address options.address r))) { vet = 0x8100 }
+with_tables options r = record (with_vlan options.vlan (with_group options.group (with_address options.address r))) { vet = VLAN_TYPE }
 
 -- RCTL: EN and BAM, with UPE and MPE where all is accepted, and VFE where a VLAN is asked for
 abbrev pub mode_bits : Bool → Bool → ℕ
-mode_bits true false = 0x801A
-mode_bits true true = 0x4801A
-mode_bits false false = 0x8002
-mode_bits false true = 0x48002
+mode_bits true false = alone rctl_en + alone rctl_bam + alone rctl_upe + alone rctl_mpe
+mode_bits true true = alone rctl_en + alone rctl_bam + alone rctl_upe + alone rctl_mpe + alone rctl_vfe
+mode_bits false false = alone rctl_en + alone rctl_bam
+mode_bits false true = alone rctl_en + alone rctl_bam + alone rctl_vfe
 
 abbrev pub mode_for : PassFilter → ℕ
 mode_for options = mode_bits (is_none options.address && is_none options.group) (is_some options.vlan)

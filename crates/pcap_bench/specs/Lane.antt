@@ -5,6 +5,7 @@ use Rattle.registers.specs.Bits.{HasBit, field}
 use Rattle.dma_memory.specs.HostMemory.{bytes_at}
 use Rattle.descriptors.specs.declared.rx_desc.RxDesc.{RxDesc}
 use Rattle.descriptors.specs.RxStatus.{status_of}
+use Rattle.registers.specs.Places.{rctl_bsex, rctl_bsize, rctl_en}
 use Rattle.rx_engine.specs.Descriptors.{descriptor_at, named_address}
 use Rattle.rx_engine.specs.Receiver.{new_receiver}
 use Rattle.rx_engine.specs.Finishing.{IsFinished}
@@ -38,9 +39,9 @@ pub record LaneState : Type 0 where
 
 -- RCTL has EN, and asks for buffers of 2,048 bytes (13.4.22)
 pub record IsReceiving (control : ℕ) : Type 0 where
-  pub enabled : HasBit control 1
-  pub not_extended : ¬ (HasBit control 25)
-  pub size : field control 16 2 ≡ 0
+  pub enabled : HasBit control rctl_en
+  pub not_extended : ¬ (HasBit control rctl_bsex)
+  pub size : field control rctl_bsize 2 ≡ 0
 
 -- What holds of every lane: its adapter receives, has room for frames and holds none, and its ring lies in memory.
 pub record IsLane (lane : LaneState) : Type 0 where

@@ -3,6 +3,7 @@ use Rattle.std.specs.Prelude.{◌≡◌, ◌≤◌, ℕ, List, Some, None, IfSom
 use Rattle.rx_filter.specs.Addresses.{group_number}
 use Rattle.rx_filter.specs.Passing.{ReceiveFilter, Passes}
 use Rattle.command_line.specs.declared.job.PassFilter.{PassFilter}
+use Rattle.rx_filter.specs.declared.filter.TheConstants.{VLAN_TYPE}
 
 -- neither an address nor a group is given
 abbrev pub IsOpen : PassFilter → Type 0
@@ -17,7 +18,7 @@ filter_for options = record {
   shift = 4;
   every_vlan = options.vlan ≡ None;
   vlans = λ number. options.vlan ≡ Some number;
-  vlan_type = 0x8100;
+  vlan_type = VLAN_TYPE;
   all_individuals = IsOpen options;
   all_groups = IsOpen options;
   broadcasts = Unit {0};

@@ -16,6 +16,10 @@ ctrl_slu = 6
 abbrev pub ctrl_rst : ℕ
 ctrl_rst = 26
 
+-- STATUS (13.4.2 "Device Status Register")
+abbrev pub status_lu : ℕ
+status_lu = 1
+
 -- RCTL (13.4.22 "Receive Control Register")
 abbrev pub rctl_en : ℕ
 rctl_en = 1
@@ -56,6 +60,10 @@ tctl_ct = 4
 
 abbrev pub tctl_cold : ℕ
 tctl_cold = 12
+
+-- RAH (13.5.3 "Receive Address High")
+abbrev pub rah_av : ℕ
+rah_av = 31
 
 -- the causes of ICR, ICS, IMS and IMC (13.4.17 "Interrupt Cause Read Register")
 abbrev pub txdw : ℕ

@@ -3,6 +3,7 @@
 ghost use Rattle.std.specs.Prelude.{⊤, ◌≡◌, ◌↔◌, [], ◌∷◌, IsTrue, bit_and, codes, if◌then◌else◌};
 ghost use Rattle.registers.specs.Bits.{HasBit, field};
 ghost use Rattle.registers.specs.Kept.{control_mask, written_control_mask, status_of_link_up};
+ghost use Rattle.registers.specs.Places.{ctrl_rst, ctrl_slu, status_lu};
 
 use crate::fields::two_bit_field;
 use bitflags::{Flag, Flags, bitflag_items};
@@ -67,14 +68,14 @@ impl Ctrl {
 
     /// Whether RST is set in what was written.
     pub fn resets(self) -> bool
-        ensures { IsTrue result ↔ HasBit self.0 26 }
+        ensures { IsTrue result ↔ HasBit self.0 ctrl_rst }
     {
         self.contains(Ctrl::RST)
     }
 
     /// Whether SLU is set, without which STATUS shows no link.
     pub fn sets_link_up(self) -> bool
-        ensures { IsTrue result ↔ HasBit self.0 6 }
+        ensures { IsTrue result ↔ HasBit self.0 ctrl_slu }
     {
         self.contains(Ctrl::SLU)
     }
@@ -147,7 +148,7 @@ impl Status {
 
     /// Whether LU is set.
     pub fn is_link_up(self) -> bool
-        ensures { IsTrue result ↔ HasBit self.0 1 }
+        ensures { IsTrue result ↔ HasBit self.0 status_lu }
     {
         self.contains(Status::LU)
     }

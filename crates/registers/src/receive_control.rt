@@ -3,6 +3,7 @@
 ghost use Rattle.std.specs.Prelude.{⊤, ◌≡◌, ◌↔◌, [], ◌∷◌, IsTrue, bit_and, codes};
 ghost use Rattle.registers.specs.Bits.{HasBit, field};
 ghost use Rattle.registers.specs.Kept.{receive_control_mask};
+ghost use Rattle.registers.specs.Places.{rctl_bam, rctl_bsex, rctl_en, rctl_mpe, rctl_upe, rctl_vfe};
 
 use crate::fields::two_bit_field;
 use bitflags::{Flag, Flags, bitflag_items};
@@ -104,42 +105,42 @@ impl Rctl {
 
     /// Whether EN is set: frames are received at all.
     pub fn is_enabled(self) -> bool
-        ensures { IsTrue result ↔ HasBit self.0 1 }
+        ensures { IsTrue result ↔ HasBit self.0 rctl_en }
     {
         self.contains(Rctl::EN)
     }
 
     /// Whether UPE is set: every individual address is accepted.
     pub fn accepts_all_individuals(self) -> bool
-        ensures { IsTrue result ↔ HasBit self.0 3 }
+        ensures { IsTrue result ↔ HasBit self.0 rctl_upe }
     {
         self.contains(Rctl::UPE)
     }
 
     /// Whether MPE is set: every group address is accepted, broadcast among them.
     pub fn accepts_all_groups(self) -> bool
-        ensures { IsTrue result ↔ HasBit self.0 4 }
+        ensures { IsTrue result ↔ HasBit self.0 rctl_mpe }
     {
         self.contains(Rctl::MPE)
     }
 
     /// Whether BAM is set: the broadcast address is accepted.
     pub fn accepts_broadcast(self) -> bool
-        ensures { IsTrue result ↔ HasBit self.0 15 }
+        ensures { IsTrue result ↔ HasBit self.0 rctl_bam }
     {
         self.contains(Rctl::BAM)
     }
 
     /// Whether VFE is set: tagged frames are asked for their VLAN.
     pub fn filters_vlans(self) -> bool
-        ensures { IsTrue result ↔ HasBit self.0 18 }
+        ensures { IsTrue result ↔ HasBit self.0 rctl_vfe }
     {
         self.contains(Rctl::VFE)
     }
 
     /// Whether BSEX is set, with which BSIZE would name larger buffers.
     pub fn extends_buffer_size(self) -> bool
-        ensures { IsTrue result ↔ HasBit self.0 25 }
+        ensures { IsTrue result ↔ HasBit self.0 rctl_bsex }
     {
         self.contains(Rctl::BSEX)
     }

@@ -3,6 +3,7 @@
 ghost use Rattle.std.specs.Prelude.{⊤, ◌≡◌, ◌↔◌, [], ◌∷◌, IsTrue, bit_and, codes};
 ghost use Rattle.registers.specs.Bits.{HasBit};
 ghost use Rattle.registers.specs.Kept.{transmit_control_mask};
+ghost use Rattle.registers.specs.Places.{tctl_en, tctl_psp};
 
 use bitflags::{Flag, Flags, bitflag_items};
 
@@ -55,14 +56,14 @@ impl Tctl {
 
     /// Whether EN is set: frames are transmitted at all.
     pub fn is_enabled(self) -> bool
-        ensures { IsTrue result ↔ HasBit self.0 1 }
+        ensures { IsTrue result ↔ HasBit self.0 tctl_en }
     {
         self.contains(Tctl::EN)
     }
 
     /// Whether PSP is set: short frames are padded.
     pub fn pads_short_packets(self) -> bool
-        ensures { IsTrue result ↔ HasBit self.0 3 }
+        ensures { IsTrue result ↔ HasBit self.0 tctl_psp }
     {
         self.contains(Tctl::PSP)
     }

@@ -4,7 +4,7 @@ use Rattle.byteorder.specs.Endian.{little_bytes}
 use Rattle.registers.specs.Bits.{HasBit}
 use Rattle.dma_memory.specs.Areas.{area_at, descriptor_area, AreApart}
 use Rattle.dma_memory.specs.HostMemory.{bytes_at, with_bytes, LiesIn}
-use Rattle.descriptors.specs.RxStatus.{status_bits}
+use Rattle.descriptors.specs.RxStatus.{status_bits, dd, eop}
 use Rattle.rx_engine.specs.Descriptors.{descriptor_at, named_address}
 use Rattle.rx_engine.specs.Receiver.{Receiver}
 use Rattle.rx_engine.specs.declared.engine.Work.{Work}
@@ -33,8 +33,8 @@ pub record StandsApart (memory : List ℕ) (descriptor n : ℕ) : Type 0 where
 -- address and length name the frame
 pub record IsFinished (memory : List ℕ) (descriptor : ℕ) (frame : List ℕ) : Type 0 where
   -- DD and EOP (3.2.3.1)
-  pub done : HasBit (status_bits (descriptor_at memory descriptor).status) 0
-  pub ended : HasBit (status_bits (descriptor_at memory descriptor).status) 1
+  pub done : HasBit (status_bits (descriptor_at memory descriptor).status) dd
+  pub ended : HasBit (status_bits (descriptor_at memory descriptor).status) eop
   pub unharmed : (descriptor_at memory descriptor).errors ≡ 0
   pub length : (descriptor_at memory descriptor).length ≡ length frame
   pub bytes : bytes_at memory (named_address memory descriptor) (descriptor_at memory descriptor).length ≡ frame

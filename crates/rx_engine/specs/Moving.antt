@@ -1,6 +1,7 @@
 -- The data step of the receive engine ("3.2.6 Receive Descriptor Queue Structure"; that it can fault is own).
 use Rattle.std.specs.Prelude.{◌≢◌, ◌==◌, ◌≤◌, ◌*◌, ⊤, ℕ, List, length, drop, Bool, true, Some}
 use Rattle.registers.specs.Bits.{HasBit, field}
+use Rattle.registers.specs.Places.{rctl_bsex, rctl_bsize, rctl_en}
 use Rattle.registers.specs.ReceiveControl.{buffer_size_of}
 use Rattle.dma_memory.specs.HostMemory.{with_bytes, LiesIn}
 use Rattle.descriptors.specs.declared.ring.Ring.{Ring}
@@ -13,7 +14,7 @@ use Rattle.rx_engine.specs.declared.data.Data.TheVariants.{Nothing, Moved, Fault
 -- with RCTL at this word there is a frame to move, and a descriptor for it
 pub record HasFrameToMove (control : ℕ) (ring : Ring) (engine : Receiver) : Type 0 where
   -- RCTL.EN (13.4.22)
-  pub enabled : HasBit control 1
+  pub enabled : HasBit control rctl_en
   pub ready : IsReady engine
   pub offered : ring.head ≢ ring.tail
 
@@ -23,9 +24,9 @@ pub record CanMove (control : ℕ) (ring : Ring) (memory : List ℕ) (n : ℕ) :
   pub descriptor : LiesIn memory (address_of ring ring.head) 16
   pub place : LiesIn memory (named_address memory (address_of ring ring.head)) n
   -- RCTL.BSEX
-  pub not_extended : ¬ (HasBit control 25)
+  pub not_extended : ¬ (HasBit control rctl_bsex)
   -- RCTL.BSIZE
-  pub size : n ≤ buffer_size_of (field control 16 2)
+  pub size : n ≤ buffer_size_of (field control rctl_bsize 2)
 
 -- the free descriptors, those from head to tail, are half the ring (13.4.22, RDMTS 00)
 abbrev pub is_half_free : Ring → Bool

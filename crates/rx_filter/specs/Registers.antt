@@ -1,6 +1,7 @@
 -- The registers of the receive filter, and the filter that their contents stand for.
 use Rattle.std.specs.Prelude.{◌≡◌, ◌<◌, ◌/◌, ◌%◌, ◌^◌, ℕ, List, [], ◌∷◌, slice_index}
 use Rattle.registers.specs.Bits.{HasBit, field}
+use Rattle.registers.specs.Places.{rah_av, rctl_bam, rctl_mo, rctl_mpe, rctl_upe, rctl_vfe}
 use Rattle.registers.specs.ReceiveControl.{group_offset_of, shift_of}
 use Rattle.rx_filter.specs.Passing.{ReceiveFilter}
 
@@ -32,7 +33,7 @@ entry_address low high = byte 0 low ∷ byte 1 low ∷ byte 2 low ∷ byte 3 low
 
 -- an entry whose AV is set holds this address
 pub record HoldsAddress (low high : ℕ) (address : List ℕ) : Type 0 where
-  pub valid : HasBit high 31
+  pub valid : HasBit high rah_av
   pub equal : address ≡ entry_address low high
 
 -- one of the 16 entries holds this address
@@ -48,11 +49,11 @@ unfoldable pub filter_of : FilterRegisters → ReceiveFilter
 filter_of registers = record {
   addresses = HasEntry registers.ral registers.rah;
   groups = HasTableBit registers.mta;
-  shift = shift_of (group_offset_of (field registers.rctl 12 2));
-  every_vlan = field registers.rctl 18 1 ≡ 0;
+  shift = shift_of (group_offset_of (field registers.rctl rctl_mo 2));
+  every_vlan = field registers.rctl rctl_vfe 1 ≡ 0;
   vlans = HasTableBit registers.vfta;
   vlan_type = registers.vet;
-  all_individuals = HasBit registers.rctl 3;
-  all_groups = HasBit registers.rctl 4;
-  broadcasts = HasBit registers.rctl 15;
+  all_individuals = HasBit registers.rctl rctl_upe;
+  all_groups = HasBit registers.rctl rctl_mpe;
+  broadcasts = HasBit registers.rctl rctl_bam;
 }

@@ -1,6 +1,7 @@
 -- What the usual writes of a driver make of the filter's sets: the laws that `sets_of_registers` promises.
 use Rattle.std.specs.Prelude.{◌≡◌, ◌+◌, ◌/◌, ◌%◌, ◌^◌, ◌<◌, ◌⊎◌, ◌↔◌, ℕ, List, length, replicate, slice_index, slice_set}
 use Rattle.registers.specs.Bits.{field, union}
+use Rattle.registers.specs.Places.{alone, rah_av}
 use Rattle.rx_filter.specs.Addresses.{IsAddress, low_word, high_word}
 use Rattle.rx_filter.specs.Registers.{HasEntry, HasTableBit}
 
@@ -17,8 +18,8 @@ NoAddressAtFirst = (n : ℕ) (address : List ℕ) → ¬ (HasEntry (replicate n 
 abbrev pub AddressIsAdded : Type 0
 AddressIsAdded =
     (ral rah : List ℕ) (n : ℕ) (address other : List ℕ)
-    → IsAddress address → n < 16 → n < length ral → n < length rah → field (slice_index rah n) 31 1 ≡ 0
-    → HasEntry (slice_set ral n (low_word address)) (slice_set rah n (high_word address + 2 ^ 31)) other
+    → IsAddress address → n < 16 → n < length ral → n < length rah → field (slice_index rah n) rah_av 1 ≡ 0
+    → HasEntry (slice_set ral n (low_word address)) (slice_set rah n (high_word address + alone rah_av)) other
     ↔ ((other ≡ address) ⊎ HasEntry ral rah other)
 
 -- a table that is all 0 has no number

@@ -1,0 +1,24 @@
+-- Where the bits of the PHY's registers stand, by the names of IEEE 802.3, 22.2.4, "Management functions", and that of MDIC's I (13.4.7 of
+-- Intel's manual, "MDI Control Register").
+use Rattle.std.specs.Prelude.{ℕ}
+
+-- register 0 (22.2.4.1 "Control register"): Reset, Auto-Negotiation Enable, Restart Auto-Negotiation
+abbrev pub control_reset : ℕ
+control_reset = 15
+
+abbrev pub control_enable : ℕ
+control_enable = 12
+
+abbrev pub control_restart : ℕ
+control_restart = 9
+
+-- register 1 (22.2.4.2 "Status register"): Auto-Negotiation Complete, Link Status
+abbrev pub status_complete : ℕ
+status_complete = 5
+
+abbrev pub status_link : ℕ
+status_link = 2
+
+-- MDIC's I: the end of the command is told
+abbrev pub mdic_i : ℕ
+mdic_i = 29
