@@ -31,10 +31,12 @@ pub record IgnoresAccesses (offset : ℕ) (state : AdapterState) : Type 0 where
   pub written : (value : ℕ) → after_write offset value state ≡ state
 
 abbrev pub AccessesByOffset : Type 0
-AccessesByOffset = (offset : ℕ) (register : Register) (state : AdapterState) → StandsAt offset register → AccessesByRegister offset register state
+AccessesByOffset = (offset : ℕ) (register : Register) (state : AdapterState) → StandsAt offset register
+    → AccessesByRegister offset register state
 
 abbrev pub OutsideIsIgnored : Type 0
-OutsideIsIgnored = (offset : ℕ) (state : AdapterState) → ((register : Register) → ¬ (StandsAt offset register)) → IgnoresAccesses offset state
+OutsideIsIgnored = (offset : ℕ) (state : AdapterState) → ((register : Register) → ¬ (StandsAt offset register))
+    → IgnoresAccesses offset state
 
 -- A register whose kept bits are its rule reads them of what was last written.
 abbrev pub PlainReadsBack : Type 0

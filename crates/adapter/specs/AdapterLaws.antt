@@ -1,5 +1,6 @@
 -- Every access, step and arrival leaves an adapter's registers as those of an adapter.
-use Rattle.std.proofs.Common.{◌≡◌, ◌%◌, ◌==◌, ◌≤◌, ℕ, Bool, true, false, List, [], ◌∷◌, length, Option, Some, None, refl, ◌∙◌, if◌then◌else◌, arith, length-set}
+use Rattle.std.proofs.Common.{◌≡◌, ◌%◌, ◌==◌, ◌≤◌, ℕ, Bool, true, false, List, [], ◌∷◌, length, Option, Some, None, refl, ◌∙◌}
+use Rattle.std.proofs.Common.{if◌then◌else◌, arith, length-set}
 use Rattle.std.proofs.lemmas.Bool.{and_parts, eqb-true, leb-true}
 use Rattle.mdic_phy.specs.declared.mdic.Ticked.{Ticked}
 use Rattle.mdic_phy.specs.declared.phy.Link.{Link}
@@ -31,7 +32,8 @@ IsAllocation-written : (value kilobytes : ℕ) → IsAllocation kilobytes → Is
 IsAllocation-written value kilobytes allocation =
     by_test (is_allocation (value % 65536)) (λ passes. passes)
   where
-    by_test : (test : Bool) → (test ≡ true → is_allocation (value % 65536) ≡ true) → IsAllocation (if test then value % 65536 else kilobytes)
+    by_test : (test : Bool) → (test ≡ true → is_allocation (value % 65536) ≡ true)
+        → IsAllocation (if test then value % 65536 else kilobytes)
     by_test true passes =
         let least = and_parts _ _ (passes refl) in
         let most = and_parts _ _ least.1 in
@@ -46,17 +48,22 @@ no_causes = record { recorded_causes = refl; masked_causes = refl }
 
 -- By parts.
 
-of-parts : {state : AdapterState} → HasTables state.filter.ral state.filter.rah state.filter.mta state.filter.vfta → IsAllocation state.receive_kilobytes → CausesAlone state.causes.recorded state.causes.mask → CountersFit state.missed_packets state.received_packets state.transmitted_packets state.no_receive_buffers → HasRegisters state
+of-parts : {state : AdapterState} → HasTables state.filter.ral state.filter.rah state.filter.mta state.filter.vfta
+    → IsAllocation state.receive_kilobytes → CausesAlone state.causes.recorded state.causes.mask
+    → CountersFit state.missed_packets state.received_packets state.transmitted_packets state.no_receive_buffers → HasRegisters state
 of-parts tables allocation causes counters = record { tables = tables; allocation = allocation; causes = causes; counters = counters }
 
-of-tables : {ral rah mta vfta : List ℕ} → length ral ≡ 16 → length rah ≡ 16 → length mta ≡ 128 → length vfta ≡ 128 → HasTables ral rah mta vfta
+of-tables : {ral rah mta vfta : List ℕ} → length ral ≡ 16 → length rah ≡ 16 → length mta ≡ 128 → length vfta ≡ 128
+    → HasTables ral rah mta vfta
 of-tables ral rah mta vfta = record { ral_entries = ral; rah_entries = rah; mta_words = mta; vfta_words = vfta }
 
 of-causes : {recorded mask : ℕ} → IsSubset recorded all_causes → IsSubset mask all_causes → CausesAlone recorded mask
 of-causes recorded masked = record { recorded_causes = recorded; masked_causes = masked }
 
-of-counters : {mpc gprc gptc rnbc : ℕ} → mpc ≤ greatest_count → gprc ≤ greatest_count → gptc ≤ greatest_count → rnbc ≤ greatest_count → CountersFit mpc gprc gptc rnbc
-of-counters missed received transmitted no_buffers = record { missed = missed; received = received; transmitted = transmitted; no_buffers = no_buffers }
+of-counters : {mpc gprc gptc rnbc : ℕ} → mpc ≤ greatest_count → gprc ≤ greatest_count → gptc ≤ greatest_count → rnbc ≤ greatest_count
+    → CountersFit mpc gprc gptc rnbc
+of-counters missed received transmitted no_buffers = record
+    { missed = missed; received = received; transmitted = transmitted; no_buffers = no_buffers }
 
 pub HasRegisters-at_reset : (state : AdapterState) → HasRegisters state → HasRegisters (after_reset state)
 HasRegisters-at_reset state adapter =
@@ -76,21 +83,26 @@ HasRegisters-new words link =
       counters = no_counts;
     }
 
-HasRegisters-by_row : (register : Register) (value : ℕ) (state : AdapterState) → HasRegisters state → HasRegisters (by_row (row_of register).kept register value state)
+HasRegisters-by_row : (register : Register) (value : ℕ) (state : AdapterState) → HasRegisters state
+    → HasRegisters (by_row (row_of register).kept register value state)
 HasRegisters-by_row Pba value state adapter =
     of-parts adapter.tables (IsAllocation-written value state.receive_kilobytes adapter.allocation) adapter.causes adapter.counters
 HasRegisters-by_row (Mta word) value state adapter =
     let t = adapter.tables in
-    of-parts (of-tables t.ral_entries t.rah_entries (length-set state.filter.mta word _ ∙ t.mta_words) t.vfta_words) adapter.allocation adapter.causes adapter.counters
+    of-parts (of-tables t.ral_entries t.rah_entries (length-set state.filter.mta word _ ∙ t.mta_words) t.vfta_words) adapter.allocation
+    adapter.causes adapter.counters
 HasRegisters-by_row (Ral entry) value state adapter =
     let t = adapter.tables in
-    of-parts (of-tables (length-set state.filter.ral entry _ ∙ t.ral_entries) t.rah_entries t.mta_words t.vfta_words) adapter.allocation adapter.causes adapter.counters
+    of-parts (of-tables (length-set state.filter.ral entry _ ∙ t.ral_entries) t.rah_entries t.mta_words t.vfta_words) adapter.allocation
+    adapter.causes adapter.counters
 HasRegisters-by_row (Rah entry) value state adapter =
     let t = adapter.tables in
-    of-parts (of-tables t.ral_entries (length-set state.filter.rah entry _ ∙ t.rah_entries) t.mta_words t.vfta_words) adapter.allocation adapter.causes adapter.counters
+    of-parts (of-tables t.ral_entries (length-set state.filter.rah entry _ ∙ t.rah_entries) t.mta_words t.vfta_words) adapter.allocation
+    adapter.causes adapter.counters
 HasRegisters-by_row (Vfta word) value state adapter =
     let t = adapter.tables in
-    of-parts (of-tables t.ral_entries t.rah_entries t.mta_words (length-set state.filter.vfta word _ ∙ t.vfta_words)) adapter.allocation adapter.causes adapter.counters
+    of-parts (of-tables t.ral_entries t.rah_entries t.mta_words (length-set state.filter.vfta word _ ∙ t.vfta_words)) adapter.allocation
+    adapter.causes adapter.counters
 HasRegisters-by_row Icr value state adapter =
     let recorded = IsSubset-intersection state.causes.recorded _ all_causes adapter.causes.recorded_causes in
     of-parts adapter.tables adapter.allocation (of-causes recorded adapter.causes.masked_causes) adapter.counters
@@ -105,7 +117,8 @@ HasRegisters-by_row Imc value state adapter =
     of-parts adapter.tables adapter.allocation (of-causes adapter.causes.recorded_causes masked) adapter.counters
 HasRegisters-by_row _ value state adapter = of-parts adapter.tables adapter.allocation adapter.causes adapter.counters
 
-pub HasRegisters-written : (register : Register) (value : ℕ) (state : AdapterState) → HasRegisters state → HasRegisters (write_of register value state)
+pub HasRegisters-written : (register : Register) (value : ℕ) (state : AdapterState) → HasRegisters state
+    → HasRegisters (write_of register value state)
 HasRegisters-written register value state adapter =
     by_test (is_reset register value)
   where
@@ -114,7 +127,8 @@ HasRegisters-written register value state adapter =
     by_test false = HasRegisters-by_row register value state adapter
 
 pub HasRegisters-read : (register : Register) (state : AdapterState) → HasRegisters state → HasRegisters (read_of register state)
-HasRegisters-read Icr state adapter = of-parts adapter.tables adapter.allocation (of-causes refl adapter.causes.masked_causes) adapter.counters
+HasRegisters-read Icr state adapter = of-parts adapter.tables adapter.allocation
+    (of-causes refl adapter.causes.masked_causes) adapter.counters
 HasRegisters-read Mpc state adapter =
     let c = adapter.counters in
     of-parts adapter.tables adapter.allocation adapter.causes (of-counters (omega arith) c.received c.transmitted c.no_buffers)
@@ -140,7 +154,8 @@ causes_told-alone ticked = by_tests ticked.link_changed ticked.access_complete
     by_tests false false = refl
 
 -- More causes recorded leave an adapter.
-HasRegisters-with_causes : (causes : ℕ) (state : AdapterState) → IsSubset causes all_causes → HasRegisters state → HasRegisters (with_causes causes state)
+HasRegisters-with_causes : (causes : ℕ) (state : AdapterState) → IsSubset causes all_causes → HasRegisters state
+    → HasRegisters (with_causes causes state)
 HasRegisters-with_causes causes state alone adapter =
     let recorded = IsSubset-union state.causes.recorded causes all_causes adapter.causes.recorded_causes alone in
     of-parts adapter.tables adapter.allocation (of-causes recorded adapter.causes.masked_causes) adapter.counters
@@ -166,7 +181,8 @@ no_buffers-fit state adapter = by_test (state.receive_ring.head == state.receive
     by_test true = one_more-fits state.no_receive_buffers
     by_test false = adapter.counters.no_buffers
 
-HasRegisters-took : (answer : Stepped) (memory : List ℕ) (state : AdapterState) → HasRegisters state → HasRegisters (after_take answer memory state)
+HasRegisters-took : (answer : Stepped) (memory : List ℕ) (state : AdapterState) → HasRegisters state
+    → HasRegisters (after_take answer memory state)
 HasRegisters-took Took memory state adapter =
     HasRegisters-with_causes (causes_of_taking state.transmit_ring) _ (cause-alone _ 0x2 refl)
     (of-parts adapter.tables adapter.allocation adapter.causes adapter.counters)
@@ -182,7 +198,8 @@ HasRegisters-put : (answer : Stepped) (state : AdapterState) → HasRegisters st
 HasRegisters-put (Put frame) state adapter =
     let c = adapter.counters in
     HasRegisters-with_causes (causes_of_putting state.transmitter.buffer) _ (putting-alone state.transmitter.buffer)
-    (of-parts adapter.tables adapter.allocation adapter.causes (of-counters c.missed c.received (one_more-fits state.transmitted_packets) c.no_buffers))
+    (of-parts adapter.tables adapter.allocation adapter.causes
+    (of-counters c.missed c.received (one_more-fits state.transmitted_packets) c.no_buffers))
 HasRegisters-put _ state adapter = adapter
 
 HasRegisters-moved : (answer : Stepped) (state : AdapterState) → HasRegisters state → HasRegisters (after_data answer state)
@@ -197,14 +214,17 @@ HasRegisters-done : (answer : Stepped) (state : AdapterState) → HasRegisters s
 HasRegisters-done Done state adapter =
     let c = adapter.counters in
     HasRegisters-with_causes 0x80 _ refl
-    (of-parts adapter.tables adapter.allocation adapter.causes (of-counters c.missed (one_more-fits state.received_packets) c.transmitted c.no_buffers))
+    (of-parts adapter.tables adapter.allocation adapter.causes
+    (of-counters c.missed (one_more-fits state.received_packets) c.transmitted c.no_buffers))
 HasRegisters-done _ state adapter = adapter
 
-pub HasRegisters-arrived : (fate : Fate) (frame : List ℕ) (state : AdapterState) → HasRegisters state → HasRegisters (after_arrive fate frame state)
+pub HasRegisters-arrived : (fate : Fate) (frame : List ℕ) (state : AdapterState) → HasRegisters state
+    → HasRegisters (after_arrive fate frame state)
 HasRegisters-arrived Missed frame state adapter =
     let c = adapter.counters in
     HasRegisters-with_causes 0x40 _ refl
-    (of-parts adapter.tables adapter.allocation adapter.causes (of-counters (one_more-fits state.missed_packets) c.received c.transmitted (no_buffers-fit state adapter)))
+    (of-parts adapter.tables adapter.allocation adapter.causes
+    (of-counters (one_more-fits state.missed_packets) c.received c.transmitted (no_buffers-fit state adapter)))
 HasRegisters-arrived Stored frame state adapter =
     let c = adapter.counters in
     of-parts adapter.tables adapter.allocation adapter.causes (of-counters c.missed c.received c.transmitted (no_buffers-fit state adapter))

@@ -51,7 +51,8 @@ putting_takes_first wire_free memory state frame told apart = by_buffer state.tr
 
 pub data_leaves_frames : DataLeavesFrames
 data_leaves_frames memory state Moved told apart =
-    held-after_data state.filter.rctl (ring_of state.receive_ring) state.receiver memory (answers.Moved (is_half_free (ring_of (moved_on state.receive_ring))))
+    held-after_data state.filter.rctl (ring_of state.receive_ring) state.receiver memory
+    (answers.Moved (is_half_free (ring_of (moved_on state.receive_ring))))
     (λ moved. record { has = told.0; can = told.1; apart = apart })
 data_leaves_frames memory state Fault told apart = refl
 data_leaves_frames memory state Nothing told apart = refl

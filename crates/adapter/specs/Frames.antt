@@ -20,7 +20,8 @@ use Rattle.adapter.specs.Rings.{ring_of}
 use Rattle.adapter.specs.State.{AdapterState}
 use Rattle.adapter.specs.Transmitting.{PutAnswers, TakeAnswers, after_put, after_take, memory_after_put}
 
--- the frames still to be sent: those in the transmit packet buffer, then those that the descriptors from TDH to TDT name, as they go onto the wire
+-- the frames still to be sent: those in the transmit packet buffer, then those that the descriptors from TDH to TDT name, as they go onto
+-- the wire
 abbrev pub frames_to_send : List ℕ → AdapterState → List (List ℕ)
 frames_to_send memory state = to_send memory (ring_of state.transmit_ring) (pads state.transmit_control) state.transmitter.buffer
 
@@ -38,12 +39,14 @@ TakingLeavesFrames =
 abbrev pub ReportStandsApart : List ℕ → AdapterState → Type 0
 ReportStandsApart memory state =
     IfFront state.transmitter.buffer (λ queued.
-    All (λ slot. IsAwayFrom memory (area_at (status_place queued) 1) (address_of (ring_of state.transmit_ring) slot)) (owned (ring_of state.transmit_ring)))
+    All (λ slot. IsAwayFrom memory (area_at (status_place queued) 1) (address_of (ring_of state.transmit_ring) slot))
+    (owned (ring_of state.transmit_ring)))
 
 -- A step that puts a frame takes the front of the frames to be sent.
 abbrev pub PuttingTakesFirst : Type 0
 PuttingTakesFirst =
-    (wire_free : Bool) (memory : List ℕ) (state : AdapterState) (frame : List ℕ) → PutAnswers wire_free state (Put frame) → ReportStandsApart memory state
+    (wire_free : Bool) (memory : List ℕ) (state : AdapterState) (frame : List ℕ) → PutAnswers wire_free state (Put frame)
+    → ReportStandsApart memory state
     → frames_to_send memory state ≡ frame ∷ frames_to_send (memory_after_put (Put frame) memory state) (after_put (Put frame) state)
 
 -- The bytes that the oldest frame goes to are apart from the descriptor at RDH, which names them.
@@ -58,7 +61,8 @@ DataLeavesFrames =
     (memory : List ℕ) (state : AdapterState) (answer : Stepped) → DataAnswers memory state answer → PlaceStandsApart memory state
     → frames_held (memory_after_data_step answer memory state) (after_data answer state) ≡ frames_held memory state
 
--- A done step takes the first of the frames held, the one in work, which then stands finished at its descriptor, where it is apart from that.
+-- A done step takes the first of the frames held, the one in work, which then stands finished at its descriptor, where it is apart from
+-- that.
 abbrev pub DoneTakesFirstFrame : Type 0
 DoneTakesFirstFrame =
     (memory : List ℕ) (state : AdapterState) (work : Work) → IsReceiver state.receiver → state.receiver.work ≡ Some work

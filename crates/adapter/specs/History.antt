@@ -16,8 +16,8 @@ use Rattle.adapter.specs.State.{AdapterState}
 use Rattle.adapter.specs.Steps.{after_step}
 use Rattle.adapter.specs.Table.{IsInTable, row_of}
 
--- What may come to an adapter: a read at an offset, a write of a word at an offset, a step of its own, with its answer and the memory that it
--- was given, and a frame from the wire, with its fate.
+-- What may come to an adapter: a read at an offset, a write of a word at an offset, a step of its own, with its answer and the memory that
+-- it was given, and a frame from the wire, with its fate.
 pub data Event : Type 0 where
   Read : ℕ → Event
   Write : ℕ → ℕ → Event

@@ -1,5 +1,6 @@
 -- The law of a register's history, proved.
-use Rattle.std.proofs.Common.{◌≡◌, ◌≢◌, ◌==◌, ◌&&◌, ℕ, Bool, true, false, List, [], ◌∷◌, ◌++◌, Option, Some, None, refl, sym, ◌∙◌, ap, subst, if◌then◌else◌}
+use Rattle.std.proofs.Common.{◌≡◌, ◌≢◌, ◌==◌, ◌&&◌, ℕ, Bool, true, false, List, [], ◌∷◌, ◌++◌, Option, Some, None, refl, sym, ◌∙◌, ap}
+use Rattle.std.proofs.Common.{subst, if◌then◌else◌}
 use Rattle.std.specs.List.{list_any}
 use Rattle.std.proofs.lemmas.Bool.{and_parts, eq-eqb, eqb-true, false≢true, or_parts}
 use Rattle.mdic_phy.specs.declared.mdic.Ticked.{Ticked}
@@ -8,7 +9,8 @@ use Rattle.mdic_phy.specs.Phy.{new_phy}
 use Rattle.rx_engine.specs.declared.arrival.Fate.{Fate}
 use Rattle.rx_engine.specs.declared.arrival.Fate.TheVariants.{Missed, Stored}
 use Rattle.adapter.specs.declared.register.Register.{Register}
-use Rattle.adapter.specs.declared.register.Register.TheVariants.{Ctrl, Status, Eerd, Mdic, Icr, Pba, Receive, Transmit, Mpc, Gprc, Gptc, Rnbc}
+use Rattle.adapter.specs.declared.register.Register.TheVariants.{Ctrl, Status, Eerd, Mdic, Icr, Pba, Receive, Transmit, Mpc, Gprc, Gptc}
+use Rattle.adapter.specs.declared.register.Register.TheVariants.{Rnbc}
 use Rattle.adapter.specs.declared.step.StepKind.{StepKind}
 use Rattle.adapter.specs.declared.register.RingRegister.TheVariants.{BaseLow, BaseHigh, Length, Head, Tail}
 use Rattle.adapter.specs.declared.step.StepKind.TheVariants.{TxTake, TxPut, RxData, RxDone, EepromTick, PhyTick}
@@ -16,8 +18,10 @@ use Rattle.adapter.specs.declared.step.Stepped.{Stepped}
 use Rattle.adapter.specs.declared.step.Stepped.TheVariants.{Took, Put, Moved, Done, Fault}
 use Rattle.adapter.specs.AccessLaws.{Touches, link_shown, causes_set, mask_cleared}
 use Rattle.adapter.specs.AdapterLaws.{HasRegisters-after_events, HasRegisters-new}
-use Rattle.adapter.specs.History.{Event, Read, Write, Step, Arrive, after_event, after_events, is_reset_event, moves_head, sets_register, NoneSets, PlainByHistory}
-use Rattle.adapter.specs.Registers.{after_reset, after_write, answer, answer_at, answer_of, by_row, is_reset, left_by_read, left_by_write, new_adapter, read_of, write_of}
+use Rattle.adapter.specs.History.{Event, Read, Write, Step, Arrive, after_event, after_events, is_reset_event, moves_head, sets_register}
+use Rattle.adapter.specs.History.{NoneSets, PlainByHistory}
+use Rattle.adapter.specs.Registers.{after_reset, after_write, answer, answer_at, answer_of, by_row, is_reset, left_by_read, left_by_write}
+use Rattle.adapter.specs.Registers.{new_adapter, read_of, write_of}
 use Rattle.adapter.specs.RegisterLaws.{answer-at_reset, others_stay_at_write, plain_reads_back}
 use Rattle.adapter.specs.State.{AdapterState}
 use Rattle.adapter.specs.Receiving.{after_arrive, after_data, after_done}
@@ -28,7 +32,8 @@ use Rattle.adapter.specs.TableLaws.{register_at-only, register_at-there}
 
 -- The EEPROM's words stay.
 
-image-by_row : (register : Register) (value : ℕ) (state : AdapterState) → (by_row (row_of register).kept register value state).image ≡ state.image
+image-by_row : (register : Register) (value : ℕ) (state : AdapterState)
+    → (by_row (row_of register).kept register value state).image ≡ state.image
 image-by_row Ctrl value state = refl
 image-by_row _ value state = refl
 
@@ -80,7 +85,8 @@ parts-arrived Missed frame state = record { image = refl; eerd = refl; mdic = re
 parts-arrived Stored frame state = record { image = refl; eerd = refl; mdic = refl; phy = refl }
 parts-arrived _ frame state = leaves_all state
 
-image-stepped : (kind : StepKind) (answer : Stepped) (memory : List ℕ) (state : AdapterState) → (after_step kind answer memory state).image ≡ state.image
+image-stepped : (kind : StepKind) (answer : Stepped) (memory : List ℕ) (state : AdapterState)
+    → (after_step kind answer memory state).image ≡ state.image
 image-stepped TxTake answer memory state = (parts-took answer memory state).image
 image-stepped TxPut answer memory state = (parts-put answer state).image
 image-stepped RxData answer memory state = (parts-moved answer state).image
@@ -139,7 +145,8 @@ plain-eeprom _ kept state plain = refl
 elsewhere : (place : ℕ) → ¬ ((place == place) ≡ false)
 elsewhere place none = false≢true (sym none ∙ eq-eqb place place refl)
 
-plain-took : (register : Register) (answered : Stepped) (memory : List ℕ) (kept : ℕ) (state : AdapterState) → (row_of register).kept ≡ Some kept
+plain-took : (register : Register) (answered : Stepped) (memory : List ℕ) (kept : ℕ) (state : AdapterState)
+    → (row_of register).kept ≡ Some kept
     → moves_head (row_of register).offset TxTake answered ≡ false
     → answer register (after_take answered memory state) ≡ answer register state
 plain-took (Transmit Head) Took memory kept state plain none = absurd (elsewhere 0x3810 none)
@@ -202,7 +209,8 @@ plain-stepped register PhyTick answered memory kept state plain none = plain-tol
 -- a register that stands elsewhere than CTRL, or a word without RST, is no reset
 pub no_reset : (offset value : ℕ) (register : Register) → (row_of register).offset ≡ offset → is_reset_event (Write offset value) ≡ false
     → is_reset register value ≡ false
-no_reset offset value Ctrl there none = by_test (is_reset Ctrl value) (subst (λ (o : ℕ). (o == 0 && is_reset Ctrl value) ≡ false) (sym there) none)
+no_reset offset value Ctrl there none = by_test (is_reset Ctrl value)
+    (subst (λ (o : ℕ). (o == 0 && is_reset Ctrl value) ≡ false) (sym there) none)
   where
     by_test : (test : Bool) → (true && test) ≡ false → test ≡ false
     by_test test same = same
@@ -219,8 +227,10 @@ plain-written offset value register kept state plain none =
     by_case (Some written) stands =
         let parts = or_parts (offset == (row_of register).offset) (is_reset_event (Write offset value)) none in
         let there = (stands written refl).there in
-        let differ : written ≢ register = λ same. false≢true (sym parts.0 ∙ eq-eqb _ _ (sym there ∙ ap (λ (r : Register). (row_of r).offset) same)) in
-        others_stay_at_write written register value state differ (plain-untouched written register kept plain) (no_reset offset value written there parts.1)
+        let differ : written ≢ register = λ same. false≢true (sym parts.0
+        ∙ eq-eqb _ _ (sym there ∙ ap (λ (r : Register). (row_of r).offset) same)) in
+        others_stay_at_write written register value state differ (plain-untouched written register kept plain)
+        (no_reset offset value written there parts.1)
     by_case None stands = refl
 
 -- an event that doesn't set it leaves what it reads
@@ -266,7 +276,8 @@ reset-event (Write offset value) state resets =
     let parts = and_parts (offset == 0) (is_reset Ctrl value) resets in
     let there : offset ≡ 0 = eqb-true offset 0 parts.0 in
     let found : register_at offset ≡ Some Ctrl = subst (λ (o : ℕ). register_at o ≡ Some Ctrl) (sym there) (register_at-there Ctrl tt) in
-    let written : after_write offset value state ≡ write_of Ctrl value state = ap (λ (r : Option Register). left_by_write r value state) found in
+    let written : after_write offset value state
+    ≡ write_of Ctrl value state = ap (λ (r : Option Register). left_by_write r value state) found in
     written ∙ rw parts.1 refl
 
 pub plain_by_history : PlainByHistory

@@ -1,5 +1,5 @@
--- What comes to EERD, and to MDIC and the PHY behind it, of all that comes to an adapter. So the laws of `eeprom` and `mdic_phy` over all lists
--- of writes and ticks hold of the adapter's registers.
+-- What comes to EERD, and to MDIC and the PHY behind it, of all that comes to an adapter. So the laws of `eeprom` and `mdic_phy` over all
+-- lists of writes and ticks hold of the adapter's registers.
 use Rattle.std.specs.Prelude.{◌≡◌, ℕ, false, true, List, [], ◌∷◌, ◌++◌, Option, Some, if◌then◌else◌}
 use Rattle.std.specs.List.{list_any}
 use Rattle.eeprom.specs.History as eerd

@@ -20,8 +20,10 @@ use Rattle.adapter.specs.declared.register.Register.{Register}
 use Rattle.adapter.specs.declared.register.Register.TheVariants.{Ctrl, Eerd, Mdic, Icr}
 use Rattle.adapter.specs.declared.step.StepKind.TheVariants.{TxTake, TxPut, RxData, RxDone, EepromTick, PhyTick}
 use Rattle.adapter.specs.History.{Event, Read, Write, Step, Arrive, after_event, after_events, is_reset_event}
-use Rattle.adapter.specs.HistoryLaws.{LeavesParts, after_events-append, parts-arrived, parts-done, parts-moved, parts-put, parts-took, image-after_event, image-after_events, no_reset, reset-event}
-use Rattle.adapter.specs.Parts.{NoReset, PartsHaveTheirLaws, eerd_operation, eerd_operations, eerd_written, mdic_event, mdic_events, mdic_written}
+use Rattle.adapter.specs.HistoryLaws.{LeavesParts, after_events-append, parts-arrived, parts-done, parts-moved, parts-put, parts-took}
+use Rattle.adapter.specs.HistoryLaws.{image-after_event, image-after_events, no_reset, reset-event}
+use Rattle.adapter.specs.Parts.{NoReset, PartsHaveTheirLaws, eerd_operation, eerd_operations, eerd_written, mdic_event, mdic_events}
+use Rattle.adapter.specs.Parts.{mdic_written}
 use Rattle.adapter.specs.Registers.{after_reset, answer_of, by_row, is_reset, left_by_read, left_by_write, new_adapter, read_of, write_of}
 use Rattle.adapter.specs.State.{AdapterState}
 use Rattle.adapter.specs.Steps.{after_phy_told, after_phy_tick}
@@ -51,14 +53,16 @@ phy-idle None value state none still =
     ap (λ (negotiation : Negotiation). record state { negotiation = negotiation }) (negotiation-still state.negotiation still)
 
 -- a tick of the adapter is one of MDIC, also where it has nothing to do
-both-ticked : (state : AdapterState) → both_of (after_phy_tick state) ≡ after_mdic_events (Rattle.mdic_phy.specs.MdicHistory.Tick ∷ []) (both_of state)
+both-ticked : (state : AdapterState)
+    → both_of (after_phy_tick state) ≡ after_mdic_events (Rattle.mdic_phy.specs.MdicHistory.Tick ∷ []) (both_of state)
 both-ticked state = by_test (mdi.has_work state.mdic state.phy) (λ none. none)
   where
     what : Ticked
     what = record { link_changed = phy.comes_up state.phy; access_complete = mdi.tells_end state.mdic }
 
     by_test : (test : Bool) → (test ≡ false → mdi.has_work state.mdic state.phy ≡ false)
-        → both_of (after_phy_told (if test then Some what else None) state) ≡ record { mdic = mdic_after_tick state.mdic state.phy; phy = phy_after_tick state.mdic state.phy }
+        → both_of (after_phy_told (if test then Some what else None) state)
+        ≡ record { mdic = mdic_after_tick state.mdic state.phy; phy = phy_after_tick state.mdic state.phy }
     by_test true none = refl
     by_test false none =
         let parts = or_parts (is_counting state.phy) (is_some state.mdic.pending) (none refl) in
@@ -89,7 +93,8 @@ both-read _ state = refl
 both-left : (before after : AdapterState) → LeavesParts before after → both_of after ≡ both_of before
 both-left before after left = rw (left.mdic, left.phy) refl
 
-both-event : (event : Event) (state : AdapterState) → both_of (after_event event state) ≡ after_mdic_events (mdic_event event) (both_of state)
+both-event : (event : Event) (state : AdapterState)
+    → both_of (after_event event state) ≡ after_mdic_events (mdic_event event) (both_of state)
 both-event (Read offset) state = by_case (register_at offset)
   where
     by_case : (found : Option Register) → both_of (left_by_read found state) ≡ both_of state
@@ -97,7 +102,8 @@ both-event (Read offset) state = by_case (register_at offset)
     by_case None = refl
 both-event (Write offset value) state = by_case (register_at offset)
   where
-    by_case : (found : Option Register) → both_of (left_by_write found value state) ≡ after_mdic_events (mdic_written found value) (both_of state)
+    by_case : (found : Option Register)
+        → both_of (left_by_write found value state) ≡ after_mdic_events (mdic_written found value) (both_of state)
     by_case (Some register) = both-written register value state
     by_case None = refl
 both-event (Step TxTake answer memory) state = both-left state _ (parts-took answer memory state)
@@ -108,7 +114,8 @@ both-event (Step EepromTick answer memory) state = refl
 both-event (Step PhyTick answer memory) state = both-ticked state
 both-event (Arrive fate frame) state = both-left state _ (parts-arrived fate frame state)
 
-pub both-events : (events : List Event) (state : AdapterState) → both_of (after_events events state) ≡ after_mdic_events (mdic_events events) (both_of state)
+pub both-events : (events : List Event) (state : AdapterState)
+    → both_of (after_events events state) ≡ after_mdic_events (mdic_events events) (both_of state)
 both-events [] state = refl
 both-events (event ∷ later) state =
     both-events later (after_event event state)

@@ -44,7 +44,8 @@ IsFate state frame Stored = GetsIn state frame × (length state.receiver.buffer 
 
 -- a frame that gets as far as the packet buffer while RDH equals RDT is counted by RNBC (own)
 abbrev pub no_buffers_counted : AdapterState → ℕ
-no_buffers_counted state = if state.receive_ring.head == state.receive_ring.tail then one_more state.no_receive_buffers else state.no_receive_buffers
+no_buffers_counted state = if state.receive_ring.head == state.receive_ring.tail then one_more state.no_receive_buffers
+    else state.no_receive_buffers
 
 -- A frame that is stored is behind the others in the packet buffer; one that is missed is counted by MPC, and RXO, bit 6, is recorded.
 abbrev pub after_arrive : Fate → List ℕ → AdapterState → AdapterState
@@ -81,7 +82,8 @@ causes_of_moving ring = if is_half_free (ring_of (moved_on ring)) then alone rxd
 abbrev pub after_data : Stepped → AdapterState → AdapterState
 after_data Moved state =
     with_causes (causes_of_moving state.receive_ring) (record state {
-      receiver = engine_after_data (answers.Moved (is_half_free (ring_of (moved_on state.receive_ring)))) (ring_of state.receive_ring) state.receiver;
+      receiver = engine_after_data (answers.Moved (is_half_free (ring_of (moved_on state.receive_ring))))
+          (ring_of state.receive_ring) state.receiver;
       receive_ring = moved_on state.receive_ring;
     })
 after_data Fault state = record state { receiver = engine_after_data answers.Fault (ring_of state.receive_ring) state.receiver }
@@ -90,13 +92,16 @@ after_data _ state = state
 -- The oldest frame stands in the buffer that the descriptor at RDH names.
 abbrev pub memory_after_data_step : Stepped → List ℕ → AdapterState → List ℕ
 memory_after_data_step Moved memory state =
-    memory_after_data (answers.Moved (is_half_free (ring_of (moved_on state.receive_ring)))) (ring_of state.receive_ring) state.receiver memory
+    memory_after_data (answers.Moved (is_half_free (ring_of (moved_on state.receive_ring))))
+    (ring_of state.receive_ring) state.receiver memory
 memory_after_data_step _ memory state = memory
 
 -- A data step changes at most so many bytes of the buffer that the descriptor at RDH names as the oldest frame has.
 abbrev pub DataChangesOnly : AdapterState → List ℕ → List ℕ → Type 0
 DataChangesOnly state memory memory' =
-    ChangesOnly memory memory' (area_at (named_address memory (address_of (ring_of state.receive_ring) state.receive_ring.head)) (length (oldest state.receiver.buffer)))
+    ChangesOnly memory memory'
+    (area_at (named_address memory (address_of (ring_of state.receive_ring) state.receive_ring.head))
+    (length (oldest state.receiver.buffer)))
 
 -- Done steps.
 
@@ -109,7 +114,8 @@ DoneAnswers state _ = ⊥
 -- No frame is in work; RXT0, bit 7, is recorded, and the frame is counted by GPRC (its place of counting is own).
 abbrev pub after_done : Stepped → AdapterState → AdapterState
 after_done Done state =
-    with_causes (alone rxt0) (record state { receiver = engine_after_done state.receiver; received_packets = one_more state.received_packets })
+    with_causes (alone rxt0)
+    (record state { receiver = engine_after_done state.receiver; received_packets = one_more state.received_packets })
 after_done _ state = state
 
 -- Bytes 8 to 15 of the descriptor in work are written, where it lies in memory.

@@ -1,5 +1,6 @@
 -- What reads and writes do to one another, proved.
-use Rattle.std.proofs.Common.{◌≡◌, ◌≢◌, ◌/◌, ◌%◌, ◌^◌, ◌<◌, ◌==◌, ◌&&◌, ℕ, zero, suc, Bool, true, false, List, ◌∷◌, Option, Some, bit_and, replicate, slice_index, refl, sym, ◌∙◌, ap, subst, if◌then◌else◌, arith}
+use Rattle.std.proofs.Common.{◌≡◌, ◌≢◌, ◌/◌, ◌%◌, ◌^◌, ◌<◌, ◌==◌, ◌&&◌, ℕ, zero, suc, Bool, true, false, List, ◌∷◌, Option, Some, bit_and}
+use Rattle.std.proofs.Common.{replicate, slice_index, refl, sym, ◌∙◌, ap, subst, if◌then◌else◌, arith}
 use Rattle.std.proofs.lemmas.Bool.{ne_eqb}
 use Rattle.std.proofs.lemmas.List.{get_or-replicate, get_or-set_other, get_or-set_same}
 use Rattle.std.proofs.lemmas.Nat.Bits.{bit_at_and, bit_at-lt}
@@ -8,9 +9,11 @@ use Rattle.registers.specs.Kept.{status_of_link_up}
 use Rattle.adapter.specs.declared.register.RingRegister.{RingRegister}
 use Rattle.adapter.specs.declared.register.RingRegister.TheVariants.{BaseLow, BaseHigh, Length, Head, Tail}
 use Rattle.adapter.specs.declared.register.Register.{Register}
-use Rattle.adapter.specs.declared.register.Register.TheVariants.{Ctrl, Status, Eerd, Mdic, Vet, Icr, Ics, Ims, Imc, Rctl, Tctl, Pba, Receive, Transmit, Mpc, Gprc, Gptc, Rnbc, Mta, Ral, Rah, Vfta}
+use Rattle.adapter.specs.declared.register.Register.TheVariants.{Ctrl, Status, Eerd, Mdic, Vet, Icr, Ics, Ims, Imc, Rctl, Tctl, Pba}
+use Rattle.adapter.specs.declared.register.Register.TheVariants.{Receive, Transmit, Mpc, Gprc, Gptc, Rnbc, Mta, Ral, Rah, Vfta}
 use Rattle.adapter.specs.declared.ring.RingRegisters.{RingRegisters}
-use Rattle.adapter.specs.AccessLaws.{IsReset, OthersStayAtRead, OthersStayAtWrite, PlainReadsBack, PowerOnByTable, ResetByTable, Touches, TouchedByWrites, link_shown, causes_set, mask_cleared}
+use Rattle.adapter.specs.AccessLaws.{IsReset, OthersStayAtRead, OthersStayAtWrite, PlainReadsBack, PowerOnByTable, ResetByTable, Touches}
+use Rattle.adapter.specs.AccessLaws.{TouchedByWrites, link_shown, causes_set, mask_cleared}
 use Rattle.adapter.specs.Registers.{adapter_at_reset, after_reset, answer, by_row, is_reset, with_register, write_of}
 use Rattle.adapter.specs.Rings.{new_ring, ring_answer, with_ring}
 use Rattle.adapter.specs.State.{AdapterState, HasRegisters}
@@ -83,12 +86,18 @@ ctrl-others _ number state differ apart = refl
 others-by_row : (written other : Register) (value : ℕ) (state : AdapterState) → written ≢ other → ¬ (Touches written other)
     → answer other (by_row (row_of written).kept written value state) ≡ answer other state
 others-by_row Ctrl other value state differ apart = ctrl-others other _ state differ apart
-others-by_row (Receive part) (Receive other) value state differ apart = ring-other part other _ state.receive_ring (λ same. differ (ap Receive same))
-others-by_row (Transmit part) (Transmit other) value state differ apart = ring-other part other _ state.transmit_ring (λ same. differ (ap Transmit same))
-others-by_row (Mta word) (Mta other) value state differ apart = get_or-set_other state.filter.mta word other _ 0 (λ same. differ (ap Mta (sym same)))
-others-by_row (Ral entry) (Ral other) value state differ apart = get_or-set_other state.filter.ral entry other _ 0 (λ same. differ (ap Ral (sym same)))
-others-by_row (Rah entry) (Rah other) value state differ apart = get_or-set_other state.filter.rah entry other _ 0 (λ same. differ (ap Rah (sym same)))
-others-by_row (Vfta word) (Vfta other) value state differ apart = get_or-set_other state.filter.vfta word other _ 0 (λ same. differ (ap Vfta (sym same)))
+others-by_row (Receive part) (Receive other) value state differ apart = ring-other part other _ state.receive_ring
+    (λ same. differ (ap Receive same))
+others-by_row (Transmit part) (Transmit other) value state differ apart = ring-other part other _ state.transmit_ring
+    (λ same. differ (ap Transmit same))
+others-by_row (Mta word) (Mta other) value state differ apart = get_or-set_other state.filter.mta word other _ 0
+    (λ same. differ (ap Mta (sym same)))
+others-by_row (Ral entry) (Ral other) value state differ apart = get_or-set_other state.filter.ral entry other _ 0
+    (λ same. differ (ap Ral (sym same)))
+others-by_row (Rah entry) (Rah other) value state differ apart = get_or-set_other state.filter.rah entry other _ 0
+    (λ same. differ (ap Rah (sym same)))
+others-by_row (Vfta word) (Vfta other) value state differ apart = get_or-set_other state.filter.vfta word other _ 0
+    (λ same. differ (ap Vfta (sym same)))
 others-by_row Eerd Eerd value state differ apart = absurd (differ refl)
 others-by_row Mdic Mdic value state differ apart = absurd (differ refl)
 others-by_row Vet Vet value state differ apart = absurd (differ refl)

@@ -1,5 +1,6 @@
 -- What a read of a register answers and leaves, what a write leaves, and what a reset leaves.
-use Rattle.std.specs.Prelude.{◌&&◌, ℕ, Bool, false, List, ◌∷◌, Option, Some, None, bit_and, replicate, slice_index, slice_set, if◌then◌else◌}
+use Rattle.std.specs.Prelude.{◌&&◌, ℕ, Bool, false, List, ◌∷◌, Option, Some, None, bit_and, replicate, slice_index, slice_set}
+use Rattle.std.specs.Prelude.{if◌then◌else◌}
 use Rattle.eeprom.specs.declared.eerd.ReadState.TheVariants.{Idle}
 use Rattle.eeprom.specs.Eerd as eeprom
 use Rattle.mdic_phy.specs.declared.phy.Link.{Link}
@@ -12,7 +13,8 @@ use Rattle.rx_filter.specs.Registers.{FilterRegisters}
 use Rattle.rx_engine.specs.Receiver.{new_receiver}
 use Rattle.tx_engine.specs.Transmitter.{new_transmitter}
 use Rattle.adapter.specs.declared.register.Register.{Register}
-use Rattle.adapter.specs.declared.register.Register.TheVariants.{Ctrl, Status, Eerd, Mdic, Vet, Icr, Ics, Ims, Imc, Rctl, Tctl, Pba, Receive, Transmit, Mpc, Gprc, Gptc, Rnbc, Mta, Ral, Rah, Vfta}
+use Rattle.adapter.specs.declared.register.Register.TheVariants.{Ctrl, Status, Eerd, Mdic, Vet, Icr, Ics, Ims, Imc, Rctl, Tctl, Pba}
+use Rattle.adapter.specs.declared.register.Register.TheVariants.{Receive, Transmit, Mpc, Gprc, Gptc, Rnbc, Mta, Ral, Rah, Vfta}
 use Rattle.adapter.specs.PacketBuffer.{allocation_shown, allocation_written}
 use Rattle.adapter.specs.Rings.{new_ring, ring_answer, with_ring}
 use Rattle.adapter.specs.State.{AdapterState}

@@ -8,7 +8,8 @@ use Rattle.adapter.specs.declared.step.StepKind.{StepKind}
 use Rattle.adapter.specs.declared.step.StepKind.TheVariants.{TxTake, TxPut, RxData, RxDone, EepromTick, PhyTick}
 use Rattle.adapter.specs.declared.step.Stepped.{Stepped}
 use Rattle.adapter.specs.declared.step.Stepped.TheVariants.{Ticked as DidTick, Nothing}
-use Rattle.adapter.specs.Receiving.{DataAnswers, DataChangesOnly, DoneAnswers, DoneChangesOnly, after_data, after_done, memory_after_data_step, memory_after_done_step}
+use Rattle.adapter.specs.Receiving.{DataAnswers, DataChangesOnly, DoneAnswers, DoneChangesOnly, after_data, after_done}
+use Rattle.adapter.specs.Receiving.{memory_after_data_step, memory_after_done_step}
 use Rattle.adapter.specs.Recording.{with_causes}
 use Rattle.adapter.specs.State.{AdapterState}
 use Rattle.adapter.specs.Transmitting.{PutAnswers, PutChangesOnly, TakeAnswers, after_put, after_take, memory_after_put}
@@ -28,7 +29,8 @@ causes_told ticked = union (if ticked.link_changed then alone lsc else 0) (if ti
 -- a tick of the PHY that tells this
 abbrev pub after_phy_told : Option Ticked → AdapterState → AdapterState
 after_phy_told (Some ticked) state =
-    with_causes (causes_told ticked) (record state { phy = mdi.phy_after_tick state.mdic state.phy; mdic = mdi.mdic_after_tick state.mdic state.phy })
+    with_causes (causes_told ticked)
+    (record state { phy = mdi.phy_after_tick state.mdic state.phy; mdic = mdi.mdic_after_tick state.mdic state.phy })
 after_phy_told None state = state
 
 -- the PHY's count is lowered, and then a pending command of MDIC ends (13.4.7 "MDI Control Register"); with neither, nothing changes

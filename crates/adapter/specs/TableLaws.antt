@@ -1,10 +1,12 @@
 -- The table by offsets, proved.
-use Rattle.std.proofs.Common.{◌≡◌, ◌+◌, ◌-◌, ◌*◌, ◌/◌, ◌%◌, ◌<◌, ◌≤◌, ◌==◌, ◌&&◌, ℕ, Bool, true, false, List, [], ◌∷◌, Option, Some, None, cond, refl, ap, subst, find, inl, inr, ◌⊎◌, arith, rules, ltb, leb}
+use Rattle.std.proofs.Common.{◌≡◌, ◌+◌, ◌-◌, ◌*◌, ◌/◌, ◌%◌, ◌<◌, ◌≤◌, ◌==◌, ◌&&◌, ℕ, Bool, true, false, List, [], ◌∷◌, Option, Some, None}
+use Rattle.std.proofs.Common.{cond, refl, ap, subst, find, inl, inr, ◌⊎◌, arith, rules, ltb, leb}
 use Rattle.std.proofs.lemmas.Bool.{and_parts, eqb-true, leb-true, ltb-true}
 use Rattle.std.proofs.lemmas.Bool.Decides.{nat_tests}
 use Rattle.adapter.specs.declared.register.RingRegister.TheVariants.{BaseLow, BaseHigh, Length, Head, Tail}
 use Rattle.adapter.specs.declared.register.Register.{Register}
-use Rattle.adapter.specs.declared.register.Register.TheVariants.{Ctrl, Status, Eerd, Mdic, Vet, Icr, Ics, Ims, Imc, Rctl, Tctl, Pba, Receive, Transmit, Mpc, Gprc, Gptc, Rnbc, Mta, Ral, Rah, Vfta}
+use Rattle.adapter.specs.declared.register.Register.TheVariants.{Ctrl, Status, Eerd, Mdic, Vet, Icr, Ics, Ims, Imc, Rctl, Tctl, Pba}
+use Rattle.adapter.specs.declared.register.Register.TheVariants.{Receive, Transmit, Mpc, Gprc, Gptc, Rnbc, Mta, Ral, Rah, Vfta}
 use Rattle.adapter.specs.AccessLaws.{AccessesByOffset, OffsetsByTable, OutsideIsIgnored}
 use Rattle.adapter.specs.Registers.{answer_of, left_by_read, left_by_write}
 use Rattle.adapter.specs.Table.{IsInTable, StandsAt, array_register, array_register_at, or_else, register_at, row_of, single_registers}
@@ -94,7 +96,8 @@ offset-below (Vfta word) within = omega arith
 offset-below _ within = omega arith
 
 -- the first that is there is one of the two
-or_else-cases : (first second : Option Register) (register : Register) → or_else first second ≡ Some register → (first ≡ Some register) ⊎ (second ≡ Some register)
+or_else-cases : (first second : Option Register) (register : Register) → or_else first second ≡ Some register
+    → (first ≡ Some register) ⊎ (second ≡ Some register)
 or_else-cases (Some register') second register found = inl found
 or_else-cases None second register found = inr found
 
@@ -148,12 +151,16 @@ register_at-only offset register found =
     elim (or_else-cases _ _ register found) [
       | inl single ↦ found_stands offset single_registers register (search rules) single
       | inr array ↦ elim (or_else-cases _ _ register array) [
-        | inl mta ↦ array_stands 0x5200 128 4 Mta offset register (λ n fits. record { in_table = fits; there = refl }) (λ d even. omega arith) mta
+        | inl mta ↦ array_stands 0x5200 128 4 Mta offset register (λ n fits. record { in_table = fits; there = refl })
+            (λ d even. omega arith) mta
         | inr behind ↦ elim (or_else-cases _ _ register behind) [
-          | inl ral ↦ array_stands 0x5400 16 8 Ral offset register (λ n fits. record { in_table = fits; there = refl }) (λ d even. omega arith) ral
+          | inl ral ↦ array_stands 0x5400 16 8 Ral offset register (λ n fits. record { in_table = fits; there = refl })
+              (λ d even. omega arith) ral
           | inr other ↦ elim (or_else-cases _ _ register other) [
-            | inl rah ↦ array_stands 0x5404 16 8 Rah offset register (λ n fits. record { in_table = fits; there = refl }) (λ d even. omega arith) rah
-            | inr vfta ↦ array_stands 0x5600 128 4 Vfta offset register (λ n fits. record { in_table = fits; there = refl }) (λ d even. omega arith) vfta
+            | inl rah ↦ array_stands 0x5404 16 8 Rah offset register (λ n fits. record { in_table = fits; there = refl })
+                (λ d even. omega arith) rah
+            | inr vfta ↦ array_stands 0x5600 128 4 Vfta offset register (λ n fits. record { in_table = fits; there = refl })
+                (λ d even. omega arith) vfta
           ]
         ]
       ]
@@ -165,7 +172,8 @@ offsets_by_table = record { there = register_at-there; only = register_at-only; 
 -- an access where a register stands is one of that register
 pub accesses_by_offset : AccessesByOffset
 accesses_by_offset offset register state stands =
-    let found : register_at offset ≡ Some register = subst (λ (o : ℕ). register_at o ≡ Some register) stands.there (register_at-there register stands.in_table) in
+    let found : register_at offset
+    ≡ Some register = subst (λ (o : ℕ). register_at o ≡ Some register) stands.there (register_at-there register stands.in_table) in
     record {
       answered = ap (λ (found : Option Register). answer_of found state) found;
       read = ap (λ (found : Option Register). left_by_read found state) found;

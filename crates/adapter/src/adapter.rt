@@ -157,9 +157,9 @@ impl Adapter {
         }
     }
 
-    /// A [`step`](Adapter::step) whose wire is a queue of frames: it has room while it isn't full, and a frame that is put
-    /// goes behind the others, from the packet buffer by one copy. What is answered is the outcome alone; in contracts
-    /// `stepped_of` tells the answer of `step`, with the frame.
+    /// A [`step`](Adapter::step) whose wire is a queue of frames: it has room while it isn't full, and a frame that
+    /// is put goes behind the others, from the packet buffer by one copy. What is answered is the outcome alone; in
+    /// contracts `stepped_of` tells the answer of `step`, with the frame.
     pub fn step_onto(
         &mut self,
         kind: StepKind,

@@ -1,7 +1,10 @@
 //! What reads and writes do to one another, as laws with nothing to run.
 
-ghost use Rattle.adapter.specs.AccessLaws.{AccessesByOffset, OffsetsByTable, OthersStayAtRead, OthersStayAtWrite, OutsideIsIgnored, PlainReadsBack, PowerOnByTable, ResetByTable, TouchedByWrites};
-ghost use Rattle.adapter.specs.Frames.{ArrivalGrowsFrames, DataLeavesFrames, DoneTakesFirstFrame, PuttingTakesFirst, TakingLeavesFrames};
+ghost use Rattle.adapter.specs.AccessLaws.{AccessesByOffset, OffsetsByTable, OthersStayAtRead, OthersStayAtWrite};
+ghost use Rattle.adapter.specs.AccessLaws.{OutsideIsIgnored, PlainReadsBack, PowerOnByTable, ResetByTable};
+ghost use Rattle.adapter.specs.AccessLaws.{TouchedByWrites};
+ghost use Rattle.adapter.specs.Frames.{ArrivalGrowsFrames, DataLeavesFrames, DoneTakesFirstFrame, PuttingTakesFirst};
+ghost use Rattle.adapter.specs.Frames.{TakingLeavesFrames};
 ghost use Rattle.adapter.specs.History.{PlainByHistory};
 ghost use Rattle.adapter.specs.Parts.{PartsHaveTheirLaws};
 

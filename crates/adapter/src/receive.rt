@@ -6,7 +6,9 @@ ghost use Rattle.registers.specs.Kept.{all_causes};
 ghost use Rattle.registers.specs.Places.{alone, rxdmt0};
 ghost use Rattle.adapter.specs.Outcomes.{stepped_of};
 ghost use Rattle.adapter.specs.State.{IsAdapter};
-ghost use Rattle.adapter.specs.Receiving.{DataAnswers, DataChangesOnly, DoneAnswers, DoneChangesOnly, IsFate, after_arrive, after_data, after_done, memory_after_data_step, memory_after_done_step, no_buffers_counted};
+ghost use Rattle.adapter.specs.Receiving.{DataAnswers, DataChangesOnly, DoneAnswers, DoneChangesOnly, IsFate};
+ghost use Rattle.adapter.specs.Receiving.{after_arrive, after_data, after_done, memory_after_data_step};
+ghost use Rattle.adapter.specs.Receiving.{memory_after_done_step, no_buffers_counted};
 
 use crate::Adapter;
 use crate::step::StepOutcome;

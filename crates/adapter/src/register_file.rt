@@ -62,7 +62,10 @@ impl RegisterFile {
     /// A frame that gets as far as the packet buffer is counted by RNBC where there is no receive
     /// descriptor for it.
     pub(crate) fn count_no_buffers(&mut self)
-        ensures { self.new ≡ record self.old { rnbc = (if self.old.receive_ring.head == self.old.receive_ring.tail then one_more self.old.rnbc else self.old.rnbc) } }
+        ensures { self.new ≡ record self.old {
+          rnbc = (if self.old.receive_ring.head == self.old.receive_ring.tail then one_more self.old.rnbc
+              else self.old.rnbc);
+        } }
     {
         if self.receive_ring.head == self.receive_ring.tail {
             self.rnbc.bump();

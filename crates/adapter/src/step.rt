@@ -36,7 +36,8 @@ pub enum Stepped {
     Ticked,
     /// There was nothing to do, and nothing changed.
     Nothing,
-    /// A ring, a descriptor or its data couldn't be used. The engine is stopped until a reset; memory and indices are as they were.
+    /// A ring, a descriptor or its data couldn't be used. The engine is stopped until a reset; memory and indices are
+    /// as they were.
     Fault,
 }
 
@@ -59,7 +60,8 @@ pub enum StepOutcome {
     Ticked,
     /// There was nothing to do, and nothing changed.
     Nothing,
-    /// A ring, a descriptor or its data couldn't be used. The engine is stopped until a reset; memory and indices are as they were.
+    /// A ring, a descriptor or its data couldn't be used. The engine is stopped until a reset; memory and indices are
+    /// as they were.
     Fault,
 }
 

@@ -7,7 +7,8 @@ ghost use Rattle.registers.specs.Places.{alone, txqe};
 ghost use Rattle.tx_engine.specs.Steps.{DiffersAtMostAt, IfFront, status_place};
 ghost use Rattle.adapter.specs.Outcomes.{has_place, put_by, stepped_of};
 ghost use Rattle.adapter.specs.State.{IsAdapter};
-ghost use Rattle.adapter.specs.Transmitting.{PutAnswers, PutChangesOnly, TakeAnswers, after_put, after_take, causes_of_putting, memory_after_put, reported, without_oldest};
+ghost use Rattle.adapter.specs.Transmitting.{PutAnswers, PutChangesOnly, TakeAnswers, after_put, after_take};
+ghost use Rattle.adapter.specs.Transmitting.{causes_of_putting, memory_after_put, reported, without_oldest};
 
 use crate::Adapter;
 use crate::step::{StepOutcome, Stepped};
@@ -80,8 +81,8 @@ impl Adapter {
         StepOutcome::Put
     }
 
-    /// Drops the oldest frame of a packet buffer that isn't empty, once it is on the wire: it is counted, and reported where
-    /// its descriptor asks for that.
+    /// Drops the oldest frame of a packet buffer that isn't empty, once it is on the wire: it is counted, and
+    /// reported where its descriptor asks for that.
     fn drop_put_frame(&mut self, memory: &mut HostMemory)
         requires { self.old.transmitter.buffer ≢ [] }
         ensures state { self.new ≡ without_oldest self.old }
@@ -104,8 +105,8 @@ fn causes_of_taking(emptied: bool) -> Cause
     if emptied { Cause::TXQE } else { Cause::empty() }
 }
 
-/// Puts the oldest frame of a packet buffer that isn't empty onto the wire, and tells the causes that this records: TXDW
-/// where its descriptor asks for a report.
+/// Puts the oldest frame of a packet buffer that isn't empty onto the wire, and tells the causes that this records:
+/// TXDW where its descriptor asks for a report.
 fn put_oldest(engine: &mut TxEngine, memory: &mut HostMemory) -> Cause
     requires { engine.old.buffer ≢ [] }
     ensures causes { result.0 ≡ causes_of_putting engine.old.buffer }

@@ -15,9 +15,11 @@ use Rattle.bring_up.specs.Sets.{IsAside}
 use Rattle.bring_up.specs.Table.{allocation_writes, link_writes, write_at}
 
 -- A register aside.
-pub aside-of : (register : Register) (value : ℕ) → IsInTable register → IsElsewhere (Some register) → All IsAside (write_at (row_of register).offset value ∷ [])
+pub aside-of : (register : Register) (value : ℕ) → IsInTable register → IsElsewhere (Some register)
+    → All IsAside (write_at (row_of register).offset value ∷ [])
 aside-of register value within elsewhere =
-    All-cons IsAside (write_at (row_of register).offset value) [] (subst IsElsewhere (sym (register_at-there register within)) elsewhere) (all-none IsAside)
+    All-cons IsAside (write_at (row_of register).offset value) [] (subst IsElsewhere (sym (register_at-there register within)) elsewhere)
+    (all-none IsAside)
 
 pub mask-aside : All IsAside (write_at 0x00D8 0xFFFFFFFF ∷ [])
 mask-aside = aside-of Imc 0xFFFFFFFF tt tt
@@ -32,7 +34,8 @@ link-aside = aside-of Ctrl 0x60 tt tt
 pub reset-rests : (value : ℕ) (before after : World) → value ≡ 0x04000000 → after ≡ world_after_write 0x0000 value before → IsAtRest after
 reset-rests value before after is written =
     let resets : world_after_write 0x0000 0x04000000 before ≡ record before { adapter = after_reset before.adapter } =
-    ap (λ (found : Option Register). let w : World = record before { adapter = left_by_write found 0x04000000 before.adapter } in w) (register_at-there Ctrl tt) in
+    ap (λ (found : Option Register). let w : World = record before { adapter = left_by_write found 0x04000000 before.adapter } in w)
+    (register_at-there Ctrl tt) in
     subst IsAtRest (sym (written ∙ ap (λ (v : ℕ). world_after_write 0x0000 v before) is ∙ resets)) (rest_after_reset before)
 
 -- A read of ICR leaves no cause recorded.

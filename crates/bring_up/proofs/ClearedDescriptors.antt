@@ -1,5 +1,6 @@
 -- A driver clears descriptors of its own.
-use Rattle.std.proofs.Common.{Bool, false, ◌≡◌, ◌≤◌, ◌<◌, ◌+◌, ◌-◌, ◌*◌, ◌^◌, ◌++◌, ◌∷◌, [], ℕ, zero, suc, List, length, map, replicate, inr, refl, sym, ap, subst, ◌∙◌, arith}
+use Rattle.std.proofs.Common.{Bool, false, ◌≡◌, ◌≤◌, ◌<◌, ◌+◌, ◌-◌, ◌*◌, ◌^◌, ◌++◌, ◌∷◌, [], ℕ, zero, suc, List, length, map, replicate}
+use Rattle.std.proofs.Common.{inr, refl, sym, ap, subst, ◌∙◌, arith}
 use Rattle.std.specs.List.{All}
 use Rattle.std.proofs.Math.Nat.{mod-eq_of_lt}
 use Rattle.dma_memory.specs.Areas.{AreApart, AreSeparate, Area, area_at, descriptor_area}
@@ -50,7 +51,8 @@ abbrev ring_of_one : ℕ → RingRegisters
 ring_of_one address = record { base_low = address; base_high = 0; length_bytes = 16; head = 0; tail = 0 }
 
 -- Such a ring could be set up, so the slot is apart from all that is received.
-sent-own : (d : DriverState) (slot : ℕ) (world : World) → ReadyWith false d world → slot < d.counts.tx → CanClear d world (transmit_slot d.counts slot)
+sent-own : (d : DriverState) (slot : ℕ) (world : World) → ReadyWith false d world → slot < d.counts.tx
+    → CanClear d world (transmit_slot d.counts slot)
 sent-own d slot world ready below =
     let o = d.oldest_received in
     let address = transmit_slot d.counts slot in
@@ -65,17 +67,23 @@ sent-own d slot world ready below =
     let lie = all-head Lies t (frame_areas o bare) (all-tail Lies r (t ∷ frame_areas o bare) separate.lie) in
     let from_ring = all-head (AreApart r) t (frame_areas o bare) (pairs-head AreApart r (t ∷ frame_areas o bare) separate.apart) in
     let away = pairs-head AreApart t (frame_areas o bare) (pairs-tail AreApart r (t ∷ frame_areas o bare) separate.apart) in
-    let received = map (named world.memory) (finished o world) ++ (work_areas world.memory world.adapter.receiver.work ++ offered_buffers world) in
-    let same : (slots : List ℕ) → slots ≡ [] → map (data_of world.memory) slots ++ received ≡ received = λ slots none. ap (λ (list : List ℕ). map (data_of world.memory) list ++ received) none in
+    let received = map (named world.memory) (finished o world)
+    ++ (work_areas world.memory world.adapter.receiver.work ++ offered_buffers world) in
+    let same : (slots : List ℕ) → slots ≡ []
+    → map (data_of world.memory) slots ++ received
+    ≡ received = λ slots none. ap (λ (list : List ℕ). map (data_of world.memory) list ++ received) none in
     let bare_same : frame_areas o bare ≡ received = same _ (offered-none (transmit_ring bare) refl) in
     let world_same : frame_areas o world ≡ received = same _ (offered-none (transmit_ring world) ready.transmit.idle) in
-    let none : outstanding (transmit_ring world) d.oldest_sent ≡ [] = subst (λ (oldest : ℕ). outstanding (transmit_ring world) oldest ≡ []) ready.transmit.last (outstanding-none (transmit_ring world)) in
+    let none : outstanding (transmit_ring world) d.oldest_sent
+    ≡ [] = subst (λ (oldest : ℕ). outstanding (transmit_ring world) oldest ≡ []) ready.transmit.last
+    (outstanding-none (transmit_ring world)) in
     let inside = outstanding-inside (receive_ring world) o ready.sound.receive_slots.slot in
     record {
       lies = lie;
       own = record {
         received = λ k s within. inside-apart t _ r (inside k s within) (apart-sym r t from_ring);
-        sent = subst (All (λ other. AreApart t (descriptor_area other))) (sym none) (all-none (λ other. AreApart t (descriptor_area other)));
+        sent = subst (All (λ other. AreApart t (descriptor_area other))) (sym none)
+            (all-none (λ other. AreApart t (descriptor_area other)));
         frames = subst (All (AreApart t)) (bare_same ∙ sym world_same) away;
       };
     }
@@ -87,13 +95,16 @@ clears-sent d slot world ready below =
     let address = transmit_slot d.counts slot in
     let can = sent-own d slot world ready below in
     let memory' = with_bytes world.memory address zeros in
-    let others : (i : ℕ) → i < length d.staged → bytes_at memory' (receive_slot (place n (receive_tail d) i)) 16 ≡ bytes_at world.memory (receive_slot (place n (receive_tail d) i)) 16 = λ i before.
+    let others : (i : ℕ) → i < length d.staged
+    → bytes_at memory' (receive_slot (place n (receive_tail d) i)) 16
+    ≡ bytes_at world.memory (receive_slot (place n (receive_tail d) i)) 16 = λ i before.
     let within = place-below n (receive_tail d) i (place-below n d.oldest_received (length d.buffers) ready.driver_is.oldest_slot) in
     bytes_at-elsewhere world.memory zeros address (receive_slot (place n (receive_tail d) i)) 16 can.lies (inr (omega (arith, within))) in
     goes-stores d d.staged d.pool world address zeros ready can.lies can.own ready.driver_is
     (stored-kept world.memory memory' d.counts (receive_tail d) d.staged others ready.stored)
     (λ number known.
-    apart-inside (area_at address 16) (area_of d.counts TransmitRing) (area_of d.counts (ReceiveBuffer number)) (record { from = omega arith; to = omega (arith, below) })
+    apart-inside (area_at address 16) (area_of d.counts TransmitRing) (area_of d.counts (ReceiveBuffer number))
+    (record { from = omega arith; to = omega (arith, below) })
     (places-apart d.counts TransmitRing (ReceiveBuffer number) tt known (λ same. absurd (cc))))
 
 -- A receive slot behind those that are staged.
@@ -101,7 +112,8 @@ clears-sent d slot world ready below =
 slots-apart : (x y : ℕ) → ¬ (y ≡ x) → AreApart (area_at (receive_slot x) 16) (area_at (receive_slot y) 16)
 slots-apart x y differ = grind arith
 
-clears-received : {up : Bool} (d : DriverState) (i : ℕ) (world : World) → ReadyWith up d world → length d.staged ≤ i → length d.buffers + i < d.counts.rx
+clears-received : {up : Bool} (d : DriverState) (i : ℕ) (world : World) → ReadyWith up d world → length d.staged ≤ i
+    → length d.buffers + i < d.counts.rx
     → GoesTo up d world d (world_after_store (receive_slot (place d.counts.rx (receive_tail d) i)) zeros world) [] [] nothing
 clears-received {up} d i world ready behind short =
     let n = d.counts.rx in
@@ -109,18 +121,23 @@ clears-received {up} d i world ready behind short =
     let slot = place n (receive_tail d) i in
     let address = receive_slot slot in
     let at : address_of (receive_ring world) slot ≡ address = omega (arith, ready.receive.begins) in
-    let can : CanBeWritten first d.oldest_sent world address = subst (CanBeWritten first d.oldest_sent world) at (own_receive_slots_can_be_written first d.oldest_sent slot world ready.sound (own-staged d world i ready short)) in
+    let can : CanBeWritten first d.oldest_sent world address = subst (CanBeWritten first d.oldest_sent world) at
+    (own_receive_slots_can_be_written first d.oldest_sent slot world ready.sound (own-staged d world i ready short)) in
     let memory' = with_bytes world.memory address zeros in
     let below : slot < n = place-below n (receive_tail d) i (place-below n first (length d.buffers) ready.driver_is.oldest_slot) in
-    let others : (j : ℕ) → j < length d.staged → bytes_at memory' (receive_slot (place n (receive_tail d) j)) 16 ≡ bytes_at world.memory (receive_slot (place n (receive_tail d) j)) 16 = λ j before.
+    let others : (j : ℕ) → j < length d.staged
+    → bytes_at memory' (receive_slot (place n (receive_tail d) j)) 16
+    ≡ bytes_at world.memory (receive_slot (place n (receive_tail d) j)) 16 = λ j before.
     bytes_at-elsewhere world.memory zeros address (receive_slot (place n (receive_tail d) j)) 16 can.lies
     (slots-apart slot (place n (receive_tail d) j)
-    (λ equal. places-differ n first (length d.buffers + j) (length d.buffers + i) ready.driver_is.oldest_slot (omega (arith, before, behind)) short
+    (λ equal. places-differ n first (length d.buffers + j) (length d.buffers + i) ready.driver_is.oldest_slot
+    (omega (arith, before, behind)) short
     (place-add n first (length d.buffers) j ∙ equal ∙ sym (place-add n first (length d.buffers) i)))) in
     goes-stores d d.staged d.pool world address zeros ready can.lies can.own ready.driver_is
     (stored-kept world.memory memory' d.counts (receive_tail d) d.staged others ready.stored)
     (λ number known.
-    apart-inside (area_at address 16) (area_of d.counts ReceiveRing) (area_of d.counts (ReceiveBuffer number)) (record { from = omega arith; to = omega (arith, below) })
+    apart-inside (area_at address 16) (area_of d.counts ReceiveRing) (area_of d.counts (ReceiveBuffer number))
+    (record { from = omega arith; to = omega (arith, below) })
     (places-apart d.counts ReceiveRing (ReceiveBuffer number) tt known (λ same. absurd (cc))))
 
 -- A walk that doesn't go around.
@@ -141,30 +158,42 @@ clears-last {up} d world ready oldest =
     let i = n - 1 - length d.buffers in
     let all : length d.buffers + i ≡ n - 1 = omega (arith, room) in
     let sum : first + (n - 1) ≡ n - 1 = omega (arith, oldest) in
-    let at : place n (receive_tail d) i ≡ n - 1 = sym (place-add n first (length d.buffers) i) ∙ ap (place n first) all ∙ walked n first (n - 1) (omega (arith, oldest, slot)) ∙ sum in
+    let at : place n (receive_tail d) i ≡ n - 1 = sym (place-add n first (length d.buffers) i) ∙ ap (place n first) all
+    ∙ walked n first (n - 1) (omega (arith, oldest, slot)) ∙ sum in
     subst (λ (index : ℕ). GoesTo up d world d (world_after_store (receive_slot index) zeros world) [] [] nothing) at
     (clears-received d i world ready (omega (arith, room)) (omega (arith, all, slot)))
 
 -- Over a bus.
 
-abbrev pub StoreActs : {B : Type 0} (world : B → World) (happened : B → B → Past → Type 0) (lively : B → Type 0) (old new : B) (address : ℕ) → Type 0
-StoreActs world happened lively old new address = Acts world happened lively old new (Stores address (replicate 16 0)) (λ before after. after ≡ world_after_store address (replicate 16 0) before)
+abbrev pub StoreActs : {B : Type 0} (world : B → World) (happened : B → B → Past → Type 0) (lively : B → Type 0) (old new : B) (address : ℕ)
+    → Type 0
+StoreActs world happened lively old new address = Acts world happened lively old new (Stores address (replicate 16 0))
+    (λ before after. after ≡ world_after_store address (replicate 16 0) before)
 
-ran_by-clears : {up : Bool} {B : Type 0} (world : B → World) (happened : B → B → Past → Type 0) (lively : B → Type 0) (old new : B) (d : DriverState) (address place : ℕ) → address ≡ place
+ran_by-clears : {up : Bool} {B : Type 0} (world : B → World) (happened : B → B → Past → Type 0) (lively : B
+    → Type 0) (old new : B) (d : DriverState) (address place : ℕ) → address ≡ place
     → StoreActs world happened lively old new address → ReadyWith up d (world old)
     → ((middle : World) → ReadyWith up d middle → GoesTo up d middle d (world_after_store place zeros middle) [] [] nothing)
     → RanBy up world happened (clears address ∷ []) old new d d [] []
 ran_by-clears {up} world happened lively old new d address place at acts ready goes =
-    ran_by-acts world happened lively old new (Stores address zeros) (λ before after. after ≡ world_after_store address zeros before) d d [] [] acts (store-sets address zeros (world new)) ready
+    ran_by-acts world happened lively old new (Stores address zeros)
+    (λ before after. after ≡ world_after_store address zeros before) d d [] [] acts (store-sets address zeros (world new)) ready
     (λ middle there stored.
-    subst (λ (w : World). GoesTo up d middle d w [] [] nothing) (sym (stored ∙ ap (λ (x : ℕ). world_after_store x zeros middle) at)) (goes middle there))
+    subst (λ (w : World). GoesTo up d middle d w [] [] nothing) (sym (stored ∙ ap (λ (x : ℕ). world_after_store x zeros middle) at))
+    (goes middle there))
 
-pub ran_by-clears_sent : {B : Type 0} (world : B → World) (happened : B → B → Past → Type 0) (lively : B → Type 0) (old new : B) (d : DriverState) (slot address : ℕ) → slot < d.counts.tx → address ≡ transmit_slot d.counts slot
-    → StoreActs world happened lively old new address → ReadyWith false d (world old) → RanBy false world happened (clears address ∷ []) old new d d [] []
+pub ran_by-clears_sent : {B : Type 0} (world : B → World) (happened : B → B → Past → Type 0) (lively : B
+    → Type 0) (old new : B) (d : DriverState) (slot address : ℕ) → slot < d.counts.tx → address ≡ transmit_slot d.counts slot
+    → StoreActs world happened lively old new address → ReadyWith false d (world old)
+    → RanBy false world happened (clears address ∷ []) old new d d [] []
 ran_by-clears_sent world happened lively old new d slot address below at acts ready =
-    ran_by-clears world happened lively old new d address (transmit_slot d.counts slot) at acts ready (λ middle there. clears-sent d slot middle there below)
+    ran_by-clears world happened lively old new d address (transmit_slot d.counts slot) at acts ready
+    (λ middle there. clears-sent d slot middle there below)
 
-pub ran_by-clears_received : {up : Bool} {B : Type 0} (world : B → World) (happened : B → B → Past → Type 0) (lively : B → Type 0) (old new : B) (d : DriverState) (address : ℕ) → d.oldest_received ≡ 0 → address ≡ receive_slot (d.counts.rx - 1)
-    → StoreActs world happened lively old new address → ReadyWith up d (world old) → RanBy up world happened (clears address ∷ []) old new d d [] []
+pub ran_by-clears_received : {up : Bool} {B : Type 0} (world : B → World) (happened : B → B → Past → Type 0) (lively : B
+    → Type 0) (old new : B) (d : DriverState) (address : ℕ) → d.oldest_received ≡ 0 → address ≡ receive_slot (d.counts.rx - 1)
+    → StoreActs world happened lively old new address → ReadyWith up d (world old)
+    → RanBy up world happened (clears address ∷ []) old new d d [] []
 ran_by-clears_received world happened lively old new d address oldest at acts ready =
-    ran_by-clears world happened lively old new d address (receive_slot (d.counts.rx - 1)) at acts ready (λ middle there. clears-last d middle there oldest)
+    ran_by-clears world happened lively old new d address (receive_slot (d.counts.rx - 1)) at acts ready
+    (λ middle there. clears-last d middle there oldest)

@@ -16,8 +16,10 @@ pub record IsRead {B : Type 0} (world : B → World) (happened : B → B → Pas
   pub rests : IsAtRest (world new)
   pub settings : settings_of (world new).adapter ≡ settings_after_all reset_writes (settings_of (world old).adapter)
 
-pub is-read : {B : Type 0} (world : B → World) (happened : B → B → Past → Type 0) → ((a b c : B) (s t : Past) → happened a b s → happened b c t → happened a c (joined s t))
-    → (old middle new : B) → Sets world happened old middle reset_writes → IsAtRest (world middle) → Asks world happened middle new 0x0014 → IsRead world happened old new
+pub is-read : {B : Type 0} (world : B → World) (happened : B → B → Past → Type 0)
+    → ((a b c : B) (s t : Past) → happened a b s → happened b c t → happened a c (joined s t))
+    → (old middle new : B) → Sets world happened old middle reset_writes → IsAtRest (world middle) → Asks world happened middle new 0x0014
+    → IsRead world happened old new
 is-read world happened joins old middle new resets rest asks = record {
   past = joined resets.past asks.past;
   told = joins old middle new resets.past asks.past resets.told asks.told;
@@ -30,22 +32,28 @@ pub record IsReady {B : Type 0} (world : B → World) (happened : B → B → Pa
   pub past : Past
   pub told : happened old new past
   pub rests : IsAtRest (world new)
-  pub settings : settings_of (world new).adapter ≡ settings_after_all (reset_writes ++ (allocation_writes kilobytes ++ link_writes)) (settings_of (world old).adapter)
+  pub settings : settings_of (world new).adapter
+      ≡ settings_after_all (reset_writes ++ (allocation_writes kilobytes ++ link_writes)) (settings_of (world old).adapter)
 
 -- The EEPROM, and how the link comes up, are those of before.
-pub device-image : (a b : World) (writes : List Write) → settings_of b.adapter ≡ settings_after_all writes (settings_of a.adapter) → b.adapter.image ≡ a.adapter.image
+pub device-image : (a b : World) (writes : List Write) → settings_of b.adapter ≡ settings_after_all writes (settings_of a.adapter)
+    → b.adapter.image ≡ a.adapter.image
 device-image a b writes set = ap (λ (settings : Settings). settings.image) set ∙ image-stays writes (settings_of a.adapter)
 
-pub device-link : (a b : World) (writes : List Write) → settings_of b.adapter ≡ settings_after_all writes (settings_of a.adapter) → b.adapter.phy.link ≡ a.adapter.phy.link
+pub device-link : (a b : World) (writes : List Write) → settings_of b.adapter ≡ settings_after_all writes (settings_of a.adapter)
+    → b.adapter.phy.link ≡ a.adapter.phy.link
 device-link a b writes set = ap (λ (settings : Settings). settings.link) set ∙ link-stays writes (settings_of a.adapter)
 
 -- The packet buffer was shared out, and the link let come up, behind that.
-pub is-set : {B : Type 0} (world : B → World) (happened : B → B → Past → Type 0) → ((a b c : B) (s t : Past) → happened a b s → happened b c t → happened a c (joined s t))
-    → (old read shared new : B) (kilobytes : ℕ) → IsRead world happened old read → Sets world happened read shared (allocation_writes kilobytes) → Sets world happened shared new link_writes
+pub is-set : {B : Type 0} (world : B → World) (happened : B → B → Past → Type 0)
+    → ((a b c : B) (s t : Past) → happened a b s → happened b c t → happened a c (joined s t))
+    → (old read shared new : B) (kilobytes : ℕ) → IsRead world happened old read
+    → Sets world happened read shared (allocation_writes kilobytes) → Sets world happened shared new link_writes
     → IsReady world happened old new kilobytes
 is-set world happened joins old read shared new kilobytes is shares links = record {
   past = joined is.past (joined shares.past links.past);
-  told = joins old read new is.past (joined shares.past links.past) is.told (joins read shared new shares.past links.past shares.told links.told);
+  told = joins old read new is.past (joined shares.past links.past) is.told
+      (joins read shared new shares.past links.past shares.told links.told);
   rests = (links.rests link-aside (shares.rests (allocation-aside kilobytes) is.rests).0).0;
   settings =
       links.settings
@@ -55,8 +63,10 @@ is-set world happened joins old read shared new kilobytes is shares links = reco
 }
 
 -- A register of the PHY was asked behind that.
-pub still-ready : {B : Type 0} (world : B → World) (happened : B → B → Past → Type 0) → ((a b c : B) (s t : Past) → happened a b s → happened b c t → happened a c (joined s t))
-    → (old middle new : B) (kilobytes : ℕ) → IsReady world happened old middle kilobytes → Asks world happened middle new 0x0020 → IsReady world happened old new kilobytes
+pub still-ready : {B : Type 0} (world : B → World) (happened : B → B → Past → Type 0)
+    → ((a b c : B) (s t : Past) → happened a b s → happened b c t → happened a c (joined s t))
+    → (old middle new : B) (kilobytes : ℕ) → IsReady world happened old middle kilobytes → Asks world happened middle new 0x0020
+    → IsReady world happened old new kilobytes
 still-ready world happened joins old middle new kilobytes is asks = record {
   past = joined is.past asks.past;
   told = joins old middle new is.past asks.past is.told asks.told;

@@ -1,5 +1,6 @@
 -- Writes of registers as stretches of a driver's run, of which is known where each begins.
-use Rattle.std.proofs.Common.{Bool, true, false, ◌≡◌, ◌<◌, ◌+◌, ◌*◌, ◌⊎◌, ⊎_elim, ◌++◌, ◌∷◌, [], ℕ, List, length, Option, bit_and, map, inl, inr, refl, sym, ap, subst, ◌∙◌, arith}
+use Rattle.std.proofs.Common.{Bool, true, false, ◌≡◌, ◌<◌, ◌+◌, ◌*◌, ◌⊎◌, ⊎_elim, ◌++◌, ◌∷◌, [], ℕ, List, length, Option, bit_and, map, inl}
+use Rattle.std.proofs.Common.{inr, refl, sym, ap, subst, ◌∙◌, arith}
 use Rattle.std.proofs.lemmas.List.{append-nil}
 use Rattle.registers.specs.Bits.{HasBit}
 use Rattle.registers.specs.Laws.{HasBit-union}
@@ -38,9 +39,12 @@ use Rattle.bring_up.specs.DriverSteps.{LeavesDriver, LetsFramesIn, UnmasksCauses
 use Rattle.bring_up.specs.RingRegisters.{receive_control, receive_writes, transmit_writes}
 
 -- One access, from the very world in which it begins.
-unfoldable pub ran_by-begins : {first_up up : Bool} {B : Type 0} (world : B → World) (happened : B → B → Past → Type 0) (lively : B → Type 0) (old new : B) (access : Access) (effect : World → World → Type 0)
-    (d : DriverState) (acts : Acts world happened lively old new access effect) → SetsBy access effect (world new) → ReadyWith first_up d (world old)
-    → (ReadyWith first_up d acts.middle → GoesTo up d acts.middle d (world new) [] [] nothing) → RanBy up world happened (access ∷ []) old new d d [] []
+unfoldable pub ran_by-begins : {first_up up : Bool} {B : Type 0} (world : B → World) (happened : B → B → Past → Type 0) (lively : B
+    → Type 0) (old new : B) (access : Access) (effect : World → World → Type 0)
+    (d : DriverState) (acts : Acts world happened lively old new access effect) → SetsBy access effect (world new)
+    → ReadyWith first_up d (world old)
+    → (ReadyWith first_up d acts.middle → GoesTo up d acts.middle d (world new) [] [] nothing)
+    → RanBy up world happened (access ∷ []) old new d d [] []
 ran_by-begins {first_up} {up} world happened lively old new access effect d acts sets ready step =
     let first = goes-happens d (world old) acts.middle acts.past ready acts.before in
     record {
@@ -55,8 +59,10 @@ ran_by-begins {first_up} {up} world happened lively old new access effect d acts
       link = access-link world happened lively old new access effect acts sets;
     }
 
-abbrev pub WriteActs : {B : Type 0} (world : B → World) (happened : B → B → Past → Type 0) (lively : B → Type 0) (old new : B) (offset value : ℕ) → Type 0
-WriteActs world happened lively old new offset value = Acts world happened lively old new (Writes offset value) (λ before after. after ≡ world_after_write offset value before)
+abbrev pub WriteActs : {B : Type 0} (world : B → World) (happened : B → B → Past → Type 0) (lively : B
+    → Type 0) (old new : B) (offset value : ℕ) → Type 0
+WriteActs world happened lively old new offset value = Acts world happened lively old new (Writes offset value)
+    (λ before after. after ≡ world_after_write offset value before)
 
 -- RCTL.
 
@@ -66,9 +72,12 @@ control-kept true false = refl
 control-kept false true = refl
 control-kept false false = refl
 
-receive_control-written : (promiscuous by_vlan : Bool) (world : World) → world_after_write 0x0100 (receive_control promiscuous by_vlan) world ≡ with_receive_control (receive_control promiscuous by_vlan) world
+receive_control-written : (promiscuous by_vlan : Bool) (world : World)
+    → world_after_write 0x0100 (receive_control promiscuous by_vlan) world
+    ≡ with_receive_control (receive_control promiscuous by_vlan) world
 receive_control-written promiscuous by_vlan world =
-    ap (λ (register : Option Register). let after : World = record world { adapter = left_by_write register (receive_control promiscuous by_vlan) world.adapter } in after) (register_at-there Rctl tt)
+    ap (λ (register : Option Register). let after : World = record world
+    { adapter = left_by_write register (receive_control promiscuous by_vlan) world.adapter } in after) (register_at-there Rctl tt)
     ∙ ap (λ (control : ℕ). with_receive_control control world) (control-kept promiscuous by_vlan)
 
 -- BSEX is 0, and buffers have 2,048 bytes.
@@ -78,15 +87,18 @@ not-extended true false = λ has. omega arith
 not-extended false true = λ has. omega arith
 not-extended false false = λ has. omega arith
 
-big-buffers : (promiscuous by_vlan : Bool) (world : World) → buffer_size (with_receive_control (receive_control promiscuous by_vlan) world) ≡ 2048
+big-buffers : (promiscuous by_vlan : Bool) (world : World)
+    → buffer_size (with_receive_control (receive_control promiscuous by_vlan) world) ≡ 2048
 big-buffers true true world = refl
 big-buffers true false world = refl
 big-buffers false true world = refl
 big-buffers false false world = refl
 
-pub lets-frames-in : {B : Type 0} (world : B → World) (happened : B → B → Past → Type 0) (lively : B → Type 0) (old new : B) (promiscuous by_vlan : Bool) (value : ℕ) (d : DriverState)
+pub lets-frames-in : {B : Type 0} (world : B → World) (happened : B → B → Past → Type 0) (lively : B
+    → Type 0) (old new : B) (promiscuous by_vlan : Bool) (value : ℕ) (d : DriverState)
     → value ≡ receive_control promiscuous by_vlan → WriteActs world happened lively old new 0x0100 value → ReadyWith false d (world old)
-    → frames_held d.oldest_received (world old) ≡ [] → IsOff (world old) → LetsFramesIn world happened (receive_writes promiscuous by_vlan) old new d
+    → frames_held d.oldest_received (world old) ≡ [] → IsOff (world old)
+    → LetsFramesIn world happened (receive_writes promiscuous by_vlan) old new d
 unfolding ran_by-begins
 lets-frames-in world happened lively old new promiscuous by_vlan value d is written ready none off =
     let control = receive_control promiscuous by_vlan in
@@ -102,13 +114,18 @@ lets-frames-in world happened lively old new promiscuous by_vlan value d is writ
     let ready_there = (goes-happens d (world old) middle acts.past ready acts.before).flows.ready in
     let goes : GoesTo false d middle d (world new) [] [] nothing =
     subst (λ (w : World). GoesTo false d middle d w [] [] nothing) (sym done)
-    (receiver_is_enabled d control middle ready_there waits.none_finished waits.no_work (not-extended promiscuous by_vlan) (big-buffers promiscuous by_vlan middle)) in
+    (receiver_is_enabled d control middle ready_there waits.none_finished waits.no_work (not-extended promiscuous by_vlan)
+    (big-buffers promiscuous by_vlan middle)) in
     let none_held : frames_held o (world new) ≡ [] = goes.flows.holds ∙ append-nil (frames_held o middle) ∙ empty in
-    let parts = append-empty (map (λ (descriptor : ℕ). bytes_in (world new).memory (named (world new).memory descriptor)) (finished o (world new))) (held (world new).memory (world new).adapter.receiver) none_held in
+    let parts = append-empty
+    (map (λ (descriptor : ℕ). bytes_in (world new).memory (named (world new).memory descriptor)) (finished o (world new)))
+    (held (world new).memory (world new).adapter.receiver) none_held in
     record {
-      ran = ran_by-begins world happened lively old new (Writes 0x0100 control) _ d acts (write-sets 0x0100 control (world new)) ready (λ there. goes);
+      ran = ran_by-begins world happened lively old new (Writes 0x0100 control) _ d acts (write-sets 0x0100 control (world new)) ready
+          (λ there. goes);
       none_held = none_held;
-      none_finished = map-empty (λ (descriptor : ℕ). bytes_in (world new).memory (named (world new).memory descriptor)) (finished o (world new)) parts.0;
+      none_finished = map-empty (λ (descriptor : ℕ). bytes_in (world new).memory (named (world new).memory descriptor))
+          (finished o (world new)) parts.0;
       no_arrival = record { none_stored = arrives.0; none_missed = arrives.1 };
     }
 
@@ -116,18 +133,23 @@ lets-frames-in world happened lively old new promiscuous by_vlan value d is writ
 
 transmit_control-written : (world : World) → world_after_write 0x0400 0x000400FA world ≡ with_transmit_control 0x000400FA world
 transmit_control-written world =
-    ap (λ (register : Option Register). let after : World = record world { adapter = left_by_write register 0x000400FA world.adapter } in after) (register_at-there Tctl tt)
+    ap (λ (register : Option Register). let after : World = record world
+    { adapter = left_by_write register 0x000400FA world.adapter } in after) (register_at-there Tctl tt)
 
-pub lets-frames-out : {B : Type 0} (world : B → World) (happened : B → B → Past → Type 0) (lively : B → Type 0) (old new : B) (value : ℕ) (d : DriverState)
-    → value ≡ 0x000400FA → WriteActs world happened lively old new 0x0400 value → ReadyWith false d (world old) → d.oldest_sent < d.counts.tx
-    → KnowsRing (transmit_ring (world old)) (16 * d.counts.rx) d.counts.tx (transmit_tail d) → LeavesDriver true world happened transmit_writes old new d
+pub lets-frames-out : {B : Type 0} (world : B → World) (happened : B → B → Past → Type 0) (lively : B
+    → Type 0) (old new : B) (value : ℕ) (d : DriverState)
+    → value ≡ 0x000400FA → WriteActs world happened lively old new 0x0400 value → ReadyWith false d (world old)
+    → d.oldest_sent < d.counts.tx
+    → KnowsRing (transmit_ring (world old)) (16 * d.counts.rx) d.counts.tx (transmit_tail d)
+    → LeavesDriver true world happened transmit_writes old new d
 lets-frames-out world happened lively old new value d is written ready below knows =
     let acts = subst (WriteActs world happened lively old new 0x0400) is written in
     let middle = acts.middle in
     let still = known_transmit_ring_stays (world old) middle acts.past _ _ _ acts.before.steady knows in
     let done : world new ≡ with_transmit_control 0x000400FA middle = acts.effect_is ∙ transmit_control-written middle in
     ran_by-begins world happened lively old new (Writes 0x0400 0x000400FA) _ d acts (write-sets 0x0400 0x000400FA (world new)) ready
-    (λ there. subst (λ (w : World). Goes d middle d w [] [] nothing) (sym done) (transmitter_is_enabled d 0x000400FA middle there below still refl))
+    (λ there. subst (λ (w : World). Goes d middle d w [] [] nothing) (sym done)
+    (transmitter_is_enabled d 0x000400FA middle there below still refl))
 
 -- IMS.
 
@@ -136,7 +158,8 @@ no-slots [] none = refl
 no-slots (slot ∷ slots) none = absurd (omega (arith, none))
 
 -- What was told of finished slots before it.
-pub asked-still : (d : DriverState) (a b : World) (past : Past) → Goes d a d b [] [] past → (finished d.oldest_received a ≡ []) ⊎ HasBit a.adapter.causes.recorded 7
+pub asked-still : (d : DriverState) (a b : World) (past : Past) → Goes d a d b [] [] past
+    → (finished d.oldest_received a ≡ []) ⊎ HasBit a.adapter.causes.recorded 7
     → (finished d.oldest_received b ≡ []) ⊎ HasBit b.adapter.causes.recorded 7
 asked-still d a b past goes asked =
     ⊎_elim
@@ -148,8 +171,10 @@ asked-still d a b past goes asked =
     (λ (bit : HasBit b.adapter.causes.recorded 7). inr bit)
     goes.told
 
-pub unmasks-causes : {B : Type 0} (world : B → World) (happened : B → B → Past → Type 0) (lively : B → Type 0) (old new : B) (value : ℕ) (d : DriverState)
-    → value ≡ 0xD1 → WriteActs world happened lively old new 0x00D0 value → Ready d (world old) → UnmasksCauses world happened 0xD1 old new d
+pub unmasks-causes : {B : Type 0} (world : B → World) (happened : B → B → Past → Type 0) (lively : B
+    → Type 0) (old new : B) (value : ℕ) (d : DriverState)
+    → value ≡ 0xD1 → WriteActs world happened lively old new 0x00D0 value → Ready d (world old)
+    → UnmasksCauses world happened 0xD1 old new d
 unmasks-causes world happened lively old new value d is written ready =
     let acts = subst (WriteActs world happened lively old new 0x00D0) is written in
     let middle = acts.middle in

@@ -1,5 +1,6 @@
 -- The count of a PHY behind the start of its negotiation, and what its status shows.
-use Rattle.std.proofs.Common.{◌≡◌, ◌<◌, ◌≢◌, ◌≤◌, ◌+◌, ◌-◌, ◌*◌, ◌⊎◌, ℕ, zero, suc, Bool, true, false, cond, None, bit_and, inl, inr, refl, sym, ap, subst, ◌∙◌, arith, nat_le}
+use Rattle.std.proofs.Common.{◌≡◌, ◌<◌, ◌≢◌, ◌≤◌, ◌+◌, ◌-◌, ◌*◌, ◌⊎◌, ℕ, zero, suc, Bool, true, false, cond, None, bit_and, inl, inr, refl}
+use Rattle.std.proofs.Common.{sym, ap, subst, ◌∙◌, arith, nat_le}
 use Rattle.std.specs.Bool.{⊤}
 use Rattle.std.specs.Fn.{iterate}
 use Rattle.std.proofs.lemmas.Bool.{false≢true, true≢false}
@@ -39,10 +40,12 @@ up-iterate (suc n) phy up = up-iterate n (after_tick phy) (complete-stays phy.ne
 
 -- Negotiation behind its start.
 
-pub negotiating : (lively : Type 0) (all : ℕ) (a : Management) (adapter : AdapterState) (answer : ℕ) → Ends lively restart_words all a (management_of adapter) answer
+pub negotiating : (lively : Type 0) (all : ℕ) (a : Management) (adapter : AdapterState) (answer : ℕ)
+    → Ends lively restart_words all a (management_of adapter) answer
     → (begun : IsNegotiating adapter) × (begun.ticks < all)
 negotiating lively all a adapter answer ends =
-    let link : adapter.phy.link ≡ ends.phy.link = ap (λ (p : PhyState). p.link) ends.leaves ∙ link-iterate ends.later (started ends.phy.link) in
+    let link : adapter.phy.link ≡ ends.phy.link = ap (λ (p : PhyState). p.link) ends.leaves
+    ∙ link-iterate ends.later (started ends.phy.link) in
     let begun : IsNegotiating adapter = record {
       ticks = ends.later;
       phy = ends.leaves ∙ ap (λ (l : Link). iterate after_tick ends.later (started l)) (sym link);
@@ -61,13 +64,15 @@ CountedFor ticks (After d) Complete = ⊤
 abbrev pub HasCounted : ℕ → PhyState → Type 0
 HasCounted ticks phy = CountedFor ticks phy.link phy.negotiation
 
-counted-less : (few many : ℕ) (link : Link) (negotiation : Negotiation) → few ≤ many → CountedFor many link negotiation → CountedFor few link negotiation
+counted-less : (few many : ℕ) (link : Link) (negotiation : Negotiation) → few ≤ many → CountedFor many link negotiation
+    → CountedFor few link negotiation
 counted-less few many Never negotiation less has = tt
 counted-less few many (After d) NotStarted less has = has
 counted-less few many (After d) (Running left) less has = (let so = has.0 in omega arith, λ some. has.1 (omega arith))
 counted-less few many (After d) Complete less has = tt
 
-counted-tick : (ticks : ℕ) (link : Link) (negotiation : Negotiation) → CountedFor ticks link negotiation → CountedFor (ticks + 1) link (counted negotiation)
+counted-tick : (ticks : ℕ) (link : Link) (negotiation : Negotiation) → CountedFor ticks link negotiation
+    → CountedFor (ticks + 1) link (counted negotiation)
 counted-tick ticks Never negotiation has = tt
 counted-tick ticks (After d) NotStarted has = has
 counted-tick ticks (After d) (Running left) has = by_test (nat_le left 1) refl
@@ -82,7 +87,8 @@ counted-tick ticks (After d) Complete has = tt
 
 pub counted-ticks : (n few ticks : ℕ) (phy : PhyState) → few ≤ ticks + n → HasCounted ticks phy → HasCounted few (iterate after_tick n phy)
 counted-ticks zero few ticks phy less has = counted-less few ticks phy.link phy.negotiation (omega arith) has
-counted-ticks (suc n) few ticks phy less has = counted-ticks n few (ticks + 1) (after_tick phy) (omega arith) (counted-tick ticks phy.link phy.negotiation has)
+counted-ticks (suc n) few ticks phy less has = counted-ticks n few (ticks + 1) (after_tick phy) (omega arith)
+    (counted-tick ticks phy.link phy.negotiation has)
 
 counted-at_start : (link : Link) → HasCounted 0 (started link)
 counted-at_start Never = tt
@@ -90,10 +96,12 @@ counted-at_start (After d) = (omega arith, λ some. absurd (omega arith))
 
 pub has_counted : (adapter : AdapterState) → IsNegotiating adapter → HasCounted 0 adapter.phy
 has_counted adapter begun =
-    subst (HasCounted 0) (sym begun.phy) (counted-ticks begun.ticks 0 0 (started adapter.phy.link) (omega arith) (counted-at_start adapter.phy.link))
+    subst (HasCounted 0) (sym begun.phy)
+    (counted-ticks begun.ticks 0 0 (started adapter.phy.link) (omega arith) (counted-at_start adapter.phy.link))
 
 -- A link that is still down needs more ticks than have fallen.
-down-needs : (ticks : ℕ) (link : Link) (negotiation : Negotiation) → 1 ≤ ticks → CountedFor ticks link negotiation → is_complete negotiation ≡ false → NeedsMoreThan ticks link
+down-needs : (ticks : ℕ) (link : Link) (negotiation : Negotiation) → 1 ≤ ticks → CountedFor ticks link negotiation
+    → is_complete negotiation ≡ false → NeedsMoreThan ticks link
 down-needs ticks Never negotiation some has down = tt
 down-needs ticks (After d) NotStarted some has down = absurd has
 down-needs ticks (After d) (Running left) some has down =
@@ -128,7 +136,8 @@ shows-down true false free down = elim down [
 ]
 shows-down false latched free down = refl
 
-both-bits : (up latched : Bool) → bit_and (shown_status up latched) 0x04 ≢ 0 → HasBit (shown_status up latched) 5 × HasBit (shown_status up latched) 2
+both-bits : (up latched : Bool) → bit_and (shown_status up latched) 0x04 ≢ 0 → HasBit (shown_status up latched) 5
+    × HasBit (shown_status up latched) 2
 both-bits true true set = absurd (set refl)
 both-bits true false set = (refl, refl)
 both-bits false latched set = absurd (set refl)
@@ -137,7 +146,8 @@ abbrev HasBoth : ℕ → Type 0
 HasBoth value = HasBit value 5 × HasBit value 2
 
 -- Where an answer has bit 2 it has bit 5 too,
-pub seen-of : (lively : Type 0) (all : ℕ) (a b : Management) (answer : ℕ) → Ends lively status_words all a b answer → bit_and answer 0x04 ≢ 0 → HasBit b.mdic.value 5 × HasBit b.mdic.value 2
+pub seen-of : (lively : Type 0) (all : ℕ) (a b : Management) (answer : ℕ) → Ends lively status_words all a b answer
+    → bit_and answer 0x04 ≢ 0 → HasBit b.mdic.value 5 × HasBit b.mdic.value 2
 seen-of lively all a b answer ends set =
     let at = ends.phy in
     let value : b.mdic.value ≡ answer = ap (λ (l : MdicState). l.value) ends.mdic in
@@ -145,10 +155,12 @@ seen-of lively all a b answer ends set =
     subst HasBoth (sym (value ∙ ends.answers)) both
 
 -- and the link is up.
-pub up-of : (lively : Type 0) (all : ℕ) (a : Management) (world : World) (answer : ℕ) → Ends lively status_words all a (management_of world.adapter) answer → bit_and answer 0x04 ≢ 0 → HasLink world
+pub up-of : (lively : Type 0) (all : ℕ) (a : Management) (world : World) (answer : ℕ)
+    → Ends lively status_words all a (management_of world.adapter) answer → bit_and answer 0x04 ≢ 0 → HasLink world
 up-of lively all a world answer ends set =
     let at = ends.phy in
-    let up : link_is_up at ≡ true = shows-up (link_is_up at) at.latched_low (λ unset. set (ap (λ (v : ℕ). bit_and v 0x04) ends.answers ∙ unset)) in
+    let up : link_is_up at
+    ≡ true = shows-up (link_is_up at) at.latched_low (λ unset. set (ap (λ (v : ℕ). bit_and v 0x04) ends.answers ∙ unset)) in
     record {
       up = ap link_is_up ends.leaves ∙ up-iterate ends.later (record at { latched_low = false }) up;
       no_command = ap (λ (l : MdicState). l.pending) ends.mdic;
@@ -171,23 +183,29 @@ no-rounds adapter begun = record {
   needs = λ some. absurd (omega arith);
 }
 
-pub one-round : (lively : Type 0) (all : ℕ) (a b : Management) (rounds answer : ℕ) → lively → Ends lively status_words all a b answer → NotBoth answer → Rounds rounds a → Rounds (rounds + 1) b
+pub one-round : (lively : Type 0) (all : ℕ) (a b : Management) (rounds answer : ℕ) → lively → Ends lively status_words all a b answer
+    → NotBoth answer → Rounds rounds a → Rounds (rounds + 1) b
 one-round lively all a b rounds answer alive ends down before =
     let at = ends.phy in
     let ticked = ends.ticked alive in
-    let is : at ≡ after_tick (iterate after_tick ends.ticks a.phy) = ends.counted ∙ ap after_tick (ticks-none ends.ticks a before.no_command) in
+    let is : at ≡ after_tick (iterate after_tick ends.ticks a.phy) = ends.counted
+    ∙ ap after_tick (ticks-none ends.ticks a before.no_command) in
     let link : at.link ≡ a.phy.link = ap (λ (p : PhyState). p.link) is ∙ link-iterate ends.ticks a.phy in
     let at_latch : at.latched_low ≡ a.phy.latched_low = ap (λ (p : PhyState). p.latched_low) is ∙ latch-iterate ends.ticks a.phy in
-    let has_ticked : HasCounted (2 * rounds + ends.ticks) (iterate after_tick ends.ticks a.phy) = counted-ticks ends.ticks (2 * rounds + ends.ticks) (2 * rounds) a.phy (omega arith) before.counted in
-    let here : HasCounted (2 * (rounds + 1)) at = subst (HasCounted (2 * (rounds + 1))) (sym is) (counted-ticks 1 (2 * (rounds + 1)) (2 * rounds + ends.ticks) (iterate after_tick ends.ticks a.phy) (omega arith) has_ticked) in
+    let has_ticked : HasCounted (2 * rounds + ends.ticks) (iterate after_tick ends.ticks a.phy) = counted-ticks ends.ticks
+    (2 * rounds + ends.ticks) (2 * rounds) a.phy (omega arith) before.counted in
+    let here : HasCounted (2 * (rounds + 1)) at = subst (HasCounted (2 * (rounds + 1))) (sym is)
+    (counted-ticks 1 (2 * (rounds + 1)) (2 * rounds + ends.ticks) (iterate after_tick ends.ticks a.phy) (omega arith) has_ticked) in
     let after : PhyState = record at { latched_low = false } in
     record {
       no_command = ap (λ (l : MdicState). l.pending) ends.mdic;
-      counted = subst (HasCounted (2 * (rounds + 1))) (sym ends.leaves) (counted-ticks ends.later (2 * (rounds + 1)) (2 * (rounds + 1)) after (omega arith) here);
+      counted = subst (HasCounted (2 * (rounds + 1))) (sym ends.leaves)
+          (counted-ticks ends.later (2 * (rounds + 1)) (2 * (rounds + 1)) after (omega arith) here);
       latch = λ some. ap (λ (p : PhyState). p.latched_low) ends.leaves ∙ latch-iterate ends.later after;
       needs = λ some.
           let free : at.latched_low ≡ false = at_latch ∙ before.latch (omega arith) in
           let shown : NotBoth (shown_status (link_is_up at) at.latched_low) = subst NotBoth ends.answers down in
-          let needs = down-needs (2 * (rounds + 1)) at.link at.negotiation (omega arith) here (shows-down (link_is_up at) at.latched_low free shown) in
+          let needs = down-needs (2 * (rounds + 1)) at.link at.negotiation (omega arith) here
+          (shows-down (link_is_up at) at.latched_low free shown) in
           subst (NeedsMoreThan (2 * (rounds + 1))) (sym (ap (λ (p : PhyState). p.link) ends.leaves ∙ link-iterate ends.later after)) needs;
     }

@@ -27,9 +27,11 @@ pub asks-fewer : {B : Type 0} (world : B → World) (happened : B → B → Past
 asks-fewer world happened old new offset many few fewer times = record { asks = times.asks; often = let often = times.often in omega arith }
 
 -- An access that leaves the settings, behind whatever happens before it.
-abbrev asks-access : {B : Type 0} (world : B → World) (happened : B → B → Past → Type 0) (lively : B → Type 0) (old new : B) (access : Access) (effect : World → World → Type 0) (offset : ℕ)
+abbrev asks-access : {B : Type 0} (world : B → World) (happened : B → B → Past → Type 0) (lively : B
+    → Type 0) (old new : B) (access : Access) (effect : World → World → Type 0) (offset : ℕ)
     → (acts : Acts world happened lively old new access effect) → All (λ write. write.offset ≡ offset) (writes_in (access ∷ []))
-    → settings_of (world new).adapter ≡ settings_of acts.middle.adapter → (IsAtRest acts.middle → IsAtRest (world new)) → AsksTimes world happened old new offset 1
+    → settings_of (world new).adapter ≡ settings_of acts.middle.adapter → (IsAtRest acts.middle → IsAtRest (world new))
+    → AsksTimes world happened old new offset 1
 asks-access world happened lively old new access effect offset acts only left rests = record {
   asks = record {
     past = acts.past;
@@ -43,19 +45,24 @@ asks-access world happened lively old new access effect offset acts only left re
   often = let one : length acts.past.accesses ≡ 1 = ap length acts.only in omega arith;
 }
 
-abbrev pub asks-read : {B : Type 0} (world : B → World) (happened : B → B → Past → Type 0) (lively : B → Type 0) (old new : B) (offset value : ℕ) (answer : World → Type 0)
-    → Acts world happened lively old new (Reads offset value) (λ before after. answer before × (after ≡ world_after_read offset before)) → AsksTimes world happened old new offset 1
+abbrev pub asks-read : {B : Type 0} (world : B → World) (happened : B → B → Past → Type 0) (lively : B
+    → Type 0) (old new : B) (offset value : ℕ) (answer : World → Type 0)
+    → Acts world happened lively old new (Reads offset value) (λ before after. answer before × (after ≡ world_after_read offset before))
+    → AsksTimes world happened old new offset 1
 asks-read world happened lively old new offset value answer acts =
     asks-access world happened lively old new (Reads offset value) _ offset acts (all-none (λ write. write.offset ≡ offset))
     (ap (λ (w : World). settings_of w.adapter) acts.effect_is.1 ∙ reads-leave offset acts.middle.adapter)
     (λ rest. subst IsAtRest (sym acts.effect_is.1) (accesses_keep_rest (Reads offset value) acts.middle tt refl rest))
 
-abbrev pub asks-write : {B : Type 0} (world : B → World) (happened : B → B → Past → Type 0) (lively : B → Type 0) (old new : B) (offset value : ℕ)
+abbrev pub asks-write : {B : Type 0} (world : B → World) (happened : B → B → Past → Type 0) (lively : B
+    → Type 0) (old new : B) (offset value : ℕ)
     → IsElsewhere (register_at offset) → ((adapter : AdapterState) → settings_of (after_write offset value adapter) ≡ settings_of adapter)
-    → Acts world happened lively old new (Writes offset value) (λ before after. after ≡ world_after_write offset value before) → AsksTimes world happened old new offset 1
+    → Acts world happened lively old new (Writes offset value) (λ before after. after ≡ world_after_write offset value before)
+    → AsksTimes world happened old new offset 1
 asks-write world happened lively old new offset value elsewhere leaves acts =
     let write : Write = record { offset = offset; value = value } in
-    asks-access world happened lively old new (Writes offset value) _ offset acts (All-cons (λ write. write.offset ≡ offset) write [] refl (all-none (λ write. write.offset ≡ offset)))
+    asks-access world happened lively old new (Writes offset value) _ offset acts
+    (All-cons (λ write. write.offset ≡ offset) write [] refl (all-none (λ write. write.offset ≡ offset)))
     (ap (λ (w : World). settings_of w.adapter) acts.effect_is ∙ leaves acts.middle.adapter)
     (λ rest. subst IsAtRest (sym acts.effect_is) (accesses_keep_rest (Writes offset value) acts.middle elsewhere refl rest))
 
@@ -67,8 +74,10 @@ no-frames first later one two = record {
   none_missed = rw (one.none_missed, two.none_missed) refl;
 }
 
-abbrev pub asks-both : {B : Type 0} (world : B → World) (happened : B → B → Past → Type 0) → ((a b c : B) (s t : Past) → happened a b s → happened b c t → happened a c (joined s t))
-    → (a b c : B) (offset m n : ℕ) → AsksTimes world happened a b offset m → AsksTimes world happened b c offset n → AsksTimes world happened a c offset (m + n)
+abbrev pub asks-both : {B : Type 0} (world : B → World) (happened : B → B → Past → Type 0)
+    → ((a b c : B) (s t : Past) → happened a b s → happened b c t → happened a c (joined s t))
+    → (a b c : B) (offset m n : ℕ) → AsksTimes world happened a b offset m → AsksTimes world happened b c offset n
+    → AsksTimes world happened a c offset (m + n)
 asks-both world happened joins a b c offset m n first later =
     let one = first.asks in
     let two = later.asks in
@@ -86,12 +95,14 @@ asks-both world happened joins a b c offset m n first later =
             (end.0, no-frames one.past two.past middle.1 end.1);
       };
       often =
-          let both : length (one.past.accesses ++ two.past.accesses) ≡ length one.past.accesses + length two.past.accesses = length-append one.past.accesses two.past.accesses in
+          let both : length (one.past.accesses ++ two.past.accesses)
+          ≡ length one.past.accesses + length two.past.accesses = length-append one.past.accesses two.past.accesses in
           let m_often = first.often in
           let n_often = later.often in
           omega arith;
     }
 
 -- Nothing is asked.
-pub asks-none : {B : Type 0} (world : B → World) (happened : B → B → Past → Type 0) → ((b : B) → happened b b nothing) → (b : B) (offset : ℕ) → AsksTimes world happened b b offset 0
+pub asks-none : {B : Type 0} (world : B → World) (happened : B → B → Past → Type 0) → ((b : B) → happened b b nothing)
+    → (b : B) (offset : ℕ) → AsksTimes world happened b b offset 0
 asks-none world happened stays b offset = record { asks = asks-nothing world happened stays b offset; often = omega arith }

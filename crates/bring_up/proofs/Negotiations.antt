@@ -10,7 +10,8 @@ use Rattle.bring_up.proofs.MdicAccesses.{AsksTimes, asks-both, asks-fewer, asks-
 use Rattle.bring_up.proofs.PhyCommands.{line_of}
 use Rattle.bring_up.proofs.LinkTicks.{NotBoth, Rounds, negotiating, no-rounds, one-round, seen-of, up-of}
 
-pub negotiates : {B : Type 0} (world : B → World) (happened : B → B → Past → Type 0) (lively : B → Type 0) (old new : B) (answer : ℕ) (done : Unit {0})
+pub negotiates : {B : Type 0} (world : B → World) (happened : B → B → Past → Type 0) (lively : B
+    → Type 0) (old new : B) (answer : ℕ) (done : Unit {0})
     → Commands world happened lively old new restart_words (Ok answer) → Negotiates world happened lively old new (Ok done)
 negotiates world happened lively old new answer done commands = record {
   asks = commands.asks;
@@ -20,7 +21,8 @@ negotiates world happened lively old new answer done commands = record {
   in_time = λ ticks. refl;
 }
 
-pub negotiates-late : {B : Type 0} (world : B → World) (happened : B → B → Past → Type 0) (lively : B → Type 0) (old new : B) (error told : InitError)
+pub negotiates-late : {B : Type 0} (world : B → World) (happened : B → B → Past → Type 0) (lively : B
+    → Type 0) (old new : B) (error told : InitError)
     → Commands world happened lively old new restart_words (Err error) → Negotiates world happened lively old new (Err told)
 negotiates-late world happened lively old new error told commands = record {
   asks = commands.asks;
@@ -31,12 +33,14 @@ negotiates-late world happened lively old new error told commands = record {
 }
 
 -- The link was not seen in so many rounds.
-pub record Awaits {B : Type 0} (world : B → World) (happened : B → B → Past → Type 0) (lively : B → Type 0) (old now : B) (rounds : ℕ) : Type 0 where
+pub record Awaits {B : Type 0} (world : B → World) (happened : B → B → Past → Type 0) (lively : B
+    → Type 0) (old now : B) (rounds : ℕ) : Type 0 where
   pub asked : AsksTimes world happened old now 0x0020 (2 * rounds)
   pub link : (world now).adapter.phy.link ≡ (world old).adapter.phy.link
   pub counted : lively old → IsNegotiating (world old).adapter → Rounds rounds (line_of (world now))
 
-pub begins : {B : Type 0} (world : B → World) (happened : B → B → Past → Type 0) (lively : B → Type 0) → ((b : B) → happened b b nothing) → (b : B) → Awaits world happened lively b b 0
+pub begins : {B : Type 0} (world : B → World) (happened : B → B → Past → Type 0) (lively : B → Type 0) → ((b : B) → happened b b nothing)
+    → (b : B) → Awaits world happened lively b b 0
 begins world happened lively stays b = record {
   asked = asks-none world happened stays b 0x0020;
   link = refl;
@@ -44,24 +48,33 @@ begins world happened lively stays b = record {
 }
 
 -- the command of one round more
-commands-both : {B : Type 0} (world : B → World) (happened : B → B → Past → Type 0) (lively : B → Type 0) → ((a b c : B) (s t : Past) → happened a b s → happened b c t → happened a c (joined s t))
-    → (old now new : B) (rounds : ℕ) (result : Result ℕ InitError) → Awaits world happened lively old now rounds → Commands world happened lively now new status_words result
+commands-both : {B : Type 0} (world : B → World) (happened : B → B → Past → Type 0) (lively : B → Type 0)
+    → ((a b c : B) (s t : Past) → happened a b s → happened b c t → happened a c (joined s t))
+    → (old now new : B) (rounds : ℕ) (result : Result ℕ InitError) → Awaits world happened lively old now rounds
+    → Commands world happened lively now new status_words result
     → AsksTimes world happened old new 0x0020 (2 * rounds + 2)
 commands-both world happened lively joins old now new rounds result awaits commands =
-    asks-both world happened joins old now new 0x0020 (2 * rounds) 2 awaits.asked (record { asks = commands.asks; often = commands.accesses })
+    asks-both world happened joins old now new 0x0020 (2 * rounds) 2 awaits.asked
+    (record { asks = commands.asks; often = commands.accesses })
 
-pub awaits-on : {B : Type 0} (world : B → World) (happened : B → B → Past → Type 0) (lively : B → Type 0) → ((a b c : B) (s t : Past) → happened a b s → happened b c t → happened a c (joined s t))
-    → (old now new : B) (rounds answer : ℕ) → (lively old → lively now) → Awaits world happened lively old now rounds → Commands world happened lively now new status_words (Ok answer)
+pub awaits-on : {B : Type 0} (world : B → World) (happened : B → B → Past → Type 0) (lively : B → Type 0)
+    → ((a b c : B) (s t : Past) → happened a b s → happened b c t → happened a c (joined s t))
+    → (old now new : B) (rounds answer : ℕ) → (lively old → lively now) → Awaits world happened lively old now rounds
+    → Commands world happened lively now new status_words (Ok answer)
     → NotBoth answer → Awaits world happened lively old new (rounds + 1)
 awaits-on world happened lively joins old now new rounds answer alive awaits commands down = record {
-  asked = asks-fewer world happened old new 0x0020 (2 * rounds + 2) (2 * (rounds + 1)) (omega arith) (commands-both world happened lively joins old now new rounds (Ok answer) awaits commands);
+  asked = asks-fewer world happened old new 0x0020 (2 * rounds + 2) (2 * (rounds + 1)) (omega arith)
+      (commands-both world happened lively joins old now new rounds (Ok answer) awaits commands);
   link = commands.link ∙ awaits.link;
-  counted = λ ticks begun. one-round (lively now) commands.asks.past.phy_ticks (line_of (world now)) (line_of (world new)) rounds answer (alive ticks) commands.ends down (awaits.counted ticks begun);
+  counted = λ ticks begun. one-round (lively now) commands.asks.past.phy_ticks (line_of (world now)) (line_of (world new)) rounds answer
+      (alive ticks) commands.ends down (awaits.counted ticks begun);
 }
 
 -- It is seen.
-pub awaits-up : {B : Type 0} (world : B → World) (happened : B → B → Past → Type 0) (lively : B → Type 0) → ((a b c : B) (s t : Past) → happened a b s → happened b c t → happened a c (joined s t))
-    → (old now new : B) (rounds answer : ℕ) (done : Unit {0}) → Awaits world happened lively old now rounds → Commands world happened lively now new status_words (Ok answer)
+pub awaits-up : {B : Type 0} (world : B → World) (happened : B → B → Past → Type 0) (lively : B → Type 0)
+    → ((a b c : B) (s t : Past) → happened a b s → happened b c t → happened a c (joined s t))
+    → (old now new : B) (rounds answer : ℕ) (done : Unit {0}) → Awaits world happened lively old now rounds
+    → Commands world happened lively now new status_words (Ok answer)
     → bit_and answer 0x04 ≢ 0 → AwaitsLink world happened lively old new (Ok done)
 awaits-up world happened lively joins old now new rounds answer done awaits commands set = record {
   asks = (commands-both world happened lively joins old now new rounds (Ok answer) awaits commands).asks;
@@ -75,11 +88,14 @@ awaits-up world happened lively joins old now new rounds answer done awaits comm
 }
 
 -- A command doesn't end.
-pub awaits-late : {B : Type 0} (world : B → World) (happened : B → B → Past → Type 0) (lively : B → Type 0) → ((a b c : B) (s t : Past) → happened a b s → happened b c t → happened a c (joined s t))
-    → (old now new : B) (rounds : ℕ) (error told : InitError) → told ≡ PhyTimeout → (lively old → lively now) → Awaits world happened lively old now rounds
+pub awaits-late : {B : Type 0} (world : B → World) (happened : B → B → Past → Type 0) (lively : B → Type 0)
+    → ((a b c : B) (s t : Past) → happened a b s → happened b c t → happened a c (joined s t))
+    → (old now new : B) (rounds : ℕ) (error told : InitError) → told ≡ PhyTimeout → (lively old → lively now)
+    → Awaits world happened lively old now rounds
     → Commands world happened lively now new status_words (Err error) → AwaitsLink world happened lively old new (Err told)
 awaits-late world happened lively joins old now new rounds error told timeout alive awaits commands =
-    let both = asks-both world happened joins old now new 0x0020 (2 * rounds) 1000 awaits.asked (record { asks = commands.asks; often = commands.late }) in
+    let both = asks-both world happened joins old now new 0x0020 (2 * rounds) 1000 awaits.asked
+    (record { asks = commands.asks; often = commands.late }) in
     record {
       asks = both.asks;
       link = commands.link ∙ awaits.link;
@@ -92,7 +108,8 @@ awaits-late world happened lively joins old now new rounds error told timeout al
     }
 
 -- It wasn't seen in 1,000 rounds.
-pub awaits-none : {B : Type 0} (world : B → World) (happened : B → B → Past → Type 0) (lively : B → Type 0) (old now : B) (rounds : ℕ) → rounds ≡ 1000
+pub awaits-none : {B : Type 0} (world : B → World) (happened : B → B → Past → Type 0) (lively : B → Type 0) (old now : B) (rounds : ℕ)
+    → rounds ≡ 1000
     → Awaits world happened lively old now rounds → AwaitsLink world happened lively old now (Err NoLink)
 awaits-none world happened lively old now rounds all awaits =
     let often = awaits.asked.often in

@@ -23,7 +23,8 @@ pub record Finds (lively : Type 0) (ticks : ℕ) (a b : Management) (value : ℕ
   pub shown : value ≡ b.mdic.value
 
 pub finds : {B : Type 0} (world : B → World) (happened : B → B → Past → Type 0) (lively : B → Type 0) (old new : B) (value : ℕ)
-    → (acts : Acts world happened lively old new (Reads 0x0020 value) (λ before after. (value ≡ answer_at 0x0020 before.adapter) × (after ≡ world_after_read 0x0020 before)))
+    → (acts : Acts world happened lively old new (Reads 0x0020 value) (λ before after. (value ≡ answer_at 0x0020 before.adapter)
+    × (after ≡ world_after_read 0x0020 before)))
     → Finds (lively old) acts.past.phy_ticks (line_of (world old)) (line_of (world new)) value
 unfolding register_at
 finds world happened lively old new value acts =
@@ -35,7 +36,8 @@ finds world happened lively old new value acts =
     }
 
 -- The command is given, and so many reads didn't show R.
-pub record Waits {B : Type 0} (world : B → World) (happened : B → B → Past → Type 0) (lively : B → Type 0) (old now : B) (words reads : ℕ) : Type 0 where
+pub record Waits {B : Type 0} (world : B → World) (happened : B → B → Past → Type 0) (lively : B
+    → Type 0) (old now : B) (words reads : ℕ) : Type 0 where
   pub asked : AsksTimes world happened old now 0x0020 (reads + 1)
   pub ticks : ℕ
   pub ticks_are : asked.asks.past.phy_ticks ≡ ticks
@@ -44,7 +46,8 @@ pub record Waits {B : Type 0} (world : B → World) (happened : B → B → Past
   pub none_in_vain : lively old → reads ≡ 0
 
 pub gives : {B : Type 0} (world : B → World) (happened : B → B → Past → Type 0) (lively : B → Type 0) (old new : B) (words : ℕ)
-    → Acts world happened lively old new (Writes 0x0020 words) (λ before after. after ≡ world_after_write 0x0020 words before) → Waits world happened lively old new words 0
+    → Acts world happened lively old new (Writes 0x0020 words) (λ before after. after ≡ world_after_write 0x0020 words before)
+    → Waits world happened lively old new words 0
 unfolding register_at
 gives world happened lively old new words acts = record {
   asked = asks-write world happened lively old new 0x0020 words tt (λ adapter. refl) acts;
@@ -55,19 +58,24 @@ gives world happened lively old new words acts = record {
   none_in_vain = λ ticks. refl;
 }
 
-pub waits-on : {B : Type 0} (world : B → World) (happened : B → B → Past → Type 0) (lively : B → Type 0) → ((a b c : B) (s t : Past) → happened a b s → happened b c t → happened a c (joined s t))
-    → (old now new : B) (words reads value : ℕ) → IsCommand words → (lively old → lively now) → Waits world happened lively old now words reads
-    → Acts world happened lively now new (Reads 0x0020 value) (λ before after. (value ≡ answer_at 0x0020 before.adapter) × (after ≡ world_after_read 0x0020 before))
+pub waits-on : {B : Type 0} (world : B → World) (happened : B → B → Past → Type 0) (lively : B → Type 0)
+    → ((a b c : B) (s t : Past) → happened a b s → happened b c t → happened a c (joined s t))
+    → (old now new : B) (words reads value : ℕ) → IsCommand words → (lively old → lively now)
+    → Waits world happened lively old now words reads
+    → Acts world happened lively now new (Reads 0x0020 value) (λ before after. (value ≡ answer_at 0x0020 before.adapter)
+    × (after ≡ world_after_read 0x0020 before))
     → bit_and value ready_bit ≡ 0 → Waits world happened lively old new words (reads + 1)
 waits-on world happened lively joins old now new words reads value command alive waits acts unset =
     let found = finds world happened lively now new value acts in
     let given = commanded words (iterate phy_ticked waits.ticks (line_of (world old))) in
-    let line : line_of (world new) ≡ iterate phy_ticked acts.past.phy_ticks given = found.line ∙ ap (iterate phy_ticked acts.past.phy_ticks) waits.line in
+    let line : line_of (world new) ≡ iterate phy_ticked acts.past.phy_ticks given = found.line
+    ∙ ap (iterate phy_ticked acts.past.phy_ticks) waits.line in
     let none : acts.past.phy_ticks ≡ 0 =
     not-ended words acts.past.phy_ticks command (iterate phy_ticked waits.ticks (line_of (world old))) (line_of (world new)) line
     (ap (λ (v : ℕ). bit_and v ready_bit) (sym found.shown) ∙ unset) in
     record {
-      asked = asks-both world happened joins old now new 0x0020 (reads + 1) 1 waits.asked (asks-read world happened lively now new 0x0020 value _ acts);
+      asked = asks-both world happened joins old now new 0x0020 (reads + 1) 1 waits.asked
+          (asks-read world happened lively now new 0x0020 value _ acts);
       ticks = waits.ticks;
       ticks_are = let before = waits.ticks_are in omega arith;
       ticked = waits.ticked;
@@ -75,25 +83,31 @@ waits-on world happened lively joins old now new words reads value command alive
       none_in_vain = λ ticks. absurd (let some = found.ticked (alive ticks) in omega arith);
     }
 
-link-stays : (a b : Management) (n words ticks : ℕ) → b ≡ iterate phy_ticked n (commanded words (iterate phy_ticked ticks a)) → b.phy.link ≡ a.phy.link
+link-stays : (a b : Management) (n words ticks : ℕ) → b ≡ iterate phy_ticked n (commanded words (iterate phy_ticked ticks a))
+    → b.phy.link ≡ a.phy.link
 link-stays a b n words ticks is =
     ap (λ (l : Management). l.phy.link) is ∙ link-ticks n (commanded words (iterate phy_ticked ticks a)) ∙ link-ticks ticks a
 
 -- What holds where a read shows R.
-pub record Answered {B : Type 0} (world : B → World) (happened : B → B → Past → Type 0) (lively : B → Type 0) (old new : B) (words value : ℕ) : Type 0 where
+pub record Answered {B : Type 0} (world : B → World) (happened : B → B → Past → Type 0) (lively : B
+    → Type 0) (old new : B) (words value : ℕ) : Type 0 where
   pub commands : Commands world happened lively old new words (Ok value)
   pub right : bit_and value error_bit ≡ 0
 
-pub answered : {B : Type 0} (world : B → World) (happened : B → B → Past → Type 0) (lively : B → Type 0) → ((a b c : B) (s t : Past) → happened a b s → happened b c t → happened a c (joined s t))
+pub answered : {B : Type 0} (world : B → World) (happened : B → B → Past → Type 0) (lively : B → Type 0)
+    → ((a b c : B) (s t : Past) → happened a b s → happened b c t → happened a c (joined s t))
     → (old now new : B) (words reads value : ℕ) → IsCommand words → Waits world happened lively old now words reads
-    → Acts world happened lively now new (Reads 0x0020 value) (λ before after. (value ≡ answer_at 0x0020 before.adapter) × (after ≡ world_after_read 0x0020 before))
+    → Acts world happened lively now new (Reads 0x0020 value) (λ before after. (value ≡ answer_at 0x0020 before.adapter)
+    × (after ≡ world_after_read 0x0020 before))
     → bit_and value ready_bit ≢ 0 → Answered world happened lively old new words value
 answered world happened lively joins old now new words reads value command waits acts set =
     let found = finds world happened lively now new value acts in
     let a : Management = line_of (world old) in
     let b : Management = line_of (world new) in
-    let line : b ≡ iterate phy_ticked acts.past.phy_ticks (commanded words (iterate phy_ticked waits.ticks a)) = found.line ∙ ap (iterate phy_ticked acts.past.phy_ticks) waits.line in
-    let both = asks-both world happened joins old now new 0x0020 (reads + 1) 1 waits.asked (asks-read world happened lively now new 0x0020 value _ acts) in
+    let line : b ≡ iterate phy_ticked acts.past.phy_ticks (commanded words (iterate phy_ticked waits.ticks a)) = found.line
+    ∙ ap (iterate phy_ticked acts.past.phy_ticks) waits.line in
+    let both = asks-both world happened joins old now new 0x0020 (reads + 1) 1 waits.asked
+    (asks-read world happened lively now new 0x0020 value _ acts) in
     let shown : bit_and b.mdic.value ready_bit ≢ 0 = λ unset. set (ap (λ (v : ℕ). bit_and v ready_bit) found.shown ∙ unset) in
     let all = both.asks.past.phy_ticks in
     let total : waits.ticks + acts.past.phy_ticks ≡ all = let before = waits.ticks_are in omega arith in
@@ -111,7 +125,8 @@ answered world happened lively joins old now new words reads value command waits
     }
 
 -- What holds where none of 1,000 reads did.
-pub unanswered : {B : Type 0} (world : B → World) (happened : B → B → Past → Type 0) (lively : B → Type 0) (old now : B) (words reads : ℕ) → 1000 ≤ reads
+pub unanswered : {B : Type 0} (world : B → World) (happened : B → B → Past → Type 0) (lively : B → Type 0) (old now : B) (words reads : ℕ)
+    → 1000 ≤ reads
     → Waits world happened lively old now words reads → Commands world happened lively old now words (Err PhyTimeout)
 unanswered world happened lively old now words reads many waits =
     let often = waits.asked.often in

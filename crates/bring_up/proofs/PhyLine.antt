@@ -1,5 +1,6 @@
 -- MDIC and the PHY behind ticks and commands.
-use Rattle.std.proofs.Common.{◌≡◌, ◌+◌, ◌≢◌, ◌≤◌, ◌||◌, ℕ, zero, suc, Bool, true, false, cond, Option, None, bit_and, inl, inr, refl, sym, ap, subst, ◌∙◌, arith}
+use Rattle.std.proofs.Common.{◌≡◌, ◌+◌, ◌≢◌, ◌≤◌, ◌||◌, ℕ, zero, suc, Bool, true, false, cond, Option, None, bit_and, inl, inr, refl, sym}
+use Rattle.std.proofs.Common.{ap, subst, ◌∙◌, arith}
 use Rattle.std.specs.Fn.{iterate}
 use Rattle.mdic_phy.specs.declared.mdic.Operation.{Operation}
 use Rattle.mdic_phy.specs.declared.phy.Negotiation.{Negotiation}
@@ -17,7 +18,9 @@ quiet value phy = record { mdic = record { value = value; pending = None }; phy 
 tick-quiet : (value : ℕ) (phy : PhyState) → phy_ticked (quiet value phy) ≡ quiet value (after_tick phy)
 tick-quiet value phy = by_case phy.negotiation
   where
-    by_case : (negotiation : Negotiation) → phy_ticked (quiet value (record phy { negotiation = negotiation })) ≡ quiet value (after_tick (record phy { negotiation = negotiation }))
+    by_case : (negotiation : Negotiation)
+        → phy_ticked (quiet value (record phy { negotiation = negotiation }))
+        ≡ quiet value (after_tick (record phy { negotiation = negotiation }))
     by_case NotStarted = refl
     by_case (Running left) = refl
     by_case Complete = refl
@@ -27,7 +30,9 @@ ticks-quiet zero value phy = refl
 ticks-quiet (suc n) value phy = ap (iterate phy_ticked n) (tick-quiet value phy) ∙ ticks-quiet n value (after_tick phy)
 
 quiet-of : (line : Management) → line.mdic.pending ≡ None → line ≡ quiet line.mdic.value line.phy
-quiet-of line none = ap (λ (pending : Option Operation). (let same : Management = record { mdic = record { value = line.mdic.value; pending = pending }; phy = line.phy } in same)) none
+quiet-of line none = ap
+    (λ (pending : Option Operation).
+    (let same : Management = record { mdic = record { value = line.mdic.value; pending = pending }; phy = line.phy } in same)) none
 
 pub ticks-none : (n : ℕ) (line : Management) → line.mdic.pending ≡ None → (iterate phy_ticked n line).phy ≡ iterate after_tick n line.phy
 ticks-none n line none =
@@ -57,16 +62,21 @@ works false a b = refl
 
 -- Its tick ends it.
 abbrev Ended : Management → ℕ → Type 0
-Ended line words = phy_ticked (commanded words line) ≡ quiet (ended (operation_of words) (kept words) (after_tick line.phy)) (phy_ended (operation_of words) (kept words) (after_tick line.phy))
+Ended line words = phy_ticked (commanded words line)
+    ≡ quiet (ended (operation_of words) (kept words) (after_tick line.phy))
+    (phy_ended (operation_of words) (kept words) (after_tick line.phy))
 
 tick-ends : (words : ℕ) → IsCommand words → (line : Management) → Ended line words
 tick-ends words command line = by_command (Ended line) words command (works (is_counting line.phy) _ _) (works (is_counting line.phy) _ _)
 
 pub ticks-end : (words n : ℕ) → IsCommand words → (line : Management)
-    → iterate phy_ticked (suc n) (commanded words line) ≡ quiet (ended (operation_of words) (kept words) (after_tick line.phy)) (iterate after_tick n (phy_ended (operation_of words) (kept words) (after_tick line.phy)))
+    → iterate phy_ticked (suc n) (commanded words line)
+    ≡ quiet (ended (operation_of words) (kept words) (after_tick line.phy))
+    (iterate after_tick n (phy_ended (operation_of words) (kept words) (after_tick line.phy)))
 ticks-end words n command line =
     ap (iterate phy_ticked n) (tick-ends words command line)
-    ∙ ticks-quiet n (ended (operation_of words) (kept words) (after_tick line.phy)) (phy_ended (operation_of words) (kept words) (after_tick line.phy))
+    ∙ ticks-quiet n (ended (operation_of words) (kept words) (after_tick line.phy))
+    (phy_ended (operation_of words) (kept words) (after_tick line.phy))
 
 -- What MDIC then shows.
 
@@ -83,7 +93,8 @@ shown_status up latched = with_ready (with_data (cond up (cond latched 0x20 0x24
 not-ready-yet : (words : ℕ) → IsCommand words → bit_and (kept words) ready_bit ≡ 0
 not-ready-yet words command = by_command (λ w. bit_and (kept w) ready_bit ≡ 0) words command refl refl
 
-status-bit : (bit want : ℕ) → bit_and (shown_status true true) bit ≡ want → bit_and (shown_status true false) bit ≡ want → bit_and (shown_status false false) bit ≡ want
+status-bit : (bit want : ℕ) → bit_and (shown_status true true) bit ≡ want → bit_and (shown_status true false) bit ≡ want
+    → bit_and (shown_status false false) bit ≡ want
     → (up latched : Bool) → bit_and (shown_status up latched) bit ≡ want
 status-bit bit want one two three true true = one
 status-bit bit want one two three true false = two
@@ -101,14 +112,18 @@ right-then words command s =
 
 -- Where R isn't shown no tick fell, and where it is the command has ended.
 
-pub not-ended : (words n : ℕ) → IsCommand words → (a b : Management) → b ≡ iterate phy_ticked n (commanded words a) → bit_and b.mdic.value ready_bit ≡ 0 → n ≡ 0
+pub not-ended : (words n : ℕ) → IsCommand words → (a b : Management) → b ≡ iterate phy_ticked n (commanded words a)
+    → bit_and b.mdic.value ready_bit ≡ 0 → n ≡ 0
 not-ended words zero command a b is unset = refl
 not-ended words (suc n) command a b is unset =
-    let shown : b.mdic.value ≡ ended (operation_of words) (kept words) (after_tick a.phy) = ap (λ (l : Management). l.mdic.value) (is ∙ ticks-end words n command a) in
-    let both : ready_bit ≡ 0 = sym (ready-then words command (after_tick a.phy)) ∙ ap (λ (v : ℕ). bit_and v ready_bit) (sym shown) ∙ unset in
+    let shown : b.mdic.value ≡ ended (operation_of words) (kept words) (after_tick a.phy) = ap (λ (l : Management). l.mdic.value) (is
+    ∙ ticks-end words n command a) in
+    let both : ready_bit ≡ 0 = sym (ready-then words command (after_tick a.phy)) ∙ ap (λ (v : ℕ). bit_and v ready_bit) (sym shown)
+    ∙ unset in
     absurd (omega arith)
 
-pub ends-of : (lively : Type 0) (words n ticks all : ℕ) → ticks + n ≡ all → IsCommand words → (a b : Management) → (lively → 1 ≤ ticks) → b ≡ iterate phy_ticked n (commanded words (iterate phy_ticked ticks a))
+pub ends-of : (lively : Type 0) (words n ticks all : ℕ) → ticks + n ≡ all → IsCommand words → (a b : Management) → (lively → 1 ≤ ticks)
+    → b ≡ iterate phy_ticked n (commanded words (iterate phy_ticked ticks a))
     → bit_and b.mdic.value ready_bit ≢ 0 → Ends lively words all a b b.mdic.value
 ends-of lively words zero ticks all total command a b ticked is set =
     absurd (set (ap (λ (l : Management). bit_and l.mdic.value ready_bit) is ∙ not-ready-yet words command))
@@ -124,6 +139,7 @@ ends-of lively words (suc n) ticks all total command a b ticked is set =
       phy = after_tick middle.phy;
       counted = refl;
       answers = value;
-      mdic = ap (λ (l : Management). l.mdic) end ∙ ap (λ (v : ℕ). (let m : MdicState = record { value = v; pending = None } in m)) (sym value);
+      mdic = ap (λ (l : Management). l.mdic) end
+          ∙ ap (λ (v : ℕ). (let m : MdicState = record { value = v; pending = None } in m)) (sym value);
       leaves = ap (λ (l : Management). l.phy) end;
     }

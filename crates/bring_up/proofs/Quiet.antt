@@ -1,5 +1,6 @@
 -- What stays while a driver sets its receive ring up.
-use Rattle.std.proofs.Common.{◌≡◌, ◌+◌, ◌*◌, ◌%◌, ◌++◌, ◌∷◌, [], ℕ, zero, suc, Bool, true, false, List, Option, None, Some, if◌then◌else◌, refl, sym, ap, subst, ◌∙◌}
+use Rattle.std.proofs.Common.{◌≡◌, ◌+◌, ◌*◌, ◌%◌, ◌++◌, ◌∷◌, [], ℕ, zero, suc, Bool, true, false, List, Option, None, Some, if◌then◌else◌}
+use Rattle.std.proofs.Common.{refl, sym, ap, subst, ◌∙◌}
 use Rattle.std.specs.List.{All}
 use Rattle.std.proofs.lemmas.List.{append-nil}
 use Rattle.registers.specs.Bits.{HasBit}
@@ -24,7 +25,8 @@ quiet_stays d d' a b past goes set while_off leaves quiet =
     let arrives = while_off quiet.off leaves in
     let sends = append-empty past.put (frames_to_send b) (goes.flows.sends ∙ append-nil (frames_to_send a) ∙ quiet.none_to_send) in (
       record {
-        off = subst (λ (settings : Settings). ¬ (HasBit settings.filter.rctl 1)) (sym set) (stays-off (writes_in past.accesses) (settings_of a.adapter) leaves quiet.off);
+        off = subst (λ (settings : Settings). ¬ (HasBit settings.filter.rctl 1)) (sym set)
+            (stays-off (writes_in past.accesses) (settings_of a.adapter) leaves quiet.off);
         none_held = goes.flows.holds ∙ ap (λ (frames : List (List ℕ)). frames ++ past.stored) quiet.none_held ∙ arrives.none_stored;
         none_to_send = sends.1;
       },
@@ -33,7 +35,8 @@ quiet_stays d d' a b past goes set while_off leaves quiet =
 
 -- The transmit ring.
 
-row-leaves_transmits : (register : Register) (value : ℕ) (state : AdapterState) → IsNotTransmitRing (Some register) → (by_row (row_of register).kept register value state).transmit_ring ≡ state.transmit_ring
+row-leaves_transmits : (register : Register) (value : ℕ) (state : AdapterState) → IsNotTransmitRing (Some register)
+    → (by_row (row_of register).kept register value state).transmit_ring ≡ state.transmit_ring
 row-leaves_transmits (Transmit part) value state other = absurd other
 row-leaves_transmits _ value state other = refl
 
@@ -41,28 +44,34 @@ row-leaves_transmits _ value state other = refl
 abbrev from_start : RingRegisters → RingRegisters
 from_start ring = record ring { head = 0 }
 
-new-once : (write : Write) (settings : Settings) → LeavesTransmitRing write → settings.transmit_ring ≡ new_ring → (settings_after write settings).transmit_ring ≡ new_ring
+new-once : (write : Write) (settings : Settings) → LeavesTransmitRing write → settings.transmit_ring ≡ new_ring
+    → (settings_after write settings).transmit_ring ≡ new_ring
 new-once write settings leaves new = by_case (register_at write.offset) leaves
   where
     by_test : (register : Register) (test : Bool) → IsNotTransmitRing (Some register)
-        → from_start (if test then after_reset (adapter_with settings) else by_row (row_of register).kept register write.value (adapter_with settings)).transmit_ring ≡ new_ring
+        → from_start (if test then after_reset (adapter_with settings) else by_row (row_of register).kept register write.value
+        (adapter_with settings)).transmit_ring ≡ new_ring
     by_test register true other = refl
     by_test register false other = ap from_start (row-leaves_transmits register write.value (adapter_with settings) other ∙ new)
 
-    by_case : (found : Option Register) → IsNotTransmitRing found → from_start (left_by_write found write.value (adapter_with settings)).transmit_ring ≡ new_ring
+    by_case : (found : Option Register) → IsNotTransmitRing found
+        → from_start (left_by_write found write.value (adapter_with settings)).transmit_ring ≡ new_ring
     by_case None other = ap from_start new
     by_case (Some register) other = by_test register (is_reset register write.value) other
 
-new-stays : (writes : List Write) (settings : Settings) → All LeavesTransmitRing writes → settings.transmit_ring ≡ new_ring → (settings_after_all writes settings).transmit_ring ≡ new_ring
+new-stays : (writes : List Write) (settings : Settings) → All LeavesTransmitRing writes → settings.transmit_ring ≡ new_ring
+    → (settings_after_all writes settings).transmit_ring ≡ new_ring
 new-stays [] settings leaves new = new
 new-stays (write ∷ later) settings leaves new =
-    new-stays later (settings_after write settings) (all-tail LeavesTransmitRing write later leaves) (new-once write settings (all-head LeavesTransmitRing write later leaves) new)
+    new-stays later (settings_after write settings) (all-tail LeavesTransmitRing write later leaves)
+    (new-once write settings (all-head LeavesTransmitRing write later leaves) new)
 
 pub new_transmit_ring_stays : NewTransmitRingStays
 new_transmit_ring_stays d a b past ready set leaves new =
     let ring = b.adapter.transmit_ring in
     let start : from_start ring ≡ new_ring =
-    ap (λ (settings : Settings). settings.transmit_ring) set ∙ new-stays (writes_in past.accesses) (settings_of a.adapter) leaves (ap from_start new) in
+    ap (λ (settings : Settings). settings.transmit_ring) set
+    ∙ new-stays (writes_in past.accesses) (settings_of a.adapter) leaves (ap from_start new) in
     let tail : ring.tail ≡ 0 = ap (λ (registers : RingRegisters). registers.tail) start in
     ap (λ (registers : RingRegisters). let moved : RingRegisters = record registers { head = ring.head } in moved) start
     ∙ ap (λ (head : ℕ). let moved : RingRegisters = record new_ring { head = head } in moved) (ready.transmit.idle ∙ tail)
@@ -75,4 +84,5 @@ stores-write_none counts slot (number ∷ later) = stores-write_none counts ((sl
 
 pub clears-write_none : (first n : ℕ) → writes_in (clears_from first n) ≡ []
 clears-write_none first zero = refl
-clears-write_none first (suc k) = writes-append (clears_from first k) (clears (first + 16 * k) ∷ []) ∙ ap (λ (writes : List Write). writes ++ []) (clears-write_none first k)
+clears-write_none first (suc k) = writes-append (clears_from first k) (clears (first + 16 * k) ∷ [])
+    ∙ ap (λ (writes : List Write). writes ++ []) (clears-write_none first k)

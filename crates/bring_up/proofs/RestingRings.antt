@@ -1,5 +1,6 @@
 -- The receive ring is set up at rest, and a driver begins.
-use Rattle.std.proofs.Common.{◌≡◌, ◌≤◌, ◌<◌, ◌+◌, ◌*◌, ◌/◌, ◌%◌, ◌^◌, ◌++◌, ◌∷◌, [], ℕ, List, length, map, false, inr, refl, sym, ap, subst, ◌∙◌, arith}
+use Rattle.std.proofs.Common.{◌≡◌, ◌≤◌, ◌<◌, ◌+◌, ◌*◌, ◌/◌, ◌%◌, ◌^◌, ◌++◌, ◌∷◌, [], ℕ, List, length, map, false, inr, refl, sym, ap, subst}
+use Rattle.std.proofs.Common.{◌∙◌, arith}
 use Rattle.std.specs.List.{take_while}
 use Rattle.std.proofs.lemmas.List.{append-nil}
 use Rattle.std.proofs.lemmas.List.Elements.{All-cons}
@@ -36,7 +37,8 @@ use Rattle.driver_law.proofs.Readiness.{none-to_send}
 use Rattle.bring_up.specs.RestingRings.{DriversBeginAtRest, HasNewRings, HasReceiveRing, SetsAtRest}
 use Rattle.bring_up.specs.RingRegisters.{ring_writes}
 use Rattle.bring_up.proofs.DriverAccesses.{WriteActs}
-use Rattle.bring_up.proofs.RingWrites.{IsRingPlace, high-written, length-written, low-written, receive-written, ring-known, ring_at, still-ring, with_receive_ring}
+use Rattle.bring_up.proofs.RingWrites.{IsRingPlace, high-written, length-written, low-written, receive-written, ring-known, ring_at}
+use Rattle.bring_up.proofs.RingWrites.{still-ring, with_receive_ring}
 use Rattle.bring_up.proofs.Steps.{no-frames, sets-access, sets-join, sets-write}
 
 -- At rest, with these registers of the receive ring.
@@ -61,10 +63,13 @@ alone memory rx ring room first short =
     }
 
 -- One register is written.
-rests-write : {B : Type 0} (world : B → World) (happened : B → B → Past → Type 0) (lively : B → Type 0) (old new : B) (part : RingRegister) (value word rx : ℕ) (before after : RingRegisters)
-    → value ≡ word → ring_written part word before ≡ after → after.head ≡ after.tail → (ring_of after).base ≡ 0 → count_of (ring_of after) ≤ rx
+rests-write : {B : Type 0} (world : B → World) (happened : B → B → Past → Type 0) (lively : B
+    → Type 0) (old new : B) (part : RingRegister) (value word rx : ℕ) (before after : RingRegisters)
+    → value ≡ word → ring_written part word before ≡ after → after.head ≡ after.tail → (ring_of after).base ≡ 0
+    → count_of (ring_of after) ≤ rx
     → WriteActs world happened lively old new (0x2800 + ring_distance part) value
-    → SetsAtRest world happened old new (record { offset = 0x2800 + ring_distance part; value = word } ∷ []) (HasRing before rx) (HasRing after rx)
+    → SetsAtRest world happened old new (record { offset = 0x2800 + ring_distance part; value = word } ∷ []) (HasRing before rx)
+    (HasRing after rx)
 unfolding sets-access sets-write
 rests-write world happened lively old new part value word rx before after is written idle first short acted =
     let acts = subst (WriteActs world happened lively old new (0x2800 + ring_distance part)) is acted in
@@ -75,16 +80,19 @@ rests-write world happened lively old new part value word rx before after is wri
       behind_is = λ state.
           let rest = (happenings_keep_rest (world old) middle acts.past acts.before state.rest).0 in
           let receives : middle.adapter.receive_ring ≡ before =
-          still-ring (world old).adapter.receive_ring middle.adapter.receive_ring steady.receive_ring state.rest.rings.receive rest.rings.receive ∙ state.receives_is in
+          still-ring (world old).adapter.receive_ring middle.adapter.receive_ring steady.receive_ring state.rest.rings.receive
+          rest.rings.receive ∙ state.receives_is in
           let transmits : middle.adapter.transmit_ring ≡ new_ring =
-          still-ring (world old).adapter.transmit_ring middle.adapter.transmit_ring steady.transmit_ring state.rest.rings.transmit rest.rings.transmit ∙ state.transmits in
+          still-ring (world old).adapter.transmit_ring middle.adapter.transmit_ring steady.transmit_ring state.rest.rings.transmit
+          rest.rings.transmit ∙ state.transmits in
           let room : 16 * rx ≤ length middle.memory = omega (arith, state.room, steady.size) in
           let done : world new ≡ with_receive_ring after middle =
           acts.effect_is ∙ receive-written part word middle
           ∙ ap (λ (ring : RingRegisters). with_receive_ring (ring_written part word ring) middle) receives
           ∙ ap (λ (ring : RingRegisters). with_receive_ring ring middle) written in
           let separate : AreSeparate middle.memory (ring_area (ring_of after) ∷ ring_area (transmit_ring middle) ∷ []) =
-          subst (λ (ring : RingRegisters). AreSeparate middle.memory (ring_area (ring_of after) ∷ ring_area (ring_of ring) ∷ [])) (sym transmits) (alone middle.memory rx after room first short) in
+          subst (λ (ring : RingRegisters). AreSeparate middle.memory (ring_area (ring_of after) ∷ ring_area (ring_of ring) ∷ []))
+          (sym transmits) (alone middle.memory rx after room first short) in
           subst (HasRing after rx) (sym done)
           (record {
             rest = record {
@@ -102,8 +110,10 @@ rests-write world happened lively old new part value word rx before after is wri
     }
 
 -- One step, and then another.
-rests-join : {B : Type 0} (world : B → World) (happened : B → B → Past → Type 0) → ((a b c : B) (s t : Past) → happened a b s → happened b c t → happened a c (joined s t))
-    → (a b c : B) (first later : List Write) (P Q R : World → Type 0) → SetsAtRest world happened a b first P Q → SetsAtRest world happened b c later Q R
+rests-join : {B : Type 0} (world : B → World) (happened : B → B → Past → Type 0)
+    → ((a b c : B) (s t : Past) → happened a b s → happened b c t → happened a c (joined s t))
+    → (a b c : B) (first later : List Write) (P Q R : World → Type 0) → SetsAtRest world happened a b first P Q
+    → SetsAtRest world happened b c later Q R
     → SetsAtRest world happened a c (first ++ later) P R
 unfolding sets-join
 rests-join world happened joins a b c first later P Q R one two = record {
@@ -113,9 +123,12 @@ rests-join world happened joins a b c first later P Q R one two = record {
 }
 
 -- All five.
-pub rests-ring : {B : Type 0} (world : B → World) (happened : B → B → Past → Type 0) (lively : B → Type 0) → ((a b c : B) (s t : Past) → happened a b s → happened b c t → happened a c (joined s t))
-    → (b0 b1 b2 b3 b4 b5 : B) (low high base bytes rx : ℕ) → low ≡ base % 2 ^ 32 → high ≡ base / 2 ^ 32 → base ≡ 0 → bytes ≡ 16 * rx → IsRingSize rx
-    → WriteActs world happened lively b0 b1 0x2800 low → WriteActs world happened lively b1 b2 0x2804 high → WriteActs world happened lively b2 b3 0x2808 bytes
+pub rests-ring : {B : Type 0} (world : B → World) (happened : B → B → Past → Type 0) (lively : B → Type 0)
+    → ((a b c : B) (s t : Past) → happened a b s → happened b c t → happened a c (joined s t))
+    → (b0 b1 b2 b3 b4 b5 : B) (low high base bytes rx : ℕ) → low ≡ base % 2 ^ 32 → high ≡ base / 2 ^ 32 → base ≡ 0 → bytes ≡ 16 * rx
+    → IsRingSize rx
+    → WriteActs world happened lively b0 b1 0x2800 low → WriteActs world happened lively b1 b2 0x2804 high
+    → WriteActs world happened lively b2 b3 0x2808 bytes
     → WriteActs world happened lively b3 b4 0x2810 0 → WriteActs world happened lively b4 b5 0x2818 0
     → SetsAtRest world happened b0 b5 (ring_writes 0x2800 base bytes) (HasNewRings rx) (HasReceiveRing rx)
 rests-ring world happened lively joins b0 b1 b2 b3 b4 b5 low high base bytes rx low_is high_is first long size one two three four five =
@@ -127,24 +140,30 @@ rests-ring world happened lively joins b0 b1 b2 b3 b4 b5 low high base bytes rx 
     let r0 = ring_at base 0 in
     let r1 = ring_at base bytes in
     let all = rests-join world happened joins b0 b1 b5 _ _ (P new_ring) (P r0) (P r1)
-    (rests-write world happened lively b0 b1 BaseLow low (base % 2 ^ 32) rx new_ring r0 low_is (low-written base rx place) refl (start 0) (omega arith) one)
+    (rests-write world happened lively b0 b1 BaseLow low (base % 2 ^ 32) rx new_ring r0 low_is (low-written base rx place) refl (start 0)
+    (omega arith) one)
     (rests-join world happened joins b1 b2 b5 _ _ (P r0) (P r0) (P r1)
-    (rests-write world happened lively b1 b2 BaseHigh high (base / 2 ^ 32) rx r0 r0 high_is (high-written base rx place) refl (start 0) (omega arith) two)
+    (rests-write world happened lively b1 b2 BaseHigh high (base / 2 ^ 32) rx r0 r0 high_is (high-written base rx place) refl (start 0)
+    (omega arith) two)
     (rests-join world happened joins b2 b3 b5 _ _ (P r0) (P r1) (P r1)
-    (rests-write world happened lively b2 b3 Length bytes bytes rx r0 r1 refl (length-written base rx bytes place long) refl (start bytes) short three)
+    (rests-write world happened lively b2 b3 Length bytes bytes rx r0 r1 refl (length-written base rx bytes place long) refl
+    (start bytes) short three)
     (rests-join world happened joins b3 b4 b5 _ _ (P r1) (P r1) (P r1)
     (rests-write world happened lively b3 b4 Head 0 0 rx r1 r1 refl refl refl (start bytes) short four)
     (rests-write world happened lively b4 b5 Tail 0 0 rx r1 r1 refl refl refl (start bytes) short five)))) in
     record {
       sets = all.sets;
       behind_is = λ state.
-          let behind = all.behind_is (record { rest = state.rest; receives_is = state.receives; transmits = state.transmits; room = state.room }) in
+          let behind = all.behind_is
+          (record { rest = state.rest; receives_is = state.receives; transmits = state.transmits; room = state.room }) in
           record {
             rest = behind.rest;
-            knows = subst (λ (ring : RingRegisters). KnowsRing (ring_of ring) 0 rx 0) (sym behind.receives_is) (subst (λ (from : ℕ). KnowsRing (ring_of r1) from rx 0) first (ring-known base rx bytes place long));
+            knows = subst (λ (ring : RingRegisters). KnowsRing (ring_of ring) 0 rx 0) (sym behind.receives_is)
+                (subst (λ (from : ℕ). KnowsRing (ring_of r1) from rx 0) first (ring-known base rx bytes place long));
             transmits = behind.transmits;
           };
-      no_frame = λ state. all.no_frame (record { rest = state.rest; receives_is = state.receives; transmits = state.transmits; room = state.room });
+      no_frame = λ state. all.no_frame
+          (record { rest = state.rest; receives_is = state.receives; transmits = state.transmits; room = state.room });
     }
 
 -- A driver begins.
@@ -154,7 +173,8 @@ held-none world rest first =
     let ring = receive_ring world in
     let clear : outstanding ring 0 ≡ [] = subst (λ (oldest : ℕ). outstanding ring oldest ≡ []) first (outstanding-none ring) in
     let none : finished 0 world ≡ [] = ap (take_while (is_done world.memory)) clear in
-    ap (λ (slots : List ℕ). map (λ (slot : ℕ). bytes_in world.memory (named world.memory slot)) slots ++ held world.memory world.adapter.receiver) none
+    ap (λ (slots : List ℕ). map (λ (slot : ℕ). bytes_in world.memory (named world.memory slot)) slots
+    ++ held world.memory world.adapter.receiver) none
     ∙ ap (held world.memory) rest.receiver
 
 pub drivers_begin_at_rest : DriversBeginAtRest
@@ -175,7 +195,8 @@ drivers_begin_at_rest counts pool world allowed owner lies has =
       size = ap (λ (control : ℕ). buffer_size_of (field control 16 2)) rest.control;
       receive = has.knows;
       transmit = record {
-        ends = subst (λ (ring : RingRegisters). (ring_of ring).base + 16 * count_of (ring_of ring) ≤ 16 * counts.rx + 16 * counts.tx) (sym transmits) (omega arith);
+        ends = subst (λ (ring : RingRegisters). (ring_of ring).base + 16 * count_of (ring_of ring) ≤ 16 * counts.rx + 16 * counts.tx)
+            (sym transmits) (omega arith);
         idle = rest.rings.transmit;
         last = ap (λ (ring : RingRegisters). ring.tail) transmits;
         nothing = refl;

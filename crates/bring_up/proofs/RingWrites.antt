@@ -16,17 +16,23 @@ use Rattle.bus.specs.Initialising.{with_transmit_ring}
 
 -- The registers, one of them written.
 
-pub transmit-written : (part : RingRegister) (value : ℕ) (world : World) → world_after_write (0x3800 + ring_distance part) value world ≡ with_transmit_ring (ring_written part value world.adapter.transmit_ring) world
+pub transmit-written : (part : RingRegister) (value : ℕ) (world : World)
+    → world_after_write (0x3800 + ring_distance part) value world
+    ≡ with_transmit_ring (ring_written part value world.adapter.transmit_ring) world
 transmit-written part value world =
-    ap (λ (register : Option Register). let after : World = record world { adapter = left_by_write register value world.adapter } in after) (register_at-there (Transmit part) tt)
+    ap (λ (register : Option Register). let after : World = record world { adapter = left_by_write register value world.adapter } in after)
+    (register_at-there (Transmit part) tt)
 
 -- the world with these registers of the receive ring
 abbrev pub with_receive_ring : RingRegisters → World → World
 with_receive_ring ring world = record world { adapter = record world.adapter { receive_ring = ring } }
 
-pub receive-written : (part : RingRegister) (value : ℕ) (world : World) → world_after_write (0x2800 + ring_distance part) value world ≡ with_receive_ring (ring_written part value world.adapter.receive_ring) world
+pub receive-written : (part : RingRegister) (value : ℕ) (world : World)
+    → world_after_write (0x2800 + ring_distance part) value world
+    ≡ with_receive_ring (ring_written part value world.adapter.receive_ring) world
 receive-written part value world =
-    ap (λ (register : Option Register). let after : World = record world { adapter = left_by_write register value world.adapter } in after) (register_at-there (Receive part) tt)
+    ap (λ (register : Option Register). let after : World = record world { adapter = left_by_write register value world.adapter } in after)
+    (register_at-there (Receive part) tt)
 
 -- A ring whose head alone may have moved, and which has nothing outstanding before and behind that, is the same.
 pub still-ring : (a b : RingRegisters) → b ≡ record a { head = b.head } → a.head ≡ a.tail → b.head ≡ b.tail → b ≡ a
@@ -47,7 +53,8 @@ pub record IsRingPlace (base count : ℕ) : Type 0 where
 
 pub low-written : (base count : ℕ) → IsRingPlace base count → ring_written BaseLow (base % 2 ^ 32) new_ring ≡ ring_at base 0
 low-written base count place =
-    let masked : bit_and (base % 2 ^ 32) 4294967280 ≡ (base % 2 ^ 32) / 2 ^ 4 * 2 ^ 4 = and_high_mask 32 4 (omega arith) (base % 2 ^ 32) (omega arith) in
+    let masked : bit_and (base % 2 ^ 32) 4294967280
+    ≡ (base % 2 ^ 32) / 2 ^ 4 * 2 ^ 4 = and_high_mask 32 4 (omega arith) (base % 2 ^ 32) (omega arith) in
     let whole : bit_and (base % 2 ^ 32) 4294967280 ≡ base = omega (arith, masked, place.sixteens, place.below) in
     ap (λ (number : ℕ). ring_at number 0) whole
 
@@ -56,7 +63,8 @@ high-written base count place =
     let none : base / 2 ^ 32 ≡ 0 = omega (arith, place.below) in
     ap (λ (number : ℕ). let ring : RingRegisters = record (ring_at base 0) { base_high = bit_and number 0xFFFFFFFF } in ring) none
 
-pub length-written : (base count bytes : ℕ) → IsRingPlace base count → bytes ≡ 16 * count → ring_written Length bytes (ring_at base 0) ≡ ring_at base bytes
+pub length-written : (base count bytes : ℕ) → IsRingPlace base count → bytes ≡ 16 * count
+    → ring_written Length bytes (ring_at base 0) ≡ ring_at base bytes
 length-written base count bytes place long =
     let eights = place.size.eights in
     let most = place.size.most in
@@ -65,7 +73,8 @@ length-written base count bytes place long =
     ap (ring_at base) whole
 
 -- The driver knows it then.
-pub ring-known : (base count bytes : ℕ) → IsRingPlace base count → bytes ≡ 16 * count → KnowsRing (ring_of (ring_at base bytes)) base count 0
+pub ring-known : (base count bytes : ℕ) → IsRingPlace base count → bytes ≡ 16 * count
+    → KnowsRing (ring_of (ring_at base bytes)) base count 0
 ring-known base count bytes place long =
     let least = place.size.least in
     let most = place.size.most in

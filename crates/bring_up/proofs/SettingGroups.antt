@@ -26,7 +26,8 @@ set-join first later old middle new one two = groups-join first later (settings_
 
 -- A reset leaves the EEPROM and PBA.
 pub reset-sets : (settings : Settings)
-    → settings_after_all reset_writes settings ≡ settings_of (adapter_at_reset settings.image (new_phy settings.link) settings.receive_kilobytes)
+    → settings_after_all reset_writes settings
+    ≡ settings_of (adapter_at_reset settings.image (new_phy settings.link) settings.receive_kilobytes)
 unfolding register_at array_register_at
 reset-sets settings = refl
 

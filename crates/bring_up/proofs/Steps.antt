@@ -17,7 +17,8 @@ use Rattle.bus.proofs.Settings.{happenings_leave_settings, reads-leave, settings
 use Rattle.bring_up.specs.Sets.{Asks, IsAside, Sets}
 
 -- Nothing is done.
-pub sets-nothing : {B : Type 0} (world : B → World) (happened : B → B → Past → Type 0) → ((b : B) → happened b b nothing) → (b : B) → Sets world happened b b []
+pub sets-nothing : {B : Type 0} (world : B → World) (happened : B → B → Past → Type 0) → ((b : B) → happened b b nothing) → (b : B)
+    → Sets world happened b b []
 sets-nothing world happened stays b = record {
   past = nothing;
   told = stays b;
@@ -36,8 +37,10 @@ no-frames first later one two = record {
 }
 
 -- Two steps are one.
-unfoldable pub sets-join : {B : Type 0} (world : B → World) (happened : B → B → Past → Type 0) → ((a b c : B) (s t : Past) → happened a b s → happened b c t → happened a c (joined s t))
-    → (a b c : B) (first later : List Write) → Sets world happened a b first → Sets world happened b c later → Sets world happened a c (first ++ later)
+unfoldable pub sets-join : {B : Type 0} (world : B → World) (happened : B → B → Past → Type 0)
+    → ((a b c : B) (s t : Past) → happened a b s → happened b c t → happened a c (joined s t))
+    → (a b c : B) (first later : List Write) → Sets world happened a b first → Sets world happened b c later
+    → Sets world happened a c (first ++ later)
 sets-join world happened joins a b c first later one two = record {
   past = joined one.past two.past;
   told = joins a b c one.past two.past one.told two.told;
@@ -51,9 +54,12 @@ sets-join world happened joins a b c first later one two = record {
 }
 
 -- An access, behind whatever happens before it.
-unfoldable pub sets-access : {B : Type 0} (world : B → World) (happened : B → B → Past → Type 0) (lively : B → Type 0) (old new : B) (access : Access) (effect : World → World → Type 0) (writes : List Write)
-    → (acts : Acts world happened lively old new access effect) → writes_in (access ∷ []) ≡ writes → settings_of (world new).adapter ≡ settings_after_all writes (settings_of acts.middle.adapter)
-    → (All IsAside writes → IsAtRest acts.middle → IsAtRest (world new)) → (All LeavesPhy writes → HasLink acts.middle → HasLink (world new)) → Sets world happened old new writes
+unfoldable pub sets-access : {B : Type 0} (world : B → World) (happened : B → B → Past → Type 0) (lively : B
+    → Type 0) (old new : B) (access : Access) (effect : World → World → Type 0) (writes : List Write)
+    → (acts : Acts world happened lively old new access effect) → writes_in (access ∷ []) ≡ writes
+    → settings_of (world new).adapter ≡ settings_after_all writes (settings_of acts.middle.adapter)
+    → (All IsAside writes → IsAtRest acts.middle → IsAtRest (world new))
+    → (All LeavesPhy writes → HasLink acts.middle → HasLink (world new)) → Sets world happened old new writes
 sets-access world happened lively old new access effect writes acts are set rests link = record {
   past = acts.past;
   told = acts.told;
@@ -65,33 +71,42 @@ sets-access world happened lively old new access effect writes acts are set rest
   link = λ leaves up. link leaves (happenings_keep_link (world old) acts.middle acts.past acts.before up);
 }
 
-pub sets-read : {B : Type 0} (world : B → World) (happened : B → B → Past → Type 0) (lively : B → Type 0) (old new : B) (offset value : ℕ) (answer : World → Type 0)
-    → Acts world happened lively old new (Reads offset value) (λ before after. answer before × (after ≡ world_after_read offset before)) → Sets world happened old new []
+pub sets-read : {B : Type 0} (world : B → World) (happened : B → B → Past → Type 0) (lively : B
+    → Type 0) (old new : B) (offset value : ℕ) (answer : World → Type 0)
+    → Acts world happened lively old new (Reads offset value) (λ before after. answer before × (after ≡ world_after_read offset before))
+    → Sets world happened old new []
 sets-read world happened lively old new offset value answer acts =
     sets-access world happened lively old new (Reads offset value) _ [] acts refl
     (ap (λ (w : World). settings_of w.adapter) acts.effect_is.1 ∙ reads-leave offset acts.middle.adapter)
     (λ aside rest. subst IsAtRest (sym acts.effect_is.1) (accesses_keep_rest (Reads offset value) acts.middle tt refl rest))
     (λ leaves link. subst HasLink (sym acts.effect_is.1) (accesses_keep_link (Reads offset value) acts.middle leaves link))
 
-unfoldable pub sets-write : {B : Type 0} (world : B → World) (happened : B → B → Past → Type 0) (lively : B → Type 0) (old new : B) (offset value : ℕ)
-    → Acts world happened lively old new (Writes offset value) (λ before after. after ≡ world_after_write offset value before) → Sets world happened old new (record { offset = offset; value = value } ∷ [])
+unfoldable pub sets-write : {B : Type 0} (world : B → World) (happened : B → B → Past → Type 0) (lively : B
+    → Type 0) (old new : B) (offset value : ℕ)
+    → Acts world happened lively old new (Writes offset value) (λ before after. after ≡ world_after_write offset value before)
+    → Sets world happened old new (record { offset = offset; value = value } ∷ [])
 sets-write world happened lively old new offset value acts =
     let write : Write = record { offset = offset; value = value } in
     sets-access world happened lively old new (Writes offset value) _ (write ∷ []) acts refl
     (ap (λ (w : World). settings_of w.adapter) acts.effect_is ∙ writes-set offset value acts.middle.adapter)
-    (λ aside rest. subst IsAtRest (sym acts.effect_is) (accesses_keep_rest (Writes offset value) acts.middle (all-head IsAside write [] aside) refl rest))
+    (λ aside rest. subst IsAtRest (sym acts.effect_is)
+    (accesses_keep_rest (Writes offset value) acts.middle (all-head IsAside write [] aside) refl rest))
     (λ leaves link. subst HasLink (sym acts.effect_is) (accesses_keep_link (Writes offset value) acts.middle leaves link))
 
 -- A write of a word that is known.
-pub sets-word : {B : Type 0} (world : B → World) (happened : B → B → Past → Type 0) (lively : B → Type 0) (old new : B) (offset value word : ℕ) → value ≡ word
-    → Acts world happened lively old new (Writes offset value) (λ before after. after ≡ world_after_write offset value before) → Sets world happened old new (record { offset = offset; value = word } ∷ [])
+pub sets-word : {B : Type 0} (world : B → World) (happened : B → B → Past → Type 0) (lively : B
+    → Type 0) (old new : B) (offset value word : ℕ) → value ≡ word
+    → Acts world happened lively old new (Writes offset value) (λ before after. after ≡ world_after_write offset value before)
+    → Sets world happened old new (record { offset = offset; value = word } ∷ [])
 sets-word world happened lively old new offset value word is acts =
-    subst (λ (v : ℕ). Sets world happened old new (record { offset = offset; value = v } ∷ [])) is (sets-write world happened lively old new offset value acts)
+    subst (λ (v : ℕ). Sets world happened old new (record { offset = offset; value = v } ∷ [])) is
+    (sets-write world happened lively old new offset value acts)
 
 -- What is asked by one register that isn't set.
 
 -- Nothing is asked.
-pub asks-nothing : {B : Type 0} (world : B → World) (happened : B → B → Past → Type 0) → ((b : B) → happened b b nothing) → (b : B) (offset : ℕ) → Asks world happened b b offset
+pub asks-nothing : {B : Type 0} (world : B → World) (happened : B → B → Past → Type 0) → ((b : B) → happened b b nothing)
+    → (b : B) (offset : ℕ) → Asks world happened b b offset
 asks-nothing world happened stays b offset = record {
   past = nothing;
   told = stays b;
@@ -101,8 +116,10 @@ asks-nothing world happened stays b offset = record {
 }
 
 -- A step that sets is one that asks, where it writes that register alone and leaves the settings.
-pub asks-of : {B : Type 0} (world : B → World) (happened : B → B → Past → Type 0) (old new : B) (offset : ℕ) (writes : List Write) → Sets world happened old new writes
-    → All (λ write. write.offset ≡ offset) writes → All IsAside writes → ((settings : Settings) → settings_after_all writes settings ≡ settings) → Asks world happened old new offset
+pub asks-of : {B : Type 0} (world : B → World) (happened : B → B → Past → Type 0) (old new : B) (offset : ℕ) (writes : List Write)
+    → Sets world happened old new writes
+    → All (λ write. write.offset ≡ offset) writes → All IsAside writes
+    → ((settings : Settings) → settings_after_all writes settings ≡ settings) → Asks world happened old new offset
 asks-of world happened old new offset writes sets only aside same = record {
   past = sets.past;
   told = sets.told;
@@ -112,7 +129,8 @@ asks-of world happened old new offset writes sets only aside same = record {
 }
 
 -- Two such steps are one.
-pub asks-join : {B : Type 0} (world : B → World) (happened : B → B → Past → Type 0) → ((a b c : B) (s t : Past) → happened a b s → happened b c t → happened a c (joined s t))
+pub asks-join : {B : Type 0} (world : B → World) (happened : B → B → Past → Type 0)
+    → ((a b c : B) (s t : Past) → happened a b s → happened b c t → happened a c (joined s t))
     → (a b c : B) (offset : ℕ) → Asks world happened a b offset → Asks world happened b c offset → Asks world happened a c offset
 asks-join world happened joins a b c offset one two = record {
   past = joined one.past two.past;
@@ -128,14 +146,19 @@ asks-join world happened joins a b c offset one two = record {
 }
 
 -- A write at an offset that is known.
-pub sets-at : {B : Type 0} (world : B → World) (happened : B → B → Past → Type 0) (lively : B → Type 0) (old new : B) (offset place value : ℕ) → offset ≡ place
-    → Acts world happened lively old new (Writes offset value) (λ before after. after ≡ world_after_write offset value before) → Sets world happened old new (record { offset = place; value = value } ∷ [])
+pub sets-at : {B : Type 0} (world : B → World) (happened : B → B → Past → Type 0) (lively : B
+    → Type 0) (old new : B) (offset place value : ℕ) → offset ≡ place
+    → Acts world happened lively old new (Writes offset value) (λ before after. after ≡ world_after_write offset value before)
+    → Sets world happened old new (record { offset = place; value = value } ∷ [])
 sets-at world happened lively old new offset place value is acts =
-    subst (λ (at : ℕ). Sets world happened old new (record { offset = at; value = value } ∷ [])) is (sets-write world happened lively old new offset value acts)
+    subst (λ (at : ℕ). Sets world happened old new (record { offset = at; value = value } ∷ [])) is
+    (sets-write world happened lively old new offset value acts)
 
 -- Five writes are one step.
-pub sets-five : {B : Type 0} (world : B → World) (happened : B → B → Past → Type 0) → ((a b c : B) (s t : Past) → happened a b s → happened b c t → happened a c (joined s t))
-    → (b0 b1 b2 b3 b4 b5 : B) (w1 w2 w3 w4 w5 : Write) → Sets world happened b0 b1 (w1 ∷ []) → Sets world happened b1 b2 (w2 ∷ []) → Sets world happened b2 b3 (w3 ∷ [])
+pub sets-five : {B : Type 0} (world : B → World) (happened : B → B → Past → Type 0)
+    → ((a b c : B) (s t : Past) → happened a b s → happened b c t → happened a c (joined s t))
+    → (b0 b1 b2 b3 b4 b5 : B) (w1 w2 w3 w4 w5 : Write) → Sets world happened b0 b1 (w1 ∷ []) → Sets world happened b1 b2 (w2 ∷ [])
+    → Sets world happened b2 b3 (w3 ∷ [])
     → Sets world happened b3 b4 (w4 ∷ []) → Sets world happened b4 b5 (w5 ∷ []) → Sets world happened b0 b5 (w1 ∷ w2 ∷ w3 ∷ w4 ∷ w5 ∷ [])
 sets-five world happened joins b0 b1 b2 b3 b4 b5 w1 w2 w3 w4 w5 one two three four five =
     sets-join world happened joins b0 b1 b5 (w1 ∷ []) _ one

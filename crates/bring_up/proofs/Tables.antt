@@ -1,5 +1,6 @@
 -- The tables of the filter, and the writes that set them.
-use Rattle.std.proofs.Common.{◌≡◌, ◌<◌, ◌+◌, ◌*◌, ◌/◌, ◌++◌, ◌∷◌, [], ℕ, zero, suc, List, length, replicate, sym, ap, ◌∙◌, inl, inr, arith, append_assoc, subst}
+use Rattle.std.proofs.Common.{◌≡◌, ◌<◌, ◌+◌, ◌*◌, ◌/◌, ◌++◌, ◌∷◌, [], ℕ, zero, suc, List, length, replicate, sym, ap, ◌∙◌, inl, inr, arith}
+use Rattle.std.proofs.Common.{append_assoc, subst}
 use Rattle.std.proofs.lemmas.List.{length-replicate, length-set}
 use Rattle.std.specs.List.{Contains}
 use Rattle.std.proofs.lemmas.List.Elements.{Contains-append_cases, Contains-append_left, Contains-push}
@@ -24,7 +25,8 @@ no-numbers = record {
 }
 
 -- A number more.
-pub one-number-more : (table numbers : List ℕ) (added : ℕ) → added < 4096 → HasNumbers table numbers → HasNumbers (with_number table added) (numbers ++ added ∷ [])
+pub one-number-more : (table numbers : List ℕ) (added : ℕ) → added < 4096 → HasNumbers table numbers
+    → HasNumbers (with_number table added) (numbers ++ added ∷ [])
 one-number-more table numbers added fits holds = record {
   words = length-set table (added / 32) _ ∙ holds.words;
   bits = λ number below.
@@ -41,11 +43,13 @@ one-number-more table numbers added fits holds = record {
 }
 
 -- A word more, at the end.
-pub table-push : (offset word : ℕ) (words : List ℕ) → table_writes offset (words ++ word ∷ []) ≡ table_writes offset words ++ write_at (offset + 4 * length words) word ∷ []
+pub table-push : (offset word : ℕ) (words : List ℕ)
+    → table_writes offset (words ++ word ∷ []) ≡ table_writes offset words ++ write_at (offset + 4 * length words) word ∷ []
 table-push offset word [] = let here : offset ≡ offset + 4 * 0 = omega arith in ap (λ (n : ℕ). write_at n word ∷ []) here
 table-push offset word (first ∷ words) =
     let there : offset + 4 + 4 * length words ≡ offset + 4 * length (first ∷ words) = omega arith in
-    ap (λ (list : List Write). write_at offset first ∷ list) (table-push (offset + 4) word words ∙ ap (λ (n : ℕ). table_writes (offset + 4) words ++ write_at n word ∷ []) there)
+    ap (λ (list : List Write). write_at offset first ∷ list) (table-push (offset + 4) word words
+    ∙ ap (λ (n : ℕ). table_writes (offset + 4) words ++ write_at n word ∷ []) there)
 
 -- An entry more, at the end.
 pub entries-push : (entry count : ℕ) → empty_entries entry (suc count) ≡ empty_entries entry count ++ entry_writes (entry + count) 0 0

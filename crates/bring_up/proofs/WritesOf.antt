@@ -1,5 +1,6 @@
 -- Of which registers the writes of bring-up are.
-use Rattle.std.proofs.Common.{◌≡◌, ◌++◌, ◌∷◌, ◌+◌, ◌-◌, ◌*◌, ◌/◌, ◌%◌, ◌<◌, ◌≤◌, ◌^◌, [], ℕ, zero, suc, Bool, List, Option, Some, length, ap, ◌∙◌, sym, subst, arith}
+use Rattle.std.proofs.Common.{◌≡◌, ◌++◌, ◌∷◌, ◌+◌, ◌-◌, ◌*◌, ◌/◌, ◌%◌, ◌<◌, ◌≤◌, ◌^◌, [], ℕ, zero, suc, Bool, List, Option, Some, length}
+use Rattle.std.proofs.Common.{ap, ◌∙◌, sym, subst, arith}
 use Rattle.std.specs.List.{All}
 use Rattle.std.proofs.lemmas.List.Elements.{All-append, All-cons}
 use Rattle.rx_filter.specs.Addresses.{high_word, low_word}
@@ -23,7 +24,8 @@ abbrev AreOf : (Option Register → Type 0) → List Write → Type 0
 AreOf P writes = All (λ (write : Write). P (register_at write.offset)) writes
 
 of-one : (P : Option Register → Type 0) (offset value : ℕ) → P (register_at offset) → AreOf P (write_at offset value ∷ [])
-of-one P offset value here = All-cons (λ (write : Write). P (register_at write.offset)) (write_at offset value) [] here (all-none (λ (write : Write). P (register_at write.offset)))
+of-one P offset value here = All-cons (λ (write : Write). P (register_at write.offset)) (write_at offset value) [] here
+    (all-none (λ (write : Write). P (register_at write.offset)))
 
 of-both : (P : Option Register → Type 0) (first later : List Write) → AreOf P first → AreOf P later → AreOf P (first ++ later)
 of-both P first later one two = All-append (λ (write : Write). P (register_at write.offset)) first later one two
@@ -77,7 +79,8 @@ filter-of P mta vfta ral rah groups vlans address groups_whole vlans_whole =
 
 reset-aside : All IsAside reset_writes
 unfolding register_at array_register_at
-reset-aside = of-both IsElsewhere (write_at 0x0000 0x04000000 ∷ []) (write_at 0x00D8 0xFFFFFFFF ∷ []) (of-one IsElsewhere 0x0000 0x04000000 tt) (of-one IsElsewhere 0x00D8 0xFFFFFFFF tt)
+reset-aside = of-both IsElsewhere (write_at 0x0000 0x04000000 ∷ []) (write_at 0x00D8 0xFFFFFFFF ∷ [])
+    (of-one IsElsewhere 0x0000 0x04000000 tt) (of-one IsElsewhere 0x00D8 0xFFFFFFFF tt)
 
 pub rings-last : RingsComeLast
 rings-last config address groups vlans groups_whole vlans_whole =
@@ -89,7 +92,8 @@ rings-last config address groups vlans groups_whole vlans_whole =
 
 -- Registers beside CTRL and MDIC.
 
-ring-of : (P : Option Register → Type 0) (offset base bytes : ℕ) → P (register_at offset) → P (register_at (offset + 0x04)) → P (register_at (offset + 0x08))
+ring-of : (P : Option Register → Type 0) (offset base bytes : ℕ) → P (register_at offset) → P (register_at (offset + 0x04))
+    → P (register_at (offset + 0x08))
     → P (register_at (offset + 0x10)) → P (register_at (offset + 0x18)) → AreOf P (ring_writes offset base bytes)
 ring-of P offset base bytes low high size head tail =
     let w2 = write_at (offset + 0x04) (base / 2 ^ 32) in
@@ -116,8 +120,10 @@ tail-leaves_phy slot = of-one IsNotOfPhy 0x2818 slot tt
 controls-leave_phy : (promiscuous by_vlan : Bool)
     → All LeavesPhy (receive_writes promiscuous by_vlan) × (All LeavesPhy transmit_writes × All LeavesPhy mask_writes)
 unfolding register_at array_register_at
-controls-leave_phy promiscuous by_vlan =
-    (of-one IsNotOfPhy 0x0100 (receive_control promiscuous by_vlan) tt, (of-one IsNotOfPhy 0x0400 0x000400FA tt, of-one IsNotOfPhy 0x00D0 0xD1 tt))
+controls-leave_phy promiscuous by_vlan = (
+  of-one IsNotOfPhy 0x0100 (receive_control promiscuous by_vlan) tt,
+  (of-one IsNotOfPhy 0x0400 0x000400FA tt, of-one IsNotOfPhy 0x00D0 0xD1 tt),
+)
 
 pub link-first : LinkComesFirst
 link-first config address groups vlans groups_whole vlans_whole =

@@ -1,5 +1,6 @@
 -- What an adapter is set to behind bring-up, by its configuration and its Ethernet address, whatever else happened meanwhile.
-use Rattle.std.specs.Prelude.{◌≡◌, ◌<◌, ◌+◌, ◌-◌, ◌*◌, ◌^◌, ◌++◌, ℕ, Bool, true, false, List, ◌∷◌, [], All, Option, None, Some, length, replicate}
+use Rattle.std.specs.Prelude.{◌≡◌, ◌<◌, ◌+◌, ◌-◌, ◌*◌, ◌^◌, ◌++◌, ℕ, Bool, true, false, List, ◌∷◌, [], All, Option, None, Some, length}
+use Rattle.std.specs.Prelude.{replicate}
 use Rattle.adapter.specs.declared.offsets.TheConstants.{MTA, RDBAL, RDT, TDBAL, VFTA}
 use Rattle.arrayvec.specs.declared.array_vec.ArrayVec.{ArrayVec}
 use Rattle.registers.specs.Places.{alone, rah_av}

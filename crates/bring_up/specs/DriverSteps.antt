@@ -59,4 +59,5 @@ pub record UnmasksCauses {B : Type 0} (world : B → World) (happened : B → B 
   pub holds : frames_held d.oldest_received (world new) ≡ frames_held d.oldest_received (world old) ++ past.stored
   pub mask : HasBit (world new).adapter.causes.mask rxt0
   -- and no work is forgotten, where no slot was finished before it, or RXT0 was recorded.
-  pub work : (finished d.oldest_received (world old) ≡ []) ⊎ HasBit (world old).adapter.causes.recorded rxt0 → HasNoForgottenWork d (world new)
+  pub work : (finished d.oldest_received (world old) ≡ []) ⊎ HasBit (world old).adapter.causes.recorded rxt0
+      → HasNoForgottenWork d (world new)

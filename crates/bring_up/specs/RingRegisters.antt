@@ -5,7 +5,8 @@ use Rattle.adapter.specs.Rings.{ring_distance}
 use Rattle.adapter.specs.declared.register.RingRegister.TheVariants.{BaseHigh, Length, Head, Tail}
 use Rattle.bus.specs.Settings.{Write}
 use Rattle.bring_up.specs.Table.{write_at}
-use Rattle.registers.specs.Places.{alone, rctl_bam, rctl_en, rctl_mpe, rctl_secrc, rctl_upe, rctl_vfe, tctl_cold, tctl_ct, tctl_en, tctl_psp}
+use Rattle.registers.specs.Places.{alone, rctl_bam, rctl_en, rctl_mpe, rctl_secrc, rctl_upe, rctl_vfe, tctl_cold, tctl_ct, tctl_en}
+use Rattle.registers.specs.Places.{tctl_psp}
 
 -- a ring's base, its length in bytes, and head and tail at its first slot, from the offset of the base's low word on
 abbrev pub ring_writes : (offset base bytes : ℕ) → List Write

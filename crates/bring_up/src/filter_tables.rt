@@ -4,7 +4,8 @@ ghost use Rattle.std.specs.Prelude.{◌≡◌, ◌<◌, ◌^◌, All, replicate}
 ghost use Rattle.rx_filter.specs.Addresses.{IsAddress};
 ghost use Rattle.rx_filter.specs.Writing.{with_number};
 ghost use Rattle.bring_up.specs.Configured.{AreWords};
-ghost use Rattle.bring_up.specs.FilterTables.{HasNumbers, address_writes, entry_writes, numbers_of_groups, table_writes};
+ghost use Rattle.bring_up.specs.FilterTables.{HasNumbers, address_writes, entry_writes, numbers_of_groups};
+ghost use Rattle.bring_up.specs.FilterTables.{table_writes};
 ghost use Rattle.bring_up.specs.Sets.{Sets};
 
 use adapter::offsets::{ADDRESS_PAIR_BYTES, MTA, RAL, REGISTER_BYTES, VFTA};

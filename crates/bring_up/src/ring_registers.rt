@@ -12,7 +12,8 @@ ghost use Rattle.driver_law.specs.DriverState.{DriverState, transmit_tail};
 ghost use Rattle.driver_law.specs.Ready.{ReadyWith};
 ghost use Rattle.bring_up.specs.DriverSteps.{LeavesDriver, LetsFramesIn, SetsTransmitRing};
 ghost use Rattle.bring_up.specs.RestingRings.{HasNewRings, HasReceiveRing, SetsAtRest};
-ghost use Rattle.bring_up.specs.RingRegisters.{receive_control, receive_writes, ring_writes, transmit_control, transmit_writes};
+ghost use Rattle.bring_up.specs.RingRegisters.{receive_control, receive_writes, ring_writes, transmit_control};
+ghost use Rattle.bring_up.specs.RingRegisters.{transmit_writes};
 ghost use Rattle.bring_up.specs.Sets.{Sets};
 
 use adapter::offsets::{RCTL, RDBAH, RDBAL, RDH, RDLEN, RDT, TCTL, TDBAH, TDBAL, TDH, TDLEN, TDT};

@@ -21,7 +21,8 @@ use Rattle.bus.proofs.Lists.{all-head, all-tail}
 use Rattle.bus.proofs.Trails.{trail_happens}
 
 -- What may happen doesn't speak of accesses.
-pub happens_accesses : (a b : World) (past : Past) (accesses : List Access) → Happens a b past → Happens a b (record past { accesses = accesses })
+pub happens_accesses : (a b : World) (past : Past) (accesses : List Access) → Happens a b past
+    → Happens a b (record past { accesses = accesses })
 happens_accesses a b past accesses happens =
     let steady = happens.steady in
     record {
@@ -82,7 +83,8 @@ no_access (event ∷ later) are =
     ∙ no_access later (all-tail IsStep event later are)
 
 -- Steps, and then an access.
-past-with_access : (events : List Event) (access : Access) → All IsStep events → record (past_of events) { accesses = access ∷ [] } ≡ past_of (events ++ Accesses access ∷ [])
+past-with_access : (events : List Event) (access : Access) → All IsStep events
+    → record (past_of events) { accesses = access ∷ [] } ≡ past_of (events ++ Accesses access ∷ [])
 past-with_access events access are =
     let past = past_of events in
     same_past _ _ _ _ _ _ _ _ _ _ _ _ (sym (append-nil past.put)) (sym (append-nil past.stored)) (omega arith) (omega arith) (omega arith)
@@ -96,7 +98,9 @@ solo_world solo = solo.world
 abbrev pub is_lively : SoloState → Type 0
 is_lively solo = solo.lively ≡ true
 
-pub acts_on : (a p b : SoloState) (access : Access) (effect : World → World → Type 0) → Prepared a p → b ≡ record p { world = world_after_access access p.world } → IsAnswered access p.world → IsAdapter p.world.adapter → effect p.world b.world → Acts solo_world Recounts is_lively a b access effect
+pub acts_on : (a p b : SoloState) (access : Access) (effect : World → World → Type 0) → Prepared a p
+    → b ≡ record p { world = world_after_access access p.world } → IsAnswered access p.world → IsAdapter p.world.adapter
+    → effect p.world b.world → Acts solo_world Recounts is_lively a b access effect
 acts_on a p b access effect prepared after answered adapter does =
     let plays = prepared.plays in
     let events = plays.events in

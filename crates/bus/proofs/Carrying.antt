@@ -31,13 +31,17 @@ spare-stays o p a b past area sound happens spare =
     let Away : Area → Type 0 = λ other. AreApart other area in
     let steady = happens.steady in
     let own = drivers_keep_their_own o p a b past sound happens in
-    let addresses = each-outstanding (receive_ring a) o (λ d. named_address b.memory d ≡ named_address a.memory d) sound.receive_slots.slot own.addresses in
+    let addresses = each-outstanding (receive_ring a) o (λ d. named_address b.memory d
+    ≡ named_address a.memory d) sound.receive_slots.slot own.addresses in
     let sources =
     each-outstanding (transmit_ring a) p (λ d. data_of b.memory d ≡ data_of a.memory d) sound.transmit_slots.slot
-    (λ slot below. ap (λ (desc : TxDesc). let place : Area = record { address = desc.address; size = desc.length } in place) (own.requests slot below).fields) in
+    (λ slot below. ap (λ (desc : TxDesc). let place : Area = record { address = desc.address; size = desc.length } in place)
+    (own.requests slot below).fields) in
     record {
-      receive_slots = subst Away (sym (same_ring_area a.adapter.receive_ring b.adapter.receive_ring steady.receive_ring)) spare.receive_slots;
-      transmit_slots = subst Away (sym (same_ring_area a.adapter.transmit_ring b.adapter.transmit_ring steady.transmit_ring)) spare.transmit_slots;
+      receive_slots = subst Away (sym (same_ring_area a.adapter.receive_ring b.adapter.receive_ring steady.receive_ring))
+          spare.receive_slots;
+      transmit_slots = subst Away (sym (same_ring_area a.adapter.transmit_ring b.adapter.transmit_ring steady.transmit_ring))
+          spare.transmit_slots;
       buffers =
           subst (λ (slots : List ℕ). All (λ d. AreApart (buffer_of b d) area) slots) (sym own.same_received)
           (λ k d below. subst Away (sym (buffer-same _ (addresses k d below))) (spare.buffers k d below));
@@ -49,7 +53,8 @@ spare-stays o p a b past area sound happens spare =
     buffer-same : (d : ℕ) → named_address b.memory d ≡ named_address a.memory d → buffer_of b d ≡ buffer_of a d
     buffer-same d address =
         ap (λ (n : ℕ). let place : Area = record { address = n; size = buffer_size_of (field b.adapter.filter.rctl 16 2) } in place) address
-        ∙ ap (λ (filter : FilterRegisters). let place : Area = record { address = named_address a.memory d; size = buffer_size_of (field filter.rctl 16 2) } in place) happens.steady.filter
+        ∙ ap (λ (filter : FilterRegisters). let place : Area = record
+        { address = named_address a.memory d; size = buffer_size_of (field filter.rctl 16 2) } in place) happens.steady.filter
 
 pub areas_stay_apart : AreasStayApart
 areas_stay_apart o p a b past area sound fit spare happens =

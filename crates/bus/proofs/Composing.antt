@@ -1,5 +1,6 @@
 -- What may happen between two accesses composes, and nothing at all is one of its cases.
-use Rattle.std.proofs.Common.{◌≡◌, ◌≤◌, ◌⊎◌, ◌+◌, ℕ, zero, suc, List, length, [], ◌++◌, refl, sym, ap, subst, ◌∙◌, inl, inr, append_assoc, arith, length-append}
+use Rattle.std.proofs.Common.{◌≡◌, ◌≤◌, ◌⊎◌, ◌+◌, ℕ, zero, suc, List, length, [], ◌++◌, refl, sym, ap, subst, ◌∙◌, inl, inr, append_assoc}
+use Rattle.std.proofs.Common.{arith, length-append}
 use Rattle.std.proofs.lemmas.List.{append-nil}
 use Rattle.std.specs.Fn.{iterate}
 use Rattle.eeprom.specs.Eerd as eeprom
@@ -30,7 +31,8 @@ iterate-add h (suc m) n x =
 -- Registers.
 
 -- A head that stayed twice stayed, and one that moved is a slot.
-head_trans : (a b c : RingRegisters) → c ≡ record b { head = c.head } → (b.head ≡ a.head) ⊎ IsSound (ring_of b) → (c.head ≡ b.head) ⊎ IsSound (ring_of c) → (c.head ≡ a.head) ⊎ IsSound (ring_of c)
+head_trans : (a b c : RingRegisters) → c ≡ record b { head = c.head } → (b.head ≡ a.head) ⊎ IsSound (ring_of b)
+    → (c.head ≡ b.head) ⊎ IsSound (ring_of c) → (c.head ≡ a.head) ⊎ IsSound (ring_of c)
 head_trans a b c moved one (inr slot) = inr slot
 head_trans a b c moved (inl first) (inl later) = inl (later ∙ first)
 head_trans a b c moved (inr slot) (inl later) =
@@ -43,10 +45,16 @@ steady_trans a b c first later one two = record {
   image = two.image ∙ one.image;
   causes = λ place set. two.causes place (one.causes place set);
   mask = two.mask ∙ one.mask;
-  receive_ring = two.receive_ring ∙ ap (λ (ring : RingRegisters). let moved : RingRegisters = record ring { head = c.adapter.receive_ring.head } in moved) one.receive_ring;
-  transmit_ring = two.transmit_ring ∙ ap (λ (ring : RingRegisters). let moved : RingRegisters = record ring { head = c.adapter.transmit_ring.head } in moved) one.transmit_ring;
-  receive_head = head_trans a.adapter.receive_ring b.adapter.receive_ring c.adapter.receive_ring two.receive_ring one.receive_head two.receive_head;
-  transmit_head = head_trans a.adapter.transmit_ring b.adapter.transmit_ring c.adapter.transmit_ring two.transmit_ring one.transmit_head two.transmit_head;
+  receive_ring = two.receive_ring
+      ∙ ap (λ (ring : RingRegisters). let moved : RingRegisters = record ring { head = c.adapter.receive_ring.head } in moved)
+      one.receive_ring;
+  transmit_ring = two.transmit_ring
+      ∙ ap (λ (ring : RingRegisters). let moved : RingRegisters = record ring { head = c.adapter.transmit_ring.head } in moved)
+      one.transmit_ring;
+  receive_head = head_trans a.adapter.receive_ring b.adapter.receive_ring c.adapter.receive_ring two.receive_ring one.receive_head
+      two.receive_head;
+  transmit_head = head_trans a.adapter.transmit_ring b.adapter.transmit_ring c.adapter.transmit_ring two.transmit_ring one.transmit_head
+      two.transmit_head;
   legal = All-append IsLegal first.stored later.stored one.legal two.legal;
   filter = two.filter ∙ one.filter;
   device_control = two.device_control ∙ one.device_control;
@@ -92,18 +100,25 @@ steady_refl a = record {
 -- Frames.
 
 -- A cause that is recorded where slots finished in a first stretch still is after a later one.
-told-joined : (m1 m2 : List ℕ) (b c : World) → (m1 ≡ []) ⊎ HasBit b.adapter.causes.recorded 7 → (m2 ≡ []) ⊎ HasBit c.adapter.causes.recorded 7 → ((place : ℕ) → HasBit b.adapter.causes.recorded place → HasBit c.adapter.causes.recorded place) → (m1 ++ m2 ≡ []) ⊎ HasBit c.adapter.causes.recorded 7
+told-joined : (m1 m2 : List ℕ) (b c : World) → (m1 ≡ []) ⊎ HasBit b.adapter.causes.recorded 7
+    → (m2 ≡ []) ⊎ HasBit c.adapter.causes.recorded 7
+    → ((place : ℕ) → HasBit b.adapter.causes.recorded place → HasBit c.adapter.causes.recorded place)
+    → (m1 ++ m2 ≡ []) ⊎ HasBit c.adapter.causes.recorded 7
 told-joined m1 m2 b c (inr set) two keeps = inr (keeps 7 set)
 told-joined m1 m2 b c (inl none) (inr set) keeps = inr set
 told-joined m1 m2 b c (inl none) (inl still) keeps = inl (rw (none, still) refl)
 
-pub between_trans : (o p : ℕ) (a b c : World) (first later : Past) → Steady a b first → Steady b c later → Between o p a b first → Between o p b c later → Between o p a c (joined first later)
+pub between_trans : (o p : ℕ) (a b c : World) (first later : Past) → Steady a b first → Steady b c later → Between o p a b first
+    → Between o p b c later → Between o p a c (joined first later)
 between_trans o p a b c first later earlier steady one two = record {
   sends = append_assoc first.put later.put (frames_to_send c) ∙ ap (λ (behind : List (List ℕ)). first.put ++ behind) two.sends ∙ one.sends;
   reported = one.reported ++ two.reported;
-  written = two.written ∙ ap (λ (slots : List ℕ). slots ++ two.reported) one.written ∙ append_assoc (written_back p a) one.reported two.reported;
-  each_reported = omega (arith, one.each_reported, two.each_reported, length-append one.reported two.reported, length-append first.put later.put);
-  holds = two.holds ∙ ap (λ (frames : List (List ℕ)). frames ++ later.stored) one.holds ∙ append_assoc (frames_held o a) first.stored later.stored;
+  written = two.written ∙ ap (λ (slots : List ℕ). slots ++ two.reported) one.written
+      ∙ append_assoc (written_back p a) one.reported two.reported;
+  each_reported = omega
+      (arith, one.each_reported, two.each_reported, length-append one.reported two.reported, length-append first.put later.put);
+  holds = two.holds ∙ ap (λ (frames : List (List ℕ)). frames ++ later.stored) one.holds
+      ∙ append_assoc (frames_held o a) first.stored later.stored;
   more = one.more ++ two.more;
   done = two.done ∙ ap (λ (slots : List ℕ). slots ++ two.more) one.done ∙ append_assoc (finished o a) one.more two.more;
   told = told-joined one.more two.more b c one.told two.told steady.causes;
@@ -114,7 +129,8 @@ between_trans o p a b c first later earlier steady one two = record {
   runs = λ short can.
       let Short : List ℕ → Type 0 = λ frame. length frame ≤ buffer_size a in
       let late = all-right Short first.stored later.stored short in
-      two.runs (subst (λ (filter : FilterRegisters). AreWithin (buffer_size_of (field filter.rctl 16 2)) later.stored) (sym earlier.filter) late)
+      two.runs (subst (λ (filter : FilterRegisters). AreWithin (buffer_size_of (field filter.rctl 16 2)) later.stored)
+      (sym earlier.filter) late)
       (one.runs (all-left Short first.stored later.stored short) can);
   sound = two.sound;
 }

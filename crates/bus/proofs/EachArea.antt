@@ -31,7 +31,8 @@ of-areas P o a all =
     record {
       received = all-head P r (t ∷ frame_areas o a) all;
       sent = all-head P t (frame_areas o a) behind_r;
-      payload = all-unmapped P (data_of a.memory) (offered (transmit_ring a)) (all-left P payload (names ++ (work ++ offered_buffers a)) frames);
+      payload = all-unmapped P (data_of a.memory) (offered (transmit_ring a))
+          (all-left P payload (names ++ (work ++ offered_buffers a)) frames);
       names = all-unmapped P (named a.memory) (finished o a) (all-left P names (work ++ offered_buffers a) behind_payload);
       work = all-left P work (offered_buffers a) behind_names;
       buffers = all-right P work (offered_buffers a) behind_names;

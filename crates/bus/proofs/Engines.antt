@@ -59,7 +59,14 @@ still adapter = record {
   transmitter = adapter.transmitter;
 }
 
-pub steady_moves : (world : World) (memory : List ℕ) (m : Moves) (past : Past) → length memory ≡ length world.memory → ((place : ℕ) → HasBit world.adapter.causes.recorded place → HasBit m.recorded place) → m.missed ≡ max world.adapter.missed_packets (min (world.adapter.missed_packets + past.missed) greatest_count) → (¬ (HasBit world.adapter.filter.rctl 1) → (past.stored ≡ []) × (past.missed ≡ 0)) → (m.receive_head ≡ world.adapter.receive_ring.head) ⊎ IsSound (ring_of (record world.adapter.receive_ring { head = m.receive_head })) → (m.transmit_head ≡ world.adapter.transmit_ring.head) ⊎ IsSound (ring_of (record world.adapter.transmit_ring { head = m.transmit_head })) → All IsLegal past.stored → past.eeprom_ticks ≡ 0 → past.phy_ticks ≡ 0 → Steady world (record { memory = memory; adapter = moved m world.adapter }) past
+pub steady_moves : (world : World) (memory : List ℕ) (m : Moves) (past : Past) → length memory ≡ length world.memory
+    → ((place : ℕ) → HasBit world.adapter.causes.recorded place → HasBit m.recorded place)
+    → m.missed ≡ max world.adapter.missed_packets (min (world.adapter.missed_packets + past.missed) greatest_count)
+    → (¬ (HasBit world.adapter.filter.rctl 1) → (past.stored ≡ []) × (past.missed ≡ 0))
+    → (m.receive_head ≡ world.adapter.receive_ring.head) ⊎ IsSound (ring_of (record world.adapter.receive_ring { head = m.receive_head }))
+    → (m.transmit_head ≡ world.adapter.transmit_ring.head)
+    ⊎ IsSound (ring_of (record world.adapter.transmit_ring { head = m.transmit_head })) → All IsLegal past.stored
+    → past.eeprom_ticks ≡ 0 → past.phy_ticks ≡ 0 → Steady world (record { memory = memory; adapter = moved m world.adapter }) past
 steady_moves world memory m past size causes missed off receive_head transmit_head legal no_eeprom no_phy = record {
   size = size;
   image = refl;

@@ -1,5 +1,6 @@
 -- The descriptor of the frame in work is written back.
-use Rattle.std.proofs.Common.{inl, ◌≡◌, ◌≤◌, ◌+◌, inr, ◌++◌, ◌∷◌, [], Bool, true, false, cond, nat_le, ℕ, List, Option, Some, None, length, map, refl, sym, ap, subst, ◌∙◌, append_assoc, arith}
+use Rattle.std.proofs.Common.{inl, ◌≡◌, ◌≤◌, ◌+◌, inr, ◌++◌, ◌∷◌, [], Bool, true, false, cond, nat_le, ℕ, List, Option, Some, None, length}
+use Rattle.std.proofs.Common.{map, refl, sym, ap, subst, ◌∙◌, append_assoc, arith}
 use Rattle.std.specs.List.{All}
 use Rattle.std.proofs.lemmas.Bool.{eq-eqb}
 use Rattle.std.proofs.lemmas.Bool.Decides.{nat_tests}
@@ -24,7 +25,8 @@ use Rattle.adapter.specs.State.{AdapterState}
 use Rattle.adapter.specs.declared.step.StepKind.TheVariants.{RxDone}
 use Rattle.adapter.specs.declared.step.Stepped.{Stepped}
 use Rattle.adapter.specs.declared.step.Stepped.TheVariants.{Took, Put, WireFull, Moved, Done, Ticked, Nothing, Fault}
-use Rattle.adapter.specs.HostAreas.{areas, buffer_of, buffer_size, data_of, frame_areas, offered_buffers, receives, reported_half, ring_area, status_byte}
+use Rattle.adapter.specs.HostAreas.{areas, buffer_of, buffer_size, data_of, frame_areas, offered_buffers, receives, reported_half}
+use Rattle.adapter.specs.HostAreas.{ring_area, status_byte}
 use Rattle.adapter.specs.Slots.{buffered, done_slots, finished, in_work, is_done, offered, written_back}
 use Rattle.adapter.specs.HostFrames.{frames_held, named}
 use Rattle.adapter.specs.Conditions.{AreWhole, IsWhole, Reports, Sound}
@@ -36,7 +38,8 @@ use Rattle.adapter.specs.World.{receive_ring, transmit_ring, World}
 use Rattle.bus.proofs.Areas.{separate-same}
 use Rattle.bus.proofs.Composing.{happens_none}
 use Rattle.bus.proofs.Engines.{added, steady_moves, still}
-use Rattle.bus.proofs.Kept.{IsSame, buffers-kept, frame_of, frames-kept, is_done-same, named-kept, names_fit-kept, NamesFit, same-apart, transmit_kept, whole-kept}
+use Rattle.bus.proofs.Kept.{IsSame, buffers-kept, frame_of, frames-kept, is_done-same, named-kept, names_fit-kept, NamesFit, same-apart}
+use Rattle.bus.proofs.Kept.{transmit_kept, whole-kept}
 use Rattle.bus.proofs.Lists.{all-head, all-left, all-none, all-right, all-tail, all-weaker, pairs-head}
 use Rattle.bus.proofs.Moving.{with_work}
 use Rattle.bus.proofs.Running.{transmittable-kept}
@@ -44,12 +47,14 @@ use Rattle.bus.proofs.Rings.{dealt-others, dealt-reported, dealt-right, outstand
 use Rattle.descriptors.specs.Frames.{IsLegal}
 
 -- A finished descriptor is done.
-is_done-finished : (memory : List ℕ) (descriptor : ℕ) (frame : List ℕ) → IsFinished memory descriptor frame → is_done memory descriptor ≡ true
+is_done-finished : (memory : List ℕ) (descriptor : ℕ) (frame : List ℕ) → IsFinished memory descriptor frame
+    → is_done memory descriptor ≡ true
 unfolding rx_desc_of
 is_done-finished memory descriptor frame finishes = eq-eqb _ _ finishes.done
 
 -- and whole, where its frame has a legal length.
-is_whole-finished : (memory : List ℕ) (descriptor n : ℕ) (frame : List ℕ) → length frame ≡ n → 60 ≤ n → n ≤ 1518 → IsFinished memory descriptor frame → IsWhole (receive.descriptor_at memory descriptor)
+is_whole-finished : (memory : List ℕ) (descriptor n : ℕ) (frame : List ℕ) → length frame ≡ n → 60 ≤ n → n ≤ 1518
+    → IsFinished memory descriptor frame → IsWhole (receive.descriptor_at memory descriptor)
 is_whole-finished memory descriptor n frame count least most finishes =
     let long : (receive.descriptor_at memory descriptor).length ≡ n = finishes.length ∙ count in
     record { ended = finishes.ended; unharmed = finishes.unharmed; least = omega (arith, long, least); most = omega (arith, long, most) }
@@ -73,26 +78,36 @@ work-stands o p work a0 sound =
     let payload = map (data_of a.memory) (offered (transmit_ring a)) in
     let names = map (named a.memory) (finished o a) in
     let slots = sound.receive_slots in
-    let right = dealt-right a.memory ring o (in_work a) (λ d. IsInside (descriptor_area d) r) slots (outstanding-inside ring o slots.slot) in
+    let right = dealt-right a.memory ring o (in_work a) (λ d. IsInside (descriptor_area d) r) slots
+    (outstanding-inside ring o slots.slot) in
     let inside = all-head (λ d. IsInside (descriptor_area d) r) work.descriptor (offered ring) right in
     let place : Area = record { address = receive.named_address a.memory work.descriptor; size = work.length } in
     let Lies : Area → Type 0 = λ area. LiesIn a.memory area.address area.size in
     let lie_r : LiesIn a.memory ring.base r.size = all-head Lies r (t ∷ frame_areas o a) sound.separate.lie in
     let lie_rest = all-tail Lies t (frame_areas o a) (all-tail Lies r (t ∷ frame_areas o a) sound.separate.lie) in
-    let lie_held = all-right Lies names (place ∷ offered_buffers a) (all-right Lies payload (names ++ (place ∷ offered_buffers a)) lie_rest) in
+    let lie_held = all-right Lies names (place ∷ offered_buffers a)
+    (all-right Lies payload (names ++ (place ∷ offered_buffers a)) lie_rest) in
     let apart_rest = all-tail (AreApart r) t (frame_areas o a) (pairs-head AreApart r (t ∷ frame_areas o a) sound.separate.apart) in
-    let apart_held = all-right (AreApart r) names (place ∷ offered_buffers a) (all-right (AreApart r) payload (names ++ (place ∷ offered_buffers a)) apart_rest) in
+    let apart_held = all-right (AreApart r) names (place ∷ offered_buffers a)
+    (all-right (AreApart r) payload (names ++ (place ∷ offered_buffers a)) apart_rest) in
     let apart_place : AreApart r place = all-head (AreApart r) place (offered_buffers a) apart_held in
     record {
       inside = inside;
       lies = lies-inside a.memory (descriptor_area work.descriptor) r inside lie_r;
       stands = record {
         place = all-head Lies place (offered_buffers a) lie_held;
-        apart = apart-sym (descriptor_area work.descriptor) place (apart-inside (descriptor_area work.descriptor) r place inside apart_place);
+        apart = apart-sym (descriptor_area work.descriptor) place
+            (apart-inside (descriptor_area work.descriptor) r place inside apart_place);
       };
     }
 
-pub between_done : (o p : ℕ) (work : Work) (a : World) → 60 ≤ work.length → work.length ≤ 1518 → Sound o p (with_work (Some work) a) → Between o p (with_work (Some work) a) (record { memory = with_bytes a.memory (work.descriptor + 8) (finished_bytes work.length); adapter = done_adapter (with_work (Some work) a) }) nothing
+pub between_done : (o p : ℕ) (work : Work) (a : World) → 60 ≤ work.length → work.length ≤ 1518 → Sound o p (with_work (Some work) a)
+    → Between o p (with_work (Some work) a)
+    (record {
+      memory = with_bytes a.memory (work.descriptor + 8) (finished_bytes work.length);
+      adapter = done_adapter
+          (with_work (Some work) a);
+    }) nothing
 between_done o p work a0 least most sound =
     let a = with_work (Some work) a0 in
     let memory = a.memory in
@@ -115,26 +130,34 @@ between_done o p work a0 least most sound =
     let in_descriptor : IsInside area (descriptor_area d) = record { from = omega arith; to = omega arith } in
     let in_ring : IsInside area r = record { from = omega (arith, stand.inside.from); to = omega (arith, stand.inside.to) } in
     let apart_all : All (AreApart area) (t ∷ frame_areas o a) =
-    all-weaker (AreApart r) (AreApart area) (t ∷ frame_areas o a) (λ other apart. apart-inside area r other in_ring apart) (pairs-head AreApart r (t ∷ frame_areas o a) sound.separate.apart) in
+    all-weaker (AreApart r) (AreApart area) (t ∷ frame_areas o a) (λ other apart. apart-inside area r other in_ring apart)
+    (pairs-head AreApart r (t ∷ frame_areas o a) sound.separate.apart) in
     let apart_t = all-head (AreApart area) t (frame_areas o a) apart_all in
     let apart_rest = all-tail (AreApart area) t (frame_areas o a) apart_all in
-    let transmitting = transmit_kept a memory' p area keeps sound.transmit_slots apart_t (all-left (AreApart area) payload (names ++ (place ∷ buffers)) apart_rest) in
-    let apart_names = all-left (AreApart area) names (place ∷ buffers) (all-right (AreApart area) payload (names ++ (place ∷ buffers)) apart_rest) in
+    let transmitting = transmit_kept a memory' p area keeps sound.transmit_slots apart_t
+    (all-left (AreApart area) payload (names ++ (place ∷ buffers)) apart_rest) in
+    let apart_names = all-left (AreApart area) names (place ∷ buffers)
+    (all-right (AreApart area) payload (names ++ (place ∷ buffers)) apart_rest) in
     let slots = sound.receive_slots in
     let others = dealt-others memory ring o d [] slots in
-    let into : (list : List ℕ) → All (λ e. AreApart (descriptor_area d) (descriptor_area e)) list → All (IsSame memory memory') list = λ list apart.
-    same-apart memory memory' area list keeps (all-weaker (λ e. AreApart (descriptor_area d) (descriptor_area e)) (λ e. AreApart area (descriptor_area e)) list (λ e far. apart-inside area (descriptor_area d) (descriptor_area e) in_descriptor far) apart) in
+    let into : (list : List ℕ) → All (λ e. AreApart (descriptor_area d) (descriptor_area e)) list
+    → All (IsSame memory memory') list = λ list apart.
+    same-apart memory memory' area list keeps
+    (all-weaker (λ e. AreApart (descriptor_area d) (descriptor_area e)) (λ e. AreApart area (descriptor_area e)) list
+    (λ e far. apart-inside area (descriptor_area d) (descriptor_area e) in_descriptor far) apart) in
     let same_done = into (finished o a) others.0 in
     let same_offered = into (offered ring) others.1 in
     let frame = bytes_at memory (receive.named_address memory d) n in
     let finishes : IsFinished memory' d frame = written_back-finished memory d n (omega (arith, most)) stand.lies stand.stands in
     let receiving =
     dealt-reported memory memory' ring o d [] slots
-    (λ other apart. is_done-same memory memory' other (keeps.others (descriptor_area other) (apart-inside area (descriptor_area d) (descriptor_area other) in_descriptor apart)))
+    (λ other apart. is_done-same memory memory' other
+    (keeps.others (descriptor_area other) (apart-inside area (descriptor_area d) (descriptor_area other) in_descriptor apart)))
     (is_done-finished memory' d frame finishes) in
     let count : length frame ≡ n = length-bytes_at memory (receive.named_address memory d) n stand.stands.place in
     let named_done : named memory' d ≡ place =
-    ap (λ (desc : RxDesc). let there : Area = record { address = desc.address; size = desc.length } in there) (descriptor_at-finished memory d n (omega (arith, most)) stand.lies) in
+    ap (λ (desc : RxDesc). let there : Area = record { address = desc.address; size = desc.length } in there)
+    (descriptor_at-finished memory d n (omega (arith, most)) stand.lies) in
     let names_after : map (named memory') (done_slots memory' ring o) ≡ names ++ place ∷ [] =
     ap (map (named memory')) receiving.grown ∙ map-append (named memory') (finished o a) (d ∷ [])
     ∙ ap (λ (list : List Area). list ++ named memory' d ∷ []) (named-kept memory memory' (finished o a) same_done)
@@ -142,7 +165,8 @@ between_done o p work a0 least most sound =
     let frames_before = map (frame_of memory) (finished o a) in
     let frames_after : map (frame_of memory') (done_slots memory' ring o) ≡ frames_before ++ frame ∷ [] =
     ap (map (frame_of memory')) receiving.grown ∙ map-append (frame_of memory') (finished o a) (d ∷ [])
-    ∙ ap (λ (list : List (List ℕ)). list ++ frame_of memory' d ∷ []) (frames-kept memory memory' area (finished o a) keeps same_done apart_names)
+    ∙ ap (λ (list : List (List ℕ)). list ++ frame_of memory' d ∷ [])
+    (frames-kept memory memory' area (finished o a) keeps same_done apart_names)
     ∙ ap (λ (bytes : List ℕ). frames_before ++ bytes ∷ []) finishes.bytes in
     let left : offered_buffers b ≡ buffers =
     ap (λ (there : List Area). cond (receives a) there []) (buffers-kept memory memory' (buffer_of a 0).size (offered ring) same_offered) in
@@ -162,19 +186,27 @@ between_done o p work a0 least most sound =
       told = inr ((HasBit-union a.adapter.causes.recorded 0x80 7).1 (inr refl));
       fits = λ fit.
           let last : NamesFit memory' (buffer_size a) (d ∷ []) = All-cons (λ slot. (named memory' slot).size ≤ buffer_size a) d []
-          (subst (λ (there : Area). there.size ≤ buffer_size a) (sym named_done) (all-head (λ (there : Area). there.size ≤ buffer_size a) place [] fit.work_fits)) (all-none (λ slot. (named memory' slot).size ≤ buffer_size a)) in
-          let all = All-append (λ slot. (named memory' slot).size ≤ buffer_size a) (finished o a) (d ∷ []) (names_fit-kept memory memory' (buffer_size a) (finished o a) same_done fit.finished_fit) last in
+          (subst (λ (there : Area). there.size ≤ buffer_size a) (sym named_done)
+          (all-head (λ (there : Area). there.size ≤ buffer_size a) place [] fit.work_fits))
+          (all-none (λ slot. (named memory' slot).size ≤ buffer_size a)) in
+          let all = All-append (λ slot. (named memory' slot).size ≤ buffer_size a) (finished o a) (d ∷ [])
+          (names_fit-kept memory memory' (buffer_size a) (finished o a) same_done fit.finished_fit) last in
           record {
             finished_fit = subst (λ (list : List ℕ). NamesFit memory' (buffer_size a) list) (sym receiving.grown) all;
             work_fits = all-none (λ (there : Area). there.size ≤ buffer_size a);
           };
       whole = λ are.
-          let last : AreWhole memory' (d ∷ []) = All-cons (λ slot. IsWhole (receive.descriptor_at memory' slot)) d [] (is_whole-finished memory' d n frame count least most finishes) (all-none (λ slot. IsWhole (receive.descriptor_at memory' slot))) in
-          let all = All-append (λ slot. IsWhole (receive.descriptor_at memory' slot)) (finished o a) (d ∷ []) (whole-kept memory memory' (finished o a) same_done are) last in
+          let last : AreWhole memory' (d ∷ []) = All-cons (λ slot. IsWhole (receive.descriptor_at memory' slot)) d []
+          (is_whole-finished memory' d n frame count least most finishes)
+          (all-none (λ slot. IsWhole (receive.descriptor_at memory' slot))) in
+          let all = All-append (λ slot. IsWhole (receive.descriptor_at memory' slot)) (finished o a) (d ∷ [])
+          (whole-kept memory memory' (finished o a) same_done are) last in
           subst (λ (list : List ℕ). AreWhole memory' list) (sym receiving.grown) all;
-      untouched = λ other foreign. keeps.others other (apart-sym other area (all-head (AreApart other) area (halves ++ (bytes ++ buffers)) foreign));
+      untouched = λ other foreign. keeps.others other
+          (apart-sym other area (all-head (AreApart other) area (halves ++ (bytes ++ buffers)) foreign));
       foreign = λ other foreign.
-          subst (λ (there : List Area). All (AreApart other) (halves ++ (bytes ++ there))) (sym left) (all-tail (AreApart other) area (halves ++ (bytes ++ buffers)) foreign);
+          subst (λ (there : List Area). All (AreApart other) (halves ++ (bytes ++ there))) (sym left)
+          (all-tail (AreApart other) area (halves ++ (bytes ++ buffers)) foreign);
       runs = λ short can. record {
         receiver_runs = can.receiver_runs;
         transmitter_runs = can.transmitter_runs;
@@ -191,25 +223,29 @@ between_done o p work a0 least most sound =
             separate-same memory memory' (areas o a) (areas o b) size
             (same-lists r t _ _ _ _ _ place buffers transmitting.data_areas names_after left)
             sound.separate;
-        reports = subst (λ (queue : List Queued). All Reports (a.adapter.transmitter.buffer ++ queue)) (sym transmitting.fetches) sound.reports;
+        reports = subst (λ (queue : List Queued). All Reports (a.adapter.transmitter.buffer ++ queue))
+            (sym transmitting.fetches) sound.reports;
         pads = sound.pads;
       };
     }
   where
-    same-lists : (r t : Area) (d d' f f' b' : List Area) (w : Area) (b : List Area) → d' ≡ d → f' ≡ f ++ w ∷ [] → b' ≡ b → r ∷ t ∷ (d' ++ (f' ++ b')) ≡ r ∷ t ∷ (d ++ (f ++ (w ∷ b)))
+    same-lists : (r t : Area) (d d' f f' b' : List Area) (w : Area) (b : List Area) → d' ≡ d → f' ≡ f ++ w ∷ [] → b' ≡ b
+        → r ∷ t ∷ (d' ++ (f' ++ b')) ≡ r ∷ t ∷ (d ++ (f ++ (w ∷ b)))
     same-lists r t d d' f f' b' w b same_d same_f same_b = rw (same_d, same_f, same_b, append_assoc f (w ∷ []) b) refl
 
 -- In any state the size stays.
 length-back : (memory : List ℕ) (work : Work) → length (memory_after_done (Some work) memory) ≡ length memory
 length-back memory work = by-test (nat_le (work.descriptor + 16) (length memory)) refl
   where
-    by-test : (fits : Bool) → nat_le (work.descriptor + 16) (length memory) ≡ fits → length (cond fits (with_bytes memory (work.descriptor + 8) (finished_bytes work.length)) memory) ≡ length memory
+    by-test : (fits : Bool) → nat_le (work.descriptor + 16) (length memory) ≡ fits
+        → length (cond fits (with_bytes memory (work.descriptor + 8) (finished_bytes work.length)) memory) ≡ length memory
     by-test false is = refl
     by-test true is =
         let below : work.descriptor + 16 ≤ length memory = grind (arith, nat_tests, is) in
         length-with_bytes memory (finished_bytes work.length) (work.descriptor + 8) (omega (arith, below))
 
-done_work : (work : Option Work) (a : World) → IsAdapter (with_work work a).adapter → DoneAnswers (with_work work a).adapter Done → Happens (with_work work a) (world_after_step RxDone Done (with_work work a)) nothing
+done_work : (work : Option Work) (a : World) → IsAdapter (with_work work a).adapter → DoneAnswers (with_work work a).adapter Done
+    → Happens (with_work work a) (world_after_step RxDone Done (with_work work a)) nothing
 done_work None a running answers = absurd (answers refl)
 done_work (Some work) a running answers =
     let w = with_work (Some work) a in
@@ -221,18 +257,22 @@ done_work (Some work) a running answers =
             received = one_more w.adapter.received_packets;
             receiver = (with_work None a).adapter.receiver;
           })
-          nothing (length-back w.memory work) (added w.adapter.causes.recorded 0x80) (omega (arith, running.registers.counters.missed)) (λ off. (refl, refl)) (inl refl) (inl refl) (all-none IsLegal) refl refl;
+          nothing (length-back w.memory work) (added w.adapter.causes.recorded 0x80) (omega (arith, running.registers.counters.missed))
+          (λ off. (refl, refl)) (inl refl) (inl refl) (all-none IsLegal) refl refl;
       between = λ o p sound.
           let stand = work-stands o p work a sound in
           let there = between_done o p work a (running.receiver.least work refl) (running.receiver.most work refl) sound in
-          subst (λ (memory : List ℕ). Between o p w (record { memory = memory; adapter = done_adapter w }) nothing) (sym (memory_after_done-lies w.memory work stand.lies)) there;
+          subst (λ (memory : List ℕ). Between o p w (record { memory = memory; adapter = done_adapter w }) nothing)
+          (sym (memory_after_done-lies w.memory work stand.lies)) there;
     }
 
 -- Any answer of a done step.
-pub done_happens : (a : World) (answer : Stepped) → IsAdapter a.adapter → DoneAnswers a.adapter answer → Happens a (world_after_step RxDone answer a) nothing
+pub done_happens : (a : World) (answer : Stepped) → IsAdapter a.adapter → DoneAnswers a.adapter answer
+    → Happens a (world_after_step RxDone answer a) nothing
 done_happens a Done running answers = done_work a.adapter.receiver.work a running answers
 done_happens a Nothing running answers =
-    let still_so : memory_after_done a.adapter.receiver.work a.memory ≡ a.memory = ap (λ (work : Option Work). memory_after_done work a.memory) answers in
+    let still_so : memory_after_done a.adapter.receiver.work a.memory
+    ≡ a.memory = ap (λ (work : Option Work). memory_after_done work a.memory) answers in
     subst (λ (memory : List ℕ). Happens a (record { memory = memory; adapter = a.adapter }) nothing) (sym still_so) (happens_none a)
 done_happens a (Put frame) running answers = absurd answers
 done_happens a WireFull running answers = absurd answers

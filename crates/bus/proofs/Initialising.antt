@@ -1,5 +1,6 @@
 -- Accesses that keep the conditions of the law.
-use Rattle.std.proofs.Common.{◌≡◌, ◌≤◌, ◌<◌, ◌+◌, ◌%◌, ◌++◌, ◌∷◌, [], true, false, ℕ, Bool, List, Option, None, Some, zero, suc, if◌then◌else◌, map, refl, sym, ap, subst, ◌∙◌, append_assoc, arith}
+use Rattle.std.proofs.Common.{◌≡◌, ◌≤◌, ◌<◌, ◌+◌, ◌%◌, ◌++◌, ◌∷◌, [], true, false, ℕ, Bool, List, Option, None, Some, zero, suc}
+use Rattle.std.proofs.Common.{if◌then◌else◌, map, refl, sym, ap, subst, ◌∙◌, append_assoc, arith}
 use Rattle.std.specs.Fn.{iterate}
 use Rattle.std.specs.List.{All}
 use Rattle.std.proofs.lemmas.List.{append-nil}
@@ -20,7 +21,8 @@ use Rattle.adapter.specs.Table.{register_at, row_of}
 use Rattle.adapter.specs.Slots.{finished, offered, outstanding, written_back}
 use Rattle.adapter.specs.HostAreas.{buffer_size}
 use Rattle.adapter.specs.HostFrames.{frames_held, frames_to_send}
-use Rattle.bus.specs.Initialising.{CanOfferMany, ManySlotsCanBeOffered, OfferedMany, OtherWritesLeaveFrames, ReadsLeaveFrames, ReceiverCanBeSet, TransmitRingCanBeSet, TransmitterCanBeSet, with_receive_control, with_tail}
+use Rattle.bus.specs.Initialising.{CanOfferMany, ManySlotsCanBeOffered, OfferedMany, OtherWritesLeaveFrames, ReadsLeaveFrames}
+use Rattle.bus.specs.Initialising.{ReceiverCanBeSet, TransmitRingCanBeSet, TransmitterCanBeSet, with_receive_control, with_tail}
 use Rattle.adapter.specs.Conditions.{AreWhole, FitBuffers, Reports, Sound}
 use Rattle.bus.specs.Offering.{offering}
 use Rattle.bus.specs.OwnStores.{LeavesFrames, SameFrames}
@@ -49,7 +51,8 @@ receiver_can_be_set o p control world sound separate = record {
     written_same = refl;
     whole = λ are. are;
     fits = λ larger fit.
-        let within : (n : ℕ) → n ≤ buffer_size world → n ≤ buffer_size (with_receive_control control world) = λ n small. omega (arith, small, larger) in
+        let within : (n : ℕ) → n ≤ buffer_size world
+        → n ≤ buffer_size (with_receive_control control world) = λ n small. omega (arith, small, larger) in
         record {
           finished_fit = λ k d below. within _ (fit.finished_fit k d below);
           work_fits = λ k place below. within _ (fit.work_fits k place below);
@@ -94,7 +97,8 @@ transmitter_can_be_set o p control world sound pads = record {
   };
 }
 
-none-sent : (memory : List ℕ) (registers : RingRegisters) (buffer : List Queued) → buffer ≡ [] → registers.head ≡ registers.tail → to_send memory (ring_of registers) true buffer ≡ []
+none-sent : (memory : List ℕ) (registers : RingRegisters) (buffer : List Queued) → buffer ≡ [] → registers.head ≡ registers.tail
+    → to_send memory (ring_of registers) true buffer ≡ []
 unfolding to_send
 none-sent memory registers buffer none same =
     let ring = ring_of registers in
@@ -107,7 +111,8 @@ transmit_ring_can_be_set o p ring world sound none same separate =
     let memory = world.memory in
     let unsent = offered-none (ring_of ring) same in
     let queue : world.adapter.transmitter.buffer ++ map (fetched true memory) (offered (ring_of ring)) ≡ [] =
-    ap (λ (frames : List Queued). frames ++ map (fetched true memory) (offered (ring_of ring))) none ∙ ap (map (fetched true memory)) unsent in
+    ap (λ (frames : List Queued). frames ++ map (fetched true memory) (offered (ring_of ring))) none
+    ∙ ap (map (fetched true memory)) unsent in
     record {
       sound = record {
         receive_slots = sound.receive_slots;
@@ -150,7 +155,8 @@ of_parts memory receive transmit receiver transmitter receive_control transmit_c
 
 abbrev parts : World → World
 parts world =
-    of_parts world.memory world.adapter.receive_ring world.adapter.transmit_ring world.adapter.receiver world.adapter.transmitter world.adapter.filter.rctl
+    of_parts world.memory world.adapter.receive_ring world.adapter.transmit_ring world.adapter.receiver world.adapter.transmitter
+    world.adapter.filter.rctl
     world.adapter.transmit_control
 
 to_parts : (o p : ℕ) (world : World) → Sound o p world → Sound o p (parts world)
@@ -213,7 +219,8 @@ by-parts o p a b same sound = record {
   runs = λ can. running_from_parts b (subst CanRun (sym same) (running_to_parts a can));
 }
 
-read-leaves : (o p : ℕ) (register : Register) (world : World) → Sound o p world → LeavesFrames o p world (record world { adapter = read_of register world.adapter })
+read-leaves : (o p : ℕ) (register : Register) (world : World) → Sound o p world
+    → LeavesFrames o p world (record world { adapter = read_of register world.adapter })
 read-leaves o p Icr world sound = by-parts o p world _ refl sound
 read-leaves o p Mpc world sound = by-parts o p world _ refl sound
 read-leaves o p Gprc world sound = by-parts o p world _ refl sound
@@ -231,7 +238,12 @@ reads_leave_frames o p offset world sound = by_case (register_at offset)
 pub other_writes_leave_frames : OtherWritesLeaveFrames
 other_writes_leave_frames o p register value world sound other none = by_test (is_reset register value) none
   where
-    by_test : (test : Bool) → test ≡ false → LeavesFrames o p world (record world { adapter = if test then after_reset world.adapter else by_row (row_of register).kept register value world.adapter })
+    by_test : (test : Bool) → test ≡ false
+        → LeavesFrames o p world
+        (record world {
+          adapter = if test then after_reset world.adapter else by_row
+              (row_of register).kept register value world.adapter;
+        })
     by_test true same = absurd (cc)
     by_test false same =
         let leaves = row-leaves register value world.adapter in
@@ -254,7 +266,8 @@ same_trans o p a b d size one two = record {
 
 -- one by one
 offered_each : (o p k : ℕ) (world : World) → Sound o p world → CanOfferMany o k world → OfferedMany o p k world (iterate offering k world)
-offered_each o p zero world sound can = record { same = (by-parts o p world world refl sound).same; runs = λ can. can; last = sym (append-nil (outstanding (receive_ring world) o)) }
+offered_each o p zero world sound can = record
+    { same = (by-parts o p world world refl sound).same; runs = λ can. can; last = sym (append-nil (outstanding (receive_ring world) o)) }
 offered_each o p (suc k) world sound can =
     let one = slots_can_be_offered o p world sound can.0 in
     let rest = offered_each o p k (offering world) one.same.sound can.1 in
@@ -263,10 +276,12 @@ offered_each o p (suc k) world sound can =
     record {
       same = same_trans o p world (offering world) (iterate offering k (offering world)) refl one.same rest.same;
       runs = λ can. rest.runs (one.runs can);
-      last = rest.last ∙ ap (λ (slots : List ℕ). slots ++ later) one.last ∙ append_assoc (outstanding ring o) (address_of ring ring.tail ∷ []) later;
+      last = rest.last ∙ ap (λ (slots : List ℕ). slots ++ later) one.last
+          ∙ append_assoc (outstanding ring o) (address_of ring ring.tail ∷ []) later;
     }
 
-moved_tail : (k : ℕ) (world : World) → world.adapter.receive_ring.tail < count_of (receive_ring world) → iterate offering k world ≡ with_tail ((world.adapter.receive_ring.tail + k) % count_of (receive_ring world)) world
+moved_tail : (k : ℕ) (world : World) → world.adapter.receive_ring.tail < count_of (receive_ring world)
+    → iterate offering k world ≡ with_tail ((world.adapter.receive_ring.tail + k) % count_of (receive_ring world)) world
 moved_tail zero world within =
     let n = count_of (receive_ring world) in
     let tail = world.adapter.receive_ring.tail in

@@ -14,7 +14,8 @@ use Rattle.adapter.specs.World.{receive_ring, transmit_ring, World}
 use Rattle.bus.specs.KnownRings.{KnownRingStays, ReceiveTailMoves, TransmitTailMoves}
 
 -- A head that stays, or is a slot, is a slot where it was one.
-head-slot : (a b : RingRegisters) → b ≡ record a { head = b.head } → (b.head ≡ a.head) ⊎ IsSound (ring_of b) → a.head < count_of (ring_of a) → b.head < count_of (ring_of a)
+head-slot : (a b : RingRegisters) → b ≡ record a { head = b.head } → (b.head ≡ a.head) ⊎ IsSound (ring_of b) → a.head < count_of (ring_of a)
+    → b.head < count_of (ring_of a)
 head-slot a b same moved below =
     let count : count_of (ring_of b) ≡ count_of (ring_of a) = ap (λ (registers : RingRegisters). count_of (ring_of registers)) same in
     ⊎_elim
@@ -23,12 +24,14 @@ head-slot a b same moved below =
     moved
 
 -- What the driver knows of its ring it knows still where the head alone has moved.
-pub knows-carried : (a b : RingRegisters) (base count tail : ℕ) → b ≡ record a { head = b.head } → (b.head ≡ a.head) ⊎ IsSound (ring_of b) → KnowsRing (ring_of a) base count tail → KnowsRing (ring_of b) base count tail
+pub knows-carried : (a b : RingRegisters) (base count tail : ℕ) → b ≡ record a { head = b.head } → (b.head ≡ a.head) ⊎ IsSound (ring_of b)
+    → KnowsRing (ring_of a) base count tail → KnowsRing (ring_of b) base count tail
 knows-carried a b base count tail same moved knows = record {
   begins = ap (λ (registers : RingRegisters). (ring_of registers).base) same ∙ knows.begins;
   slots = ap (λ (registers : RingRegisters). count_of (ring_of registers)) same ∙ knows.slots;
   last = ap (λ (registers : RingRegisters). registers.tail) same ∙ knows.last;
-  head_slot = subst (λ (n : ℕ). b.head < n) knows.slots (head-slot a b same moved (subst (λ (n : ℕ). a.head < n) (sym knows.slots) knows.head_slot));
+  head_slot = subst (λ (n : ℕ). b.head < n) knows.slots
+      (head-slot a b same moved (subst (λ (n : ℕ). a.head < n) (sym knows.slots) knows.head_slot));
 }
 
 pub known_receive_ring_stays : KnownRingStays receive_ring
@@ -47,11 +50,16 @@ index-kept value below = and_mask value 16 ∙ omega (arith, below)
 -- RDT
 pub receive_tail-written : ReceiveTailMoves
 receive_tail-written value w below =
-    ap (λ (register : Option Register). let after : World = record w { adapter = left_by_write register value w.adapter } in after) (register_at-there (Receive Tail) tt)
-    ∙ ap (λ (number : ℕ). let after : World = record w { adapter = record w.adapter { receive_ring = record w.adapter.receive_ring { tail = number } } } in after) (index-kept value below)
+    ap (λ (register : Option Register). let after : World = record w { adapter = left_by_write register value w.adapter } in after)
+    (register_at-there (Receive Tail) tt)
+    ∙ ap (λ (number : ℕ). let after : World = record w
+    { adapter = record w.adapter { receive_ring = record w.adapter.receive_ring { tail = number } } } in after) (index-kept value below)
 
 -- TDT
 pub transmit_tail-written : TransmitTailMoves
 transmit_tail-written value w below =
-    ap (λ (register : Option Register). let after : World = record w { adapter = left_by_write register value w.adapter } in after) (register_at-there (Transmit Tail) tt)
-    ∙ ap (λ (number : ℕ). let after : World = record w { adapter = record w.adapter { transmit_ring = record w.adapter.transmit_ring { tail = number } } } in after) (index-kept value below)
+    ap (λ (register : Option Register). let after : World = record w { adapter = left_by_write register value w.adapter } in after)
+    (register_at-there (Transmit Tail) tt)
+    ∙ ap (λ (number : ℕ). let after : World = record w
+    { adapter = record w.adapter { transmit_ring = record w.adapter.transmit_ring { tail = number } } } in after)
+    (index-kept value below)

@@ -42,7 +42,8 @@ tick-keeps line is = by_case (has_work line.mdic line.phy)
     ended : IsUp (ticked line)
     ended = record {
       up =
-          subst (λ (pending : Option Operation). link_is_up (phy_ended pending line.mdic.value (after_tick line.phy)) ≡ true) (sym is.no_command)
+          subst (λ (pending : Option Operation). link_is_up (phy_ended pending line.mdic.value (after_tick line.phy)) ≡ true)
+          (sym is.no_command)
           (complete-stays line.phy.negotiation is.up);
       no_command = refl;
     }
@@ -86,12 +87,14 @@ reads-leave_line offset adapter = by_case (register_at offset)
     by_case None = refl
     by_case (Some register) = read-leaves_line register adapter
 
-write-leaves_line : (register : Register) (value : ℕ) (adapter : AdapterState) → IsNotOfPhy (Some register) → management_of (write_of register value adapter) ≡ management_of adapter
+write-leaves_line : (register : Register) (value : ℕ) (adapter : AdapterState) → IsNotOfPhy (Some register)
+    → management_of (write_of register value adapter) ≡ management_of adapter
 write-leaves_line Ctrl value adapter other = absurd other
 write-leaves_line Mdic value adapter other = absurd other
 write-leaves_line _ value adapter other = refl
 
-writes-leave_line : (write : Write) (adapter : AdapterState) → LeavesPhy write → management_of (after_write write.offset write.value adapter) ≡ management_of adapter
+writes-leave_line : (write : Write) (adapter : AdapterState) → LeavesPhy write
+    → management_of (after_write write.offset write.value adapter) ≡ management_of adapter
 writes-leave_line write adapter leaves = by_case (register_at write.offset) leaves
   where
     by_case : (found : Option Register) → IsNotOfPhy found → management_of (left_by_write found write.value adapter) ≡ management_of adapter

@@ -30,14 +30,16 @@ all-right P (x ∷ xs) ys all = all-right P xs ys (all-tail P x (xs ++ ys) all)
 pub all-without : {X : Type 0} (P : X → Type 0) (xs : List X) (y : X) (ys : List X) → All P (xs ++ y ∷ ys) → All P (xs ++ ys)
 all-without P xs y ys all = All-append P xs ys (all-left P xs (y ∷ ys) all) (all-tail P y ys (all-right P xs (y ∷ ys) all))
 
-pub all-replaced : {X : Type 0} (P : X → Type 0) (xs : List X) (y z : X) (ys : List X) → (P y → P z) → All P (xs ++ y ∷ ys) → All P (xs ++ z ∷ ys)
+pub all-replaced : {X : Type 0} (P : X → Type 0) (xs : List X) (y z : X) (ys : List X) → (P y → P z) → All P (xs ++ y ∷ ys)
+    → All P (xs ++ z ∷ ys)
 all-replaced P xs y z ys so all =
     let behind : All P (y ∷ ys) = all-right P xs (y ∷ ys) all in
     All-append P xs (z ∷ ys) (all-left P xs (y ∷ ys) all) (All-cons P z ys (so (all-head P y ys behind)) (all-tail P y ys behind))
 
 pub all-unmapped : {X Y : Type 0} (P : Y → Type 0) (f : X → Y) (xs : List X) → All P (map f xs) → All (λ x. P (f x)) xs
 all-unmapped P f [] all = all-none (λ x. P (f x))
-all-unmapped P f (x ∷ xs) all = All-cons (λ y. P (f y)) x xs (all-head P (f x) (map f xs) all) (all-unmapped P f xs (all-tail P (f x) (map f xs) all))
+all-unmapped P f (x ∷ xs) all = All-cons (λ y. P (f y)) x xs (all-head P (f x) (map f xs) all)
+    (all-unmapped P f xs (all-tail P (f x) (map f xs) all))
 
 -- Functions that agree on each element map alike.
 pub map-same : {X Y : Type 0} (f g : X → Y) (xs : List X) → All (λ x. f x ≡ g x) xs → map f xs ≡ map g xs
@@ -84,14 +86,16 @@ pairs-right R (x ∷ xs) ys pairs = pairs-right R xs ys (pairs-tail R x (xs ++ y
 pub pairs-behind : {X : Type 0} (R : X → X → Type 0) (xs : List X) (y : X) (ys : List X) → AllPairs R (xs ++ y ∷ ys) → All (R y) ys
 pairs-behind R xs y ys pairs = pairs-head R y ys (pairs-right R xs (y ∷ ys) pairs)
 
-pub pairs-without : {X : Type 0} (R : X → X → Type 0) (xs : List X) (y : X) (ys : List X) → AllPairs R (xs ++ y ∷ ys) → AllPairs R (xs ++ ys)
+pub pairs-without : {X : Type 0} (R : X → X → Type 0) (xs : List X) (y : X) (ys : List X) → AllPairs R (xs ++ y ∷ ys)
+    → AllPairs R (xs ++ ys)
 pairs-without R [] y ys pairs = pairs-tail R y ys pairs
 pairs-without R (x ∷ xs) y ys pairs =
     AllPairs-cons R x (xs ++ ys)
     (all-without (R x) xs y ys (pairs-head R x (xs ++ y ∷ ys) pairs))
     (pairs-without R xs y ys (pairs-tail R x (xs ++ y ∷ ys) pairs))
 
-pub pairs-replaced : {X : Type 0} (R : X → X → Type 0) (xs : List X) (y z : X) (ys : List X) → ((x : X) → R x y → R x z) → ((x : X) → R y x → R z x) → AllPairs R (xs ++ y ∷ ys) → AllPairs R (xs ++ z ∷ ys)
+pub pairs-replaced : {X : Type 0} (R : X → X → Type 0) (xs : List X) (y z : X) (ys : List X) → ((x : X) → R x y → R x z)
+    → ((x : X) → R y x → R z x) → AllPairs R (xs ++ y ∷ ys) → AllPairs R (xs ++ z ∷ ys)
 pairs-replaced R [] y z ys before behind pairs =
     AllPairs-cons R z ys (all-weaker (R y) (R z) ys behind (pairs-head R y ys pairs)) (pairs-tail R y ys pairs)
 pairs-replaced R (x ∷ xs) y z ys before behind pairs =
@@ -99,7 +103,8 @@ pairs-replaced R (x ∷ xs) y z ys before behind pairs =
     (all-replaced (R x) xs y z ys (before x) (pairs-head R x (xs ++ y ∷ ys) pairs))
     (pairs-replaced R xs y z ys before behind (pairs-tail R x (xs ++ y ∷ ys) pairs))
 
-pub pairs-mapped : {X Y : Type 0} (R : Y → Y → Type 0) (f : X → Y) (xs : List X) → AllPairs (λ x y. R (f x) (f y)) xs → AllPairs R (map f xs)
+pub pairs-mapped : {X Y : Type 0} (R : Y → Y → Type 0) (f : X → Y) (xs : List X) → AllPairs (λ x y. R (f x) (f y)) xs
+    → AllPairs R (map f xs)
 pairs-mapped R f [] pairs = pairs-none R
 pairs-mapped R f (x ∷ xs) pairs =
     AllPairs-cons R (f x) (map f xs)
@@ -121,7 +126,8 @@ take_while-passes {X} p (x ∷ xs) =
     by-test false is rest = all-none (λ y. p y ≡ true)
 
 -- Elements that pass, before those that don't.
-pub take_while-split : {X : Type 0} (p : X → Bool) (xs ys : List X) → All (λ x. p x ≡ true) xs → All (λ y. p y ≡ false) ys → take_while p (xs ++ ys) ≡ xs
+pub take_while-split : {X : Type 0} (p : X → Bool) (xs ys : List X) → All (λ x. p x ≡ true) xs → All (λ y. p y ≡ false) ys
+    → take_while p (xs ++ ys) ≡ xs
 take_while-split p [] [] pass fail = refl
 take_while-split p [] (y ∷ ys) pass fail =
     let no : p y ≡ false = all-head (λ z. p z ≡ false) y ys fail in

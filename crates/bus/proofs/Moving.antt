@@ -1,5 +1,6 @@
 -- A frame is moved from the receive packet buffer to memory.
-use Rattle.std.proofs.Common.{inr, ◌≡◌, ◌≤◌, inl, ◌++◌, ◌∷◌, [], Bool, true, cond, ℕ, List, Option, None, length, map, refl, sym, ap, subst, ◌∙◌, append_assoc, arith}
+use Rattle.std.proofs.Common.{inr, ◌≡◌, ◌≤◌, inl, ◌++◌, ◌∷◌, [], Bool, true, cond, ℕ, List, Option, None, length, map, refl, sym, ap, subst}
+use Rattle.std.proofs.Common.{◌∙◌, append_assoc, arith}
 use Rattle.std.specs.List.{All}
 use Rattle.std.proofs.lemmas.Bool.{eq-eqb}
 use Rattle.std.proofs.lemmas.List.{append-nil}
@@ -36,7 +37,8 @@ use Rattle.adapter.specs.World.{receive_ring, transmit_ring, World}
 use Rattle.bus.proofs.Areas.{separate-same, separate-shorter}
 use Rattle.bus.proofs.Composing.{happens_none}
 use Rattle.bus.proofs.Engines.{added, steady_moves, still}
-use Rattle.bus.proofs.Kept.{IsSame, buffers-kept, frame_of, frames-kept, is_done-same, named-kept, names_fit-kept, NamesFit, same-outstanding, transmit_kept, whole-kept}
+use Rattle.bus.proofs.Kept.{IsSame, buffers-kept, frame_of, frames-kept, is_done-same, named-kept, names_fit-kept, NamesFit}
+use Rattle.bus.proofs.Kept.{same-outstanding, transmit_kept, whole-kept}
 use Rattle.bus.proofs.Lists.{all-head, all-left, all-right, all-tail, all-weaker, all-without, pairs-before}
 use Rattle.bus.proofs.Putting.{areas-same}
 use Rattle.bus.proofs.Quiet.{between_stopped}
@@ -51,7 +53,8 @@ use Rattle.descriptors.specs.Ring.{count_of}
 abbrev pub with_work : Option Work → World → World
 with_work work world = record world { adapter = record world.adapter { receiver = record world.adapter.receiver { work = work } } }
 
-pub between_moved : (o p : ℕ) (a0 : World) → HasFrameAndDescriptor (with_work None a0).adapter → CanMoveFrame a0.memory a0.adapter → Sound o p (with_work None a0) → Between o p (with_work None a0) (world_after_step RxData Moved a0) nothing
+pub between_moved : (o p : ℕ) (a0 : World) → HasFrameAndDescriptor (with_work None a0).adapter → CanMoveFrame a0.memory a0.adapter
+    → Sound o p (with_work None a0) → Between o p (with_work None a0) (world_after_step RxData Moved a0) nothing
 between_moved o p a0 has can sound =
     let a = with_work None a0 in
     let b = world_after_step RxData Moved a0 in
@@ -80,36 +83,52 @@ between_moved o p a0 has can sound =
     let buffers : offered_buffers a ≡ whole_buffer ∷ others =
     ap (λ (on : Bool). cond on (map (buffer_of a) (offered ring)) []) enabled ∙ ap (map (buffer_of a)) first in
     let front = r ∷ t ∷ (payload ++ names) in
-    let joined_front : (behind : List Area) → r ∷ t ∷ (payload ++ (names ++ behind)) ≡ front ++ behind = λ behind. ap (λ (list : List Area). r ∷ t ∷ list) (sym (append_assoc payload names behind)) in
+    let joined_front : (behind : List Area)
+    → r ∷ t ∷ (payload ++ (names ++ behind)) ≡ front
+    ++ behind = λ behind. ap (λ (list : List Area). r ∷ t ∷ list) (sym (append_assoc payload names behind)) in
     let separate : AreSeparate memory (front ++ whole_buffer ∷ others) =
     subst (λ (list : List Area). AreSeparate memory list) (joined_front (whole_buffer ∷ others))
     (subst (λ (there : List Area). AreSeparate memory (r ∷ t ∷ (payload ++ (names ++ there)))) buffers sound.separate) in
     let before = pairs-before AreApart front whole_buffer others separate.apart in
-    let apart_front : All (AreApart area) front = all-weaker (λ other. AreApart other whole_buffer) (AreApart area) front (λ other apart. apart-inside area whole_buffer other part (apart-sym other whole_buffer apart)) before in
+    let apart_front : All (AreApart area) front = all-weaker (λ other. AreApart other whole_buffer) (AreApart area) front
+    (λ other apart. apart-inside area whole_buffer other part (apart-sym other whole_buffer apart)) before in
     let apart_r = all-head (AreApart area) r (t ∷ (payload ++ names)) apart_front in
     let apart_behind = all-tail (AreApart area) r (t ∷ (payload ++ names)) apart_front in
     let apart_t = all-head (AreApart area) t (payload ++ names) apart_behind in
     let apart_rest = all-tail (AreApart area) t (payload ++ names) apart_behind in
-    let transmitting = transmit_kept a memory' p area keeps sound.transmit_slots apart_t (all-left (AreApart area) payload names apart_rest) in
+    let transmitting = transmit_kept a memory' p area keeps sound.transmit_slots apart_t
+    (all-left (AreApart area) payload names apart_rest) in
     let slots = sound.receive_slots in
     let same = same-outstanding memory memory' area ring o [] keeps apart_r slots in
-    let done_as : All (λ d. is_done memory' d ≡ is_done memory d) (outstanding ring o) = λ k d below. is_done-same memory memory' _ (same k d below) in
+    let done_as : All (λ d. is_done memory' d ≡ is_done memory d) (outstanding ring o) = λ k d below. is_done-same memory memory' _
+    (same k d below) in
     let same_done = dealt-left memory ring o [] (IsSame memory memory') slots same in
-    let same_offered : All (IsSame memory memory') (head ∷ rest) = subst (λ (list : List ℕ). All (IsSame memory memory') list) first (dealt-right memory ring o [] (IsSame memory memory') slots same) in
+    let same_offered : All (IsSame memory memory') (head ∷ rest) = subst (λ (list : List ℕ). All (IsSame memory memory') list) first
+    (dealt-right memory ring o [] (IsSame memory memory') slots same) in
     let done : done_slots memory' ring o ≡ finished o a = done-same memory memory' ring o done_as in
-    let dealt : IsDealt memory' next o (head ∷ []) = dealt-moved memory' ring o [] can.indices has.offered (dealt-same memory memory' ring o [] done_as slots) in
+    let dealt : IsDealt memory' next o (head ∷ []) = dealt-moved memory' ring o [] can.indices has.offered
+    (dealt-same memory memory' ring o [] done_as slots) in
     let inside : All (λ d. IsInside (descriptor_area d) r) (head ∷ rest) =
-    subst (λ (list : List ℕ). All (λ d. IsInside (descriptor_area d) r) list) first (dealt-right memory ring o [] (λ d. IsInside (descriptor_area d) r) slots (outstanding-inside ring o slots.slot)) in
-    let apart_head : AreApart area (descriptor_area head) = inside-apart area (descriptor_area head) r (all-head (λ d. IsInside (descriptor_area d) r) head rest inside) apart_r in
+    subst (λ (list : List ℕ). All (λ d. IsInside (descriptor_area d) r) list) first
+    (dealt-right memory ring o [] (λ d. IsInside (descriptor_area d) r) slots (outstanding-inside ring o slots.slot)) in
+    let apart_head : AreApart area (descriptor_area head) = inside-apart area (descriptor_area head) r
+    (all-head (λ d. IsInside (descriptor_area d) r) head rest inside) apart_r in
     let holding : held memory' b.adapter.receiver ≡ held memory a.adapter.receiver =
-    held-after_data a.adapter.filter.rctl ring a.adapter.receiver memory (answers.Moved (is_half_free (ring_of (moved_on a.adapter.receive_ring)))) (λ _. record { has = has; can = can; apart = apart_head }) in
+    held-after_data a.adapter.filter.rctl ring a.adapter.receiver memory
+    (answers.Moved (is_half_free (ring_of (moved_on a.adapter.receive_ring))))
+    (λ _. record { has = has; can = can; apart = apart_head }) in
     let frames : map (frame_of memory') (done_slots memory' ring o) ≡ map (frame_of memory) (finished o a) =
-    ap (map (frame_of memory')) done ∙ frames-kept memory memory' area (finished o a) keeps same_done (all-right (AreApart area) payload names apart_rest) in
-    let named_same : map (named memory') (done_slots memory' ring o) ≡ names = ap (map (named memory')) done ∙ named-kept memory memory' (finished o a) same_done in
-    let place : receive.named_address memory' head ≡ at = ap (λ (bytes : List ℕ). (rx_desc_of bytes).address) (all-head (IsSame memory memory') head rest same_offered) in
-    let working : work_areas memory' b.adapter.receiver.work ≡ area ∷ [] = ap (λ (address : ℕ). let there : Area = record { address = address; size = n } in there ∷ []) place in
+    ap (map (frame_of memory')) done
+    ∙ frames-kept memory memory' area (finished o a) keeps same_done (all-right (AreApart area) payload names apart_rest) in
+    let named_same : map (named memory') (done_slots memory' ring o) ≡ names = ap (map (named memory')) done
+    ∙ named-kept memory memory' (finished o a) same_done in
+    let place : receive.named_address memory' head
+    ≡ at = ap (λ (bytes : List ℕ). (rx_desc_of bytes).address) (all-head (IsSame memory memory') head rest same_offered) in
+    let working : work_areas memory' b.adapter.receiver.work
+    ≡ area ∷ [] = ap (λ (address : ℕ). let there : Area = record { address = address; size = n } in there ∷ []) place in
     let left : offered_buffers b ≡ others =
-    ap (λ (on : Bool). cond on (map (buffer_of b) rest) []) enabled ∙ buffers-kept memory memory' bsize rest (all-tail (IsSame memory memory') head rest same_offered) in
+    ap (λ (on : Bool). cond on (map (buffer_of b) rest) []) enabled
+    ∙ buffers-kept memory memory' bsize rest (all-tail (IsSame memory memory') head rest same_offered) in
     let bytes = map status_byte (buffered a ++ offered (transmit_ring a)) in
     record {
       sends = transmitting.sends;
@@ -124,18 +143,26 @@ between_moved o p a0 has can sound =
       done = done ∙ sym (append-nil (finished o a));
       told = inl refl;
       fits = λ fit. record {
-        finished_fit = subst (λ (list : List ℕ). NamesFit memory' bsize list) (sym done) (names_fit-kept memory memory' bsize (finished o a) same_done fit.finished_fit);
-        work_fits = subst (λ (places : List Area). All (λ there. there.size ≤ bsize) places) (sym working) (All-cons (λ (there : Area). there.size ≤ bsize) area [] can.size (all-none (λ (there : Area). there.size ≤ bsize)));
+        finished_fit = subst (λ (list : List ℕ). NamesFit memory' bsize list) (sym done)
+            (names_fit-kept memory memory' bsize (finished o a) same_done fit.finished_fit);
+        work_fits = subst (λ (places : List Area). All (λ there. there.size ≤ bsize) places) (sym working)
+            (All-cons (λ (there : Area). there.size ≤ bsize) area [] can.size (all-none (λ (there : Area). there.size ≤ bsize)));
       };
       whole = λ are. subst (λ (list : List ℕ). AreWhole memory' list) (sym done) (whole-kept memory memory' (finished o a) same_done are);
       untouched = λ other foreign.
-          let there = subst (λ (list : List Area). All (AreApart other) (map reported_half (offered ring) ++ (bytes ++ list))) buffers foreign in
-          let last = all-right (AreApart other) bytes (whole_buffer ∷ others) (all-right (AreApart other) (map reported_half (offered ring)) (bytes ++ whole_buffer ∷ others) there) in
-          keeps.others other (apart-inside area whole_buffer other part (apart-sym other whole_buffer (all-head (AreApart other) whole_buffer others last)));
+          let there = subst (λ (list : List Area). All (AreApart other) (map reported_half (offered ring) ++ (bytes ++ list))) buffers
+          foreign in
+          let last = all-right (AreApart other) bytes (whole_buffer ∷ others)
+          (all-right (AreApart other) (map reported_half (offered ring)) (bytes ++ whole_buffer ∷ others) there) in
+          keeps.others other (apart-inside area whole_buffer other part
+          (apart-sym other whole_buffer (all-head (AreApart other) whole_buffer others last)));
       foreign = λ other foreign.
-          let there = subst (λ (list : List Area). All (AreApart other) (map reported_half (offered ring) ++ (bytes ++ list))) buffers foreign in
-          let halves = subst (λ (list : List ℕ). All (AreApart other) (map reported_half list)) first (all-left (AreApart other) (map reported_half (offered ring)) (bytes ++ whole_buffer ∷ others) there) in
-          let behind = all-without (AreApart other) bytes whole_buffer others (all-right (AreApart other) (map reported_half (offered ring)) (bytes ++ whole_buffer ∷ others) there) in
+          let there = subst (λ (list : List Area). All (AreApart other) (map reported_half (offered ring) ++ (bytes ++ list))) buffers
+          foreign in
+          let halves = subst (λ (list : List ℕ). All (AreApart other) (map reported_half list)) first
+          (all-left (AreApart other) (map reported_half (offered ring)) (bytes ++ whole_buffer ∷ others) there) in
+          let behind = all-without (AreApart other) bytes whole_buffer others
+          (all-right (AreApart other) (map reported_half (offered ring)) (bytes ++ whole_buffer ∷ others) there) in
           let all = All-append (AreApart other) (map reported_half (head ∷ rest)) (bytes ++ others) halves behind in
           subst (λ (list : List Area). All (AreApart other) (map reported_half (head ∷ rest) ++ (bytes ++ list))) (sym left) all;
       runs = λ short run. record {
@@ -154,13 +181,15 @@ between_moved o p a0 has can sound =
             separate-same memory memory' (front ++ area ∷ others) (areas o b) size
             (areas-same r t _ _ _ _ _ _ _ _ transmitting.data_areas named_same working left ∙ joined_front (area ∷ others))
             (separate-shorter memory front at bsize n others can.size separate);
-        reports = subst (λ (queue : List Queued). All Reports (a.adapter.transmitter.buffer ++ queue)) (sym transmitting.fetches) sound.reports;
+        reports = subst (λ (queue : List Queued). All Reports (a.adapter.transmitter.buffer ++ queue))
+            (sym transmitting.fetches) sound.reports;
         pads = sound.pads;
       };
     }
 
 -- Any answer of a data step.
-pub data_happens : (a : World) (answer : Stepped) → IsAdapter a.adapter → DataAnswers a.memory a.adapter answer → Happens a (world_after_step RxData answer a) nothing
+pub data_happens : (a : World) (answer : Stepped) → IsAdapter a.adapter → DataAnswers a.memory a.adapter answer
+    → Happens a (world_after_step RxData answer a) nothing
 data_happens a Moved running answers = record {
   steady =
       steady_moves a (world_after_step RxData Moved a).memory
@@ -170,18 +199,27 @@ data_happens a Moved running answers = record {
         receiver = (world_after_step RxData Moved a).adapter.receiver;
       })
       nothing (length-with_bytes a.memory (oldest a.adapter.receiver.buffer) _ answers.1.place)
-      (added a.adapter.causes.recorded (causes_of_moving a.adapter.receive_ring)) (omega (arith, running.registers.counters.missed)) (λ off. (refl, refl)) (inr (record { head = next-below (count_of (receive_ring a)) a.adapter.receive_ring.head answers.1.indices.head; tail = answers.1.indices.tail })) (inl refl) (all-none IsLegal) refl refl;
+      (added a.adapter.causes.recorded (causes_of_moving a.adapter.receive_ring)) (omega (arith, running.registers.counters.missed))
+      (λ off. (refl, refl))
+      (inr (record {
+        head = next-below (count_of (receive_ring a)) a.adapter.receive_ring.head answers.1.indices.head;
+        tail =
+            answers.1.indices.tail;
+      })) (inl refl) (all-none IsLegal) refl refl;
   between = λ o p sound.
       let free = answers.0.ready.free in
       let has = subst (λ (work : Option Work). HasFrameAndDescriptor (with_work work a).adapter) free answers.0 in
       let before = subst (λ (work : Option Work). Sound o p (with_work work a)) free sound in
-      subst (λ (work : Option Work). Between o p (with_work work a) (world_after_step RxData Moved a) nothing) (sym free) (between_moved o p a has answers.1 before);
+      subst (λ (work : Option Work). Between o p (with_work work a) (world_after_step RxData Moved a) nothing) (sym free)
+      (between_moved o p a has answers.1 before);
 }
 data_happens a Fault running answers = record {
   steady =
       steady_moves a a.memory (record (still a.adapter) { receiver = (world_after_step RxData Fault a).adapter.receiver })
-      nothing refl (λ place set. set) (omega (arith, running.registers.counters.missed)) (λ off. (refl, refl)) (inl refl) (inl refl) (all-none IsLegal) refl refl;
-  between = λ o p sound. between_stopped o p a true a.adapter.transmitter.stopped (λ can. answers.1 (can_move o p a sound can answers.0)) sound;
+      nothing refl (λ place set. set) (omega (arith, running.registers.counters.missed)) (λ off. (refl, refl)) (inl refl) (inl refl)
+      (all-none IsLegal) refl refl;
+  between = λ o p sound. between_stopped o p a true a.adapter.transmitter.stopped
+      (λ can. answers.1 (can_move o p a sound can answers.0)) sound;
 }
 data_happens a Nothing running answers = happens_none a
 data_happens a (Put frame) running answers = absurd answers

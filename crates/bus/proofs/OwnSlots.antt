@@ -64,7 +64,8 @@ slots_from_tail_are_own ring oldest slot first below behind =
     let others = slots-other n oldest k slot first below behind in
     record {
       below = below;
-      apart = All-map (λ other. other ≢ address_of ring slot) (address_of ring) (slots_from n oldest k) (λ i d inside. other-address ring.base slot _ (others i d inside));
+      apart = All-map (λ other. other ≢ address_of ring slot) (address_of ring) (slots_from n oldest k)
+          (λ i d inside. other-address ring.base slot _ (others i d inside));
     }
 
 pub tail_slots_are_own : TailSlotsAreOwn

@@ -21,14 +21,19 @@ use Rattle.bus.proofs.Running.{transmittable-kept}
 use Rattle.bus.proofs.Rings.{dealt-right}
 
 -- The offered buffers are the same.
-buffers-stay : (o p : ℕ) (a : World) (address : ℕ) (bytes : List ℕ) → Sound o p a → LiesIn a.memory address (length bytes) → IsOwn o p a (record { address = address; size = length bytes }) → offered_buffers (world_after_store address bytes a) ≡ offered_buffers a
+buffers-stay : (o p : ℕ) (a : World) (address : ℕ) (bytes : List ℕ) → Sound o p a → LiesIn a.memory address (length bytes)
+    → IsOwn o p a (record { address = address; size = length bytes })
+    → offered_buffers (world_after_store address bytes a) ≡ offered_buffers a
 buffers-stay o p a address bytes sound lies own =
     let memory = a.memory in
     let memory' = with_bytes memory address bytes in
     let ring = receive_ring a in
-    let keeps : ChangesOnly memory memory' (record { address = address; size = length bytes }) = changes_only_stored memory bytes address lies in
-    let received : All (IsSame memory memory') (outstanding ring o) = same-apart memory memory' (record { address = address; size = length bytes }) (outstanding ring o) keeps own.received in
-    let same : All (IsSame memory memory') (offered ring) = all-right (IsSame memory memory') (in_work a) (offered ring) (dealt-right memory ring o (in_work a) (IsSame memory memory') sound.receive_slots received) in
+    let keeps : ChangesOnly memory memory' (record { address = address; size = length bytes }) = changes_only_stored memory bytes address
+    lies in
+    let received : All (IsSame memory memory') (outstanding ring o) = same-apart memory memory'
+    (record { address = address; size = length bytes }) (outstanding ring o) keeps own.received in
+    let same : All (IsSame memory memory') (offered ring) = all-right (IsSame memory memory') (in_work a) (offered ring)
+    (dealt-right memory ring o (in_work a) (IsSame memory memory') sound.receive_slots received) in
     ap (λ (there : List Area). cond (receives a) there []) (buffers-kept memory memory' (buffer_of a 0).size (offered ring) same)
 
 pub own_stores_leave_frames : OwnStoresLeaveFrames
@@ -44,11 +49,15 @@ own_stores_leave_frames o p a address bytes sound lies own =
     let work = work_areas memory a.adapter.receiver.work in
     let held_apart = all-right (AreApart area) payload (names ++ (work ++ offered_buffers a)) own.frames in
     let names_apart = all-left (AreApart area) names (work ++ offered_buffers a) held_apart in
-    let work_apart = all-left (AreApart area) work (offered_buffers a) (all-right (AreApart area) names (work ++ offered_buffers a) held_apart) in
-    let received : All (IsSame memory memory') (outstanding (receive_ring a) o) = same-apart memory memory' area (outstanding (receive_ring a) o) keeps own.received in
-    let sent : All (IsSame memory memory') (outstanding (transmit_ring a) p) = same-apart memory memory' area (outstanding (transmit_ring a) p) keeps own.sent in
+    let work_apart = all-left (AreApart area) work (offered_buffers a)
+    (all-right (AreApart area) names (work ++ offered_buffers a) held_apart) in
+    let received : All (IsSame memory memory') (outstanding (receive_ring a) o) = same-apart memory memory' area
+    (outstanding (receive_ring a) o) keeps own.received in
+    let sent : All (IsSame memory memory') (outstanding (transmit_ring a) p) = same-apart memory memory' area
+    (outstanding (transmit_ring a) p) keeps own.sent in
     let receiving = receive_kept_by_slots a memory' o area keeps sound.receive_slots received names_apart work_apart in
-    let transmitting = transmit_kept_by_slots a memory' p area keeps sound.transmit_slots sent (all-left (AreApart area) payload (names ++ (work ++ offered_buffers a)) own.frames) in
+    let transmitting = transmit_kept_by_slots a memory' p area keeps sound.transmit_slots sent
+    (all-left (AreApart area) payload (names ++ (work ++ offered_buffers a)) own.frames) in
     let buffers = buffers-stay o p a address bytes sound lies own in
     record {
       same = record {
@@ -57,14 +66,18 @@ own_stores_leave_frames o p a address bytes sound lies own =
           transmit_slots = transmitting.dealt;
           separate =
               separate-same memory memory' (areas o a) (areas o b) size
-              (areas-same (ring_area (receive_ring a)) (ring_area (transmit_ring a)) _ _ _ _ _ _ _ _ transmitting.data_areas receiving.named_areas receiving.areas_of_work buffers)
+              (areas-same (ring_area (receive_ring a)) (ring_area (transmit_ring a)) _ _ _ _ _ _ _ _ transmitting.data_areas
+              receiving.named_areas receiving.areas_of_work buffers)
               sound.separate;
-          reports = subst (λ (queue : List Queued). All Reports (a.adapter.transmitter.buffer ++ queue)) (sym transmitting.fetches) sound.reports;
+          reports = subst (λ (queue : List Queued). All Reports (a.adapter.transmitter.buffer ++ queue))
+              (sym transmitting.fetches) sound.reports;
           pads = sound.pads;
         };
         held =
-            ap (λ (frames : List (List ℕ)). frames ++ (engine.in_work memory' a.adapter.receiver.work ++ a.adapter.receiver.buffer)) receiving.frames
-            ∙ ap (λ (frames : List (List ℕ)). map (frame_of memory) (finished o a) ++ (frames ++ a.adapter.receiver.buffer)) receiving.frame_in_work;
+            ap (λ (frames : List (List ℕ)). frames ++ (engine.in_work memory' a.adapter.receiver.work ++ a.adapter.receiver.buffer))
+            receiving.frames
+            ∙ ap (λ (frames : List (List ℕ)). map (frame_of memory) (finished o a) ++ (frames ++ a.adapter.receiver.buffer))
+            receiving.frame_in_work;
         to_send = transmitting.sends;
         finished_same = receiving.done;
         written_same = transmitting.done;
@@ -85,5 +98,6 @@ own_stores_leave_frames o p a address bytes sound lies own =
 -- What the adapter may write is the same.
 pub own_stores_leave_foreign : OwnStoresLeaveForeign
 own_stores_leave_foreign o p a address bytes sound lies own area foreign =
-    subst (λ (buffers : List Area). All (AreApart area) (map reported_half (in_work a ++ offered (receive_ring a)) ++ (map status_byte (buffered a ++ offered (transmit_ring a)) ++ buffers)))
+    subst (λ (buffers : List Area). All (AreApart area) (map reported_half (in_work a ++ offered (receive_ring a))
+    ++ (map status_byte (buffered a ++ offered (transmit_ring a)) ++ buffers)))
     (sym (buffers-stay o p a address bytes sound lies own)) foreign

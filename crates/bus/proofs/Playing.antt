@@ -1,5 +1,6 @@
 -- Ticks that a solo bus plays.
-use Rattle.std.proofs.Common.{length-append, length, ◌≡◌, ◌+◌, ◌<◌, ◌++◌, ◌∷◌, [], Bool, true, false, ℕ, List, Option, Some, drop, get_or, map, min, slice_get, take, refl, sym, ap, subst, ◌∙◌, append_assoc}
+use Rattle.std.proofs.Common.{length-append, length, ◌≡◌, ◌+◌, ◌<◌, ◌++◌, ◌∷◌, [], Bool, true, false, ℕ, List, Option, Some, drop, get_or}
+use Rattle.std.proofs.Common.{map, min, slice_get, take, refl, sym, ap, subst, ◌∙◌, append_assoc}
 use Rattle.std.proofs.lemmas.List.{append-nil, map-append, take_more}
 use Rattle.std.proofs.lemmas.List.Elements.{All-append, All-cons}
 use Rattle.rx_engine.specs.declared.arrival.Fate.{Fate}
@@ -15,7 +16,8 @@ use Rattle.eeprom.specs.Eerd.{is_pending}
 use Rattle.mdic_phy.specs.Mdic.{has_work}
 use Rattle.bus.specs.Groups.{behind_group, group_of, without_go}
 use Rattle.bus.specs.Past.{Past}
-use Rattle.bus.specs.Solo.{Plays, Prepared, SoloState, has_room, is_go, most_accesses, own_ticks, solo_after_arrival, solo_after_step, tick_of}
+use Rattle.bus.specs.Solo.{Plays, Prepared, SoloState, has_room, is_go, most_accesses, own_ticks, solo_after_arrival, solo_after_step}
+use Rattle.bus.specs.Solo.{tick_of}
 use Rattle.bus.specs.SoloLaws.{are_free_joins}
 use Rattle.bus.specs.TrailLaws.{past_of-append, trail_joins}
 use Rattle.bus.specs.Trails.{IsStep, past_of}
@@ -36,7 +38,8 @@ plays_trans first later left left' a b c one two = record {
       ∙ ap (λ (ticks : List SoloTick). ticks ++ map tick_of two.events) one.played
       ∙ ap (λ (ticks : List SoloTick). first ++ ticks) two.played;
   waiting = two.waiting;
-  free = are_free_joins one.events two.events (length a.wire) (length b.wire) (ap length one.wire ∙ length-append a.wire (past_of one.events).put) one.free two.free;
+  free = are_free_joins one.events two.events (length a.wire) (length b.wire) (ap length one.wire
+      ∙ length-append a.wire (past_of one.events).put) one.free two.free;
   wire =
       two.wire
       ∙ ap (λ (frames : List (List ℕ)). frames ++ (past_of two.events).put) one.wire
@@ -52,7 +55,8 @@ front_rest [] x is = absurd (cc)
 front_rest (y ∷ ys) x is = cc
 
 -- What a step puts is what happened in it.
-put_alone : (kind : StepKind) (wire_free : Bool) (answer : Stepped) (solo : SoloState) → Answers kind wire_free solo.world.memory solo.world.adapter answer → put_by answer ≡ (past_of (Steps kind wire_free answer ∷ [])).put
+put_alone : (kind : StepKind) (wire_free : Bool) (answer : Stepped) (solo : SoloState)
+    → Answers kind wire_free solo.world.memory solo.world.adapter answer → put_by answer ≡ (past_of (Steps kind wire_free answer ∷ [])).put
 put_alone TxPut wire_free answer solo answers = sym (append-nil (put_by answer))
 put_alone TxTake wire_free (Put frame) solo answers = absurd answers
 put_alone TxTake wire_free _ solo answers = refl
@@ -142,7 +146,8 @@ none_left ticks = []
 pub all_go_on : GoesOn (without_go is_go) none_left
 all_go_on = record { played = played; left = λ tick later is. refl }
   where
-    played : (tick : SoloTick) (later : List SoloTick) → is_go tick ≡ false → without_go is_go (tick ∷ later) ≡ tick ∷ without_go is_go later
+    played : (tick : SoloTick) (later : List SoloTick) → is_go tick ≡ false
+        → without_go is_go (tick ∷ later) ≡ tick ∷ without_go is_go later
     played Go later is = absurd (cc)
     played (Step kind) later is = refl
     played (Arrive frame) later is = refl
@@ -157,35 +162,45 @@ on_more plays waits a s b tick left on before isnt front behind one = record {
   far = plays_trans before.ticks (tick ∷ []) s.waiting b.waiting a s b before.far one;
   to_play =
       before.to_play
-      ∙ ap (λ (ticks : List SoloTick). before.ticks ++ ticks) (ap plays front ∙ on.played tick left isnt ∙ ap (λ (ticks : List SoloTick). tick ∷ plays ticks) (sym behind))
+      ∙ ap (λ (ticks : List SoloTick). before.ticks ++ ticks) (ap plays front ∙ on.played tick left isnt
+      ∙ ap (λ (ticks : List SoloTick). tick ∷ plays ticks) (sym behind))
       ∙ sym (append_assoc before.ticks (tick ∷ []) (plays b.waiting));
   to_wait = before.to_wait ∙ ap waits front ∙ on.left tick left isnt ∙ ap waits (sym behind);
 }
 
 -- A step whose tick was the next, as the code leaves it.
 pub step_on :
-    (plays waits : List SoloTick → List SoloTick) (a s s' b : SoloState) (kind : StepKind) (answer : Stepped) (next : Option SoloTick) (tick : SoloTick)
+    (plays waits : List SoloTick → List SoloTick) (a s s' b : SoloState) (kind : StepKind) (answer : Stepped) (next : Option SoloTick)
+    (tick : SoloTick)
     → GoesOn plays waits → PlaysOn plays waits a s → next ≡ slice_get s.waiting 0 → next ≡ Some tick → tick ≡ Step kind
     → s' ≡ record s { waiting = drop 1 s.waiting } → IsAdapter s'.world.adapter
     → Answers kind (has_room s') s'.world.memory s'.world.adapter answer → b ≡ solo_after_step kind answer s' → PlaysOn plays waits a b
 step_on plays waits a s s' b kind answer next tick on before is some takes left running answers after =
     let front : s.waiting ≡ Step kind ∷ drop 1 s.waiting = front_rest s.waiting (Step kind) (sym is ∙ some ∙ ap Some takes) in
     let running_s : IsAdapter s.world.adapter = subst (λ (x : SoloState). IsAdapter x.world.adapter) left running in
-    let answers_s : Answers kind (has_room s) s.world.memory s.world.adapter answer = subst (λ (x : SoloState). Answers kind (has_room x) x.world.memory x.world.adapter answer) left answers in
+    let answers_s : Answers kind (has_room s) s.world.memory s.world.adapter answer = subst
+    (λ (x : SoloState). Answers kind (has_room x) x.world.memory x.world.adapter answer) left answers in
     let at : b ≡ solo_after_step kind answer (record s { waiting = drop 1 s.waiting }) = after ∙ ap (solo_after_step kind answer) left in
-    subst (λ (x : SoloState). PlaysOn plays waits a x) (sym at) (on_more plays waits a s _ (Step kind) (drop 1 s.waiting) on before refl front refl (plays_step s kind answer (drop 1 s.waiting) running_s answers_s))
+    subst (λ (x : SoloState). PlaysOn plays waits a x) (sym at)
+    (on_more plays waits a s _ (Step kind) (drop 1 s.waiting) on before refl front refl
+    (plays_step s kind answer (drop 1 s.waiting) running_s answers_s))
 
 pub arrive_on :
-    (plays waits : List SoloTick → List SoloTick) (a s s' b : SoloState) (frame bytes : List ℕ) (fate : Fate) (next : Option SoloTick) (tick : SoloTick)
+    (plays waits : List SoloTick → List SoloTick) (a s s' b : SoloState) (frame bytes : List ℕ) (fate : Fate) (next : Option SoloTick)
+    (tick : SoloTick)
     → GoesOn plays waits → PlaysOn plays waits a s → next ≡ slice_get s.waiting 0 → next ≡ Some tick → tick ≡ Arrive frame
     → bytes ≡ frame → s' ≡ record s { waiting = drop 1 s.waiting } → IsAdapter s'.world.adapter → IsFate s'.world.adapter bytes fate
     → b ≡ solo_after_arrival fate bytes s' → PlaysOn plays waits a b
 arrive_on plays waits a s s' b frame bytes fate next tick on before is some takes same left running fates after =
     let front : s.waiting ≡ Arrive frame ∷ drop 1 s.waiting = front_rest s.waiting (Arrive frame) (sym is ∙ some ∙ ap Some takes) in
     let running_s : IsAdapter s.world.adapter = subst (λ (x : SoloState). IsAdapter x.world.adapter) left running in
-    let fates_s : IsFate s.world.adapter frame fate = subst (λ (x : List ℕ). IsFate s.world.adapter x fate) same (subst (λ (x : SoloState). IsFate x.world.adapter bytes fate) left fates) in
-    let at : b ≡ solo_after_arrival fate frame (record s { waiting = drop 1 s.waiting }) = after ∙ ap (solo_after_arrival fate bytes) left ∙ ap (λ (x : List ℕ). solo_after_arrival fate x (record s { waiting = drop 1 s.waiting })) same in
-    subst (λ (x : SoloState). PlaysOn plays waits a x) (sym at) (on_more plays waits a s _ (Arrive frame) (drop 1 s.waiting) on before refl front refl (plays_arrival s frame fate (drop 1 s.waiting) running_s fates_s))
+    let fates_s : IsFate s.world.adapter frame fate = subst (λ (x : List ℕ). IsFate s.world.adapter x fate) same
+    (subst (λ (x : SoloState). IsFate x.world.adapter bytes fate) left fates) in
+    let at : b ≡ solo_after_arrival fate frame (record s { waiting = drop 1 s.waiting }) = after ∙ ap (solo_after_arrival fate bytes) left
+    ∙ ap (λ (x : List ℕ). solo_after_arrival fate x (record s { waiting = drop 1 s.waiting })) same in
+    subst (λ (x : SoloState). PlaysOn plays waits a x) (sym at)
+    (on_more plays waits a s _ (Arrive frame) (drop 1 s.waiting) on before refl front refl
+    (plays_arrival s frame fate (drop 1 s.waiting) running_s fates_s))
 
 -- Steps of these kinds, one after the other.
 pub kinds_on :
@@ -198,7 +213,8 @@ kinds_on kinds place other a s b answer inside before running answers after =
     let first = map Step (take place kinds) in
     let step = plays_step s kind answer s.waiting running answers in
     let whole = plays_trans first (Step kind ∷ []) a.waiting s.waiting a s (solo_after_step kind answer s) before step in
-    let more : first ++ Step kind ∷ [] ≡ map Step (take (place + 1) kinds) = sym (ap (map Step) (take_more kinds place other inside) ∙ map-append Step (take place kinds) (kind ∷ [])) in
+    let more : first ++ Step kind ∷ [] ≡ map Step (take (place + 1) kinds) = sym (ap (map Step) (take_more kinds place other inside)
+    ∙ map-append Step (take place kinds) (kind ∷ [])) in
     subst (λ (x : SoloState). Plays (map Step (take (place + 1) kinds)) a.waiting a x) (sym after)
     (subst (λ (ticks : List SoloTick). Plays ticks a.waiting a (solo_after_step kind answer s)) more
     (subst (λ (left : List SoloTick). Plays (first ++ Step kind ∷ []) left a (solo_after_step kind answer s)) before.waiting whole))
@@ -209,7 +225,8 @@ pub prepared_on :
     → Plays (group_of is_go m.waiting) (behind_group is_go m.waiting) m g
     → b ≡ record g { accesses = min (g.accesses + 1) most_accesses } → Prepared a b
 prepared_on a m g b own group is =
-    let group_a : Plays (group_of is_go a.waiting) (behind_group is_go a.waiting) m g = subst (λ (ticks : List SoloTick). Plays (group_of is_go ticks) (behind_group is_go ticks) m g) own.waiting group in
+    let group_a : Plays (group_of is_go a.waiting) (behind_group is_go a.waiting) m g = subst
+    (λ (ticks : List SoloTick). Plays (group_of is_go ticks) (behind_group is_go ticks) m g) own.waiting group in
     let whole = plays_trans (own_ticks a.lively) (group_of is_go a.waiting) a.waiting (behind_group is_go a.waiting) a m g own group_a in
     subst (λ (x : SoloState). Prepared a x) (sym is) (record {
       plays = record {

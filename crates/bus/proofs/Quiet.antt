@@ -1,7 +1,8 @@
 -- Steps that leave memory, rings and slots: ticks, arrivals, and faults.
 use Rattle.std.specs.Fn.{iterate}
 use Rattle.std.specs.List.{All}
-use Rattle.std.proofs.Common.{◌≡◌, ◌≤◌, ◌++◌, [], inl, Bool, true, false, ℕ, List, Option, Some, None, length, map, refl, sym, ap, subst, ◌∙◌, append_assoc, arith}
+use Rattle.std.proofs.Common.{◌≡◌, ◌≤◌, ◌++◌, [], inl, Bool, true, false, ℕ, List, Option, Some, None, length, map, refl, sym, ap, subst}
+use Rattle.std.proofs.Common.{◌∙◌, append_assoc, arith}
 use Rattle.std.proofs.lemmas.List.{append-nil}
 use Rattle.std.proofs.Common.{cond}
 use Rattle.eeprom.specs.Eerd as eeprom
@@ -85,7 +86,9 @@ pub record GoOn (receiver_stopped transmitter_stopped : Bool) : Type 0 where
 pub going : (a : World) → CanRun a → GoOn a.adapter.receiver.stopped a.adapter.transmitter.stopped
 going a can = record { receiver_runs = can.receiver_runs; transmitter_runs = can.transmitter_runs }
 
-pub between_quiet : (o p : ℕ) (a : World) (c : Changes) (past : Past) → past.put ≡ [] → c.buffer ≡ a.adapter.receiver.buffer ++ past.stored → (CanRun a → GoOn c.receiver_stopped c.transmitter_stopped) → Sound o p a → Between o p a (record a { adapter = changed c a.adapter }) past
+pub between_quiet : (o p : ℕ) (a : World) (c : Changes) (past : Past) → past.put ≡ [] → c.buffer ≡ a.adapter.receiver.buffer ++ past.stored
+    → (CanRun a → GoOn c.receiver_stopped c.transmitter_stopped) → Sound o p a
+    → Between o p a (record a { adapter = changed c a.adapter }) past
 between_quiet o p a c past no_put stored goes sound =
     let frames = map (λ (descriptor : ℕ). bytes_in a.memory (named a.memory descriptor)) (finished o a) in
     let work = in_work a.memory a.adapter.receiver.work in
@@ -115,7 +118,8 @@ between_quiet o p a c past no_put stored goes sound =
             receive_indices = can.receive_indices;
             transmit_indices = can.transmit_indices;
             not_extended = can.not_extended;
-            frames = subst (λ (buffer : List (List ℕ)). All Short buffer) (sym stored) (All-append Short a.adapter.receiver.buffer past.stored can.frames short);
+            frames = subst (λ (buffer : List (List ℕ)). All Short buffer) (sym stored)
+                (All-append Short a.adapter.receiver.buffer past.stored can.frames short);
             transmittable = can.transmittable;
           };
       sound = record {
@@ -128,14 +132,26 @@ between_quiet o p a c past no_put stored goes sound =
     }
 
 -- A fault.
-pub between_stopped : (o p : ℕ) (a : World) (receiver transmitter : Bool) → ¬ (CanRun a) → Sound o p a → Between o p a (record a { adapter = changed (record (unchanged a.adapter) { receiver_stopped = receiver; transmitter_stopped = transmitter }) a.adapter }) nothing
+pub between_stopped : (o p : ℕ) (a : World) (receiver transmitter : Bool) → ¬ (CanRun a) → Sound o p a
+    → Between o p a (record a
+    { adapter = changed (record (unchanged a.adapter) { receiver_stopped = receiver; transmitter_stopped = transmitter }) a.adapter })
+    nothing
 between_stopped o p a receiver transmitter cannot sound =
-    between_quiet o p a (record (unchanged a.adapter) { receiver_stopped = receiver; transmitter_stopped = transmitter }) nothing refl (sym (append-nil a.adapter.receiver.buffer)) (λ can. absurd (cannot can)) sound
+    between_quiet o p a (record (unchanged a.adapter) { receiver_stopped = receiver; transmitter_stopped = transmitter }) nothing refl
+    (sym (append-nil a.adapter.receiver.buffer)) (λ can. absurd (cannot can)) sound
 
 -- Ticks.
 
 -- so many move EERD, MDIC and the PHY, and may record causes
-steady_ticked : (a : World) (recorded : ℕ) (eerd : ReadState) (management : Management) (eeprom_ticks phy_ticks : ℕ) → a.adapter.missed_packets ≤ greatest_count → ((place : ℕ) → HasBit a.adapter.causes.recorded place → HasBit recorded place) → eerd ≡ iterate (eeprom.after_tick a.adapter.image) eeprom_ticks a.adapter.eerd → management ≡ iterate phy_ticked phy_ticks (management_of a.adapter) → Steady a (record a { adapter = changed (record (unchanged a.adapter) { recorded = recorded; eerd = eerd; mdic = management.mdic; phy = management.phy }) a.adapter }) (record nothing { eeprom_ticks = eeprom_ticks; phy_ticks = phy_ticks })
+steady_ticked : (a : World) (recorded : ℕ) (eerd : ReadState) (management : Management) (eeprom_ticks phy_ticks : ℕ)
+    → a.adapter.missed_packets ≤ greatest_count → ((place : ℕ) → HasBit a.adapter.causes.recorded place → HasBit recorded place)
+    → eerd ≡ iterate (eeprom.after_tick a.adapter.image) eeprom_ticks a.adapter.eerd
+    → management ≡ iterate phy_ticked phy_ticks (management_of a.adapter)
+    → Steady a (record a {
+      adapter = changed (record (unchanged a.adapter)
+          { recorded = recorded; eerd = eerd; mdic = management.mdic; phy = management.phy }) a.adapter;
+    })
+    (record nothing { eeprom_ticks = eeprom_ticks; phy_ticks = phy_ticks })
 steady_ticked a recorded eerd management eeprom_ticks phy_ticks fits causes read told = record {
   size = refl;
   image = refl;
@@ -156,45 +172,59 @@ steady_ticked a recorded eerd management eeprom_ticks phy_ticks fits causes read
   management = told;
 }
 
-pub eeprom_tick_happens : (a : World) (answer : Stepped) → IsAdapter a.adapter → Happens a (world_after_step EepromTick answer a) (past_of_step EepromTick answer)
+pub eeprom_tick_happens : (a : World) (answer : Stepped) → IsAdapter a.adapter
+    → Happens a (world_after_step EepromTick answer a) (past_of_step EepromTick answer)
 eeprom_tick_happens a answer running =
     let read = eeprom.after_tick a.adapter.image a.adapter.eerd in
     record {
-      steady = steady_ticked a a.adapter.causes.recorded read (management_of a.adapter) 1 0 running.registers.counters.missed (λ place set. set) refl refl;
+      steady = steady_ticked a a.adapter.causes.recorded read (management_of a.adapter) 1 0 running.registers.counters.missed
+          (λ place set. set) refl refl;
       between = λ o p sound.
           between_quiet o p a (record (unchanged a.adapter) { eerd = read })
           (record nothing { eeprom_ticks = 1 }) refl (sym (append-nil a.adapter.receiver.buffer)) (going a) sound;
     }
 
 -- the PHY's tick, by what it tells
-tick_told : (a : World) (tells : Option Told) (answer : Stepped) → told a.adapter.mdic a.adapter.phy ≡ tells → IsAdapter a.adapter → (management_of (after_phy_told tells a.adapter) ≡ phy_ticked (management_of a.adapter)) → Happens a (record a { adapter = after_phy_told tells a.adapter }) (past_of_step PhyTick answer)
+tick_told : (a : World) (tells : Option Told) (answer : Stepped) → told a.adapter.mdic a.adapter.phy ≡ tells → IsAdapter a.adapter
+    → (management_of (after_phy_told tells a.adapter) ≡ phy_ticked (management_of a.adapter))
+    → Happens a (record a { adapter = after_phy_told tells a.adapter }) (past_of_step PhyTick answer)
 tick_told a None answer is running moves = record {
-  steady = steady_ticked a a.adapter.causes.recorded a.adapter.eerd (management_of a.adapter) 0 1 running.registers.counters.missed (λ place set. set) refl moves;
-  between = λ o p sound. between_quiet o p a (unchanged a.adapter) (record nothing { phy_ticks = 1 }) refl (sym (append-nil a.adapter.receiver.buffer)) (going a) sound;
+  steady = steady_ticked a a.adapter.causes.recorded a.adapter.eerd (management_of a.adapter) 0 1 running.registers.counters.missed
+      (λ place set. set) refl moves;
+  between = λ o p sound. between_quiet o p a (unchanged a.adapter) (record nothing { phy_ticks = 1 }) refl
+      (sym (append-nil a.adapter.receiver.buffer)) (going a) sound;
 }
 tick_told a (Some tells) answer is running moves =
     let recorded = union a.adapter.causes.recorded (causes_told tells) in
     let after = management_of (after_phy_told (Some tells) a.adapter) in
     record {
-      steady = steady_ticked a recorded a.adapter.eerd after 0 1 running.registers.counters.missed (added a.adapter.causes.recorded (causes_told tells)) refl moves;
+      steady = steady_ticked a recorded a.adapter.eerd after 0 1 running.registers.counters.missed
+          (added a.adapter.causes.recorded (causes_told tells)) refl moves;
       between = λ o p sound.
           between_quiet o p a (record (unchanged a.adapter) { recorded = recorded; mdic = after.mdic; phy = after.phy })
           (record nothing { phy_ticks = 1 }) refl (sym (append-nil a.adapter.receiver.buffer)) (going a) sound;
     }
 
 -- It moves MDIC and the PHY exactly where there is something to do.
-management_told : (adapter : AdapterState) (works : Bool) (tells : Told) → management_of (after_phy_told (cond works (Some tells) None) adapter) ≡ cond works (let line : Management = record { mdic = mdic_after_tick adapter.mdic adapter.phy; phy = phy_after_tick adapter.mdic adapter.phy } in line) (management_of adapter)
+management_told : (adapter : AdapterState) (works : Bool) (tells : Told)
+    → management_of (after_phy_told (cond works (Some tells) None) adapter)
+    ≡ cond works (let line : Management = record
+    { mdic = mdic_after_tick adapter.mdic adapter.phy; phy = phy_after_tick adapter.mdic adapter.phy } in line)
+    (management_of adapter)
 management_told adapter true tells = refl
 management_told adapter false tells = refl
 
-pub phy_tick_happens : (a : World) (answer : Stepped) → IsAdapter a.adapter → Happens a (world_after_step PhyTick answer a) (past_of_step PhyTick answer)
+pub phy_tick_happens : (a : World) (answer : Stepped) → IsAdapter a.adapter
+    → Happens a (world_after_step PhyTick answer a) (past_of_step PhyTick answer)
 phy_tick_happens a answer running =
     tick_told a (told a.adapter.mdic a.adapter.phy) answer refl running
-    (management_told a.adapter (has_work a.adapter.mdic a.adapter.phy) (record { link_changed = phy.comes_up a.adapter.phy; access_complete = mdi.tells_end a.adapter.mdic }))
+    (management_told a.adapter (has_work a.adapter.mdic a.adapter.phy)
+    (record { link_changed = phy.comes_up a.adapter.phy; access_complete = mdi.tells_end a.adapter.mdic }))
 
 -- Arrivals.
 
-pub arrival_happens : (a : World) (fate : Fate) (frame : List ℕ) → IsAdapter a.adapter → IsFate a.adapter frame fate → Happens a (world_after_arrival fate frame a) (past_of_arrival fate frame)
+pub arrival_happens : (a : World) (fate : Fate) (frame : List ℕ) → IsAdapter a.adapter → IsFate a.adapter frame fate
+    → Happens a (world_after_arrival fate frame a) (past_of_arrival fate frame)
 arrival_happens a Off frame running is = happens_none a
 arrival_happens a Illegal frame running is = happens_none a
 arrival_happens a Filtered frame running is = happens_none a
@@ -206,7 +236,8 @@ arrival_happens a Missed frame running is = record {
         missed = one_more a.adapter.missed_packets;
         no_buffers = no_buffers_counted a.adapter;
       })
-      (past_of_arrival Missed frame) refl (added a.adapter.causes.recorded 0x40) (omega (arith, running.registers.counters.missed)) (λ off. absurd (off is.0.enabled)) (inl refl) (inl refl) (all-none IsLegal) refl refl;
+      (past_of_arrival Missed frame) refl (added a.adapter.causes.recorded 0x40) (omega (arith, running.registers.counters.missed))
+      (λ off. absurd (off is.0.enabled)) (inl refl) (inl refl) (all-none IsLegal) refl refl;
   between = λ o p sound.
       between_quiet o p a
       (record (unchanged a.adapter) {
@@ -223,7 +254,8 @@ arrival_happens a Stored frame running is = record {
         no_buffers = no_buffers_counted a.adapter;
         receiver = (world_after_arrival Stored frame a).adapter.receiver;
       })
-      (past_of_arrival Stored frame) refl (λ place set. set) (omega (arith, running.registers.counters.missed)) (λ off. absurd (off is.0.enabled)) (inl refl) (inl refl) (All-cons IsLegal frame [] is.0.legal (all-none IsLegal)) refl refl;
+      (past_of_arrival Stored frame) refl (λ place set. set) (omega (arith, running.registers.counters.missed))
+      (λ off. absurd (off is.0.enabled)) (inl refl) (inl refl) (All-cons IsLegal frame [] is.0.legal (all-none IsLegal)) refl refl;
   between = λ o p sound.
       between_quiet o p a
       (record (unchanged a.adapter) {

@@ -1,5 +1,6 @@
 -- The slots of a ring from the driver's oldest on, and what the engines' steps make of their classes.
-use Rattle.std.proofs.Common.{◌≡◌, ⊎_elim, ◌≤◌, ◌<◌, ◌+◌, ◌-◌, ◌*◌, ◌%◌, ◌⊎◌, inl, inr, ◌++◌, ◌∷◌, [], true, false, ℕ, zero, suc, List, map, sym, ap, subst, ◌∙◌, append_assoc, arith}
+use Rattle.std.proofs.Common.{◌≡◌, ⊎_elim, ◌≤◌, ◌<◌, ◌+◌, ◌-◌, ◌*◌, ◌%◌, ◌⊎◌, inl, inr, ◌++◌, ◌∷◌, [], true, false, ℕ, zero, suc, List, map}
+use Rattle.std.proofs.Common.{sym, ap, subst, ◌∙◌, append_assoc, arith}
 use Rattle.std.specs.List.{All, AllPairs, take_while}
 use Rattle.std.proofs.lemmas.Bool.{cases_eq}
 use Rattle.std.proofs.lemmas.Nat.{mod_below}
@@ -12,13 +13,15 @@ use Rattle.descriptors.specs.Ring.{IsSound, address_of, count_of, distance_of, n
 use Rattle.descriptors.specs.RingLaws.{distance-around, distance-forward, distance-step, next-below, next-inner, next-last, owned-head}
 use Rattle.adapter.specs.HostAreas.{ring_area}
 use Rattle.adapter.specs.Slots.{done_slots, is_done, IsDealt, offered, outstanding}
-use Rattle.bus.proofs.Lists.{all-left, all-none, all-right, all-tail, pairs-before, pairs-behind, pairs-mapped, pairs-none, take_while-passes, take_while-same, take_while-split}
+use Rattle.bus.proofs.Lists.{all-left, all-none, all-right, all-tail, pairs-before, pairs-behind, pairs-mapped, pairs-none}
+use Rattle.bus.proofs.Lists.{take_while-passes, take_while-same, take_while-split}
 
 -- Slots by number.
 
 pub slots-below : (n i k : ℕ) → i < n → All (λ slot. slot < n) (slots_from n i k)
 slots-below n i zero below = all-none (λ slot. slot < n)
-slots-below n i (suc k) below = All-cons (λ slot. slot < n) i (slots_from n ((i + 1) % n) k) below (slots-below n ((i + 1) % n) k (next-below n i below))
+slots-below n i (suc k) below = All-cons (λ slot. slot < n) i (slots_from n ((i + 1) % n) k) below
+    (slots-below n ((i + 1) % n) k (next-below n i below))
 
 -- A slot isn't among those on the way to it.
 pub slots-other : (n i k x : ℕ) → i < n → x < n → k ≤ (x + n - i) % n → All (λ slot. ¬ (slot ≡ x)) (slots_from n i k)
@@ -27,7 +30,8 @@ slots-other n i (suc k) x below within far =
     let none : i ≡ x → (x + n - i) % n ≡ 0 = λ same. distance-forward n i x within (omega (arith, same)) ∙ omega (arith, same) in
     let differ : ¬ (i ≡ x) = λ same. let there = none same in absurd (omega (arith, there, far)) in
     let step = distance-step n i x below within differ in
-    All-cons (λ slot. ¬ (slot ≡ x)) i (slots_from n ((i + 1) % n) k) differ (slots-other n ((i + 1) % n) k x (next-below n i below) within (omega (arith, step, far)))
+    All-cons (λ slot. ¬ (slot ≡ x)) i (slots_from n ((i + 1) % n) k) differ
+    (slots-other n ((i + 1) % n) k x (next-below n i below) within (omega (arith, step, far)))
 
 -- From the slot behind another it is all the ring to that other.
 pub distance-whole : (n i : ℕ) → i < n → (i + n - (i + 1) % n) % n ≡ n - 1
@@ -50,7 +54,8 @@ slots-distinct n i (suc k) below fits =
 -- Slots by address.
 
 -- A fact of each slot of the ring is one of each that is outstanding.
-pub each-outstanding : (ring : Ring) (oldest : ℕ) (P : ℕ → Type 0) → (oldest < count_of ring) ⊎ (outstanding ring oldest ≡ []) → ((slot : ℕ) → slot < count_of ring → P (address_of ring slot)) → All P (outstanding ring oldest)
+pub each-outstanding : (ring : Ring) (oldest : ℕ) (P : ℕ → Type 0) → (oldest < count_of ring) ⊎ (outstanding ring oldest ≡ [])
+    → ((slot : ℕ) → slot < count_of ring → P (address_of ring slot)) → All P (outstanding ring oldest)
 unfolding owned
 each-outstanding ring oldest P (inr none) fact = rw none (all-none P)
 each-outstanding ring oldest P (inl below) fact =
@@ -59,20 +64,24 @@ each-outstanding ring oldest P (inl below) fact =
     All-map P (address_of ring) (slots_from n oldest k) (λ i d inside. fact _ (slots-below n oldest k below i d inside))
 
 -- The first bytes of a slot stand in the ring,
-pub slot-inside : (base n slot size : ℕ) → slot < n → size ≤ 16 → IsInside (record { address = base + 16 * slot; size = size }) (record { address = base; size = 16 * n })
+pub slot-inside : (base n slot size : ℕ) → slot < n → size ≤ 16
+    → IsInside (record { address = base + 16 * slot; size = size }) (record { address = base; size = 16 * n })
 slot-inside base n slot size below fits = record { from = omega arith; to = omega (arith, below, fits) }
 
 -- so the outstanding slots do,
-pub outstanding-inside : (ring : Ring) (oldest : ℕ) → (oldest < count_of ring) ⊎ (outstanding ring oldest ≡ []) → All (λ descriptor. IsInside (descriptor_area descriptor) (ring_area ring)) (outstanding ring oldest)
+pub outstanding-inside : (ring : Ring) (oldest : ℕ) → (oldest < count_of ring) ⊎ (outstanding ring oldest ≡ [])
+    → All (λ descriptor. IsInside (descriptor_area descriptor) (ring_area ring)) (outstanding ring oldest)
 outstanding-inside ring oldest first =
     each-outstanding ring oldest (λ descriptor. IsInside (descriptor_area descriptor) (ring_area ring)) first
     (λ slot below. slot-inside ring.base (count_of ring) slot 16 below (omega arith))
 
-pub far-apart : (base a b : ℕ) → ¬ (b ≡ a) → AreApart (record { address = base + 16 * a; size = 16 }) (record { address = base + 16 * b; size = 16 })
+pub far-apart : (base a b : ℕ) → ¬ (b ≡ a)
+    → AreApart (record { address = base + 16 * a; size = 16 }) (record { address = base + 16 * b; size = 16 })
 far-apart base a b differ = grind arith
 
 -- and apart from one another.
-pub outstanding-apart : (ring : Ring) (oldest : ℕ) → (oldest < count_of ring) ⊎ (outstanding ring oldest ≡ []) → AllPairs (λ a b. AreApart (descriptor_area a) (descriptor_area b)) (outstanding ring oldest)
+pub outstanding-apart : (ring : Ring) (oldest : ℕ) → (oldest < count_of ring) ⊎ (outstanding ring oldest ≡ [])
+    → AllPairs (λ a b. AreApart (descriptor_area a) (descriptor_area b)) (outstanding ring oldest)
 unfolding owned
 outstanding-apart ring oldest (inr none) = rw none (pairs-none (λ a b. AreApart (descriptor_area a) (descriptor_area b)))
 outstanding-apart ring oldest (inl below) =
@@ -85,21 +94,27 @@ outstanding-apart ring oldest (inl below) =
 -- Classes.
 
 -- What is taken or offered is outstanding.
-pub dealt-right : (memory : List ℕ) (ring : Ring) (oldest : ℕ) (taken : List ℕ) (P : ℕ → Type 0) → IsDealt memory ring oldest taken → All P (outstanding ring oldest) → All P (taken ++ offered ring)
+pub dealt-right : (memory : List ℕ) (ring : Ring) (oldest : ℕ) (taken : List ℕ) (P : ℕ → Type 0) → IsDealt memory ring oldest taken
+    → All P (outstanding ring oldest) → All P (taken ++ offered ring)
 dealt-right memory ring oldest taken P dealt all =
     all-right P (done_slots memory ring oldest) (taken ++ offered ring) (subst (λ (slots : List ℕ). All P slots) dealt.classes all)
 
 -- What is done is outstanding.
-pub dealt-left : (memory : List ℕ) (ring : Ring) (oldest : ℕ) (taken : List ℕ) (P : ℕ → Type 0) → IsDealt memory ring oldest taken → All P (outstanding ring oldest) → All P (done_slots memory ring oldest)
+pub dealt-left : (memory : List ℕ) (ring : Ring) (oldest : ℕ) (taken : List ℕ) (P : ℕ → Type 0) → IsDealt memory ring oldest taken
+    → All P (outstanding ring oldest) → All P (done_slots memory ring oldest)
 dealt-left memory ring oldest taken P dealt all =
     all-left P (done_slots memory ring oldest) (taken ++ offered ring) (subst (λ (slots : List ℕ). All P slots) dealt.classes all)
 
 -- Where the outstanding slots are as done as they were, the done ones are the same.
-pub done-same : (memory memory' : List ℕ) (ring : Ring) (oldest : ℕ) → All (λ d. is_done memory' d ≡ is_done memory d) (outstanding ring oldest) → done_slots memory' ring oldest ≡ done_slots memory ring oldest
+pub done-same : (memory memory' : List ℕ) (ring : Ring) (oldest : ℕ)
+    → All (λ d. is_done memory' d ≡ is_done memory d) (outstanding ring oldest)
+    → done_slots memory' ring oldest ≡ done_slots memory ring oldest
 done-same memory memory' ring oldest same = take_while-same (is_done memory) (is_done memory') (outstanding ring oldest) same
 
 -- Then all classes are.
-pub dealt-same : (memory memory' : List ℕ) (ring : Ring) (oldest : ℕ) (taken : List ℕ) → All (λ d. is_done memory' d ≡ is_done memory d) (outstanding ring oldest) → IsDealt memory ring oldest taken → IsDealt memory' ring oldest taken
+pub dealt-same : (memory memory' : List ℕ) (ring : Ring) (oldest : ℕ) (taken : List ℕ)
+    → All (λ d. is_done memory' d ≡ is_done memory d) (outstanding ring oldest) → IsDealt memory ring oldest taken
+    → IsDealt memory' ring oldest taken
 dealt-same memory memory' ring oldest taken same dealt =
     let rest = dealt-right memory ring oldest taken (λ d. is_done memory' d ≡ is_done memory d) dealt same in
     record {
@@ -109,11 +124,14 @@ dealt-same memory memory' ring oldest taken same dealt =
     }
 
 -- Where head differs from tail, the slot at the head is the first that is offered.
-pub offered-head : (ring : Ring) → IsSound ring → ¬ (ring.head ≡ ring.tail) → offered ring ≡ address_of ring ring.head ∷ offered (record ring { head = next_of ring ring.head })
+pub offered-head : (ring : Ring) → IsSound ring → ¬ (ring.head ≡ ring.tail)
+    → offered ring ≡ address_of ring ring.head ∷ offered (record ring { head = next_of ring ring.head })
 offered-head ring sound apart = ap (map (address_of ring)) (owned-head ring sound apart)
 
 -- The head moves on: the slot at the head is taken.
-pub dealt-moved : (memory : List ℕ) (ring : Ring) (oldest : ℕ) (taken : List ℕ) → IsSound ring → ¬ (ring.head ≡ ring.tail) → IsDealt memory ring oldest taken → IsDealt memory (record ring { head = next_of ring ring.head }) oldest (taken ++ address_of ring ring.head ∷ [])
+pub dealt-moved : (memory : List ℕ) (ring : Ring) (oldest : ℕ) (taken : List ℕ) → IsSound ring → ¬ (ring.head ≡ ring.tail)
+    → IsDealt memory ring oldest taken
+    → IsDealt memory (record ring { head = next_of ring ring.head }) oldest (taken ++ address_of ring ring.head ∷ [])
 dealt-moved memory ring oldest taken sound apart dealt =
     let moved : Ring = record ring { head = next_of ring ring.head } in
     let head = address_of ring ring.head in
@@ -130,20 +148,27 @@ pub record Reported (memory memory' : List ℕ) (ring : Ring) (oldest descriptor
   pub dealt : IsDealt memory' ring oldest taken
   pub grown : done_slots memory' ring oldest ≡ done_slots memory ring oldest ++ descriptor ∷ []
 
-pub dealt-reported : (memory memory' : List ℕ) (ring : Ring) (oldest descriptor : ℕ) (taken : List ℕ) → IsDealt memory ring oldest (descriptor ∷ taken) → ((other : ℕ) → AreApart (descriptor_area descriptor) (descriptor_area other) → is_done memory' other ≡ is_done memory other) → is_done memory' descriptor ≡ true → Reported memory memory' ring oldest descriptor taken
+pub dealt-reported : (memory memory' : List ℕ) (ring : Ring) (oldest descriptor : ℕ) (taken : List ℕ)
+    → IsDealt memory ring oldest (descriptor ∷ taken)
+    → ((other : ℕ) → AreApart (descriptor_area descriptor) (descriptor_area other) → is_done memory' other ≡ is_done memory other)
+    → is_done memory' descriptor ≡ true → Reported memory memory' ring oldest descriptor taken
 dealt-reported memory memory' ring oldest descriptor taken dealt others done =
     let front = done_slots memory ring oldest in
     let behind = taken ++ offered ring in
     let R : ℕ → ℕ → Type 0 = λ a b. AreApart (descriptor_area a) (descriptor_area b) in
-    let pairs : AllPairs R (front ++ descriptor ∷ behind) = subst (λ (slots : List ℕ). AllPairs R slots) dealt.classes (outstanding-apart ring oldest dealt.slot) in
+    let pairs : AllPairs R (front ++ descriptor ∷ behind) = subst (λ (slots : List ℕ). AllPairs R slots) dealt.classes
+    (outstanding-apart ring oldest dealt.slot) in
     let before = pairs-before R front descriptor behind pairs in
     let after = pairs-behind R front descriptor behind pairs in
     let passes = take_while-passes (is_done memory) (outstanding ring oldest) in
-    let front_done : All (λ d. is_done memory' d ≡ true) front = λ k d below. others _ (apart-sym _ _ (before k d below)) ∙ passes k d below in
-    let all_done = All-append (λ d. is_done memory' d ≡ true) front (descriptor ∷ []) front_done (All-cons (λ d. is_done memory' d ≡ true) descriptor [] done (all-none (λ d. is_done memory' d ≡ true))) in
+    let front_done : All (λ d. is_done memory' d ≡ true) front = λ k d below. others _ (apart-sym _ _ (before k d below))
+    ∙ passes k d below in
+    let all_done = All-append (λ d. is_done memory' d ≡ true) front (descriptor ∷ []) front_done
+    (All-cons (λ d. is_done memory' d ≡ true) descriptor [] done (all-none (λ d. is_done memory' d ≡ true))) in
     let open_before = all-tail (λ d. is_done memory d ≡ false) descriptor behind dealt.not_done in
     let open_after : All (λ d. is_done memory' d ≡ false) behind = λ k d below. others _ (after k d below) ∙ open_before k d below in
-    let whole : outstanding ring oldest ≡ (front ++ descriptor ∷ []) ++ behind = dealt.classes ∙ sym (append_assoc front (descriptor ∷ []) behind) in
+    let whole : outstanding ring oldest ≡ (front ++ descriptor ∷ []) ++ behind = dealt.classes
+    ∙ sym (append_assoc front (descriptor ∷ []) behind) in
     let grown : done_slots memory' ring oldest ≡ front ++ descriptor ∷ [] =
     ap (take_while (is_done memory')) whole ∙ take_while-split (is_done memory') (front ++ descriptor ∷ []) behind all_done open_after in
     record {
@@ -156,11 +181,15 @@ dealt-reported memory memory' ring oldest descriptor taken dealt others done =
     }
 
 -- The first slot that is taken is apart from all others that are outstanding.
-pub dealt-others : (memory : List ℕ) (ring : Ring) (oldest descriptor : ℕ) (taken : List ℕ) → IsDealt memory ring oldest (descriptor ∷ taken) → All (λ other. AreApart (descriptor_area descriptor) (descriptor_area other)) (done_slots memory ring oldest) × All (λ other. AreApart (descriptor_area descriptor) (descriptor_area other)) (taken ++ offered ring)
+pub dealt-others : (memory : List ℕ) (ring : Ring) (oldest descriptor : ℕ) (taken : List ℕ)
+    → IsDealt memory ring oldest (descriptor ∷ taken)
+    → All (λ other. AreApart (descriptor_area descriptor) (descriptor_area other)) (done_slots memory ring oldest)
+    × All (λ other. AreApart (descriptor_area descriptor) (descriptor_area other)) (taken ++ offered ring)
 dealt-others memory ring oldest descriptor taken dealt =
     let front = done_slots memory ring oldest in
     let behind = taken ++ offered ring in
     let R : ℕ → ℕ → Type 0 = λ a b. AreApart (descriptor_area a) (descriptor_area b) in
-    let pairs : AllPairs R (front ++ descriptor ∷ behind) = subst (λ (slots : List ℕ). AllPairs R slots) dealt.classes (outstanding-apart ring oldest dealt.slot) in
+    let pairs : AllPairs R (front ++ descriptor ∷ behind) = subst (λ (slots : List ℕ). AllPairs R slots) dealt.classes
+    (outstanding-apart ring oldest dealt.slot) in
     let before = pairs-before R front descriptor behind pairs in
     ((λ k d below. apart-sym _ _ (before k d below)), pairs-behind R front descriptor behind pairs)

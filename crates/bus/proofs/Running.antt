@@ -46,13 +46,15 @@ can_take o p a sound can not_idle =
     let head = address_of ring ring.head in
     let slots = sound.transmit_slots in
     let Within : ℕ → Type 0 = λ d. IsInside (descriptor_area d) t in
-    let within = all-right Within (buffered a) (offered ring) (dealt-right a.memory ring p (buffered a) Within slots (outstanding-inside ring p slots.slot)) in
+    let within = all-right Within (buffered a) (offered ring)
+    (dealt-right a.memory ring p (buffered a) Within slots (outstanding-inside ring p slots.slot)) in
     let inside = all-head Within head _ (subst (λ (list : List ℕ). All Within list) first within) in
     let lie = of-areas (Lies a.memory) o a sound.separate.lie in
     record {
       sound = in_ring;
       lies = lies-inside a.memory (descriptor_area head) t inside lie.sent;
-      transmittable = all-head (CanTransmit a.memory) head _ (subst (λ (list : List ℕ). All (CanTransmit a.memory) list) first can.transmittable);
+      transmittable = all-head (CanTransmit a.memory) head _
+          (subst (λ (list : List ℕ). All (CanTransmit a.memory) list) first can.transmittable);
     }
 
 -- The oldest of frames within a size has at most as many bytes.
@@ -71,12 +73,15 @@ can_move o p a sound can has =
     let buffer = buffer_of a head in
     let slots = sound.receive_slots in
     let Within : ℕ → Type 0 = λ d. IsInside (descriptor_area d) r in
-    let within = all-right Within (in_work a) (offered ring) (dealt-right a.memory ring o (in_work a) Within slots (outstanding-inside ring o slots.slot)) in
+    let within = all-right Within (in_work a) (offered ring)
+    (dealt-right a.memory ring o (in_work a) Within slots (outstanding-inside ring o slots.slot)) in
     let inside = all-head Within head _ (subst (λ (list : List ℕ). All Within list) first within) in
     let lie = of-areas (Lies a.memory) o a sound.separate.lie in
     let enabled : receives a ≡ true = eq-eqb _ _ has.enabled in
-    let on : All (Lies a.memory) (map (buffer_of a) (offered ring)) = subst (λ (set : Bool). All (Lies a.memory) (cond set (map (buffer_of a) (offered ring)) [])) enabled lie.buffers in
-    let place : LiesIn a.memory buffer.address buffer.size = all-head (Lies a.memory) buffer _ (subst (λ (list : List ℕ). All (Lies a.memory) (map (buffer_of a) list)) first on) in
+    let on : All (Lies a.memory) (map (buffer_of a) (offered ring)) = subst
+    (λ (set : Bool). All (Lies a.memory) (cond set (map (buffer_of a) (offered ring)) [])) enabled lie.buffers in
+    let place : LiesIn a.memory buffer.address buffer.size = all-head (Lies a.memory) buffer _
+    (subst (λ (list : List ℕ). All (Lies a.memory) (map (buffer_of a) list)) first on) in
     let short = oldest-fits (buffer_size a) a.adapter.receiver.buffer can.frames in
     record {
       indices = in_ring;
@@ -91,7 +96,8 @@ tick-no_fault : (works : Bool) → Fault ≢ ticked works
 tick-no_fault true same = absurd (cc)
 tick-no_fault false same = absurd (cc)
 
-no_fault : (o p : ℕ) (a : World) (kind : StepKind) (wire_free : Bool) → Sound o p a → CanRun a → ¬ (Answers kind wire_free a.memory a.adapter Fault)
+no_fault : (o p : ℕ) (a : World) (kind : StepKind) (wire_free : Bool) → Sound o p a → CanRun a
+    → ¬ (Answers kind wire_free a.memory a.adapter Fault)
 no_fault o p a TxTake wire_free sound can answers = answers.1 (can_take o p a sound can answers.0)
 no_fault o p a TxPut wire_free sound can answers = answers
 no_fault o p a RxData wire_free sound can answers = answers.1 (can_move o p a sound can answers.0)
@@ -106,10 +112,12 @@ faults_never_come o p a kind wire_free answer sound can answers same =
 -- What stays.
 
 -- Descriptors that stay, in a memory of the same size.
-pub transmittable-kept : (memory memory' : List ℕ) (slots : List ℕ) → length memory' ≡ length memory → All (IsSame memory memory') slots → All (CanTransmit memory) slots → All (CanTransmit memory') slots
+pub transmittable-kept : (memory memory' : List ℕ) (slots : List ℕ) → length memory' ≡ length memory → All (IsSame memory memory') slots
+    → All (CanTransmit memory) slots → All (CanTransmit memory') slots
 transmittable-kept memory memory' slots size same can = λ k d below.
     let old = can k d below in
-    let there : IsTransmittable memory' _ = record { ends = old.ends; legacy = old.legacy; least = old.least; most = old.most; lies = omega (arith, size, old.lies) } in
+    let there : IsTransmittable memory' _ = record
+    { ends = old.ends; legacy = old.legacy; least = old.least; most = old.most; lies = omega (arith, size, old.lies) } in
     subst (λ (desc : TxDesc). IsTransmittable memory' desc) (sym (ap tx_desc_of (same k d below))) there
 
 -- Frames without the oldest.

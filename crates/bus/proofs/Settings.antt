@@ -17,10 +17,13 @@ use Rattle.bus.proofs.Lists.{all-head, all-left, all-right, all-tail}
 use Rattle.bus.proofs.PhyLinks.{link-ticks}
 use Rattle.bus.specs.Law.{Management, management_of, Happens}
 use Rattle.bus.specs.Past.{Past, joined}
-use Rattle.bus.specs.Settings.{adapter_with, AreSet, HappeningsLeaveSettings, IsNotReceiveControl, IsOff, LeavesReceiver, NoArrival, Settings, settings_after, settings_after_all, settings_of, SettingsJoin, StaysOff, WhileOff, Write, writes_in, WritesSet}
+use Rattle.bus.specs.Settings.{adapter_with, AreSet, HappeningsLeaveSettings, IsNotReceiveControl, IsOff, LeavesReceiver, NoArrival}
+use Rattle.bus.specs.Settings.{Settings, settings_after, settings_after_all, settings_of, SettingsJoin, StaysOff, WhileOff, Write}
+use Rattle.bus.specs.Settings.{writes_in, WritesSet}
 
 -- Equal parts are equal settings.
-same-settings : (a b : AdapterState) → b.image ≡ a.image → b.phy.link ≡ a.phy.link → b.receive_kilobytes ≡ a.receive_kilobytes → b.device_control ≡ a.device_control → b.causes.mask ≡ a.causes.mask
+same-settings : (a b : AdapterState) → b.image ≡ a.image → b.phy.link ≡ a.phy.link → b.receive_kilobytes ≡ a.receive_kilobytes
+    → b.device_control ≡ a.device_control → b.causes.mask ≡ a.causes.mask
     → b.filter ≡ a.filter → b.transmit_control ≡ a.transmit_control → b.receive_ring ≡ record a.receive_ring { head = b.receive_ring.head }
     → b.transmit_ring ≡ record a.transmit_ring { head = b.transmit_ring.head } → settings_of b ≡ settings_of a
 same-settings a b image link kilobytes control mask filter transmit_control receive transmit =
@@ -30,7 +33,9 @@ same-settings a b image link kilobytes control mask filter transmit_control rece
 pub happenings_leave_settings : HappeningsLeaveSettings
 happenings_leave_settings a b past happens =
     let steady = happens.steady in
-    same-settings a.adapter b.adapter steady.image (ap (λ (line : Management). line.phy.link) steady.management ∙ link-ticks past.phy_ticks (management_of a.adapter)) steady.allocation steady.device_control steady.mask steady.filter steady.transmit_control steady.receive_ring steady.transmit_ring
+    same-settings a.adapter b.adapter steady.image (ap (λ (line : Management). line.phy.link) steady.management
+    ∙ link-ticks past.phy_ticks (management_of a.adapter)) steady.allocation steady.device_control steady.mask steady.filter
+    steady.transmit_control steady.receive_ring steady.transmit_ring
 
 -- A read leaves them.
 read-leaves : (register : Register) (adapter : AdapterState) → settings_of (read_of register adapter) ≡ settings_of adapter
@@ -50,7 +55,8 @@ reads-leave offset adapter = by_case (register_at offset)
 
 -- A write sets what it sets of an adapter at rest.
 row-sets : (register : Register) (value : ℕ) (adapter : AdapterState)
-    → settings_of (by_row (row_of register).kept register value adapter) ≡ settings_of (by_row (row_of register).kept register value (adapter_with (settings_of adapter)))
+    → settings_of (by_row (row_of register).kept register value adapter)
+    ≡ settings_of (by_row (row_of register).kept register value (adapter_with (settings_of adapter)))
 row-sets (Receive BaseLow) value adapter = refl
 row-sets (Receive BaseHigh) value adapter = refl
 row-sets (Receive Length) value adapter = refl
@@ -80,14 +86,16 @@ writes-set offset value adapter = by_case (register_at offset)
     by_case (Some register) = by_test register (is_reset register value)
 
 -- Stretches join.
-pub settings-append : (first later : List Write) (settings : Settings) → settings_after_all (first ++ later) settings ≡ settings_after_all later (settings_after_all first settings)
+pub settings-append : (first later : List Write) (settings : Settings)
+    → settings_after_all (first ++ later) settings ≡ settings_after_all later (settings_after_all first settings)
 settings-append [] later settings = refl
 settings-append (write ∷ first) later settings = settings-append first later _
 
 pub writes-append : (first later : List Access) → writes_in (first ++ later) ≡ writes_in first ++ writes_in later
 writes-append [] later = refl
 writes-append (Reads offset value ∷ first) later = writes-append first later
-writes-append (Writes offset value ∷ first) later = ap (λ (list : List Write). (let write : Write = record { offset = offset; value = value } in write) ∷ list) (writes-append first later)
+writes-append (Writes offset value ∷ first) later = ap
+    (λ (list : List Write). (let write : Write = record { offset = offset; value = value } in write) ∷ list) (writes-append first later)
 writes-append (Loads address size ∷ first) later = writes-append first later
 writes-append (Stores address bytes ∷ first) later = writes-append first later
 
@@ -100,37 +108,45 @@ settings_join a b c first later one two =
 
 -- While frames don't come.
 
-row-leaves_receiver : (register : Register) (value : ℕ) (state : AdapterState) → IsNotReceiveControl (Some register) → (by_row (row_of register).kept register value state).filter.rctl ≡ state.filter.rctl
+row-leaves_receiver : (register : Register) (value : ℕ) (state : AdapterState) → IsNotReceiveControl (Some register)
+    → (by_row (row_of register).kept register value state).filter.rctl ≡ state.filter.rctl
 row-leaves_receiver Rctl value state other = absurd other
 row-leaves_receiver _ value state other = refl
 
-stays-off-once : (write : Write) (settings : Settings) → LeavesReceiver write → ¬ (HasBit settings.filter.rctl 1) → ¬ (HasBit (settings_after write settings).filter.rctl 1)
+stays-off-once : (write : Write) (settings : Settings) → LeavesReceiver write → ¬ (HasBit settings.filter.rctl 1)
+    → ¬ (HasBit (settings_after write settings).filter.rctl 1)
 stays-off-once write settings leaves off = by_case (register_at write.offset) leaves
   where
     by_test : (register : Register) (test : Bool) → IsNotReceiveControl (Some register)
-        → ¬ (HasBit (if test then after_reset (adapter_with settings) else by_row (row_of register).kept register write.value (adapter_with settings)).filter.rctl 1)
+        → ¬ (HasBit (if test then after_reset (adapter_with settings) else by_row (row_of register).kept register write.value
+        (adapter_with settings)).filter.rctl 1)
     by_test register true other = HasBit-zero 1
-    by_test register false other = subst (λ (control : ℕ). ¬ (HasBit control 1)) (sym (row-leaves_receiver register write.value (adapter_with settings) other)) off
+    by_test register false other = subst (λ (control : ℕ). ¬ (HasBit control 1))
+        (sym (row-leaves_receiver register write.value (adapter_with settings) other)) off
 
-    by_case : (found : Option Register) → IsNotReceiveControl found → ¬ (HasBit (left_by_write found write.value (adapter_with settings)).filter.rctl 1)
+    by_case : (found : Option Register) → IsNotReceiveControl found
+        → ¬ (HasBit (left_by_write found write.value (adapter_with settings)).filter.rctl 1)
     by_case None other = off
     by_case (Some register) other = by_test register (is_reset register write.value) other
 
 pub stays-off : StaysOff
 stays-off [] settings leaves off = off
 stays-off (write ∷ later) settings leaves off =
-    stays-off later (settings_after write settings) (all-tail LeavesReceiver write later leaves) (stays-off-once write settings (all-head LeavesReceiver write later leaves) off)
+    stays-off later (settings_after write settings) (all-tail LeavesReceiver write later leaves)
+    (stays-off-once write settings (all-head LeavesReceiver write later leaves) off)
 
 -- Whatever happens.
 pub happens-off : (a b : World) (past : Past) → Happens a b past → IsOff a → NoArrival past
 happens-off a b past happens off = let none = happens.steady.off off in record { none_stored = none.0; none_missed = none.1 }
 
 -- Two stretches.
-pub while_off-joins : (a b : World) (first later : Past) → AreSet a b first → WhileOff a first → WhileOff b later → WhileOff a (joined first later)
+pub while_off-joins : (a b : World) (first later : Past) → AreSet a b first → WhileOff a first → WhileOff b later
+    → WhileOff a (joined first later)
 while_off-joins a b first later set one two = λ off leaves.
     let writes = subst (All LeavesReceiver) (writes-append first.accesses later.accesses) leaves in
     let before = all-left LeavesReceiver (writes_in first.accesses) (writes_in later.accesses) writes in
-    let still : IsOff b = subst (λ (settings : Settings). ¬ (HasBit settings.filter.rctl 1)) (sym set) (stays-off (writes_in first.accesses) (settings_of a.adapter) before off) in
+    let still : IsOff b = subst (λ (settings : Settings). ¬ (HasBit settings.filter.rctl 1)) (sym set)
+    (stays-off (writes_in first.accesses) (settings_of a.adapter) before off) in
     let start = one off before in
     let end = two still (all-right LeavesReceiver (writes_in first.accesses) (writes_in later.accesses) writes) in
     record { none_stored = rw (start.none_stored, end.none_stored) refl; none_missed = rw (start.none_missed, end.none_missed) refl }
@@ -141,7 +157,8 @@ record SameDevice (a b : Settings) : Type 0 where
   image : b.image ≡ a.image
   link : b.link ≡ a.link
 
-row-device : (register : Register) (value : ℕ) (settings : Settings) → SameDevice settings (settings_of (by_row (row_of register).kept register value (adapter_with settings)))
+row-device : (register : Register) (value : ℕ) (settings : Settings)
+    → SameDevice settings (settings_of (by_row (row_of register).kept register value (adapter_with settings)))
 row-device Rctl value settings = record { image = refl; link = refl }
 row-device (Receive part) value settings = record { image = refl; link = refl }
 row-device (Transmit part) value settings = record { image = refl; link = refl }
@@ -151,7 +168,9 @@ write-device : (write : Write) (settings : Settings) → SameDevice settings (se
 write-device write settings = by_case (register_at write.offset)
   where
     by_test : (register : Register) (test : Bool)
-        → SameDevice settings (settings_of (if test then after_reset (adapter_with settings) else by_row (row_of register).kept register write.value (adapter_with settings)))
+        → SameDevice settings
+        (settings_of (if test then after_reset (adapter_with settings) else by_row (row_of register).kept register write.value
+        (adapter_with settings)))
     by_test register true = record { image = refl; link = refl }
     by_test register false = row-device register write.value settings
 

@@ -1,5 +1,6 @@
 -- The buses of `src/sound_buses.rt`: what their registers say, and that the laws apply to them.
-use Rattle.std.proofs.Common.{◌≡◌, ◌≤◌, ◌+◌, false, inl, inr, ◌++◌, ◌∷◌, [], true, ℕ, Bool, List, length, replicate, slice_index, refl, sym, ap, subst, ◌∙◌, arith}
+use Rattle.std.proofs.Common.{◌≡◌, ◌≤◌, ◌+◌, false, inl, inr, ◌++◌, ◌∷◌, [], true, ℕ, Bool, List, length, replicate, slice_index, refl, sym}
+use Rattle.std.proofs.Common.{ap, subst, ◌∙◌, arith}
 use Rattle.std.specs.List.{All}
 use Rattle.std.proofs.lemmas.List.{length-replicate}
 use Rattle.std.proofs.lemmas.List.Elements.{All-cons}
@@ -63,7 +64,8 @@ set_up world =
     world_after_write 0x400 0xA (world_after_write 0x100 0x8002 (world_after_write 0x3808 128 (world_after_write 0x3800 2176
     (world_after_write 0x2808 128 (world_after_write 0x2800 2048 world)))))
 
-pub set_up-rests : (size : ℕ) (words : List ℕ) → set_up (record { memory = replicate size 0; adapter = new_adapter words Never }) ≡ resting size words
+pub set_up-rests : (size : ℕ) (words : List ℕ)
+    → set_up (record { memory = replicate size 0; adapter = new_adapter words Never }) ≡ resting size words
 unfolding register_at array_register_at
 set_up-rests size words = refl
 
@@ -84,7 +86,8 @@ resting-idle size words fits =
         transmit = refl;
         separate = record {
           lie = All-cons Lies r (t ∷ []) (omega (arith, long, fits)) (All-cons Lies t [] (omega (arith, long, fits)) (all-none Lies));
-          apart = AllPairs-cons AreApart r (t ∷ []) (All-cons (AreApart r) t [] (inl (omega arith)) (all-none (AreApart r))) (AllPairs-cons AreApart t [] (all-none (AreApart t)) (pairs-none AreApart));
+          apart = AllPairs-cons AreApart r (t ∷ []) (All-cons (AreApart r) t [] (inl (omega arith)) (all-none (AreApart r)))
+              (AllPairs-cons AreApart t [] (all-none (AreApart t)) (pairs-none AreApart));
         };
       };
     }
@@ -112,13 +115,16 @@ resting-can_offer size words fits =
       fresh = zeros-open size 2048 (omega (arith, fits));
       lies = subst (λ (address : ℕ). LiesIn memory address 2048) (sym named_zero) (omega (arith, long, fits));
       apart =
-          subst (λ (list : List Area). All (λ area. AreApart area (buffer_of w 2048)) list) (sym (idle-areas w (resting-idle size words fits)))
-          (subst (λ (address : ℕ). let there : Area = record { address = address; size = 2048 } in All (λ area. AreApart area there) (r ∷ t ∷ [])) (sym named_zero)
+          subst (λ (list : List Area). All (λ area. AreApart area (buffer_of w 2048)) list)
+          (sym (idle-areas w (resting-idle size words fits)))
+          (subst (λ (address : ℕ). let there : Area = record { address = address; size = 2048 } in All (λ area. AreApart area there)
+          (r ∷ t ∷ [])) (sym named_zero)
           (All-cons Apart r (t ∷ []) (inr (omega arith)) (All-cons Apart t [] (inr (omega arith)) (all-none Apart))));
     }
 
 pub ready-sound : (size : ℕ) (words : List ℕ) → 4096 ≤ size → Sound 0 0 (ready size words)
-ready-sound size words fits = (slots_can_be_offered 0 0 (resting size words) (resting-sound size words fits) (resting-can_offer size words fits)).same.sound
+ready-sound size words fits =
+    (slots_can_be_offered 0 0 (resting size words) (resting-sound size words fits) (resting-can_offer size words fits)).same.sound
 
 -- It alone is offered.
 
@@ -168,7 +174,8 @@ called-can_move size words fits =
       size = omega arith;
     }
 
-pub data-moved : (size : ℕ) (words : List ℕ) → 4096 ≤ size → (answer : Stepped) → DataAnswers (called size words).memory (called size words).adapter answer → answer ≡ Moved
+pub data-moved : (size : ℕ) (words : List ℕ) → 4096 ≤ size → (answer : Stepped)
+    → DataAnswers (called size words).memory (called size words).adapter answer → answer ≡ Moved
 data-moved size words fits Moved answers = refl
 data-moved size words fits Nothing answers = absurd (answers (called-has_frame size words))
 data-moved size words fits Fault answers = absurd (answers.1 (called-can_move size words fits))
@@ -193,22 +200,29 @@ reported-has_finished size words sound none =
 
 -- By the law any step keeps the conditions, and so does any arrival.
 
-pub stepped-sound : (kind : StepKind) (free : Bool) (answer : Stepped) (world : World) → IsAdapter world.adapter → Answers kind free world.memory world.adapter answer → Sound 0 0 world → Sound 0 0 (world_after_step kind answer world)
+pub stepped-sound : (kind : StepKind) (free : Bool) (answer : Stepped) (world : World) → IsAdapter world.adapter
+    → Answers kind free world.memory world.adapter answer → Sound 0 0 world → Sound 0 0 (world_after_step kind answer world)
 stepped-sound kind free answer world running answers sound = ((steps_happen world kind free answer running answers).between 0 0 sound).sound
 
-pub arrived-sound : (fate : Fate) (frame : List ℕ) (world : World) → IsAdapter world.adapter → IsFate world.adapter frame fate → Sound 0 0 world → Sound 0 0 (world_after_arrival fate frame world)
+pub arrived-sound : (fate : Fate) (frame : List ℕ) (world : World) → IsAdapter world.adapter → IsFate world.adapter frame fate
+    → Sound 0 0 world → Sound 0 0 (world_after_arrival fate frame world)
 arrived-sound fate frame world running is sound = ((arrivals_happen world fate frame running is).between 0 0 sound).sound
 
 -- What a call leaves, by what the adapter answers.
 
-pub working-found : (size : ℕ) (words : List ℕ) (fate : Fate) (answer : Stepped) (a b d : World) → 4096 ≤ size → a ≡ ready size words → IsFate a.adapter call fate → b ≡ world_after_arrival fate call a → DataAnswers b.memory b.adapter answer → d ≡ world_after_step RxData answer b → d ≡ working size words
+pub working-found : (size : ℕ) (words : List ℕ) (fate : Fate) (answer : Stepped) (a b d : World) → 4096 ≤ size → a ≡ ready size words
+    → IsFate a.adapter call fate → b ≡ world_after_arrival fate call a → DataAnswers b.memory b.adapter answer
+    → d ≡ world_after_step RxData answer b → d ≡ working size words
 working-found size words fate answer a b d fits begins is arrives answers steps =
     let stored : fate ≡ Stored = fate-stored size words fate (subst (λ (w : World). IsFate w.adapter call fate) begins is) in
-    let there : b ≡ called size words = arrives ∙ ap (λ (f : Fate). world_after_arrival f call a) stored ∙ ap (world_after_arrival Stored call) begins in
-    let moved : answer ≡ Moved = data-moved size words fits answer (subst (λ (w : World). DataAnswers w.memory w.adapter answer) there answers) in
+    let there : b ≡ called size words = arrives ∙ ap (λ (f : Fate). world_after_arrival f call a) stored
+    ∙ ap (world_after_arrival Stored call) begins in
+    let moved : answer ≡ Moved = data-moved size words fits answer
+    (subst (λ (w : World). DataAnswers w.memory w.adapter answer) there answers) in
     steps ∙ ap (λ (told : Stepped). world_after_step RxData told b) moved ∙ ap (world_after_step RxData Moved) there
 
-pub reported-found : (size : ℕ) (words : List ℕ) (answer : Stepped) (a b : World) → a ≡ working size words → DoneAnswers a.adapter answer → b ≡ world_after_step RxDone answer a → b ≡ reported size words
+pub reported-found : (size : ℕ) (words : List ℕ) (answer : Stepped) (a b : World) → a ≡ working size words → DoneAnswers a.adapter answer
+    → b ≡ world_after_step RxDone answer a → b ≡ reported size words
 reported-found size words answer a b begins answers steps =
     let done : answer ≡ Done = done-reported size words answer (subst (λ (w : World). DoneAnswers w.adapter answer) begins answers) in
     steps ∙ ap (λ (told : Stepped). world_after_step RxDone told a) done ∙ ap (world_after_step RxDone Done) begins
@@ -222,19 +236,23 @@ requested-size : (size : ℕ) (words : List ℕ) → 4096 ≤ size → length (r
 requested-size size words fits = length-with_bytes (replicate size 0) request 2176 (request-lies size fits)
 
 pub requested-idle : (size : ℕ) (words : List ℕ) → 4096 ≤ size → IsIdle (requested size words)
-requested-idle size words fits = stores_keep_idle 2176 request (resting size words) (requested-size size words fits) (resting-idle size words fits)
+requested-idle size words fits = stores_keep_idle 2176 request (resting size words) (requested-size size words fits)
+    (resting-idle size words fits)
 
 requested-bytes : (size : ℕ) (words : List ℕ) → 4096 ≤ size → bytes_at (requested size words).memory 2176 16 ≡ request
 requested-bytes size words fits = bytes_at-stored (replicate size 0) request 2176 (request-lies size fits)
 
-requested-data : (size : ℕ) (words : List ℕ) → 4096 ≤ size → data_of (requested size words).memory 2176 ≡ record { address = 2304; size = 60 }
+requested-data : (size : ℕ) (words : List ℕ) → 4096 ≤ size
+    → data_of (requested size words).memory 2176 ≡ record { address = 2304; size = 60 }
 unfolding tx_desc_of
 requested-data size words fits =
-    ap (λ (bytes : List ℕ). let area : Area = record { address = (tx_desc_of bytes).address; size = (tx_desc_of bytes).length } in area) (requested-bytes size words fits)
+    ap (λ (bytes : List ℕ). let area : Area = record { address = (tx_desc_of bytes).address; size = (tx_desc_of bytes).length } in area)
+    (requested-bytes size words fits)
 
 requested-reports : (size : ℕ) (words : List ℕ) → 4096 ≤ size → Reports (fetched true (requested size words).memory 2176)
 unfolding tx_desc_of
-requested-reports size words fits = ap (λ (bytes : List ℕ). is_set (command_bits (tx_desc_of bytes).command) 3) (requested-bytes size words fits)
+requested-reports size words fits = ap (λ (bytes : List ℕ). is_set (command_bits (tx_desc_of bytes).command) 3)
+    (requested-bytes size words fits)
 
 -- and its slot offered.
 
@@ -259,14 +277,16 @@ requested-can_send size words fits =
       pads = refl;
       lies = subst (λ (area : Area). LiesIn memory area.address area.size) (sym is) (omega (arith, long, zeros, fits));
       apart =
-          subst (λ (list : List Area). All (λ area. AreApart area (data_of memory 2176)) list) (sym (idle-areas w (requested-idle size words fits)))
+          subst (λ (list : List Area). All (λ area. AreApart area (data_of memory 2176)) list)
+          (sym (idle-areas w (requested-idle size words fits)))
           (subst (λ (there : Area). All (λ area. AreApart area there) (r ∷ t ∷ [])) (sym is)
           (All-cons Apart r (t ∷ []) (inl (omega arith)) (All-cons Apart t [] (inl (omega arith)) (all-none Apart))));
     }
 
 pub sending-sound : (size : ℕ) (words : List ℕ) → 4096 ≤ size → Sound 0 0 (sending size words)
 sending-sound size words fits =
-    (frames_can_be_offered 0 0 (requested size words) (idle_rings_are_sound (requested size words) (requested-idle size words fits)) (requested-can_send size words fits)).sound
+    (frames_can_be_offered 0 0 (requested size words) (idle_rings_are_sound (requested size words) (requested-idle size words fits))
+    (requested-can_send size words fits)).sound
 
 pub sending-has_frames : (size : ℕ) (words : List ℕ) → HasFramesInRing (sending size words)
 unfolding owned to_send
@@ -285,14 +305,22 @@ sending-busy size words (inr (inl stopped)) = absurd (cc)
 sending-busy size words (inr (inr (inl full))) = absurd (omega (arith, full))
 sending-busy size words (inr (inr (inr same))) = absurd (omega (arith, same))
 
-pub sending-fields : (size : ℕ) (words : List ℕ) → 4096 ≤ size → IsTransmittable (requested size words).memory (descriptor_at (requested size words).memory 2176)
+pub sending-fields : (size : ℕ) (words : List ℕ) → 4096 ≤ size
+    → IsTransmittable (requested size words).memory (descriptor_at (requested size words).memory 2176)
 unfolding tx_desc_of
 sending-fields size words fits =
     let memory = (requested size words).memory in
     let long = requested-size size words fits in
     let zeros = length-replicate {A = ℕ} size 0 in
     subst (λ (bytes : List ℕ). IsTransmittable memory (tx_desc_of bytes)) (sym (requested-bytes size words fits))
-    (record { ends = refl; legacy = λ set. absurd (omega (arith, set)); least = omega arith; most = omega arith; lies = omega (arith, long, zeros, fits) })
+    (record {
+      ends = refl;
+      legacy = λ set. absurd (omega (arith, set));
+      least = omega arith;
+      most = omega arith;
+      lies = omega
+          (arith, long, zeros, fits);
+    })
 
 sending-can_take : (size : ℕ) (words : List ℕ) → 4096 ≤ size → CanTake (sending size words).memory (sending size words).adapter
 sending-can_take size words fits =
@@ -304,7 +332,8 @@ sending-can_take size words fits =
       transmittable = sending-fields size words fits;
     }
 
-take-took : (size : ℕ) (words : List ℕ) → 4096 ≤ size → (answer : Stepped) → TakeAnswers (sending size words).memory (sending size words).adapter answer → answer ≡ Took
+take-took : (size : ℕ) (words : List ℕ) → 4096 ≤ size → (answer : Stepped)
+    → TakeAnswers (sending size words).memory (sending size words).adapter answer → answer ≡ Took
 take-took size words fits Took answers = refl
 take-took size words fits Nothing answers = absurd (sending-busy size words answers)
 take-took size words fits Fault answers = absurd (answers.1 (sending-can_take size words fits))
@@ -313,7 +342,9 @@ take-took size words fits _ answers = absurd answers
 pub sent-has_frames : (size : ℕ) (words : List ℕ) → HasFramesInBuffer (sent size words)
 sent-has_frames size words none = absurd (cc)
 
-pub sent-found : (size : ℕ) (words : List ℕ) (answer : Stepped) (a b : World) → 4096 ≤ size → a ≡ sending size words → TakeAnswers a.memory a.adapter answer → b ≡ world_after_step TxTake answer a → b ≡ sent size words
+pub sent-found : (size : ℕ) (words : List ℕ) (answer : Stepped) (a b : World) → 4096 ≤ size → a ≡ sending size words
+    → TakeAnswers a.memory a.adapter answer → b ≡ world_after_step TxTake answer a → b ≡ sent size words
 sent-found size words answer a b fits begins answers steps =
-    let took : answer ≡ Took = take-took size words fits answer (subst (λ (w : World). TakeAnswers w.memory w.adapter answer) begins answers) in
+    let took : answer ≡ Took = take-took size words fits answer
+    (subst (λ (w : World). TakeAnswers w.memory w.adapter answer) begins answers) in
     steps ∙ ap (λ (told : Stepped). world_after_step TxTake told a) took ∙ ap (world_after_step TxTake Took) begins

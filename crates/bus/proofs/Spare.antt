@@ -6,7 +6,8 @@ use Rattle.dma_memory.specs.Areas.{AreApart, Area, IsInside}
 use Rattle.dma_memory.specs.AreaLaws.{apart-inside, apart-sym, inside-apart}
 use Rattle.rx_engine.specs.Descriptors as receive
 use Rattle.rx_engine.specs.declared.engine.Work.{Work}
-use Rattle.adapter.specs.HostAreas.{areas, buffer_of, buffer_size, data_of, IsForeign, offered_buffers, receives, reported_half, ring_area, status_byte, work_areas}
+use Rattle.adapter.specs.HostAreas.{areas, buffer_of, buffer_size, data_of, IsForeign, offered_buffers, receives, reported_half, ring_area}
+use Rattle.adapter.specs.HostAreas.{status_byte, work_areas}
 use Rattle.adapter.specs.Slots.{buffered, in_work, offered, slot_of_work}
 use Rattle.adapter.specs.HostFrames.{named}
 use Rattle.adapter.specs.Conditions.{FitBuffers, Sound}
@@ -20,7 +21,9 @@ use Rattle.bus.proofs.Rings.{dealt-left, dealt-right}
 -- Apart from the areas.
 
 -- The frame in work stands in its buffer.
-work-apart : (memory : List ℕ) (work : Option Work) (size : ℕ) (area : Area) → All (λ d. AreApart (record { address = receive.named_address memory d; size = size }) area) (slot_of_work work) → All (λ place. place.size ≤ size) (work_areas memory work) → All (λ other. AreApart other area) (work_areas memory work)
+work-apart : (memory : List ℕ) (work : Option Work) (size : ℕ) (area : Area)
+    → All (λ d. AreApart (record { address = receive.named_address memory d; size = size }) area) (slot_of_work work)
+    → All (λ place. place.size ≤ size) (work_areas memory work) → All (λ other. AreApart other area) (work_areas memory work)
 work-apart memory None size area apart fit = all-none (λ other. AreApart other area)
 work-apart memory (Some work) size area apart fit =
     let at = receive.named_address memory work.descriptor in
@@ -28,20 +31,26 @@ work-apart memory (Some work) size area apart fit =
     let whole : Area = record { address = at; size = size } in
     let brief : work.length ≤ size = all-head (λ (other : Area). other.size ≤ size) place [] fit in
     let inside : IsInside place whole = record { from = omega arith; to = omega (arith, brief) } in
-    All-cons (λ other. AreApart other area) place [] (apart-inside place whole area inside (all-head (λ d. AreApart (record { address = receive.named_address memory d; size = size }) area) work.descriptor [] apart)) (all-none (λ other. AreApart other area))
+    All-cons (λ other. AreApart other area) place []
+    (apart-inside place whole area inside
+    (all-head (λ d. AreApart (record { address = receive.named_address memory d; size = size }) area) work.descriptor [] apart))
+    (all-none (λ other. AreApart other area))
 
 -- A finished frame stands in its buffer.
-name-apart : (memory : List ℕ) (size d : ℕ) (area : Area) → (named memory d).size ≤ size → AreApart (record { address = receive.named_address memory d; size = size }) area → AreApart (named memory d) area
+name-apart : (memory : List ℕ) (size d : ℕ) (area : Area) → (named memory d).size ≤ size
+    → AreApart (record { address = receive.named_address memory d; size = size }) area → AreApart (named memory d) area
 name-apart memory size d area fit apart =
     let whole : Area = record { address = receive.named_address memory d; size = size } in
     let inside : IsInside (named memory d) whole = record { from = omega arith; to = omega (arith, fit) } in
     apart-inside (named memory d) whole area inside apart
 
-buffers-apart : (on : Bool) (f : ℕ → Area) (slots : List ℕ) (area : Area) → All (λ d. AreApart (f d) area) slots → All (λ other. AreApart other area) (cond on (map f slots) [])
+buffers-apart : (on : Bool) (f : ℕ → Area) (slots : List ℕ) (area : Area) → All (λ d. AreApart (f d) area) slots
+    → All (λ other. AreApart other area) (cond on (map f slots) [])
 buffers-apart true f slots area apart = All-map (λ other. AreApart other area) f slots apart
 buffers-apart false f slots area apart = all-none (λ other. AreApart other area)
 
-pub spare-apart : (o p : ℕ) (a : World) (area : Area) → Sound o p a → FitBuffers o a → IsSpare o p a area → All (λ other. AreApart other area) (areas o a)
+pub spare-apart : (o p : ℕ) (a : World) (area : Area) → Sound o p a → FitBuffers o a → IsSpare o p a area
+    → All (λ other. AreApart other area) (areas o a)
 spare-apart o p a area sound fit spare =
     let Away : ℕ → Type 0 = λ d. AreApart (buffer_of a d) area in
     let Near : ℕ → Type 0 = λ d. AreApart (data_of a.memory d) area in
@@ -55,7 +64,8 @@ spare-apart o p a area sound fit spare =
       payload = all-right Near (buffered a) (offered (transmit_ring a)) sent;
       names = λ k d below. name-apart a.memory (buffer_size a) _ area (fit.finished_fit k d below) (done k d below);
       work = work-apart a.memory work (buffer_size a) area (all-left Away (in_work a) (offered (receive_ring a)) behind) fit.work_fits;
-      buffers = buffers-apart (receives a) (buffer_of a) (offered (receive_ring a)) area (all-right Away (in_work a) (offered (receive_ring a)) behind);
+      buffers = buffers-apart (receives a) (buffer_of a) (offered (receive_ring a)) area
+          (all-right Away (in_work a) (offered (receive_ring a)) behind);
     })
 
 -- The adapter doesn't write it.

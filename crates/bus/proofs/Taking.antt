@@ -40,14 +40,16 @@ abbrev pub taken : Bool → World → World
 taken pad world = record world {
   adapter = with_causes (causes_of_taking world.adapter.transmit_ring) (record world.adapter {
     transmitter = record world.adapter.transmitter {
-      buffer = world.adapter.transmitter.buffer ++ fetched pad world.memory (address_of (transmit_ring world) world.adapter.transmit_ring.head) ∷ [];
+      buffer = world.adapter.transmitter.buffer ++ fetched pad world.memory
+          (address_of (transmit_ring world) world.adapter.transmit_ring.head) ∷ [];
     };
     transmit_ring = moved_on world.adapter.transmit_ring;
   });
 }
 
 -- The frame at the head goes to the packet buffer's end, and its slot from the offered to the taken ones.
-pub between_padded : (o p : ℕ) (a : World) → IsSound (transmit_ring a) → ¬ (a.adapter.transmit_ring.head ≡ a.adapter.transmit_ring.tail) → Sound o p a → Between o p a (taken true a) nothing
+pub between_padded : (o p : ℕ) (a : World) → IsSound (transmit_ring a) → ¬ (a.adapter.transmit_ring.head ≡ a.adapter.transmit_ring.tail)
+    → Sound o p a → Between o p a (taken true a) nothing
 between_padded o p a in_ring differ sound =
     let b = taken true a in
     let ring = transmit_ring a in
@@ -56,11 +58,15 @@ between_padded o p a in_ring differ sound =
     let rest = offered (transmit_ring b) in
     let others = map (named a.memory) (finished o a) ++ (work_areas a.memory a.adapter.receiver.work ++ offered_buffers a) in
     let first : offered ring ≡ head ∷ rest = offered-head ring in_ring differ in
-    let grown : buffered b ≡ buffered a ++ head ∷ [] = map-append (λ (queued : Queued). queued.descriptor) buffer (fetched true a.memory head ∷ []) in
+    let grown : buffered b
+    ≡ buffered a ++ head ∷ [] = map-append (λ (queued : Queued). queued.descriptor) buffer (fetched true a.memory head ∷ []) in
     let same : buffered b ++ rest ≡ buffered a ++ offered ring =
-    ap (λ (slots : List ℕ). slots ++ rest) grown ∙ append_assoc (buffered a) (head ∷ []) rest ∙ ap (λ (slots : List ℕ). buffered a ++ slots) (sym first) in
-    let areas : AreSeparate a.memory (ring_area (receive_ring a) ∷ ring_area ring ∷ (data_of a.memory head ∷ (map (data_of a.memory) rest ++ others))) =
-    subst (λ (slots : List ℕ). AreSeparate a.memory (ring_area (receive_ring a) ∷ ring_area ring ∷ (map (data_of a.memory) slots ++ others))) first sound.separate in
+    ap (λ (slots : List ℕ). slots ++ rest) grown ∙ append_assoc (buffered a) (head ∷ []) rest
+    ∙ ap (λ (slots : List ℕ). buffered a ++ slots) (sym first) in
+    let areas : AreSeparate a.memory (ring_area (receive_ring a) ∷ ring_area ring
+    ∷ (data_of a.memory head ∷ (map (data_of a.memory) rest ++ others))) =
+    subst (λ (slots : List ℕ). AreSeparate a.memory (ring_area (receive_ring a) ∷ ring_area ring
+    ∷ (map (data_of a.memory) slots ++ others))) first sound.separate in
     let reports : All Reports (buffer ++ (fetched true a.memory head ∷ map (fetched true a.memory) rest)) =
     subst (λ (slots : List ℕ). All Reports (buffer ++ map (fetched true a.memory) slots)) first sound.reports in
     record {
@@ -76,7 +82,8 @@ between_padded o p a in_ring differ sound =
       whole = λ are. are;
       untouched = λ area apart. refl;
       foreign = λ area apart.
-          subst (λ (slots : List ℕ). All (AreApart area) (map reported_half (in_work a ++ offered (receive_ring a)) ++ (map status_byte slots ++ offered_buffers a))) (sym same) apart;
+          subst (λ (slots : List ℕ). All (AreApart area)
+          (map reported_half (in_work a ++ offered (receive_ring a)) ++ (map status_byte slots ++ offered_buffers a))) (sym same) apart;
       runs = λ short can. record {
         receiver_runs = can.receiver_runs;
         transmitter_runs = can.transmitter_runs;
@@ -84,27 +91,32 @@ between_padded o p a in_ring differ sound =
         transmit_indices = λ still_more. record { head = next-below (count_of ring) ring.head in_ring.head; tail = in_ring.tail };
         not_extended = can.not_extended;
         frames = can.frames;
-        transmittable = all-tail (CanTransmit a.memory) head rest (subst (λ (slots : List ℕ). All (CanTransmit a.memory) slots) first can.transmittable);
+        transmittable = all-tail (CanTransmit a.memory) head rest
+            (subst (λ (slots : List ℕ). All (CanTransmit a.memory) slots) first can.transmittable);
       };
       sound = record {
         receive_slots = sound.receive_slots;
         transmit_slots =
             subst (λ (slots : List ℕ). IsDealt a.memory (transmit_ring b) p slots) (sym grown)
             (dealt-moved a.memory ring p (buffered a) in_ring differ sound.transmit_slots);
-        separate = separate-without a.memory (ring_area (receive_ring a) ∷ ring_area ring ∷ []) (data_of a.memory head) (map (data_of a.memory) rest ++ others) areas;
-        reports = subst (λ (queue : List Queued). All Reports queue) (sym (append_assoc buffer (fetched true a.memory head ∷ []) (map (fetched true a.memory) rest))) reports;
+        separate = separate-without a.memory (ring_area (receive_ring a) ∷ ring_area ring ∷ []) (data_of a.memory head)
+            (map (data_of a.memory) rest ++ others) areas;
+        reports = subst (λ (queue : List Queued). All Reports queue)
+            (sym (append_assoc buffer (fetched true a.memory head ∷ []) (map (fetched true a.memory) rest))) reports;
         pads = λ still_more. sound.pads differ;
       };
     }
 
-between_taken : (o p : ℕ) (a : World) → ¬ (HasNothingToTake a.adapter) → CanTake a.memory a.adapter → Sound o p a → Between o p a (world_after_step TxTake Took a) nothing
+between_taken : (o p : ℕ) (a : World) → ¬ (HasNothingToTake a.adapter) → CanTake a.memory a.adapter → Sound o p a
+    → Between o p a (world_after_step TxTake Took a) nothing
 between_taken o p a not_idle can sound =
     let differ : ¬ (a.adapter.transmit_ring.head ≡ a.adapter.transmit_ring.tail) = λ same. not_idle (inr (inr (inr same))) in
     let padded : pads a.adapter.transmit_control ≡ true = eq-eqb _ _ (sound.pads differ) in
     subst (λ (pad : Bool). Between o p a (taken pad a) nothing) (sym padded) (between_padded o p a can.sound differ sound)
 
 -- Any answer of a step that takes.
-pub take_happens : (a : World) (answer : Stepped) → IsAdapter a.adapter → TakeAnswers a.memory a.adapter answer → Happens a (world_after_step TxTake answer a) nothing
+pub take_happens : (a : World) (answer : Stepped) → IsAdapter a.adapter → TakeAnswers a.memory a.adapter answer
+    → Happens a (world_after_step TxTake answer a) nothing
 take_happens a Took running answers = record {
   steady =
       steady_moves a a.memory
@@ -113,14 +125,22 @@ take_happens a Took running answers = record {
         transmit_head = next_of (transmit_ring a) a.adapter.transmit_ring.head;
         transmitter = (taken (pads a.adapter.transmit_control) a).adapter.transmitter;
       })
-      nothing refl (added a.adapter.causes.recorded (causes_of_taking a.adapter.transmit_ring)) (omega (arith, running.registers.counters.missed)) (λ off. (refl, refl)) (inl refl) (inr (record { head = next-below (count_of (transmit_ring a)) a.adapter.transmit_ring.head answers.1.sound.head; tail = answers.1.sound.tail })) (all-none IsLegal) refl refl;
+      nothing refl (added a.adapter.causes.recorded (causes_of_taking a.adapter.transmit_ring))
+      (omega (arith, running.registers.counters.missed)) (λ off. (refl, refl)) (inl refl)
+      (inr (record {
+        head = next-below (count_of (transmit_ring a)) a.adapter.transmit_ring.head answers.1.sound.head;
+        tail =
+            answers.1.sound.tail;
+      })) (all-none IsLegal) refl refl;
   between = λ o p sound. between_taken o p a answers.0 answers.1 sound;
 }
 take_happens a Fault running answers = record {
   steady =
       steady_moves a a.memory (record (still a.adapter) { transmitter = (world_after_step TxTake Fault a).adapter.transmitter })
-      nothing refl (λ place set. set) (omega (arith, running.registers.counters.missed)) (λ off. (refl, refl)) (inl refl) (inl refl) (all-none IsLegal) refl refl;
-  between = λ o p sound. between_stopped o p a a.adapter.receiver.stopped true (λ can. answers.1 (can_take o p a sound can answers.0)) sound;
+      nothing refl (λ place set. set) (omega (arith, running.registers.counters.missed)) (λ off. (refl, refl)) (inl refl) (inl refl)
+      (all-none IsLegal) refl refl;
+  between = λ o p sound. between_stopped o p a a.adapter.receiver.stopped true
+      (λ can. answers.1 (can_take o p a sound can answers.0)) sound;
 }
 take_happens a Nothing running answers = happens_none a
 take_happens a (Put frame) running answers = absurd answers

@@ -1,5 +1,6 @@
 -- A driver counts the slot behind its oldest as its oldest.
-use Rattle.std.proofs.Common.{◌≡◌, ◌≢◌, ◌≤◌, ◌<◌, ◌+◌, ◌-◌, ◌%◌, inl, inr, ⊎_elim, ◌++◌, ◌∷◌, [], true, ℕ, zero, suc, List, length, map, refl, sym, ap, subst, ◌∙◌, arith}
+use Rattle.std.proofs.Common.{◌≡◌, ◌≢◌, ◌≤◌, ◌<◌, ◌+◌, ◌-◌, ◌%◌, inl, inr, ⊎_elim, ◌++◌, ◌∷◌, [], true, ℕ, zero, suc, List, length, map}
+use Rattle.std.proofs.Common.{refl, sym, ap, subst, ◌∙◌, arith}
 use Rattle.std.specs.List.{All, AllPairs, take_while}
 use Rattle.std.proofs.lemmas.Bool.{cases_eq}
 use Rattle.std.proofs.lemmas.List.Sums.{take_while-cons}
@@ -64,11 +65,13 @@ list-some : (x : ℕ) (xs : List ℕ) → ¬ (x ∷ xs ≡ [])
 list-some x xs same = let none : suc (length xs) ≡ 0 = ap length same in absurd (omega (arith, none))
 
 -- Where a slot is outstanding, the first one stands at the oldest place, and the others from the next place on.
-outstanding-first : (ring : Ring) (oldest slot : ℕ) (later : List ℕ) → oldest < count_of ring → outstanding ring oldest ≡ slot ∷ later → outstanding ring oldest ≡ address_of ring oldest ∷ outstanding ring (next_of ring oldest)
+outstanding-first : (ring : Ring) (oldest slot : ℕ) (later : List ℕ) → oldest < count_of ring → outstanding ring oldest ≡ slot ∷ later
+    → outstanding ring oldest ≡ address_of ring oldest ∷ outstanding ring (next_of ring oldest)
 unfolding owned
 outstanding-first ring oldest slot later below some = by-way (distance_of ring oldest ring.tail) refl
   where
-    by-way : (d : ℕ) → distance_of ring oldest ring.tail ≡ d → outstanding ring oldest ≡ address_of ring oldest ∷ outstanding ring (next_of ring oldest)
+    by-way : (d : ℕ) → distance_of ring oldest ring.tail ≡ d
+        → outstanding ring oldest ≡ address_of ring oldest ∷ outstanding ring (next_of ring oldest)
     by-way zero way =
         let none : outstanding ring oldest ≡ [] = ap (λ (k : ℕ). map (address_of ring) (slots_from (count_of ring) oldest k)) way in
         absurd (list-some slot later (sym some ∙ none))
@@ -91,7 +94,8 @@ first-same x y xs ys same = cc
 others-same : (x y : ℕ) (xs ys : List ℕ) → x ∷ xs ≡ y ∷ ys → xs ≡ ys
 others-same x y xs ys same = cc
 
-pub dealt-ahead : (memory : List ℕ) (ring : Ring) (oldest : ℕ) (taken : List ℕ) (slot : ℕ) (later : List ℕ) → IsDealt memory ring oldest taken → done_slots memory ring oldest ≡ slot ∷ later → Ahead memory ring oldest taken slot later
+pub dealt-ahead : (memory : List ℕ) (ring : Ring) (oldest : ℕ) (taken : List ℕ) (slot : ℕ) (later : List ℕ)
+    → IsDealt memory ring oldest taken → done_slots memory ring oldest ≡ slot ∷ later → Ahead memory ring oldest taken slot later
 dealt-ahead memory ring oldest taken slot later dealt done =
     let next = next_of ring oldest in
     let behind = taken ++ offered ring in
@@ -101,18 +105,23 @@ dealt-ahead memory ring oldest taken slot later dealt done =
     (λ (inside : oldest < count_of ring). inside)
     (λ (none : outstanding ring oldest ≡ []). absurd (list-some slot (later ++ behind) (sym whole ∙ none)))
     dealt.slot in
-    let split : outstanding ring oldest ≡ address_of ring oldest ∷ outstanding ring next = outstanding-first ring oldest slot (later ++ behind) below whole in
-    let stands : slot ≡ address_of ring oldest = first-same slot (address_of ring oldest) (later ++ behind) (outstanding ring next) (sym whole ∙ split) in
-    let others : outstanding ring next ≡ later ++ behind = others-same (address_of ring oldest) slot (outstanding ring next) (later ++ behind) (sym split ∙ whole) in
+    let split : outstanding ring oldest ≡ address_of ring oldest
+    ∷ outstanding ring next = outstanding-first ring oldest slot (later ++ behind) below whole in
+    let stands : slot ≡ address_of ring oldest = first-same slot (address_of ring oldest) (later ++ behind) (outstanding ring next)
+    (sym whole ∙ split) in
+    let others : outstanding ring next
+    ≡ later ++ behind = others-same (address_of ring oldest) slot (outstanding ring next) (later ++ behind) (sym split ∙ whole) in
     let first : outstanding ring oldest ≡ slot ∷ outstanding ring next = split ∙ ap (λ (d : ℕ). d ∷ outstanding ring next) (sym stands) in
     let passes : All (λ d. is_done memory d ≡ true) (slot ∷ later) =
-    subst (λ (slots : List ℕ). All (λ d. is_done memory d ≡ true) slots) done (take_while-passes (is_done memory) (outstanding ring oldest)) in
+    subst (λ (slots : List ℕ). All (λ d. is_done memory d ≡ true) slots) done
+    (take_while-passes (is_done memory) (outstanding ring oldest)) in
     let here : is_done memory slot ≡ true = all-head (λ d. is_done memory d ≡ true) slot later passes in
     let front : done_slots memory ring oldest ≡ slot ∷ done_slots memory ring next =
     ap (take_while (is_done memory)) first ∙ take_while-cons (is_done memory) slot (outstanding ring next) ∙ rw here refl in
     let rest : done_slots memory ring next ≡ later = others-same slot slot (done_slots memory ring next) later (sym front ∙ done) in
     let pairs = pairs-head (λ a b. AreApart (descriptor_area a) (descriptor_area b)) slot (outstanding ring next)
-    (subst (λ (slots : List ℕ). AllPairs (λ a b. AreApart (descriptor_area a) (descriptor_area b)) slots) first (outstanding-apart ring oldest dealt.slot)) in
+    (subst (λ (slots : List ℕ). AllPairs (λ a b. AreApart (descriptor_area a) (descriptor_area b)) slots) first
+    (outstanding-apart ring oldest dealt.slot)) in
     record {
       stands = stands;
       first = first;
@@ -125,7 +134,8 @@ dealt-ahead memory ring oldest taken slot later dealt done =
       own = record {
         below = below;
         apart =
-            all-weaker (λ other. AreApart (descriptor_area slot) (descriptor_area other)) (λ other. other ≢ address_of ring oldest) (outstanding ring next)
+            all-weaker (λ other. AreApart (descriptor_area slot) (descriptor_area other)) (λ other. other ≢ address_of ring oldest)
+            (outstanding ring next)
             (λ other apart. other-place slot other (address_of ring oldest) stands apart)
             pairs;
       };
@@ -145,20 +155,23 @@ finished_slots_can_be_taken o p a slot later sound done =
     let rest = work_areas a.memory a.adapter.receiver.work ++ offered_buffers a in
     let all : AreSeparate a.memory (front ++ (named a.memory slot ∷ (map (named a.memory) later ++ rest))) =
     subst (λ (slots : List ℕ). AreSeparate a.memory (front ++ (map (named a.memory) slots ++ rest))) done sound.separate in
-    let fewer : AreSeparate a.memory (front ++ (map (named a.memory) later ++ rest)) = separate-without a.memory front (named a.memory slot) (map (named a.memory) later ++ rest) all in
+    let fewer : AreSeparate a.memory (front ++ (map (named a.memory) later ++ rest)) = separate-without a.memory front (named a.memory slot)
+    (map (named a.memory) later ++ rest) all in
     record {
       stands = ahead.stands;
       sound = record {
         receive_slots = ahead.dealt;
         transmit_slots = sound.transmit_slots;
-        separate = subst (λ (slots : List ℕ). AreSeparate a.memory (front ++ (map (named a.memory) slots ++ rest))) (sym ahead.behind) fewer;
+        separate = subst (λ (slots : List ℕ). AreSeparate a.memory (front ++ (map (named a.memory) slots ++ rest)))
+            (sym ahead.behind) fewer;
         reports = sound.reports;
         pads = sound.pads;
       };
       behind = ahead.behind;
       held =
           ap (λ (slots : List ℕ). map (frame_named a) slots ++ held a.memory a.adapter.receiver) done
-          ∙ ap (λ (slots : List ℕ). frame_named a slot ∷ (map (frame_named a) slots ++ held a.memory a.adapter.receiver)) (sym ahead.behind);
+          ∙ ap (λ (slots : List ℕ). frame_named a slot ∷ (map (frame_named a) slots ++ held a.memory a.adapter.receiver))
+          (sym ahead.behind);
       first = ahead.first;
       own = ahead.own;
       foreign =
@@ -167,10 +180,17 @@ finished_slots_can_be_taken o p a slot later sound done =
       fits = λ fit.
           let Fits : ℕ → Type 0 = λ d. (named a.memory d).size ≤ buffer_size a in
           let each = subst (λ (slots : List ℕ). All Fits slots) done fit.finished_fit in
-          record { finished_fit = subst (λ (slots : List ℕ). All Fits slots) (sym ahead.behind) (all-tail Fits slot later each); work_fits = fit.work_fits };
+          record {
+            finished_fit = subst (λ (slots : List ℕ). All Fits slots) (sym ahead.behind)
+                (all-tail Fits slot later each);
+            work_fits = fit.work_fits;
+          };
       whole = λ are.
-          let each = subst (λ (slots : List ℕ). All (λ d. IsWhole (descriptor_at a.memory d)) slots) done are in
-          (all-head (λ d. IsWhole (descriptor_at a.memory d)) slot later each, all-tail (λ d. IsWhole (descriptor_at a.memory d)) slot later each);
+          let each = subst (λ (slots : List ℕ). All (λ d. IsWhole (descriptor_at a.memory d)) slots) done are in (
+            all-head (λ d. IsWhole (descriptor_at a.memory d)) slot later each,
+            all-tail
+                (λ d. IsWhole (descriptor_at a.memory d)) slot later each,
+          );
     }
 
 pub written_slots_can_be_freed : WrittenSlotsCanBeFreed

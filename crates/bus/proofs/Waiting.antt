@@ -23,7 +23,8 @@ transmit_stays_idle o a b past sound same happens =
     let p = a.adapter.transmit_ring.tail in
     let steady = happens.steady in
     let later : Sound o p b = (happens.between o p sound).sound in
-    let sent = none-dealt b.memory (transmit_ring b) p (buffered b) (sym (ap (λ (ring : RingRegisters). ring.tail) steady.transmit_ring)) later.transmit_slots in
+    let sent = none-dealt b.memory (transmit_ring b) p (buffered b)
+    (sym (ap (λ (ring : RingRegisters). ring.tail) steady.transmit_ring)) later.transmit_slots in
     record {
       buffer = map-empty (λ (queued : Queued). queued.descriptor) b.adapter.transmitter.buffer sent.0;
       ring = still-idle a.adapter.transmit_ring b.adapter.transmit_ring steady.transmit_ring steady.transmit_head same sent.1;
@@ -50,7 +51,8 @@ holds-none o world none =
     }
 
 -- Then all outstanding slots are offered.
-pub all-offered : (o p : ℕ) (world : World) → Sound o p world → HoldsNone o world → outstanding (receive_ring world) o ≡ offered (receive_ring world)
+pub all-offered : (o p : ℕ) (world : World) → Sound o p world → HoldsNone o world
+    → outstanding (receive_ring world) o ≡ offered (receive_ring world)
 all-offered o p world sound none =
     let slots = offered (receive_ring world) in
     sound.receive_slots.classes ∙ ap (λ (front : List ℕ). front ++ (in_work world ++ slots)) none.none_finished
@@ -62,11 +64,13 @@ offers_wait o p a b past sound within off none happens =
     let steady = happens.steady in
     let before = holds-none o a none in
     let after = holds-none o b (between.holds ∙ ap (λ (frames : List (List ℕ)). frames ++ past.stored) none ∙ (steady.off off).0) in
-    let same : outstanding (receive_ring b) o ≡ outstanding (receive_ring a) o = ap (λ (ring : RingRegisters). outstanding (ring_of ring) o) steady.receive_ring in
+    let same : outstanding (receive_ring b) o
+    ≡ outstanding (receive_ring a) o = ap (λ (ring : RingRegisters). outstanding (ring_of ring) o) steady.receive_ring in
     let Stays : ℕ → Type 0 = λ slot. named_address b.memory slot ≡ named_address a.memory slot in
     record {
       none_finished = after.none_finished;
       no_work = after.no_work;
       slots = sym (all-offered o p b between.sound after) ∙ same ∙ all-offered o p a sound before;
-      addresses = subst (All Stays) (all-offered o p a sound before) (each-outstanding (receive_ring a) o Stays (inl within) (drivers_keep_their_own o p a b past sound happens).addresses);
+      addresses = subst (All Stays) (all-offered o p a sound before)
+          (each-outstanding (receive_ring a) o Stays (inl within) (drivers_keep_their_own o p a b past sound happens).addresses);
     }

@@ -15,4 +15,5 @@ NothingHappens = (a : World) → Happens a a nothing
 
 -- The conditions hold again behind what happened.
 abbrev pub SoundStays : Type 0
-SoundStays = (oldest_received oldest_sent : ℕ) (a b : World) (past : Past) → Happens a b past → Sound oldest_received oldest_sent a → Sound oldest_received oldest_sent b
+SoundStays = (oldest_received oldest_sent : ℕ) (a b : World) (past : Past) → Happens a b past → Sound oldest_received oldest_sent a
+    → Sound oldest_received oldest_sent b

@@ -7,7 +7,8 @@ use Rattle.adapter.specs.Conditions.{FitBuffers, Sound}
 use Rattle.adapter.specs.Running.{CanRun}
 use Rattle.adapter.specs.World.{receive_ring, transmit_ring, World}
 
--- A world of which the conditions hold, with the first slot of each ring as the oldest, whose frames fit their buffers and whose engines can run,
+-- A world of which the conditions hold, with the first slot of each ring as the oldest, whose frames fit their buffers and whose engines
+-- can run,
 -- has this.
 abbrev pub SomeSound : (World → Type 0) → Type 0
 SomeSound Has = (world : World) × Sound 0 0 world × FitBuffers 0 world × CanRun world × Has world

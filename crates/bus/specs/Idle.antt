@@ -12,7 +12,8 @@ use Rattle.bus.specs.Law.{Happens}
 use Rattle.bus.specs.Past.{Past}
 use Rattle.adapter.specs.World.{receive_ring, transmit_ring, World, world_after_read, world_after_store, world_after_write}
 
--- Head equals tail in both rings, and their descriptors lie in memory and apart from each other. A ring without descriptors is an empty area.
+-- Head equals tail in both rings, and their descriptors lie in memory and apart from each other. A ring without descriptors is an empty
+-- area.
 pub record HasIdleRings (world : World) : Type 0 where
   pub receive : world.adapter.receive_ring.head ≡ world.adapter.receive_ring.tail
   pub transmit : world.adapter.transmit_ring.head ≡ world.adapter.transmit_ring.tail
@@ -48,7 +49,8 @@ ReadsKeepIdle = (offset : ℕ) (world : World) → IsIdle world → IsIdle (worl
 abbrev pub StoresKeepIdle : Type 0
 StoresKeepIdle =
     (address : ℕ) (bytes : List ℕ) (world : World)
-    → length (world_after_store address bytes world).memory ≡ length world.memory → IsIdle world → IsIdle (world_after_store address bytes world)
+    → length (world_after_store address bytes world).memory ≡ length world.memory → IsIdle world
+    → IsIdle (world_after_store address bytes world)
 
 -- a register of a ring
 abbrev pub IsOfRing : Register → Type 0
@@ -65,4 +67,5 @@ OtherWritesKeepIdle =
 -- and a write of any register behind which the rings are so.
 abbrev pub WritesKeepIdle : Type 0
 WritesKeepIdle =
-    (offset value : ℕ) (world : World) → IsIdle world → HasIdleRings (world_after_write offset value world) → IsIdle (world_after_write offset value world)
+    (offset value : ℕ) (world : World) → IsIdle world → HasIdleRings (world_after_write offset value world)
+    → IsIdle (world_after_write offset value world)

@@ -1,5 +1,5 @@
--- What a driver does while the conditions of the law hold, besides offering slots one by one and storing to memory of its own: it writes and reads
--- registers, as in initialisation behind the first slot offered (own).
+-- What a driver does while the conditions of the law hold, besides offering slots one by one and storing to memory of its own: it writes
+-- and reads registers, as in initialisation behind the first slot offered (own).
 use Rattle.std.specs.Prelude.{⊤, ◌≡◌, ◌<◌, ◌+◌, ◌%◌, ◌++◌, ℕ, zero, suc, [], false, All, None, map}
 use Rattle.dma_memory.specs.Areas.{AreSeparate}
 use Rattle.registers.specs.Bits.{HasBit}
@@ -30,7 +30,8 @@ CanOfferMany oldest (suc k) world = CanOffer oldest world × CanOfferMany oldest
 
 -- the world with RDT at this index
 abbrev pub with_tail : ℕ → World → World
-with_tail index world = record world { adapter = record world.adapter { receive_ring = record world.adapter.receive_ring { tail = index } } }
+with_tail index world = record world
+    { adapter = record world.adapter { receive_ring = record world.adapter.receive_ring { tail = index } } }
 
 -- RDT moved on by so many, in one write: the conditions hold again, these slots are the last that are outstanding, and frames are the same.
 pub record OfferedMany (oldest_received oldest_sent k : ℕ) (a b : World) : Type 0 where
@@ -38,22 +39,26 @@ pub record OfferedMany (oldest_received oldest_sent k : ℕ) (a b : World) : Typ
   pub runs : GoOn a b
   pub last :
       outstanding (receive_ring b) oldest_received
-      ≡ outstanding (receive_ring a) oldest_received ++ map (address_of (receive_ring a)) (slots_from (count_of (receive_ring a)) a.adapter.receive_ring.tail k)
+      ≡ outstanding (receive_ring a) oldest_received ++ map (address_of (receive_ring a))
+      (slots_from (count_of (receive_ring a)) a.adapter.receive_ring.tail k)
 
 abbrev pub ManySlotsCanBeOffered : Type 0
 ManySlotsCanBeOffered =
-    (oldest_received oldest_sent k : ℕ) (world : World) → Sound oldest_received oldest_sent world → world.adapter.receive_ring.tail < count_of (receive_ring world)
+    (oldest_received oldest_sent k : ℕ) (world : World) → Sound oldest_received oldest_sent world
+    → world.adapter.receive_ring.tail < count_of (receive_ring world)
     → CanOfferMany oldest_received k world
-    → OfferedMany oldest_received oldest_sent k world (with_tail ((world.adapter.receive_ring.tail + k) % count_of (receive_ring world)) world)
+    → OfferedMany oldest_received oldest_sent k world
+    (with_tail ((world.adapter.receive_ring.tail + k) % count_of (receive_ring world)) world)
 
 -- Controls.
 
 -- the world with this word in RCTL
 abbrev pub with_receive_control : ℕ → World → World
-with_receive_control control world = record world { adapter = record world.adapter { filter = record world.adapter.filter { rctl = control } } }
+with_receive_control control world = record world
+    { adapter = record world.adapter { filter = record world.adapter.filter { rctl = control } } }
 
--- The conditions hold, and frames are the same; where BSEX is 0 and BSIZE names room for each frame in the receive packet buffer, engines that
--- could run still can.
+-- The conditions hold, and frames are the same; where BSEX is 0 and BSIZE names room for each frame in the receive packet buffer, engines
+-- that could run still can.
 pub record ReceiverSet (oldest_received oldest_sent : ℕ) (a b : World) : Type 0 where
   pub same : SameFrames oldest_received oldest_sent a b
   pub runs : ¬ (HasBit b.adapter.filter.rctl rctl_bsex) → AreWithin (buffer_size b) b.adapter.receiver.buffer → GoOn a b
@@ -146,5 +151,6 @@ pub record OffersStay (oldest_received : ℕ) (a b : World) : Type 0 where
 -- While RCTL.EN is 0 and no frame is held, the receive slots that are offered wait.
 abbrev pub OffersWait : Type 0
 OffersWait =
-    (oldest_received oldest_sent : ℕ) (a b : World) (past : Past) → Sound oldest_received oldest_sent a → oldest_received < count_of (receive_ring a)
+    (oldest_received oldest_sent : ℕ) (a b : World) (past : Past) → Sound oldest_received oldest_sent a
+    → oldest_received < count_of (receive_ring a)
     → ¬ (HasBit a.adapter.filter.rctl rctl_en) → frames_held oldest_received a ≡ [] → Happens a b past → OffersStay oldest_received a b

@@ -10,15 +10,18 @@ use Rattle.bus.specs.Past.{Past}
 -- Whatever happens between two accesses, a driver that knows where the one ring or the other stands knows it still.
 abbrev pub KnownRingStays : (World → Ring) → Type 0
 KnownRingStays ring =
-    (a b : World) (past : Past) (base count tail : ℕ) → Steady a b past → KnowsRing (ring a) base count tail → KnowsRing (ring b) base count tail
+    (a b : World) (past : Past) (base count tail : ℕ) → Steady a b past → KnowsRing (ring a) base count tail
+    → KnowsRing (ring b) base count tail
 
 -- A write of RDT, or of TDT, of an index that fits the register leaves all but the tail.
 abbrev pub ReceiveTailMoves : Type 0
 ReceiveTailMoves =
     (index : ℕ) (world : World) → index < 65536
-    → world_after_write RDT index world ≡ record world { adapter = record world.adapter { receive_ring = record world.adapter.receive_ring { tail = index } } }
+    → world_after_write RDT index world
+    ≡ record world { adapter = record world.adapter { receive_ring = record world.adapter.receive_ring { tail = index } } }
 
 abbrev pub TransmitTailMoves : Type 0
 TransmitTailMoves =
     (index : ℕ) (world : World) → index < 65536
-    → world_after_write TDT index world ≡ record world { adapter = record world.adapter { transmit_ring = record world.adapter.transmit_ring { tail = index } } }
+    → world_after_write TDT index world
+    ≡ record world { adapter = record world.adapter { transmit_ring = record world.adapter.transmit_ring { tail = index } } }

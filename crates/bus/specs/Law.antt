@@ -38,8 +38,8 @@ phy_ticked line =
     then record { mdic = mdic_after_tick line.mdic line.phy; phy = phy_after_tick line.mdic line.phy }
     else line
 
--- What stands in every state, whatever the driver has made of rings and memory: registers stay, causes are added, ticks alone move EERD, MDIC
--- and the PHY, and MPC counts what is missed.
+-- What stands in every state, whatever the driver has made of rings and memory: registers stay, causes are added, ticks alone move EERD,
+-- MDIC and the PHY, and MPC counts what is missed.
 pub record Steady (a b : World) (past : Past) : Type 0 where
   pub size : length b.memory ≡ length a.memory
   pub image : b.adapter.image ≡ a.adapter.image
@@ -98,9 +98,10 @@ pub record HasTicks (past : Past) : Type 0 where
   pub eeprom : 1 ≤ past.eeprom_ticks
   pub phy : 1 ≤ past.phy_ticks
 
--- One access of a driver over a bus: something happens, of which the bus tells by its own words, and then the access itself. A lively bus plays
--- ticks before each.
-pub record Acts {B : Type 0} (world : B → World) (happened : B → B → Past → Type 0) (lively : B → Type 0) (old new : B) (access : Access) (effect : World → World → Type 0) : Type 0 where
+-- One access of a driver over a bus: something happens, of which the bus tells by its own words, and then the access itself. A lively bus
+-- plays ticks before each.
+pub record Acts {B : Type 0} (world : B → World) (happened : B → B → Past → Type 0) (lively : B
+    → Type 0) (old new : B) (access : Access) (effect : World → World → Type 0) : Type 0 where
   -- where the access itself begins
   pub middle : World
   pub past : Past

@@ -24,23 +24,26 @@ offering world = record world {
   };
 }
 
--- The slot at RDT can be offered: it isn't the last one before the oldest, its descriptor isn't done, and its buffer lies in memory, apart from
--- all that the conditions name.
+-- The slot at RDT can be offered: it isn't the last one before the oldest, its descriptor isn't done, and its buffer lies in memory, apart
+-- from all that the conditions name.
 pub record CanOffer (oldest : ℕ) (world : World) : Type 0 where
   pub oldest_slot : oldest < count_of (receive_ring world)
   pub head_slot : world.adapter.receive_ring.head < count_of (receive_ring world)
   pub tail_slot : world.adapter.receive_ring.tail < count_of (receive_ring world)
   pub room : next_of (receive_ring world) world.adapter.receive_ring.tail ≢ oldest
   pub fresh : is_done world.memory (address_of (receive_ring world) world.adapter.receive_ring.tail) ≡ false
-  pub lies : LiesIn world.memory (buffer_of world (address_of (receive_ring world) world.adapter.receive_ring.tail)).address (buffer_of world 0).size
-  pub apart : All (λ area. AreApart area (buffer_of world (address_of (receive_ring world) world.adapter.receive_ring.tail))) (areas oldest world)
+  pub lies : LiesIn world.memory (buffer_of world (address_of (receive_ring world) world.adapter.receive_ring.tail)).address
+      (buffer_of world 0).size
+  pub apart : All (λ area. AreApart area (buffer_of world (address_of (receive_ring world) world.adapter.receive_ring.tail)))
+      (areas oldest world)
 
--- Then the conditions hold again, the slot is the last that is outstanding, frames are the same, and engines that could run still can. What isn't
--- the adapter's stays so, apart from where it may report the slot and from the slot's buffer.
+-- Then the conditions hold again, the slot is the last that is outstanding, frames are the same, and engines that could run still can. What
+-- isn't the adapter's stays so, apart from where it may report the slot and from the slot's buffer.
 pub record Offered (oldest_received oldest_sent : ℕ) (a b : World) : Type 0 where
   pub same : SameFrames oldest_received oldest_sent a b
   pub runs : GoOn a b
-  pub last : outstanding (receive_ring b) oldest_received ≡ outstanding (receive_ring a) oldest_received ++ address_of (receive_ring a) a.adapter.receive_ring.tail ∷ []
+  pub last : outstanding (receive_ring b) oldest_received
+      ≡ outstanding (receive_ring a) oldest_received ++ address_of (receive_ring a) a.adapter.receive_ring.tail ∷ []
   pub foreign :
       (area : Area) → IsForeign a area → AreApart area (reported_half (address_of (receive_ring a) a.adapter.receive_ring.tail))
       → AreApart area (buffer_of a (address_of (receive_ring a) a.adapter.receive_ring.tail)) → IsForeign b area
@@ -60,8 +63,8 @@ offering_frame world = record world {
   };
 }
 
--- The slot at TDT can be offered: it isn't the last one before the oldest, its descriptor isn't done and asks for a report, its data lies in
--- memory, apart from all that the conditions name, and TCTL.PSP is set.
+-- The slot at TDT can be offered: it isn't the last one before the oldest, its descriptor isn't done and asks for a report, its data lies
+-- in memory, apart from all that the conditions name, and TCTL.PSP is set.
 pub record CanSend (oldest_received oldest_sent : ℕ) (world : World) : Type 0 where
   pub oldest_slot : oldest_sent < count_of (transmit_ring world)
   pub head_slot : world.adapter.transmit_ring.head < count_of (transmit_ring world)
@@ -73,21 +76,25 @@ pub record CanSend (oldest_received oldest_sent : ℕ) (world : World) : Type 0 
   pub lies :
       LiesIn world.memory (data_of world.memory (address_of (transmit_ring world) world.adapter.transmit_ring.tail)).address
       (data_of world.memory (address_of (transmit_ring world) world.adapter.transmit_ring.tail)).size
-  pub apart : All (λ area. AreApart area (data_of world.memory (address_of (transmit_ring world) world.adapter.transmit_ring.tail))) (areas oldest_received world)
+  pub apart : All (λ area. AreApart area (data_of world.memory (address_of (transmit_ring world) world.adapter.transmit_ring.tail)))
+      (areas oldest_received world)
 
--- Then the conditions hold again, the slot is the last that is outstanding, and its frame, padded, is the last that is to be sent. Engines that
--- could run still can, where the descriptor can be transmitted. What isn't the adapter's stays so, apart from the slot's status.
+-- Then the conditions hold again, the slot is the last that is outstanding, and its frame, padded, is the last that is to be sent. Engines
+-- that could run still can, where the descriptor can be transmitted. What isn't the adapter's stays so, apart from the slot's status.
 pub record OfferedFrame (oldest_received oldest_sent : ℕ) (a b : World) : Type 0 where
   pub sound : Sound oldest_received oldest_sent b
-  pub to_send : frames_to_send b ≡ frames_to_send a ++ frame_at true a.memory (address_of (transmit_ring a) a.adapter.transmit_ring.tail) ∷ []
+  pub to_send : frames_to_send b ≡ frames_to_send a ++ frame_at true a.memory (address_of (transmit_ring a) a.adapter.transmit_ring.tail)
+      ∷ []
   pub held : frames_held oldest_received b ≡ frames_held oldest_received a
   pub finished_same : finished oldest_received b ≡ finished oldest_received a
   pub written_same : written_back oldest_sent b ≡ written_back oldest_sent a
   pub whole : AreWhole a.memory (finished oldest_received a) → AreWhole b.memory (finished oldest_received b)
   pub fits : FitBuffers oldest_received a → FitBuffers oldest_received b
-  pub last : outstanding (transmit_ring b) oldest_sent ≡ outstanding (transmit_ring a) oldest_sent ++ address_of (transmit_ring a) a.adapter.transmit_ring.tail ∷ []
+  pub last : outstanding (transmit_ring b) oldest_sent ≡ outstanding (transmit_ring a) oldest_sent
+      ++ address_of (transmit_ring a) a.adapter.transmit_ring.tail ∷ []
   pub runs : CanTransmit a.memory (address_of (transmit_ring a) a.adapter.transmit_ring.tail) → GoOn a b
-  pub foreign : (area : Area) → IsForeign a area → AreApart area (status_byte (address_of (transmit_ring a) a.adapter.transmit_ring.tail)) → IsForeign b area
+  pub foreign : (area : Area) → IsForeign a area → AreApart area (status_byte (address_of (transmit_ring a) a.adapter.transmit_ring.tail))
+      → IsForeign b area
 
 abbrev pub FramesCanBeOffered : Type 0
 FramesCanBeOffered =

@@ -33,7 +33,8 @@ pub record IsOwnSlot (ring : Ring) (oldest slot : ℕ) : Type 0 where
 -- A slot of the one ring or the other that is the driver's own stays its own, and its descriptor stays.
 pub record OwnSlotStays (ring : World → Ring) (oldest slot : ℕ) (a b : World) : Type 0 where
   pub own : IsOwnSlot (ring b) oldest slot
-  pub bytes : bytes_in b.memory (descriptor_area (address_of (ring a) slot)) ≡ bytes_in a.memory (descriptor_area (address_of (ring a) slot))
+  pub bytes : bytes_in b.memory (descriptor_area (address_of (ring a) slot))
+      ≡ bytes_in a.memory (descriptor_area (address_of (ring a) slot))
 
 abbrev pub OwnSlotsStay : (World → Ring) → ℕ → World → World → Type 0
 OwnSlotsStay ring oldest a b = (slot : ℕ) → IsOwnSlot (ring a) oldest slot → OwnSlotStays ring oldest slot a b
@@ -46,16 +47,19 @@ AddressesStay a b =
 
 -- A transmit descriptor keeps all but its status, byte 12: address, length and command among them.
 pub record KeepsAllButStatus (a b : World) (descriptor : ℕ) : Type 0 where
-  pub before : bytes_in b.memory (record { address = descriptor; size = 12 }) ≡ bytes_in a.memory (record { address = descriptor; size = 12 })
-  pub behind : bytes_in b.memory (record { address = descriptor + 13; size = 3 }) ≡ bytes_in a.memory (record { address = descriptor + 13; size = 3 })
-  pub fields : descriptor_at b.memory descriptor ≡ record (descriptor_at a.memory descriptor) { status = (descriptor_at b.memory descriptor).status }
+  pub before : bytes_in b.memory (record { address = descriptor; size = 12 })
+      ≡ bytes_in a.memory (record { address = descriptor; size = 12 })
+  pub behind : bytes_in b.memory (record { address = descriptor + 13; size = 3 })
+      ≡ bytes_in a.memory (record { address = descriptor + 13; size = 3 })
+  pub fields : descriptor_at b.memory descriptor
+      ≡ record (descriptor_at a.memory descriptor) { status = (descriptor_at b.memory descriptor).status }
 
 -- Every transmit descriptor does.
 abbrev pub RequestsStay : World → World → Type 0
 RequestsStay a b = (slot : ℕ) → slot < count_of (transmit_ring a) → KeepsAllButStatus a b (address_of (transmit_ring a) slot)
 
--- Between two calls of a driver: what the law says where its conditions hold, these conditions among it; the same slots are outstanding; and
--- finished slots, written-back slots, the driver's own slots, and what it wrote into descriptors stay.
+-- Between two calls of a driver: what the law says where its conditions hold, these conditions among it; the same slots are outstanding;
+-- and finished slots, written-back slots, the driver's own slots, and what it wrote into descriptors stay.
 pub record OwnStays (oldest_received oldest_sent : ℕ) (a b : World) (past : Past) : Type 0 where
   pub between : Between oldest_received oldest_sent a b past
   pub same_received : outstanding (receive_ring b) oldest_received ≡ outstanding (receive_ring a) oldest_received

@@ -124,4 +124,5 @@ WhileOff a past = IsOff a → All LeavesReceiver (writes_in past.accesses) → N
 
 -- It stays 0 then, a reset among the writes or not.
 abbrev pub StaysOff : Type 0
-StaysOff = (writes : List Write) (settings : Settings) → All LeavesReceiver writes → ¬ (HasBit settings.filter.rctl rctl_en) → ¬ (HasBit (settings_after_all writes settings).filter.rctl rctl_en)
+StaysOff = (writes : List Write) (settings : Settings) → All LeavesReceiver writes → ¬ (HasBit settings.filter.rctl rctl_en)
+    → ¬ (HasBit (settings_after_all writes settings).filter.rctl rctl_en)

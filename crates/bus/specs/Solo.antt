@@ -1,5 +1,6 @@
 -- What a solo bus is, and what its calls leave.
-use Rattle.std.specs.Prelude.{⊤, ◌≡◌, ◌+◌, ◌-◌, ◌^◌, ◌++◌, ℕ, Bool, true, false, List, [], ◌∷◌, All, length, map, min, nat_lt, sum_by, if◌then◌else◌}
+use Rattle.std.specs.Prelude.{⊤, ◌≡◌, ◌+◌, ◌-◌, ◌^◌, ◌++◌, ℕ, Bool, true, false, List, [], ◌∷◌, All, length, map, min, nat_lt, sum_by}
+use Rattle.std.specs.Prelude.{if◌then◌else◌}
 use Rattle.rx_engine.specs.declared.arrival.Fate.{Fate}
 use Rattle.adapter.specs.Outcomes.{put_by, stepped_of}
 use Rattle.adapter.specs.World.{World}

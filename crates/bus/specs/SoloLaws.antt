@@ -1,5 +1,6 @@
 -- What a solo bus tells of two stretches it tells of both together.
-use Rattle.std.proofs.Common.{◌≡◌, ◌+◌, ◌++◌, ◌∷◌, [], Bool, true, false, List, ℕ, length, map, min, sum_by, if◌then◌else◌, refl, sym, ap, subst, ◌∙◌, append_assoc, arith, length-append}
+use Rattle.std.proofs.Common.{◌≡◌, ◌+◌, ◌++◌, ◌∷◌, [], Bool, true, false, List, ℕ, length, map, min, sum_by, if◌then◌else◌, refl, sym, ap}
+use Rattle.std.proofs.Common.{subst, ◌∙◌, append_assoc, arith, length-append}
 use Rattle.std.proofs.lemmas.List.{append-nil, map-append}
 use Rattle.std.proofs.lemmas.List.Sums.{sum_by-cons}
 use Rattle.bus.specs.Past.{Past, joined, nothing}
@@ -15,7 +16,8 @@ use Rattle.bus.specs.declared.event.Event.TheVariants.{Accesses, Arrives, Steps}
 use Rattle.bus.specs.declared.solo.SoloTick.{SoloTick}
 use Rattle.bus.specs.declared.solo.SoloTick.TheVariants.{Go}
 
-pub are_free_joins : (first later : List Event) (n m : ℕ) → m ≡ n + length (past_of first).put → AreFree first n → AreFree later m → AreFree (first ++ later) n
+pub are_free_joins : (first later : List Event) (n m : ℕ) → m ≡ n + length (past_of first).put → AreFree first n → AreFree later m
+    → AreFree (first ++ later) n
 are_free_joins [] later n m is one two = let none : m ≡ n = omega (arith, is) in subst (λ (k : ℕ). AreFree later k) none two
 are_free_joins (Steps kind wire_free answer ∷ first) later n m is one two =
     let put = (past_of_step kind answer).put in
@@ -40,7 +42,8 @@ pub recounts_join : (a b c : SoloState) (first later : Past) → Recounts a b fi
 recounts_join a b c first later one two = record {
   events = one.events ++ two.events;
   trail = trail_joins one.events two.events a.world b.world c.world one.trail two.trail;
-  past_is = ap (λ (p : Past). joined p later) one.past_is ∙ ap (joined (past_of one.events)) two.past_is ∙ sym (past_of-append one.events two.events);
+  past_is = ap (λ (p : Past). joined p later) one.past_is ∙ ap (joined (past_of one.events)) two.past_is
+      ∙ sym (past_of-append one.events two.events);
   played =
       map-append tick_of one.events two.events
       ∙ ap (λ (ticks : List SoloTick). ticks ++ map tick_of two.events) one.played
@@ -62,7 +65,8 @@ recounts_join a b c first later one two = record {
 }
 
 -- Each access raises the count of a solo bus by one.
-pub recounts_count : (a b : SoloState) (past : Past) → Recounts a b past → min b.accesses most_accesses ≡ min (min a.accesses most_accesses + length past.accesses) most_accesses
+pub recounts_count : (a b : SoloState) (past : Past) → Recounts a b past
+    → min b.accesses most_accesses ≡ min (min a.accesses most_accesses + length past.accesses) most_accesses
 recounts_count a b past recounts = omega (arith, recounts.count)
 
 -- The ticks of each kind among some events are those that were played.

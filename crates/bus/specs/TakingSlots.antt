@@ -15,18 +15,20 @@ use Rattle.adapter.specs.World.{receive_ring, transmit_ring, World}
 abbrev pub next_received : ℕ → World → ℕ
 next_received oldest world = next_of (receive_ring world) oldest
 
--- The slot stands at the driver's oldest place. With the next place as the oldest the conditions hold, the slot is no longer outstanding but the
--- driver's own, and its frame leaves the front of the frames held. The frame's bytes aren't the adapter's to write.
+-- The slot stands at the driver's oldest place. With the next place as the oldest the conditions hold, the slot is no longer outstanding
+-- but the driver's own, and its frame leaves the front of the frames held. The frame's bytes aren't the adapter's to write.
 pub record Taken (oldest_received oldest_sent : ℕ) (world : World) (slot : ℕ) (later : List ℕ) : Type 0 where
   pub stands : slot ≡ address_of (receive_ring world) oldest_received
   pub sound : Sound (next_received oldest_received world) oldest_sent world
   pub behind : finished (next_received oldest_received world) world ≡ later
   pub held : frames_held oldest_received world ≡ frame_named world slot ∷ frames_held (next_received oldest_received world) world
-  pub first : outstanding (receive_ring world) oldest_received ≡ slot ∷ outstanding (receive_ring world) (next_received oldest_received world)
+  pub first : outstanding (receive_ring world) oldest_received
+      ≡ slot ∷ outstanding (receive_ring world) (next_received oldest_received world)
   pub own : IsOwnSlot (receive_ring world) (next_received oldest_received world) oldest_received
   pub foreign : IsForeign world (named world.memory slot)
   pub fits : FitBuffers oldest_received world → FitBuffers (next_received oldest_received world) world
-  pub whole : AreWhole world.memory (finished oldest_received world) → IsWhole (descriptor_at world.memory slot) × AreWhole world.memory later
+  pub whole : AreWhole world.memory (finished oldest_received world) → IsWhole (descriptor_at world.memory slot)
+      × AreWhole world.memory later
 
 abbrev pub FinishedSlotsCanBeTaken : Type 0
 FinishedSlotsCanBeTaken =

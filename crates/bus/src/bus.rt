@@ -80,7 +80,8 @@ pub trait Bus {
     ghost stays: { (b : Self) → happened b b nothing };
 
     /// What happens in two stretches happens in both together.
-    ghost joins: { (a b c : Self) (first later : Past) → happened a b first → happened b c later → happened a c (joined first later) };
+    ghost joins: { (a b c : Self) (first later : Past) → happened a b first → happened b c later
+        → happened a c (joined first later) };
 
     /// Each state keeps what it has.
     ghost keeps: { (b : Self) → kept b b };
@@ -105,5 +106,6 @@ pub trait HonestBus: Bus {
     ghost always: { (b : Self) → Self.honest b };
 
     /// Each access raises the count by one, and nothing else does.
-    ghost counts: { (a b : Self) (past : Past) → Self.happened a b past → counted b ≡ min (counted a + length past.accesses) (2 ^ 64 - 1) };
+    ghost counts: { (a b : Self) (past : Past) → Self.happened a b past
+        → counted b ≡ min (counted a + length past.accesses) (2 ^ 64 - 1) };
 }

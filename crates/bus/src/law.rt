@@ -2,14 +2,19 @@
 
 ghost use Rattle.adapter.specs.World.{receive_ring, transmit_ring};
 ghost use Rattle.bus.specs.Composing.{HappeningsJoin, NothingHappens, SoundStays};
-ghost use Rattle.bus.specs.Examples.{HasFinished, HasFramesInBuffer, HasFramesInRing, HasRings, HasWork, HasWrittenBack, SomeSound};
+ghost use Rattle.bus.specs.Examples.{HasFinished, HasFramesInBuffer, HasFramesInRing, HasRings, HasWork};
+ghost use Rattle.bus.specs.Examples.{HasWrittenBack, SomeSound};
 ghost use Rattle.bus.specs.Faults.{FaultsNeverCome};
-ghost use Rattle.bus.specs.Idle.{HappeningsKeepIdle, IdleAfterPowerOn, IdleAfterReset, IdleRingsAreSound, OtherWritesKeepIdle, ReadsKeepIdle, StoresKeepIdle, WritesKeepIdle};
-ghost use Rattle.bus.specs.Initialising.{ManySlotsCanBeOffered, OffersWait, OtherWritesLeaveFrames, ReadsLeaveFrames, ReceiverCanBeSet, TransmitRingCanBeSet, TransmitStaysIdle, TransmitterCanBeSet};
+ghost use Rattle.bus.specs.Idle.{HappeningsKeepIdle, IdleAfterPowerOn, IdleAfterReset, IdleRingsAreSound};
+ghost use Rattle.bus.specs.Idle.{OtherWritesKeepIdle, ReadsKeepIdle, StoresKeepIdle, WritesKeepIdle};
+ghost use Rattle.bus.specs.Initialising.{ManySlotsCanBeOffered, OffersWait, OtherWritesLeaveFrames, ReadsLeaveFrames};
+ghost use Rattle.bus.specs.Initialising.{ReceiverCanBeSet, TransmitRingCanBeSet, TransmitStaysIdle};
+ghost use Rattle.bus.specs.Initialising.{TransmitterCanBeSet};
 ghost use Rattle.bus.specs.Offering.{FramesCanBeOffered, SlotsCanBeOffered};
 ghost use Rattle.bus.specs.Own.{DriversKeepTheirOwn};
 ghost use Rattle.bus.specs.KnownRings.{KnownRingStays, ReceiveTailMoves, TransmitTailMoves};
-ghost use Rattle.bus.specs.OwnSlots.{OwnReceiveSlotsCanBeWritten, OwnTransmitSlotsCanBeWritten, SlotsFromTailAreOwn, TailSlotsAreOwn};
+ghost use Rattle.bus.specs.OwnSlots.{OwnReceiveSlotsCanBeWritten, OwnTransmitSlotsCanBeWritten, SlotsFromTailAreOwn};
+ghost use Rattle.bus.specs.OwnSlots.{TailSlotsAreOwn};
 ghost use Rattle.bus.specs.OwnStores.{OwnStoresLeaveForeign, OwnStoresLeaveFrames};
 ghost use Rattle.bus.specs.Spare.{AreasStayApart};
 ghost use Rattle.bus.specs.Steps.{ArrivalsHappen, StepsHappen};

@@ -1,6 +1,7 @@
 // The solo bus: one adapter and its memory.
 
-ghost use Rattle.std.specs.Prelude.{◌≡◌, ◌≤◌, ◌+◌, ◌++◌, ◌↔◌, [], drop, length, min, slice_get, IfOk, IfSome, IsNone, Some};
+ghost use Rattle.std.specs.Prelude.{◌≡◌, ◌≤◌, ◌+◌, ◌++◌, ◌↔◌, [], drop, length, min, slice_get, IfOk, IfSome, IsNone};
+ghost use Rattle.std.specs.Prelude.{Some};
 
 use adapter::{Adapter, Fate, StepKind, StepOutcome};
 use circular_buffer::HeapCircularBuffer;
@@ -58,7 +59,8 @@ impl SoloBus {
     ghost use Rattle.adapter.specs.Registers.{answer_at};
     ghost use Rattle.adapter.specs.Steps.{Answers};
     ghost use Rattle.bus.specs.Groups.{behind_group, group_of, without_go};
-    ghost use Rattle.bus.specs.Solo.{Plays, Prepared, has_room, is_go, most_accesses, own_ticks, solo_after_arrival, solo_after_step, solo_stepped};
+    ghost use Rattle.bus.specs.Solo.{Plays, Prepared, has_room, is_go, most_accesses, own_ticks, solo_after_arrival};
+    ghost use Rattle.bus.specs.Solo.{solo_after_step, solo_stepped};
     ghost use Rattle.adapter.specs.State.{IsAdapter};
     ghost use Rattle.adapter.specs.World.{world_after_read, world_after_store, world_after_write};
     ghost use Rattle.dma_memory.specs.HostMemory.{bytes_at, LiesIn};
@@ -96,7 +98,8 @@ impl SoloBus {
     /// A step of the adapter. The wire has room while less than 64 frames are on it; a frame that is put
     /// stands there behind the others, and is taken off it by [`take_put`](SoloBus::take_put).
     pub fn step(&mut self, kind: StepKind) -> StepOutcome
-        ensures answer { Answers kind (has_room self.old) self.old.world.memory self.old.world.adapter (solo_stepped result self.old) }
+        ensures answer { Answers kind (has_room self.old) self.old.world.memory self.old.world.adapter
+            (solo_stepped result self.old) }
         ensures state { self.new ≡ solo_after_step kind (solo_stepped result self.old) self.old }
         ensures running { IsAdapter self.old.world.adapter }
     {

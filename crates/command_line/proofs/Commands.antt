@@ -5,7 +5,8 @@ use Rattle.std.specs.Prelude.{Result, Ok, Err, IfErr, IsErrAnd, codes, is_some}
 use Rattle.std.specs.Str.{bytes_eq}
 use Rattle.std.proofs.lemmas.Option.{same_Some}
 use Rattle.std.proofs.lemmas.Slice.Eq.{bytes_eq-Decides}
-use Rattle.std.proofs.Common.{◌≡◌, ◌∙◌, ◌||◌, Bool, cond, true, false, not, refl, sym, subst, ap, ap₂, List, [], ◌∷◌, Option, Some, None, inl, inr, true≢false}
+use Rattle.std.proofs.Common.{◌≡◌, ◌∙◌, ◌||◌, Bool, cond, true, false, not, refl, sym, subst, ap, ap₂, List, [], ◌∷◌, Option, Some, None}
+use Rattle.std.proofs.Common.{inl, inr, true≢false}
 use Rattle.clap.proofs.OnLiterals.{clap_on_literals}
 use Rattle.clap.specs.Faults.{check_fault, entered_fault, level_fault}
 use Rattle.clap.specs.Kinds.{HasKind, IsAmong, Kinds, check_kinds}
@@ -69,7 +70,9 @@ pass_is_named : built_pass.name ≡ codes "pass"
 unfolding clap_on_literals program_app pass_app built_pass
 pass_is_named = refl
 
-pass_wants : (rows : List Row) → check_fault built_pass rows false ≡ check_kinds false false (not (is_given (codes "IN") rows) || (not (is_given (codes "OUT") rows) || false))
+pass_wants : (rows : List Row)
+    → check_fault built_pass rows false
+    ≡ check_kinds false false (not (is_given (codes "IN") rows) || (not (is_given (codes "OUT") rows) || false))
 unfolding clap_on_literals program_app pass_app built_pass
 pass_wants rows = refl
 
@@ -85,7 +88,8 @@ not_second text word e = go (bytes_eq text word) refl
         absurd (true≢false (sym back ∙ e))
 
 first_of_two : (first second : Shape) (is_first is_second : Bool) (words : List Text) (name : Text) (rows : List Row) → is_second ≡ false
-    → option_map_or (λ s. level_fault s [] nothing_held words false []) (cond is_first (Some first) (cond is_second (Some second) None)) [] ≡ []
+    → option_map_or (λ s. level_fault s [] nothing_held words false []) (cond is_first (Some first) (cond is_second (Some second) None)) []
+    ≡ []
     → option_map (λ s. rows_at s words) (cond is_first (Some first) (cond is_second (Some second) None)) ≡ Some (name, rows)
     → (level_fault first [] nothing_held words false [] ≡ []) × (name ≡ first.name) × (rows ≡ rows_after first.rules [] words)
 first_of_two first second true is_second words name rows e f found =
@@ -94,13 +98,16 @@ first_of_two first second true is_second words name rows e f found =
 first_of_two first second false true words name rows e f found = absurd (true≢false e)
 first_of_two first second false false words name rows e f found = absurd (cc)
 
-entered_pass : (a : App) (disabled : Bool) (stop : Option (Text × List Text)) (name : Text) (rows : List Row) → a.subs ≡ built_pass ∷ built_help ∷ []
+entered_pass : (a : App) (disabled : Bool) (stop : Option (Text × List Text)) (name : Text) (rows : List Row)
+    → a.subs ≡ built_pass ∷ built_help ∷ []
     → disabled ≡ false → StopsAtOther disabled stop → entered_fault a stop ≡ [] → entered a stop ≡ Some (name, rows)
-    → (words : List Text) × (level_fault built_pass [] nothing_held words false [] ≡ []) × (name ≡ built_pass.name) × (rows ≡ rows_after built_pass.rules [] words)
+    → (words : List Text) × (level_fault built_pass [] nothing_held words false [] ≡ []) × (name ≡ built_pass.name)
+    × (rows ≡ rows_after built_pass.rules [] words)
 entered_pass a disabled None name rows subs enabled other f found = absurd (cc)
 entered_pass a disabled (Some p) name rows subs enabled other f found =
     let answers : Shape → Bool = λ s. answers_to p.0 (label_of s) in
-    let fault = subst (λ (l : List Shape). option_map_or (λ s. level_fault s [] nothing_held p.1 false []) (find answers l) [] ≡ []) subs f in
+    let fault = subst (λ (l : List Shape). option_map_or (λ s. level_fault s [] nothing_held p.1 false []) (find answers l) []
+    ≡ []) subs f in
     let met = subst (λ (l : List Shape). option_map (λ s. rows_at s p.1) (find answers l) ≡ Some (name, rows)) subs found in
     let is_second : answers built_help ≡ false = help_answers p.0 ∙ not_second (codes "help") p.0 (other enabled) in
     let it = first_of_two built_pass built_help (answers built_pass) (answers built_help) p.1 name rows is_second fault met in
@@ -113,7 +120,8 @@ both_given false output e = absurd (true≢false e)
 
 files_there : (rows : List Row) → EachHasValue rows → check_fault built_pass rows false ≡ [] → HasFiles rows
 files_there rows has f =
-    let given = both_given (is_given (codes "IN") rows) (is_given (codes "OUT") rows) (nothing_missing false false _ (sym (pass_wants rows) ∙ f)) in
+    let given = both_given (is_given (codes "IN") rows) (is_given (codes "OUT") rows)
+    (nothing_missing false false _ (sym (pass_wants rows) ∙ f)) in
     (given_has_first (codes "IN") rows has given.0, given_has_first (codes "OUT") rows has given.1)
 
 -- where clap takes the words, the subcommand is `pass`, with both files
@@ -156,7 +164,8 @@ refused_by kinds error (Words same) h m =
       | inr among ↦ subst (λ (x : Error). IsAmong (kind_of x) kinds) (sym m.0) among
     ]
 
-pub refused_result : {T : Type 0} (kinds : Kinds) (error : Error) (r : Result T LineError) → HasKind kinds error → IsErrAnd r (IsMadeOf error)
+pub refused_result : {T : Type 0} (kinds : Kinds) (error : Error) (r : Result T LineError) → HasKind kinds error
+    → IsErrAnd r (IsMadeOf error)
     → IfErr r (IsRefusedBy kinds)
 refused_result kinds error (Ok x) h m = tt
 refused_result kinds error (Err made) h m = refused_by kinds error made h m
@@ -170,12 +179,16 @@ pair_met (Some x) h name rows e f =
     ap₂ (λ (u : Text) (v : List Row). Some (u, v)) first second
 
 -- the name and the rows that the getter gives are those of the subcommand that was entered
-pub subcommand_got : (words : List Text) (m : ArgMatches) (got : Option (Bor Text × Bor ArgMatches)) (met : Bor Text × Bor ArgMatches) → got ≡ Some met
-    → option_map (λ p. p.0.now) got ≡ subcommand_name_of m → option_map (λ p. rows_of (found_of p.1.now)) got ≡ option_map (λ p. p.1) (subcommand_rows_of m)
+pub subcommand_got : (words : List Text) (m : ArgMatches) (got : Option (Bor Text × Bor ArgMatches)) (met : Bor Text × Bor ArgMatches)
+    → got ≡ Some met
+    → option_map (λ p. p.0.now) got ≡ subcommand_name_of m
+    → option_map (λ p. rows_of (found_of p.1.now)) got ≡ option_map (λ p. p.1) (subcommand_rows_of m)
     → subcommand_rows_of m ≡ found_in words → found_in words ≡ Some (met.0.now, rows_of (found_of met.1.now))
 subcommand_got words m got met is name rows found =
-    let named : subcommand_name_of m ≡ Some met.0.now = sym name ∙ ap (λ (o : Option (Bor Text × Bor ArgMatches)). option_map (λ p. p.0.now) o) is in
+    let named : subcommand_name_of m ≡ Some met.0.now = sym name
+    ∙ ap (λ (o : Option (Bor Text × Bor ArgMatches)). option_map (λ p. p.0.now) o) is in
     let rowed : option_map (λ p. p.1) (subcommand_rows_of m) ≡ Some (rows_of (found_of met.1.now)) =
     sym rows ∙ ap (λ (o : Option (Bor Text × Bor ArgMatches)). option_map (λ p. rows_of (found_of p.1.now)) o) is in
-    sym found ∙ pair_met (out-ArgMatches m).subcommand (λ b. ((out-SubCommand (box_value b)).name.now, rows_of (found_of (out-SubCommand (box_value b)).matches)))
+    sym found ∙ pair_met (out-ArgMatches m).subcommand
+    (λ b. ((out-SubCommand (box_value b)).name.now, rows_of (found_of (out-SubCommand (box_value b)).matches)))
     met.0.now (rows_of (found_of met.1.now)) named rowed

@@ -3,16 +3,20 @@ use Rattle.std.specs.List.{find, fold, list_all}
 use Rattle.std.specs.Option.{option_map_or}
 use Rattle.std.specs.Str.{bytes_eq}
 use Rattle.std.specs.Prelude.{IsSome, option_and_then, slice_get}
-use Rattle.std.proofs.Common.{◌≡◌, ◌<◌, ℕ, Bool, cond, true, false, nat_lt, refl, sym, arith, List, [], ◌∷◌, ◌++◌, length, Option, Some, None, true≢false}
+use Rattle.std.proofs.Common.{◌≡◌, ◌<◌, ℕ, Bool, cond, true, false, nat_lt, refl, sym, arith, List, [], ◌∷◌, ◌++◌, length, Option, Some}
+use Rattle.std.proofs.Common.{None, true≢false}
 use Rattle.std.proofs.lemmas.List.{length-append}
 use Rattle.clap.proofs.WalkLemmas.{both}
 use Rattle.clap.specs.Facts.{explicit_source, unwrap_or_range}
 use Rattle.clap.specs.Faults.{action_fault, react_fault, settle_fault, use_fault}
 use Rattle.clap.specs.Kinds.{Kinds, check_kinds, or_else, range_kinds}
 use Rattle.clap.specs.Takes.{is_given}
-use Rattle.clap.specs.Walk.{Held, Row, Rule, Text, action_of, arg_by_id, at_row, default_rows, first_of, has_row, most_values, more_values, reacted, reading_by, settled, settled_rows, used, used_as, used_by_id, values_or_missing, with_default, with_values, without}
+use Rattle.clap.specs.Walk.{Held, Row, Rule, Text, action_of, arg_by_id, at_row, default_rows, first_of, has_row, most_values, more_values}
+use Rattle.clap.specs.Walk.{reacted, reading_by, settled, settled_rows, used, used_as, used_by_id, values_or_missing, with_default}
+use Rattle.clap.specs.Walk.{with_values, without}
 use Rattle.clap.specs.declared.builder.action.ArgAction.{ArgAction}
-use Rattle.clap.specs.declared.builder.action.ArgAction.TheVariants.{Set, Append, SetTrue, SetFalse, Count, Help, HelpShort, HelpLong, Version}
+use Rattle.clap.specs.declared.builder.action.ArgAction.TheVariants.{Set, Append, SetTrue, SetFalse, Count, Help, HelpShort, HelpLong}
+use Rattle.clap.specs.declared.builder.action.ArgAction.TheVariants.{Version}
 use Rattle.clap.specs.declared.builder.value_parser.Reading.{Reading}
 use Rattle.clap.specs.declared.error.kind.ErrorKind.{ErrorKind}
 use Rattle.clap.specs.declared.parser.matches.ValueSource.{ValueSource}
@@ -51,7 +55,8 @@ at_row_keeps : (id : Text) (change : Row → List Row) (missing rows : List Row)
     → EachHasValue missing → EachHasValue rows → EachHasValue (at_row id change missing rows)
 at_row_keeps id change missing [] changed m h = m
 at_row_keeps id change missing (r ∷ rs) changed m h =
-    each_of_either (bytes_eq r.id id) (change r ++ rs) (r ∷ at_row id change missing rs) (each_of_both (change r) rs (changed r h.0) h.1) (h.0, at_row_keeps id change missing rs changed m h.1)
+    each_of_either (bytes_eq r.id id) (change r ++ rs) (r ∷ at_row id change missing rs) (each_of_both (change r) rs (changed r h.0) h.1)
+    (h.0, at_row_keeps id change missing rs changed m h.1)
 
 with_values_keeps : (id : Text) (how : Reading) (s : ValueSource) (v : Text) (vs : List Text) (rows : List Row) → EachHasValue rows
     → EachHasValue (with_values id how s (v ∷ vs) rows)
@@ -94,7 +99,8 @@ use_as_keeps : (x : ArgAction) (n : ℕ) (again : Bool) (a : Rule) (values : Lis
     → EachHasValue rows → EachHasValue (used_as x a.id (reading_by a) (values_or_missing a values) rows)
 use_as_keeps Set n again a [] rows g few f h =
     some_kind _ _ (rw g at few)
-use_as_keeps Set n again a (v ∷ vs) rows g few f h = with_values_keeps a.id (reading_by a) _ v vs (without a.id rows) (without_keeps a.id rows h)
+use_as_keeps Set n again a (v ∷ vs) rows g few f h = with_values_keeps a.id (reading_by a) _ v vs (without a.id rows)
+    (without_keeps a.id rows h)
 use_as_keeps Help n again a values rows g few f h = some_kind _ _ f
 use_as_keeps Append n again a values rows g few f h = absurd (true≢false (sym g))
 use_as_keeps SetTrue n again a values rows g few f h = absurd (true≢false (sym g))
@@ -136,14 +142,16 @@ module _ (c : List Rule) (again : Bool) (each : list_all gives c ≡ true) where
 
 -- ---- defaults, and what is required
 
-default_rows_keeps : (id : Text) (how : Reading) (values : List Text) (rows : List Row) → EachHasValue rows → EachHasValue (default_rows id how values rows)
+default_rows_keeps : (id : Text) (how : Reading) (values : List Text) (rows : List Row) → EachHasValue rows
+    → EachHasValue (default_rows id how values rows)
 default_rows_keeps id how [] rows h = h
 default_rows_keeps id how (v ∷ vs) rows h = with_values_keeps id how _ v vs rows h
 
 pub defaults_keep : (rules : List Rule) (rows : List Row) → EachHasValue rows → EachHasValue (fold with_default rows rules)
 defaults_keep [] rows h = h
 defaults_keep (a ∷ rest) rows h =
-    defaults_keep rest (with_default rows a) (each_of_either (has_row a.id rows) rows _ h (default_rows_keeps a.id (reading_by a) a.defaults rows h))
+    defaults_keep rest (with_default rows a)
+    (each_of_either (has_row a.id rows) rows _ h (default_rows_keeps a.id (reading_by a) a.defaults rows h))
 
 abbrev OptionHasValue : Option Row → Type 0
 OptionHasValue None = Unit {0}

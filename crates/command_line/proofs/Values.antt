@@ -33,7 +33,8 @@ is_got found id got e has = is_some_mapped got (subst (λ (o : Option Text). IsS
 pub no_value : {V : Type 0} (spells : Text → V → Type 0) (first : Option Text) → first ≡ None → IsValueOf spells first None
 no_value spells first e = subst (λ (o : Option Text). IsValueOf spells o None) (sym e) tt
 
-pub a_value : {V : Type 0} (spells : Text → V → Type 0) (first : Option Text) (text : Text) (value : V) → first ≡ Some text → spells text value
+pub a_value : {V : Type 0} (spells : Text → V → Type 0) (first : Option Text) (text : Text) (value : V) → first ≡ Some text
+    → spells text value
     → IsValueOf spells first (Some value)
 a_value spells first text value e h = subst (λ (o : Option Text). IsValueOf spells o (Some value)) (sym e) h
 

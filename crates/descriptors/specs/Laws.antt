@@ -1,5 +1,6 @@
 -- Descriptors and their bytes come back from one another, and what padding makes of a frame.
-use Rattle.std.proofs.Common.{◌≡◌, ◌≤◌, ◌<◌, ◌+◌, ◌-◌, ◌*◌, ◌/◌, ◌%◌, ◌^◌, ◌++◌, ◌∷◌, [], IsTrue, ℕ, zero, suc, List, length, take, drop, replicate, slice_index, refl, sym, ap, ◌∙◌, rules, arith}
+use Rattle.std.proofs.Common.{◌≡◌, ◌≤◌, ◌<◌, ◌+◌, ◌-◌, ◌*◌, ◌/◌, ◌%◌, ◌^◌, ◌++◌, ◌∷◌, [], IsTrue, ℕ, zero, suc, List, length, take, drop}
+use Rattle.std.proofs.Common.{replicate, slice_index, refl, sym, ap, ◌∙◌, rules, arith}
 use Rattle.std.proofs.lemmas.List.{append-nil, length-append, length-replicate, take_all, take_at, length-drop, get_or-drop}
 use Rattle.std.proofs.Math.Seq.{take-add, drop-cons}
 use Rattle.std.proofs.Math.Nat.{pow-succ', div-one, div-div-eq-div-mul}
@@ -31,7 +32,8 @@ rx_desc_of-rx_desc_bytes desc fits =
 div-above : (j b x : ℕ) → b < 256 → (b + 256 * x) / 256 ^ suc j ≡ x / 256 ^ j
 div-above j b x below =
     let low : (b + 256 * x) / 256 ≡ x = omega arith in
-    ap (λ (p : ℕ). (b + 256 * x) / p) (pow-succ' 256 j) ∙ sym (div-div-eq-div-mul (b + 256 * x) 256 (256 ^ j)) ∙ ap (λ (y : ℕ). y / 256 ^ j) low
+    ap (λ (p : ℕ). (b + 256 * x) / p) (pow-succ' 256 j) ∙ sym (div-div-eq-div-mul (b + 256 * x) 256 (256 ^ j))
+    ∙ ap (λ (y : ℕ). y / 256 ^ j) low
 
 byte_at-above : (j b x : ℕ) → b < 256 → byte_at (suc j) (b + 256 * x) ≡ byte_at j x
 byte_at-above zero b x below = ap (λ (y : ℕ). y % 256) (div-above 0 b x below ∙ div-one x)
@@ -42,14 +44,16 @@ bytes_low_first-above zero j b x below = refl
 bytes_low_first-above (suc n) j b x below = rw (byte_at-above j b x below, bytes_low_first-above n (suc j) b x below) refl
 
 -- The bytes of the number in the first n bytes are these bytes.
-pub little_bytes-little_number : (n : ℕ) (bytes : List ℕ) → AreBytes bytes → n ≤ length bytes → little_bytes n (little_number n bytes) ≡ take n bytes
+pub little_bytes-little_number : (n : ℕ) (bytes : List ℕ) → AreBytes bytes → n ≤ length bytes
+    → little_bytes n (little_number n bytes) ≡ take n bytes
 little_bytes-little_number zero bytes are fits = refl
 little_bytes-little_number (suc n) [] are fits = absurd (omega arith)
 little_bytes-little_number (suc n) (b ∷ bytes) are fits =
     let below : b < 256 = are 0 in
     let moved : little_from 1 n (b ∷ bytes) ≡ little_number n bytes = little_from-cons 0 n b bytes in
     let first : (b + 256 * little_number n bytes) % 256 ≡ b = omega arith in
-    let others = bytes_low_first-above n 0 b (little_number n bytes) below ∙ little_bytes-little_number n bytes (λ i. are (suc i)) (omega arith) in
+    let others = bytes_low_first-above n 0 b (little_number n bytes) below
+    ∙ little_bytes-little_number n bytes (λ i. are (suc i)) (omega arith) in
     rw (moved, first, others) refl
 
 -- Bytes from a place on are bytes.
@@ -58,14 +62,18 @@ AreBytes-drop i bytes are k = rw (get_or-drop i bytes k 0) (are (i + k))
 
 -- Two bytes from a place on.
 take-two : (i : ℕ) (bytes : List ℕ) → suc i < length bytes → take 2 (drop i bytes) ≡ slice_index bytes i ∷ slice_index bytes (suc i) ∷ []
-take-two i bytes fits = ap (take 2) (drop-cons bytes i 0 (omega arith)) ∙ ap (λ (rest : List ℕ). slice_index bytes i ∷ take 1 rest) (drop-cons bytes (suc i) 0 fits)
+take-two i bytes fits = ap (take 2) (drop-cons bytes i 0 (omega arith))
+    ∙ ap (λ (rest : List ℕ). slice_index bytes i ∷ take 1 rest) (drop-cons bytes (suc i) 0 fits)
 
 -- The bytes of the number that stands in n bytes from a place on are these bytes.
-little_bytes-drop : (n i : ℕ) (bytes : List ℕ) → AreBytes bytes → i + n ≤ length bytes → little_bytes n (little_number n (drop i bytes)) ≡ take n (drop i bytes)
-little_bytes-drop n i bytes are fits = little_bytes-little_number n (drop i bytes) (AreBytes-drop i bytes are) (omega (arith, length-drop i bytes))
+little_bytes-drop : (n i : ℕ) (bytes : List ℕ) → AreBytes bytes → i + n ≤ length bytes
+    → little_bytes n (little_number n (drop i bytes)) ≡ take n (drop i bytes)
+little_bytes-drop n i bytes are fits = little_bytes-little_number n (drop i bytes) (AreBytes-drop i bytes are)
+    (omega (arith, length-drop i bytes))
 
 -- Sixteen bytes are eight, and four times two.
-in_pieces : (bytes : List ℕ) → length bytes ≡ 16 → take 8 bytes ++ take 2 (drop 8 bytes) ++ take 2 (drop 10 bytes) ++ take 2 (drop 12 bytes) ++ take 2 (drop 14 bytes) ≡ bytes
+in_pieces : (bytes : List ℕ) → length bytes ≡ 16
+    → take 8 bytes ++ take 2 (drop 8 bytes) ++ take 2 (drop 10 bytes) ++ take 2 (drop 12 bytes) ++ take 2 (drop 14 bytes) ≡ bytes
 in_pieces bytes size =
     ap (λ (front : List ℕ). front ++ take 2 (drop 10 bytes) ++ take 2 (drop 12 bytes) ++ take 2 (drop 14 bytes)) (sym (take-add 8 2 bytes))
     ∙ ap (λ (front : List ℕ). front ++ take 2 (drop 12 bytes) ++ take 2 (drop 14 bytes)) (sym (take-add 10 2 bytes))
@@ -74,7 +82,8 @@ in_pieces bytes size =
     ∙ take_all 16 bytes (omega arith)
 
 -- The same five pieces make the same whole.
-join-same : (a a' b b' c c' d d' e e' : List ℕ) → a ≡ a' → b ≡ b' → c ≡ c' → d ≡ d' → e ≡ e' → a ++ b ++ c ++ d ++ e ≡ a' ++ b' ++ c' ++ d' ++ e'
+join-same : (a a' b b' c c' d d' e e' : List ℕ) → a ≡ a' → b ≡ b' → c ≡ c' → d ≡ d' → e ≡ e'
+    → a ++ b ++ c ++ d ++ e ≡ a' ++ b' ++ c' ++ d' ++ e'
 join-same a a' b b' c c' d d' e e' same_a same_b same_c same_d same_e = rw (same_a, same_b, same_c, same_d, same_e) refl
 
 -- From the descriptor of sixteen bytes the bytes come back.
@@ -122,7 +131,8 @@ is_sendable-from_bounds frame least most = search rules
 
 -- Padding makes a frame shorter than 60 bytes 60 bytes long.
 pub length-padded-short : (frame : List ℕ) → length frame ≤ 60 → length (padded frame) ≡ 60
-length-padded-short frame short = omega (arith, length-append frame (replicate (60 - length frame) 0), length-replicate {A = ℕ} (60 - length frame) 0)
+length-padded-short frame short = omega
+    (arith, length-append frame (replicate (60 - length frame) 0), length-replicate {A = ℕ} (60 - length frame) 0)
 
 -- From 60 bytes on padding leaves a frame as it is.
 pub padded-long : (frame : List ℕ) → 60 ≤ length frame → padded frame ≡ frame
@@ -132,7 +142,8 @@ padded-long frame long =
 
 -- A padded frame has 60 bytes at least.
 pub length-padded-least : (frame : List ℕ) → 60 ≤ length (padded frame)
-length-padded-least frame = omega (arith, length-append frame (replicate (60 - length frame) 0), length-replicate {A = ℕ} (60 - length frame) 0)
+length-padded-least frame = omega
+    (arith, length-append frame (replicate (60 - length frame) 0), length-replicate {A = ℕ} (60 - length frame) 0)
 
 -- A padded frame begins with the frame.
 pub take-padded : (frame : List ℕ) → take (length frame) (padded frame) ≡ frame

@@ -40,7 +40,8 @@ owned ring = slots_from (count_of ring) ring.head (distance_of ring ring.head ri
 
 -- Where head differs from tail, the slot at the head comes first, and then those behind it.
 abbrev pub OwnedBeginsAtHead : Type 0
-OwnedBeginsAtHead = (ring : Ring) → IsSound ring → ¬ (ring.head ≡ ring.tail) → owned ring ≡ ring.head ∷ owned (record ring { head = next_of ring ring.head })
+OwnedBeginsAtHead = (ring : Ring) → IsSound ring → ¬ (ring.head ≡ ring.tail)
+    → owned ring ≡ ring.head ∷ owned (record ring { head = next_of ring ring.head })
 
 -- Where head equals tail, the adapter owns none.
 abbrev pub OwnedIsEmpty : Type 0
@@ -54,4 +55,5 @@ OwnedIsDistance = (ring : Ring) → length (owned ring) ≡ distance_of ring rin
 -- last one.
 abbrev pub OwnedGrowsAtTail : Type 0
 OwnedGrowsAtTail =
-    (ring : Ring) → IsSound ring → ¬ (next_of ring ring.tail ≡ ring.head) → owned (record ring { tail = next_of ring ring.tail }) ≡ owned ring ++ ring.tail ∷ []
+    (ring : Ring) → IsSound ring → ¬ (next_of ring ring.tail ≡ ring.head)
+    → owned (record ring { tail = next_of ring ring.tail }) ≡ owned ring ++ ring.tail ∷ []

@@ -3,7 +3,8 @@ use Rattle.std.proofs.Common.{◌≡◌, ⊎_elim, ◌≤◌, ◌<◌, ◌+◌, 
 use Rattle.std.proofs.lemmas.Bool.{cases_eq, cases_lt}
 use Rattle.std.proofs.lemmas.Nat.{mod_below}
 use Rattle.std.proofs.Math.Nat.{mod-eq_of_lt, mod_self, add-mod_left}
-use Rattle.descriptors.specs.Ring.{count_of, distance_of, slots_from, owned, OwnedBeginsAtHead, OwnedIsEmpty, OwnedIsDistance, OwnedGrowsAtTail}
+use Rattle.descriptors.specs.Ring.{count_of, distance_of, slots_from, owned, OwnedBeginsAtHead, OwnedIsEmpty, OwnedIsDistance}
+use Rattle.descriptors.specs.Ring.{OwnedGrowsAtTail}
 
 -- The slot behind an index, where it isn't the last one, and where it is.
 pub next-inner : (n i : ℕ) → i + 1 < n → (i + 1) % n ≡ i + 1
@@ -34,14 +35,21 @@ distance-step n from to slot_from slot_to apart =
     (λ (last : from + 1 ≡ n).
     rw (next-last n from last, distance-around n from to slot_from around, distance-forward n 0 to slot_to (omega arith)) (omega arith))
     (λ (inner : ¬ (from + 1 ≡ n)).
-    rw (next-inner n from (omega arith), distance-around n from to slot_from around, distance-around n (from + 1) to (omega arith) (omega arith)) (omega arith))
+    rw (
+      next-inner n from (omega arith),
+      distance-around n from to slot_from around,
+      distance-around n (from + 1) to (omega arith)
+          (omega arith),
+    ) (omega arith))
     (cases_eq (from + 1) n))
     (λ (forward : from ≤ to).
-    rw (next-inner n from (omega arith), distance-forward n from to slot_to forward, distance-forward n (from + 1) to slot_to (omega arith)) (omega arith))
+    rw (next-inner n from (omega arith), distance-forward n from to slot_to forward, distance-forward n (from + 1) to slot_to (omega arith))
+    (omega arith))
     (cases_lt to from)
 
 -- To a slot behind another it is one more.
-pub distance-grows : (n from to : ℕ) → from < n → to < n → ¬ ((to + 1) % n ≡ from) → ((to + 1) % n + n - from) % n ≡ suc ((to + n - from) % n)
+pub distance-grows : (n from to : ℕ) → from < n → to < n → ¬ ((to + 1) % n ≡ from)
+    → ((to + 1) % n + n - from) % n ≡ suc ((to + n - from) % n)
 distance-grows n from to slot_from slot_to apart =
     ⊎_elim
     (λ (last : to + 1 ≡ n).
@@ -51,8 +59,10 @@ distance-grows n from to slot_from slot_to apart =
     (λ (inner : ¬ (to + 1 ≡ n)).
     let same : (to + 1) % n ≡ to + 1 = next-inner n to (omega arith) in
     ⊎_elim
-    (λ (around : to < from). rw (same, distance-around n from (to + 1) slot_from (omega arith), distance-around n from to slot_from around) (omega arith))
-    (λ (forward : from ≤ to). rw (same, distance-forward n from (to + 1) (omega arith) (omega arith), distance-forward n from to slot_to forward) (omega arith))
+    (λ (around : to < from). rw (same, distance-around n from (to + 1) slot_from (omega arith), distance-around n from to slot_from around)
+    (omega arith))
+    (λ (forward : from ≤ to). rw
+    (same, distance-forward n from (to + 1) (omega arith) (omega arith), distance-forward n from to slot_to forward) (omega arith))
     (cases_lt to from))
     (cases_eq (to + 1) n)
 
@@ -93,7 +103,8 @@ place-distance n (suc k) from to slot_from slot_to far =
 -- The slots that the adapter owns begin at the head.
 pub owned-head : OwnedBeginsAtHead
 unfolding owned
-owned-head ring sound apart = ap (slots_from (count_of ring) ring.head) (distance-step (count_of ring) ring.head ring.tail sound.head sound.tail apart)
+owned-head ring sound apart = ap (slots_from (count_of ring) ring.head)
+    (distance-step (count_of ring) ring.head ring.tail sound.head sound.tail apart)
 
 -- Where head equals tail there are none.
 pub owned-none : OwnedIsEmpty

@@ -7,7 +7,8 @@ use Rattle.descriptors.specs.RxStatus.{status_bits, status_of}
 -- The bytes of a descriptor: its fields in order, each little-endian.
 unfoldable pub rx_desc_bytes : RxDesc → List ℕ
 rx_desc_bytes desc =
-    little_bytes 8 desc.address ++ little_bytes 2 desc.length ++ little_bytes 2 desc.checksum ++ (status_bits desc.status ∷ desc.errors ∷ [])
+    little_bytes 8 desc.address ++ little_bytes 2 desc.length ++ little_bytes 2 desc.checksum
+    ++ (status_bits desc.status ∷ desc.errors ∷ [])
     ++ little_bytes 2 desc.special
 
 -- The descriptor that sixteen bytes are.

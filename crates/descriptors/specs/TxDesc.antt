@@ -8,7 +8,8 @@ use Rattle.descriptors.specs.TxFields.{command_bits, command_of, sent_bits, sent
 -- The bytes of a descriptor: its fields in order, each little-endian.
 unfoldable pub tx_desc_bytes : TxDesc → List ℕ
 tx_desc_bytes desc =
-    little_bytes 8 desc.address ++ little_bytes 2 desc.length ++ (desc.cso ∷ command_bits desc.command ∷ []) ++ (sent_bits desc.status ∷ desc.css ∷ [])
+    little_bytes 8 desc.address ++ little_bytes 2 desc.length ++ (desc.cso ∷ command_bits desc.command ∷ [])
+    ++ (sent_bits desc.status ∷ desc.css ∷ [])
     ++ little_bytes 2 desc.special
 
 -- The descriptor that sixteen bytes are.

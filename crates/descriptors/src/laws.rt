@@ -3,8 +3,8 @@ ghost use Rattle.descriptors.specs.TxDesc.{TxDescriptorsComeBack, TxBytesComeBac
 ghost use Rattle.descriptors.specs.Ring.{OwnedBeginsAtHead, OwnedIsEmpty, OwnedIsDistance, OwnedGrowsAtTail};
 ghost use Rattle.descriptors.specs.Frames.{SendablePaddedIsLegal, PaddedBeginsWithFrame, LongFramesStay};
 
-/// Laws of receive descriptors: from the bytes of a descriptor the descriptor comes back, and from the descriptor of any
-/// sixteen bytes the bytes.
+/// Laws of receive descriptors: from the bytes of a descriptor the descriptor comes back, and from the descriptor of
+/// any sixteen bytes the bytes.
 ///
 /// It does nothing: its contract is the laws.
 pub fn descriptors_come_back()
@@ -12,8 +12,8 @@ pub fn descriptors_come_back()
     ensures bytes { BytesComeBack }
 {}
 
-/// Laws of transmit descriptors: from the bytes of a descriptor the descriptor comes back, and from the descriptor of any
-/// sixteen bytes the bytes.
+/// Laws of transmit descriptors: from the bytes of a descriptor the descriptor comes back, and from the descriptor of
+/// any sixteen bytes the bytes.
 ///
 /// It does nothing: its contract is the laws.
 pub fn transmit_descriptors_come_back()
@@ -21,9 +21,9 @@ pub fn transmit_descriptors_come_back()
     ensures bytes { TxBytesComeBack }
 {}
 
-/// Laws of rings whose head and tail are slots: the slots that the adapter owns begin at the head, and are those behind it
-/// once head moves on; there are none where head equals tail, and else as many as it is from head to tail; moving tail on
-/// gives the slot at the old tail to the adapter, as the last one.
+/// Laws of rings whose head and tail are slots: the slots that the adapter owns begin at the head, and are those
+/// behind it once head moves on; there are none where head equals tail, and else as many as it is from head to tail;
+/// moving tail on gives the slot at the old tail to the adapter, as the last one.
 ///
 /// It does nothing: its contract is the laws.
 pub fn owned_slots_go_from_head_to_tail()
@@ -33,8 +33,8 @@ pub fn owned_slots_go_from_head_to_tail()
     ensures grows { OwnedGrowsAtTail }
 {}
 
-/// Laws of padding: a frame that can be sent is legal once it is padded, a padded frame begins with the frame, and a frame
-/// of 60 bytes or more stays as it is.
+/// Laws of padding: a frame that can be sent is legal once it is padded, a padded frame begins with the frame, and a
+/// frame of 60 bytes or more stays as it is.
 ///
 /// It does nothing: its contract is the laws.
 pub fn sendable_frames_are_padded_to_legal()

@@ -6,8 +6,9 @@ const DESCRIPTOR_BYTES: u32 = 16;
 /// How many descriptors an index of 16 bits reaches.
 const MOST_INDEXED: u32 = 1 << 16;
 
-/// A ring of descriptors as its registers tell it: base address, length, head and tail (Intel's manual, "13.4.25 Receive
-/// Descriptor Base Address Low" up to "13.4.29 Receive Descriptor Tail", and the same of transmit descriptors).
+/// A ring of descriptors as its registers tell it: base address, length, head and tail (Intel's manual, "13.4.25
+/// Receive Descriptor Base Address Low" up to "13.4.29 Receive Descriptor Tail", and the same of transmit
+/// descriptors).
 ///
 /// The adapter owns the descriptors from head up to, not including, tail, wrapping.
 #[derive(Clone, Copy, Debug, PartialEq, Eq)]
@@ -25,8 +26,8 @@ pub struct Ring {
 impl Ring {
     ghost use Rattle.descriptors.specs.Ring.{count_of, IsSound, next_of, distance_of, address_of};
 
-    /// How many descriptors the ring has: one for sixteen bytes of its length, 65,536 at most, which is as far as indices
-    /// of 16 bits reach. The length registers have 20 bits and name fewer.
+    /// How many descriptors the ring has: one for sixteen bytes of its length, 65,536 at most, which is as far as
+    /// indices of 16 bits reach. The length registers have 20 bits and name fewer.
     pub fn count(&self) -> u32
         ensures { result ≡ count_of self.now }
     {
@@ -59,8 +60,8 @@ impl Ring {
         (to as u32 + count - from as u32) % count
     }
 
-    /// Where the descriptor of a slot stands in memory, or `None` exactly where that is no address of 64 bits: addresses
-    /// don't wrap.
+    /// Where the descriptor of a slot stands in memory, or `None` exactly where that is no address of 64 bits:
+    /// addresses don't wrap.
     pub fn descriptor(&self, index: u16) -> Option<u64>
         ensures in_range { IsSome result ↔ (address_of self.now index < 2 ^ 64) }
         ensures value { IfSome result (λ address. address ≡ address_of self.now index) }

@@ -7,8 +7,8 @@ use byteorder::{ByteOrder, LittleEndian};
 /// The bytes of a transmit descriptor.
 pub const TX_DESC_BYTES: usize = 16;
 
-/// A transmit descriptor of the legacy format: where the frame to be sent stands, what the adapter is to do with it, and
-/// whether it has gone out (Intel's manual, "3.3.3 Legacy Transmit Descriptor Format").
+/// A transmit descriptor of the legacy format: where the frame to be sent stands, what the adapter is to do with it,
+/// and whether it has gone out (Intel's manual, "3.3.3 Legacy Transmit Descriptor Format").
 #[derive(Clone, Copy, Debug, PartialEq, Eq)]
 pub struct TxDesc {
     /// The address of the frame's bytes in the host's memory.

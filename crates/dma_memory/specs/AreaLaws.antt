@@ -17,11 +17,13 @@ inside-apart other inner outer inside (inl before) = inl (omega (arith, inside.f
 inside-apart other inner outer inside (inr behind) = inr (omega (arith, inside.to))
 
 -- What is inside an area that lies in memory lies in memory.
-pub lies-inside : (memory : List ℕ) (inner outer : Area) → IsInside inner outer → LiesIn memory outer.address outer.size → LiesIn memory inner.address inner.size
+pub lies-inside : (memory : List ℕ) (inner outer : Area) → IsInside inner outer → LiesIn memory outer.address outer.size
+    → LiesIn memory inner.address inner.size
 lies-inside memory inner outer inside lies = omega (arith, inside.from, inside.to)
 
 -- A store changes only its bytes.
-pub changes_only_stored : (memory bytes : List ℕ) (address : ℕ) → LiesIn memory address (length bytes) → ChangesOnly memory (with_bytes memory address bytes) (area_at address (length bytes))
+pub changes_only_stored : (memory bytes : List ℕ) (address : ℕ) → LiesIn memory address (length bytes)
+    → ChangesOnly memory (with_bytes memory address bytes) (area_at address (length bytes))
 changes_only_stored memory bytes address lies = record {
   size = length-with_bytes memory bytes address lies;
   others = λ other apart. bytes_at-elsewhere memory bytes address other.address other.size lies apart;

@@ -70,11 +70,13 @@ area_of counts place = area_at (start_of counts place) (bytes_of counts place)
 
 -- Any two places of a layout are apart.
 abbrev pub PlacesAreApart : Type 0
-PlacesAreApart = (counts : Counts) (a b : Place) → HasPlace counts a → HasPlace counts b → a ≢ b → AreApart (area_of counts a) (area_of counts b)
+PlacesAreApart = (counts : Counts) (a b : Place) → HasPlace counts a → HasPlace counts b → a ≢ b
+    → AreApart (area_of counts a) (area_of counts b)
 
 -- Each place of a layout ends at or before the end of the memory that the layout needs.
 abbrev pub PlacesLieBelowSize : Type 0
-PlacesLieBelowSize = (counts : Counts) (place : Place) → HasPlace counts place → start_of counts place + bytes_of counts place ≤ size_of counts
+PlacesLieBelowSize = (counts : Counts) (place : Place) → HasPlace counts place
+    → start_of counts place + bytes_of counts place ≤ size_of counts
 
 -- The buffers begin at the first multiple of 2,048 at which both rings have ended.
 pub record BeginsAtNextMultiple (counts : Counts) : Type 0 where

@@ -2,7 +2,8 @@
 use Rattle.std.proofs.Common.{◌≢◌, ◌+◌, ◌*◌, inl, inr, ℕ, refl, ap, arith}
 use Rattle.std.proofs.lemmas.Bool.{cases_lt}
 use Rattle.dma_memory.specs.Areas.{area_at, AreApart}
-use Rattle.dma_memory.specs.Layout.{Counts, ReceiveRing, TransmitRing, TransmitBuffer, ReceiveBuffer, buffers_start, PlacesAreApart, PlacesLieBelowSize, BeginsAtNextMultiple}
+use Rattle.dma_memory.specs.Layout.{Counts, ReceiveRing, TransmitRing, TransmitBuffer, ReceiveBuffer, buffers_start, PlacesAreApart}
+use Rattle.dma_memory.specs.Layout.{PlacesLieBelowSize, BeginsAtNextMultiple}
 
 -- Where the buffers begin.
 pub begins : (counts : Counts) → BeginsAtNextMultiple counts
@@ -17,7 +18,12 @@ place-below_size counts (ReceiveBuffer number) has = omega arith
 
 -- Two buffers of different numbers are apart.
 buffers_apart : (from i j : ℕ) → i ≢ j → AreApart (area_at (from + 2048 * i) 2048) (area_at (from + 2048 * j) 2048)
-buffers_apart from i j differ = elim (cases_lt i j) as (λ _. AreApart (area_at (from + 2048 * i) 2048) (area_at (from + 2048 * j) 2048)) [ inl below ↦ inl (omega arith) | inr above ↦ inr (omega arith) ]
+buffers_apart from i j differ = elim (cases_lt i j) as
+    (λ _. AreApart (area_at (from + 2048 * i) 2048) (area_at (from + 2048 * j) 2048)) [
+      | inl below ↦ inl (omega arith)
+      | inr above ↦ inr
+          (omega arith)
+    ]
 
 -- Two places are apart.
 pub places-apart : PlacesAreApart
@@ -31,9 +37,11 @@ places-apart counts TransmitRing (TransmitBuffer slot) has_a has_b differ = let 
 places-apart counts TransmitRing (ReceiveBuffer number) has_a has_b differ = let b = (begins counts).behind_rings in inl (omega arith)
 places-apart counts (TransmitBuffer slot) ReceiveRing has_a has_b differ = let b = (begins counts).behind_rings in inr (omega arith)
 places-apart counts (TransmitBuffer slot) TransmitRing has_a has_b differ = let b = (begins counts).behind_rings in inr (omega arith)
-places-apart counts (TransmitBuffer slot) (TransmitBuffer other) has_a has_b differ = buffers_apart (buffers_start counts) slot other (λ same. differ (ap TransmitBuffer same))
+places-apart counts (TransmitBuffer slot) (TransmitBuffer other) has_a has_b differ = buffers_apart (buffers_start counts) slot other
+    (λ same. differ (ap TransmitBuffer same))
 places-apart counts (TransmitBuffer slot) (ReceiveBuffer number) has_a has_b differ = inl (omega arith)
 places-apart counts (ReceiveBuffer number) ReceiveRing has_a has_b differ = let b = (begins counts).behind_rings in inr (omega arith)
 places-apart counts (ReceiveBuffer number) TransmitRing has_a has_b differ = let b = (begins counts).behind_rings in inr (omega arith)
 places-apart counts (ReceiveBuffer number) (TransmitBuffer slot) has_a has_b differ = inr (omega arith)
-places-apart counts (ReceiveBuffer number) (ReceiveBuffer other) has_a has_b differ = buffers_apart (buffers_start counts + 2048 * counts.tx) number other (λ same. differ (ap ReceiveBuffer same))
+places-apart counts (ReceiveBuffer number) (ReceiveBuffer other) has_a has_b differ = buffers_apart
+    (buffers_start counts + 2048 * counts.tx) number other (λ same. differ (ap ReceiveBuffer same))

@@ -35,11 +35,13 @@ OwnersAddUp = (k : ℕ) (xs ys : List ℕ) → copies k (xs ++ ys) ≡ copies k 
 
 -- A number that is taken from one owner and given to another still has one.
 abbrev pub MovesKeepOneOwner : Type 0
-MovesKeepOneOwner = (n number : ℕ) (giver giver' taker taker' : List ℕ) → HasOneOwner n (giver ++ taker) → HaveSameNumbers giver (number ∷ giver') → HaveSameNumbers (number ∷ taker) taker' → HasOneOwner n (giver' ++ taker')
+MovesKeepOneOwner = (n number : ℕ) (giver giver' taker taker' : List ℕ) → HasOneOwner n (giver ++ taker)
+    → HaveSameNumbers giver (number ∷ giver') → HaveSameNumbers (number ∷ taker) taker' → HasOneOwner n (giver' ++ taker')
 
 -- What one owner has is a number below n, and no other owner has it.
 abbrev pub OwnedIsNowhereElse : Type 0
-OwnedIsNowhereElse = (n number : ℕ) (xs ys : List ℕ) → HasOneOwner n (xs ++ ys) → 0 < copies number ys → (number < n) × (copies number xs ≡ 0)
+OwnedIsNowhereElse = (n number : ℕ) (xs ys : List ℕ) → HasOneOwner n (xs ++ ys) → 0 < copies number ys → (number < n)
+    × (copies number xs ≡ 0)
 
 -- With one owner for each, there are n numbers in the list.
 abbrev pub OneOwnerCounts : Type 0
@@ -51,4 +53,5 @@ NoSecondOwnerBounds = (n : ℕ) (numbers : List ℕ) → HasNoSecondOwner n numb
 
 -- and fewer where one is missing.
 abbrev pub MissingLeavesRoom : Type 0
-MissingLeavesRoom = (n number : ℕ) (numbers : List ℕ) → HasNoSecondOwner n numbers → number < n → copies number numbers ≡ 0 → length numbers < n
+MissingLeavesRoom = (n number : ℕ) (numbers : List ℕ) → HasNoSecondOwner n numbers → number < n → copies number numbers ≡ 0
+    → length numbers < n

@@ -3,7 +3,8 @@ use Rattle.std.proofs.Common.{◌≡◌, ◌≢◌, ◌≤◌, ◌<◌, ◌+◌,
 use Rattle.std.specs.Prelude.{◌==◌, nat_lt, if◌then◌else◌}
 use Rattle.std.proofs.lemmas.Bool.Decides.{nat_tests}
 use Rattle.std.proofs.lemmas.List.Sums.{sum_by-cons, sum_by-append, sum_by_push}
-use Rattle.dma_memory.specs.Owners.{copies, HasOneOwner, HasNoSecondOwner, HaveSameNumbers, OwnersAddUp, MovesKeepOneOwner, OwnedIsNowhereElse, OneOwnerCounts, NoSecondOwnerBounds, MissingLeavesRoom}
+use Rattle.dma_memory.specs.Owners.{copies, HasOneOwner, HasNoSecondOwner, HaveSameNumbers, OwnersAddUp, MovesKeepOneOwner}
+use Rattle.dma_memory.specs.Owners.{OwnedIsNowhereElse, OneOwnerCounts, NoSecondOwnerBounds, MissingLeavesRoom}
 
 -- 1 where k is x, else 0.
 abbrev pub if_same : ℕ → ℕ → ℕ
@@ -105,7 +106,8 @@ out_from_taken n number xs xs' once taken =
 if_same-fits : (k x n m : ℕ) → m ≤ if_below k n → (k ≡ x → m ≡ 0) → x < n → if_same k x + m ≤ if_below k n
 if_same-fits k x n m once out known = grind (arith, nat_tests)
 
-pub no_second-given : (n number : ℕ) (xs xs' : List ℕ) → HasNoSecondOwner n xs → number < n → copies number xs ≡ 0 → HaveSameNumbers (number ∷ xs) xs' → HasNoSecondOwner n xs'
+pub no_second-given : (n number : ℕ) (xs xs' : List ℕ) → HasNoSecondOwner n xs → number < n → copies number xs ≡ 0
+    → HaveSameNumbers (number ∷ xs) xs' → HasNoSecondOwner n xs'
 no_second-given n number xs xs' once known out given k =
     let fits = if_same-fits k number n (copies k xs) (once k) (λ same. rw same out) known in
     omega (arith, given k, copies-cons k number xs)
@@ -113,7 +115,16 @@ no_second-given n number xs xs' once known out given k =
 -- A number that is taken from one owner and given to another still has one.
 pub one_owner-moved : MovesKeepOneOwner
 one_owner-moved n number giver giver' taker taker' one taken given k =
-    omega (arith, one k, taken k, given k, copies-append k giver taker, copies-append k giver' taker', copies-cons k number giver', copies-cons k number taker)
+    omega (
+      arith,
+      one k,
+      taken k,
+      given k,
+      copies-append k giver taker,
+      copies-append k giver' taker',
+      copies-cons k number giver',
+      copies-cons k number taker,
+    )
 
 -- What one owner has is a number below n, and no other owner has it.
 pub owned-nowhere_else : OwnedIsNowhereElse
@@ -155,7 +166,12 @@ places-most (suc m) xs most = omega (arith, most m, places-most m xs most)
 -- With one owner for each, there are n numbers in the list.
 pub length-one_owner : OneOwnerCounts
 length-one_owner n xs one =
-    omega (arith, length-places n xs (no_second_from_one n xs one), places-once n xs (λ k below. omega (arith, one k, if_below-yes k n below)))
+    omega (
+      arith,
+      length-places n xs (no_second_from_one n xs one),
+      places-once n xs
+          (λ k below. omega (arith, one k, if_below-yes k n below)),
+    )
 
 -- With no second owner, there are at most n, and fewer where one is missing.
 pub length-no_second : NoSecondOwnerBounds

@@ -3,7 +3,8 @@ use Rattle.std.proofs.Common.{◌≡◌, ◌≤◌, ◌<◌, inl, inr, ◌∷◌
 use Rattle.std.specs.Prelude.{slice_get}
 use Rattle.std.proofs.lemmas.Bool.{cases_eq, cases_lt}
 use Rattle.dma_memory.specs.Owners.{copies, HasOneOwner, EachStandsOnce, CountsArePlaces}
-use Rattle.dma_memory.specs.OwnersLaws.{if_below, copies-cons, if_same-yes, if_same-no, if_below-yes, if_below-no, if_below-most, below_from_if_below}
+use Rattle.dma_memory.specs.OwnersLaws.{if_below, copies-cons, if_same-yes, if_same-no, if_below-yes, if_below-no, if_below-most}
+use Rattle.dma_memory.specs.OwnersLaws.{below_from_if_below}
 
 -- A number that stands at a place is counted,
 counted : (k i : ℕ) (xs : List ℕ) → slice_get xs i ≡ Some k → 0 < copies k xs
@@ -39,10 +40,12 @@ counted_once k [] one = omega arith
 counted_once k (x ∷ xs) one =
     elim (cases_eq k x) as (λ _. copies k (x ∷ xs) ≤ 1) [
       | inl same ↦ elim (cases_lt 0 (copies k xs)) as (λ _. copies k (x ∷ xs) ≤ 1) [
-        | inl more ↦ let later = place k xs more in let none = one 0 (suc later.0) (ap Some (sym same)) later.1 in absurd (omega (arith, none))
+        | inl more ↦ let later = place k xs more in let none = one 0 (suc later.0) (ap Some (sym same)) later.1 in absurd
+            (omega (arith, none))
         | inr none ↦ omega (arith, none, if_same-yes k x same, copies-cons k x xs)
       ]
-      | inr differ ↦ let rest = counted_once k xs (λ i j at also. let next = one (suc i) (suc j) at also in omega (arith, next)) in omega (arith, rest, if_same-no k x differ, copies-cons k x xs)
+      | inr differ ↦ let rest = counted_once k xs (λ i j at also. let next = one (suc i) (suc j) at also in omega (arith, next)) in omega
+          (arith, rest, if_same-no k x differ, copies-cons k x xs)
     ]
 
 stands_once : (n : ℕ) (xs : List ℕ) → HasOneOwner n xs → EachStandsOnce n xs
@@ -55,7 +58,8 @@ stands_once n xs one = record {
 one_owner : (n : ℕ) (xs : List ℕ) → EachStandsOnce n xs → HasOneOwner n xs
 one_owner n xs stands k =
     elim (cases_lt k n) as (λ _. copies k xs ≡ if_below k n) [
-      | inl below ↦ let at = stands.somewhere k below in omega (arith, counted k at.0 xs at.1, counted_once k xs (λ i j. stands.nowhere_else i j k), if_below-yes k n below)
+      | inl below ↦ let at = stands.somewhere k below in omega
+          (arith, counted k at.0 xs at.1, counted_once k xs (λ i j. stands.nowhere_else i j k), if_below-yes k n below)
       | inr past ↦ elim (cases_lt 0 (copies k xs)) as (λ _. copies k xs ≡ if_below k n) [
         | inl some ↦ let at = place k xs some in absurd (omega (arith, past, stands.known at.0 k at.1))
         | inr none ↦ omega (arith, none, if_below-no k n past)

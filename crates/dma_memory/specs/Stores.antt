@@ -9,19 +9,23 @@ LieWhereEachLies = (memory : List ℕ) (address n : ℕ) → LiesIn memory addre
 
 -- A store keeps the memory's size.
 abbrev pub StoreKeepsSize : Type 0
-StoreKeepsSize = (memory bytes : List ℕ) (address : ℕ) → LiesIn memory address (length bytes) → length (with_bytes memory address bytes) ≡ length memory
+StoreKeepsSize = (memory bytes : List ℕ) (address : ℕ) → LiesIn memory address (length bytes)
+    → length (with_bytes memory address bytes) ≡ length memory
 
 -- What was stored is what stands there.
 abbrev pub StoredIsLoaded : Type 0
-StoredIsLoaded = (memory bytes : List ℕ) (address : ℕ) → LiesIn memory address (length bytes) → bytes_at (with_bytes memory address bytes) address (length bytes) ≡ bytes
+StoredIsLoaded = (memory bytes : List ℕ) (address : ℕ) → LiesIn memory address (length bytes)
+    → bytes_at (with_bytes memory address bytes) address (length bytes) ≡ bytes
 
 -- Bytes apart from those that are stored stay.
 abbrev pub OthersStay : Type 0
-OthersStay = (memory bytes : List ℕ) (address : ℕ) (other : Area) → LiesIn memory address (length bytes) → AreApart (area_at address (length bytes)) other → bytes_in (with_bytes memory address bytes) other ≡ bytes_in memory other
+OthersStay = (memory bytes : List ℕ) (address : ℕ) (other : Area) → LiesIn memory address (length bytes)
+    → AreApart (area_at address (length bytes)) other → bytes_in (with_bytes memory address bytes) other ≡ bytes_in memory other
 
 -- Two stores, the second right behind the first, are one.
 abbrev pub AdjacentStoresAreOne : Type 0
-AdjacentStoresAreOne = (memory first second : List ℕ) (address : ℕ) → LiesIn memory address (length (first ++ second)) → with_bytes (with_bytes memory address first) (address + length first) second ≡ with_bytes memory address (first ++ second)
+AdjacentStoresAreOne = (memory first second : List ℕ) (address : ℕ) → LiesIn memory address (length (first ++ second))
+    → with_bytes (with_bytes memory address first) (address + length first) second ≡ with_bytes memory address (first ++ second)
 
 -- A store of no bytes changes nothing, whatever its address.
 abbrev pub StoreOfNoneStays : Type 0

@@ -1,6 +1,8 @@
 ghost use Rattle.dma_memory.specs.Layout.{Counts, PlacesAreApart, PlacesLieBelowSize, BeginsAtNextMultiple};
-ghost use Rattle.dma_memory.specs.Owners.{CountsArePlaces, OwnersAddUp, MovesKeepOneOwner, OwnedIsNowhereElse, OneOwnerCounts, NoSecondOwnerBounds, MissingLeavesRoom};
-ghost use Rattle.dma_memory.specs.Stores.{LieWhereEachLies, StoreKeepsSize, StoredIsLoaded, OthersStay, AdjacentStoresAreOne, StoreOfNoneStays};
+ghost use Rattle.dma_memory.specs.Owners.{CountsArePlaces, OwnersAddUp, MovesKeepOneOwner, OwnedIsNowhereElse};
+ghost use Rattle.dma_memory.specs.Owners.{OneOwnerCounts, NoSecondOwnerBounds, MissingLeavesRoom};
+ghost use Rattle.dma_memory.specs.Stores.{LieWhereEachLies, StoreKeepsSize, StoredIsLoaded, OthersStay};
+ghost use Rattle.dma_memory.specs.Stores.{AdjacentStoresAreOne, StoreOfNoneStays};
 
 /// Laws of memory, over all memories, addresses and bytes: bytes lie in it exactly where each of them lies below its
 /// size; a store keeps the size; what was stored is what is loaded; all other bytes stay; two stores side by side are

@@ -1,5 +1,6 @@
 ghost use Rattle.std.specs.Prelude.{◌≡◌, ◌+◌, ◌<◌, ◌≤◌, ◌↔◌, Ok, Err, IfOk, IsOk, IsTrue};
-ghost use Rattle.dma_memory.specs.Layout.{Counts, IsRingSize, IsBufferCount, IsAllowed, start_of, size_of, ReceiveRing, TransmitRing, TransmitBuffer, ReceiveBuffer};
+ghost use Rattle.dma_memory.specs.Layout.{Counts, IsRingSize, IsBufferCount, IsAllowed, start_of, size_of};
+ghost use Rattle.dma_memory.specs.Layout.{ReceiveRing, TransmitRing, TransmitBuffer, ReceiveBuffer};
 
 use std::marker::Model;
 use thiserror::Error;
@@ -81,7 +82,8 @@ impl Layout {
         ensures allowed { IsOk result ↔ IsAllowed (record { rx = rx; tx = tx; buffers = buffers }) }
         ensures counts { IfOk result (λ layout. layout ≡ record { rx = rx; tx = tx; buffers = buffers }) }
         ensures ring_size { (result ≡ Err LayoutError.RingSize) ↔ ¬ (IsRingSize rx × IsRingSize tx) }
-        ensures buffer_count { (result ≡ Err LayoutError.BufferCount) ↔ (IsRingSize rx × IsRingSize tx × ¬ IsBufferCount rx buffers) }
+        ensures buffer_count { (result ≡ Err LayoutError.BufferCount)
+            ↔ (IsRingSize rx × IsRingSize tx × ¬ IsBufferCount rx buffers) }
     {
         if !is_ring_size(rx) || !is_ring_size(tx) {
             return Err(LayoutError::RingSize);

@@ -1,5 +1,6 @@
 -- Transmit slots are freed over a bus, one load each.
-use Rattle.std.proofs.Common.{true, false, ◌≡◌, ◌≤◌, ◌<◌, ◌+◌, ◌-◌, ◌%◌, ◌++◌, ◌∷◌, [], ℕ, zero, suc, List, min, slice_index, map, refl, sym, ap, subst, ◌∙◌, arith}
+use Rattle.std.proofs.Common.{true, false, ◌≡◌, ◌≤◌, ◌<◌, ◌+◌, ◌-◌, ◌%◌, ◌++◌, ◌∷◌, [], ℕ, zero, suc, List, min, slice_index, map, refl}
+use Rattle.std.proofs.Common.{sym, ap, subst, ◌∙◌, arith}
 use Rattle.std.proofs.lemmas.List.{map-append}
 use Rattle.registers.specs.Bits.{is_set}
 use Rattle.dma_memory.specs.HostMemory.{bytes_at}
@@ -28,7 +29,8 @@ use Rattle.driver.specs.Sends.{Reclaims, probes, with_sending}
 loads-none : (d : DriverState) → d.sending ≡ 0 → transmit_loads d.counts d.oldest_sent (min d.sending 1) ≡ []
 loads-none d none = let zero_loads : min d.sending 1 ≡ 0 = omega (arith, none) in ap (transmit_loads d.counts d.oldest_sent) zero_loads
 
-loads-one : (d : DriverState) → 0 < d.sending → transmit_loads d.counts d.oldest_sent (min d.sending 1) ≡ Loads (transmit_slot d.counts d.oldest_sent) 16 ∷ []
+loads-one : (d : DriverState) → 0 < d.sending
+    → transmit_loads d.counts d.oldest_sent (min d.sending 1) ≡ Loads (transmit_slot d.counts d.oldest_sent) 16 ∷ []
 loads-one d some = let one_load : min d.sending 1 ≡ suc zero = omega (arith, some) in ap (transmit_loads d.counts d.oldest_sent) one_load
 
 slots-join : (n from i j : ℕ) → slots_from n from (i + j) ≡ slots_from n from i ++ slots_from n (place n from i) j
@@ -38,10 +40,12 @@ slots-join n from (suc i) j =
     ap (slots_from n from) more ∙ ap (λ (slots : List ℕ). from ∷ slots) (slots-join n ((from + 1) % n) i j)
 
 -- Loads of some slots, and then of those behind them.
-pub loads-join : (counts : Counts) (from i j : ℕ) → transmit_loads counts from i ++ transmit_loads counts (place counts.tx from i) j ≡ transmit_loads counts from (i + j)
+pub loads-join : (counts : Counts) (from i j : ℕ)
+    → transmit_loads counts from i ++ transmit_loads counts (place counts.tx from i) j ≡ transmit_loads counts from (i + j)
 loads-join counts from i j =
     let load : ℕ → Access = λ slot. Loads (transmit_slot counts slot) 16 in
-    sym (ap (map load) (slots-join counts.tx from i j) ∙ map-append load (slots_from counts.tx from i) (slots_from counts.tx (place counts.tx from i) j))
+    sym (ap (map load) (slots-join counts.tx from i j)
+    ∙ map-append load (slots_from counts.tx from i) (slots_from counts.tx (place counts.tx from i) j))
 
 -- One slot.
 
@@ -49,7 +53,8 @@ loads-join counts from i j =
 pub tail-freed : (n oldest sending : ℕ) → 0 < sending → place n ((oldest + 1) % n) (sending - 1) ≡ place n oldest sending
 tail-freed n oldest sending some = let more : sending ≡ suc (sending - 1) = omega (arith, some) in sym (ap (place n oldest) more)
 
-pub sending-freed : (counts : Counts) (oldest next sending : ℕ) → 0 < sending → IsSending counts oldest next sending → IsSending counts ((oldest + 1) % counts.tx) next (sending - 1)
+pub sending-freed : (counts : Counts) (oldest next sending : ℕ) → 0 < sending → IsSending counts oldest next sending
+    → IsSending counts ((oldest + 1) % counts.tx) next (sending - 1)
 sending-freed counts oldest next sending some sends = record {
   oldest_slot = next-below counts.tx oldest sends.oldest_slot;
   room = omega (arith, sends.room);
@@ -57,37 +62,48 @@ sending-freed counts oldest next sending some sends = record {
 }
 
 -- None is outstanding,
-pub frees-none : {B : Type 0} (world : B → World) (happened : B → B → Past → Type 0) → ((b : B) → happened b b nothing) → (b : B) (d : DriverState) → d.sending ≡ 0 → Ready d (world b)
+pub frees-none : {B : Type 0} (world : B → World) (happened : B → B → Past → Type 0) → ((b : B) → happened b b nothing)
+    → (b : B) (d : DriverState) → d.sending ≡ 0 → Ready d (world b)
     → RanBy true world happened (transmit_loads d.counts d.oldest_sent (min d.sending 1)) b b d d [] []
 frees-none world happened stays b d none ready =
-    subst (λ (accesses : List Access). RanBy true world happened accesses b b d d [] []) (sym (loads-none d none)) (ran_by-stays world happened stays b d ready)
+    subst (λ (accesses : List Access). RanBy true world happened accesses b b d d [] []) (sym (loads-none d none))
+    (ran_by-stays world happened stays b d ready)
 
 -- a load of bytes at an address
-abbrev pub LoadsAt : {B : Type 0} (world : B → World) (happened : B → B → Past → Type 0) (lively : B → Type 0) (old new : B) (bytes : List ℕ) (address : ℕ) → Type 0
+abbrev pub LoadsAt : {B : Type 0} (world : B → World) (happened : B → B → Past → Type 0) (lively : B
+    → Type 0) (old new : B) (bytes : List ℕ) (address : ℕ) → Type 0
 LoadsAt world happened lively old new bytes address =
     Acts world happened lively old new (Loads address 16) (λ before after. (bytes ≡ bytes_at before.memory address 16) × (after ≡ before))
 
 -- or the oldest is done and freed,
-pub frees-oldest : {B : Type 0} (world : B → World) (happened : B → B → Past → Type 0) (lively : B → Type 0) (old new : B) (d : DriverState) (address : ℕ) (bytes : List ℕ)
+pub frees-oldest : {B : Type 0} (world : B → World) (happened : B → B → Past → Type 0) (lively : B
+    → Type 0) (old new : B) (d : DriverState) (address : ℕ) (bytes : List ℕ)
     → address ≡ transmit_slot d.counts d.oldest_sent → 0 < d.sending → is_set (slice_index bytes 12) 0 ≡ true
-    → Acts world happened lively old new (Loads address 16) (λ before after. (bytes ≡ bytes_at before.memory address 16) × (after ≡ before)) → Ready d (world old)
+    → Acts world happened lively old new (Loads address 16) (λ before after. (bytes ≡ bytes_at before.memory address 16) × (after ≡ before))
+    → Ready d (world old)
     → RanBy true world happened (transmit_loads d.counts d.oldest_sent (min d.sending 1)) old new d (with_freed d) [] []
 frees-oldest world happened lively old new d address bytes at some done acts ready =
     subst (λ (accesses : List Access). RanBy true world happened accesses old new d (with_freed d) [] []) (sym (loads-one d some))
     (run-frees world happened lively old new d bytes some done (subst (LoadsAt world happened lively old new bytes) at acts) ready)
 
 -- or it isn't done.
-pub waits-oldest : {B : Type 0} (world : B → World) (happened : B → B → Past → Type 0) (lively : B → Type 0) (old new : B) (d : DriverState) (address : ℕ) (bytes : List ℕ)
+pub waits-oldest : {B : Type 0} (world : B → World) (happened : B → B → Past → Type 0) (lively : B
+    → Type 0) (old new : B) (d : DriverState) (address : ℕ) (bytes : List ℕ)
     → address ≡ transmit_slot d.counts d.oldest_sent → 0 < d.sending → is_set (slice_index bytes 12) 0 ≡ false
-    → Acts world happened lively old new (Loads address 16) (λ before after. (bytes ≡ bytes_at before.memory address 16) × (after ≡ before)) → Ready d (world old)
-    → RanWith true world happened (transmit_loads d.counts d.oldest_sent (min d.sending 1)) old new d d [] [] (λ after. written_back d.oldest_sent after ≡ [])
+    → Acts world happened lively old new (Loads address 16) (λ before after. (bytes ≡ bytes_at before.memory address 16) × (after ≡ before))
+    → Ready d (world old)
+    → RanWith true world happened (transmit_loads d.counts d.oldest_sent (min d.sending 1)) old new d d [] []
+    (λ after. written_back d.oldest_sent after ≡ [])
 waits-oldest world happened lively old new d address bytes at some clear acts ready =
-    subst (λ (accesses : List Access). RanWith true world happened accesses old new d d [] [] (λ after. written_back d.oldest_sent after ≡ [])) (sym (loads-one d some))
+    subst (λ (accesses : List Access). RanWith true world happened accesses old new d d [] []
+    (λ after. written_back d.oldest_sent after ≡ [])) (sym (loads-one d some))
     (run-waits world happened lively old new d bytes clear (subst (LoadsAt world happened lively old new bytes) at acts) ready)
 
 -- Some slots, and then the oldest of those that are left.
-frees-more : {B : Type 0} (world : B → World) (happened : B → B → Past → Type 0) → ((a b c : B) (first later : Past) → happened a b first → happened b c later → happened a c (joined first later))
-    → (a b c : B) (d1 d2 d3 : DriverState) (k total : ℕ) → d2.counts ≡ d1.counts → d2.oldest_sent ≡ place d1.counts.tx d1.oldest_sent k → k + min d2.sending 1 ≡ total
+frees-more : {B : Type 0} (world : B → World) (happened : B → B → Past → Type 0)
+    → ((a b c : B) (first later : Past) → happened a b first → happened b c later → happened a c (joined first later))
+    → (a b c : B) (d1 d2 d3 : DriverState) (k total : ℕ) → d2.counts ≡ d1.counts → d2.oldest_sent ≡ place d1.counts.tx d1.oldest_sent k
+    → k + min d2.sending 1 ≡ total
     → RanBy true world happened (transmit_loads d1.counts d1.oldest_sent k) a b d1 d2 [] []
     → RanBy true world happened (transmit_loads d2.counts d2.oldest_sent (min d2.sending 1)) b c d2 d3 [] []
     → RanBy true world happened (transmit_loads d1.counts d1.oldest_sent total) a c d1 d3 [] []
@@ -123,7 +139,8 @@ freeing-more d1 d2 d3 freeing some freed =
     let counts : d2.counts ≡ d1.counts = ap (λ (d : DriverState). d.counts) freeing.others in
     let more : d1.sending - d2.sending + 1 ≡ d1.sending - d3.sending = omega (arith, freeing.fewer, some, sending) in
     record {
-      others = freed ∙ ap (λ (d : DriverState). with_sending d next left) freeing.others ∙ ap (λ (d : DriverState). with_sending d1 d.oldest_sent d.sending) (sym freed);
+      others = freed ∙ ap (λ (d : DriverState). with_sending d next left) freeing.others
+          ∙ ap (λ (d : DriverState). with_sending d1 d.oldest_sent d.sending) (sym freed);
       fewer = omega (arith, freeing.fewer, sending);
       walked =
           ap (λ (d : DriverState). d.oldest_sent) freed
@@ -135,61 +152,75 @@ freeing-more d1 d2 d3 freeing some freed =
     }
 
 -- Some slots were freed over a bus, by one load each.
-pub record HasFreed {B : Type 0} (honest : B → Type 0) (world : B → World) (happened : B → B → Past → Type 0) (old new : B) (d d' : DriverState) : Type 0 where
+pub record HasFreed {B : Type 0} (honest : B → Type 0) (world : B → World) (happened : B → B → Past
+    → Type 0) (old new : B) (d d' : DriverState) : Type 0 where
   pub freeing : IsFreeing d d'
   pub ran :
       (held : List HandedOut) → honest old → Ready (holding held d) (world old)
-      → RanBy true world happened (transmit_loads d.counts d.oldest_sent (d.sending - d'.sending)) old new (holding held d) (holding held d') [] []
+      → RanBy true world happened (transmit_loads d.counts d.oldest_sent (d.sending - d'.sending)) old new (holding held d)
+      (holding held d') [] []
 
-pub has_freed-none : {B : Type 0} (honest : B → Type 0) (world : B → World) (happened : B → B → Past → Type 0) → ((b : B) → happened b b nothing) → (b : B) (d : DriverState)
+pub has_freed-none : {B : Type 0} (honest : B → Type 0) (world : B → World) (happened : B → B → Past → Type 0)
+    → ((b : B) → happened b b nothing) → (b : B) (d : DriverState)
     → HasFreed honest world happened b b d d
 has_freed-none honest world happened stays b d =
     let none : d.sending - d.sending ≡ 0 = omega arith in
     record {
       freeing = freeing-none d;
       ran = λ held honest_b ready.
-          subst (λ (k : ℕ). RanBy true world happened (transmit_loads d.counts d.oldest_sent k) b b (holding held d) (holding held d) [] []) (sym none)
+          subst (λ (k : ℕ). RanBy true world happened (transmit_loads d.counts d.oldest_sent k) b b (holding held d) (holding held d) [] [])
+          (sym none)
           (ran_by-stays world happened stays b (holding held d) ready);
     }
 
 -- What one turn does, from any state.
-abbrev pub Turns : {B : Type 0} (honest : B → Type 0) (world : B → World) (happened : B → B → Past → Type 0) (old new : B) (d d' : DriverState) → Type 0
+abbrev pub Turns : {B : Type 0} (honest : B → Type 0) (world : B → World) (happened : B → B → Past
+    → Type 0) (old new : B) (d d' : DriverState) → Type 0
 Turns honest world happened old new d d' =
     (held : List HandedOut) → honest old → Ready (holding held d) (world old)
     → RanBy true world happened (transmit_loads d.counts d.oldest_sent (min d.sending 1)) old new (holding held d) (holding held d') [] []
 
 -- One more turn, and how many loads there are then.
 frees-turn : {B : Type 0} (honest : B → Type 0) (world : B → World) (happened : B → B → Past → Type 0)
-    → ((a b c : B) (first later : Past) → happened a b first → happened b c later → happened a c (joined first later)) → (a b c : B) (d1 d2 d3 : DriverState) (total : ℕ)
-    → (honest a → honest b) → HasFreed honest world happened a b d1 d2 → Turns honest world happened b c d2 d3 → d1.sending - d2.sending + min d2.sending 1 ≡ total
+    → ((a b c : B) (first later : Past) → happened a b first → happened b c later → happened a c (joined first later))
+    → (a b c : B) (d1 d2 d3 : DriverState) (total : ℕ)
+    → (honest a → honest b) → HasFreed honest world happened a b d1 d2 → Turns honest world happened b c d2 d3
+    → d1.sending - d2.sending + min d2.sending 1 ≡ total
     → (held : List HandedOut) → honest a → Ready (holding held d1) (world a)
     → RanBy true world happened (transmit_loads d1.counts d1.oldest_sent total) a c (holding held d1) (holding held d3) [] []
 frees-turn honest world happened joins a b c d1 d2 d3 total still freed turn sum held honest_a ready =
     let before = freed.ran held honest_a ready in
     frees-more world happened joins a b c (holding held d1) (holding held d2) (holding held d3) (d1.sending - d2.sending) total
-    (ap (λ (d : DriverState). d.counts) freed.freeing.others) freed.freeing.walked sum before (turn held (still honest_a) before.goes.flows.ready)
+    (ap (λ (d : DriverState). d.counts) freed.freeing.others) freed.freeing.walked sum before
+    (turn held (still honest_a) before.goes.flows.ready)
 
 pub has_freed-more : {B : Type 0} (honest : B → Type 0) (world : B → World) (happened : B → B → Past → Type 0)
-    → ((a b c : B) (first later : Past) → happened a b first → happened b c later → happened a c (joined first later)) → (a b c : B) (d1 d2 d3 : DriverState)
-    → (honest a → honest b) → HasFreed honest world happened a b d1 d2 → Turns honest world happened b c d2 d3 → 0 < d2.sending → d3 ≡ with_freed d2
+    → ((a b c : B) (first later : Past) → happened a b first → happened b c later → happened a c (joined first later))
+    → (a b c : B) (d1 d2 d3 : DriverState)
+    → (honest a → honest b) → HasFreed honest world happened a b d1 d2 → Turns honest world happened b c d2 d3 → 0 < d2.sending
+    → d3 ≡ with_freed d2
     → HasFreed honest world happened a c d1 d3
 has_freed-more honest world happened joins a b c d1 d2 d3 still freed turn some is =
     let left = ap (λ (d : DriverState). d.sending) is in
     record {
       freeing = freeing-more d1 d2 d3 freed.freeing some is;
-      ran = frees-turn honest world happened joins a b c d1 d2 d3 (d1.sending - d3.sending) still freed turn (omega (arith, freed.freeing.fewer, left, some));
+      ran = frees-turn honest world happened joins a b c d1 d2 d3 (d1.sending - d3.sending) still freed turn
+          (omega (arith, freed.freeing.fewer, left, some));
     }
 
 -- The turn that frees none is the last.
 pub has_freed-all : {B : Type 0} (honest : B → Type 0) (world : B → World) (happened : B → B → Past → Type 0)
-    → ((a b c : B) (first later : Past) → happened a b first → happened b c later → happened a c (joined first later)) → (a b c : B) (d1 d2 d3 : DriverState)
+    → ((a b c : B) (first later : Past) → happened a b first → happened b c later → happened a c (joined first later))
+    → (a b c : B) (d1 d2 d3 : DriverState)
     → (honest a → honest b) → HasFreed honest world happened a b d1 d2 → Turns honest world happened b c d2 d3 → d3 ≡ d2
     → ((held : List HandedOut) → honest b → Ready (holding held d2) (world b) → written_back d3.oldest_sent (world c) ≡ [])
-    → (held : List HandedOut) → honest a → Ready (holding held d1) (world a) → Reclaims world happened a c (holding held d1) (holding held d3)
+    → (held : List HandedOut) → honest a → Ready (holding held d1) (world a)
+    → Reclaims world happened a c (holding held d1) (holding held d3)
 has_freed-all honest world happened joins a b c d1 d2 d3 still freed turn is none held honest_a ready =
     let left = ap (λ (d : DriverState). d.sending) is in
     let before = freed.ran held honest_a ready in
     record {
-      ran = frees-turn honest world happened joins a b c d1 d2 d3 (probes d1.sending d3.sending) still freed turn (omega (arith, left)) held honest_a ready;
+      ran = frees-turn honest world happened joins a b c d1 d2 d3 (probes d1.sending d3.sending) still freed turn
+          (omega (arith, left)) held honest_a ready;
       none = none held (still honest_a) before.goes.flows.ready;
     }

@@ -1,5 +1,6 @@
 -- A driver handles an interrupt: it reads MPC, takes slots, and refills.
-use Rattle.std.proofs.Common.{Bool, inl, ◌≡◌, ◌+◌, ◌++◌, ◌∷◌, [], ◌<◌, ◌^◌, ℕ, List, length, map, refl, sym, ap, subst, ◌∙◌, length-append, arith}
+use Rattle.std.proofs.Common.{Bool, inl, ◌≡◌, ◌+◌, ◌++◌, ◌∷◌, [], ◌<◌, ◌^◌, ℕ, List, length, map, refl, sym, ap, subst, ◌∙◌, length-append}
+use Rattle.std.proofs.Common.{arith}
 use Rattle.std.proofs.lemmas.List.{append-nil, length-map}
 use Rattle.registers.specs.Bits.{HasBit, Meet}
 use Rattle.registers.specs.Laws.{Meet-places}
@@ -37,22 +38,29 @@ pub record Follows (misses n : ℕ) (d1 d2 d3 d4 : DriverState) : Type 0 where
 changed : {misses n : ℕ} (d1 d2 d3 d4 : DriverState) → Follows misses n d1 d2 d3 d4
     → d3 ≡ record (with_missed misses d1) { oldest_received = d3.oldest_received; buffers = d3.buffers; pool = d3.pool; bad = d3.bad }
 changed d1 d2 d3 d4 follows =
-    follows.taken ∙ ap (λ (d : DriverState). let s : DriverState = record d { oldest_received = d3.oldest_received; buffers = d3.buffers; pool = d3.pool; bad = d3.bad } in s) follows.counted
+    follows.taken ∙ ap (λ (d : DriverState). let s : DriverState = record d
+    { oldest_received = d3.oldest_received; buffers = d3.buffers; pool = d3.pool; bad = d3.bad } in s) follows.counted
 
 -- Where the next descriptor is stored.
-next-same : {misses n : ℕ} (d1 d2 d3 d4 : DriverState) (numbers : List ℕ) → Follows misses n d1 d2 d3 d4 → length numbers ≡ n → d1.buffers ≡ numbers ++ d3.buffers → next_received d3 ≡ next_received d1
+next-same : {misses n : ℕ} (d1 d2 d3 d4 : DriverState) (numbers : List ℕ) → Follows misses n d1 d2 d3 d4 → length numbers ≡ n
+    → d1.buffers ≡ numbers ++ d3.buffers → next_received d3 ≡ next_received d1
 next-same {misses} {n} d1 d2 d3 d4 numbers follows many oldest =
     let same = changed d1 d2 d3 d4 follows in
     let counts : d3.counts.rx ≡ d1.counts.rx = ap (λ (d : DriverState). d.counts.rx) same in
-    let left : DriverState = record (with_missed misses d1) { oldest_received = d3.oldest_received; buffers = d3.buffers; pool = d3.pool; bad = d3.bad } in
-    let at : d3.oldest_received ≡ place d1.counts.rx d1.oldest_received n = follows.place ∙ ap (λ (count : ℕ). place count d2.oldest_received n) counts ∙ ap (λ (d : DriverState). place d1.counts.rx d.oldest_received n) follows.counted in
-    let sum : n + (length d3.buffers + length d1.staged) ≡ length d1.buffers + length d1.staged = omega (arith, many, ap length oldest, length-append numbers d3.buffers) in
+    let left : DriverState = record (with_missed misses d1)
+    { oldest_received = d3.oldest_received; buffers = d3.buffers; pool = d3.pool; bad = d3.bad } in
+    let at : d3.oldest_received ≡ place d1.counts.rx d1.oldest_received n = follows.place
+    ∙ ap (λ (count : ℕ). place count d2.oldest_received n) counts
+    ∙ ap (λ (d : DriverState). place d1.counts.rx d.oldest_received n) follows.counted in
+    let sum : n + (length d3.buffers + length d1.staged)
+    ≡ length d1.buffers + length d1.staged = omega (arith, many, ap length oldest, length-append numbers d3.buffers) in
     ap next_received same
     ∙ ap (λ (slot : ℕ). place d1.counts.rx slot (length d3.buffers + length d1.staged)) at
     ∙ sym (place-add d1.counts.rx d1.oldest_received n (length d3.buffers + length d1.staged))
     ∙ ap (place d1.counts.rx d1.oldest_received) sum
 
-pub works : {up : Bool} {B R : Type 0} (world : B → World) (happened : B → B → Past → Type 0) (took : R → R → List Received → List Received → Type 0)
+pub works : {up : Bool} {B R : Type 0} (world : B → World) (happened : B → B → Past → Type 0) (took : R → R → List Received → List Received
+    → Type 0)
     → ((a b c : B) (first later : Past) → happened a b first → happened b c later → happened a c (joined first later))
     → (a b c e : B) (r s : R) (d1 d2 d3 d4 : DriverState) (misses n : ℕ) (held : List HandedOut) → Follows misses n d1 d2 d3 d4
     → RanBy up world happened (Reads 0x4010 misses ∷ []) a b (holding held d1) (holding held d2) [] []
@@ -71,15 +79,23 @@ works {up} world happened took joins a b c e r s d1 d2 d3 d4 misses n held follo
     ∙ ap (λ (d : DriverState). place d.counts.rx d2.oldest_received n) same
     ∙ ap (λ (d : DriverState). place d1.counts.rx d.oldest_received n) follows.counted
     ∙ ap (place d1.counts.rx d1.oldest_received) (sym many) in
-    let two = ran_by-join world happened joins _ _ a b c (holding held d1) (holding held d2) (holding held2 d3) [] _ [] [] counts takes.ran in
-    let three = ran_by-join world happened joins _ _ a c e (holding held d1) (holding held2 d3) (holding held2 d4) _ [] [] [] two refills.ran in
+    let two = ran_by-join world happened joins _ _ a b c (holding held d1) (holding held d2)
+    (holding held2 d3) [] _ [] [] counts takes.ran in
+    let three = ran_by-join world happened joins _ _ a c e (holding held d1) (holding held2 d3)
+    (holding held2 d4) _ [] [] [] two refills.ran in
     let tail : List Access = stores_from d3.counts (next_received d3) xs ++ tail_write (next_received d4) (d3.staged ++ xs) in
-    let head : List Access = Reads 0x4010 misses ∷ (takes_from d1.counts d1.oldest_received numbers ++ last_load (place d1.counts.rx d1.oldest_received (length numbers)) d3.buffers) in
-    let accesses : (Reads 0x4010 misses ∷ (takes_from d2.counts d2.oldest_received numbers ++ last_load d3.oldest_received d3.buffers)) ++ tail ≡ handled_accesses d1 misses numbers d3.buffers xs (next_received d4) =
-    ap (λ (d : DriverState). (Reads 0x4010 misses ∷ (takes_from d.counts d.oldest_received numbers ++ last_load d3.oldest_received d3.buffers)) ++ tail) follows.counted
+    let head : List Access = Reads 0x4010 misses
+    ∷ (takes_from d1.counts d1.oldest_received numbers ++ last_load (place d1.counts.rx d1.oldest_received (length numbers)) d3.buffers)
+    in
+    let accesses : (Reads 0x4010 misses ∷ (takes_from d2.counts d2.oldest_received numbers ++ last_load d3.oldest_received d3.buffers))
+    ++ tail ≡ handled_accesses d1 misses numbers d3.buffers xs (next_received d4) =
+    ap (λ (d : DriverState).
+    (Reads 0x4010 misses ∷ (takes_from d.counts d.oldest_received numbers ++ last_load d3.oldest_received d3.buffers)) ++ tail)
+    follows.counted
     ∙ ap (λ (slot : ℕ). (Reads 0x4010 misses ∷ (takes_from d1.counts d1.oldest_received numbers ++ last_load slot d3.buffers)) ++ tail) at
     ∙ ap (λ (d : DriverState). head ++ (stores_from d.counts (next_received d3) xs ++ tail_write (next_received d4) (d.staged ++ xs))) same
-    ∙ ap (λ (slot : ℕ). head ++ (stores_from d1.counts slot xs ++ tail_write (next_received d4) (d1.staged ++ xs))) (next-same d1 d2 d3 d4 numbers follows many oldest) in
+    ∙ ap (λ (slot : ℕ). head ++ (stores_from d1.counts slot xs ++ tail_write (next_received d4) (d1.staged ++ xs)))
+    (next-same d1 d2 d3 d4 numbers follows many oldest) in
     record {
       misses = misses;
       taken = takes.taken;
@@ -94,15 +110,20 @@ works {up} world happened took joins a b c e r s d1 d2 d3 d4 misses n held follo
       missed = ap (λ (d : DriverState). d.missed) follows.refilled ∙ ap (λ (d : DriverState). d.missed) same;
       exact = ap (λ (d : DriverState). d.exact) follows.refilled ∙ ap (λ (d : DriverState). d.exact) same;
       bad = ap (λ (d : DriverState). d.bad) follows.refilled ∙ takes.bad ∙ ap (λ (d : DriverState). d.bad) follows.counted;
-      ran = ran_by-same world happened _ _ a e (holding held d1) (holding held2 d4) (holding held2 d4) _ _ [] accesses refl (append-nil _) three;
+      ran = ran_by-same world happened _ _ a e (holding held d1) (holding held2 d4) (holding held2 d4) _ _ [] accesses refl
+          (append-nil _) three;
     }
 
 -- Behind ICR, where it had a cause.
-pub handles-it : {up : Bool} {B R : Type 0} (world : B → World) (happened : B → B → Past → Type 0) (took : R → R → List Received → List Received → Type 0)
+pub handles-it : {up : Bool} {B R : Type 0} (world : B → World) (happened : B → B → Past → Type 0) (took : R → R → List Received
+    → List Received → Type 0)
     → ((a b c : B) (first later : Past) → happened a b first → happened b c later → happened a c (joined first later))
-    → (o a b c e : B) (r s : R) (d1 d2 d3 d4 : DriverState) (causes misses n : ℕ) (held : List HandedOut) → Follows misses n d1 d2 d3 d4 → Meet causes handled_causes
-    → (reads : ReadsCauses up world happened o a (holding held d1) causes) → RanBy up world happened (Reads 0x4010 misses ∷ []) a b (holding held d1) (holding held d2) [] []
-    → (takes : Takes up world happened took (last_load d3.oldest_received d3.buffers) b c r s (holding held d2) (holding held d3) n) → finished d3.oldest_received (world c) ≡ []
+    → (o a b c e : B) (r s : R) (d1 d2 d3 d4 : DriverState) (causes misses n : ℕ) (held : List HandedOut) → Follows misses n d1 d2 d3 d4
+    → Meet causes handled_causes
+    → (reads : ReadsCauses up world happened o a (holding held d1) causes)
+    → RanBy up world happened (Reads 0x4010 misses ∷ []) a b (holding held d1) (holding held d2) [] []
+    → (takes : Takes up world happened took (last_load d3.oldest_received d3.buffers) b c r s (holding held d2) (holding held d3) n)
+    → finished d3.oldest_received (world c) ≡ []
     → Refills up world happened c e (holding (held ++ takes.handed_out) d3) (holding (held ++ takes.handed_out) d4)
     → HandlesIt up world happened took o a e reads.past r s (holding held d1) (holding held d4) causes n
 handles-it {up} world happened took joins o a b c e r s d1 d2 d3 d4 causes misses n held follows some reads counts takes none refills =
@@ -124,10 +145,12 @@ handles-it {up} world happened took joins o a b c e r s d1 d2 d3 d4 causes misse
           );
       work = λ unmasked.
           let mask = takes.ran.goes.flows.mask ∙ counts.goes.flows.mask ∙ reads.flows.mask in
-          let before : HasNoForgottenWork (holding held2 d3) (world c) = record { unmasked = subst (λ (m : ℕ). HasBit m 7) (sym mask) unmasked; asked = inl none } in
+          let before : HasNoForgottenWork (holding held2 d3) (world c) = record
+          { unmasked = subst (λ (m : ℕ). HasBit m 7) (sym mask) unmasked; asked = inl none } in
           let behind = work_kept (holding held2 d3) (holding held2 d4) (world c) (world e) [] [] refills.ran.past refills.ran.goes before in
           record { unmasked = behind.unmasked; asked = behind.asked };
       flows =
-          flows_join (holding held d1) (holding held d1) (holding (held ++ all.handed_out) d4) (world o) (world a) (world e) [] (map frame_of all.taken) [] [] reads.past all.ran.past
+          flows_join (holding held d1) (holding held d1) (holding (held ++ all.handed_out) d4) (world o) (world a) (world e) []
+          (map frame_of all.taken) [] [] reads.past all.ran.past
           reads.flows all.ran.goes.flows;
     }

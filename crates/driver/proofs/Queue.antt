@@ -1,8 +1,10 @@
 -- The queue of a driver's buffers, as the state that it shows.
-use Rattle.std.proofs.Common.{refl, suc, Some, slice_get, ◌≡◌, ◌≤◌, ◌<◌, ◌+◌, ◌-◌, ◌++◌, ◌∷◌, [], ℕ, List, length, take, drop, ◌%◌, sym, ap, ◌∙◌, length-append, length-drop, arith}
+use Rattle.std.proofs.Common.{refl, suc, Some, slice_get, ◌≡◌, ◌≤◌, ◌<◌, ◌+◌, ◌-◌, ◌++◌, ◌∷◌, [], ℕ, List, length, take, drop, ◌%◌, sym, ap}
+use Rattle.std.proofs.Common.{◌∙◌, length-append, length-drop, arith}
 use Rattle.dma_memory.specs.Numbers.{Numbers}
 use Rattle.dma_memory.specs.Owners.{HasNoSecondOwner, HaveSameNumbers, copies}
-use Rattle.dma_memory.specs.OwnersLaws.{copies-append, copies-cons, copies-itself, copies-push, known_from_no_second, no_second-given, once_from_no_second, taken-first}
+use Rattle.dma_memory.specs.OwnersLaws.{copies-append, copies-cons, copies-itself, copies-push, known_from_no_second, no_second-given}
+use Rattle.dma_memory.specs.OwnersLaws.{once_from_no_second, taken-first}
 use Rattle.circular_buffer.specs.Buffer.{Buffer, buffer, keep_last}
 use Rattle.frame_queue.specs.Laws.{keep_last-room}
 use Rattle.std.proofs.Math.Seq.{drop-length, take-length}
@@ -40,7 +42,8 @@ queue-split d receives =
       outstanding = omega (arith, front, receives.some_staged);
       staged = back;
       next = receives.next_slot ∙ ap (place d.layout.rx d.oldest_received) sum;
-      next_slot = let below = place-below d.layout.rx d.oldest_received (length queue) receives.oldest_slot in omega (arith, below, receives.next_slot);
+      next_slot = let below = place-below d.layout.rx d.oldest_received (length queue) receives.oldest_slot in omega
+          (arith, below, receives.next_slot);
     }
 
 -- Whether any slot is outstanding.
@@ -52,7 +55,8 @@ none-outstanding d receives none = empty (state_of d).buffers (omega (arith, non
     empty [] none = refl
     empty (x ∷ xs) none = absurd (omega (arith, none))
 
-pub some-outstanding : (d : Inside) → Receives d → ¬ (length d.buffers.items ≡ d.staged) → (m : ℕ) × (later : List ℕ) × ((state_of d).buffers ≡ m ∷ later)
+pub some-outstanding : (d : Inside) → Receives d → ¬ (length d.buffers.items ≡ d.staged) → (m : ℕ) × (later : List ℕ)
+    × ((state_of d).buffers ≡ m ∷ later)
 some-outstanding d receives some = first (state_of d).buffers (λ none. some (omega (arith, none, (queue-split d receives).outstanding)))
   where
     first : (xs : List ℕ) → ¬ (length xs ≡ 0) → (m : ℕ) × (later : List ℕ) × (xs ≡ m ∷ later)
@@ -91,11 +95,14 @@ pub record HasStaged (d : Inside) (next m : ℕ) (queue : Buffer ℕ) (pool : Nu
       state_of (record d { next_received = next; buffers = queue; staged = d.staged + 1; pool = pool })
       ≡ with_owners (state_of d) (state_of d).buffers ((state_of d).staged ++ m ∷ []) pool.free []
 
-pub staged-inside : (d : Inside) (next m : ℕ) (queue : Buffer ℕ) (pool : Numbers) → Receives d → length d.buffers.items + 1 < d.layout.rx → next ≡ (d.next_received + 1) % d.layout.rx
-    → queue ≡ buffer (keep_last d.buffers.capacity (d.buffers.items ++ m ∷ [])) d.buffers.capacity → pool.buffers ≡ d.pool.buffers → HaveSameNumbers d.pool.free (m ∷ pool.free) → HasStaged d next m queue pool
+pub staged-inside : (d : Inside) (next m : ℕ) (queue : Buffer ℕ) (pool : Numbers) → Receives d → length d.buffers.items + 1 < d.layout.rx
+    → next ≡ (d.next_received + 1) % d.layout.rx
+    → queue ≡ buffer (keep_last d.buffers.capacity (d.buffers.items ++ m ∷ [])) d.buffers.capacity → pool.buffers ≡ d.pool.buffers
+    → HaveSameNumbers d.pool.free (m ∷ pool.free) → HasStaged d next m queue pool
 staged-inside d next m queue pool receives room moved pushed count moves =
     let old = d.buffers.items in
-    let items : queue.items ≡ old ++ m ∷ [] = ap (λ (b : Buffer ℕ). b.items) pushed ∙ keep_last-room old d.buffers.capacity m (omega (arith, receives.capacity, room)) in
+    let items : queue.items ≡ old ++ m ∷ [] = ap (λ (b : Buffer ℕ). b.items) pushed
+    ∙ keep_last-room old d.buffers.capacity m (omega (arith, receives.capacity, room)) in
     let longer : length queue.items ≡ length old + 1 = ap length items ∙ length-append old (m ∷ []) in
     let parts = queue-pushed d.staged m old queue.items receives.some_staged items in
     let view : List ℕ → List ℕ → DriverState = λ buffers staged. with_owners (state_of d) buffers staged pool.free [] in
@@ -112,9 +119,20 @@ staged-inside d next m queue pool receives room moved pushed count moves =
         some_staged = omega (arith, longer, receives.some_staged);
         buffers = count ∙ receives.buffers;
         owners = λ k.
-            omega (arith, receives.owners k, moves k, copies-cons k m pool.free, copies-append k d.pool.free old, copies-append k pool.free queue.items, ap (copies k) items, copies-push k m old);
+            omega (
+              arith,
+              receives.owners k,
+              moves k,
+              copies-cons k m pool.free,
+              copies-append k d.pool.free old,
+              copies-append k pool.free
+                  queue.items,
+              ap (copies k) items,
+              copies-push k m old,
+            );
       };
-      view = ap (λ (list : List ℕ). view list (drop (length queue.items - (d.staged + 1)) queue.items)) parts.front ∙ ap (view (state_of d).buffers) parts.back;
+      view = ap (λ (list : List ℕ). view list (drop (length queue.items - (d.staged + 1)) queue.items)) parts.front
+          ∙ ap (view (state_of d).buffers) parts.back;
     }
 
 -- All that are staged are offered.
@@ -129,7 +147,8 @@ none-staged d receives = record {
   owners = receives.owners;
 }
 
-pub offered-inside : (d : Inside) → Receives d → state_of (record d { staged = 0 }) ≡ with_owners (state_of d) ((state_of d).buffers ++ (state_of d).staged) [] d.pool.free []
+pub offered-inside : (d : Inside) → Receives d
+    → state_of (record d { staged = 0 }) ≡ with_owners (state_of d) ((state_of d).buffers ++ (state_of d).staged) [] d.pool.free []
 offered-inside d receives =
     let queue = d.buffers.items in
     let view : List ℕ → List ℕ → DriverState = λ buffers staged. with_owners (state_of d) buffers staged d.pool.free [] in
@@ -142,12 +161,14 @@ pub owners-offered : (d : Inside) → Receives d → HaveSameNumbers (owners (st
 owners-offered d receives k =
     let shown = state_of d in
     let later = with_owners shown (shown.buffers ++ shown.staged) [] d.pool.free [] in
-    omega (arith, owners-count k shown, owners-count k later, copies-append k shown.buffers shown.staged) ∙ ap (λ (s : DriverState). copies k (owners s)) (sym (offered-inside d receives))
+    omega (arith, owners-count k shown, owners-count k later, copies-append k shown.buffers shown.staged)
+    ∙ ap (λ (s : DriverState). copies k (owners s)) (sym (offered-inside d receives))
 
 -- The oldest is taken.
 
 split-cons : (staged m : ℕ) (later : List ℕ) → staged ≤ length later
-    → (take (length (m ∷ later) - staged) (m ∷ later) ≡ m ∷ take (length later - staged) later) × (drop (length (m ∷ later) - staged) (m ∷ later) ≡ drop (length later - staged) later)
+    → (take (length (m ∷ later) - staged) (m ∷ later) ≡ m ∷ take (length later - staged) later)
+    × (drop (length (m ∷ later) - staged) (m ∷ later) ≡ drop (length later - staged) later)
 split-cons staged m later some =
     let same : length (m ∷ later) - staged ≡ suc (length later - staged) = omega arith in
     (ap (λ (i : ℕ). take i (m ∷ later)) same, ap (λ (i : ℕ). drop i (m ∷ later)) same)
@@ -167,7 +188,8 @@ pub record HasTaken (d : Inside) (next m : ℕ) (queue : Buffer ℕ) : Type 0 wh
   pub known : m < d.layout.buffers
   pub out : copies m (owners (state_of (without_oldest d next queue))) ≡ 0
 
-pub taken-inside : (d : Inside) (next m : ℕ) (queue : Buffer ℕ) → Receives d → ¬ (length d.buffers.items ≡ d.staged) → next ≡ (d.oldest_received + 1) % d.layout.rx
+pub taken-inside : (d : Inside) (next m : ℕ) (queue : Buffer ℕ) → Receives d → ¬ (length d.buffers.items ≡ d.staged)
+    → next ≡ (d.oldest_received + 1) % d.layout.rx
     → slice_get d.buffers.items 0 ≡ Some m → queue ≡ buffer (drop 1 d.buffers.items) d.buffers.capacity → HasTaken d next m queue
 taken-inside d next m queue receives some moved at popped =
     let old = d.buffers.items in
@@ -177,29 +199,42 @@ taken-inside d next m queue receives some moved at popped =
     let items : old ≡ m ∷ later = cons-of old m at ∙ ap (λ (xs : List ℕ). m ∷ xs) (sym left) in
     let count : length old ≡ suc (length later) = ap length items in
     let parts = split-cons d.staged m later (omega (arith, count, receives.some_staged, some)) in
-    let view : ℕ → List ℕ → DriverState = λ oldest staged. record (state_of d) { oldest_received = oldest; buffers = (state_of d').buffers; staged = staged } in
+    let view : ℕ → List ℕ
+    → DriverState = λ oldest staged. record (state_of d)
+    { oldest_received = oldest; buffers = (state_of d').buffers; staged = staged } in
     let once = once_from_no_second d.layout.buffers m (d.pool.free ++ old) receives.owners in
     let sum = copies-append m d.pool.free old in
     let mine : copies m old ≡ 1 + copies m later = ap (copies m) items ∙ copies-itself m later in
     let later_receives : Receives d' = record {
       oldest_slot = let below = next-below d.layout.rx d.oldest_received receives.oldest_slot in omega (arith, moved, below);
       room = omega (arith, count, receives.room);
-      next_slot = receives.next_slot ∙ ap (place d.layout.rx d.oldest_received) count ∙ ap (λ (slot : ℕ). place d.layout.rx slot (length later)) (sym moved);
+      next_slot = receives.next_slot ∙ ap (place d.layout.rx d.oldest_received) count
+          ∙ ap (λ (slot : ℕ). place d.layout.rx slot (length later)) (sym moved);
       capacity = ap (λ (b : Buffer ℕ). b.capacity) popped ∙ receives.capacity;
       some_staged = omega (arith, count, receives.some_staged, some);
       buffers = receives.buffers;
-      owners = λ k. omega (arith, receives.owners k, copies-append k d.pool.free old, copies-append k d.pool.free later, ap (copies k) items, copies-cons k m later);
+      owners = λ k. omega (
+        arith,
+        receives.owners k,
+        copies-append k d.pool.free old,
+        copies-append k d.pool.free later,
+        ap
+            (copies k) items,
+        copies-cons k m later,
+      );
     } in
     record {
       receives = later_receives;
       first = ap (λ (xs : List ℕ). take (length xs - d.staged) xs) items ∙ parts.0;
-      view = ap (λ (oldest : ℕ). view oldest (state_of d').staged) moved ∙ ap (view ((d.oldest_received + 1) % d.layout.rx)) (sym (ap (λ (xs : List ℕ). drop (length xs - d.staged) xs) items ∙ parts.1));
+      view = ap (λ (oldest : ℕ). view oldest (state_of d').staged) moved
+          ∙ ap (view ((d.oldest_received + 1) % d.layout.rx)) (sym (ap (λ (xs : List ℕ). drop (length xs - d.staged) xs) items ∙ parts.1));
       known = known_from_no_second d.layout.buffers m (d.pool.free ++ old) receives.owners (omega (arith, sum, mine));
       out = omega (arith, owners-inside d' later_receives m, once, sum, mine);
     }
 
 -- A buffer comes back into the pool.
-pub given-inside : (d : Inside) (m : ℕ) (pool : Numbers) → Receives d → m < d.layout.buffers → copies m (owners (state_of d)) ≡ 0 → HaveSameNumbers (m ∷ d.pool.free) pool.free → pool.buffers ≡ d.pool.buffers
+pub given-inside : (d : Inside) (m : ℕ) (pool : Numbers) → Receives d → m < d.layout.buffers → copies m (owners (state_of d)) ≡ 0
+    → HaveSameNumbers (m ∷ d.pool.free) pool.free → pool.buffers ≡ d.pool.buffers
     → Receives (record d { pool = pool })
 given-inside d m pool receives known out given count = record {
   oldest_slot = receives.oldest_slot;
@@ -210,7 +245,8 @@ given-inside d m pool receives known out given count = record {
   buffers = count ∙ receives.buffers;
   owners =
       no_second-given d.layout.buffers m (d.pool.free ++ d.buffers.items) (pool.free ++ d.buffers.items) receives.owners known
-      (copies-append m d.pool.free d.buffers.items ∙ sym (owners-inside d receives m) ∙ out) (taken-first m d.pool.free pool.free d.buffers.items given);
+      (copies-append m d.pool.free d.buffers.items ∙ sym (owners-inside d receives m)
+      ∙ out) (taken-first m d.pool.free pool.free d.buffers.items given);
 }
 
 -- RDT is written where any are.

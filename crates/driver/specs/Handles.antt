@@ -83,7 +83,8 @@ abbrev pub HandlesBy : Handled → Bool → {B R : Type 0} → (B → World) →
     → (R → R → List Received → List Received → Type 0) → (old middle new : B) → Past → (before after : R) → (d d' : DriverState)
     → (causes : ℕ) → Type 0
 HandlesBy NotMine up world happened took old middle new first before after d d' causes = LeavesIt world old middle new d d' causes
-HandlesBy (answers.Handled taken) up world happened took old middle new first before after d d' causes = HandlesIt up world happened took old middle new first before after d d' causes taken
+HandlesBy (answers.Handled taken) up world happened took old middle new first before after d d' causes = HandlesIt up world happened took
+    old middle new first before after d d' causes taken
 
 -- First it reads ICR, alone. What it does behind that is by the causes that were read.
 pub record Handles (up : Bool) {B R : Type 0} (world : B → World) (happened : B → B → Past → Type 0)

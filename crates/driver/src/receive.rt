@@ -197,7 +197,14 @@ impl Driver {
         ensures lively { B.lively bus.old → B.lively bus.new }
 
         // What it does to its slots and buffers, over any bus.
-        ensures others { self.new ≡ record self.old { oldest_received = self.new.oldest_received; buffers = self.new.buffers; pool = self.new.pool; bad = self.new.bad } }
+        ensures others { self.new
+            ≡ record self.old {
+              oldest_received = self.new.oldest_received;
+              buffers = self.new.buffers;
+              pool =
+                  self.new.pool;
+              bad = self.new.bad;
+            } }
         ensures next { self.new.oldest_received ≡ place self.new.counts.rx self.old.oldest_received result }
         ensures count { result + length self.new.buffers ≡ length self.old.buffers }
         ensures shows { ShowsAll R.took receiver.old receiver.new self.old self.new result }

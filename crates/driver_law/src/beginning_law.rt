@@ -1,6 +1,9 @@
 // Laws of a driver's beginning, and of the registers that it writes up to the end of its initialisation.
 
-ghost use Rattle.driver_law.specs.Beginnings.{CausesAreUnmasked, DriversBegin, LastSlotIsStored, NoFrameComes, NothingIsHeld, ReceiverIsEnabled, RingsThatAreOffStay, TransmitPlaceIsStored, TransmitRingIsWritten, TransmitterIsEnabled, UnmaskedForgetsNoWork};
+ghost use Rattle.driver_law.specs.Beginnings.{CausesAreUnmasked, DriversBegin, LastSlotIsStored, NoFrameComes};
+ghost use Rattle.driver_law.specs.Beginnings.{NothingIsHeld, ReceiverIsEnabled, RingsThatAreOffStay};
+ghost use Rattle.driver_law.specs.Beginnings.{TransmitPlaceIsStored, TransmitRingIsWritten, TransmitterIsEnabled};
+ghost use Rattle.driver_law.specs.Beginnings.{UnmaskedForgetsNoWork};
 
 /// A driver whose receive ring is set up, whose transmit ring is or isn't, and that has offered no slot of
 /// either, is ready.

@@ -1,6 +1,8 @@
 // Laws of a driver's transmit side.
 
-ghost use Rattle.driver_law.specs.Transmit.{DataIsStored, DescriptorIsStored, FrameIsOffered, NextSlotIsOwn, NoneIsWrittenBack, SendsEndWithTail, SlotIsFreed, SlotsHaveFrames, SlotsKeepBytes, TailIsMoved};
+ghost use Rattle.driver_law.specs.Transmit.{DataIsStored, DescriptorIsStored, FrameIsOffered, NextSlotIsOwn};
+ghost use Rattle.driver_law.specs.Transmit.{NoneIsWrittenBack, SendsEndWithTail, SlotIsFreed, SlotsHaveFrames};
+ghost use Rattle.driver_law.specs.Transmit.{SlotsKeepBytes, TailIsMoved};
 
 /// A driver stores what it likes into the buffer and the descriptor of a transmit slot that isn't
 /// outstanding, as the one at the tail is, and both stay whatever happens.

@@ -10,6 +10,8 @@ or_fields address word a w =
     let addr_whole : address * 256 % 4294967296 ≡ address * 256 = omega arith in
     let both : bit_or (word * 2 ^ 16) (address * 256) ≡ word * 2 ^ 16 + address * 256 = or_shifted word 16 (address * 256) (omega arith) in
     let one : word * 2 ^ 16 + address * 256 ≡ (word * 256 + address) * 2 ^ 8 = omega arith in
-    let done : bit_or ((word * 256 + address) * 2 ^ 8) 16 ≡ (word * 256 + address) * 2 ^ 8 + 16 = or_shifted (word * 256 + address) 8 16 (omega arith) in
-    let start : bit_or (word * 65536 % 4294967296) (address * 256 % 4294967296) ≡ (word * 256 + address) * 2 ^ 8 = rw (data_whole, addr_whole) (both ∙ one) in
+    let done : bit_or ((word * 256 + address) * 2 ^ 8) 16
+    ≡ (word * 256 + address) * 2 ^ 8 + 16 = or_shifted (word * 256 + address) 8 16 (omega arith) in
+    let start : bit_or (word * 65536 % 4294967296) (address * 256 % 4294967296)
+    ≡ (word * 256 + address) * 2 ^ 8 = rw (data_whole, addr_whole) (both ∙ one) in
     ap (λ (n : ℕ). bit_or n 16) start ∙ done ∙ omega arith

@@ -50,8 +50,10 @@ pub record AnswersByHistory : Type 0 where
   -- Without a write with START the register reads 0.
   pub never_asked : (words : List ℕ) (all : List Operation) → NoStart all → reads_after words all ≡ 0
   -- Behind the last write with START, and no tick yet, it reads that write's ADDR in its place.
-  pub no_tick_yet : (words : List ℕ) (before : List Operation) (value : ℕ) (after : List Operation) → IsTrue (has_start value) → NoStart after → NoTick after
+  pub no_tick_yet : (words : List ℕ) (before : List Operation) (value : ℕ) (after : List Operation) → IsTrue (has_start value)
+      → NoStart after → NoTick after
       → reads_after words (before ++ Write value ∷ after) ≡ shown_before (addr value)
   -- Behind the last write with START and a tick, it reads the word at that write's ADDR, the ADDR, and DONE.
-  pub ticked : (words : List ℕ) (before : List Operation) (value : ℕ) (after : List Operation) → IsTrue (has_start value) → NoStart after → HasTick after
+  pub ticked : (words : List ℕ) (before : List Operation) (value : ℕ) (after : List Operation) → IsTrue (has_start value) → NoStart after
+      → HasTick after
       → reads_after words (before ++ Write value ∷ after) ≡ shown_after (addr value) (word_at words (addr value))

@@ -31,7 +31,8 @@ stays_idle words (Write value ∷ all) none =
 stays_idle words (Tick ∷ all) none = stays_idle words all none
 
 -- and one that has read keeps what it read
-pub stays_done : (words : List ℕ) (all : List Operation) (address word : ℕ) → NoStart all → after_all words all (Done address word) ≡ Done address word
+pub stays_done : (words : List ℕ) (all : List Operation) (address word : ℕ) → NoStart all
+    → after_all words all (Done address word) ≡ Done address word
 stays_done words [] address word none = refl
 stays_done words (Write value ∷ all) address word none =
     let parts = or_parts (has_start value) (list_any is_start all) none in
@@ -39,7 +40,8 @@ stays_done words (Write value ∷ all) address word none =
 stays_done words (Tick ∷ all) address word none = stays_done words all address word none
 
 -- a read that is pending goes on without a tick
-pub stays_pending : (words : List ℕ) (all : List Operation) (address : ℕ) → NoStart all → NoTick all → after_all words all (Pending address) ≡ Pending address
+pub stays_pending : (words : List ℕ) (all : List Operation) (address : ℕ) → NoStart all → NoTick all
+    → after_all words all (Pending address) ≡ Pending address
 stays_pending words [] address none still = refl
 stays_pending words (Write value ∷ all) address none still =
     let parts = or_parts (has_start value) (list_any is_start all) none in
@@ -47,7 +49,8 @@ stays_pending words (Write value ∷ all) address none still =
 stays_pending words (Tick ∷ all) address none still = absurd (true≢false still)
 
 -- and the first tick ends it
-pub ends_pending : (words : List ℕ) (all : List Operation) (address : ℕ) → NoStart all → HasTick all → after_all words all (Pending address) ≡ Done address (word_at words address)
+pub ends_pending : (words : List ℕ) (all : List Operation) (address : ℕ) → NoStart all → HasTick all
+    → after_all words all (Pending address) ≡ Done address (word_at words address)
 ends_pending words [] address none ticks = absurd (false≢true ticks)
 ends_pending words (Write value ∷ all) address none ticks =
     let parts = or_parts (has_start value) (list_any is_start all) none in
@@ -64,6 +67,8 @@ after_all-start words before value after starts =
 pub by_history : AnswersByHistory
 by_history = record {
   never_asked = λ words all none. ap shown (stays_idle words all none);
-  no_tick_yet = λ words before value after starts none still. ap shown (after_all-start words before value after starts ∙ stays_pending words after (addr value) none still);
-  ticked = λ words before value after starts none ticks. ap shown (after_all-start words before value after starts ∙ ends_pending words after (addr value) none ticks);
+  no_tick_yet = λ words before value after starts none still. ap shown (after_all-start words before value after starts
+      ∙ stays_pending words after (addr value) none still);
+  ticked = λ words before value after starts none ticks. ap shown (after_all-start words before value after starts
+      ∙ ends_pending words after (addr value) none ticks);
 }

@@ -1,5 +1,6 @@
 -- What stands in the places of a queue, after a frame is written behind the others and after the first is dropped.
-use Rattle.std.proofs.Common.{◌≡◌, ◌≤◌, ◌<◌, ◌+◌, ◌-◌, ◌*◌, ◌⊎◌, inl, inr, ◌++◌, ◌∷◌, [], ℕ, suc, List, length, drop, All, refl, sym, ap, ◌∙◌, arith}
+use Rattle.std.proofs.Common.{◌≡◌, ◌≤◌, ◌<◌, ◌+◌, ◌-◌, ◌*◌, ◌⊎◌, inl, inr, ◌++◌, ◌∷◌, [], ℕ, suc, List, length, drop, All, refl, sym, ap}
+use Rattle.std.proofs.Common.{◌∙◌, arith}
 use Rattle.std.proofs.lemmas.Bool.{cond_below, cond_above}
 use Rattle.std.proofs.lemmas.Bool.Decides.{leb_tells, nat_tests}
 use Rattle.std.specs.Prelude.{slice_get, Some, None, is_some, true, false, Bool, IsTrue, ◌==◌, ◌↔◌}
@@ -20,7 +21,12 @@ wrapped-past c p past = sym (cond_above p c p (p - c) (p - c) past refl)
 
 -- A place counted on at most once round is one of the places.
 pub wrapped-within : (c p : ℕ) → p < c + c → wrapped c p < c
-wrapped-within c p once = elim (below_or_past p c) [ inl below ↦ omega (arith, below, wrapped-below c p below) | inr past ↦ omega (arith, past, wrapped-past c p past) ]
+wrapped-within c p once = elim
+    (below_or_past p c) [
+      | inl below ↦ omega (arith, below, wrapped-below c p below)
+      | inr past ↦ omega
+          (arith, past, wrapped-past c p past)
+    ]
 
 -- Two places that are less than once round from each other are two.
 wrapped-apart : (c p q : ℕ) → p < q → q < p + c → q < c + c → (wrapped c p < wrapped c q) ⊎ (wrapped c q < wrapped c p)
@@ -40,7 +46,8 @@ length-frames_from bytes c p [] = refl
 length-frames_from bytes c p (n ∷ ns) = ap (λ (k : ℕ). suc k) (length-frames_from bytes c (p + 1) ns)
 
 -- One more length is one more frame, behind the others.
-pub frames_from-append : (bytes : List ℕ) (c p n : ℕ) (ns : List ℕ) → frames_from bytes c p (ns ++ n ∷ []) ≡ frames_from bytes c p ns ++ bytes_at bytes (wrapped c (p + length ns) * 1518) n ∷ []
+pub frames_from-append : (bytes : List ℕ) (c p n : ℕ) (ns : List ℕ)
+    → frames_from bytes c p (ns ++ n ∷ []) ≡ frames_from bytes c p ns ++ bytes_at bytes (wrapped c (p + length ns) * 1518) n ∷ []
 unfolding frames_from
 frames_from-append bytes c p n [] =
     let here : p ≡ p + 0 = omega arith in
@@ -48,33 +55,45 @@ frames_from-append bytes c p n [] =
 frames_from-append bytes c p n (m ∷ ns) =
     let here : p + 1 + length ns ≡ p + length (m ∷ ns) = omega arith in
     ap (λ (fs : List (List ℕ)). bytes_at bytes (wrapped c p * 1518) m ∷ fs)
-    (frames_from-append bytes c (p + 1) n ns ∙ ap (λ (q : ℕ). frames_from bytes c (p + 1) ns ++ bytes_at bytes (wrapped c q * 1518) n ∷ []) here)
+    (frames_from-append bytes c (p + 1) n ns
+    ∙ ap (λ (q : ℕ). frames_from bytes c (p + 1) ns ++ bytes_at bytes (wrapped c q * 1518) n ∷ []) here)
 
 -- Once round the frames are those from the first place on.
-pub frames_from-round : (bytes : List ℕ) (c p i : ℕ) (ns : List ℕ) → p ≡ c + i → i + length ns ≤ c → frames_from bytes c p ns ≡ frames_from bytes c i ns
+pub frames_from-round : (bytes : List ℕ) (c p i : ℕ) (ns : List ℕ) → p ≡ c + i → i + length ns ≤ c
+    → frames_from bytes c p ns ≡ frames_from bytes c i ns
 unfolding frames_from
 frames_from-round bytes c p i [] round fits = refl
 frames_from-round bytes c p i (n ∷ ns) round fits =
-    let here : wrapped c p ≡ wrapped c i = wrapped-past c p (omega arith) ∙ (let e : p - c ≡ i = omega arith in e) ∙ sym (wrapped-below c i (omega arith)) in
+    let here : wrapped c p ≡ wrapped c i = wrapped-past c p (omega arith) ∙ (let e : p - c ≡ i = omega arith in e)
+    ∙ sym (wrapped-below c i (omega arith)) in
     let rest = frames_from-round bytes c (p + 1) (i + 1) ns (omega arith) (omega arith) in
     rw (here, rest) refl
 
 -- Bytes written at a place leave what stands at another one.
-bytes_at-other_place : (bytes written : List ℕ) (place n other : ℕ) → LiesIn bytes (place * 1518) (length written) → length written ≤ 1518 → n ≤ 1518 → (other < place) ⊎ (place < other) → bytes_at (with_bytes bytes (place * 1518) written) (other * 1518) n ≡ bytes_at bytes (other * 1518) n
-bytes_at-other_place bytes written place n other lies short fits (inl before) = bytes_at-elsewhere bytes written (place * 1518) (other * 1518) n lies (inr (omega arith))
-bytes_at-other_place bytes written place n other lies short fits (inr after) = bytes_at-elsewhere bytes written (place * 1518) (other * 1518) n lies (inl (omega arith))
+bytes_at-other_place : (bytes written : List ℕ) (place n other : ℕ) → LiesIn bytes (place * 1518) (length written) → length written ≤ 1518
+    → n ≤ 1518 → (other < place) ⊎ (place < other)
+    → bytes_at (with_bytes bytes (place * 1518) written) (other * 1518) n ≡ bytes_at bytes (other * 1518) n
+bytes_at-other_place bytes written place n other lies short fits (inl before) = bytes_at-elsewhere bytes written (place * 1518)
+    (other * 1518) n lies (inr (omega arith))
+bytes_at-other_place bytes written place n other lies short fits (inr after) = bytes_at-elsewhere bytes written (place * 1518)
+    (other * 1518) n lies (inl (omega arith))
 
 -- Bytes written at the place behind the frames leave them.
-pub frames_from-kept : (bytes written ns : List ℕ) (c p q : ℕ) → LiesIn bytes (wrapped c q * 1518) (length written) → length written ≤ 1518 → All (λ (n : ℕ). n ≤ 1518) ns → p + length ns ≡ q → q < p + c → q < c + c → frames_from (with_bytes bytes (wrapped c q * 1518) written) c p ns ≡ frames_from bytes c p ns
+pub frames_from-kept : (bytes written ns : List ℕ) (c p q : ℕ) → LiesIn bytes (wrapped c q * 1518) (length written) → length written ≤ 1518
+    → All (λ (n : ℕ). n ≤ 1518) ns → p + length ns ≡ q → q < p + c → q < c + c
+    → frames_from (with_bytes bytes (wrapped c q * 1518) written) c p ns ≡ frames_from bytes c p ns
 unfolding frames_from
 frames_from-kept bytes written [] c p q lies short fits end near once = refl
 frames_from-kept bytes written (n ∷ ns) c p q lies short fits end near once =
-    let here = bytes_at-other_place bytes written (wrapped c q) n (wrapped c p) lies short (fits 0 0 (omega arith)) (wrapped-apart c p q (omega arith) near once) in
-    let rest = frames_from-kept bytes written ns c (p + 1) q lies short (λ k d below. fits (suc k) d (omega arith)) (omega arith) (omega arith) once in
+    let here = bytes_at-other_place bytes written (wrapped c q) n (wrapped c p) lies short (fits 0 0 (omega arith))
+    (wrapped-apart c p q (omega arith) near once) in
+    let rest = frames_from-kept bytes written ns c (p + 1) q lies short (λ k d below. fits (suc k) d (omega arith)) (omega arith)
+    (omega arith) once in
     rw (here, rest) refl
 
 -- The oldest frame stands in the first place.
-pub slice_get-frames_from : (bytes : List ℕ) (c p n : ℕ) (ns : List ℕ) → p < c → slice_get ns 0 ≡ Some n → slice_get (frames_from bytes c p ns) 0 ≡ Some (bytes_at bytes (p * 1518) n)
+pub slice_get-frames_from : (bytes : List ℕ) (c p n : ℕ) (ns : List ℕ) → p < c → slice_get ns 0 ≡ Some n
+    → slice_get (frames_from bytes c p ns) 0 ≡ Some (bytes_at bytes (p * 1518) n)
 unfolding frames_from
 slice_get-frames_from bytes c p n [] below is = absurd (cc)
 slice_get-frames_from bytes c p n (m ∷ ns) below is =
@@ -82,7 +101,8 @@ slice_get-frames_from bytes c p n (m ∷ ns) below is =
     rw (wrapped-below c p below, same) refl
 
 -- Without the first length the frames are those behind the first.
-pub frames_from-drop : (bytes : List ℕ) (c p : ℕ) (ns : List ℕ) → p < c → length ns ≤ c → frames_from bytes c (wrapped c (p + 1)) (drop 1 ns) ≡ drop 1 (frames_from bytes c p ns)
+pub frames_from-drop : (bytes : List ℕ) (c p : ℕ) (ns : List ℕ) → p < c → length ns ≤ c
+    → frames_from bytes c (wrapped c (p + 1)) (drop 1 ns) ≡ drop 1 (frames_from bytes c p ns)
 unfolding frames_from
 frames_from-drop bytes c p [] below fits = refl
 frames_from-drop bytes c p (n ∷ ns) below fits =
@@ -119,13 +139,17 @@ frames_from-some bytes c p n [] some none = absurd (cc)
 frames_from-some bytes c p n (m ∷ ns) some none = absurd (cc)
 
 -- A frame written at the place behind the others is behind the others.
-pub frames_from-pushed : (bytes written ns : List ℕ) (c p n : ℕ) → length bytes ≡ c * 1518 → p < c → length ns < c → All (λ (m : ℕ). m ≤ 1518) ns → length written ≡ n → n ≤ 1518 → frames_from (with_bytes bytes (wrapped c (p + length ns) * 1518) written) c p (ns ++ n ∷ []) ≡ frames_from bytes c p ns ++ written ∷ []
+pub frames_from-pushed : (bytes written ns : List ℕ) (c p n : ℕ) → length bytes ≡ c * 1518 → p < c → length ns < c
+    → All (λ (m : ℕ). m ≤ 1518) ns → length written ≡ n → n ≤ 1518
+    → frames_from (with_bytes bytes (wrapped c (p + length ns) * 1518) written) c p (ns ++ n ∷ [])
+    ≡ frames_from bytes c p ns ++ written ∷ []
 frames_from-pushed bytes written ns c p n size first room fits count short =
     let q = p + length ns in
     let within = wrapped-within c q (omega arith) in
     let lies : LiesIn bytes (wrapped c q * 1518) (length written) = omega (arith, within, size, count, short) in
     let stored : bytes_at (with_bytes bytes (wrapped c q * 1518) written) (wrapped c q * 1518) n ≡ written =
-    ap (bytes_at (with_bytes bytes (wrapped c q * 1518) written) (wrapped c q * 1518)) (sym count) ∙ bytes_at-stored bytes written (wrapped c q * 1518) lies in
+    ap (bytes_at (with_bytes bytes (wrapped c q * 1518) written) (wrapped c q * 1518)) (sym count)
+    ∙ bytes_at-stored bytes written (wrapped c q * 1518) lies in
     let kept = frames_from-kept bytes written ns c p q lies (omega (arith, count, short)) fits refl (omega arith) (omega arith) in
     frames_from-append (with_bytes bytes (wrapped c q * 1518) written) c p n ns ∙ rw (kept, stored) refl
 
@@ -135,7 +159,8 @@ some_below [] some = absurd (cc)
 some_below (n ∷ ns) some = omega arith
 
 -- Where there is none, nothing is dropped.
-pub drop-none : (bytes : List ℕ) (c p : ℕ) (ns : List ℕ) → is_some (slice_get ns 0) ≡ false → frames_from bytes c p (drop 1 ns) ≡ drop 1 (frames_from bytes c p ns)
+pub drop-none : (bytes : List ℕ) (c p : ℕ) (ns : List ℕ) → is_some (slice_get ns 0) ≡ false
+    → frames_from bytes c p (drop 1 ns) ≡ drop 1 (frames_from bytes c p ns)
 unfolding frames_from
 drop-none bytes c p [] none = refl
 drop-none bytes c p (n ∷ ns) none = absurd (cc)

@@ -1,6 +1,7 @@
 ghost use Rattle.dma_memory.specs.HostMemory.{with_bytes};
 ghost use Rattle.frame_queue.specs.Wrapping.{wrapped};
-ghost use Rattle.std.specs.Prelude.{◌≡◌, ◌+◌, ◌-◌, ◌<◌, ◌≤◌, ◌↔◌, [], ◌∷◌, ◌++◌, drop, length, replicate, slice_get, IsTrue, IsNone, IfSome, IfOk};
+ghost use Rattle.std.specs.Prelude.{◌≡◌, ◌+◌, ◌-◌, ◌<◌, ◌≤◌, ◌↔◌, [], ◌∷◌, ◌++◌, drop, length, replicate, slice_get};
+ghost use Rattle.std.specs.Prelude.{IsTrue, IsNone, IfSome, IfOk};
 
 use circular_buffer::HeapCircularBuffer;
 use std::alloc::{AllocError, Global};
@@ -12,7 +13,8 @@ pub const PLACE_BYTES: usize = 1518;
 
 /// At most so many frames of at most 1,518 bytes each, first in, first out.
 ///
-/// Its memory is taken when it is made. A frame is copied once, when it is pushed, and can be looked at where it stands.
+/// Its memory is taken when it is made. A frame is copied once, when it is pushed, and can be looked at where it
+/// stands.
 #[derive(Debug, Drop)]
 pub struct FrameQueue {
     bytes: Vec<u8>,

@@ -62,7 +62,8 @@ reaches_phy value = phyadd value == 1
 -- The number when a command has ended, at a PHY that stands so. Another PHY doesn't answer: E is set and DATA stays (own).
 abbrev pub ended_value : Operation → PhyState → ℕ → ℕ
 ended_value Write state value = if reaches_phy value then with_ready value else with_error value
-ended_value Read state value = if reaches_phy value then with_ready (with_data (phy.read_value (regadd value) state) value) else with_error value
+ended_value Read state value = if reaches_phy value then with_ready
+    (with_data (phy.read_value (regadd value) state) value) else with_error value
 
 -- What the command does to the PHY.
 abbrev pub ended_phy : Operation → ℕ → PhyState → PhyState

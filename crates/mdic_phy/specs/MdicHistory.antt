@@ -6,7 +6,8 @@ use Rattle.mdic_phy.specs.declared.mdic.Operation.{Operation}
 use Rattle.mdic_phy.specs.declared.mdic.Operation.TheVariants as operation
 use Rattle.mdic_phy.specs.declared.mdic.Ticked.{Ticked}
 use Rattle.mdic_phy.specs.Phy.{PhyState, read_value, comes_up, is_counting}
-use Rattle.mdic_phy.specs.Mdic.{MdicState, new_mdic, after_write, mdic_after_tick, phy_after_tick, kept, with_ready, with_error, with_data, data_of, regadd, phyadd, operation_of, reaches_phy, told}
+use Rattle.mdic_phy.specs.Mdic.{MdicState, new_mdic, after_write, mdic_after_tick, phy_after_tick, kept, with_ready, with_error, with_data}
+use Rattle.mdic_phy.specs.Mdic.{data_of, regadd, phyadd, operation_of, reaches_phy, told}
 use Rattle.mdic_phy.specs.PhyHistory.{PhyEvent, after_events}
 use Rattle.mdic_phy.specs.PhyHistory as phy
 use Rattle.mdic_phy.specs.Places.{mdic_i}
@@ -84,11 +85,13 @@ told_of_link phy = if is_counting phy then Some (record { link_changed = comes_u
 -- 13.4.7): the command of the write right before that tick, and no other.
 pub record ToldByHistory : Type 0 where
   pub first : (state : PhyState) → told_behind state [] ≡ told_of_link state
-  pub ticked : (state : PhyState) (before : List MdicEvent) → told_behind state (before ++ Tick ∷ []) ≡ told_of_link (phy_of state (before ++ Tick ∷ []))
+  pub ticked : (state : PhyState) (before : List MdicEvent)
+      → told_behind state (before ++ Tick ∷ []) ≡ told_of_link (phy_of state (before ++ Tick ∷ []))
   pub no_command : (state : PhyState) (before : List MdicEvent) (value : ℕ) → operation_of value ≡ None
       → told_behind state (before ++ Write value ∷ []) ≡ told_of_link (phy_of state (before ++ Write value ∷ []))
   pub command : (state : PhyState) (before : List MdicEvent) (value : ℕ) (asked : Operation) → operation_of value ≡ Some asked
-      → told_behind state (before ++ Write value ∷ []) ≡ Some (record { link_changed = comes_up (phy_of state (before ++ Write value ∷ [])); access_complete = is_set value mdic_i })
+      → told_behind state (before ++ Write value ∷ [])
+      ≡ Some (record { link_changed = comes_up (phy_of state (before ++ Write value ∷ [])); access_complete = is_set value mdic_i })
 
 -- What MDIC reads follows from the last write, from whether a tick came behind it, and from what the PHY's register
 -- was at that tick (manual, 13.4.7). Commands of writes before the last have no part in it.
@@ -98,14 +101,19 @@ pub record MdicByHistory : Type 0 where
   -- Until a tick it reads what was last written, without R, E and bit 31;
   pub no_tick_yet : (state : PhyState) (before : List MdicEvent) (value : ℕ) → mdic_reads state (before ++ Write value ∷ []) ≡ kept value
   -- and so it stays where OP is 00 or 11.
-  pub no_command : (state : PhyState) (before : List MdicEvent) (value : ℕ) (after : List MdicEvent) → operation_of value ≡ None → NoWrite after
+  pub no_command : (state : PhyState) (before : List MdicEvent) (value : ℕ) (after : List MdicEvent) → operation_of value ≡ None
+      → NoWrite after
       → mdic_reads state (before ++ Write value ∷ after) ≡ kept value
   -- Behind a tick, a write command has R set;
-  pub written : (state : PhyState) (before : List MdicEvent) (value : ℕ) (after : List MdicEvent) → operation_of value ≡ Some operation.Write → phyadd value ≡ 1 → NoWrite after
+  pub written : (state : PhyState) (before : List MdicEvent) (value : ℕ) (after : List MdicEvent)
+      → operation_of value ≡ Some operation.Write → phyadd value ≡ 1 → NoWrite after
       → mdic_reads state (before ++ Write value ∷ Tick ∷ after) ≡ with_ready (kept value)
   -- a read command also has the register of the PHY in DATA, as it was at that tick;
-  pub read : (state : PhyState) (before : List MdicEvent) (value : ℕ) (after : List MdicEvent) → operation_of value ≡ Some operation.Read → phyadd value ≡ 1 → NoWrite after
-      → mdic_reads state (before ++ Write value ∷ Tick ∷ after) ≡ with_ready (with_data (read_value (regadd value) (ticked_phy state before)) (kept value))
+  pub read : (state : PhyState) (before : List MdicEvent) (value : ℕ) (after : List MdicEvent) → operation_of value ≡ Some operation.Read
+      → phyadd value ≡ 1 → NoWrite after
+      → mdic_reads state (before ++ Write value ∷ Tick ∷ after)
+      ≡ with_ready (with_data (read_value (regadd value) (ticked_phy state before)) (kept value))
   -- and a command for another PHY has R and E set, and its DATA.
-  pub not_there : (state : PhyState) (before : List MdicEvent) (value : ℕ) (asked : Operation) (after : List MdicEvent) → operation_of value ≡ Some asked → phyadd value ≢ 1 → NoWrite after
+  pub not_there : (state : PhyState) (before : List MdicEvent) (value : ℕ) (asked : Operation) (after : List MdicEvent)
+      → operation_of value ≡ Some asked → phyadd value ≢ 1 → NoWrite after
       → mdic_reads state (before ++ Write value ∷ Tick ∷ after) ≡ with_error (kept value)

@@ -1,5 +1,6 @@
 -- The laws of the history of MDIC, and the lemmas that lead to them, for proofs of the crates above too.
-use Rattle.std.proofs.Common.{◌≡◌, ◌≢◌, ℕ, ◌-◌, ◌%◌, ◌^◌, ◌||◌, ◌==◌, bit_and, Bool, true, false, cond, List, [], ◌∷◌, ◌++◌, Option, Some, None, refl, sym, ap, ◌∙◌, arith}
+use Rattle.std.proofs.Common.{◌≡◌, ◌≢◌, ℕ, ◌-◌, ◌%◌, ◌^◌, ◌||◌, ◌==◌, bit_and, Bool, true, false, cond, List, [], ◌∷◌, ◌++◌, Option, Some}
+use Rattle.std.proofs.Common.{None, refl, sym, ap, ◌∙◌, arith}
 use Rattle.std.proofs.lemmas.Bool.{true≢false}
 use Rattle.std.proofs.lemmas.Bool.Decides.{nat_tests}
 use Rattle.std.proofs.lemmas.Nat.{and_assoc, and_mask, and_mod}
@@ -10,10 +11,13 @@ use Rattle.mdic_phy.specs.declared.mdic.Operation.TheVariants as operation
 use Rattle.mdic_phy.specs.declared.mdic.Ticked.{Ticked}
 use Rattle.mdic_phy.specs.Phy.{PhyState, read_value, after_tick, comes_up, is_counting}
 use Rattle.mdic_phy.specs.Phy as state
-use Rattle.mdic_phy.specs.Mdic.{new_mdic, kept, with_ready, with_error, with_data, data_of, regadd, phyadd, operation_of, reaches_phy, ended, ended_value, phy_ended, told}
+use Rattle.mdic_phy.specs.Mdic.{new_mdic, kept, with_ready, with_error, with_data, data_of, regadd, phyadd, operation_of, reaches_phy}
+use Rattle.mdic_phy.specs.Mdic.{ended, ended_value, phy_ended, told}
 use Rattle.mdic_phy.specs.PhyHistory.{PhyEvent, after_event, after_events}
 use Rattle.mdic_phy.specs.PhyHistory as phy
-use Rattle.mdic_phy.specs.MdicHistory.{MdicEvent, Write, Tick, MdicAndPhy, after_mdic_event, after_mdic_events, both_behind, access_of, accesses, AccessesByHistory, NoWrite, mdic_reads, ticked_phy, MdicByHistory, told_of_link, ToldByHistory}
+use Rattle.mdic_phy.specs.MdicHistory.{MdicEvent, Write, Tick, MdicAndPhy, after_mdic_event, after_mdic_events, both_behind, access_of}
+use Rattle.mdic_phy.specs.MdicHistory.{accesses, AccessesByHistory, NoWrite, mdic_reads, ticked_phy, MdicByHistory, told_of_link}
+use Rattle.mdic_phy.specs.MdicHistory.{ToldByHistory}
 use Rattle.mdic_phy.specs.PhyLaws.{after_events-append}
 use Rattle.mdic_phy.specs.Places.{mdic_i}
 
@@ -46,12 +50,14 @@ data-kept value = data-low (kept value) value (low-kept value)
 
 -- ---- what comes to the PHY
 
-after_events-if : (b : Bool) (event : PhyEvent) (phy : PhyState) → after_events (cond b (event ∷ []) []) phy ≡ cond b (after_event event phy) phy
+after_events-if : (b : Bool) (event : PhyEvent) (phy : PhyState)
+    → after_events (cond b (event ∷ []) []) phy ≡ cond b (after_event event phy) phy
 after_events-if true event phy = refl
 after_events-if false event phy = refl
 
 -- the access of a command is what its end does to the PHY
-pub after_access : (asked : Option Operation) (value : ℕ) (phy : PhyState) → after_events (access_of asked value) phy ≡ phy_ended asked (kept value) phy
+pub after_access : (asked : Option Operation) (value : ℕ) (phy : PhyState)
+    → after_events (access_of asked value) phy ≡ phy_ended asked (kept value) phy
 after_access None value phy = refl
 after_access (Some operation.Write) value s =
     after_events-if (reaches_phy value) (phy.Write (regadd value) (data_of value)) s
@@ -67,7 +73,8 @@ after_access (Some operation.Read) value s =
 abbrev without_command : ℕ → PhyState → MdicAndPhy
 without_command value phy = record { mdic = record { value = value; pending = None }; phy = phy }
 
-pub accesses-run : (all : List MdicEvent) (value : ℕ) (s : PhyState) → (after_mdic_events all (without_command value s)).phy ≡ after_events (accesses all) s
+pub accesses-run : (all : List MdicEvent) (value : ℕ) (s : PhyState)
+    → (after_mdic_events all (without_command value s)).phy ≡ after_events (accesses all) s
 accesses-run [] value s = refl
 accesses-run (Tick ∷ later) value s = accesses-run later value (after_tick s)
 accesses-run (Write written ∷ []) value s = refl
@@ -83,19 +90,23 @@ accesses_by_history s all = accesses-run all 0 s
 
 -- ---- what MDIC reads
 
-pub after_mdic_events-append : (before after : List MdicEvent) (both : MdicAndPhy) → after_mdic_events (before ++ after) both ≡ after_mdic_events after (after_mdic_events before both)
+pub after_mdic_events-append : (before after : List MdicEvent) (both : MdicAndPhy)
+    → after_mdic_events (before ++ after) both ≡ after_mdic_events after (after_mdic_events before both)
 after_mdic_events-append [] after both = refl
 after_mdic_events-append (event ∷ before) after both = after_mdic_events-append before after (after_mdic_event event both)
 
 -- without a command and without a write the register stays
-pub value-stays : (after : List MdicEvent) (value : ℕ) (s : PhyState) → NoWrite after → (after_mdic_events after (without_command value s)).mdic.value ≡ value
+pub value-stays : (after : List MdicEvent) (value : ℕ) (s : PhyState) → NoWrite after
+    → (after_mdic_events after (without_command value s)).mdic.value ≡ value
 value-stays [] value s none = refl
 value-stays (Tick ∷ later) value s none = value-stays later value (after_tick s) none
 value-stays (Write written ∷ later) value s none = absurd (true≢false none)
 
 -- the register behind its last write
-pub reads-behind : (state : PhyState) (before after : List MdicEvent) → mdic_reads state (before ++ after) ≡ (after_mdic_events after (both_behind state before)).mdic.value
-reads-behind state before after = ap (λ (both : MdicAndPhy). both.mdic.value) (after_mdic_events-append before after (record { mdic = new_mdic; phy = state }))
+pub reads-behind : (state : PhyState) (before after : List MdicEvent)
+    → mdic_reads state (before ++ after) ≡ (after_mdic_events after (both_behind state before)).mdic.value
+reads-behind state before after = ap (λ (both : MdicAndPhy). both.mdic.value)
+    (after_mdic_events-append before after (record { mdic = new_mdic; phy = state }))
 
 -- the PHY at the tick that ends a command
 phy-ticked : (s : PhyState) (before : List MdicEvent) → after_tick (both_behind s before).phy ≡ ticked_phy s before
@@ -114,9 +125,11 @@ is_not : (p : ℕ) → p ≢ 1 → (p == 1) ≡ false
 is_not p other = grind (arith, nat_tests)
 
 -- another PHY doesn't answer
-ended_value-not_there : (asked : Operation) (s : PhyState) (value : ℕ) → reaches_phy value ≡ false → ended_value asked s value ≡ with_error value
+ended_value-not_there : (asked : Operation) (s : PhyState) (value : ℕ) → reaches_phy value ≡ false
+    → ended_value asked s value ≡ with_error value
 ended_value-not_there operation.Write s value other = ap (λ (b : Bool). cond b (with_ready value) (with_error value)) other
-ended_value-not_there operation.Read s value other = ap (λ (b : Bool). cond b (with_ready (with_data (read_value (regadd value) s) value)) (with_error value)) other
+ended_value-not_there operation.Read s value other = ap
+    (λ (b : Bool). cond b (with_ready (with_data (read_value (regadd value) s) value)) (with_error value)) other
 
 pub mdic_by_history : MdicByHistory
 mdic_by_history = record {
@@ -124,7 +137,9 @@ mdic_by_history = record {
   no_tick_yet = λ s before value. reads-behind s before (Write value ∷ []);
   no_command = λ s before value after asked none.
       reads-behind s before (Write value ∷ after)
-      ∙ ap (λ (p : Option Operation). (after_mdic_events after (record { mdic = record { value = kept value; pending = p }; phy = (both_behind s before).phy })).mdic.value) asked
+      ∙ ap (λ (p : Option Operation).
+      (after_mdic_events after
+      (record { mdic = record { value = kept value; pending = p }; phy = (both_behind s before).phy })).mdic.value) asked
       ∙ value-stays after (kept value) (both_behind s before).phy none;
   written = λ s before value after asked here none.
       reads-ended s before value after none
@@ -134,24 +149,28 @@ mdic_by_history = record {
       let at : PhyState = ticked_phy s before in
       reads-ended s before value after none
       ∙ ap (λ (p : Option Operation). ended p (kept value) at) asked
-      ∙ ap (λ (p : ℕ). cond (p == 1) (with_ready (with_data (read_value (regadd (kept value)) at) (kept value))) (with_error (kept value))) (phyadd-kept value ∙ here)
+      ∙ ap (λ (p : ℕ). cond (p == 1) (with_ready (with_data (read_value (regadd (kept value)) at) (kept value))) (with_error (kept value)))
+      (phyadd-kept value ∙ here)
       ∙ ap (λ (r : ℕ). with_ready (with_data (read_value r at) (kept value))) (regadd-kept value);
   not_there = λ s before value asked after is other none.
       reads-ended s before value after none
       ∙ ap (λ (p : Option Operation). ended p (kept value) (ticked_phy s before)) is
-      ∙ ended_value-not_there asked (ticked_phy s before) (kept value) (ap (λ (p : ℕ). p == 1) (phyadd-kept value) ∙ is_not (phyadd value) other);
+      ∙ ended_value-not_there asked (ticked_phy s before) (kept value) (ap (λ (p : ℕ). p == 1) (phyadd-kept value)
+      ∙ is_not (phyadd value) other);
 }
 
 -- ---- what a tick tells
 
 -- the register and its PHY behind a list and one event more
-pub both-behind : (s : PhyState) (before : List MdicEvent) (event : MdicEvent) → both_behind s (before ++ event ∷ []) ≡ after_mdic_event event (both_behind s before)
+pub both-behind : (s : PhyState) (before : List MdicEvent) (event : MdicEvent)
+    → both_behind s (before ++ event ∷ []) ≡ after_mdic_event event (both_behind s before)
 both-behind s before event = after_mdic_events-append before (event ∷ []) (record { mdic = new_mdic; phy = s })
 
 -- bit 29 is kept
 pub interrupt-kept : (value : ℕ) → is_set (kept value) mdic_i ≡ is_set value mdic_i
 interrupt-kept value =
-    sym (contains_is_set (kept value) mdic_i) ∙ ap (λ (bit : ℕ). bit == 2 ^ 29) (and_assoc (2 ^ 29) value 0x2FFF_FFFF) ∙ contains_is_set value mdic_i
+    sym (contains_is_set (kept value) mdic_i) ∙ ap (λ (bit : ℕ). bit == 2 ^ 29) (and_assoc (2 ^ 29) value 0x2FFF_FFFF)
+    ∙ contains_is_set value mdic_i
 
 abbrev told_by : Bool → Bool → Option Ticked
 told_by up complete = Some (record { link_changed = up; access_complete = complete })
@@ -176,17 +195,22 @@ told_by_history = record {
   first = λ s. told-without 0 s;
   ticked = λ s before.
       ap told_both (both-behind s before Tick)
-      ∙ told-without (ended (both_behind s before).mdic.pending (both_behind s before).mdic.value (after_tick (both_behind s before).phy)) (after_mdic_event Tick (both_behind s before)).phy
-      ∙ ap told_of_link (sym (ap (λ (both : MdicAndPhy). both.phy) (both-behind s before Tick)) ∙ accesses_by_history s (before ++ Tick ∷ []));
+      ∙ told-without (ended (both_behind s before).mdic.pending (both_behind s before).mdic.value (after_tick (both_behind s before).phy))
+      (after_mdic_event Tick (both_behind s before)).phy
+      ∙ ap told_of_link (sym (ap (λ (both : MdicAndPhy). both.phy) (both-behind s before Tick))
+      ∙ accesses_by_history s (before ++ Tick ∷ []));
   no_command = λ s before value asked.
       ap told_both (both-behind s before (Write value))
       ∙ ap (λ (p : Option Operation). told (record { value = kept value; pending = p }) (both_behind s before).phy) asked
       ∙ told-without (kept value) (both_behind s before).phy
-      ∙ ap told_of_link (sym (ap (λ (both : MdicAndPhy). both.phy) (both-behind s before (Write value))) ∙ accesses_by_history s (before ++ Write value ∷ []));
+      ∙ ap told_of_link (sym (ap (λ (both : MdicAndPhy). both.phy) (both-behind s before (Write value)))
+      ∙ accesses_by_history s (before ++ Write value ∷ []));
   command = λ s before value asked is.
       ap told_both (both-behind s before (Write value))
       ∙ ap (λ (p : Option Operation). told (record { value = kept value; pending = p }) (both_behind s before).phy) is
       ∙ told-command (is_counting (both_behind s before).phy) (comes_up (both_behind s before).phy) (is_set (kept value) mdic_i)
       ∙ ap (told_by (comes_up (both_behind s before).phy)) (interrupt-kept value)
-      ∙ ap (λ (phy : PhyState). told_by (comes_up phy) (is_set value mdic_i)) (sym (ap (λ (both : MdicAndPhy). both.phy) (both-behind s before (Write value))) ∙ accesses_by_history s (before ++ Write value ∷ []));
+      ∙ ap (λ (phy : PhyState). told_by (comes_up phy) (is_set value mdic_i))
+      (sym (ap (λ (both : MdicAndPhy). both.phy) (both-behind s before (Write value)))
+      ∙ accesses_by_history s (before ++ Write value ∷ []));
 }

@@ -34,7 +34,8 @@ abbrev pub negotiation_of : Link → Negotiation
 negotiation_of (After ticks) = Running ticks
 negotiation_of Never = NotStarted
 
--- Negotiation starts anew: the link goes down, and its status is latched low (22.2.4.1, "Restart Auto-Negotiation"; 22.2.4.2, "Link Status").
+-- Negotiation starts anew: the link goes down, and its status is latched low (22.2.4.1, "Restart Auto-Negotiation"; 22.2.4.2, "Link
+-- Status").
 abbrev pub restarted : PhyState → PhyState
 restarted phy = record phy { negotiation = negotiation_of phy.link; latched_low = true }
 

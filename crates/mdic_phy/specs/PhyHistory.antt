@@ -1,5 +1,6 @@
 -- What a PHY shows, said of the list of all that came to it since it was new.
-use Rattle.std.specs.Prelude.{◌≡◌, ℕ, ◌≤◌, ◌==◌, ◌&&◌, ◌||◌, Bool, true, false, not, List, [], ◌∷◌, ◌++◌, count_by, nat_le, IsTrue, if◌then◌else◌}
+use Rattle.std.specs.Prelude.{◌≡◌, ℕ, ◌≤◌, ◌==◌, ◌&&◌, ◌||◌, Bool, true, false, not, List, [], ◌∷◌, ◌++◌, count_by, nat_le, IsTrue}
+use Rattle.std.specs.Prelude.{if◌then◌else◌}
 use Rattle.std.specs.List.{list_any}
 use Rattle.registers.specs.Bits.{is_set}
 use Rattle.mdic_phy.specs.declared.phy.Link.{Link}
@@ -52,7 +53,8 @@ is_reset (Write register value) = register == 0 && is_set value control_reset
 abbrev pub is_restart : PhyEvent → Bool
 is_restart Tick = false
 is_restart (Read register) = false
-is_restart (Write register value) = register == 0 && (not (is_set value control_reset) && (is_set value control_enable && is_set value control_restart))
+is_restart (Write register value) = register == 0 && (not
+    (is_set value control_reset) && (is_set value control_enable && is_set value control_restart))
 
 -- A reset or a restart: whatever takes the link down.
 abbrev pub takes_down : PhyEvent → Bool
@@ -67,10 +69,12 @@ pub record LinkByHistory : Type 0 where
   -- It is down where negotiation was never started,
   pub never_started : (link : Link) (all : List PhyEvent) → HasNo is_restart all → link_is_up (phy_behind link all) ≡ false
   -- and where it wasn't started since a reset;
-  pub reset : (link : Link) (before : List PhyEvent) (event : PhyEvent) (after : List PhyEvent) → IsTrue (is_reset event) → HasNo is_restart after
+  pub reset : (link : Link) (before : List PhyEvent) (event : PhyEvent) (after : List PhyEvent) → IsTrue (is_reset event)
+      → HasNo is_restart after
       → link_is_up (phy_behind link (before ++ event ∷ after)) ≡ false
   -- from the last start on, if no reset came behind it, it is up once there were d ticks;
-  pub started : (d : ℕ) (before : List PhyEvent) (event : PhyEvent) (after : List PhyEvent) → 1 ≤ d → IsTrue (is_restart event) → HasNo takes_down after
+  pub started : (d : ℕ) (before : List PhyEvent) (event : PhyEvent) (after : List PhyEvent) → 1 ≤ d → IsTrue (is_restart event)
+      → HasNo takes_down after
       → link_is_up (phy_behind (After d) (before ++ event ∷ after)) ≡ nat_le d (count_by is_tick after)
   -- and a link that never comes up is down.
   pub never : (all : List PhyEvent) → link_is_up (phy_behind Never all) ≡ false
@@ -89,10 +93,12 @@ pub record LatchByHistory : Type 0 where
   -- The first read has no bit 2.
   pub never_read : (link : Link) (all : List PhyEvent) → HasNo is_status_read all → status_behind link all ≡ where_up link all 0x20
   -- A read has no bit 2 where a reset or a restart came and no read behind it.
-  pub taken_down : (link : Link) (before : List PhyEvent) (event : PhyEvent) (after : List PhyEvent) → IsTrue (takes_down event) → HasNo is_status_read after
+  pub taken_down : (link : Link) (before : List PhyEvent) (event : PhyEvent) (after : List PhyEvent) → IsTrue (takes_down event)
+      → HasNo is_status_read after
       → status_behind link (before ++ event ∷ after) ≡ where_up link (before ++ event ∷ after) 0x20
   -- A read has bit 2, where the link is up, if a read came before it and neither a reset nor a restart behind that.
-  pub stayed : (link : Link) (before : List PhyEvent) (event : PhyEvent) (after : List PhyEvent) → IsTrue (is_status_read event) → HasNo takes_down after
+  pub stayed : (link : Link) (before : List PhyEvent) (event : PhyEvent) (after : List PhyEvent) → IsTrue (is_status_read event)
+      → HasNo takes_down after
       → status_behind link (before ++ event ∷ after) ≡ where_up link (before ++ event ∷ after) 0x24
 
 -- What the control register reads behind a list of events.
@@ -102,7 +108,9 @@ control_behind link events = read_value 0 (phy_behind link events)
 -- The control register reads bit 12 of what was last written to it, or 1000h where that was a reset or nothing.
 pub record ControlByHistory : Type 0 where
   pub never_written : (link : Link) (all : List PhyEvent) → HasNo is_control_write all → control_behind link all ≡ 0x1000
-  pub reset : (link : Link) (before : List PhyEvent) (value : ℕ) (after : List PhyEvent) → is_set value control_reset ≡ true → HasNo is_control_write after
+  pub reset : (link : Link) (before : List PhyEvent) (value : ℕ) (after : List PhyEvent) → is_set value control_reset ≡ true
+      → HasNo is_control_write after
       → control_behind link (before ++ Write 0 value ∷ after) ≡ 0x1000
-  pub kept : (link : Link) (before : List PhyEvent) (value : ℕ) (after : List PhyEvent) → is_set value control_reset ≡ false → HasNo is_control_write after
+  pub kept : (link : Link) (before : List PhyEvent) (value : ℕ) (after : List PhyEvent) → is_set value control_reset ≡ false
+      → HasNo is_control_write after
       → control_behind link (before ++ Write 0 value ∷ after) ≡ (if is_set value control_enable then 0x1000 else 0)

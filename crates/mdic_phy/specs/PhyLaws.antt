@@ -1,5 +1,6 @@
 -- The laws of the history of a PHY, and the lemmas that lead to them, for proofs of the crates above too.
-use Rattle.std.proofs.Common.{◌≡◌, ℕ, ◌+◌, ◌-◌, ◌≤◌, ◌==◌, Bool, true, false, cond, List, [], ◌∷◌, ◌++◌, count_by, nat_le, refl, ap, ◌∙◌, ◌⊎◌, inl, inr, arith}
+use Rattle.std.proofs.Common.{◌≡◌, ℕ, ◌+◌, ◌-◌, ◌≤◌, ◌==◌, Bool, true, false, cond, List, [], ◌∷◌, ◌++◌, count_by, nat_le, refl, ap, ◌∙◌}
+use Rattle.std.proofs.Common.{◌⊎◌, inl, inr, arith}
 use Rattle.std.specs.List.{list_any}
 use Rattle.std.proofs.lemmas.Bool.{false≢true, true≢false, or_parts}
 use Rattle.std.proofs.lemmas.Bool.Decides.{nat_tests}
@@ -8,13 +9,19 @@ use Rattle.registers.specs.Bits.{is_set}
 use Rattle.mdic_phy.specs.declared.phy.Link.{Link}
 use Rattle.mdic_phy.specs.declared.phy.Link.TheVariants.{After, Never}
 use Rattle.mdic_phy.specs.declared.phy.Negotiation.TheVariants.{NotStarted, Running, Complete}
-use Rattle.mdic_phy.specs.Phy.{PhyState, new_phy, after_write, after_read, after_tick, link_is_up, is_complete, counted, negotiation_of, status_value}
-use Rattle.mdic_phy.specs.PhyHistory.{PhyEvent, Tick, Read, Write, after_event, after_events, phy_behind, is_tick, is_status_read, is_control_write, is_reset, is_restart, takes_down, HasNo, LinkByHistory, LatchByHistory, ControlByHistory}
-use Rattle.mdic_phy.specs.WriteLaws.{link-by_tests, not_started-by_tests, reset-by_tests, restart-by_tests, negotiation-by_tests, latch-by_tests, latched-by_tests, still_latched-by_tests, never-by_tests, enabled-by_tests, enabled_stays-by_tests}
+use Rattle.mdic_phy.specs.Phy.{PhyState, new_phy, after_write, after_read, after_tick, link_is_up, is_complete, counted, negotiation_of}
+use Rattle.mdic_phy.specs.Phy.{status_value}
+use Rattle.mdic_phy.specs.PhyHistory.{PhyEvent, Tick, Read, Write, after_event, after_events, phy_behind, is_tick, is_status_read}
+use Rattle.mdic_phy.specs.PhyHistory.{is_control_write, is_reset, is_restart, takes_down, HasNo, LinkByHistory, LatchByHistory}
+use Rattle.mdic_phy.specs.PhyHistory.{ControlByHistory}
+use Rattle.mdic_phy.specs.WriteLaws.{link-by_tests, not_started-by_tests, reset-by_tests, restart-by_tests, negotiation-by_tests}
+use Rattle.mdic_phy.specs.WriteLaws.{latch-by_tests, latched-by_tests, still_latched-by_tests, never-by_tests, enabled-by_tests}
+use Rattle.mdic_phy.specs.WriteLaws.{enabled_stays-by_tests}
 use Rattle.mdic_phy.specs.Places.{control_enable, control_reset, control_restart}
 
 -- one list of events behind another
-pub after_events-append : (before after : List PhyEvent) (phy : PhyState) → after_events (before ++ after) phy ≡ after_events after (after_events before phy)
+pub after_events-append : (before after : List PhyEvent) (phy : PhyState)
+    → after_events (before ++ after) phy ≡ after_events after (after_events before phy)
 after_events-append [] after phy = refl
 after_events-append (event ∷ before) after phy = after_events-append before after (after_event event phy)
 
@@ -26,14 +33,16 @@ later_fail test event later none = (or_parts (test event) (list_any test later) 
 
 -- ---- the setting of the link stays
 
-link-after_read : (b : Bool) (phy : PhyState) → (let after : PhyState = cond b (record phy { latched_low = false }) phy in after.link) ≡ phy.link
+link-after_read : (b : Bool) (phy : PhyState)
+    → (let after : PhyState = cond b (record phy { latched_low = false }) phy in after.link) ≡ phy.link
 link-after_read true phy = refl
 link-after_read false phy = refl
 
 pub link-after_event : (event : PhyEvent) (phy : PhyState) → (after_event event phy).link ≡ phy.link
 link-after_event Tick phy = refl
 link-after_event (Read register) phy = link-after_read (register == 1) phy
-link-after_event (Write register value) phy = link-by_tests (register == 0) (is_set value control_reset) (is_set value control_enable) (is_set value control_restart) phy
+link-after_event (Write register value) phy = link-by_tests (register == 0) (is_set value control_reset) (is_set value control_enable)
+    (is_set value control_restart) phy
 
 pub link-after_events : (events : List PhyEvent) (phy : PhyState) → (after_events events phy).link ≡ phy.link
 link-after_events [] phy = refl
@@ -41,17 +50,21 @@ link-after_events (event ∷ later) phy = link-after_events later (after_event e
 
 -- ---- negotiation
 
-negotiation-after_read : (b : Bool) (phy : PhyState) → (let after : PhyState = cond b (record phy { latched_low = false }) phy in after.negotiation) ≡ phy.negotiation
+negotiation-after_read : (b : Bool) (phy : PhyState)
+    → (let after : PhyState = cond b (record phy { latched_low = false }) phy in after.negotiation) ≡ phy.negotiation
 negotiation-after_read true phy = refl
 negotiation-after_read false phy = refl
 
 -- without a restart, negotiation that was not started stays so
-pub not_started-after_event : (event : PhyEvent) (phy : PhyState) → is_restart event ≡ false → phy.negotiation ≡ NotStarted → (after_event event phy).negotiation ≡ NotStarted
+pub not_started-after_event : (event : PhyEvent) (phy : PhyState) → is_restart event ≡ false → phy.negotiation ≡ NotStarted
+    → (after_event event phy).negotiation ≡ NotStarted
 not_started-after_event Tick phy none idle = ap counted idle
 not_started-after_event (Read register) phy none idle = negotiation-after_read (register == 1) phy ∙ idle
-not_started-after_event (Write register value) phy none idle = not_started-by_tests (register == 0) (is_set value control_reset) (is_set value control_enable) (is_set value control_restart) phy none idle
+not_started-after_event (Write register value) phy none idle = not_started-by_tests (register == 0) (is_set value control_reset)
+    (is_set value control_enable) (is_set value control_restart) phy none idle
 
-pub not_started-after_events : (events : List PhyEvent) (phy : PhyState) → HasNo is_restart events → phy.negotiation ≡ NotStarted → (after_events events phy).negotiation ≡ NotStarted
+pub not_started-after_events : (events : List PhyEvent) (phy : PhyState) → HasNo is_restart events → phy.negotiation ≡ NotStarted
+    → (after_events events phy).negotiation ≡ NotStarted
 not_started-after_events [] phy none idle = idle
 not_started-after_events (event ∷ later) phy none idle =
     not_started-after_events later (after_event event phy) (later_fail is_restart event later none)
@@ -60,20 +73,26 @@ not_started-after_events (event ∷ later) phy none idle =
 pub reset-after_event : (event : PhyEvent) (phy : PhyState) → is_reset event ≡ true → (after_event event phy).negotiation ≡ NotStarted
 reset-after_event Tick phy is = absurd (false≢true is)
 reset-after_event (Read register) phy is = absurd (false≢true is)
-reset-after_event (Write register value) phy is = reset-by_tests (register == 0) (is_set value control_reset) (is_set value control_enable) (is_set value control_restart) phy is
+reset-after_event (Write register value) phy is = reset-by_tests (register == 0) (is_set value control_reset) (is_set value control_enable)
+    (is_set value control_restart) phy is
 
-pub restart-after_event : (event : PhyEvent) (phy : PhyState) → is_restart event ≡ true → (after_event event phy).negotiation ≡ negotiation_of phy.link
+pub restart-after_event : (event : PhyEvent) (phy : PhyState) → is_restart event ≡ true
+    → (after_event event phy).negotiation ≡ negotiation_of phy.link
 restart-after_event Tick phy is = absurd (false≢true is)
 restart-after_event (Read register) phy is = absurd (false≢true is)
-restart-after_event (Write register value) phy is = restart-by_tests (register == 0) (is_set value control_reset) (is_set value control_enable) (is_set value control_restart) phy is
+restart-after_event (Write register value) phy is = restart-by_tests (register == 0) (is_set value control_reset)
+    (is_set value control_enable) (is_set value control_restart) phy is
 
 -- a link that never comes up
-pub never-after_event : (event : PhyEvent) (phy : PhyState) → phy.link ≡ Never → phy.negotiation ≡ NotStarted → (after_event event phy).negotiation ≡ NotStarted
+pub never-after_event : (event : PhyEvent) (phy : PhyState) → phy.link ≡ Never → phy.negotiation ≡ NotStarted
+    → (after_event event phy).negotiation ≡ NotStarted
 never-after_event Tick phy never idle = ap counted idle
 never-after_event (Read register) phy never idle = negotiation-after_read (register == 1) phy ∙ idle
-never-after_event (Write register value) phy never idle = never-by_tests (register == 0) (is_set value control_reset) (is_set value control_enable) (is_set value control_restart) phy never idle
+never-after_event (Write register value) phy never idle = never-by_tests (register == 0) (is_set value control_reset)
+    (is_set value control_enable) (is_set value control_restart) phy never idle
 
-pub never-after_events : (events : List PhyEvent) (phy : PhyState) → phy.link ≡ Never → phy.negotiation ≡ NotStarted → (after_events events phy).negotiation ≡ NotStarted
+pub never-after_events : (events : List PhyEvent) (phy : PhyState) → phy.link ≡ Never → phy.negotiation ≡ NotStarted
+    → (after_events events phy).negotiation ≡ NotStarted
 never-after_events [] phy never idle = idle
 never-after_events (event ∷ later) phy never idle =
     never-after_events later (after_event event phy) (link-after_event event phy ∙ never) (never-after_event event phy never idle)
@@ -81,13 +100,16 @@ never-after_events (event ∷ later) phy never idle =
 -- ---- the count
 
 -- whatever neither resets, restarts nor ticks leaves negotiation as it is
-pub counted-after_event : (event : PhyEvent) (phy : PhyState) → takes_down event ≡ false → is_tick event ≡ false → (after_event event phy).negotiation ≡ phy.negotiation
+pub counted-after_event : (event : PhyEvent) (phy : PhyState) → takes_down event ≡ false → is_tick event ≡ false
+    → (after_event event phy).negotiation ≡ phy.negotiation
 counted-after_event Tick phy none still = absurd (true≢false still)
 counted-after_event (Read register) phy none still = negotiation-after_read (register == 1) phy
-counted-after_event (Write register value) phy none still = negotiation-by_tests (register == 0) (is_set value control_reset) (is_set value control_enable) (is_set value control_restart) phy none
+counted-after_event (Write register value) phy none still = negotiation-by_tests (register == 0) (is_set value control_reset)
+    (is_set value control_enable) (is_set value control_restart) phy none
 
 -- what is complete stays so
-pub complete-after_events : (events : List PhyEvent) (phy : PhyState) → HasNo takes_down events → phy.negotiation ≡ Complete → (after_events events phy).negotiation ≡ Complete
+pub complete-after_events : (events : List PhyEvent) (phy : PhyState) → HasNo takes_down events → phy.negotiation ≡ Complete
+    → (after_events events phy).negotiation ≡ Complete
 complete-after_events [] phy none up = up
 complete-after_events (Tick ∷ later) phy none up = complete-after_events later (after_tick phy) none (ap counted up)
 complete-after_events (Read register ∷ later) phy none up =
@@ -122,7 +144,8 @@ either true = inl refl
 either false = inr refl
 
 -- a count that runs is over once there were as many ticks
-pub running-after_events : (events : List PhyEvent) (phy : PhyState) (left : ℕ) → HasNo takes_down events → 1 ≤ left → phy.negotiation ≡ Running left
+pub running-after_events : (events : List PhyEvent) (phy : PhyState) (left : ℕ) → HasNo takes_down events → 1 ≤ left
+    → phy.negotiation ≡ Running left
     → is_complete (after_events events phy).negotiation ≡ nat_le left (count_by is_tick events)
 running-after_events [] phy left none some runs = ap is_complete runs ∙ grind (arith, nat_tests)
 running-after_events (Tick ∷ later) phy left none some runs = elim (either (nat_le left 1)) [
@@ -142,7 +165,8 @@ link_by_history = record {
   never_started = λ link all none. ap is_complete (not_started-after_events all (new_phy link) none refl);
   reset = λ link before event after is none.
       ap link_is_up (after_events-append before (event ∷ after) (new_phy link))
-      ∙ ap is_complete (not_started-after_events after (after_event event (phy_behind link before)) none (reset-after_event event (phy_behind link before) is));
+      ∙ ap is_complete (not_started-after_events after (after_event event (phy_behind link before)) none
+      (reset-after_event event (phy_behind link before) is));
   started = λ d before event after some is none.
       ap link_is_up (after_events-append before (event ∷ after) (new_phy (After d)))
       ∙ running-after_events after (after_event event (phy_behind (After d) before)) d none some
@@ -152,21 +176,26 @@ link_by_history = record {
 
 -- ---- the latch
 
-latched-after_read : (b : Bool) (phy : PhyState) → b ≡ false → (let after : PhyState = cond b (record phy { latched_low = false }) phy in after.latched_low) ≡ phy.latched_low
+latched-after_read : (b : Bool) (phy : PhyState) → b ≡ false
+    → (let after : PhyState = cond b (record phy { latched_low = false }) phy in after.latched_low) ≡ phy.latched_low
 latched-after_read true phy none = absurd (true≢false none)
 latched-after_read false phy none = refl
 
-unlatched-after_read : (b : Bool) (phy : PhyState) → phy.latched_low ≡ false → (let after : PhyState = cond b (record phy { latched_low = false }) phy in after.latched_low) ≡ false
+unlatched-after_read : (b : Bool) (phy : PhyState) → phy.latched_low ≡ false
+    → (let after : PhyState = cond b (record phy { latched_low = false }) phy in after.latched_low) ≡ false
 unlatched-after_read true phy was = refl
 unlatched-after_read false phy was = was
 
 -- only a read of the status register unlatches
-pub latched-after_event : (event : PhyEvent) (phy : PhyState) → is_status_read event ≡ false → phy.latched_low ≡ true → (after_event event phy).latched_low ≡ true
+pub latched-after_event : (event : PhyEvent) (phy : PhyState) → is_status_read event ≡ false → phy.latched_low ≡ true
+    → (after_event event phy).latched_low ≡ true
 latched-after_event Tick phy none was = was
 latched-after_event (Read register) phy none was = latched-after_read (register == 1) phy none ∙ was
-latched-after_event (Write register value) phy none was = still_latched-by_tests (register == 0) (is_set value control_reset) (is_set value control_enable) (is_set value control_restart) phy was
+latched-after_event (Write register value) phy none was = still_latched-by_tests (register == 0) (is_set value control_reset)
+    (is_set value control_enable) (is_set value control_restart) phy was
 
-pub latched-after_events : (events : List PhyEvent) (phy : PhyState) → HasNo is_status_read events → phy.latched_low ≡ true → (after_events events phy).latched_low ≡ true
+pub latched-after_events : (events : List PhyEvent) (phy : PhyState) → HasNo is_status_read events → phy.latched_low ≡ true
+    → (after_events events phy).latched_low ≡ true
 latched-after_events [] phy none was = was
 latched-after_events (event ∷ later) phy none was =
     latched-after_events later (after_event event phy) (later_fail is_status_read event later none)
@@ -176,25 +205,31 @@ latched-after_events (event ∷ later) phy none was =
 pub taken_down-after_event : (event : PhyEvent) (phy : PhyState) → takes_down event ≡ true → (after_event event phy).latched_low ≡ true
 taken_down-after_event Tick phy is = absurd (false≢true is)
 taken_down-after_event (Read register) phy is = absurd (false≢true is)
-taken_down-after_event (Write register value) phy is = latched-by_tests (register == 0) (is_set value control_reset) (is_set value control_enable) (is_set value control_restart) phy is
+taken_down-after_event (Write register value) phy is = latched-by_tests (register == 0) (is_set value control_reset)
+    (is_set value control_enable) (is_set value control_restart) phy is
 
 -- and nothing else does
-pub unlatched-after_event : (event : PhyEvent) (phy : PhyState) → takes_down event ≡ false → phy.latched_low ≡ false → (after_event event phy).latched_low ≡ false
+pub unlatched-after_event : (event : PhyEvent) (phy : PhyState) → takes_down event ≡ false → phy.latched_low ≡ false
+    → (after_event event phy).latched_low ≡ false
 unlatched-after_event Tick phy none was = was
 unlatched-after_event (Read register) phy none was = unlatched-after_read (register == 1) phy was
-unlatched-after_event (Write register value) phy none was = latch-by_tests (register == 0) (is_set value control_reset) (is_set value control_enable) (is_set value control_restart) phy none ∙ was
+unlatched-after_event (Write register value) phy none was = latch-by_tests (register == 0) (is_set value control_reset)
+    (is_set value control_enable) (is_set value control_restart) phy none ∙ was
 
-pub unlatched-after_events : (events : List PhyEvent) (phy : PhyState) → HasNo takes_down events → phy.latched_low ≡ false → (after_events events phy).latched_low ≡ false
+pub unlatched-after_events : (events : List PhyEvent) (phy : PhyState) → HasNo takes_down events → phy.latched_low ≡ false
+    → (after_events events phy).latched_low ≡ false
 unlatched-after_events [] phy none was = was
 unlatched-after_events (event ∷ later) phy none was =
     unlatched-after_events later (after_event event phy) (later_fail takes_down event later none)
     (unlatched-after_event event phy (first_fails takes_down event later none) was)
 
-read-unlatches : (b : Bool) (phy : PhyState) → b ≡ true → (let after : PhyState = cond b (record phy { latched_low = false }) phy in after.latched_low) ≡ false
+read-unlatches : (b : Bool) (phy : PhyState) → b ≡ true
+    → (let after : PhyState = cond b (record phy { latched_low = false }) phy in after.latched_low) ≡ false
 read-unlatches true phy is = refl
 read-unlatches false phy is = absurd (false≢true is)
 
-pub status_read-after_event : (event : PhyEvent) (phy : PhyState) → is_status_read event ≡ true → (after_event event phy).latched_low ≡ false
+pub status_read-after_event : (event : PhyEvent) (phy : PhyState) → is_status_read event ≡ true
+    → (after_event event phy).latched_low ≡ false
 status_read-after_event Tick phy is = absurd (false≢true is)
 status_read-after_event (Read register) phy is = read-unlatches (register == 1) phy is
 status_read-after_event (Write register value) phy is = absurd (false≢true is)
@@ -212,25 +247,31 @@ latch_by_history = record {
   taken_down = λ link before event after is none.
       status-latched (phy_behind link (before ++ event ∷ after))
       (ap (λ (phy : PhyState). phy.latched_low) (after_events-append before (event ∷ after) (new_phy link))
-      ∙ latched-after_events after (after_event event (phy_behind link before)) none (taken_down-after_event event (phy_behind link before) is));
+      ∙ latched-after_events after (after_event event (phy_behind link before)) none
+      (taken_down-after_event event (phy_behind link before) is));
   stayed = λ link before event after is none.
       status-unlatched (phy_behind link (before ++ event ∷ after))
       (ap (λ (phy : PhyState). phy.latched_low) (after_events-append before (event ∷ after) (new_phy link))
-      ∙ unlatched-after_events after (after_event event (phy_behind link before)) none (status_read-after_event event (phy_behind link before) is));
+      ∙ unlatched-after_events after (after_event event (phy_behind link before)) none
+      (status_read-after_event event (phy_behind link before) is));
 }
 
 -- ---- the control register
 
-enabled-after_read : (b : Bool) (phy : PhyState) → (let after : PhyState = cond b (record phy { latched_low = false }) phy in after.negotiation_enabled) ≡ phy.negotiation_enabled
+enabled-after_read : (b : Bool) (phy : PhyState)
+    → (let after : PhyState = cond b (record phy { latched_low = false }) phy in after.negotiation_enabled) ≡ phy.negotiation_enabled
 enabled-after_read true phy = refl
 enabled-after_read false phy = refl
 
-pub enabled-after_event : (event : PhyEvent) (phy : PhyState) → is_control_write event ≡ false → (after_event event phy).negotiation_enabled ≡ phy.negotiation_enabled
+pub enabled-after_event : (event : PhyEvent) (phy : PhyState) → is_control_write event ≡ false
+    → (after_event event phy).negotiation_enabled ≡ phy.negotiation_enabled
 enabled-after_event Tick phy none = refl
 enabled-after_event (Read register) phy none = enabled-after_read (register == 1) phy
-enabled-after_event (Write register value) phy none = enabled_stays-by_tests (register == 0) (is_set value control_reset) (is_set value control_enable) (is_set value control_restart) phy none
+enabled-after_event (Write register value) phy none = enabled_stays-by_tests (register == 0) (is_set value control_reset)
+    (is_set value control_enable) (is_set value control_restart) phy none
 
-pub enabled-after_events : (events : List PhyEvent) (phy : PhyState) → HasNo is_control_write events → (after_events events phy).negotiation_enabled ≡ phy.negotiation_enabled
+pub enabled-after_events : (events : List PhyEvent) (phy : PhyState) → HasNo is_control_write events
+    → (after_events events phy).negotiation_enabled ≡ phy.negotiation_enabled
 enabled-after_events [] phy none = refl
 enabled-after_events (event ∷ later) phy none =
     enabled-after_events later (after_event event phy) (later_fail is_control_write event later none)
@@ -238,7 +279,8 @@ enabled-after_events (event ∷ later) phy none =
 
 -- bit 12 behind the last write of the control register
 enabled-behind : (link : Link) (before : List PhyEvent) (value : ℕ) (after : List PhyEvent) → HasNo is_control_write after
-    → (phy_behind link (before ++ Write 0 value ∷ after)).negotiation_enabled ≡ cond (is_set value control_reset) true (is_set value control_enable)
+    → (phy_behind link (before ++ Write 0 value ∷ after)).negotiation_enabled
+    ≡ cond (is_set value control_reset) true (is_set value control_enable)
 enabled-behind link before value after none =
     ap (λ (phy : PhyState). phy.negotiation_enabled) (after_events-append before (Write 0 value ∷ after) (new_phy link))
     ∙ enabled-after_events after (after_write 0 value (phy_behind link before)) none
@@ -251,6 +293,8 @@ pub control_by_history : ControlByHistory
 unfolding shown
 control_by_history = record {
   never_written = λ link all none. ap shown (enabled-after_events all (new_phy link) none);
-  reset = λ link before value after is none. ap shown (enabled-behind link before value after none ∙ ap (λ (b : Bool). cond b true (is_set value control_enable)) is);
-  kept = λ link before value after is none. ap shown (enabled-behind link before value after none ∙ ap (λ (b : Bool). cond b true (is_set value control_enable)) is);
+  reset = λ link before value after is none. ap shown (enabled-behind link before value after none
+      ∙ ap (λ (b : Bool). cond b true (is_set value control_enable)) is);
+  kept = λ link before value after is none. ap shown (enabled-behind link before value after none
+      ∙ ap (λ (b : Bool). cond b true (is_set value control_enable)) is);
 }

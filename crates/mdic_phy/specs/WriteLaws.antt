@@ -10,9 +10,12 @@ use Rattle.mdic_phy.specs.Places.{control_enable, control_reset, control_restart
 -- A write, where it is known whether it is of register 0, and whether it has bits 15, 12 and 9.
 abbrev pub by_tests : Bool → Bool → Bool → Bool → PhyState → PhyState
 by_tests control reset enable again phy =
-    cond control (cond reset (new_phy phy.link) (let kept : PhyState = record phy { negotiation_enabled = enable } in cond (enable && again) (restarted kept) kept)) phy
+    cond control (cond reset (new_phy phy.link)
+    (let kept : PhyState = record phy { negotiation_enabled = enable } in cond (enable && again) (restarted kept) kept)) phy
 
-pub after_write-by_tests : (register value : ℕ) (phy : PhyState) → after_write register value phy ≡ by_tests (register == 0) (is_set value control_reset) (is_set value control_enable) (is_set value control_restart) phy
+pub after_write-by_tests : (register value : ℕ) (phy : PhyState)
+    → after_write register value phy
+    ≡ by_tests (register == 0) (is_set value control_reset) (is_set value control_enable) (is_set value control_restart) phy
 after_write-by_tests register value phy = refl
 
 -- whether it resets, and whether it starts negotiation anew
@@ -31,7 +34,8 @@ link-by_tests true false true false phy = refl
 link-by_tests true false false a phy = refl
 
 -- without a restart, negotiation that was not started stays so
-pub not_started-by_tests : (c r e a : Bool) (phy : PhyState) → restarts c r e a ≡ false → phy.negotiation ≡ NotStarted → (by_tests c r e a phy).negotiation ≡ NotStarted
+pub not_started-by_tests : (c r e a : Bool) (phy : PhyState) → restarts c r e a ≡ false → phy.negotiation ≡ NotStarted
+    → (by_tests c r e a phy).negotiation ≡ NotStarted
 not_started-by_tests false r e a phy none idle = idle
 not_started-by_tests true true e a phy none idle = refl
 not_started-by_tests true false true true phy none idle = absurd (true≢false none)
@@ -45,7 +49,8 @@ reset-by_tests true true e a phy is = refl
 reset-by_tests true false e a phy is = absurd (false≢true is)
 
 -- a restart starts it
-pub restart-by_tests : (c r e a : Bool) (phy : PhyState) → restarts c r e a ≡ true → (by_tests c r e a phy).negotiation ≡ negotiation_of phy.link
+pub restart-by_tests : (c r e a : Bool) (phy : PhyState) → restarts c r e a ≡ true
+    → (by_tests c r e a phy).negotiation ≡ negotiation_of phy.link
 restart-by_tests false r e a phy is = absurd (false≢true is)
 restart-by_tests true true e a phy is = absurd (false≢true is)
 restart-by_tests true false true true phy is = refl
@@ -53,7 +58,8 @@ restart-by_tests true false true false phy is = absurd (false≢true is)
 restart-by_tests true false false a phy is = absurd (false≢true is)
 
 -- a write that does neither leaves negotiation as it is
-pub negotiation-by_tests : (c r e a : Bool) (phy : PhyState) → (resets c r || restarts c r e a) ≡ false → (by_tests c r e a phy).negotiation ≡ phy.negotiation
+pub negotiation-by_tests : (c r e a : Bool) (phy : PhyState) → (resets c r || restarts c r e a) ≡ false
+    → (by_tests c r e a phy).negotiation ≡ phy.negotiation
 negotiation-by_tests false r e a phy none = refl
 negotiation-by_tests true true e a phy none = absurd (true≢false none)
 negotiation-by_tests true false true true phy none = absurd (true≢false none)
@@ -61,7 +67,8 @@ negotiation-by_tests true false true false phy none = refl
 negotiation-by_tests true false false a phy none = refl
 
 -- and the latch
-pub latch-by_tests : (c r e a : Bool) (phy : PhyState) → (resets c r || restarts c r e a) ≡ false → (by_tests c r e a phy).latched_low ≡ phy.latched_low
+pub latch-by_tests : (c r e a : Bool) (phy : PhyState) → (resets c r || restarts c r e a) ≡ false
+    → (by_tests c r e a phy).latched_low ≡ phy.latched_low
 latch-by_tests false r e a phy none = refl
 latch-by_tests true true e a phy none = absurd (true≢false none)
 latch-by_tests true false true true phy none = absurd (true≢false none)
@@ -69,7 +76,8 @@ latch-by_tests true false true false phy none = refl
 latch-by_tests true false false a phy none = refl
 
 -- a write that does one of them latches the link low
-pub latched-by_tests : (c r e a : Bool) (phy : PhyState) → (resets c r || restarts c r e a) ≡ true → (by_tests c r e a phy).latched_low ≡ true
+pub latched-by_tests : (c r e a : Bool) (phy : PhyState) → (resets c r || restarts c r e a) ≡ true
+    → (by_tests c r e a phy).latched_low ≡ true
 latched-by_tests false r e a phy is = absurd (false≢true is)
 latched-by_tests true true e a phy is = refl
 latched-by_tests true false true true phy is = refl
@@ -85,7 +93,8 @@ still_latched-by_tests true false true false phy was = was
 still_latched-by_tests true false false a phy was = was
 
 -- a link that never comes up
-pub never-by_tests : (c r e a : Bool) (phy : PhyState) → phy.link ≡ Never → phy.negotiation ≡ NotStarted → (by_tests c r e a phy).negotiation ≡ NotStarted
+pub never-by_tests : (c r e a : Bool) (phy : PhyState) → phy.link ≡ Never → phy.negotiation ≡ NotStarted
+    → (by_tests c r e a phy).negotiation ≡ NotStarted
 never-by_tests false r e a phy never idle = idle
 never-by_tests true true e a phy never idle = refl
 never-by_tests true false true true phy never idle = ap negotiation_of never
@@ -99,6 +108,7 @@ enabled-by_tests false true true phy = refl
 enabled-by_tests false true false phy = refl
 enabled-by_tests false false a phy = refl
 
-pub enabled_stays-by_tests : (c r e a : Bool) (phy : PhyState) → c ≡ false → (by_tests c r e a phy).negotiation_enabled ≡ phy.negotiation_enabled
+pub enabled_stays-by_tests : (c r e a : Bool) (phy : PhyState) → c ≡ false
+    → (by_tests c r e a phy).negotiation_enabled ≡ phy.negotiation_enabled
 enabled_stays-by_tests false r e a phy none = refl
 enabled_stays-by_tests true r e a phy none = absurd (true≢false none)

@@ -55,13 +55,25 @@ impl Model for Phy {
 
     ghost Value = { PhyState };
 
-    ghost view = { λ phy. record { link = phy.link; negotiation_enabled = phy.negotiation_enabled; negotiation = phy.negotiation; latched_low = phy.latched_low } };
+    ghost view = { λ phy. record {
+      link = phy.link;
+      negotiation_enabled = phy.negotiation_enabled;
+      negotiation = phy.negotiation;
+      latched_low =
+          phy.latched_low;
+    } };
 
-    ghost inverse = { λ state. record { link = state.link; negotiation_enabled = state.negotiation_enabled; negotiation = state.negotiation; latched_low = state.latched_low } };
+    ghost inverse = { λ state. record {
+      link = state.link;
+      negotiation_enabled = state.negotiation_enabled;
+      negotiation = state.negotiation;
+      latched_low = state.latched_low;
+    } };
 }
 
 impl Phy {
-    ghost use Rattle.mdic_phy.specs.Phy.{new_phy, after_write, after_read, after_tick, read_value, link_is_up, comes_up, is_counting};
+    ghost use Rattle.mdic_phy.specs.Phy.{new_phy, after_write, after_read, after_tick, read_value, link_is_up};
+    ghost use Rattle.mdic_phy.specs.Phy.{comes_up, is_counting};
 
     /// A PHY without link, whose negotiation was not started. Its link comes up as `link` says.
     pub fn new(link: Link) -> Self

@@ -1,5 +1,6 @@
 -- The sets that the filter's registers stand for, once the options of a pass are written to a new adapter.
-use Rattle.std.proofs.Common.{◌≡◌, ◌<◌, ◌≤◌, ◌+◌, ◌/◌, ◌%◌, ◌^◌, ◌↔◌, ◌&&◌, inl, inr, ℕ, Bool, true, false, IsTrue, List, replicate, slice_index, Option, Some, None, refl, sym, ap, subst, ◌∙◌, arith}
+use Rattle.std.proofs.Common.{◌≡◌, ◌<◌, ◌≤◌, ◌+◌, ◌/◌, ◌%◌, ◌^◌, ◌↔◌, ◌&&◌, inl, inr, ℕ, Bool, true, false, IsTrue, List, replicate}
+use Rattle.std.proofs.Common.{slice_index, Option, Some, None, refl, sym, ap, subst, ◌∙◌, arith}
 use Rattle.std.specs.Prelude.{slice_set, IfSome, is_none, is_some}
 use Rattle.std.specs.Int.Bits.{or_zero_l}
 use Rattle.std.proofs.lemmas.List.{length-replicate, get_or-replicate}
@@ -10,7 +11,8 @@ use Rattle.rx_filter.specs.Addresses.{IsAddress, low_word, high_word, group_numb
 use Rattle.rx_filter.specs.Passing.{Passes}
 use Rattle.rx_filter.specs.Registers.{FilterRegisters, HasEntry, HasTableBit, filter_of}
 use Rattle.rx_filter.specs.Writing.{with_number}
-use Rattle.rx_filter.specs.Laws.{SameSets, SameSets-sym, Passes-same, HasEntry-zeros, HasEntry-added, HasTableBit-zeros, HasTableBit-with_number}
+use Rattle.rx_filter.specs.Laws.{SameSets, SameSets-sym, Passes-same, HasEntry-zeros, HasEntry-added, HasTableBit-zeros}
+use Rattle.rx_filter.specs.Laws.{HasTableBit-with_number}
 use Rattle.adapter.specs.Registers.{filter_at_reset}
 use Rattle.command_line.specs.declared.job.PassFilter.{PassFilter}
 use Rattle.pcap_bench.specs.Choosing.{mode_bits, mode_for, with_address, with_bit, with_group, with_tables, with_vlan}
@@ -28,7 +30,8 @@ pub high_words : Option (List ℕ) → List ℕ
 high_words None = replicate 16 0
 high_words (Some address) = slice_set (replicate 16 0) 0 (high_word address + 2 ^ 31)
 
-addresses_of : (o : Option (List ℕ)) (address : List ℕ) → IfSome o IsAddress → HasEntry (low_words o) (high_words o) address ↔ (o ≡ Some address)
+addresses_of : (o : Option (List ℕ)) (address : List ℕ) → IfSome o IsAddress → HasEntry (low_words o) (high_words o) address
+    ↔ (o ≡ Some address)
 unfolding low_words high_words
 addresses_of None address is = ((λ has. absurd (HasEntry-zeros 16 address has)), (λ e. absurd (none-some address e)))
 addresses_of (Some own) address is =
@@ -92,12 +95,58 @@ pub record Modes (a g : Option (List ℕ)) (v : Option ℕ) (mode : ℕ) : Type 
   pub broadcasts : HasBit mode 15 ↔ Unit {0}
 
 modes : (a g : Option (List ℕ)) (v : Option ℕ) → Modes a g v (mode_bits (is_none a && is_none g) (is_some v))
-modes None None None = record { shift = refl; every_vlan = ((λ h. refl), (λ h. refl)); individuals = ((λ h. (refl, refl)), (λ h. refl)); groups = ((λ h. (refl, refl)), (λ h. refl)); broadcasts = ((λ h. tt), (λ h. refl)) }
-modes None None (Some n) = record { shift = refl; every_vlan = ((λ h. absurd (omega arith)), (λ h. absurd cc)); individuals = ((λ h. (refl, refl)), (λ h. refl)); groups = ((λ h. (refl, refl)), (λ h. refl)); broadcasts = ((λ h. tt), (λ h. refl)) }
-modes None (Some y) None = record { shift = refl; every_vlan = ((λ h. refl), (λ h. refl)); individuals = ((λ h. absurd (omega arith)), (λ h. absurd (none-some y (sym h.1)))); groups = ((λ h. absurd (omega arith)), (λ h. absurd (none-some y (sym h.1)))); broadcasts = ((λ h. tt), (λ h. refl)) }
-modes None (Some y) (Some n) = record { shift = refl; every_vlan = ((λ h. absurd (omega arith)), (λ h. absurd cc)); individuals = ((λ h. absurd (omega arith)), (λ h. absurd (none-some y (sym h.1)))); groups = ((λ h. absurd (omega arith)), (λ h. absurd (none-some y (sym h.1)))); broadcasts = ((λ h. tt), (λ h. refl)) }
-modes (Some x) g None = record { shift = refl; every_vlan = ((λ h. refl), (λ h. refl)); individuals = ((λ h. absurd (omega arith)), (λ h. absurd (none-some x (sym h.0)))); groups = ((λ h. absurd (omega arith)), (λ h. absurd (none-some x (sym h.0)))); broadcasts = ((λ h. tt), (λ h. refl)) }
-modes (Some x) g (Some n) = record { shift = refl; every_vlan = ((λ h. absurd (omega arith)), (λ h. absurd cc)); individuals = ((λ h. absurd (omega arith)), (λ h. absurd (none-some x (sym h.0)))); groups = ((λ h. absurd (omega arith)), (λ h. absurd (none-some x (sym h.0)))); broadcasts = ((λ h. tt), (λ h. refl)) }
+modes None None None = record {
+  shift = refl;
+  every_vlan = ((λ h. refl), (λ h. refl));
+  individuals = ((λ h. (refl, refl)), (λ h. refl));
+  groups =
+      ((λ h. (refl, refl)), (λ h. refl));
+  broadcasts = ((λ h. tt), (λ h. refl));
+}
+modes None None (Some n) = record {
+  shift = refl;
+  every_vlan = ((λ h. absurd (omega arith)), (λ h. absurd cc));
+  individuals = ((λ h. (refl, refl)), (λ h. refl));
+  groups =
+      ((λ h. (refl, refl)), (λ h. refl));
+  broadcasts = ((λ h. tt), (λ h. refl));
+}
+modes None (Some y) None = record {
+  shift = refl;
+  every_vlan = ((λ h. refl), (λ h. refl));
+  individuals =
+      ((λ h. absurd (omega arith)), (λ h. absurd (none-some y (sym h.1))));
+  groups =
+      ((λ h. absurd (omega arith)), (λ h. absurd (none-some y (sym h.1))));
+  broadcasts = ((λ h. tt), (λ h. refl));
+}
+modes None (Some y) (Some n) = record {
+  shift = refl;
+  every_vlan = ((λ h. absurd (omega arith)), (λ h. absurd cc));
+  individuals =
+      ((λ h. absurd (omega arith)), (λ h. absurd (none-some y (sym h.1))));
+  groups =
+      ((λ h. absurd (omega arith)), (λ h. absurd (none-some y (sym h.1))));
+  broadcasts = ((λ h. tt), (λ h. refl));
+}
+modes (Some x) g None = record {
+  shift = refl;
+  every_vlan = ((λ h. refl), (λ h. refl));
+  individuals =
+      ((λ h. absurd (omega arith)), (λ h. absurd (none-some x (sym h.0))));
+  groups =
+      ((λ h. absurd (omega arith)), (λ h. absurd (none-some x (sym h.0))));
+  broadcasts = ((λ h. tt), (λ h. refl));
+}
+modes (Some x) g (Some n) = record {
+  shift = refl;
+  every_vlan = ((λ h. absurd (omega arith)), (λ h. absurd cc));
+  individuals =
+      ((λ h. absurd (omega arith)), (λ h. absurd (none-some x (sym h.0))));
+  groups =
+      ((λ h. absurd (omega arith)), (λ h. absurd (none-some x (sym h.0))));
+  broadcasts = ((λ h. tt), (λ h. refl));
+}
 
 -- The mode receives, into buffers of 2,048 bytes.
 receiving : (every tagged : Bool) → IsReceiving (mode_bits every tagged)
@@ -167,7 +216,8 @@ vfta_is (Some x) None (Some n) words = refl
 vfta_is (Some x) (Some y) None words = refl
 vfta_is (Some x) (Some y) (Some n) words = refl
 
-pub are_chosen : (options : PassFilter) (words : List ℕ) → AreChosen options (record (with_tables options (filter_at_reset words)) { rctl = mode_for options })
+pub are_chosen : (options : PassFilter) (words : List ℕ)
+    → AreChosen options (record (with_tables options (filter_at_reset words)) { rctl = mode_for options })
 are_chosen options words = record {
   ral = ral_is options.address options.group options.vlan words;
   rah = rah_is options.address options.group options.vlan words;
@@ -177,7 +227,8 @@ are_chosen options words = record {
   vet = refl;
 }
 
-pub same_sets : (options : PassFilter) (regs : FilterRegisters) → IfSome options.address IsAddress → HasVlanNumber options → AreChosen options regs → SameSets (filter_of regs) (filter_for options)
+pub same_sets : (options : PassFilter) (regs : FilterRegisters) → IfSome options.address IsAddress → HasVlanNumber options
+    → AreChosen options regs → SameSets (filter_of regs) (filter_for options)
 unfolding filter_of
 same_sets options regs is fits chosen =
     let a = options.address in
@@ -185,7 +236,9 @@ same_sets options regs is fits chosen =
     let v = options.vlan in
     let m = modes a g v in
     record {
-      addresses = λ address. subst (λ (low : List ℕ). HasEntry low regs.rah address ↔ (a ≡ Some address)) (sym chosen.ral) (subst (λ (high : List ℕ). HasEntry (low_words a) high address ↔ (a ≡ Some address)) (sym chosen.rah) (addresses_of a address is));
+      addresses = λ address. subst (λ (low : List ℕ). HasEntry low regs.rah address
+          ↔ (a ≡ Some address)) (sym chosen.ral) (subst (λ (high : List ℕ). HasEntry (low_words a) high address
+          ↔ (a ≡ Some address)) (sym chosen.rah) (addresses_of a address is));
       groups = λ number below. subst (λ (t : List ℕ). HasTableBit t number ↔ IsGroupNumber g number) (sym chosen.mta) (groups_of g number);
       shift = ap (λ (r : ℕ). shift_of (group_offset_of (field r 12 2))) chosen.rctl ∙ m.shift;
       every_vlan = subst (λ (r : ℕ). (field r 18 1 ≡ 0) ↔ (v ≡ None)) (sym chosen.rctl) m.every_vlan;
@@ -198,10 +251,13 @@ same_sets options regs is fits chosen =
 
 -- ---- the code's answer
 
-pub kept : (options : PassFilter) (regs : FilterRegisters) (frame : List ℕ) (b : Bool) → SameSets (filter_of regs) (filter_for options) → IsTrue b ↔ Passes (filter_of regs) frame → b ≡ true → KeptBy options frame
+pub kept : (options : PassFilter) (regs : FilterRegisters) (frame : List ℕ) (b : Bool) → SameSets (filter_of regs) (filter_for options)
+    → IsTrue b ↔ Passes (filter_of regs) frame → b ≡ true → KeptBy options frame
 kept options regs frame b same asked is = Passes-same (filter_of regs) (filter_for options) frame same (asked.0 is)
 
-pub turned_away : (options : PassFilter) (regs : FilterRegisters) (frame : List ℕ) (b : Bool) → SameSets (filter_of regs) (filter_for options) → IsTrue b ↔ Passes (filter_of regs) frame → b ≡ false → KeptBy options frame → ⊥
+pub turned_away : (options : PassFilter) (regs : FilterRegisters) (frame : List ℕ) (b : Bool)
+    → SameSets (filter_of regs) (filter_for options) → IsTrue b ↔ Passes (filter_of regs) frame → b ≡ false → KeptBy options frame → ⊥
 turned_away options regs frame b same asked is keep =
-    let yes = asked.1 (Passes-same (filter_for options) (filter_of regs) frame (SameSets-sym (filter_of regs) (filter_for options) same) keep) in
+    let yes = asked.1 (Passes-same (filter_for options) (filter_of regs) frame
+    (SameSets-sym (filter_of regs) (filter_for options) same) keep) in
     cc

@@ -16,7 +16,8 @@ use Rattle.pcap_bench.specs.Lane.{slots, buffer_at, offered, NameBuffers}
 -- ---- where things lie
 
 -- a buffer of a slot
-pub buffer_lies : (memory frame : List ℕ) (slot : ℕ) → slot < slots → length memory ≡ 34816 → IsLegal frame → LiesIn memory (buffer_at slot) (length frame)
+pub buffer_lies : (memory frame : List ℕ) (slot : ℕ) → slot < slots → length memory ≡ 34816 → IsLegal frame
+    → LiesIn memory (buffer_at slot) (length frame)
 buffer_lies memory frame slot below size legal = let most = legal.most in omega arith
 
 desc_lies : (memory : List ℕ) (slot : ℕ) → slot < slots → length memory ≡ 34816 → LiesIn memory (16 * slot) 16
@@ -41,9 +42,11 @@ pub record HasRoom (memory : List ℕ) (slot : ℕ) (frame : List ℕ) : Type 0 
   pub behind : 128 ≤ named_address memory (16 * slot)
   pub size : length (with_frame memory slot frame) ≡ 34816
 
-pub has_room : (memory frame : List ℕ) (slot : ℕ) → slot < slots → length memory ≡ 34816 → NameBuffers memory → IsLegal frame → HasRoom memory slot frame
+pub has_room : (memory frame : List ℕ) (slot : ℕ) → slot < slots → length memory ≡ 34816 → NameBuffers memory → IsLegal frame
+    → HasRoom memory slot frame
 has_room memory frame slot below size named legal =
-    let lies : LiesIn memory (named_address memory (16 * slot)) (length frame) = subst (λ (at : ℕ). LiesIn memory at (length frame)) (sym (named slot below)) (buffer_lies memory frame slot below size legal) in
+    let lies : LiesIn memory (named_address memory (16 * slot)) (length frame) = subst (λ (at : ℕ). LiesIn memory at (length frame))
+    (sym (named slot below)) (buffer_lies memory frame slot below size legal) in
     record {
       lies = lies;
       behind = subst (λ (at : ℕ). 128 ≤ at) (sym (named slot below)) (omega arith);
@@ -51,43 +54,52 @@ has_room memory frame slot below size named legal =
     }
 
 -- No descriptor changes while the frame is written.
-kept_by_frame : (memory frame : List ℕ) (slot other : ℕ) → other < slots → HasRoom memory slot frame → descriptor_at (with_frame memory slot frame) (16 * other) ≡ descriptor_at memory (16 * other)
+kept_by_frame : (memory frame : List ℕ) (slot other : ℕ) → other < slots → HasRoom memory slot frame
+    → descriptor_at (with_frame memory slot frame) (16 * other) ≡ descriptor_at memory (16 * other)
 kept_by_frame memory frame slot other below room =
     let behind = room.behind in
     descriptor_at-apart memory frame (16 * other) (named_address memory (16 * slot)) room.lies (inr (omega arith))
 
 -- None but its own changes while it is written back.
-kept_by_finish : (memory : List ℕ) (slot other n : ℕ) → slot < slots → other < slots → length memory ≡ 34816 → IsOther other slot → descriptor_at (with_bytes memory (16 * slot + 8) (finished_bytes n)) (16 * other) ≡ descriptor_at memory (16 * other)
+kept_by_finish : (memory : List ℕ) (slot other n : ℕ) → slot < slots → other < slots → length memory ≡ 34816 → IsOther other slot
+    → descriptor_at (with_bytes memory (16 * slot + 8) (finished_bytes n)) (16 * other) ≡ descriptor_at memory (16 * other)
 kept_by_finish memory slot other n below other_below size apart =
     descriptor_at-apart memory (finished_bytes n) (16 * other) (16 * slot + 8) (omega arith) (elim apart [
       | inl before ↦ inr (omega arith)
       | inr after ↦ inl (omega arith)
     ])
 
-pub NameBuffers-finished : (memory frame : List ℕ) (slot : ℕ) → slot < slots → NameBuffers memory → IsLegal frame → HasRoom memory slot frame → NameBuffers (with_finished memory slot frame)
+pub NameBuffers-finished : (memory frame : List ℕ) (slot : ℕ) → slot < slots → NameBuffers memory → IsLegal frame
+    → HasRoom memory slot frame → NameBuffers (with_finished memory slot frame)
 NameBuffers-finished memory frame slot below named legal room =
     λ k k_below.
-    let middle : named_address (with_frame memory slot frame) (16 * k) ≡ buffer_at k = ap (λ (d : RxDesc). d.address) (kept_by_frame memory frame slot k k_below room) ∙ named k k_below in
+    let middle : named_address (with_frame memory slot frame) (16 * k)
+    ≡ buffer_at k = ap (λ (d : RxDesc). d.address) (kept_by_frame memory frame slot k k_below room) ∙ named k k_below in
     elim (cases_lt k slot) [
-      | inl before ↦ ap (λ (d : RxDesc). d.address) (kept_by_finish (with_frame memory slot frame) slot k (length frame) below k_below room.size (inl before)) ∙ middle
+      | inl before ↦ ap (λ (d : RxDesc). d.address)
+          (kept_by_finish (with_frame memory slot frame) slot k (length frame) below k_below room.size (inl before)) ∙ middle
       | inr not_before ↦ elim (cases_lt slot k) [
-        | inl after ↦ ap (λ (d : RxDesc). d.address) (kept_by_finish (with_frame memory slot frame) slot k (length frame) below k_below room.size (inr after)) ∙ middle
+        | inl after ↦ ap (λ (d : RxDesc). d.address)
+            (kept_by_finish (with_frame memory slot frame) slot k (length frame) below k_below room.size (inr after)) ∙ middle
         | inr not_after ↦
             let same : slot ≡ k = omega arith in
             let most = legal.most in
             let size = room.size in
             let whole = descriptor_at-finished (with_frame memory slot frame) (16 * slot) (length frame) (omega arith) (omega arith) in
-            subst (λ (i : ℕ). named_address (with_finished memory slot frame) (16 * i) ≡ named_address (with_frame memory slot frame) (16 * i)) same (ap (λ (d : RxDesc). d.address) whole) ∙ middle
+            subst (λ (i : ℕ). named_address (with_finished memory slot frame) (16 * i)
+            ≡ named_address (with_frame memory slot frame) (16 * i)) same (ap (λ (d : RxDesc). d.address) whole) ∙ middle
       ]
     ]
 
-pub length-finished : (memory frame : List ℕ) (slot : ℕ) → slot < slots → HasRoom memory slot frame → length (with_finished memory slot frame) ≡ 34816
+pub length-finished : (memory frame : List ℕ) (slot : ℕ) → slot < slots → HasRoom memory slot frame
+    → length (with_finished memory slot frame) ≡ 34816
 length-finished memory frame slot below room =
     let size = room.size in
     length-with_bytes (with_frame memory slot frame) (finished_bytes (length frame)) (16 * slot + 8) (omega arith) ∙ size
 
 -- The descriptor is finished with the frame.
-pub frame_finished : (memory frame : List ℕ) (slot : ℕ) → slot < slots → length memory ≡ 34816 → NameBuffers memory → IsLegal frame → HasRoom memory slot frame → IsFinished (with_finished memory slot frame) (16 * slot) frame
+pub frame_finished : (memory frame : List ℕ) (slot : ℕ) → slot < slots → length memory ≡ 34816 → NameBuffers memory → IsLegal frame
+    → HasRoom memory slot frame → IsFinished (with_finished memory slot frame) (16 * slot) frame
 frame_finished memory frame slot below size named legal room =
     let middle = with_frame memory slot frame in
     let middle_size = room.size in
@@ -95,14 +107,17 @@ frame_finished memory frame slot below size named legal room =
     let most = legal.most in
     let at = 16 * slot in
     let apart : AreApart (area_at (named_address memory at) (length frame)) (descriptor_area at) = inr (omega arith) in
-    let same : named_address middle at ≡ named_address memory at = ap (λ (d : RxDesc). d.address) (kept_by_frame memory frame slot slot below room) in
+    let same : named_address middle at
+    ≡ named_address memory at = ap (λ (d : RxDesc). d.address) (kept_by_frame memory frame slot slot below room) in
     let moved : bytes_at middle (named_address middle at) (length frame) ≡ frame = frame_of_work-moved memory frame at room.lies apart in
     let place : LiesIn middle (named_address middle at) (length frame) =
     let lies = room.lies in
     subst (λ (i : ℕ). LiesIn middle i (length frame)) (sym same) (omega arith) in
-    let stays : AreApart (area_at (named_address middle at) (length frame)) (descriptor_area at) = subst (λ (i : ℕ). AreApart (area_at i (length frame)) (descriptor_area at)) (sym same) apart in
+    let stays : AreApart (area_at (named_address middle at) (length frame)) (descriptor_area at) = subst
+    (λ (i : ℕ). AreApart (area_at i (length frame)) (descriptor_area at)) (sym same) apart in
     subst (IsFinished (with_finished memory slot frame) at) moved
-    (written_back-finished middle at (length frame) (omega arith) (desc_lies middle slot below middle_size) (record { place = place; apart = stays }))
+    (written_back-finished middle at (length frame) (omega arith) (desc_lies middle slot below middle_size)
+    (record { place = place; apart = stays }))
 
 -- ---- a buffer is offered
 
@@ -110,21 +125,28 @@ frame_finished memory frame slot below size named legal room =
 abbrev pub with_offer : List ℕ → ℕ → ℕ → List ℕ
 with_offer memory slot buffer = with_bytes memory (16 * slot) (rx_desc_bytes (offered buffer))
 
-offer_lies : (memory : List ℕ) (slot buffer : ℕ) → slot < slots → length memory ≡ 34816 → LiesIn memory (16 * slot) (length (rx_desc_bytes (offered buffer)))
+offer_lies : (memory : List ℕ) (slot buffer : ℕ) → slot < slots → length memory ≡ 34816
+    → LiesIn memory (16 * slot) (length (rx_desc_bytes (offered buffer)))
 offer_lies memory slot buffer below size = omega (arith, length-rx_desc_bytes (offered buffer))
 
-pub length-offer : (memory : List ℕ) (slot buffer : ℕ) → slot < slots → length memory ≡ 34816 → length (with_offer memory slot buffer) ≡ 34816
-length-offer memory slot buffer below size = length-with_bytes memory (rx_desc_bytes (offered buffer)) (16 * slot) (offer_lies memory slot buffer below size) ∙ size
+pub length-offer : (memory : List ℕ) (slot buffer : ℕ) → slot < slots → length memory ≡ 34816
+    → length (with_offer memory slot buffer) ≡ 34816
+length-offer memory slot buffer below size = length-with_bytes memory (rx_desc_bytes (offered buffer)) (16 * slot)
+    (offer_lies memory slot buffer below size) ∙ size
 
-pub descriptor_at-offered : (memory : List ℕ) (slot buffer : ℕ) → slot < slots → length memory ≡ 34816 → buffer < 2 ^ 64 → descriptor_at (with_offer memory slot buffer) (16 * slot) ≡ offered buffer
+pub descriptor_at-offered : (memory : List ℕ) (slot buffer : ℕ) → slot < slots → length memory ≡ 34816 → buffer < 2 ^ 64
+    → descriptor_at (with_offer memory slot buffer) (16 * slot) ≡ offered buffer
 descriptor_at-offered memory slot buffer below size small =
     let desc = offered buffer in
-    let fits : Fits desc = record { address = small; length = omega arith; checksum = omega arith; status = omega arith; errors = omega arith; special = omega arith } in
+    let fits : Fits desc = record
+    { address = small; length = omega arith; checksum = omega arith; status = omega arith; errors = omega arith; special = omega arith }
+    in
     ap (λ (n : ℕ). rx_desc_of (bytes_at (with_offer memory slot buffer) (16 * slot) n)) (sym (length-rx_desc_bytes desc))
     ∙ ap rx_desc_of (bytes_at-stored memory (rx_desc_bytes desc) (16 * slot) (offer_lies memory slot buffer below size))
     ∙ rx_desc_of-rx_desc_bytes desc fits
 
-kept_by_offer : (memory : List ℕ) (slot other buffer : ℕ) → slot < slots → length memory ≡ 34816 → IsOther other slot → descriptor_at (with_offer memory slot buffer) (16 * other) ≡ descriptor_at memory (16 * other)
+kept_by_offer : (memory : List ℕ) (slot other buffer : ℕ) → slot < slots → length memory ≡ 34816 → IsOther other slot
+    → descriptor_at (with_offer memory slot buffer) (16 * other) ≡ descriptor_at memory (16 * other)
 kept_by_offer memory slot other buffer below size apart =
     let bytes = rx_desc_bytes (offered buffer) in
     let count : length bytes ≡ 16 = length-rx_desc_bytes (offered buffer) in
@@ -138,15 +160,19 @@ abbrev pub NameBelow : List ℕ → ℕ → Type 0
 NameBelow memory bound = (k : ℕ) → k < bound → named_address memory (16 * k) ≡ buffer_at k
 
 -- Once the buffer of its slot is offered, a descriptor names it, and the others name theirs still.
-pub NameBelow-offered : (memory : List ℕ) (slot bound buffer : ℕ) → slot < slots → length memory ≡ 34816 → buffer ≡ buffer_at slot → ((k : ℕ) → k < bound → IsOther k slot → named_address memory (16 * k) ≡ buffer_at k)
+pub NameBelow-offered : (memory : List ℕ) (slot bound buffer : ℕ) → slot < slots → length memory ≡ 34816 → buffer ≡ buffer_at slot
+    → ((k : ℕ) → k < bound → IsOther k slot → named_address memory (16 * k) ≡ buffer_at k)
     → NameBelow (with_offer memory slot buffer) bound
 NameBelow-offered memory slot bound buffer below size is named =
     λ k k_below. elim (cases_lt k slot) [
-      | inl before ↦ ap (λ (d : RxDesc). d.address) (kept_by_offer memory slot k buffer below size (inl before)) ∙ named k k_below (inl before)
+      | inl before ↦ ap (λ (d : RxDesc). d.address) (kept_by_offer memory slot k buffer below size (inl before))
+          ∙ named k k_below (inl before)
       | inr not_before ↦ elim (cases_lt slot k) [
-        | inl after ↦ ap (λ (d : RxDesc). d.address) (kept_by_offer memory slot k buffer below size (inr after)) ∙ named k k_below (inr after)
+        | inl after ↦ ap (λ (d : RxDesc). d.address) (kept_by_offer memory slot k buffer below size (inr after))
+            ∙ named k k_below (inr after)
         | inr not_after ↦
             let same : slot ≡ k = omega arith in
-            subst (λ (i : ℕ). named_address (with_offer memory slot buffer) (16 * i) ≡ buffer_at i) same (ap (λ (d : RxDesc). d.address) (descriptor_at-offered memory slot buffer below size (omega arith)) ∙ is)
+            subst (λ (i : ℕ). named_address (with_offer memory slot buffer) (16 * i) ≡ buffer_at i) same
+            (ap (λ (d : RxDesc). d.address) (descriptor_at-offered memory slot buffer below size (omega arith)) ∙ is)
       ]
     ]

@@ -1,5 +1,6 @@
 -- Frames that pass, one after the other.
-use Rattle.std.proofs.Common.{◌≡◌, ◌≤◌, ◌+◌, ◌-◌, ℕ, List, [], ◌∷◌, ◌++◌, true, false, cond, length, take, drop, Bool, Option, Some, None, refl, sym, ap, subst, ◌∙◌, append_assoc, append-nil, take-append-drop, arith}
+use Rattle.std.proofs.Common.{◌≡◌, ◌≤◌, ◌+◌, ◌-◌, ℕ, List, [], ◌∷◌, ◌++◌, true, false, cond, length, take, drop, Bool, Option, Some, None}
+use Rattle.std.proofs.Common.{refl, sym, ap, subst, ◌∙◌, append_assoc, append-nil, take-append-drop, arith}
 use Rattle.std.specs.Prelude.{count_by}
 use Rattle.std.specs.Io.KnownBytes.{Appends, append_known}
 use Rattle.std.proofs.KnownBytes.{Appends-nil, Appends-trans}
@@ -10,11 +11,13 @@ use Rattle.pcap_trace.specs.Devices.{AppendsFront, Grows}
 use Rattle.pcap_trace.specs.Format.{Timed, packet_of, written, file_header}
 use Rattle.pcap_trace.proofs.Sent.{take-past}
 use Rattle.pcap_trace.proofs.Packets.{written-push}
-use Rattle.pcap_bench.specs.Passing.{Filter, Fate, illegal, filtered, kept, IsFate, HaveFates, is_illegal, is_filtered, is_kept, kept_from, StopsAmong}
+use Rattle.pcap_bench.specs.Passing.{Filter, Fate, illegal, filtered, kept, IsFate, HaveFates, is_illegal, is_filtered, is_kept, kept_from}
+use Rattle.pcap_bench.specs.Passing.{StopsAmong}
 
 -- ---- one more frame
 
-HaveFates-push : (keeps : Filter) (fs : List (List ℕ)) (ts : List Fate) (f : List ℕ) (t : Fate) → HaveFates keeps fs ts → IsFate keeps f t → HaveFates keeps (fs ++ f ∷ []) (ts ++ t ∷ [])
+HaveFates-push : (keeps : Filter) (fs : List (List ℕ)) (ts : List Fate) (f : List ℕ) (t : Fate) → HaveFates keeps fs ts → IsFate keeps f t
+    → HaveFates keeps (fs ++ f ∷ []) (ts ++ t ∷ [])
 HaveFates-push keeps [] [] f t right is = (is, tt)
 HaveFates-push keeps [] (u ∷ us) f t right is = absurd right
 HaveFates-push keeps (g ∷ gs) [] f t right is = absurd right
@@ -24,7 +27,8 @@ HaveFates-push keeps (g ∷ gs) (u ∷ us) f t right is = (right.0, HaveFates-pu
 abbrev kept_of : ℕ → List ℕ → Fate → List Timed
 kept_of n f t = kept_from n (f ∷ []) (t ∷ [])
 
-kept_from-push : (keeps : Filter) (n : ℕ) (fs : List (List ℕ)) (ts : List Fate) (f : List ℕ) (t : Fate) → HaveFates keeps fs ts → kept_from n (fs ++ f ∷ []) (ts ++ t ∷ []) ≡ kept_from n fs ts ++ kept_of (n + length fs) f t
+kept_from-push : (keeps : Filter) (n : ℕ) (fs : List (List ℕ)) (ts : List Fate) (f : List ℕ) (t : Fate) → HaveFates keeps fs ts
+    → kept_from n (fs ++ f ∷ []) (ts ++ t ∷ []) ≡ kept_from n fs ts ++ kept_of (n + length fs) f t
 kept_from-push keeps n [] [] f t right = ap (λ (k : ℕ). kept_of k f t) (omega arith)
 kept_from-push keeps n [] (u ∷ us) f t right = absurd right
 kept_from-push keeps n (g ∷ gs) [] f t right = absurd right
@@ -33,32 +37,38 @@ kept_from-push keeps n (g ∷ gs) (illegal ∷ us) f t right =
 kept_from-push keeps n (g ∷ gs) (filtered ∷ us) f t right =
     kept_from-push keeps (n + 1) gs us f t right.1 ∙ ap (λ (k : ℕ). kept_from (n + 1) gs us ++ kept_of k f t) (omega arith)
 kept_from-push keeps n (g ∷ gs) (kept ∷ us) f t right =
-    ap (λ (x : List Timed). record { time = n; frame = padded g } ∷ x) (kept_from-push keeps (n + 1) gs us f t right.1 ∙ ap (λ (k : ℕ). kept_from (n + 1) gs us ++ kept_of k f t) (omega arith))
+    ap (λ (x : List Timed). record { time = n; frame = padded g } ∷ x) (kept_from-push keeps (n + 1) gs us f t right.1
+    ∙ ap (λ (k : ℕ). kept_from (n + 1) gs us ++ kept_of k f t) (omega arith))
 
 count_by-push : (p : Fate → Bool) (ts : List Fate) (t : Fate) → count_by p (ts ++ t ∷ []) ≡ count_by p ts + cond (p t) 1 0
 count_by-push p ts t = sum_by_push (λ x. cond (p x) 1 0) ts t
 
 -- ---- what waits goes out
 
-flushed : (before mid after : Option (List ℕ)) (waiting all : List ℕ) → Appends before (append_known mid waiting) all → Appends mid after waiting → Appends before after all
+flushed : (before mid after : Option (List ℕ)) (waiting all : List ℕ) → Appends before (append_known mid waiting) all
+    → Appends mid after waiting → Appends before after all
 flushed None mid after waiting all h k = tt
 flushed (Some xs) None after waiting all h k = absurd h
 flushed (Some xs) (Some ys) None waiting all h k = absurd k
 flushed (Some xs) (Some ys) (Some zs) waiting all h k = k ∙ h
 
 -- a front of what waits, behind what went before it, is a front of all
-front_of : (n : ℕ) (xs ys waiting all : List ℕ) → ys ++ waiting ≡ xs ++ all → length xs ≤ length ys → (m : ℕ) × (ys ++ take n waiting ≡ xs ++ take m all)
+front_of : (n : ℕ) (xs ys waiting all : List ℕ) → ys ++ waiting ≡ xs ++ all → length xs ≤ length ys → (m : ℕ)
+    × (ys ++ take n waiting ≡ xs ++ take m all)
 front_of n xs ys waiting all is longer =
     let w = take n waiting in
     let m = length (ys ++ w) - length xs in
     let split : waiting ≡ w ++ drop n waiting = sym (take-append-drop n waiting) in
-    let whole : xs ++ all ≡ (ys ++ w) ++ drop n waiting = sym is ∙ ap (λ (t : List ℕ). ys ++ t) split ∙ sym (append_assoc ys w (drop n waiting)) in
+    let whole : xs ++ all ≡ (ys ++ w) ++ drop n waiting = sym is ∙ ap (λ (t : List ℕ). ys ++ t) split
+    ∙ sym (append_assoc ys w (drop n waiting)) in
     let len : length (ys ++ w) ≡ length xs + m = omega (arith, length-append ys w) in
-    let left : take (length (ys ++ w)) (xs ++ all) ≡ ys ++ w = ap (take (length (ys ++ w))) whole ∙ take_at (ys ++ w) (drop n waiting) (length (ys ++ w)) refl in
+    let left : take (length (ys ++ w)) (xs ++ all) ≡ ys ++ w = ap (take (length (ys ++ w))) whole
+    ∙ take_at (ys ++ w) (drop n waiting) (length (ys ++ w)) refl in
     let right : take (length xs + m) (xs ++ all) ≡ xs ++ take m all = take-past m xs all in
     (m, sym left ∙ ap (λ (k : ℕ). take k (xs ++ all)) len ∙ right)
 
-flushed_front : (before mid after : Option (List ℕ)) (waiting all : List ℕ) → Grows before mid → Appends before (append_known mid waiting) all → AppendsFront mid after waiting → AppendsFront before after all
+flushed_front : (before mid after : Option (List ℕ)) (waiting all : List ℕ) → Grows before mid
+    → Appends before (append_known mid waiting) all → AppendsFront mid after waiting → AppendsFront before after all
 flushed_front None mid after waiting all grown h k = (0, tt)
 flushed_front (Some xs) None after waiting all grown h k = absurd h
 flushed_front (Some xs) (Some ys) None waiting all grown h k = absurd k.1
@@ -74,7 +84,8 @@ waits (Some xs) more = ap (λ (t : List ℕ). xs ++ t) (sym (append-nil more))
 -- ---- the loop of a call
 
 -- These frames are done, and the others are left; what was written, and what waits, is what is kept of the first.
-pub record SoFar (keeps : Filter) (frames rest : List (List ℕ)) (next dropped turned_away out : ℕ) (before after : Option (List ℕ)) : Type 0 where
+pub record SoFar (keeps : Filter) (frames rest : List (List ℕ)) (next dropped turned_away out : ℕ)
+    (before after : Option (List ℕ)) : Type 0 where
   pub done : List (List ℕ)
   pub parts : frames ≡ done ++ rest
   pub fates : List Fate
@@ -86,7 +97,8 @@ pub record SoFar (keeps : Filter) (frames rest : List (List ℕ)) (next dropped 
   pub written_is : out ≡ count_by is_kept fates
   pub sum : dropped + turned_away + out ≡ next
 
-pub SoFar-start : (keeps : Filter) (frames rest : List (List ℕ)) (dropped turned_away out : ℕ) (before after : Option (List ℕ)) → rest ≡ frames → dropped ≡ 0 → turned_away ≡ 0 → out ≡ 0 → Appends before after (written [])
+pub SoFar-start : (keeps : Filter) (frames rest : List (List ℕ)) (dropped turned_away out : ℕ) (before after : Option (List ℕ))
+    → rest ≡ frames → dropped ≡ 0 → turned_away ≡ 0 → out ≡ 0 → Appends before after (written [])
     → SoFar keeps frames rest 0 dropped turned_away out before after
 SoFar-start keeps frames rest dropped turned_away out before after all d t o went = record {
   done = [];
@@ -105,14 +117,17 @@ SoFar-start keeps frames rest dropped turned_away out before after all d t o wen
 more_parts : (frames done rest : List (List ℕ)) (f : List ℕ) → frames ≡ done ++ f ∷ rest → frames ≡ (done ++ f ∷ []) ++ rest
 more_parts frames done rest f parts = parts ∙ sym (append_assoc done (f ∷ []) rest)
 
-pub SoFar-illegal : (keeps : Filter) (frames rest : List (List ℕ)) (f : List ℕ) (next dropped turned_away out : ℕ) (before after : Option (List ℕ)) → is_sendable f ≡ false
-    → SoFar keeps frames (f ∷ rest) next dropped turned_away out before after → SoFar keeps frames rest (next + 1) (dropped + 1) turned_away out before after
+pub SoFar-illegal : (keeps : Filter) (frames rest : List (List ℕ)) (f : List ℕ) (next dropped turned_away out : ℕ)
+    (before after : Option (List ℕ)) → is_sendable f ≡ false
+    → SoFar keeps frames (f ∷ rest) next dropped turned_away out before after
+    → SoFar keeps frames rest (next + 1) (dropped + 1) turned_away out before after
 SoFar-illegal keeps frames rest f next dropped turned_away out before after bad s = record {
   done = s.done ++ f ∷ [];
   parts = more_parts frames s.done rest f s.parts;
   fates = s.fates ++ illegal ∷ [];
   right = HaveFates-push keeps s.done s.fates f illegal s.right bad;
-  went = subst (λ (x : List Timed). Appends before after (written x)) (sym (kept_from-push keeps 0 s.done s.fates f illegal s.right ∙ append-nil (kept_from 0 s.done s.fates))) s.went;
+  went = subst (λ (x : List Timed). Appends before after (written x))
+      (sym (kept_from-push keeps 0 s.done s.fates f illegal s.right ∙ append-nil (kept_from 0 s.done s.fates))) s.went;
   next_is = omega (arith, s.next_is, length-append s.done (f ∷ []));
   illegal_is = omega (arith, s.illegal_is, count_by-push is_illegal s.fates illegal);
   filtered_is = omega (arith, s.filtered_is, count_by-push is_filtered s.fates illegal);
@@ -120,14 +135,17 @@ SoFar-illegal keeps frames rest f next dropped turned_away out before after bad 
   sum = omega (arith, s.sum);
 }
 
-pub SoFar-filtered : (keeps : Filter) (frames rest : List (List ℕ)) (f : List ℕ) (next dropped turned_away out : ℕ) (before after : Option (List ℕ)) → is_sendable f ≡ true → (keeps (padded f) → ⊥)
-    → SoFar keeps frames (f ∷ rest) next dropped turned_away out before after → SoFar keeps frames rest (next + 1) dropped (turned_away + 1) out before after
+pub SoFar-filtered : (keeps : Filter) (frames rest : List (List ℕ)) (f : List ℕ) (next dropped turned_away out : ℕ)
+    (before after : Option (List ℕ)) → is_sendable f ≡ true → (keeps (padded f) → ⊥)
+    → SoFar keeps frames (f ∷ rest) next dropped turned_away out before after
+    → SoFar keeps frames rest (next + 1) dropped (turned_away + 1) out before after
 SoFar-filtered keeps frames rest f next dropped turned_away out before after good away s = record {
   done = s.done ++ f ∷ [];
   parts = more_parts frames s.done rest f s.parts;
   fates = s.fates ++ filtered ∷ [];
   right = HaveFates-push keeps s.done s.fates f filtered s.right (good, away);
-  went = subst (λ (x : List Timed). Appends before after (written x)) (sym (kept_from-push keeps 0 s.done s.fates f filtered s.right ∙ append-nil (kept_from 0 s.done s.fates))) s.went;
+  went = subst (λ (x : List Timed). Appends before after (written x))
+      (sym (kept_from-push keeps 0 s.done s.fates f filtered s.right ∙ append-nil (kept_from 0 s.done s.fates))) s.went;
   next_is = omega (arith, s.next_is, length-append s.done (f ∷ []));
   illegal_is = omega (arith, s.illegal_is, count_by-push is_illegal s.fates filtered);
   filtered_is = omega (arith, s.filtered_is, count_by-push is_filtered s.fates filtered);
@@ -135,19 +153,24 @@ SoFar-filtered keeps frames rest f next dropped turned_away out before after goo
   sum = omega (arith, s.sum);
 }
 
-pub SoFar-kept : (keeps : Filter) (frames rest : List (List ℕ)) (f : List ℕ) (next dropped turned_away out : ℕ) (before mid after : Option (List ℕ)) → is_sendable f ≡ true → keeps (padded f)
-    → SoFar keeps frames (f ∷ rest) next dropped turned_away out before mid → Appends mid after (packet_of (record { time = next; frame = padded f })) → SoFar keeps frames rest (next + 1) dropped turned_away (out + 1) before after
+pub SoFar-kept : (keeps : Filter) (frames rest : List (List ℕ)) (f : List ℕ) (next dropped turned_away out : ℕ)
+    (before mid after : Option (List ℕ)) → is_sendable f ≡ true → keeps (padded f)
+    → SoFar keeps frames (f ∷ rest) next dropped turned_away out before mid
+    → Appends mid after (packet_of (record { time = next; frame = padded f }))
+    → SoFar keeps frames rest (next + 1) dropped turned_away (out + 1) before after
 SoFar-kept keeps frames rest f next dropped turned_away out before mid after good keep s went =
     let ts = kept_from 0 s.done s.fates in
     let t : Timed = record { time = next; frame = padded f } in
     let now : kept_of (0 + length s.done) f kept ≡ t ∷ [] = ap (λ (k : ℕ). kept_of k f kept) (omega (arith, s.next_is)) in
-    let all : kept_from 0 (s.done ++ f ∷ []) (s.fates ++ kept ∷ []) ≡ ts ++ t ∷ [] = kept_from-push keeps 0 s.done s.fates f kept s.right ∙ ap (λ (x : List Timed). ts ++ x) now in
+    let all : kept_from 0 (s.done ++ f ∷ []) (s.fates ++ kept ∷ []) ≡ ts ++ t ∷ [] = kept_from-push keeps 0 s.done s.fates f kept s.right
+    ∙ ap (λ (x : List Timed). ts ++ x) now in
     record {
       done = s.done ++ f ∷ [];
       parts = more_parts frames s.done rest f s.parts;
       fates = s.fates ++ kept ∷ [];
       right = HaveFates-push keeps s.done s.fates f kept s.right (good, keep);
-      went = subst (Appends before after) (sym (ap written all ∙ written-push ts t)) (Appends-trans before mid after (written ts) (packet_of t) s.went went);
+      went = subst (Appends before after) (sym (ap written all ∙ written-push ts t))
+          (Appends-trans before mid after (written ts) (packet_of t) s.went went);
       next_is = omega (arith, s.next_is, length-append s.done (f ∷ []));
       illegal_is = omega (arith, s.illegal_is, count_by-push is_illegal s.fates kept);
       filtered_is = omega (arith, s.filtered_is, count_by-push is_filtered s.fates kept);
@@ -158,15 +181,18 @@ SoFar-kept keeps frames rest f next dropped turned_away out before mid after goo
 -- ---- the end
 
 -- a front of what waits went out
-pub SoFar-stops : (keeps : Filter) (frames rest : List (List ℕ)) (next dropped turned_away out : ℕ) (before mid after : Option (List ℕ)) (waiting : List ℕ)
-    → Grows before mid → SoFar keeps frames rest next dropped turned_away out before (append_known mid waiting) → AppendsFront mid after waiting → StopsAmong keeps frames before after
+pub SoFar-stops : (keeps : Filter) (frames rest : List (List ℕ)) (next dropped turned_away out : ℕ) (before mid after : Option (List ℕ))
+    (waiting : List ℕ)
+    → Grows before mid → SoFar keeps frames rest next dropped turned_away out before (append_known mid waiting)
+    → AppendsFront mid after waiting → StopsAmong keeps frames before after
 SoFar-stops keeps frames rest next dropped turned_away out before mid after waiting grown s went =
     let first : take (length s.done) frames ≡ s.done = ap (take (length s.done)) s.parts ∙ take_at s.done rest (length s.done) refl in
     record {
       count = length s.done;
       fates = s.fates;
       right = subst (λ (x : List (List ℕ)). HaveFates keeps x s.fates) (sym first) s.right;
-      went = subst (λ (x : List (List ℕ)). AppendsFront before after (written (kept_from 0 x s.fates))) (sym first) (flushed_front before mid after waiting (written (kept_from 0 s.done s.fates)) grown s.went went);
+      went = subst (λ (x : List (List ℕ)). AppendsFront before after (written (kept_from 0 x s.fates))) (sym first)
+          (flushed_front before mid after waiting (written (kept_from 0 s.done s.fates)) grown s.went went);
     }
 
 -- nothing was written

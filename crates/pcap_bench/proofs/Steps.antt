@@ -14,14 +14,16 @@ use Rattle.adapter.specs.declared.step.Stepped.TheVariants.{Moved, Done}
 use Rattle.adapter.specs.Receiving.{after_arrive, after_data, after_done, memory_after_data_step, memory_after_done_step, CanMoveFrame}
 use Rattle.adapter.specs.State.{AdapterState}
 use Rattle.pcap_bench.specs.Lane.{slots, buffer_at, ring_at, HasFrame, IsLane, IsReceiving, IsWaiting, LaneState, NameBuffers}
-use Rattle.pcap_bench.proofs.Lanes.{HasRoom, frame_finished, length-finished, length-offer, with_finished, with_frame, with_offer, NameBelow-offered, NameBuffers-finished}
+use Rattle.pcap_bench.proofs.Lanes.{HasRoom, frame_finished, length-finished, length-offer, with_finished, with_frame, with_offer}
+use Rattle.pcap_bench.proofs.Lanes.{NameBelow-offered, NameBuffers-finished}
 
 -- an adapter that holds no frame, with the head of its ring at a slot and the driver at another
 abbrev pub calm : AdapterState → ℕ → ℕ → AdapterState
 calm state head slot = record state { receive_kilobytes = 48; receiver = new_receiver; receive_ring = ring_at head slot }
 
 -- The adapter of a lane is such a one.
-is_calm : (state : AdapterState) (head slot : ℕ) → state.receive_kilobytes ≡ 48 → state.receiver ≡ new_receiver → state.receive_ring ≡ ring_at head slot → state ≡ calm state head slot
+is_calm : (state : AdapterState) (head slot : ℕ) → state.receive_kilobytes ≡ 48 → state.receiver ≡ new_receiver
+    → state.receive_ring ≡ ring_at head slot → state ≡ calm state head slot
 is_calm state head slot room idle ring =
     ap (λ (k : ℕ). record state { receive_kilobytes = k }) room
     ∙ ap (λ (e : Receiver). record state { receive_kilobytes = 48; receiver = e }) idle
@@ -40,7 +42,8 @@ at_slot : (slot : ℕ) → 0 + 16 * slot ≡ 16 * slot
 at_slot slot = omega arith
 
 -- The frame can be moved to memory.
-pub can_move : (state : AdapterState) (memory frame : List ℕ) (slot : ℕ) → IsReceiving state.filter.rctl → slot < slots → length memory ≡ 34816 → IsLegal frame → HasRoom memory slot frame
+pub can_move : (state : AdapterState) (memory frame : List ℕ) (slot : ℕ) → IsReceiving state.filter.rctl → slot < slots
+    → length memory ≡ 34816 → IsLegal frame → HasRoom memory slot frame
     → CanMoveFrame memory (with_stored state slot frame)
 can_move state memory frame slot receiving below size legal room =
     let most = legal.most in
@@ -61,18 +64,21 @@ after_steps state memory frame slot = record {
 }
 
 pub memory_is : (state : AdapterState) (memory frame : List ℕ) (slot : ℕ) → slot < slots → HasRoom memory slot frame
-    → memory_after_done_step (memory_after_data_step Moved memory (with_stored state slot frame)) (after_data Moved (with_stored state slot frame)) ≡ with_finished memory slot frame
+    → memory_after_done_step (memory_after_data_step Moved memory (with_stored state slot frame))
+    (after_data Moved (with_stored state slot frame)) ≡ with_finished memory slot frame
 memory_is state memory frame slot below room =
     let size = room.size in
     let within : leb (16 * slot + 16) (length (with_frame memory slot frame)) ≡ true = le-leb _ _ (omega arith) in
-    ap (λ (at : ℕ). (let moved = with_bytes memory (named_address memory at) frame in if leb (at + 16) (length moved) then with_bytes moved (at + 8) (finished_bytes (length frame)) else moved)) (at_slot slot)
+    ap (λ (at : ℕ). (let moved = with_bytes memory (named_address memory at) frame in if leb (at + 16) (length moved) then with_bytes moved
+    (at + 8) (finished_bytes (length frame)) else moved)) (at_slot slot)
     ∙ ap (λ (lies : Bool). if lies then with_finished memory slot frame else with_frame memory slot frame) within
 
 pub record Received (lane : LaneState) (frame : List ℕ) : Type 0 where
   pub is_lane : IsLane lane
   pub has_frame : HasFrame lane frame
 
-pub received : (state : AdapterState) (memory frame : List ℕ) (slot : ℕ) → IsReceiving state.filter.rctl → slot < slots → length memory ≡ 34816 → NameBuffers memory → IsLegal frame → HasRoom memory slot frame
+pub received : (state : AdapterState) (memory frame : List ℕ) (slot : ℕ) → IsReceiving state.filter.rctl → slot < slots
+    → length memory ≡ 34816 → NameBuffers memory → IsLegal frame → HasRoom memory slot frame
     → Received (after_steps state memory frame slot) frame
 received state memory frame slot receiving below size named legal room = record {
   is_lane = record {
@@ -93,7 +99,12 @@ with_tail state tail = record state { receive_ring = record state.receive_ring {
 
 -- Once the buffer of the driver's slot is offered and RDT is there, it is a lane with the driver at the next slot.
 pub IsLane-offered : (lane : LaneState) (buffer : ℕ) → IsLane lane → buffer ≡ buffer_at lane.slot
-    → IsLane (record { adapter = with_tail lane.adapter lane.slot; memory = with_offer lane.memory lane.slot buffer; slot = (lane.slot + 1) % slots })
+    → IsLane (record {
+      adapter = with_tail lane.adapter lane.slot;
+      memory = with_offer lane.memory lane.slot buffer;
+      slot =
+          (lane.slot + 1) % slots;
+    })
 IsLane-offered lane buffer is named =
     let below = is.slot in
     let tail : lane.slot ≡ ((lane.slot + 1) % slots + 7) % slots = omega arith in
@@ -102,7 +113,8 @@ IsLane-offered lane buffer is named =
       room = is.room;
       idle = is.idle;
       slot = omega arith;
-      ring = ap (λ (r : RingRegisters). record r { tail = lane.slot }) is.ring ∙ ap (λ (t : ℕ). record (ring_at lane.adapter.receive_ring.head lane.slot) { tail = t }) tail;
+      ring = ap (λ (r : RingRegisters). record r { tail = lane.slot }) is.ring
+          ∙ ap (λ (t : ℕ). record (ring_at lane.adapter.receive_ring.head lane.slot) { tail = t }) tail;
       size = length-offer lane.memory lane.slot buffer is.slot is.size;
       buffers = NameBelow-offered lane.memory lane.slot slots buffer is.slot is.size named (λ k k_below other. is.buffers k k_below);
     }

@@ -1,5 +1,6 @@
 -- What single writes of registers leave of an adapter.
-use Rattle.std.proofs.Common.{◌≡◌, ◌<◌, ◌≤◌, ◌+◌, ◌-◌, ◌*◌, ◌/◌, ◌%◌, ◌^◌, ℕ, List, Bool, true, false, Option, Some, None, refl, ap, subst, ◌∙◌, arith}
+use Rattle.std.proofs.Common.{◌≡◌, ◌<◌, ◌≤◌, ◌+◌, ◌-◌, ◌*◌, ◌/◌, ◌%◌, ◌^◌, ℕ, List, Bool, true, false, Option, Some, None, refl, ap, subst}
+use Rattle.std.proofs.Common.{◌∙◌, arith}
 use Rattle.std.specs.Prelude.{bit_and, if◌then◌else◌}
 use Rattle.std.specs.Int.{bit_at}
 use Rattle.std.proofs.Math.Pow.{pow-lt}
@@ -20,7 +21,8 @@ use Rattle.pcap_bench.specs.Choosing.{mode_bits, with_address, with_bit}
 use Rattle.pcap_bench.specs.Lane.{ring_at}
 
 -- A register whose kept bits are its rule has those bits of the word.
-written : (register : Register) (value kept : ℕ) (state : AdapterState) → IsInTable register → (row_of register).kept ≡ Some kept → is_reset register value ≡ false
+written : (register : Register) (value kept : ℕ) (state : AdapterState) → IsInTable register → (row_of register).kept ≡ Some kept
+    → is_reset register value ≡ false
     → after_write (row_of register).offset value state ≡ with_register register (bit_and value kept) state
 written register value kept state within plain none =
     ap (λ (found : Option Register). left_by_write found value state) (register_at-there register within)
@@ -36,7 +38,8 @@ kept_half : (value : ℕ) → value < 2 ^ 16 → bit_and value 0xFFFF ≡ value
 kept_half value small = and_mask value 16 ∙ omega arith
 
 IsSubset-further : (a b d : ℕ) → IsSubset a b → IsSubset b d → IsSubset a d
-IsSubset-further a b d in_b in_d = (IsSubset-places a d).1 (λ place set. (IsSubset-places b d).0 in_d place ((IsSubset-places a b).0 in_b place set))
+IsSubset-further a b d in_b in_d = (IsSubset-places a d).1
+    (λ place set. (IsSubset-places b d).0 in_d place ((IsSubset-places a b).0 in_b place set))
 
 -- AV and two bytes are kept of a write to RAH.
 kept_high : (h : ℕ) → h < 2 ^ 16 → bit_and (h + 2 ^ 31) address_high_mask ≡ h + 2 ^ 31
@@ -58,13 +61,17 @@ kept_mode false false = refl
 -- ---- the exact filter
 
 wrote-ral : (low : ℕ) (state : AdapterState) → low < 2 ^ 32 → after_write 0x5400 low state ≡ with_register (Ral 0) low state
-wrote-ral low state small = written (Ral 0) low 0xFFFFFFFF state (omega arith) refl refl ∙ ap (λ (n : ℕ). with_register (Ral 0) n state) (kept_word low small)
+wrote-ral low state small = written (Ral 0) low 0xFFFFFFFF state (omega arith) refl refl
+    ∙ ap (λ (n : ℕ). with_register (Ral 0) n state) (kept_word low small)
 
-wrote-rah : (high : ℕ) (state : AdapterState) → bit_and high address_high_mask ≡ high → after_write 0x5404 high state ≡ with_register (Rah 0) high state
-wrote-rah high state kept = written (Rah 0) high address_high_mask state (omega arith) refl refl ∙ ap (λ (n : ℕ). with_register (Rah 0) n state) kept
+wrote-rah : (high : ℕ) (state : AdapterState) → bit_and high address_high_mask ≡ high
+    → after_write 0x5404 high state ≡ with_register (Rah 0) high state
+wrote-rah high state kept = written (Rah 0) high address_high_mask state (omega arith) refl refl
+    ∙ ap (λ (n : ℕ). with_register (Rah 0) n state) kept
 
 pub wrote-address : (address : List ℕ) (state : AdapterState) → IsAddress address
-    → after_write 0x5404 (high_word address + 2 ^ 31) (after_write 0x5400 (low_word address) state) ≡ record state { filter = with_address (Some address) state.filter }
+    → after_write 0x5404 (high_word address + 2 ^ 31) (after_write 0x5400 (low_word address) state)
+    ≡ record state { filter = with_address (Some address) state.filter }
 wrote-address address state is =
     let b0 = is.bytes 0 in
     let b1 = is.bytes 1 in
@@ -76,7 +83,8 @@ wrote-address address state is =
     ap (after_write 0x5404 (high_word address + 2 ^ 31)) (wrote-ral (low_word address) state (omega arith))
     ∙ wrote-rah (high_word address + 2 ^ 31) (with_register (Ral 0) (low_word address) state) (kept_high (high_word address) small)
 
-pub wrote-no_address : (state : AdapterState) → after_write 0x5404 0 (after_write 0x5400 0 state) ≡ record state { filter = with_address None state.filter }
+pub wrote-no_address : (state : AdapterState)
+    → after_write 0x5404 0 (after_write 0x5400 0 state) ≡ record state { filter = with_address None state.filter }
 wrote-no_address state = ap (after_write 0x5404 0) (wrote-ral 0 state (omega arith)) ∙ wrote-rah 0 (with_register (Ral 0) 0 state) refl
 
 -- ---- the tables
@@ -85,13 +93,15 @@ one_bit : (number : ℕ) → 2 ^ (number % 32) < 2 ^ 32
 one_bit number = pow-lt {i = number % 32} {j = 32} (omega arith)
 
 pub wrote-group : (number : ℕ) (state : AdapterState) → number ≤ 4095
-    → after_write (0x5200 + 4 * (number / 32)) (2 ^ (number % 32)) state ≡ record state { filter = record state.filter { mta = with_bit state.filter.mta number } }
+    → after_write (0x5200 + 4 * (number / 32)) (2 ^ (number % 32)) state
+    ≡ record state { filter = record state.filter { mta = with_bit state.filter.mta number } }
 wrote-group number state below =
     written (Mta (number / 32)) (2 ^ (number % 32)) 0xFFFFFFFF state (omega arith) refl refl
     ∙ ap (λ (n : ℕ). with_register (Mta (number / 32)) n state) (kept_word (2 ^ (number % 32)) (one_bit number))
 
 pub wrote-vlan : (number : ℕ) (state : AdapterState) → number ≤ 4095
-    → after_write (0x5600 + 4 * (number / 32)) (2 ^ (number % 32)) state ≡ record state { filter = record state.filter { vfta = with_bit state.filter.vfta number } }
+    → after_write (0x5600 + 4 * (number / 32)) (2 ^ (number % 32)) state
+    ≡ record state { filter = record state.filter { vfta = with_bit state.filter.vfta number } }
 wrote-vlan number state below =
     written (Vfta (number / 32)) (2 ^ (number % 32)) 0xFFFFFFFF state (omega arith) refl refl
     ∙ ap (λ (n : ℕ). with_register (Vfta (number / 32)) n state) (kept_word (2 ^ (number % 32)) (one_bit number))
@@ -99,25 +109,31 @@ wrote-vlan number state below =
 pub wrote-vet : (state : AdapterState) → after_write 0x38 0x8100 state ≡ record state { filter = record state.filter { vet = 0x8100 } }
 wrote-vet state = written Vet 0x8100 0xFFFF state tt refl refl
 
-pub wrote-mode : (every tagged : Bool) (state : AdapterState) → after_write 0x100 (mode_bits every tagged) state ≡ record state { filter = record state.filter { rctl = mode_bits every tagged } }
+pub wrote-mode : (every tagged : Bool) (state : AdapterState)
+    → after_write 0x100 (mode_bits every tagged) state ≡ record state { filter = record state.filter { rctl = mode_bits every tagged } }
 wrote-mode every tagged state =
-    written Rctl (mode_bits every tagged) 0x0607B33A state tt refl refl ∙ ap (λ (n : ℕ). with_register Rctl n state) (kept_mode every tagged)
+    written Rctl (mode_bits every tagged) 0x0607B33A state tt refl refl
+    ∙ ap (λ (n : ℕ). with_register Rctl n state) (kept_mode every tagged)
 
 -- ---- the ring
 
 pub wrote-ring : (state : AdapterState)
-    → after_write 0x2818 7 (after_write 0x2810 0 (after_write 0x2808 128 (after_write 0x2804 0 (after_write 0x2800 0 state)))) ≡ record state { receive_ring = ring_at 0 0 }
+    → after_write 0x2818 7 (after_write 0x2810 0 (after_write 0x2808 128 (after_write 0x2804 0 (after_write 0x2800 0 state))))
+    ≡ record state { receive_ring = ring_at 0 0 }
 wrote-ring state =
     let s1 = with_register (Receive BaseLow) 0 state in
     let s2 = with_register (Receive BaseHigh) 0 s1 in
     let s3 = with_register (Receive Length) 128 s2 in
     let s4 = with_register (Receive Head) 0 s3 in
-    ap (λ (s : AdapterState). after_write 0x2818 7 (after_write 0x2810 0 (after_write 0x2808 128 (after_write 0x2804 0 s)))) (written (Receive BaseLow) 0 0xFFFFFFF0 state tt refl refl)
-    ∙ ap (λ (s : AdapterState). after_write 0x2818 7 (after_write 0x2810 0 (after_write 0x2808 128 s))) (written (Receive BaseHigh) 0 0xFFFFFFFF s1 tt refl refl)
+    ap (λ (s : AdapterState). after_write 0x2818 7 (after_write 0x2810 0 (after_write 0x2808 128 (after_write 0x2804 0 s))))
+    (written (Receive BaseLow) 0 0xFFFFFFF0 state tt refl refl)
+    ∙ ap (λ (s : AdapterState). after_write 0x2818 7 (after_write 0x2810 0 (after_write 0x2808 128 s)))
+    (written (Receive BaseHigh) 0 0xFFFFFFFF s1 tt refl refl)
     ∙ ap (λ (s : AdapterState). after_write 0x2818 7 (after_write 0x2810 0 s)) (written (Receive Length) 128 0x000FFF80 s2 tt refl refl)
     ∙ ap (λ (s : AdapterState). after_write 0x2818 7 s) (written (Receive Head) 0 0xFFFF s3 tt refl refl)
     ∙ written (Receive Tail) 7 0xFFFF s4 tt refl refl
 
-pub wrote-tail : (tail : ℕ) (state : AdapterState) → tail < 2 ^ 16 → after_write 0x2818 tail state ≡ record state { receive_ring = record state.receive_ring { tail = tail } }
+pub wrote-tail : (tail : ℕ) (state : AdapterState) → tail < 2 ^ 16
+    → after_write 0x2818 tail state ≡ record state { receive_ring = record state.receive_ring { tail = tail } }
 wrote-tail tail state small =
     written (Receive Tail) tail 0xFFFF state tt refl refl ∙ ap (λ (n : ℕ). with_register (Receive Tail) n state) (kept_half tail small)

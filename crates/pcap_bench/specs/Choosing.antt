@@ -10,7 +10,8 @@ use Rattle.registers.specs.Places.{alone, rctl_bam, rctl_en, rctl_mpe, rctl_upe,
 -- RAL(0) and RAH(0): the address, with AV, or 0 where none is given
 abbrev pub with_address : Option (List ℕ) → FilterRegisters → FilterRegisters
 with_address None r = record r { ral = slice_set r.ral 0 0; rah = slice_set r.rah 0 0 }
-with_address (Some address) r = record r { ral = slice_set r.ral 0 (low_word address); rah = slice_set r.rah 0 (high_word address + 2 ^ 31) }
+with_address (Some address) r = record r
+    { ral = slice_set r.ral 0 (low_word address); rah = slice_set r.rah 0 (high_word address + 2 ^ 31) }
 
 -- the word of a table that has a number's bit, with that bit alone
 abbrev pub with_bit : List ℕ → ℕ → List ℕ

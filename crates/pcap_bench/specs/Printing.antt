@@ -13,5 +13,6 @@ cut_word false = codes " cut no\n"
 
 abbrev pub pass_line : Trace → PassCounts → List ℕ
 pass_line trace counts =
-    field (codes "read ") counts.read ++ field (codes " skipped ") trace.skipped ++ field (codes " illegal ") counts.illegal ++ field (codes " filtered ") counts.filtered
+    field (codes "read ") counts.read ++ field (codes " skipped ") trace.skipped ++ field (codes " illegal ") counts.illegal
+    ++ field (codes " filtered ") counts.filtered
     ++ field (codes " written ") counts.written ++ cut_word trace.cut

@@ -57,7 +57,8 @@ fn write_vlan(adapter: &mut Adapter, vlan: Option<u16>)
     }
 }
 
-/// RCTL as the options ask for: EN, BAM, UPE and MPE where neither an address nor a group is given, and VFE where a VLAN is.
+/// RCTL as the options ask for: EN, BAM, UPE and MPE where neither an address nor a group is given, and VFE where a
+/// VLAN is.
 pub fn mode_of(options: &PassFilter) -> Rctl
     ensures { result.0 ≡ mode_for options.now }
 {

@@ -6,7 +6,8 @@ ghost use Rattle.rx_engine.specs.Descriptors.{descriptor_at};
 ghost use Rattle.rx_filter.specs.Laws.{SameSets};
 ghost use Rattle.rx_filter.specs.Passing.{Passes};
 ghost use Rattle.rx_filter.specs.Registers.{filter_of};
-ghost use Rattle.adapter.specs.Receiving.{after_data, after_done, memory_after_data_step, memory_after_done_step, CanMoveFrame, HasFrameAndDescriptor};
+ghost use Rattle.adapter.specs.Receiving.{after_data, after_done, memory_after_data_step, memory_after_done_step};
+ghost use Rattle.adapter.specs.Receiving.{CanMoveFrame, HasFrameAndDescriptor};
 ghost use Rattle.adapter.specs.declared.step.Stepped.TheVariants.{Moved, Done};
 ghost use Rattle.pcap_bench.specs.Lane.{ring_at, slot_bytes, slot_desc, HasFrame, IsWaiting};
 ghost use Rattle.pcap_bench.specs.Options.{filter_for, HasVlanNumber};
@@ -30,8 +31,9 @@ const OWN_ADDRESS: [u8; 6] = [0x02, 0, 0, 0, 0, 0x01];
 /// The low word of an address.
 const LOW_WORD: u64 = 0xFFFF_FFFF;
 
-/// An adapter whose registers ask for the frames of a pass, the host's memory that it receives into, and the slot that its driver reads
-/// next. The ring of 8 descriptors, each with its buffer, is the adapter's but for the slot before the driver's.
+/// An adapter whose registers ask for the frames of a pass, the host's memory that it receives into, and the slot
+/// that its driver reads next. The ring of 8 descriptors, each with its buffer, is the adapter's but for the slot
+/// before the driver's.
 #[derive(Drop)]
 pub struct ReceiveLane {
     adapter: Adapter,
@@ -67,7 +69,9 @@ fn finish_frame(adapter: &mut Adapter, memory: &mut HostMemory)
     requires frame { HasFrameAndDescriptor adapter.old }
     requires place { CanMoveFrame memory.old adapter.old }
     ensures adapter { adapter.new ≡ after_done Done (after_data Moved adapter.old) }
-    ensures memory { memory.new ≡ memory_after_done_step (memory_after_data_step Moved memory.old adapter.old) (after_data Moved adapter.old) }
+    ensures memory { memory.new
+        ≡ memory_after_done_step (memory_after_data_step Moved memory.old adapter.old)
+        (after_data Moved adapter.old) }
 {
     let _ = adapter.step(StepKind::RxData, memory, false);
     let _ = adapter.step(StepKind::RxDone, memory, false);
@@ -99,8 +103,8 @@ impl ReceiveLane {
         })
     }
 
-    /// A frame of 14 to 1,518 bytes comes from the wire, padded to 60 bytes by zeros. Whether the adapter has received it: then it stands
-    /// finished at the driver's slot; else nothing has changed.
+    /// A frame of 14 to 1,518 bytes comes from the wire, padded to 60 bytes by zeros. Whether the adapter has
+    /// received it: then it stands finished at the driver's slot; else nothing has changed.
     pub fn receive(&mut self, frame: &[u8]) -> bool
         requires sendable { IsTrue (is_sendable frame.now) }
         requires waiting { IsWaiting self.old }

@@ -49,7 +49,9 @@ fn write_received<W: Sink, L: Watch>(
     requires sound { W.faults sink.old < u64.MAX }
     requires short { length (slot_bytes lane.old) ≤ 1518 }
     requires finished { HasFrame lane.old (slot_bytes lane.old) }
-    ensures ok { OnOk result (Appends (append_known (W.taken sink.old) writer.old) (append_known (W.taken sink.new) writer.new) (packet_of (record { time = number; frame = slot_bytes lane.old }))) }
+    ensures ok { OnOk result
+        (Appends (append_known (W.taken sink.old) writer.old) (append_known (W.taken sink.new) writer.new)
+        (packet_of (record { time = number; frame = slot_bytes lane.old }))) }
     ensures grows { OnOk result (Grows (W.taken sink.old) (W.taken sink.new)) }
     ensures err { OnErr result (AppendsFront (W.taken sink.old) (W.taken sink.new) writer.old) }
     ensures faults { CountsFaults result (W.faults sink.old) (W.faults sink.new) }
@@ -72,10 +74,12 @@ pub fn pass_watched<W: Sink, L: Watch>(
 ) -> Result<PassCounts, BenchError>
     requires sound { W.faults sink.old < u64.MAX }
     requires vlan { HasVlanNumber filter.now }
-    ensures ok { IfOk result (λ counts. WritesKept (KeptBy filter.now) trace.now.frames counts (W.taken sink.old) (W.taken sink.new)) }
+    ensures ok { IfOk result
+        (λ counts. WritesKept (KeptBy filter.now) trace.now.frames counts (W.taken sink.old) (W.taken sink.new)) }
     ensures quiet { OnOk result (W.faults sink.new ≡ W.faults sink.old) }
     ensures err { OnErr result (StopsAmong (KeptBy filter.now) trace.now.frames (W.taken sink.old) (W.taken sink.new)) }
-    ensures fault { IfErr result (λ e. StopsBy e (W.taken sink.old) (W.taken sink.new) (W.faults sink.old) (W.faults sink.new)) }
+    ensures fault { IfErr result
+        (λ e. StopsBy e (W.taken sink.old) (W.taken sink.new) (W.faults sink.old) (W.faults sink.new)) }
 {
     let mut lane = ReceiveLane::new(alloc, filter)?;
     let mut writer = RecordWriter::new(alloc)?;
@@ -102,19 +106,21 @@ pub fn pass_watched<W: Sink, L: Watch>(
     Ok(counts)
 }
 
-/// Puts each frame of a trace that can be sent on the wire of an adapter, padded to 60 bytes by zeros; those that its receive filter passes
-/// come through a receive ring of 8 descriptors in a host's memory, and are written from there, each with its number among the frames of
-/// the trace (from 0; packets that were captured in part don't count) as its time in microseconds.
+/// Puts each frame of a trace that can be sent on the wire of an adapter, padded to 60 bytes by zeros; those that its
+/// receive filter passes come through a receive ring of 8 descriptors in a host's memory, and are written from there,
+/// each with its number among the frames of the trace (from 0; packets that were captured in part don't count) as its
+/// time in microseconds.
 ///
-/// Frames below 14 or above 1,518 bytes are counted as illegal; of the others, the filter is asked of the padded frame. It has the
-/// options' address as its one exact address, the number of the options' group (RCTL.MO 00) as the one number of its group table, and
-/// the options' VLAN, of 12 bits, as its one VLAN, where they are given, with the VLAN type 0x8100; it passes every address where
-/// neither an address nor a group is given (UPE, MPE), and broadcast always (BAM).
+/// Frames below 14 or above 1,518 bytes are counted as illegal; of the others, the filter is asked of the padded
+/// frame. It has the options' address as its one exact address, the number of the options' group (RCTL.MO 00) as the
+/// one number of its group table, and the options' VLAN, of 12 bits, as its one VLAN, where they are given, with the
+/// VLAN type 0x8100; it passes every address where neither an address nor a group is given (UPE, MPE), and broadcast
+/// always (BAM).
 ///
 /// # Errors
 ///
-/// E57 [`Memory`](BenchError::Memory) where memory is refused, before anything is written; E67 [`Write`](BenchError::Write) where the
-/// sink fails during the call, and then a beginning of the text went out.
+/// E57 [`Memory`](BenchError::Memory) where memory is refused, before anything is written; E67
+/// [`Write`](BenchError::Write) where the sink fails during the call, and then a beginning of the text went out.
 pub fn pass<W: Sink>(
     alloc: Global,
     trace: &Trace,
@@ -123,10 +129,12 @@ pub fn pass<W: Sink>(
 ) -> Result<PassCounts, BenchError>
     requires sound { W.faults sink.old < u64.MAX }
     requires vlan { HasVlanNumber filter.now }
-    ensures ok { IfOk result (λ counts. WritesKept (KeptBy filter.now) trace.now.frames counts (W.taken sink.old) (W.taken sink.new)) }
+    ensures ok { IfOk result
+        (λ counts. WritesKept (KeptBy filter.now) trace.now.frames counts (W.taken sink.old) (W.taken sink.new)) }
     ensures quiet { OnOk result (W.faults sink.new ≡ W.faults sink.old) }
     ensures err { OnErr result (StopsAmong (KeptBy filter.now) trace.now.frames (W.taken sink.old) (W.taken sink.new)) }
-    ensures fault { IfErr result (λ e. StopsBy e (W.taken sink.old) (W.taken sink.new) (W.faults sink.old) (W.faults sink.new)) }
+    ensures fault { IfErr result
+        (λ e. StopsBy e (W.taken sink.old) (W.taken sink.new) (W.faults sink.old) (W.faults sink.new)) }
 {
     pass_watched(&mut Unwatched, alloc, trace, filter, sink)
 }

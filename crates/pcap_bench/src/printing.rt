@@ -27,8 +27,8 @@ fn push_field(line: &mut Line, label: &[u8], number: u64)
     line.try_extend_from_slice(digits).unwrap();
 }
 
-/// Writes the program's line of a pass to a sink: `read R skipped K illegal I filtered F written W cut no` (or `cut yes`), ended by a
-/// line feed. It takes no memory. After an error a beginning of the line went out.
+/// Writes the program's line of a pass to a sink: `read R skipped K illegal I filtered F written W cut no` (or `cut
+/// yes`), ended by a line feed. It takes no memory. After an error a beginning of the line went out.
 pub fn print_pass<W: Sink>(
     trace: &Trace,
     counts: &PassCounts,

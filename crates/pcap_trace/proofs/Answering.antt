@@ -1,5 +1,6 @@
 -- One answer fits the bytes of a source.
-use Rattle.std.proofs.Common.{◌≡◌, ◌≤◌, ◌⊎◌, ℕ, List, [], ◌++◌, length, drop, Bool, true, false, Result, Ok, Err, Option, Some, None, refl, sym, ap, subst, ◌∙◌}
+use Rattle.std.proofs.Common.{◌≡◌, ◌≤◌, ◌⊎◌, ℕ, List, [], ◌++◌, length, drop, Bool, true, false, Result, Ok, Err, Option, Some, None, refl}
+use Rattle.std.proofs.Common.{sym, ap, subst, ◌∙◌}
 use Rattle.std.specs.Prelude.{IfSome, IfOk, IfErr}
 use Rattle.std.specs.Io.KnownBytes.{IsAtEnd, prepend_known}
 use Rattle.std.proofs.lemmas.List.{drop-append-le}
@@ -12,7 +13,8 @@ use Rattle.pcap_trace.specs.Format.{Order, number_in, oversized, ending_of, IsFi
 use Rattle.pcap_trace.specs.Reading.{header_fault, IsHeaderFault, HasOversized, IsAnswer, IsOnlyAnswer, IsBodyFault, is_of_bytes}
 use Rattle.pcap_trace.proofs.Unique.{body_unique}
 use Rattle.pcap_trace.proofs.Orders.{number_first, one_order}
-use Rattle.pcap_trace.proofs.FileHeaders.{header_fault-record, header_fault-none, header_fault-known, told_fault, told_fault-in, told_fault-magic, IsFileHeader-from_none}
+use Rattle.pcap_trace.proofs.FileHeaders.{header_fault-record, header_fault-none, header_fault-known, told_fault, told_fault-in}
+use Rattle.pcap_trace.proofs.FileHeaders.{told_fault-magic, IsFileHeader-from_none}
 
 -- ---- no other answer fits
 
@@ -29,8 +31,10 @@ never_oversized false e = cc
 trace_unique : (bytes : List ℕ) (t u : Trace) → IsTrace bytes t.frames t.skipped t.cut → IsTrace bytes u.frames u.skipped u.cut → u ≡ t
 trace_unique bytes t u p q =
     let one : q.0 ≡ p.0 = one_order bytes q.0 p.0 q.1.0.magic_is p.1.0.magic_is in
-    let moved : IsTraceIn (number_in p.0) bytes u.frames u.skipped u.cut = subst (λ (o : Endianness). IsTraceIn (number_in o) bytes u.frames u.skipped u.cut) one q.1 in
-    let same = body_unique (number_in p.0) (number_first p.0) (drop 24 bytes) u.frames t.frames u.skipped t.skipped (ending_of u.cut) (ending_of t.cut) moved.1 p.1.1 in
+    let moved : IsTraceIn (number_in p.0) bytes u.frames u.skipped u.cut = subst
+    (λ (o : Endianness). IsTraceIn (number_in o) bytes u.frames u.skipped u.cut) one q.1 in
+    let same = body_unique (number_in p.0) (number_first p.0) (drop 24 bytes) u.frames t.frames u.skipped t.skipped (ending_of u.cut)
+    (ending_of t.cut) moved.1 p.1.1 in
     ap (λ (x : List (List ℕ)). record { frames = x; skipped = u.skipped; cut = u.cut }) same.0
     ∙ ap (λ (x : ℕ). record { frames = t.frames; skipped = x; cut = u.cut }) same.1
     ∙ ap (λ (x : Bool). record { frames = t.frames; skipped = t.skipped; cut = x }) (ending_cut u.cut t.cut same.2)
@@ -44,7 +48,9 @@ not_both bytes t p q =
     let one : q.0 ≡ p.0 = one_order bytes q.0 p.0 q.1.magic_is p.1.0.magic_is in
     let moved : IsOversized p.0 bytes = subst (λ (o : Endianness). IsOversized o bytes) one (q.1, q.2) in
     let big = moved.1 in
-    never_oversized t.cut (body_unique (number_in p.0) (number_first p.0) (drop 24 bytes) t.frames big.0 t.skipped big.1 (ending_of t.cut) oversized p.1.1 big.2).2
+    never_oversized t.cut
+    (body_unique (number_in p.0) (number_first p.0) (drop 24 bytes) t.frames big.0 t.skipped big.1
+    (ending_of t.cut) oversized p.1.1 big.2).2
 
 -- what the header's fault is where an answer fits
 abbrev fault_of : Result Trace ReadError → Option ReadError
@@ -54,7 +60,8 @@ fault_of (Err e) = Some e
 
 fault_of-answer : (bytes : List ℕ) (r : Result Trace ReadError) → is_of_bytes r ≡ true → IsAnswer bytes r → told_fault bytes ≡ fault_of r
 fault_of-answer bytes (Ok t) speaks fits = told_fault-in fits.0 bytes None (header_fault-none (number_in fits.0) bytes fits.1.0) (λ h. cc)
-fault_of-answer bytes (Err errors.Record) speaks fits = told_fault-in fits.0 bytes None (header_fault-none (number_in fits.0) bytes fits.1) (λ h. cc)
+fault_of-answer bytes (Err errors.Record) speaks fits = told_fault-in fits.0 bytes None (header_fault-none (number_in fits.0) bytes fits.1)
+    (λ h. cc)
 fault_of-answer bytes (Err errors.Memory) speaks fits = absurd cc
 fault_of-answer bytes (Err errors.Read) speaks fits = absurd cc
 fault_of-answer bytes (Err errors.Magic) speaks fits = told_fault-magic bytes fits
@@ -79,17 +86,21 @@ no_fault e same speaks = absurd cc
 at_record : (bytes : List ℕ) (e : ReadError) → e ≡ errors.Record → IsAnswer bytes (Err e) → IsAnswer bytes (Err errors.Record)
 at_record bytes e is fits = subst (λ (x : ReadError). IsAnswer bytes (Err x)) is fits
 
-same_answer : (bytes : List ℕ) (r s : Result Trace ReadError) → fault_of r ≡ fault_of s → is_of_bytes r ≡ true → is_of_bytes s ≡ true → IsAnswer bytes r → IsAnswer bytes s → s ≡ r
+same_answer : (bytes : List ℕ) (r s : Result Trace ReadError) → fault_of r ≡ fault_of s → is_of_bytes r ≡ true → is_of_bytes s ≡ true
+    → IsAnswer bytes r → IsAnswer bytes s → s ≡ r
 same_answer bytes (Ok t) (Ok u) same speaks_r speaks_s p q = ap Ok (trace_unique bytes t u p q)
 same_answer bytes (Ok t) (Err e) same speaks_r speaks_s p q = absurd (not_both bytes t p (at_record bytes e (no_fault e same speaks_s) q))
-same_answer bytes (Err e) (Ok u) same speaks_r speaks_s p q = absurd (not_both bytes u q (at_record bytes e (no_fault e (sym same) speaks_r) p))
+same_answer bytes (Err e) (Ok u) same speaks_r speaks_s p q = absurd
+    (not_both bytes u q (at_record bytes e (no_fault e (sym same) speaks_r) p))
 same_answer bytes (Err e) (Err f) same speaks_r speaks_s p q = ap Err (same_error e f same speaks_r speaks_s)
 
 only_answer : (bytes : List ℕ) (r : Result Trace ReadError) → IsAnswer bytes r → IsOnlyAnswer bytes r
 only_answer bytes r fits speaks_r s speaks_s fits_s =
-    same_answer bytes r s (sym (fault_of-answer bytes r speaks_r fits) ∙ fault_of-answer bytes s speaks_s fits_s) speaks_r speaks_s fits fits_s
+    same_answer bytes r s (sym (fault_of-answer bytes r speaks_r fits)
+    ∙ fault_of-answer bytes s speaks_s fits_s) speaks_r speaks_s fits fits_s
 
-pub only_from_fits : (o : Option (List ℕ)) (r : Result Trace ReadError) → IfSome o (λ bytes. IsAnswer bytes r) → IfSome o (λ bytes. IsOnlyAnswer bytes r)
+pub only_from_fits : (o : Option (List ℕ)) (r : Result Trace ReadError) → IfSome o (λ bytes. IsAnswer bytes r)
+    → IfSome o (λ bytes. IsOnlyAnswer bytes r)
 only_from_fits None r fits = tt
 only_from_fits (Some bytes) r fits = only_answer bytes r fits
 
@@ -109,15 +120,19 @@ known_parts : (held bytes rest : List ℕ) → (r : Receives [] held (Some bytes
 known_parts held bytes rest r = r.2 ∙ ap (λ (t : List ℕ). t ++ rest) (sym r.1)
 
 -- the header's fault is that of the front
-fault_known : (order : Endianness) (held bytes rest : List ℕ) → Receives [] held (Some bytes) (Some rest) → (24 ≤ length held) ⊎ IsAtEnd (Some rest) → header_fault (number_in order) bytes ≡ header_fault (number_in order) held
+fault_known : (order : Endianness) (held bytes rest : List ℕ) → Receives [] held (Some bytes) (Some rest)
+    → (24 ≤ length held) ⊎ IsAtEnd (Some rest) → header_fault (number_in order) bytes ≡ header_fault (number_in order) held
 fault_known order held bytes rest r filled =
-    ap (header_fault (number_in order)) (known_parts held bytes rest r) ∙ header_fault-known (number_in order) (number_first order) held rest filled
+    ap (header_fault (number_in order)) (known_parts held bytes rest r)
+    ∙ header_fault-known (number_in order) (number_first order) held rest filled
 
-any_fault_known : (held bytes rest : List ℕ) (e : ReadError) → Receives [] held (Some bytes) (Some rest) → (24 ≤ length held) ⊎ IsAtEnd (Some rest) → IsHeaderFault held e → IsHeaderFault bytes e
+any_fault_known : (held bytes rest : List ℕ) (e : ReadError) → Receives [] held (Some bytes) (Some rest)
+    → (24 ≤ length held) ⊎ IsAtEnd (Some rest) → IsHeaderFault held e → IsHeaderFault bytes e
 any_fault_known held bytes rest errors.Magic r filled h = λ order. fault_known order held bytes rest r filled ∙ h order
 any_fault_known held bytes rest e r filled h = (h.0, fault_known h.0 held bytes rest r filled ∙ h.1)
 
-pub fits_fault : (before left : Option (List ℕ)) (held : List ℕ) (e : ReadError) → Receives [] held before left → (24 ≤ length held) ⊎ IsAtEnd left → IsHeaderFault held e
+pub fits_fault : (before left : Option (List ℕ)) (held : List ℕ) (e : ReadError) → Receives [] held before left
+    → (24 ≤ length held) ⊎ IsAtEnd left → IsHeaderFault held e
     → IfSome before (λ bytes. IsAnswer bytes (Err e))
 fits_fault None left held e r filled fault = tt
 fits_fault (Some bytes) None held e r filled fault = absurd r.2
@@ -135,12 +150,16 @@ body_fits order bytes (Err errors.Magic) header ok fault = absurd fault
 body_fits order bytes (Err errors.Version) header ok fault = absurd fault
 body_fits order bytes (Err errors.LinkType) header ok fault = absurd fault
 
-told_ok : (number : Order) (r : Result Trace ReadError) (b c : List ℕ) → b ≡ c → IfOk r (λ t. IsBody number b t.frames t.skipped (ending_of t.cut)) → IfOk r (λ t. IsBody number c t.frames t.skipped (ending_of t.cut))
+told_ok : (number : Order) (r : Result Trace ReadError) (b c : List ℕ) → b ≡ c
+    → IfOk r (λ t. IsBody number b t.frames t.skipped (ending_of t.cut))
+    → IfOk r (λ t. IsBody number c t.frames t.skipped (ending_of t.cut))
 told_ok number r b c is ok = subst (λ (x : List ℕ). IfOk r (λ t. IsBody number x t.frames t.skipped (ending_of t.cut))) is ok
 
-pub fits_body : (order : Endianness) (before left : Option (List ℕ)) (held : List ℕ) (r : Result Trace ReadError) → Receives [] held before left → (24 ≤ length held) ⊎ IsAtEnd left
+pub fits_body : (order : Endianness) (before left : Option (List ℕ)) (held : List ℕ) (r : Result Trace ReadError)
+    → Receives [] held before left → (24 ≤ length held) ⊎ IsAtEnd left
     → header_fault (number_in order) held ≡ None
-    → IfOk r (λ t. IfSome (prepend_known (drop 24 held) left) (λ bytes. IsBody (number_in order) bytes t.frames t.skipped (ending_of t.cut)))
+    → IfOk r (λ t. IfSome (prepend_known (drop 24 held) left)
+    (λ bytes. IsBody (number_in order) bytes t.frames t.skipped (ending_of t.cut)))
     → IfErr r (λ e. IfSome (prepend_known (drop 24 held) left) (λ bytes. IsBodyFault (number_in order) bytes e))
     → IfSome before (λ bytes. IsAnswer bytes r)
 fits_body order None left held r got filled header ok fault = tt
@@ -149,5 +168,7 @@ fits_body order (Some bytes) (Some rest) held r got filled header ok fault =
     let number = number_in order in
     let held_header = IsFileHeader-from_none number held header in
     let whole = IsFileHeader-from_none number bytes (fault_known order held bytes rest got filled ∙ header) in
-    let behind : drop 24 held ++ rest ≡ drop 24 bytes = sym (ap (drop 24) (known_parts held bytes rest got) ∙ drop-append-le 24 held rest held_header.long_enough) in
-    body_fits order bytes r whole (told_ok number r (drop 24 held ++ rest) (drop 24 bytes) behind ok) (subst (λ (x : List ℕ). IfErr r (λ e. IsBodyFault number x e)) behind fault)
+    let behind : drop 24 held ++ rest ≡ drop 24 bytes = sym (ap (drop 24) (known_parts held bytes rest got)
+    ∙ drop-append-le 24 held rest held_header.long_enough) in
+    body_fits order bytes r whole (told_ok number r (drop 24 held ++ rest) (drop 24 bytes) behind ok)
+    (subst (λ (x : List ℕ). IfErr r (λ e. IsBodyFault number x e)) behind fault)

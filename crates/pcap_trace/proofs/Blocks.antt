@@ -14,14 +14,16 @@ slice_range-drop xs start end count =
     between_is xs (start + count) end ∙ sym (drop-drop count start (take end xs)) ∙ ap (drop count) (sym (between_is xs start end))
 
 -- what was held comes first, moved to the front
-take-copy_within : (xs : List ℕ) (start end : ℕ) → start ≤ end → end ≤ length xs → take (end - start) (copy_within xs start end 0) ≡ slice_range xs start end
+take-copy_within : (xs : List ℕ) (start end : ℕ) → start ≤ end → end ≤ length xs
+    → take (end - start) (copy_within xs start end 0) ≡ slice_range xs start end
 take-copy_within xs start end order within =
     let held = take (end - start) (drop start xs) in
     let all : length held ≡ end - start = length-take-le (end - start) (drop start xs) (omega (arith, length-drop start xs)) in
     take_at held (drop (0 + (end - start)) xs) (end - start) all
 
 -- one read behind what was moved to the front
-pub read_more : (old moved new after : List ℕ) (start end count : ℕ) (a b : Option (List ℕ)) → start ≤ end → end ≤ length old → moved ≡ copy_within old start end 0
+pub read_more : (old moved new after : List ℕ) (start end count : ℕ) (a b : Option (List ℕ)) → start ≤ end → end ≤ length old
+    → moved ≡ copy_within old start end 0
     → take (end - start) new ≡ take (end - start) moved → Consumes a b (slice_range new (end - start) (end - start + count)) → after ≡ new
     → Receives (slice_range old start end) (slice_range after 0 (end - start + count)) a b
 read_more old moved new after start end count a b order within moved_is front took after_is =
@@ -30,5 +32,6 @@ read_more old moved new after start end count a b order within moved_is front to
     let first : take k new ≡ held = front ∙ ap (take k) moved_is ∙ take-copy_within old start end order within in
     let more : slice_range new k (k + count) ≡ take count (drop k new) = ap (λ (n : ℕ). take n (drop k new)) (omega arith) in
     let whole : slice_range after 0 (k + count) ≡ held ++ slice_range new k (k + count) =
-    ap (λ (t : List ℕ). slice_range t 0 (k + count)) after_is ∙ between_from_start new (k + count) ∙ take-add k count new ∙ ap (λ (t : List ℕ). t ++ take count (drop k new)) first ∙ ap (λ (t : List ℕ). held ++ t) (sym more) in
+    ap (λ (t : List ℕ). slice_range t 0 (k + count)) after_is ∙ between_from_start new (k + count) ∙ take-add k count new
+    ∙ ap (λ (t : List ℕ). t ++ take count (drop k new)) first ∙ ap (λ (t : List ℕ). held ++ t) (sym more) in
     (slice_range new k (k + count), whole, took)

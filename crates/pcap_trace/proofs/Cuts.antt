@@ -14,7 +14,8 @@ cut-push (n ∷ ns) bytes more all =
     let rest_sum = sum_by-cons (λ (x : ℕ). x) n ns in
     let fits : n ≤ length bytes = omega arith in
     let rest_all : sum ns ≡ length (drop n bytes) = omega (arith, length-drop n bytes) in
-    rw (take-append-le n bytes more fits, drop-append-le n bytes more fits) (ap (λ (x : List (List ℕ)). take n bytes ∷ x) (cut-push ns (drop n bytes) more rest_all))
+    rw (take-append-le n bytes more fits, drop-append-le n bytes more fits)
+    (ap (λ (x : List (List ℕ)). take n bytes ∷ x) (cut-push ns (drop n bytes) more rest_all))
 
 pub length-cut : (ns bytes : List ℕ) → length (cut ns bytes) ≡ length ns
 length-cut [] bytes = refl

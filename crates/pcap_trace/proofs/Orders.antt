@@ -33,10 +33,12 @@ never_both a b c d m n little big is_little is_big =
 
 pub both_orders : (bytes : List ℕ) → IsTrue (is_magic (little_number 4 bytes)) → IsTrue (is_magic (big_number 4 bytes)) → ⊥
 both_orders bytes little big =
-    never_both (slice_index bytes 0) (slice_index bytes 1) (slice_index bytes 2) (slice_index bytes 3) (little_number 4 bytes) (big_number 4 bytes) (omega arith) (omega arith)
+    never_both (slice_index bytes 0) (slice_index bytes 1) (slice_index bytes 2) (slice_index bytes 3) (little_number 4 bytes)
+    (big_number 4 bytes) (omega arith) (omega arith)
     (magic_cases (little_number 4 bytes) little) (magic_cases (big_number 4 bytes) big)
 
-pub one_order : (bytes : List ℕ) (o p : Endianness) → IsTrue (is_magic (number_in o 4 bytes)) → IsTrue (is_magic (number_in p 4 bytes)) → o ≡ p
+pub one_order : (bytes : List ℕ) (o p : Endianness) → IsTrue (is_magic (number_in o 4 bytes)) → IsTrue (is_magic (number_in p 4 bytes))
+    → o ≡ p
 one_order bytes Big Big m n = refl
 one_order bytes Little Little m n = refl
 one_order bytes Big Little m n = absurd (both_orders bytes n m)

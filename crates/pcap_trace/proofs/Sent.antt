@@ -1,5 +1,6 @@
 -- What went to a sink, in pieces.
-use Rattle.std.proofs.Common.{◌≡◌, ◌+◌, ℕ, List, [], ◌∷◌, ◌++◌, length, take, drop, Option, refl, sym, ap, ◌∙◌, append_assoc, take-append-drop, zero-add, suc-add}
+use Rattle.std.proofs.Common.{◌≡◌, ◌+◌, ℕ, List, [], ◌∷◌, ◌++◌, length, take, drop, Option, refl, sym, ap, ◌∙◌, append_assoc}
+use Rattle.std.proofs.Common.{take-append-drop, zero-add, suc-add}
 use Rattle.std.proofs.lemmas.List.{take_at}
 use Rattle.std.specs.Io.KnownBytes.{Appends, Keeps}
 use Rattle.std.proofs.KnownBytes.{Appends-trans, Appends-kept}
@@ -22,7 +23,8 @@ AppendsFront-then a b c x y went more = (length x + more.0, rw take-past (Append
 take-longer : (n : ℕ) (x y : List ℕ) → take n x ≡ take (length (take n x)) (x ++ y)
 take-longer n x y =
     let f = take n x in
-    sym (ap (λ (t : List ℕ). take (length f) (t ++ y)) (sym (take-append-drop n x)) ∙ ap (take (length f)) (append_assoc f (drop n x) y) ∙ take_at f (drop n x ++ y) (length f) refl)
+    sym (ap (λ (t : List ℕ). take (length f) (t ++ y)) (sym (take-append-drop n x)) ∙ ap (take (length f)) (append_assoc f (drop n x) y)
+    ∙ take_at f (drop n x ++ y) (length f) refl)
 
 pub AppendsFront-longer : (a b : Option (List ℕ)) (x y : List ℕ) → AppendsFront a b x → AppendsFront a b (x ++ y)
 AppendsFront-longer a b x y went = (length (take went.0 x), rw (← take-longer went.0 x y) went.1)
@@ -33,7 +35,8 @@ AppendsFront-longer a b x y went = (length (take went.0 x), rw (← take-longer 
 abbrev pub SentUpTo : Option (List ℕ) → Option (List ℕ) → List ℕ → List ℕ → Type 0
 SentUpTo a b bytes rest = (front : List ℕ) × (bytes ≡ front ++ rest) × Appends a b front
 
-pub SentUpTo-more : (a b c : Option (List ℕ)) (bytes rest : List ℕ) (n : ℕ) → SentUpTo a b bytes rest → Appends b c (take n rest) → SentUpTo a c bytes (drop n rest)
+pub SentUpTo-more : (a b c : Option (List ℕ)) (bytes rest : List ℕ) (n : ℕ) → SentUpTo a b bytes rest → Appends b c (take n rest)
+    → SentUpTo a c bytes (drop n rest)
 SentUpTo-more a b c bytes rest n sent more = (
   sent.0 ++ take n rest,
   sent.1 ∙ ap (λ (t : List ℕ). sent.0 ++ t) (sym (take-append-drop n rest)) ∙ sym (append_assoc sent.0 (take n rest) (drop n rest)),

@@ -1,5 +1,6 @@
 -- What is written is a trace of exactly these frames.
-use Rattle.std.proofs.Common.{◌≡◌, ◌<◌, ◌^◌, ℕ, List, [], ◌∷◌, ◌++◌, Bool, true, false, length, drop, map, refl, sym, ap, subst, ◌∙◌, append-nil, arith}
+use Rattle.std.proofs.Common.{◌≡◌, ◌<◌, ◌^◌, ℕ, List, [], ◌∷◌, ◌++◌, Bool, true, false, length, drop, map, refl, sym, ap, subst, ◌∙◌}
+use Rattle.std.proofs.Common.{append-nil, arith}
 use Rattle.std.specs.List.{flat_map, AllByRecursion}
 use Rattle.std.proofs.lemmas.List.{length-append}
 use Rattle.std.proofs.lemmas.List.Concat.{flat_map-cons}
@@ -8,7 +9,9 @@ use Rattle.byteorder.specs.Endian.{little_number, little_bytes}
 use Rattle.byteorder.specs.Numbers.{little_number-reads_back}
 use Rattle.pcap_trace.specs.declared.header.Endianness.{Endianness}
 use Rattle.pcap_trace.specs.declared.header.Endianness.TheVariants.{Little}
-use Rattle.pcap_trace.specs.Format.{number_in, Packet, Timed, complete, captured_length, original_length, packet_bytes, IsPacket, is_partial, frames_of, skipped_of, ending_of, IsTraceIn, file_header, packet_header, packet_of, written, frame_of, IsShort, WrittenIsTrace, WrittenIsNoOther}
+use Rattle.pcap_trace.specs.Format.{number_in, Packet, Timed, complete, captured_length, original_length, packet_bytes, IsPacket}
+use Rattle.pcap_trace.specs.Format.{is_partial, frames_of, skipped_of, ending_of, IsTraceIn, file_header, packet_header, packet_of, written}
+use Rattle.pcap_trace.specs.Format.{frame_of, IsShort, WrittenIsTrace, WrittenIsNoOther}
 use Rattle.pcap_trace.proofs.Orders.{number_first, one_order}
 use Rattle.pcap_trace.proofs.Unique.{body_unique}
 
@@ -18,7 +21,8 @@ written_packet t = record { header = packet_header t.time (length t.frame); capt
 
 packets-written : (ts : List Timed) → flat_map packet_bytes (map written_packet ts) ≡ flat_map packet_of ts
 packets-written [] = refl
-packets-written (t ∷ ts) = flat_map-cons packet_bytes (written_packet t) (map written_packet ts) ∙ ap (λ (x : List ℕ). packet_of t ++ x) (packets-written ts) ∙ sym (flat_map-cons packet_of t ts)
+packets-written (t ∷ ts) = flat_map-cons packet_bytes (written_packet t) (map written_packet ts)
+    ∙ ap (λ (x : List ℕ). packet_of t ++ x) (packets-written ts) ∙ sym (flat_map-cons packet_of t ts)
 
 captured_length-written : (time len : ℕ) → len < 2 ^ 32 → captured_length little_number (packet_header time len) ≡ len
 unfolding packet_header
@@ -30,7 +34,8 @@ original_length-written time len fits = little_number-reads_back 4 len [] fits
 
 packet-whole : (t : Timed) → IsShort t → IsPacket little_number (written_packet t)
 unfolding packet_header
-packet-whole t short = record { header_length = refl; captured_is = sym (captured_length-written t.time (length t.frame) (omega arith)); short_enough = short }
+packet-whole t short = record
+    { header_length = refl; captured_is = sym (captured_length-written t.time (length t.frame) (omega arith)); short_enough = short }
 
 packets-whole : (ts : List Timed) → AllByRecursion IsShort ts → AllByRecursion (IsPacket little_number) (map written_packet ts)
 packets-whole [] short = tt
@@ -82,6 +87,8 @@ pub no_other : WrittenIsNoOther
 unfolding file_header found
 no_other ts frames skipped cut short t =
     let is_little : t.0 ≡ Little = one_order (written ts) t.0 Little t.1.0.magic_is refl in
-    let moved : IsTraceIn little_number (written ts) frames skipped cut = subst (λ (o : Endianness). IsTraceIn (number_in o) (written ts) frames skipped cut) is_little t.1 in
-    let same = body_unique little_number (number_first Little) (drop 24 (written ts)) frames (map frame_of ts) skipped 0 (ending_of cut) complete moved.1 (found ts short).1.1 in
+    let moved : IsTraceIn little_number (written ts) frames skipped cut = subst
+    (λ (o : Endianness). IsTraceIn (number_in o) (written ts) frames skipped cut) is_little t.1 in
+    let same = body_unique little_number (number_first Little) (drop 24 (written ts)) frames (map frame_of ts) skipped 0
+    (ending_of cut) complete moved.1 (found ts short).1.1 in
     (same.0, same.1, complete_uncut cut same.2)

@@ -1,5 +1,6 @@
 -- The trace files of libpcap, version 2.4 (pcap-savefile): a file header, packets, and perhaps the beginning of one more packet.
-use Rattle.std.specs.Prelude.{◌≡◌, ◌==◌, ◌||◌, ◌<◌, ◌≤◌, ◌+◌, ◌/◌, ◌%◌, ◌^◌, ◌⊎◌, ◌++◌, ℕ, suc, List, [], ◌∷◌, length, drop, Bool, true, false, IsTrue, nat_lt, if◌then◌else◌, map}
+use Rattle.std.specs.Prelude.{◌≡◌, ◌==◌, ◌||◌, ◌<◌, ◌≤◌, ◌+◌, ◌/◌, ◌%◌, ◌^◌, ◌⊎◌, ◌++◌, ℕ, suc, List, [], ◌∷◌, length, drop, Bool, true}
+use Rattle.std.specs.Prelude.{false, IsTrue, nat_lt, if◌then◌else◌, map}
 use Rattle.std.specs.List.{flat_map, AllByRecursion}
 use Rattle.byteorder.specs.Endian.{big_number, little_number, little_bytes}
 use Rattle.pcap_trace.specs.declared.header.Endianness.{Endianness}
@@ -130,11 +131,13 @@ timed p = record { time = p.0; frame = p.1 }
 
 -- little-endian, microseconds, version 2.4, snapshot length 65,535, Ethernet
 unfoldable pub file_header : List ℕ
-file_header = little_bytes 4 microseconds_magic ++ little_bytes 2 2 ++ little_bytes 2 4 ++ little_bytes 4 0 ++ little_bytes 4 0 ++ little_bytes 4 65535 ++ little_bytes 4 1
+file_header = little_bytes 4 microseconds_magic ++ little_bytes 2 2 ++ little_bytes 2 4 ++ little_bytes 4 0 ++ little_bytes 4 0
+    ++ little_bytes 4 65535 ++ little_bytes 4 1
 
 -- seconds (their low 32 bits), microseconds, and the length twice
 unfoldable pub packet_header : ℕ → ℕ → List ℕ
-packet_header time len = little_bytes 4 (time / 1000000 % 2 ^ 32) ++ little_bytes 4 (time % 1000000) ++ little_bytes 4 len ++ little_bytes 4 len
+packet_header time len = little_bytes 4 (time / 1000000 % 2 ^ 32) ++ little_bytes 4 (time % 1000000) ++ little_bytes 4 len
+    ++ little_bytes 4 len
 
 abbrev pub packet_of : Timed → List ℕ
 packet_of t = packet_header t.time (length t.frame) ++ t.frame

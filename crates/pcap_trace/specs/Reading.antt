@@ -1,5 +1,6 @@
 -- What may be answered to the bytes of a trace file.
-use Rattle.std.specs.Prelude.{◌≡◌, ◌+◌, ◌==◌, ◌&&◌, ℕ, List, length, drop, Bool, true, false, not, nat_lt, if◌then◌else◌, Option, Some, None, Result, Ok, Err, ⊤}
+use Rattle.std.specs.Prelude.{◌≡◌, ◌+◌, ◌==◌, ◌&&◌, ℕ, List, length, drop, Bool, true, false, not, nat_lt, if◌then◌else◌, Option, Some}
+use Rattle.std.specs.Prelude.{None, Result, Ok, Err, ⊤}
 use Rattle.pcap_trace.specs.declared.fault.ReadError.{ReadError}
 use Rattle.pcap_trace.specs.declared.fault.ReadError.TheVariants as errors
 use Rattle.pcap_trace.specs.declared.header.Endianness.{Endianness}
@@ -27,7 +28,8 @@ HasOversized number bytes = (frames : List (List ℕ)) × (skipped : ℕ) × IsB
 -- The answer fits the bytes. Want of memory and a failed device say nothing of them. (own)
 abbrev pub IsAnswer : List ℕ → Result Trace ReadError → Type 0
 IsAnswer bytes (Ok t) = IsTrace bytes t.frames t.skipped t.cut
-IsAnswer bytes (Err errors.Record) = (order : Endianness) × IsFileHeader (number_in order) bytes × HasOversized (number_in order) (drop 24 bytes)
+IsAnswer bytes (Err errors.Record) = (order : Endianness) × IsFileHeader (number_in order) bytes
+    × HasOversized (number_in order) (drop 24 bytes)
 IsAnswer bytes (Err errors.Memory) = ⊤
 IsAnswer bytes (Err errors.Read) = ⊤
 IsAnswer bytes (Err e) = IsHeaderFault bytes e

@@ -1,5 +1,6 @@
 //! A block of the bytes of a source, from which packets are read.
-ghost use Rattle.std.specs.Prelude.{◌≡◌, ◌<◌, ◌≤◌, ◌+◌, ◌++◌, ◌⊎◌, ◌↔◌, [], List, ℕ, length, take, drop, slice_range, IsTrue, IfOk, OnOk, OnErr, MatchResult};
+ghost use Rattle.std.specs.Prelude.{◌≡◌, ◌<◌, ◌≤◌, ◌+◌, ◌++◌, ◌⊎◌, ◌↔◌, [], List, ℕ, length, take, drop, slice_range};
+ghost use Rattle.std.specs.Prelude.{IsTrue, IfOk, OnOk, OnErr, MatchResult};
 ghost use Rattle.std.specs.Io.KnownBytes.{Consumes, IsAtEnd, Keeps, prepend_known};
 ghost use Rattle.pcap_trace.specs.Devices.{CountsFaults, Receives};
 
@@ -41,7 +42,8 @@ fn read_behind<S: Source>(
     requires room { end < length bytes.old }
     ensures front { take end bytes.new ≡ take end bytes.old }
     ensures fits { IfOk result (λ n. end + n ≤ length bytes.old) }
-    ensures read { IfOk result (λ n. Consumes (S.left source.old) (S.left source.new) (slice_range bytes.new end (end + n))) }
+    ensures read { IfOk result
+        (λ n. Consumes (S.left source.old) (S.left source.new) (slice_range bytes.new end (end + n))) }
     ensures at_end { IfOk result (λ n. n ≡ 0 → IsAtEnd (S.left source.new)) }
     ensures limit { IfOk result (λ n. S.most source.new + n ≤ S.most source.old) }
     ensures faults { CountsFaults result (S.faults source.old) (S.faults source.new) }
@@ -79,7 +81,8 @@ impl Block {
         self.start += count;
     }
 
-    /// Moves what it holds to the front of its memory, and reads once from a source behind it. There has to be room for a byte.
+    /// Moves what it holds to the front of its memory, and reads once from a source behind it. There has to be room
+    /// for a byte.
     fn read_more<S: Source>(&mut self, source: &mut S) -> Result<usize, DeviceError>
         requires sound { S.faults source.old < u64.MAX }
         requires room { length self.old < ROOM }

@@ -12,7 +12,8 @@ pub struct DeviceError;
 
 /// What bytes are read from, as a file or a slice.
 ///
-/// A call that is handed a source asks that it has failed fewer than 2^64 - 1 times, as its count could not grow otherwise.
+/// A call that is handed a source asks that it has failed fewer than 2^64 - 1 times, as its count could not grow
+/// otherwise.
 pub trait Source {
     /// The bytes that are left to read, where the source tells them.
     ghost left: { Self → Option (List ℕ) };
@@ -23,12 +24,13 @@ pub trait Source {
     /// How often it has failed.
     ghost faults: { Self → ℕ };
 
-    /// Reads bytes into the front of a slice, and answers how many. None, where the slice isn't empty, is the end. An `Err` uses up
-    /// none, and adds 1 to the failures.
+    /// Reads bytes into the front of a slice, and answers how many. None, where the slice isn't empty, is the end. An
+    /// `Err` uses up none, and adds 1 to the failures.
     fn read(&mut self, into: &mut [u8]) -> Result<usize, DeviceError>
         requires { faults self.old < u64.MAX }
         ensures count { IfOk result (λ n. n ≤ length into.old) }
-        ensures limit { MatchResult result (λ n. most self.new + n ≤ most self.old) (λ _. most self.new ≤ most self.old) }
+        ensures limit { MatchResult result (λ n. most self.new + n ≤ most self.old)
+            (λ _. most self.new ≤ most self.old) }
         ensures bytes { ReadConsumes (left self.old) (left self.new) result into.new }
         ensures faults { CountsFaults result (faults self.old) (faults self.new) };
 
@@ -43,7 +45,8 @@ pub trait Source {
 
 /// What bytes are written to, as a file or a vector.
 ///
-/// A call that is handed a sink asks that it has failed fewer than 2^64 - 1 times, as its count could not grow otherwise.
+/// A call that is handed a sink asks that it has failed fewer than 2^64 - 1 times, as its count could not grow
+/// otherwise.
 pub trait Sink {
     /// The bytes that it has taken, where the sink tells them.
     ghost taken: { Self → Option (List ℕ) };
@@ -51,8 +54,8 @@ pub trait Sink {
     /// How often it has failed.
     ghost faults: { Self → ℕ };
 
-    /// Takes bytes from the front of a slice, and answers how many: at least one where there is one. An `Err` takes none, and adds 1 to
-    /// the failures.
+    /// Takes bytes from the front of a slice, and answers how many: at least one where there is one. An `Err` takes
+    /// none, and adds 1 to the failures.
     fn write(&mut self, bytes: &[u8]) -> Result<usize, DeviceError>
         requires { faults self.old < u64.MAX }
         ensures count { IfOk result (λ n. n ≤ length bytes.now) }

@@ -20,14 +20,15 @@ const NO_MEMORY: u8 = 4;
 
 /// Why a trace was not read. A refused read gives no part of the trace.
 ///
-/// The first four are faults of the file header (libpcap, "pcap-savefile", File Header), looked for in this order; of several the
-/// first one is answered. The text of each is what a program prints behind its name.
+/// The first four are faults of the file header (libpcap, "pcap-savefile", File Header), looked for in this order; of
+/// several the first one is answered. The text of each is what a program prints behind its name.
 #[derive(Clone, Copy, Debug, PartialEq, Eq, Error)]
 pub enum ReadError {
     /// E60: the source has fewer than the 24 bytes of a file header.
     #[error("E60 Header")]
     Header,
-    /// E61: the first four bytes are neither 0xA1B2C3D4 (times in microseconds) nor 0xA1B23C4D (nanoseconds), in either byte order.
+    /// E61: the first four bytes are neither 0xA1B2C3D4 (times in microseconds) nor 0xA1B23C4D (nanoseconds), in
+    /// either byte order.
     #[error("E61 Magic")]
     Magic,
     /// E62: the version isn't 2.4.
@@ -48,8 +49,8 @@ pub enum ReadError {
 }
 
 impl ReadError {
-    /// The exit status of a program that ends for this fault: 1 where the trace is refused, 3 where the source failed, 4 for want of
-    /// memory.
+    /// The exit status of a program that ends for this fault: 1 where the trace is refused, 3 where the source
+    /// failed, 4 for want of memory.
     pub fn status(&self) -> u8
         ensures { result ≡ read_status self.now }
     {

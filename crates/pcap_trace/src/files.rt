@@ -5,7 +5,8 @@ ghost use Rattle.pcap_trace.specs.Devices.{first_of};
 use crate::device::{DeviceError, Sink, Source};
 use std::io::{Read, Write};
 
-/// The first bytes of a reader as a source. With the length that a file had when it was opened, what it grows by later isn't read.
+/// The first bytes of a reader as a source. With the length that a file had when it was opened, what it grows by
+/// later isn't read.
 #[derive(Drop)]
 pub struct ReaderSource<R> {
     reader: R,

@@ -71,7 +71,8 @@ impl Frames {
     }
 }
 
-/// The frames that are left of a [`Frames`], from its first one on. A contract sees it as the list of them; at its end it stays there.
+/// The frames that are left of a [`Frames`], from its first one on. A contract sees it as the list of them; at its
+/// end it stays there.
 #[derive(Drop)]
 pub struct Iter<'a> {
     bytes: &'a [u8],

@@ -18,7 +18,8 @@ pub enum Endianness {
 
 /// Tests the file header at the front, whose numbers are in this byte order.
 fn check_header<T: ByteOrder>(bytes: &[u8]) -> Result<(), ReadError>
-    ensures { MatchResult result (λ _. header_fault T.number_of bytes.now ≡ None) (λ e. header_fault T.number_of bytes.now ≡ Some e) }
+    ensures { MatchResult result (λ _. header_fault T.number_of bytes.now ≡ None)
+        (λ e. header_fault T.number_of bytes.now ≡ Some e) }
 {
     if bytes.len() < FILE_HEADER {
         return Err(ReadError::Header);

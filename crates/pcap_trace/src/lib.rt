@@ -1,7 +1,8 @@
-//! Packet traces of libpcap (its manual page "pcap-savefile", version 2.4): frames read from a [`Source`], and written to a [`Sink`].
+//! Packet traces of libpcap (its manual page "pcap-savefile", version 2.4): frames read from a [`Source`], and
+//! written to a [`Sink`].
 //!
-//! [`Trace::read`] reads a whole trace, [`Trace::write`] writes one, and [`RecordWriter`] writes one packet by packet in large blocks.
-//! Every failure of a device is told, as E66 or E67.
+//! [`Trace::read`] reads a whole trace, [`Trace::write`] writes one, and [`RecordWriter`] writes one packet by packet
+//! in large blocks. Every failure of a device is told, as E66 or E67.
 #![tactic(auto)]
 
 mod block;

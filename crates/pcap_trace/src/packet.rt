@@ -1,4 +1,5 @@
-//! The headers of a trace file and of its packets, as they are written (libpcap, "pcap-savefile", File Header and Packet Header).
+//! The headers of a trace file and of its packets, as they are written (libpcap, "pcap-savefile", File Header and
+//! Packet Header).
 ghost use Rattle.std.specs.Prelude.{◌≡◌};
 ghost use Rattle.pcap_trace.specs.Format.{file_header, packet_header};
 

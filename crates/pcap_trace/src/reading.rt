@@ -49,12 +49,16 @@ fn read_body<T: ByteOrder, S: Source>(
 ) -> Result<Trace, ReadError>
     requires sound { S.faults source.old < u64.MAX }
     requires small { length block.old ≤ 327696 }
-    ensures ok { IfOk result (λ t. IfSome (prepend_known block.old (S.left source.old)) (λ bytes. IsBody T.number_of bytes t.frames t.skipped (ending_of t.cut))) }
-    ensures fault { IfErr result (λ e. IfSome (prepend_known block.old (S.left source.old)) (λ bytes. IsBodyFault T.number_of bytes e)) }
+    ensures ok { IfOk result
+        (λ t. IfSome (prepend_known block.old (S.left source.old))
+        (λ bytes. IsBody T.number_of bytes t.frames t.skipped (ending_of t.cut))) }
+    ensures fault { IfErr result
+        (λ e. IfSome (prepend_known block.old (S.left source.old)) (λ bytes. IsBodyFault T.number_of bytes e)) }
     ensures failure { TellsFailure result (S.faults source.old) (S.faults source.new) }
     ensures end { OnOk result (IsAtEnd (S.left source.new)) }
 {
-    // It can give fewer than 2^64 bytes, and each skipped packet takes 16 of them, so that the count of these does not overflow.
+    // It can give fewer than 2^64 bytes, and each skipped packet takes 16 of them, so that the count of these does
+    // not overflow.
     let _limit = source.limit();
     let mut frames = Frames::new(alloc);
     let mut skipped = 0;
@@ -86,13 +90,15 @@ fn read_body<T: ByteOrder, S: Source>(
 }
 
 impl Trace {
-    /// Reads the trace that a source has left, up to its end: a trace file of libpcap version 2.4 (its manual page "pcap-savefile"),
-    /// big-endian or little-endian, with times in microseconds or nanoseconds, of link type Ethernet. The snapshot length, the two
-    /// words before it and all times are ignored. It takes memory for a block of 320 KiB, given back at the end, and for the frames.
+    /// Reads the trace that a source has left, up to its end: a trace file of libpcap version 2.4 (its manual page
+    /// "pcap-savefile"), big-endian or little-endian, with times in microseconds or nanoseconds, of link type
+    /// Ethernet. The snapshot length, the two words before it and all times are ignored. It takes memory for a block
+    /// of 320 KiB, given back at the end, and for the frames.
     ///
-    /// The faults of the file header, E60 to E63, are looked for in this order, and before any packet. E64 comes where, behind
-    /// whole packets, a whole packet header tells more than 262,144 captured bytes, whatever stands behind it. E65 is want of
-    /// memory. A device's failure is E66 and never anything else. After an error some bytes of the source are used up.
+    /// The faults of the file header, E60 to E63, are looked for in this order, and before any packet. E64 comes
+    /// where, behind whole packets, a whole packet header tells more than 262,144 captured bytes, whatever stands
+    /// behind it. E65 is want of memory. A device's failure is E66 and never anything else. After an error some bytes
+    /// of the source are used up.
     pub fn read<S: Source>(alloc: Global, source: &mut S) -> Result<Trace, ReadError>
         requires { S.faults source.old < u64.MAX }
 

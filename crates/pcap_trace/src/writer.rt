@@ -14,11 +14,11 @@ use std::marker::Model;
 /// Bytes that go to the sink at once.
 const BLOCK: usize = 65_536;
 
-/// Writes a trace packet by packet: little-endian, times in microseconds, version 2.4, snapshot length 65,535, link type Ethernet
-/// (libpcap, "pcap-savefile").
+/// Writes a trace packet by packet: little-endian, times in microseconds, version 2.4, snapshot length 65,535, link
+/// type Ethernet (libpcap, "pcap-savefile").
 ///
-/// What waits for the sink stands in a block of 64 KiB, whose memory is made with it. A contract sees it as the bytes that wait. The
-/// last ones go out by [`RecordWriter::flush`].
+/// What waits for the sink stands in a block of 64 KiB, whose memory is made with it. A contract sees it as the bytes
+/// that wait. The last ones go out by [`RecordWriter::flush`].
 #[derive(Drop)]
 pub struct RecordWriter {
     block: Vec<u8>,
@@ -44,11 +44,11 @@ impl RecordWriter {
         Ok(RecordWriter { block })
     }
 
-    /// Appends the packet of a frame of at most 1,518 bytes, at a time in microseconds. Where the block has no room for it, what
-    /// waits goes to the sink first.
+    /// Appends the packet of a frame of at most 1,518 bytes, at a time in microseconds. Where the block has no room
+    /// for it, what waits goes to the sink first.
     ///
-    /// After an error (E67) a beginning of what waited went out, and all of it waits still, without this packet: a further flush
-    /// would send that beginning again.
+    /// After an error (E67) a beginning of what waited went out, and all of it waits still, without this packet: a
+    /// further flush would send that beginning again.
     pub fn write<W: Sink>(
         &mut self,
         sink: &mut W,
@@ -57,7 +57,9 @@ impl RecordWriter {
     ) -> Result<(), WriteError>
         requires sound { W.faults sink.old < u64.MAX }
         requires short { length frame.now ≤ 1518 }
-        ensures ok { OnOk result (Appends (append_known (W.taken sink.old) self.old) (append_known (W.taken sink.new) self.new) (packet_of (record { time = time; frame = frame.now }))) }
+        ensures ok { OnOk result
+            (Appends (append_known (W.taken sink.old) self.old) (append_known (W.taken sink.new) self.new)
+            (packet_of (record { time = time; frame = frame.now }))) }
         ensures grows { OnOk result (Grows (W.taken sink.old) (W.taken sink.new)) }
         ensures err { OnErr result (AppendsFront (W.taken sink.old) (W.taken sink.new) self.old) }
         ensures kept { OnErr result (self.new ≡ self.old) }
@@ -84,8 +86,8 @@ impl RecordWriter {
 
     /// Writes what waits to the sink. What was appended since the last flush goes out only by this, so it ends a trace.
     ///
-    /// After an error (E67) a beginning of what waited went out, and all of it waits still: a further flush would send that
-    /// beginning again.
+    /// After an error (E67) a beginning of what waited went out, and all of it waits still: a further flush would
+    /// send that beginning again.
     pub fn flush<W: Sink>(&mut self, sink: &mut W) -> Result<(), WriteError>
         requires { W.faults sink.old < u64.MAX }
         ensures ok { OnOk result (Appends (W.taken sink.old) (W.taken sink.new) self.old) }

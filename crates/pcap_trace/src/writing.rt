@@ -38,15 +38,17 @@ fn write_packet<W: Sink>(sink: &mut W, packet: &(u64, Frame)) -> Result<(), Writ
 }
 
 impl Trace {
-    /// Writes a trace file of these frames, each with its time, a number of microseconds: libpcap version 2.4 (its manual page
-    /// "pcap-savefile"), little-endian, snapshot length 65,535, link type Ethernet, both lengths of a packet the frame's, of the
-    /// seconds the low 32 bits. It takes no memory, and hands the sink two slices a packet; [`RecordWriter`] writes large blocks.
+    /// Writes a trace file of these frames, each with its time, a number of microseconds: libpcap version 2.4 (its
+    /// manual page "pcap-savefile"), little-endian, snapshot length 65,535, link type Ethernet, both lengths of a
+    /// packet the frame's, of the seconds the low 32 bits. It takes no memory, and hands the sink two slices a
+    /// packet; [`RecordWriter`] writes large blocks.
     ///
     /// A device's failure is E67, the only error; then a beginning of the file's bytes went out.
     pub fn write<W: Sink>(sink: &mut W, packets: &[(u64, Frame)]) -> Result<(), WriteError>
         requires { W.faults sink.old < u64.MAX }
         ensures ok { OnOk result (Appends (W.taken sink.old) (W.taken sink.new) (written (map timed packets.now))) }
-        ensures err { OnErr result (AppendsFront (W.taken sink.old) (W.taken sink.new) (written (map timed packets.now))) }
+        ensures err { OnErr result
+            (AppendsFront (W.taken sink.old) (W.taken sink.new) (written (map timed packets.now))) }
         ensures faults { CountsFaults result (W.faults sink.old) (W.faults sink.new) }
     {
         write_all(sink, &file_header())?;

@@ -1,11 +1,14 @@
 -- Lemmas on the bits of a register, for this crate and those above it.
-use Rattle.std.proofs.Common.{◌≡◌, ◌<◌, ◌^◌, ◌*◌, ◌-◌, ◌↔◌, ℕ, zero, suc, min, IsTrue, ◌==◌, bit_and, bit_or, refl, sym, ◌∙◌, ap, subst, inl, inr, arith}
+use Rattle.std.proofs.Common.{◌≡◌, ◌<◌, ◌^◌, ◌*◌, ◌-◌, ◌↔◌, ℕ, zero, suc, min, IsTrue, ◌==◌, bit_and, bit_or, refl, sym, ◌∙◌, ap, subst}
+use Rattle.std.proofs.Common.{inl, inr, arith}
 use Rattle.std.specs.Int.{bit_at, trailing_zeros, w32}
 use Rattle.std.proofs.lemmas.Bool.{cases_eq, cases_lt, eqb-true, eq-eqb}
 use Rattle.std.proofs.lemmas.Bool.Decides.{same_from_decides}
 use Rattle.std.proofs.lemmas.Nat.{pow_pos, and_le_l}
-use Rattle.std.proofs.lemmas.Nat.Bits.{and_pow, bit_at_and, bit_at_or, bit_at_not, bit_at-lt, bit_at-zero, bit_at_above, bit_at-trailing_zeros, same_from_bits}
-use Rattle.registers.specs.Bits.{HasBit, is_set, union, intersection, difference, IsSubset, UnionByPlaces, IntersectionByPlaces, DifferenceByPlaces, MeetByPlaces, SubsetByPlaces, EmptyByPlaces, SameByPlaces}
+use Rattle.std.proofs.lemmas.Nat.Bits.{and_pow, bit_at_and, bit_at_or, bit_at_not, bit_at-lt, bit_at-zero, bit_at_above}
+use Rattle.std.proofs.lemmas.Nat.Bits.{bit_at-trailing_zeros, same_from_bits}
+use Rattle.registers.specs.Bits.{HasBit, is_set, union, intersection, difference, IsSubset, UnionByPlaces, IntersectionByPlaces}
+use Rattle.registers.specs.Bits.{DifferenceByPlaces, MeetByPlaces, SubsetByPlaces, EmptyByPlaces, SameByPlaces}
 
 -- a bit times a power that is the power again is 1
 bit_of_product : (bit power : ℕ) → bit < 2 → 0 < power → bit * power ≡ power → bit ≡ 1
@@ -17,7 +20,8 @@ bit_of_product (suc (suc bit)) power below positive same = absurd (omega arith)
 pub contains_bit : (value place : ℕ) → IsTrue (bit_and value (2 ^ place) == 2 ^ place) ↔ HasBit value place
 contains_bit value place =
     let product : bit_and value (2 ^ place) ≡ bit_at value place * 2 ^ place = and_pow value place in (
-      (λ contained. bit_of_product (bit_at value place) (2 ^ place) (bit_at-lt value place) (pow_pos place) (sym product ∙ eqb-true _ _ contained)),
+      (λ contained. bit_of_product (bit_at value place) (2 ^ place) (bit_at-lt value place) (pow_pos place) (sym product
+          ∙ eqb-true _ _ contained)),
       (λ set. eq-eqb _ _ (product ∙ ap (λ bit. bit * 2 ^ place) set ∙ omega arith)),
     )
 
@@ -55,7 +59,11 @@ HasBit-difference a b place fits_a fits_b =
           let below_a = bit_at-lt a place in
           let below_b = bit_at-lt b place in (
             (λ set. (omega arith, λ in_b. omega arith)),
-            (λ only. elim (cases_eq (bit_at b place) 1) [ inl in_b ↦ absurd (only.1 in_b) | inr not_b ↦ let in_a : bit_at a place ≡ 1 = only.0 in omega arith ]),
+            (λ only. elim (cases_eq (bit_at b place) 1) [
+              | inl in_b ↦ absurd (only.1 in_b)
+              | inr not_b ↦ let in_a : bit_at a place
+                  ≡ 1 = only.0 in omega arith
+            ]),
           )
       | inr beyond ↦
           let none : bit_at a place ≡ 0 = bit_at_above a 32 place fits_a beyond in

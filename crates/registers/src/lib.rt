@@ -1,4 +1,5 @@
-//! Register bits of the Intel 82540EM that have behaviour of their own, its interrupt causes and its statistics counters.
+//! Register bits of the Intel 82540EM that have behaviour of their own, its interrupt causes and its statistics
+//! counters.
 //!
 //! Section numbers are those of Intel's "PCI/PCI-X Family of Gigabit Ethernet Controllers Software Developer's Manual".
 #![tactic(auto)]

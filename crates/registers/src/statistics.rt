@@ -6,8 +6,8 @@ ghost use Rattle.registers.specs.Counting.{greatest_count};
 use std::marker::Model;
 use std::mem;
 
-/// A statistics counter of 32 bits, as MPC, GPRC, GPTC and RNBC (13.7 "Statistics Registers"): it sticks at 0xFFFF_FFFF,
-/// and a read clears it.
+/// A statistics counter of 32 bits, as MPC, GPRC, GPTC and RNBC (13.7 "Statistics Registers"): it sticks at
+/// 0xFFFF_FFFF, and a read clears it.
 #[derive(Clone, Copy, PartialEq, Eq, Debug)]
 pub struct Counter {
     count: u32,

@@ -30,13 +30,15 @@ held memory engine = in_work memory engine.work ++ engine.buffer
 
 -- A frame that is stored is behind the others; any other fate leaves them.
 abbrev pub ArrivalGrowsHeld : Type 0
-ArrivalGrowsHeld = (fate : Fate) (frame memory : List ℕ) (engine : Receiver) → held memory (after_arrival fate frame engine) ≡ held memory engine ++ kept fate frame
+ArrivalGrowsHeld = (fate : Fate) (frame memory : List ℕ) (engine : Receiver)
+    → held memory (after_arrival fate frame engine) ≡ held memory engine ++ kept fate frame
 
 -- the step, where it moves a frame, had one to move and a place for it in memory, which is apart from its descriptor
 pub record MovesApart (control : ℕ) (ring : Ring) (engine : Receiver) (memory : List ℕ) : Type 0 where
   pub has : HasFrameToMove control ring engine
   pub can : CanMove control ring memory (length (oldest engine.buffer))
-  pub apart : AreApart (area_at (named_address memory (address_of ring ring.head)) (length (oldest engine.buffer))) (descriptor_area (address_of ring ring.head))
+  pub apart : AreApart (area_at (named_address memory (address_of ring ring.head)) (length (oldest engine.buffer)))
+      (descriptor_area (address_of ring ring.head))
 
 -- A data step leaves them as they are: the oldest frame of the packet buffer becomes the frame in work.
 abbrev pub DataKeepsHeld : Type 0

@@ -62,5 +62,6 @@ ring_after_data Fault ring = ring
 -- memory: the oldest frame stands where the descriptor at the head says
 abbrev pub memory_after_data : Data → Ring → Receiver → List ℕ → List ℕ
 memory_after_data Nothing ring engine memory = memory
-memory_after_data (Moved low) ring engine memory = with_bytes memory (named_address memory (address_of ring ring.head)) (oldest engine.buffer)
+memory_after_data (Moved low) ring engine memory = with_bytes memory (named_address memory (address_of ring ring.head))
+    (oldest engine.buffer)
 memory_after_data Fault ring engine memory = memory

@@ -8,7 +8,8 @@ ghost use Rattle.dma_memory.specs.Areas.{ChangesOnly, area_at};
 ghost use Rattle.dma_memory.specs.HostMemory.{LiesIn};
 ghost use Rattle.rx_engine.specs.Descriptors.{named_address};
 ghost use Rattle.rx_engine.specs.Receiver.{oldest, IsReceiver};
-ghost use Rattle.rx_engine.specs.Moving.{HasFrameToMove, CanMove, engine_after_data, ring_after_data, memory_after_data, IsMoved, IfMoved, is_half_free};
+ghost use Rattle.rx_engine.specs.Moving.{HasFrameToMove, CanMove, engine_after_data, ring_after_data};
+ghost use Rattle.rx_engine.specs.Moving.{memory_after_data, IsMoved, IfMoved, is_half_free};
 
 use crate::storing::store_within;
 use crate::{RxEngine, Work};
@@ -39,13 +40,13 @@ struct Target {
     buffer: u64,
 }
 
-/// Writes the oldest frame of the packet buffer to the buffer that the descriptor at the head names; the frame is then in
-/// work, and head moves on ("3.2.6 Receive Descriptor Queue Structure").
+/// Writes the oldest frame of the packet buffer to the buffer that the descriptor at the head names; the frame is
+/// then in work, and head moves on ("3.2.6 Receive Descriptor Queue Structure").
 ///
-/// Nothing where RCTL.EN is 0, a fault has stopped the engine, a frame is in work, the packet buffer is empty, or head equals
-/// tail. Else a fault where head or tail isn't a slot of the ring, the descriptor or the frame's place isn't in memory,
-/// RCTL.BSEX is set, or the frame is longer than the buffer size of RCTL.BSIZE; a fault leaves memory, ring and packet buffer,
-/// and stops the engine until a reset (own).
+/// Nothing where RCTL.EN is 0, a fault has stopped the engine, a frame is in work, the packet buffer is empty, or
+/// head equals tail. Else a fault where head or tail isn't a slot of the ring, the descriptor or the frame's place
+/// isn't in memory, RCTL.BSEX is set, or the frame is longer than the buffer size of RCTL.BSIZE; a fault leaves
+/// memory, ring and packet buffer, and stops the engine until a reset (own).
 pub fn rx_data(
     engine: &mut RxEngine,
     ring: &mut Ring,

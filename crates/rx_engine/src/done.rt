@@ -5,7 +5,8 @@ ghost use Rattle.dma_memory.specs.Areas.{ChangesOnly, area_at};
 ghost use Rattle.dma_memory.specs.HostMemory.{LiesIn, bytes_at, with_bytes};
 ghost use Rattle.rx_engine.specs.Descriptors.{named_address};
 ghost use Rattle.rx_engine.specs.Receiver.{IsReceiver};
-ghost use Rattle.rx_engine.specs.Finishing.{engine_after_done, finished_bytes, memory_after_done, StandsApart, IsFinished};
+ghost use Rattle.rx_engine.specs.Finishing.{engine_after_done, finished_bytes, memory_after_done, StandsApart};
+ghost use Rattle.rx_engine.specs.Finishing.{IsFinished};
 
 use crate::RxEngine;
 use crate::storing::store_within;
@@ -25,11 +26,11 @@ pub enum Done {
     Done,
 }
 
-/// Writes the descriptor of the frame in work back ("3.2.3 Receive Descriptor Format"): its length, and that it is done,
-/// holds the end of its packet and had no error. Nothing where no frame is in work.
+/// Writes the descriptor of the frame in work back ("3.2.3 Receive Descriptor Format"): its length, and that it is
+/// done, holds the end of its packet and had no error. Nothing where no frame is in work.
 ///
-/// The caller hands a memory of the same size as to [`rx_data`](crate::rx_data), where that descriptor always lies. In a
-/// memory that ends before its end nothing is written.
+/// The caller hands a memory of the same size as to [`rx_data`](crate::rx_data), where that descriptor always lies.
+/// In a memory that ends before its end nothing is written.
 pub fn rx_done(engine: &mut RxEngine, memory: &mut HostMemory) -> Done
     ensures nothing { (result ≡ Done.Nothing) ↔ (engine.old.work ≡ None) }
     ensures engine { engine.new ≡ engine_after_done engine.old }
@@ -38,7 +39,8 @@ pub fn rx_done(engine: &mut RxEngine, memory: &mut HostMemory) -> Done
         → StandsApart memory.old work.descriptor work.length
         → IsFinished memory.new work.descriptor
         (bytes_at memory.old (named_address memory.old work.descriptor) work.length)) }
-    ensures only { IfSome engine.old.work (λ work. ChangesOnly memory.old memory.new (area_at (work.descriptor + 8) 8)) }
+    ensures only { IfSome engine.old.work
+        (λ work. ChangesOnly memory.old memory.new (area_at (work.descriptor + 8) 8)) }
     ensures before { IsReceiver engine.old }
     ensures after { IsReceiver engine.new }
 {

@@ -1,6 +1,7 @@
 // What the receive engine holds.
 
-ghost use Rattle.std.specs.Prelude.{◌≡◌, ◌<◌, ◌≤◌, ◌↔◌, [], ◌∷◌, ◌++◌, true, drop, length, option_copied, IsSome, IfSome, IfOk};
+ghost use Rattle.std.specs.Prelude.{◌≡◌, ◌<◌, ◌≤◌, ◌↔◌, [], ◌∷◌, ◌++◌, true, drop, length, option_copied, IsSome};
+ghost use Rattle.std.specs.Prelude.{IfSome, IfOk};
 
 use frame_queue::FrameQueue;
 use std::alloc::{AllocError, Global};
@@ -58,8 +59,8 @@ impl RxEngine {
         })
     }
 
-    /// Empties the packet buffer, drops the frame in work and starts a stopped engine again, as a reset by CTRL.RST does
-    /// ("13.4.1 Device Control Register").
+    /// Empties the packet buffer, drops the frame in work and starts a stopped engine again, as a reset by CTRL.RST
+    /// does ("13.4.1 Device Control Register").
     pub fn reset(&mut self)
         ensures { self.new ≡ new_receiver }
     {

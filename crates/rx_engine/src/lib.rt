@@ -1,8 +1,8 @@
 //! The receive engine of the Intel 82540EM: which frames from the wire it keeps, and how they get into a host's memory.
 //!
 //! Frames wait in the receive packet buffer, oldest first. A data step writes the oldest one to the buffer that the
-//! descriptor at the head of the receive ring names, and a done step then writes that descriptor back. Section names are
-//! those of Intel's "PCI/PCI-X Family of Gigabit Ethernet Controllers Software Developer's Manual".
+//! descriptor at the head of the receive ring names, and a done step then writes that descriptor back. Section names
+//! are those of Intel's "PCI/PCI-X Family of Gigabit Ethernet Controllers Software Developer's Manual".
 #![tactic(auto)]
 
 mod arrival;

@@ -1,5 +1,6 @@
 -- Lemmas on filters and their registers, for this crate and those above it.
-use Rattle.std.proofs.Common.{◌≡◌, ◌+◌, ◌/◌, ◌%◌, ◌^◌, ◌<◌, ◌≤◌, ◌↔◌, ℕ, List, [], ◌∷◌, length, set, replicate, slice_index, refl, sym, ◌∙◌, ap, subst, inl, inr, arith}
+use Rattle.std.proofs.Common.{◌≡◌, ◌+◌, ◌/◌, ◌%◌, ◌^◌, ◌<◌, ◌≤◌, ◌↔◌, ℕ, List, [], ◌∷◌, length, set, replicate, slice_index, refl, sym, ◌∙◌}
+use Rattle.std.proofs.Common.{ap, subst, inl, inr, arith}
 use Rattle.std.proofs.lemmas.Bool.{cases_eq, cases_lt}
 use Rattle.std.proofs.lemmas.List.{length-replicate, get_or-replicate, get_or_past, get_or-set_other}
 use Rattle.std.proofs.lemmas.Grind.{get_or-set_at}
@@ -97,7 +98,11 @@ HasTableBit-zeros n number set =
 -- the bits of a power of two
 HasBit-power : (power place : ℕ) → HasBit (2 ^ power) place ↔ (place ≡ power)
 HasBit-power power place = (
-  (λ set. elim (cases_eq place power) [ inl same ↦ same | inr other ↦ let clear = bit_at-pow_other power place other in absurd (omega arith) ]),
+  (λ set. elim (cases_eq place power) [
+    | inl same ↦ same
+    | inr other ↦ let clear = bit_at-pow_other power place other in absurd
+        (omega arith)
+  ]),
   (λ same. subst (λ (at : ℕ). HasBit (2 ^ power) at) (sym same) (bit_at-pow_same power)),
 )
 
@@ -107,7 +112,8 @@ HasTableBit-with_number table number other within =
     let word = union (slice_index table place) (2 ^ (number % 32)) in
     elim (cases_eq (other / 32) place) [
       | inl here ↦
-          let reads : slice_index (with_number table number) (other / 32) ≡ word = get_or-set_at table place (other / 32) word 0 here within in
+          let reads : slice_index (with_number table number) (other / 32)
+          ≡ word = get_or-set_at table place (other / 32) word 0 here within in
           let bits = HasBit-union (slice_index table place) (2 ^ (number % 32)) (other % 32) in (
             (λ has. elim (bits.0 (subst (λ (w : ℕ). HasBit w (other % 32)) reads has)) [
               | inl before ↦ inr (subst (λ (at : ℕ). HasBit (slice_index table at) (other % 32)) (sym here) before)
@@ -119,7 +125,8 @@ HasTableBit-with_number table number other within =
             ]))),
           )
       | inr elsewhere ↦
-          let reads : slice_index (with_number table number) (other / 32) ≡ slice_index table (other / 32) = get_or-set_other table place (other / 32) word 0 elsewhere in (
+          let reads : slice_index (with_number table number) (other / 32)
+          ≡ slice_index table (other / 32) = get_or-set_other table place (other / 32) word 0 elsewhere in (
             (λ has. inr (subst (λ (w : ℕ). HasBit w (other % 32)) reads has)),
             (λ either. elim either [
               | inl same ↦ absurd (elsewhere (ap (λ (k : ℕ). k / 32) same))
@@ -134,11 +141,13 @@ pub HasEntry-zeros : NoAddressAtFirst
 HasEntry-zeros n address has =
     HasBit-zero 31 (subst (λ (word : ℕ). HasBit word 31) (slice_index-zeros n has.0) has.2.valid)
 
-HoldsAddress-at : (low low' high high' : ℕ) (address : List ℕ) → low ≡ low' → high ≡ high' → HoldsAddress low high address → HoldsAddress low' high' address
+HoldsAddress-at : (low low' high high' : ℕ) (address : List ℕ) → low ≡ low' → high ≡ high' → HoldsAddress low high address
+    → HoldsAddress low' high' address
 HoldsAddress-at low low' high high' address same_low same_high holds =
     subst (λ (h : ℕ). HoldsAddress low' h address) same_high (subst (λ (l : ℕ). HoldsAddress l high address) same_low holds)
 
-six_items : (xs : List ℕ) → length xs ≡ 6 → xs ≡ slice_index xs 0 ∷ slice_index xs 1 ∷ slice_index xs 2 ∷ slice_index xs 3 ∷ slice_index xs 4 ∷ slice_index xs 5 ∷ []
+six_items : (xs : List ℕ) → length xs ≡ 6
+    → xs ≡ slice_index xs 0 ∷ slice_index xs 1 ∷ slice_index xs 2 ∷ slice_index xs 3 ∷ slice_index xs 4 ∷ slice_index xs 5 ∷ []
 six_items (a ∷ b ∷ c ∷ d ∷ e ∷ f ∷ []) size = refl
 six_items _ size = absurd (omega arith)
 
@@ -187,7 +196,11 @@ HasEntry-added ral rah n address other is below in_ral in_rah invalid =
         | inl same ↦
             let reads_low = get_or-set_at ral n n low 0 refl in_ral in
             let reads_high = get_or-set_at rah n n high 0 refl in_rah in
-            let holds : HoldsAddress low high other = record { valid = valid_from_words address is; equal = same ∙ sym (entry_address-words address is) } in
+            let holds : HoldsAddress low high other = record {
+              valid = valid_from_words address is;
+              equal = same
+                  ∙ sym (entry_address-words address is);
+            } in
             (n, below, HoldsAddress-at low _ high _ other (sym reads_low) (sym reads_high) holds)
         | inr had ↦ elim (cases_eq had.0 n) [
           | inl here ↦
@@ -195,8 +208,12 @@ HasEntry-added ral rah n address other is below in_ral in_rah invalid =
               absurd (omega arith)
           | inr elsewhere ↦
               let reads_low = get_or-set_other ral n had.0 low 0 elsewhere in
-              let reads_high = get_or-set_other rah n had.0 high 0 elsewhere in
-              (had.0, had.1, HoldsAddress-at (slice_index ral had.0) _ (slice_index rah had.0) _ other (sym reads_low) (sym reads_high) had.2)
+              let reads_high = get_or-set_other rah n had.0 high 0 elsewhere in (
+                had.0,
+                had.1,
+                HoldsAddress-at (slice_index ral had.0) _ (slice_index rah had.0) _ other (sym reads_low)
+                    (sym reads_high) had.2,
+              )
         ]
       ]),
     )

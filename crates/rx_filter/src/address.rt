@@ -3,7 +3,8 @@
 ghost use Rattle.std.specs.Prelude.{◌≡◌, ◌+◌, ◌*◌, ◌/◌, ◌%◌, ◌^◌, ◌≤◌, ◌<◌, ◌↔◌, IsTrue, length, slice_index};
 ghost use Rattle.registers.specs.Bits.{HasBit};
 ghost use Rattle.registers.specs.ReceiveControl.{shift_of};
-ghost use Rattle.rx_filter.specs.Addresses.{destination, IsAddress, IsGroup, broadcast, group_number, low_word, high_word, ether_type, vlan_number};
+ghost use Rattle.rx_filter.specs.Addresses.{destination, IsAddress, IsGroup, broadcast, group_number, low_word};
+ghost use Rattle.rx_filter.specs.Addresses.{high_word, ether_type, vlan_number};
 ghost use Rattle.rx_filter.specs.Registers.{HasEntry, HoldsAddress};
 
 use crate::filter::EXACT_ADDRESSES;

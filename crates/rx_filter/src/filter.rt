@@ -43,7 +43,8 @@ impl Model for Filter {
 
     ghost view = { λ f. record { ral = f.ral; rah = f.rah; mta = f.mta; vfta = f.vfta; rctl = f.rctl.0; vet = f.vet } };
 
-    ghost inverse = { λ v. record { ral = v.ral; rah = v.rah; mta = v.mta; vfta = v.vfta; rctl = record { 0 = v.rctl }; vet = v.vet } };
+    ghost inverse = { λ v. record
+        { ral = v.ral; rah = v.rah; mta = v.mta; vfta = v.vfta; rctl = record { 0 = v.rctl }; vet = v.vet } };
 }
 
 impl Filter {

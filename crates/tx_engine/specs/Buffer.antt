@@ -8,7 +8,8 @@ use Rattle.tx_engine.specs.declared.engine.TxEngine.TheInside.{Inside}
 abbrev pub side_by_side : List (List ℕ) → List Report → List Queued
 side_by_side [] reports = []
 side_by_side (frame ∷ frames) [] = []
-side_by_side (frame ∷ frames) (report ∷ reports) = record { frame = frame; descriptor = report.descriptor; report = report.wanted } ∷ side_by_side frames reports
+side_by_side (frame ∷ frames) (report ∷ reports) = record { frame = frame; descriptor = report.descriptor; report = report.wanted }
+    ∷ side_by_side frames reports
 
 abbrev pub transmitter_of : Inside → Transmitter
 transmitter_of engine = record { buffer = side_by_side engine.frames.frames engine.reports.items; stopped = not engine.running }

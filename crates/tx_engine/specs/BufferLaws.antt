@@ -10,7 +10,8 @@ use Rattle.tx_engine.specs.declared.report.Report.{Report}
 use Rattle.tx_engine.specs.declared.engine.TxEngine.TheInside.{Inside}
 
 -- As many as there are frames.
-pub length-side_by_side : (frames : List (List ℕ)) (reports : List Report) → length frames ≡ length reports → length (side_by_side frames reports) ≡ length frames
+pub length-side_by_side : (frames : List (List ℕ)) (reports : List Report) → length frames ≡ length reports
+    → length (side_by_side frames reports) ≡ length frames
 length-side_by_side [] reports same = refl
 length-side_by_side (frame ∷ frames) [] same = absurd (omega arith)
 length-side_by_side (frame ∷ frames) (report ∷ reports) same =
@@ -18,7 +19,9 @@ length-side_by_side (frame ∷ frames) (report ∷ reports) same =
     omega arith
 
 -- A frame more stands behind the others.
-pub side_by_side-push : (frames : List (List ℕ)) (reports : List Report) (frame : List ℕ) (report : Report) → length frames ≡ length reports → side_by_side (frames ++ frame ∷ []) (reports ++ report ∷ []) ≡ side_by_side frames reports ++ record { frame = frame; descriptor = report.descriptor; report = report.wanted } ∷ []
+pub side_by_side-push : (frames : List (List ℕ)) (reports : List Report) (frame : List ℕ) (report : Report) → length frames ≡ length reports
+    → side_by_side (frames ++ frame ∷ []) (reports ++ report ∷ [])
+    ≡ side_by_side frames reports ++ record { frame = frame; descriptor = report.descriptor; report = report.wanted } ∷ []
 side_by_side-push [] [] frame report same = refl
 side_by_side-push [] (other ∷ reports) frame report same = absurd (omega arith)
 side_by_side-push (first ∷ frames) [] frame report same = absurd (omega arith)
@@ -27,34 +30,48 @@ side_by_side-push (first ∷ frames) (other ∷ reports) frame report same =
     ap (λ (rest : List Queued). q ∷ rest) (side_by_side-push frames reports frame report (omega arith))
 
 -- There are none exactly where there is no frame.
-pub side_by_side-none : (frames : List (List ℕ)) (reports : List Report) → length frames ≡ length reports → (frames ≡ []) ↔ (side_by_side frames reports ≡ [])
+pub side_by_side-none : (frames : List (List ℕ)) (reports : List Report) → length frames ≡ length reports → (frames ≡ [])
+    ↔ (side_by_side frames reports ≡ [])
 side_by_side-none [] reports same = (λ none. refl, λ none. refl)
 side_by_side-none (frame ∷ frames) [] same = absurd (omega arith)
 side_by_side-none (frame ∷ frames) (report ∷ reports) same = (λ none. cc, λ none. cc)
 
 -- The oldest frame.
-pub side_by_side-front : (frames : List (List ℕ)) (reports : List Report) (frame : List ℕ) → length frames ≡ length reports → slice_get frames 0 ≡ Some frame → IfFront (side_by_side frames reports) (λ queued. queued.frame ≡ frame)
+pub side_by_side-front : (frames : List (List ℕ)) (reports : List Report) (frame : List ℕ) → length frames ≡ length reports
+    → slice_get frames 0 ≡ Some frame → IfFront (side_by_side frames reports) (λ queued. queued.frame ≡ frame)
 side_by_side-front [] reports frame same front = tt
 side_by_side-front (first ∷ frames) [] frame same front = absurd (omega arith)
 side_by_side-front (first ∷ frames) (report ∷ reports) frame same front = cc
 
 -- A frame more, in both queues: the reports in order.
-pushed-reports : (engine : Inside) (report : Report) (reports : Buffer Report) → IsWhole engine → length engine.frames.frames < 4 → reports ≡ buffer (keep_last engine.reports.capacity (engine.reports.items ++ report ∷ [])) engine.reports.capacity → reports.items ≡ engine.reports.items ++ report ∷ []
-pushed-reports engine report reports whole room pushed = ap (λ (b : Buffer Report). b.items) pushed ∙ keep_last-room engine.reports.items engine.reports.capacity report (omega (arith, whole.reports, whole.same))
+pushed-reports : (engine : Inside) (report : Report) (reports : Buffer Report) → IsWhole engine → length engine.frames.frames < 4
+    → reports ≡ buffer (keep_last engine.reports.capacity (engine.reports.items ++ report ∷ [])) engine.reports.capacity
+    → reports.items ≡ engine.reports.items ++ report ∷ []
+pushed-reports engine report reports whole room pushed = ap (λ (b : Buffer Report). b.items) pushed
+    ∙ keep_last-room engine.reports.items engine.reports.capacity report (omega (arith, whole.reports, whole.same))
 
 -- A frame more, in both queues, keeps them side by side.
-pub pushed-whole : (engine : Inside) (frame : List ℕ) (report : Report) (frames : Frames) (reports : Buffer Report) → IsWhole engine → length engine.frames.frames < 4 → frames ≡ record engine.frames { frames = engine.frames.frames ++ frame ∷ [] } → reports ≡ buffer (keep_last engine.reports.capacity (engine.reports.items ++ report ∷ [])) engine.reports.capacity → IsWhole (record { frames = frames; reports = reports; running = engine.running })
+pub pushed-whole : (engine : Inside) (frame : List ℕ) (report : Report) (frames : Frames) (reports : Buffer Report) → IsWhole engine
+    → length engine.frames.frames < 4 → frames ≡ record engine.frames { frames = engine.frames.frames ++ frame ∷ [] }
+    → reports ≡ buffer (keep_last engine.reports.capacity (engine.reports.items ++ report ∷ [])) engine.reports.capacity
+    → IsWhole (record { frames = frames; reports = reports; running = engine.running })
 pushed-whole engine frame report frames reports whole room pushed_frame pushed_report =
     let one_more : frames.frames ≡ engine.frames.frames ++ frame ∷ [] = ap (λ (f : Frames). f.frames) pushed_frame in
     let one_report : reports.items ≡ engine.reports.items ++ report ∷ [] = pushed-reports engine report reports whole room pushed_report in
     record {
       frames = ap (λ (f : Frames). f.capacity) pushed_frame ∙ whole.frames;
       reports = ap (λ (b : Buffer Report). b.capacity) pushed_report ∙ whole.reports;
-      same = rw (one_more, one_report) (omega (arith, whole.same, length-append engine.frames.frames (frame ∷ []), length-append engine.reports.items (report ∷ [])));
+      same = rw (one_more, one_report)
+          (omega (arith, whole.same, length-append engine.frames.frames (frame ∷ []), length-append engine.reports.items (report ∷ [])));
     }
 
 -- and stands at the end.
-pub pushed-view : (engine : Inside) (frame : List ℕ) (report : Report) (frames : Frames) (reports : Buffer Report) (seen : Transmitter) → transmitter_of engine ≡ seen → IsWhole engine → length engine.frames.frames < 4 → frames ≡ record engine.frames { frames = engine.frames.frames ++ frame ∷ [] } → reports ≡ buffer (keep_last engine.reports.capacity (engine.reports.items ++ report ∷ [])) engine.reports.capacity → transmitter_of (record { frames = frames; reports = reports; running = engine.running }) ≡ record seen { buffer = seen.buffer ++ record { frame = frame; descriptor = report.descriptor; report = report.wanted } ∷ [] }
+pub pushed-view : (engine : Inside) (frame : List ℕ) (report : Report) (frames : Frames) (reports : Buffer Report) (seen : Transmitter)
+    → transmitter_of engine ≡ seen → IsWhole engine → length engine.frames.frames < 4
+    → frames ≡ record engine.frames { frames = engine.frames.frames ++ frame ∷ [] }
+    → reports ≡ buffer (keep_last engine.reports.capacity (engine.reports.items ++ report ∷ [])) engine.reports.capacity
+    → transmitter_of (record { frames = frames; reports = reports; running = engine.running })
+    ≡ record seen { buffer = seen.buffer ++ record { frame = frame; descriptor = report.descriptor; report = report.wanted } ∷ [] }
 pushed-view engine frame report frames reports seen view whole room pushed_frame pushed_report =
     let last : Queued = record { frame = frame; descriptor = report.descriptor; report = report.wanted } in
     let one_more : frames.frames ≡ engine.frames.frames ++ frame ∷ [] = ap (λ (f : Frames). f.frames) pushed_frame in

@@ -1,5 +1,6 @@
 -- The frames to be sent, step by step.
-use Rattle.std.proofs.Common.{◌≡◌, ◌-◌, replicate, ◌++◌, ◌∷◌, [], Bool, true, false, ℕ, List, length, map, refl, sym, ap, ◌∙◌, append_assoc, arith, cond}
+use Rattle.std.proofs.Common.{◌≡◌, ◌-◌, replicate, ◌++◌, ◌∷◌, [], Bool, true, false, ℕ, List, length, map, refl, sym, ap, ◌∙◌, append_assoc}
+use Rattle.std.proofs.Common.{arith, cond}
 use Rattle.std.proofs.lemmas.List.{append-nil, map-append}
 use Rattle.descriptors.specs.Ring.{next_of, address_of, owned}
 use Rattle.descriptors.specs.RingLaws.{owned-head, owned-tail}
@@ -35,16 +36,23 @@ to_send-offer memory ring pad buffer sound apart =
     ∙ sym (append_assoc front (map frames (owned ring)) (frames ring.tail ∷ []))
 
 -- A frame followed by zeros up to 60 bytes, or up to none, is the frame as it is sent.
-zeros-as_sent : (pad : Bool) (frame : List ℕ) (least : ℕ) → least ≡ cond pad 60 0 → frame ++ replicate (least - length frame) 0 ≡ as_sent pad frame
+zeros-as_sent : (pad : Bool) (frame : List ℕ) (least : ℕ) → least ≡ cond pad 60 0
+    → frame ++ replicate (least - length frame) 0 ≡ as_sent pad frame
 zeros-as_sent true frame least same = ap (λ (n : ℕ). frame ++ replicate (n - length frame) 0) same
 zeros-as_sent false frame least same =
     let none : least - length frame ≡ 0 = omega arith in
     ap (λ (n : ℕ). frame ++ replicate n 0) none ∙ append-nil frame
 
 -- What is pushed of a descriptor, with padding or without, is what the engine makes of it.
-pub pushed-fetched : (pad : Bool) (memory bytes : List ℕ) (address descriptor least : ℕ) (reports : Bool) → bytes ≡ named_by memory (descriptor_at memory address) → descriptor ≡ address → reports ≡ (fetched pad memory address).report → least ≡ cond pad 60 0 → record { frame = bytes ++ replicate (least - length bytes) 0; descriptor = descriptor; report = reports } ≡ fetched pad memory address
+pub pushed-fetched : (pad : Bool) (memory bytes : List ℕ) (address descriptor least : ℕ) (reports : Bool)
+    → bytes ≡ named_by memory (descriptor_at memory address) → descriptor ≡ address → reports ≡ (fetched pad memory address).report
+    → least ≡ cond pad 60 0
+    → record { frame = bytes ++ replicate (least - length bytes) 0; descriptor = descriptor; report = reports } ≡ fetched pad memory address
 pushed-fetched pad memory bytes address descriptor least reports same_bytes same_address same_reports same_least =
-    let same_frame : bytes ++ replicate (least - length bytes) 0 ≡ frame_at pad memory address = zeros-as_sent pad bytes least same_least ∙ ap (as_sent pad) same_bytes in
+    let same_frame : bytes ++ replicate (least - length bytes) 0 ≡ frame_at pad memory address = zeros-as_sent pad bytes least same_least
+    ∙ ap (as_sent pad) same_bytes in
     ap (λ (frame : List ℕ). let queued : Queued = record { frame = frame; descriptor = descriptor; report = reports } in queued) same_frame
-    ∙ ap (λ (place : ℕ). let queued : Queued = record { frame = frame_at pad memory address; descriptor = place; report = reports } in queued) same_address
-    ∙ ap (λ (asks : Bool). let queued : Queued = record { frame = frame_at pad memory address; descriptor = address; report = asks } in queued) same_reports
+    ∙ ap (λ (place : ℕ). let queued : Queued = record { frame = frame_at pad memory address; descriptor = place; report = reports }
+    in queued) same_address
+    ∙ ap (λ (asks : Bool). let queued : Queued = record { frame = frame_at pad memory address; descriptor = address; report = asks }
+    in queued) same_reports

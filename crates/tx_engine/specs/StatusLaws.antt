@@ -1,5 +1,6 @@
 -- What bytes that are written leave: the other bytes, and the frames that are named elsewhere.
-use Rattle.std.proofs.Common.{◌≡◌, ◌<◌, ◌+◌, ◌++◌, ◌∷◌, [], Bool, true, false, ◌&&◌, if◌then◌else◌, ℕ, zero, suc, List, length, map, drop, slice_index, refl, sym, ap, ◌∙◌, arith, lit≤}
+use Rattle.std.proofs.Common.{◌≡◌, ◌<◌, ◌+◌, ◌++◌, ◌∷◌, [], Bool, true, false, ◌&&◌, if◌then◌else◌, ℕ, zero, suc, List, length, map, drop}
+use Rattle.std.proofs.Common.{slice_index, refl, sym, ap, ◌∙◌, arith, lit≤}
 use Rattle.std.proofs.lemmas.Bool.{and_parts, ltb-true}
 use Rattle.std.proofs.lemmas.List.{get_or-drop}
 use Rattle.std.specs.Prelude.{nat_lt}
@@ -23,31 +24,41 @@ little_from-drop : (j n i : ℕ) (bytes : List ℕ) → little_from j n (drop i 
 little_from-drop j zero i bytes = refl
 little_from-drop j (suc n) i bytes =
     let moved : i + suc j ≡ suc (i + j) = omega arith in
-    let rest : little_from (suc j) n (drop i bytes) ≡ little_from (suc (i + j)) n bytes = little_from-drop (suc j) n i bytes ∙ ap (λ (k : ℕ). little_from k n bytes) moved in
+    let rest : little_from (suc j) n (drop i bytes) ≡ little_from (suc (i + j)) n bytes = little_from-drop (suc j) n i bytes
+    ∙ ap (λ (k : ℕ). little_from k n bytes) moved in
     let first : slice_index (drop i bytes) j ≡ slice_index bytes (i + j) = get_or-drop i bytes j 0 in
     rw (first, rest) refl
 
 -- Address and length of a descriptor stand in its first ten bytes.
-address-first_ten : (memory : List ℕ) (address : ℕ) → little_number 8 (bytes_at memory address 16) ≡ little_number 8 (bytes_at memory address 10)
-address-first_ten memory address = little_from-take 0 8 16 (drop address memory) (lit≤ tt) ∙ sym (little_from-take 0 8 10 (drop address memory) (lit≤ tt))
+address-first_ten : (memory : List ℕ) (address : ℕ)
+    → little_number 8 (bytes_at memory address 16) ≡ little_number 8 (bytes_at memory address 10)
+address-first_ten memory address = little_from-take 0 8 16 (drop address memory) (lit≤ tt)
+    ∙ sym (little_from-take 0 8 10 (drop address memory) (lit≤ tt))
 
-length-first_ten : (memory : List ℕ) (address : ℕ) → little_number 2 (drop 8 (bytes_at memory address 16)) ≡ little_from 8 2 (bytes_at memory address 10)
+length-first_ten : (memory : List ℕ) (address : ℕ)
+    → little_number 2 (drop 8 (bytes_at memory address 16)) ≡ little_from 8 2 (bytes_at memory address 10)
 length-first_ten memory address =
     little_from-drop 0 2 8 (bytes_at memory address 16)
     ∙ little_from-take 8 2 16 (drop address memory) (lit≤ tt)
     ∙ sym (little_from-take 8 2 10 (drop address memory) (lit≤ tt))
 
 -- Where the first ten bytes stay, so do address and length.
-same-address : (memory changed : List ℕ) (address : ℕ) → bytes_at changed address 10 ≡ bytes_at memory address 10 → (descriptor_at changed address).address ≡ (descriptor_at memory address).address
+same-address : (memory changed : List ℕ) (address : ℕ) → bytes_at changed address 10 ≡ bytes_at memory address 10
+    → (descriptor_at changed address).address ≡ (descriptor_at memory address).address
 unfolding tx_desc_of
-same-address memory changed address same = address-first_ten changed address ∙ ap (little_number 8) same ∙ sym (address-first_ten memory address)
+same-address memory changed address same = address-first_ten changed address ∙ ap (little_number 8) same
+    ∙ sym (address-first_ten memory address)
 
-same-length : (memory changed : List ℕ) (address : ℕ) → bytes_at changed address 10 ≡ bytes_at memory address 10 → (descriptor_at changed address).length ≡ (descriptor_at memory address).length
+same-length : (memory changed : List ℕ) (address : ℕ) → bytes_at changed address 10 ≡ bytes_at memory address 10
+    → (descriptor_at changed address).length ≡ (descriptor_at memory address).length
 unfolding tx_desc_of
-same-length memory changed address same = length-first_ten changed address ∙ ap (little_from 8 2) same ∙ sym (length-first_ten memory address)
+same-length memory changed address same = length-first_ten changed address ∙ ap (little_from 8 2) same
+    ∙ sym (length-first_ten memory address)
 
 -- Bytes away from a descriptor and its frame leave the frame.
-frame_at-away : (memory bytes : List ℕ) (pad : Bool) (place address : ℕ) → LiesIn memory place (length bytes) → IsAwayFrom memory (area_at place (length bytes)) address → frame_at pad (with_bytes memory place bytes) address ≡ frame_at pad memory address
+frame_at-away : (memory bytes : List ℕ) (pad : Bool) (place address : ℕ) → LiesIn memory place (length bytes)
+    → IsAwayFrom memory (area_at place (length bytes)) address
+    → frame_at pad (with_bytes memory place bytes) address ≡ frame_at pad memory address
 frame_at-away memory bytes pad place address lies away =
     let changed = with_bytes memory place bytes in
     let old = descriptor_at memory address in
@@ -59,10 +70,15 @@ frame_at-away memory bytes pad place address lies away =
     ∙ ap (λ (n : ℕ). bytes_at changed old.address n) size
     ∙ bytes_at-elsewhere memory bytes place old.address old.length lies away.frame)
 
-frames-away : (memory bytes : List ℕ) (ring : Ring) (pad : Bool) (place : ℕ) (slots : List ℕ) → LiesIn memory place (length bytes) → All (λ slot. IsAwayFrom memory (area_at place (length bytes)) (address_of ring slot)) slots → map (λ (slot : ℕ). frame_at pad (with_bytes memory place bytes) (address_of ring slot)) slots ≡ map (λ (slot : ℕ). frame_at pad memory (address_of ring slot)) slots
+frames-away : (memory bytes : List ℕ) (ring : Ring) (pad : Bool) (place : ℕ) (slots : List ℕ) → LiesIn memory place (length bytes)
+    → All (λ slot. IsAwayFrom memory (area_at place (length bytes)) (address_of ring slot)) slots
+    → map (λ (slot : ℕ). frame_at pad (with_bytes memory place bytes) (address_of ring slot)) slots
+    ≡ map (λ (slot : ℕ). frame_at pad memory (address_of ring slot)) slots
 frames-away memory bytes ring pad place [] lies away = refl
 frames-away memory bytes ring pad place (slot ∷ slots) lies away =
-    let first : frame_at pad (with_bytes memory place bytes) (address_of ring slot) ≡ frame_at pad memory (address_of ring slot) = frame_at-away memory bytes pad place (address_of ring slot) lies (away 0 0 (omega arith)) in
+    let first : frame_at pad (with_bytes memory place bytes) (address_of ring slot)
+    ≡ frame_at pad memory (address_of ring slot) = frame_at-away memory bytes pad place (address_of ring slot) lies
+    (away 0 0 (omega arith)) in
     let rest = frames-away memory bytes ring pad place slots lies (λ k d below. away (suc k) d (omega arith)) in
     ap (λ (frame : List ℕ). frame ∷ map (λ (slot : ℕ). frame_at pad (with_bytes memory place bytes) (address_of ring slot)) slots) first
     ∙ ap (λ (frames : List (List ℕ)). frame_at pad memory (address_of ring slot) ∷ frames) rest
@@ -71,29 +87,41 @@ frames-away memory bytes ring pad place (slot ∷ slots) lies away =
 pub to_send-elsewhere : OtherBytesLeaveFrames
 unfolding to_send
 to_send-elsewhere memory ring pad buffer place bytes lies away =
-    ap (λ (frames : List (List ℕ)). map (λ (queued : Queued). queued.frame) buffer ++ frames) (frames-away memory bytes ring pad place (owned ring) lies away)
+    ap (λ (frames : List (List ℕ)). map (λ (queued : Queued). queued.frame) buffer ++ frames)
+    (frames-away memory bytes ring pad place (owned ring) lies away)
 
 -- So does one byte.
-pub to_send-away : (memory : List ℕ) (ring : Ring) (pad : Bool) (buffer : List Queued) (place byte : ℕ) → LiesIn memory place 1 → All (λ slot. IsAwayFrom memory (area_at place 1) (address_of ring slot)) (owned ring) → to_send (with_bytes memory place (byte ∷ [])) ring pad buffer ≡ to_send memory ring pad buffer
+pub to_send-away : (memory : List ℕ) (ring : Ring) (pad : Bool) (buffer : List Queued) (place byte : ℕ) → LiesIn memory place 1
+    → All (λ slot. IsAwayFrom memory (area_at place 1) (address_of ring slot)) (owned ring)
+    → to_send (with_bytes memory place (byte ∷ [])) ring pad buffer ≡ to_send memory ring pad buffer
 to_send-away memory ring pad buffer place byte lies away = to_send-elsewhere memory ring pad buffer place (byte ∷ []) lies away
 
 -- Of two memories with the same frames to be sent, either has them.
-to_send-either : (test : Bool) (memory changed : List ℕ) (ring : Ring) (pad : Bool) (buffer : List Queued) → (test ≡ true → to_send changed ring pad buffer ≡ to_send memory ring pad buffer) → to_send (if test then changed else memory) ring pad buffer ≡ to_send memory ring pad buffer
+to_send-either : (test : Bool) (memory changed : List ℕ) (ring : Ring) (pad : Bool) (buffer : List Queued)
+    → (test ≡ true → to_send changed ring pad buffer ≡ to_send memory ring pad buffer)
+    → to_send (if test then changed else memory) ring pad buffer ≡ to_send memory ring pad buffer
 to_send-either true memory changed ring pad buffer same = same refl
 to_send-either false memory changed ring pad buffer same = refl
 
 -- The status byte of a frame that has gone out, away from them, leaves the frames to be sent, whether it is written or not.
-pub to_send-written_back : (memory : List ℕ) (ring : Ring) (pad : Bool) (buffer : List Queued) (queued : Queued) → All (λ slot. IsAwayFrom memory (area_at (status_place queued) 1) (address_of ring slot)) (owned ring) → to_send (written_back memory queued) ring pad buffer ≡ to_send memory ring pad buffer
+pub to_send-written_back : (memory : List ℕ) (ring : Ring) (pad : Bool) (buffer : List Queued) (queued : Queued)
+    → All (λ slot. IsAwayFrom memory (area_at (status_place queued) 1) (address_of ring slot)) (owned ring)
+    → to_send (written_back memory queued) ring pad buffer ≡ to_send memory ring pad buffer
 to_send-written_back memory ring pad buffer queued away =
     let lies_there = nat_lt (status_place queued) (length memory) in
     to_send-either (queued.report && lies_there) memory (with_bytes memory (status_place queued) (1 ∷ [])) ring pad buffer
     (λ written.
-    let below : status_place queued < length memory = ltb-true (status_place queued) (length memory) (and_parts queued.report lies_there written).1 in
+    let below : status_place queued < length memory = ltb-true (status_place queued) (length memory)
+    (and_parts queued.report lies_there written).1 in
     to_send-away memory ring pad buffer (status_place queued) 1 (omega arith) away)
 
 -- Once the oldest frame of the buffer has gone out, it was the front of the frames to be sent, and the others are left.
-pub to_send-gone : (memory changed : List ℕ) (buffer : List Queued) → IfFront buffer (λ queued. changed ≡ written_back memory queued) → IfFront buffer (λ queued. (ring : Ring) (pad : Bool) → All (λ slot. IsAwayFrom memory (area_at (status_place queued) 1) (address_of ring slot)) (owned ring) → to_send memory ring pad buffer ≡ queued.frame ∷ to_send changed ring pad (drop 1 buffer))
+pub to_send-gone : (memory changed : List ℕ) (buffer : List Queued) → IfFront buffer (λ queued. changed ≡ written_back memory queued)
+    → IfFront buffer (λ queued. (ring : Ring) (pad : Bool)
+    → All (λ slot. IsAwayFrom memory (area_at (status_place queued) 1) (address_of ring slot)) (owned ring)
+    → to_send memory ring pad buffer ≡ queued.frame ∷ to_send changed ring pad (drop 1 buffer))
 to_send-gone memory changed [] written = tt
 to_send-gone memory changed (queued ∷ rest) written = λ ring pad away.
-    let left : to_send changed ring pad rest ≡ to_send memory ring pad rest = ap (λ (m : List ℕ). to_send m ring pad rest) written ∙ to_send-written_back memory ring pad rest queued away in
+    let left : to_send changed ring pad rest ≡ to_send memory ring pad rest = ap (λ (m : List ℕ). to_send m ring pad rest) written
+    ∙ to_send-written_back memory ring pad rest queued away in
     to_send-put memory ring pad queued rest ∙ ap (λ (frames : List (List ℕ)). queued.frame ∷ frames) (sym left)

@@ -40,7 +40,8 @@ status_place queued = queued.descriptor + 12
 -- Memory once a frame has gone out: where its descriptor asks for a report, the status byte is 1 (DD). In a memory that
 -- ends before that byte nothing is written.
 abbrev pub written_back : List ℕ → Queued → List ℕ
-written_back memory queued = if queued.report && nat_lt (status_place queued) (length memory) then with_bytes memory (status_place queued) (1 ∷ []) else memory
+written_back memory queued = if queued.report && nat_lt (status_place queued) (length memory) then with_bytes memory (status_place queued)
+    (1 ∷ []) else memory
 
 -- At most the byte at this place differs.
 pub record DiffersAtMostAt (place : ℕ) (memory changed : List ℕ) : Type 0 where

@@ -10,7 +10,8 @@ use Rattle.tx_engine.specs.Fetching.{descriptor_at, frame_at, fetched}
 -- The frames in the transmit packet buffer, then, for each slot that the adapter owns, the bytes that its descriptor names in
 -- memory, padded where the adapter pads.
 unfoldable pub to_send : List ℕ → Ring → Bool → List Queued → List (List ℕ)
-to_send memory ring pad buffer = map (λ (queued : Queued). queued.frame) buffer ++ map (λ (slot : ℕ). frame_at pad memory (address_of ring slot)) (owned ring)
+to_send memory ring pad buffer = map (λ (queued : Queued). queued.frame) buffer
+    ++ map (λ (slot : ℕ). frame_at pad memory (address_of ring slot)) (owned ring)
 
 -- An area is apart from what the descriptor at an address says of its frame (its first ten bytes, address and length), and
 -- from the frame.
@@ -35,7 +36,8 @@ PuttingTakesFront =
 abbrev pub OtherBytesLeaveFrames : Type 0
 OtherBytesLeaveFrames =
     (memory : List ℕ) (ring : Ring) (pad : Bool) (buffer : List Queued) (place : ℕ) (bytes : List ℕ)
-    → LiesIn memory place (length bytes) → All (λ slot. IsAwayFrom memory (area_at place (length bytes)) (address_of ring slot)) (owned ring)
+    → LiesIn memory place (length bytes)
+    → All (λ slot. IsAwayFrom memory (area_at place (length bytes)) (address_of ring slot)) (owned ring)
     → to_send (with_bytes memory place bytes) ring pad buffer ≡ to_send memory ring pad buffer
 
 -- A driver that moves tail on adds the frame of the slot at the old tail.

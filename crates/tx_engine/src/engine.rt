@@ -1,4 +1,5 @@
-ghost use Rattle.std.specs.Prelude.{◌≡◌, ◌+◌, ◌-◌, ◌<◌, ◌≤◌, ◌^◌, ◌↔◌, ◌++◌, ◌∷◌, [], drop, length, map, replicate, slice_get, true, false, IsTrue, IsNone, IfSome, IfOk};
+ghost use Rattle.std.specs.Prelude.{◌≡◌, ◌+◌, ◌-◌, ◌<◌, ◌≤◌, ◌^◌, ◌↔◌, ◌++◌, ◌∷◌, [], drop, length, map, replicate};
+ghost use Rattle.std.specs.Prelude.{slice_get, true, false, IsTrue, IsNone, IfSome, IfOk};
 ghost use Rattle.tx_engine.specs.Transmitter.{Queued, new_transmitter};
 ghost use Rattle.tx_engine.specs.Steps.{IfFront};
 
@@ -12,11 +13,11 @@ use std::marker::Model;
 /// How many frames the transmit packet buffer holds.
 pub const PACKET_BUFFER_FRAMES: u8 = 4;
 
-/// The transmit engine of an adapter: the transmit packet buffer, which holds at most four frames, and whether a fault has
-/// stopped the engine.
+/// The transmit engine of an adapter: the transmit packet buffer, which holds at most four frames, and whether a
+/// fault has stopped the engine.
 ///
-/// In contracts it is the list of the frames in the buffer, the oldest first, each with the address of its descriptor and
-/// whether that asks for a report, and the flag. Its memory is taken when it is made.
+/// In contracts it is the list of the frames in the buffer, the oldest first, each with the address of its descriptor
+/// and whether that asks for a report, and the flag. Its memory is taken when it is made.
 #[derive(Drop)]
 pub struct TxEngine {
     frames: FrameQueue,
@@ -91,8 +92,8 @@ impl TxEngine {
         !self.running
     }
 
-    /// The oldest frame of the buffer as it goes onto the wire, where it stands; `None` exactly where the buffer is empty.
-    /// It has 1,518 bytes at most.
+    /// The oldest frame of the buffer as it goes onto the wire, where it stands; `None` exactly where the buffer is
+    /// empty. It has 1,518 bytes at most.
     pub fn front(&self) -> Option<&[u8]>
         ensures none { IsNone result ↔ (self.now.buffer ≡ []) }
         ensures oldest { IfSome result (λ frame. IfFront self.now.buffer (λ queued. queued.frame ≡ frame.now)) }
@@ -133,7 +134,8 @@ impl TxEngine {
     pub(crate) fn pop(&mut self) -> Option<Report>
         ensures none { IsNone result ↔ (self.old.buffer ≡ []) }
         ensures rest { self.new ≡ record self.old { buffer = drop 1 self.old.buffer } }
-        ensures descriptor { IfSome result (λ report. IfFront self.old.buffer (λ queued. queued.descriptor ≡ report.descriptor)) }
+        ensures descriptor { IfSome result
+            (λ report. IfFront self.old.buffer (λ queued. queued.descriptor ≡ report.descriptor)) }
         ensures wanted { IfSome result (λ report. IfFront self.old.buffer (λ queued. queued.report ≡ report.wanted)) }
     {
         self.frames.pop();

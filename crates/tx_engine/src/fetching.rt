@@ -76,11 +76,13 @@ fn bytes_of<'a>(desc: &TxDesc, memory: &'a HostMemory) -> Option<&'a [u8]>
 /// The frame that the descriptor at the head names, or `None` exactly where that descriptor can't be taken.
 pub fn fetch<'a>(ring: &Ring, memory: &'a HostMemory) -> Option<Named<'a>>
     ensures fetchable { IsSome result ↔ IsFetchable memory.now ring.now }
-    ensures bytes { IfSome result (λ named. named.bytes.now ≡ named_by memory.now (descriptor_at memory.now (address_of ring.now ring.now.head))) }
+    ensures bytes { IfSome result (λ named. named.bytes.now
+        ≡ named_by memory.now (descriptor_at memory.now (address_of ring.now ring.now.head))) }
     ensures descriptor { IfSome result (λ named. named.descriptor ≡ address_of ring.now ring.now.head) }
     ensures fits { IfSome result (λ named. named.descriptor + 12 < 2 ^ 64) }
     ensures length { IfSome result (λ named. length named.bytes.now ≤ 1518) }
-    ensures reports { IfSome result (λ named. named.reports ≡ is_set (command_bits (descriptor_at memory.now (address_of ring.now ring.now.head)).command) 3) }
+    ensures reports { IfSome result (λ named. named.reports
+        ≡ is_set (command_bits (descriptor_at memory.now (address_of ring.now ring.now.head)).command) 3) }
 {
     if !ring.is_sound() {
         return None;

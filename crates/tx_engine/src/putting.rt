@@ -19,9 +19,9 @@ const STATUS_PLACE: u64 = 12;
 ///
 /// - `Nothing` exactly where the buffer is empty.
 /// - Otherwise `WireFull` exactly where the wire isn't free.
-/// - Otherwise `Put`: the frame has left the buffer. Where its descriptor asks for a report (RS), the status byte of that
-///   descriptor, at the address where it was read, becomes 1 (DD); in a memory that ends before that byte nothing is
-///   written. `reported` tells whether it asks.
+/// - Otherwise `Put`: the frame has left the buffer. Where its descriptor asks for a report (RS), the status byte of
+///   that descriptor, at the address where it was read, becomes 1 (DD); in a memory that ends before that byte
+///   nothing is written. `reported` tells whether it asks.
 ///
 /// The caller hands a memory of the same size as to [`take`](crate::take), where that byte always lies.
 pub fn put(engine: &mut TxEngine, memory: &mut HostMemory, wire_free: bool) -> Put
@@ -32,13 +32,19 @@ pub fn put(engine: &mut TxEngine, memory: &mut HostMemory, wire_free: bool) -> P
     ensures waits { (result ≡ Put.WireFull) → (engine.new ≡ engine.old) × (memory.new ≡ memory.old) }
     ensures gone { IfPut result (λ _. engine.new ≡ record engine.old { buffer = drop 1 engine.old.buffer }) }
     ensures reported { IfPut result (λ reported. IfFront engine.old.buffer (λ queued. reported ≡ queued.report)) }
-    ensures written { IfPut result (λ _. IfFront engine.old.buffer (λ queued. memory.new ≡ written_back memory.old queued)) }
-    ensures one_byte { IfFront engine.old.buffer (λ queued. DiffersAtMostAt (status_place queued) memory.old memory.new) }
+    ensures written { IfPut result
+        (λ _. IfFront engine.old.buffer (λ queued. memory.new ≡ written_back memory.old queued)) }
+    ensures one_byte { IfFront engine.old.buffer
+        (λ queued. DiffersAtMostAt (status_place queued) memory.old memory.new) }
 
-    // The front of the frames to be sent has gone out, and the others are left, where the status byte is away from them.
+    // The front of the frames to be sent has gone out, and the others are left, where the status byte is away from
+    // them.
     ensures to_send { IfPut result (λ _. IfFront engine.old.buffer (λ queued.
-        (ring : Ring) (pad : Bool) → All (λ slot. IsAwayFrom memory.old (area_at (status_place queued) 1) (address_of ring slot)) (owned ring)
-        → to_send memory.old ring pad engine.old.buffer ≡ queued.frame ∷ to_send memory.new ring pad engine.new.buffer)) }
+        (ring : Ring) (pad : Bool)
+        → All (λ slot. IsAwayFrom memory.old (area_at (status_place queued) 1) (address_of ring slot))
+        (owned ring)
+        → to_send memory.old ring pad engine.old.buffer
+        ≡ queued.frame ∷ to_send memory.new ring pad engine.new.buffer)) }
 {
     if !wire_free {
         return if engine.is_empty() {

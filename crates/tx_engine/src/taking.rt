@@ -22,22 +22,26 @@ fn is_idle(engine: &TxEngine, ring: &Ring, control: Tctl) -> bool
 /// One step of transmission: takes the frame that the descriptor at the head of the ring names into the packet buffer.
 ///
 /// - `Nothing` exactly where TCTL.EN is 0, the engine is stopped, its buffer holds four frames, or head equals tail.
-/// - Otherwise `Fault` exactly where the ring has no descriptors or head or tail isn't one of its slots, the descriptor or
-///   the bytes that it names don't lie in memory (addresses don't wrap), EOP is clear, DEXT is set, or the length is 0 or
-///   above 1,518. It leaves ring and buffer, and stops the engine until a reset.
-/// - Otherwise `Took`: the frame is in the buffer, with TCTL.PSP followed by zeros up to 60 bytes, and head has moved on.
+/// - Otherwise `Fault` exactly where the ring has no descriptors or head or tail isn't one of its slots, the
+///   descriptor or the bytes that it names don't lie in memory (addresses don't wrap), EOP is clear, DEXT is set, or
+///   the length is 0 or above 1,518. It leaves ring and buffer, and stops the engine until a reset.
+/// - Otherwise `Took`: the frame is in the buffer, with TCTL.PSP followed by zeros up to 60 bytes, and head has moved
+///   on.
 pub fn take(engine: &mut TxEngine, ring: &mut Ring, control: Tctl, memory: &HostMemory) -> Take
     ensures nothing { (result ≡ Take.Nothing) ↔ IsIdle control.0 engine.old ring.old }
-    ensures fault { (result ≡ Take.Fault) ↔ ((¬ (IsIdle control.0 engine.old ring.old)) × (¬ (IsFetchable memory.now ring.old))) }
+    ensures fault { (result ≡ Take.Fault)
+        ↔ ((¬ (IsIdle control.0 engine.old ring.old)) × (¬ (IsFetchable memory.now ring.old))) }
 
     ensures untouched { (result ≡ Take.Nothing) → (engine.new ≡ engine.old) × (ring.new ≡ ring.old) }
-    ensures stopped { (result ≡ Take.Fault) → (engine.new ≡ record engine.old { stopped = true }) × (ring.new ≡ ring.old) }
+    ensures stopped { (result ≡ Take.Fault) → (engine.new ≡ record engine.old { stopped = true })
+        × (ring.new ≡ ring.old) }
     ensures took { IfTook result (λ _. Takes control.0 memory.now ring.old ring.new engine.old engine.new) }
     ensures fetchable { IfTook result (λ _. IsFetchable memory.now ring.old) }
     ensures emptied { IfTook result (λ emptied. emptied ≡ (ring.new.head == ring.new.tail)) }
 
     // Whatever the answer, the frames to be sent are the same.
-    ensures to_send { to_send memory.now ring.new (pads control.0) engine.new.buffer ≡ to_send memory.now ring.old (pads control.0) engine.old.buffer }
+    ensures to_send { to_send memory.now ring.new (pads control.0) engine.new.buffer
+        ≡ to_send memory.now ring.old (pads control.0) engine.old.buffer }
 {
     if is_idle(engine, ring, control) {
         return Take::Nothing;

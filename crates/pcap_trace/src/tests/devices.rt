@@ -72,7 +72,8 @@ fn limits_are_kept(rt: HostRuntime) -> Result<(), Fail> {
     Ok(())
 }
 
-/// Each write in turn fails. What went out then is a beginning of the text; a sink of one byte a write took one less than writes.
+/// Each write in turn fails. What went out then is a beginning of the text; a sink of one byte a write took one less
+/// than writes.
 #[test]
 fn each_write_of_a_trace_fails(rt: HostRuntime) -> Result<(), Fail> {
     let whole = two_frames(rt.alloc())?;
@@ -110,8 +111,8 @@ fn each_write_of_a_flush_fails(rt: HostRuntime) -> Result<(), Fail> {
     Ok(())
 }
 
-/// A long trace goes out in several blocks; each write of any of them fails in turn. The first block has at most 65,536 bytes and takes
-/// 7 writes; the last one has the others, and takes one.
+/// A long trace goes out in several blocks; each write of any of them fails in turn. The first block has at most
+/// 65,536 bytes and takes 7 writes; the last one has the others, and takes one.
 #[test]
 fn each_write_of_a_long_trace_fails(rt: HostRuntime) -> Result<(), Fail> {
     let packets = long_packets(rt.alloc())?;

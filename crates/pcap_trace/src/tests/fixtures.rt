@@ -23,7 +23,8 @@ pub const NANOSECONDS: [u8; 4] = [0x4d, 0x3c, 0xb2, 0xa1];
 
 pub const BIG_NANOSECONDS: [u8; 4] = [0xa1, 0xb2, 0x3c, 0x4d];
 
-/// A frame of 14 bytes, captured whole; one of 100 bytes, of which 14 were captured; and 7 bytes of a third packet header.
+/// A frame of 14 bytes, captured whole; one of 100 bytes, of which 14 were captured; and 7 bytes of a third packet
+/// header.
 pub const SMALL: [u8; 91] = [
     0xd4, 0xc3, 0xb2, 0xa1, 2, 0, 4, 0, 0, 0, 0, 0, 0, 0, 0, 0, 0xff, 0xff, 0, 0, 1, 0, 0, 0, // file
     5, 0, 0, 0, 6, 0, 0, 0, 14, 0, 0, 0, 14, 0, 0, 0, // whole

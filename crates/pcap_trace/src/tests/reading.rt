@@ -14,8 +14,8 @@ fn read(alloc: Global, bytes: &[u8]) -> Result<(usize, u64, bool), ReadError> {
     counts(alloc, &mut SliceSource::new(bytes))
 }
 
-/// The same packets in each byte order and with each magic number. Want of memory is the one other answer that is allowed here, so
-/// that each allocation can be made to fail in turn.
+/// The same packets in each byte order and with each magic number. Want of memory is the one other answer that is
+/// allowed here, so that each allocation can be made to fail in turn.
 #[test]
 fn a_skipped_packet_and_a_cut_one(rt: HostRuntime) {
     for bytes in [

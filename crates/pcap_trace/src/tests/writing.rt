@@ -36,7 +36,8 @@ fn greatest_time(rt: HostRuntime) -> Result<(), Fail> {
     packets.push((u64::MAX, Frame::from_slice(&[])))?;
     let mut sink = VecSink::new(rt.alloc());
     Trace::write(&mut sink, &packets)?;
-    // 2^64 - 1 is 18,446,744,073,709 seconds, 4,294 times 2^32 and 0xF7A0_B5ED more, and 551,615 (0x86ABF) microseconds.
+    // 2^64 - 1 is 18,446,744,073,709 seconds, 4,294 times 2^32 and 0xF7A0_B5ED more, and 551,615 (0x86ABF)
+    // microseconds.
     assert_eq!(rt;
         sink.bytes().get(24..),
         Some([

@@ -1,4 +1,5 @@
-use Rattle.adapter.specs.FrameLaws.{arrival_grows_frames, data_leaves_frames, done_takes_first_frame, putting_takes_first, taking_leaves_frames}
+use Rattle.adapter.specs.FrameLaws.{arrival_grows_frames, data_leaves_frames, done_takes_first_frame, putting_takes_first}
+use Rattle.adapter.specs.FrameLaws.{taking_leaves_frames}
 use Rattle.adapter.proofs.laws.frames_by_steps.Goals as goal
 
 pub returns-clause-taking : goal.returns-clause-taking

@@ -29,9 +29,11 @@ loop-slot-preserved g c =
       lively = λ lively. c.clear_descriptor.ensures.lively (so_far.lively lively);
       ran = λ d honest ready first below.
           let before = so_far.ran d honest ready first (omega (arith, below)) in
-          let one = c.clear_descriptor.ensures.sent d here.slot (so_far.honest honest) before.goes.flows.ready (omega (arith, below)) (omega (arith, address, first)) in
+          let one = c.clear_descriptor.ensures.sent d here.slot (so_far.honest honest) before.goes.flows.ready (omega (arith, below))
+          (omega (arith, address, first)) in
           subst (λ (n : ℕ). RanBy false world happened (clears_from c.args.first n) start later d d [] []) (sym (add-one here.slot))
-          (ran_by-join world happened g.met.B.Bus.joins (clears_from c.args.first here.slot) (clears (c.args.first + 16 * here.slot) ∷ []) start here.bus later d d d [] [] [] [] before
+          (ran_by-join world happened g.met.B.Bus.joins (clears_from c.args.first here.slot)
+          (clears (c.args.first + 16 * here.slot) ∷ []) start here.bus later d d d [] [] [] [] before
           (subst (λ (at : ℕ). RanBy false world happened (clears at ∷ []) here.bus later d d [] []) address one));
     }
 

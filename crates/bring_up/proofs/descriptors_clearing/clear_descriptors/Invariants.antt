@@ -11,6 +11,7 @@ invariant-loop-slot g l = record {
   kept : g.B.Bus.kept l.initial.bus l.bus;
   honest : g.B.Bus.honest l.initial.bus → g.B.Bus.honest l.bus;
   lively : g.B.Bus.lively l.initial.bus → g.B.Bus.lively l.bus;
-  ran : (d : DriverState) → g.B.Bus.honest l.initial.bus → ReadyWith false d (g.B.Bus.world l.initial.bus) → l.first ≡ transmit_slot d.counts 0 → l.slot ≤ d.counts.tx
+  ran : (d : DriverState) → g.B.Bus.honest l.initial.bus → ReadyWith false d (g.B.Bus.world l.initial.bus)
+      → l.first ≡ transmit_slot d.counts 0 → l.slot ≤ d.counts.tx
       → RanBy false g.B.Bus.world g.B.Bus.happened (clears_from l.first l.slot) l.initial.bus l.bus d d [] [];
 }

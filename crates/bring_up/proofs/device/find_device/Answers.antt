@@ -38,7 +38,8 @@ returns-then-not-checksum_ok-clause-finds g c honest =
     let resets = c.reset_device.ensures.sets honest in
     let h1 = c.reset_device.ensures.honest honest in
     let reads = c.in_ok-image.ensures.reads h1 in
-    let image_is : c.in_ok-image.image ≡ (world start).adapter.image = reads.image ∙ device-image (world start) (world c.reset_device.new.bus) reset_writes resets.settings in
+    let image_is : c.in_ok-image.image ≡ (world start).adapter.image = reads.image
+    ∙ device-image (world start) (world c.reset_device.new.bus) reset_writes resets.settings in
     record {
       past = joined resets.past reads.asks.past;
       told = joins start c.reset_device.new.bus c.read_image.new.bus resets.past reads.asks.past resets.told reads.asks.told;
@@ -56,7 +57,8 @@ returns-in_err-negotiate-clause-finds g c honest =
     let resets = c.reset_device.ensures.sets honest in
     let h1 = c.reset_device.ensures.honest honest in
     let reads = c.in_ok-image.ensures.reads h1 in
-    let image_is : c.in_ok-image.image ≡ (world start).adapter.image = reads.image ∙ device-image (world start) (world c.reset_device.new.bus) reset_writes resets.settings in
+    let image_is : c.in_ok-image.image ≡ (world start).adapter.image = reads.image
+    ∙ device-image (world start) (world c.reset_device.new.bus) reset_writes resets.settings in
     let h2 = c.in_ok-image.ensures.honest h1 in
     let h3 = c.allocate_packet_buffer.ensures.honest h2 in
     let h4 = c.set_link_up.ensures.honest h3 in
@@ -65,7 +67,8 @@ returns-in_err-negotiate-clause-finds g c honest =
     (is-read world happened joins start c.reset_device.new.bus c.read_image.new.bus resets (c.reset_device.ensures.rests honest) reads.asks)
     (c.allocate_packet_buffer.ensures.sets h2) (c.set_link_up.ensures.sets h3) in
     let Lives : g.B.Bus.lively start → g.B.Bus.lively c.set_link_up.new.bus = λ lively.
-    c.set_link_up.ensures.lively (c.allocate_packet_buffer.ensures.lively (c.in_ok-image.ensures.lively (c.reset_device.ensures.lively lively))) in
+    c.set_link_up.ensures.lively
+    (c.allocate_packet_buffer.ensures.lively (c.in_ok-image.ensures.lively (c.reset_device.ensures.lively lively))) in
     let asked = c.in_err-negotiate.ensures.negotiates h4 in
     let told = err_from_is_err_and c.from_residual-in_err-negotiate.result c.from_residual-in_err-negotiate.ensures.1 in
     let is : c.from_residual-in_err-negotiate.result ≡ Err PhyTimeout = told.1 ∙ ap Err (told.2 ∙ c.in_err-negotiate.ensures.error) in
@@ -87,7 +90,8 @@ returns-in_err-await_link-clause-finds g c honest =
     let resets = c.reset_device.ensures.sets honest in
     let h1 = c.reset_device.ensures.honest honest in
     let reads = c.in_ok-image.ensures.reads h1 in
-    let image_is : c.in_ok-image.image ≡ (world start).adapter.image = reads.image ∙ device-image (world start) (world c.reset_device.new.bus) reset_writes resets.settings in
+    let image_is : c.in_ok-image.image ≡ (world start).adapter.image = reads.image
+    ∙ device-image (world start) (world c.reset_device.new.bus) reset_writes resets.settings in
     let h2 = c.in_ok-image.ensures.honest h1 in
     let h3 = c.allocate_packet_buffer.ensures.honest h2 in
     let h4 = c.set_link_up.ensures.honest h3 in
@@ -96,14 +100,16 @@ returns-in_err-await_link-clause-finds g c honest =
     (is-read world happened joins start c.reset_device.new.bus c.read_image.new.bus resets (c.reset_device.ensures.rests honest) reads.asks)
     (c.allocate_packet_buffer.ensures.sets h2) (c.set_link_up.ensures.sets h3) in
     let Lives : g.B.Bus.lively start → g.B.Bus.lively c.set_link_up.new.bus = λ lively.
-    c.set_link_up.ensures.lively (c.allocate_packet_buffer.ensures.lively (c.in_ok-image.ensures.lively (c.reset_device.ensures.lively lively))) in
+    c.set_link_up.ensures.lively
+    (c.allocate_packet_buffer.ensures.lively (c.in_ok-image.ensures.lively (c.reset_device.ensures.lively lively))) in
     let asked = c.in_ok-negotiate.ensures.negotiates h4 in
     let still = still-ready world happened joins start c.set_link_up.new.bus c.negotiate.new.bus c.args.kilobytes ready asked.asks in
     let waits = c.in_err-await_link.ensures.awaits (c.in_ok-negotiate.ensures.honest h4) in
     let told = err_from_is_err_and c.from_residual-in_err-await_link.result c.from_residual-in_err-await_link.ensures.1 in
     let is : c.from_residual-in_err-await_link.result ≡ Err c.in_err-await_link.field-0.0 = told.1 ∙ ap Err told.2 in
     let right : HasRightSum (world start).adapter.image = subst HasRightSum image_is (c.checksum_ok.ensures.0 c.if-not-checksum_ok.false) in
-    let Is : InitError → Type 0 = λ error. FindsDevice world happened g.B.Bus.lively start c.await_link.new.bus c.args.kilobytes (Err error) in
+    let Is : InitError → Type 0 = λ error. FindsDevice world happened g.B.Bus.lively start c.await_link.new.bus c.args.kilobytes
+    (Err error) in
     let past = joined still.past waits.asks.past in
     let happened_so = joins start c.negotiate.new.bus c.await_link.new.bus still.past waits.asks.past still.told waits.asks.told in
     let count = length-append still.past.accesses waits.asks.past.accesses in
@@ -124,7 +130,9 @@ returns-in_err-await_link-clause-finds g c honest =
       why = omega (arith, waits.no_link (ap Err none), count);
       why_lively = λ lively. (
         right,
-        subst (NeedsMoreThan 2000) (device-link (world start) (world c.negotiate.new.bus) (reset_writes ++ (allocation_writes c.args.kilobytes ++ link_writes)) still.settings)
+        subst (NeedsMoreThan 2000)
+            (device-link (world start) (world c.negotiate.new.bus)
+            (reset_writes ++ (allocation_writes c.args.kilobytes ++ link_writes)) still.settings)
             (waits.slow (LivesOn lively) asked.started.0 (ap Err none)),
       );
     }))
@@ -139,7 +147,8 @@ returns-clause-finds g c honest =
     let resets = c.reset_device.ensures.sets honest in
     let h1 = c.reset_device.ensures.honest honest in
     let reads = c.in_ok-image.ensures.reads h1 in
-    let image_is : c.in_ok-image.image ≡ (world start).adapter.image = reads.image ∙ device-image (world start) (world c.reset_device.new.bus) reset_writes resets.settings in
+    let image_is : c.in_ok-image.image ≡ (world start).adapter.image = reads.image
+    ∙ device-image (world start) (world c.reset_device.new.bus) reset_writes resets.settings in
     let h2 = c.in_ok-image.ensures.honest h1 in
     let h3 = c.allocate_packet_buffer.ensures.honest h2 in
     let h4 = c.set_link_up.ensures.honest h3 in

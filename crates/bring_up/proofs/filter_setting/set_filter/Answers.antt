@@ -15,10 +15,13 @@ returns-clause-sets g c honest =
       groups = groups;
       vlans = vlans;
       sets =
-          sets-join world happened joins c.args.bus.now c.write_groups.new.bus c.write_addresses.new.bus (table_writes 0x5200 groups) _ (c.write_groups.ensures.sets honest)
-          (sets-join world happened joins c.write_groups.new.bus c.write_vlans.new.bus c.write_addresses.new.bus (table_writes 0x5600 vlans) (address_writes c.args.address.now)
+          sets-join world happened joins c.args.bus.now c.write_groups.new.bus c.write_addresses.new.bus (table_writes 0x5200 groups) _
+          (c.write_groups.ensures.sets honest)
+          (sets-join world happened joins c.write_groups.new.bus c.write_vlans.new.bus c.write_addresses.new.bus (table_writes 0x5600 vlans)
+          (address_writes c.args.address.now)
           (c.write_vlans.ensures.sets still) (c.write_addresses.ensures.sets (c.write_vlans.ensures.honest still)));
-      has_groups = subst (λ (list : List (List ℕ)). HasNumbers groups (numbers_of_groups list)) c.as_slice.ensures.value c.group_table-groups.ensures;
+      has_groups = subst (λ (list : List (List ℕ)). HasNumbers groups (numbers_of_groups list)) c.as_slice.ensures.value
+          c.group_table-groups.ensures;
       has_vlans = subst (HasNumbers vlans) c.named_vlans.ensures c.vlan_table-vlans.ensures;
       groups_are = c.write_groups.ensures.words;
       vlans_are = c.write_vlans.ensures.words;

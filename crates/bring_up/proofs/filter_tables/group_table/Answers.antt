@@ -20,13 +20,16 @@ loop-group-preserved c =
     let fits : number < 4096 = mod_below _ 4096 (omega arith) in
     let more : numbers_of_groups (take here.group-index groups) ++ number ∷ [] ≡ numbers_of_groups (take (here.group-index + 1) groups) =
     sym (map-append (group_number 4) (take here.group-index groups) (group ∷ []))
-    ∙ ap numbers_of_groups (sym (take-suc groups here.group-index [] c.loop-group-test.true) ∙ ap (λ (n : ℕ). take n groups) (sym (add-one here.group-index))) in
+    ∙ ap numbers_of_groups (sym (take-suc groups here.group-index [] c.loop-group-test.true)
+    ∙ ap (λ (n : ℕ). take n groups) (sym (add-one here.group-index))) in
     subst (HasNumbers c.add_number.new.table) more
-    (subst (λ (table : List ℕ). HasNumbers table (numbers_of_groups (take here.group-index groups) ++ number ∷ [])) (sym (c.add_number.ensures ∙ ap (λ (n : ℕ). with_number here.table n) c.hash_of.ensures))
+    (subst (λ (table : List ℕ). HasNumbers table (numbers_of_groups (take here.group-index groups) ++ number ∷ []))
+    (sym (c.add_number.ensures ∙ ap (λ (n : ℕ). with_number here.table n) c.hash_of.ensures))
     (one-number-more here.table (numbers_of_groups (take here.group-index groups)) number fits here.invariant))
 
 pub returns : goal.returns
 returns c =
     let here = c.loop-group in
     let last : here.group-index ≡ length c.args.groups.now = omega (arith, here.auto, c.loop-group-test.false) in
-    subst (HasNumbers here.table) (ap (λ (n : ℕ). numbers_of_groups (take n c.args.groups.now)) last ∙ ap numbers_of_groups (take-length c.args.groups.now)) here.invariant
+    subst (HasNumbers here.table) (ap (λ (n : ℕ). numbers_of_groups (take n c.args.groups.now)) last
+    ∙ ap numbers_of_groups (take-length c.args.groups.now)) here.invariant

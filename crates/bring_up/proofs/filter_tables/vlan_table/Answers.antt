@@ -14,8 +14,10 @@ loop-vlan-preserved c =
     let more : take here.vlan-index vlans ++ get_or vlans here.vlan-index 0 ∷ [] ≡ take (here.vlan-index + 1) vlans =
     sym (take-suc vlans here.vlan-index 0 c.loop-vlan-test.true) ∙ ap (λ (n : ℕ). take n vlans) (sym (add-one here.vlan-index)) in
     subst (HasNumbers c.add_number.new.table) more
-    (subst (λ (table : List ℕ). HasNumbers table (take here.vlan-index vlans ++ get_or vlans here.vlan-index 0 ∷ [])) (sym c.add_number.ensures)
-    (one-number-more here.table (take here.vlan-index vlans) (get_or vlans here.vlan-index 0) (c.requires here.vlan-index 0 c.loop-vlan-test.true) here.invariant))
+    (subst (λ (table : List ℕ). HasNumbers table (take here.vlan-index vlans ++ get_or vlans here.vlan-index 0 ∷ []))
+    (sym c.add_number.ensures)
+    (one-number-more here.table (take here.vlan-index vlans) (get_or vlans here.vlan-index 0)
+    (c.requires here.vlan-index 0 c.loop-vlan-test.true) here.invariant))
 
 pub returns : goal.returns
 returns c =

@@ -20,7 +20,8 @@ loop-word-init g c = record {
 
 -- The words so far, and one more.
 more : (first index : ℕ) (words : List ℕ) → index < length words
-    → table_writes first (take index words) ++ write_at (first + 4 * index) (get_or words index 0) ∷ [] ≡ table_writes first (take (index + 1) words)
+    → table_writes first (take index words) ++ write_at (first + 4 * index) (get_or words index 0) ∷ []
+    ≡ table_writes first (take (index + 1) words)
 more first index words below =
     let so_far : length (take index words) ≡ index = length-take-le index words (omega (arith, below)) in
     sym (ap (λ (n : ℕ). table_writes first (take index words) ++ write_at (first + 4 * n) (get_or words index 0) ∷ []) so_far)
@@ -39,14 +40,19 @@ loop-word-preserved g c =
       honest = λ honest. c.write.ensures.honest (kept.honest honest);
       lively = λ lively. c.write.ensures.lively (kept.lively lively);
       sets = λ honest.
-          subst (Sets g.B.Bus.world g.B.Bus.happened start c.write.new.self) (more c.args.first here.word-index c.args.words.now (omega (arith, c.loop-word-test.true, c.told-words)))
+          subst (Sets g.B.Bus.world g.B.Bus.happened start c.write.new.self)
+          (more c.args.first here.word-index c.args.words.now (omega (arith, c.loop-word-test.true, c.told-words)))
           (sets-join g.B.Bus.world g.B.Bus.happened g.met.B.Bus.joins start here.bus c.write.new.self _ _ (kept.sets honest)
-          (sets-at g.B.Bus.world g.B.Bus.happened g.B.Bus.lively here.bus c.write.new.self here.offset (c.args.first + 4 * here.word-index) _ kept.offset (c.write.ensures.acts (kept.honest honest))));
+          (sets-at g.B.Bus.world g.B.Bus.happened g.B.Bus.lively here.bus c.write.new.self here.offset
+          (c.args.first + 4 * here.word-index) _ kept.offset (c.write.ensures.acts (kept.honest honest))));
     }
 
 pub returns-clause-sets : goal.returns-clause-sets
 returns-clause-sets g c honest =
     let here = c.loop-word in
     let all : take here.word-index c.args.words.now ≡ c.args.words.now =
-    ap (λ (n : ℕ). take n c.args.words.now) (let last : here.word-index ≡ length c.args.words.now = omega (arith, here.auto, c.loop-word-test.false, c.told-words) in last) ∙ take-length c.args.words.now in
-    subst (λ (words : List ℕ). Sets g.B.Bus.world g.B.Bus.happened c.args.bus.now here.bus (table_writes c.args.first words)) all (here.invariant.sets honest)
+    ap (λ (n : ℕ). take n c.args.words.now) (let last : here.word-index
+    ≡ length c.args.words.now = omega (arith, here.auto, c.loop-word-test.false, c.told-words) in last)
+    ∙ take-length c.args.words.now in
+    subst (λ (words : List ℕ). Sets g.B.Bus.world g.B.Bus.happened c.args.bus.now here.bus (table_writes c.args.first words)) all
+    (here.invariant.sets honest)

@@ -10,5 +10,6 @@ invariant-loop-word g l = record {
   kept : g.B.Bus.kept l.initial.bus l.bus;
   honest : g.B.Bus.honest l.initial.bus → g.B.Bus.honest l.bus;
   lively : g.B.Bus.lively l.initial.bus → g.B.Bus.lively l.bus;
-  sets : g.B.Bus.honest l.initial.bus → Sets g.B.Bus.world g.B.Bus.happened l.initial.bus l.bus (table_writes l.first (take l.word-index l.words));
+  sets : g.B.Bus.honest l.initial.bus
+      → Sets g.B.Bus.world g.B.Bus.happened l.initial.bus l.bus (table_writes l.first (take l.word-index l.words));
 }

@@ -25,7 +25,8 @@ loop-preserved g c =
       honest = λ honest. c.in_ok-status.ensures.honest (before.honest honest);
       lively = λ lively. c.in_ok-status.ensures.lively (before.lively lively);
       awaits = λ honest.
-          awaits-on g.B.Bus.world g.B.Bus.happened g.B.Bus.lively g.met.B.Bus.joins c.args.bus.now c.loop.bus c.command.new.bus c.loop.counter c.in_ok-status.status
+          awaits-on g.B.Bus.world g.B.Bus.happened g.B.Bus.lively g.met.B.Bus.joins c.args.bus.now c.loop.bus c.command.new.bus
+          c.loop.counter c.in_ok-status.status
           before.lively (before.awaits honest) (c.in_ok-status.ensures.commands (before.honest honest)) down;
     }
 
@@ -34,16 +35,19 @@ returns-in_err-status-clause-awaits g c honest =
     let before = c.loop.invariant in
     let told = err_from_is_err_and c.from_residual.result c.from_residual.ensures.1 in
     rw told.1
-    (awaits-late g.B.Bus.world g.B.Bus.happened g.B.Bus.lively g.met.B.Bus.joins c.args.bus.now c.loop.bus c.command.new.bus c.loop.counter c.in_err-status.field-0.0 told.0 (told.2 ∙ c.in_err-status.ensures.error)
+    (awaits-late g.B.Bus.world g.B.Bus.happened g.B.Bus.lively g.met.B.Bus.joins c.args.bus.now c.loop.bus c.command.new.bus c.loop.counter
+    c.in_err-status.field-0.0 told.0 (told.2 ∙ c.in_err-status.ensures.error)
     before.lively (before.awaits honest) (c.in_err-status.ensures.commands (before.honest honest)))
 
 pub returns-then-shows_link-clause-awaits : goal.returns-then-shows_link-clause-awaits
 returns-then-shows_link-clause-awaits g c honest =
     let before = c.loop.invariant in
     let both = c.shows_link.ensures.0 c.if-shows_link.true in
-    awaits-up g.B.Bus.world g.B.Bus.happened g.B.Bus.lively g.met.B.Bus.joins c.args.bus.now c.loop.bus c.command.new.bus c.loop.counter c.in_ok-status.status tt
+    awaits-up g.B.Bus.world g.B.Bus.happened g.B.Bus.lively g.met.B.Bus.joins c.args.bus.now c.loop.bus c.command.new.bus c.loop.counter
+    c.in_ok-status.status tt
     (before.awaits honest) (c.in_ok-status.ensures.commands (before.honest honest)) (λ unset. absurd (omega (arith, both.1, unset)))
 
 pub returns-clause-awaits : goal.returns-clause-awaits
 returns-clause-awaits g c honest =
-    awaits-none g.B.Bus.world g.B.Bus.happened g.B.Bus.lively c.args.bus.now c.loop.bus c.loop.counter (omega arith) (c.loop.invariant.awaits honest)
+    awaits-none g.B.Bus.world g.B.Bus.happened g.B.Bus.lively c.args.bus.now c.loop.bus c.loop.counter (omega arith)
+    (c.loop.invariant.awaits honest)

@@ -8,7 +8,8 @@ loop-init g c = record {
   kept = c.write.ensures.kept;
   honest = c.write.ensures.honest;
   lively = c.write.ensures.lively;
-  waits = λ honest. gives g.B.Bus.world g.B.Bus.happened g.B.Bus.lively c.args.bus.now c.write.new.self c.args.words (c.write.ensures.acts honest);
+  waits = λ honest. gives g.B.Bus.world g.B.Bus.happened g.B.Bus.lively c.args.bus.now c.write.new.self c.args.words
+      (c.write.ensures.acts honest);
 }
 
 pub loop-preserved : goal.loop-preserved
@@ -20,21 +21,25 @@ loop-preserved g c =
       honest = λ honest. c.read-answer.ensures.honest (before.honest honest);
       lively = λ lively. c.read-answer.ensures.lively (before.lively lively);
       waits = λ honest.
-          waits-on g.B.Bus.world g.B.Bus.happened g.B.Bus.lively g.met.B.Bus.joins c.args.bus.now c.loop.bus c.read-answer.new.self c.args.words c.loop.counter c.read-answer.result
+          waits-on g.B.Bus.world g.B.Bus.happened g.B.Bus.lively g.met.B.Bus.joins c.args.bus.now c.loop.bus c.read-answer.new.self
+          c.args.words c.loop.counter c.read-answer.result
           c.requires before.lively (before.waits honest) (c.read-answer.ensures.acts (before.honest honest)) c.if-answer-ne0.false;
     }
 
 pub returns-then-answer-eq0-clause-commands : goal.returns-then-answer-eq0-clause-commands
 returns-then-answer-eq0-clause-commands g c honest =
-    (answered g.B.Bus.world g.B.Bus.happened g.B.Bus.lively g.met.B.Bus.joins c.args.bus.now c.loop.bus c.read-answer.new.self c.args.words c.loop.counter c.read-answer.result
+    (answered g.B.Bus.world g.B.Bus.happened g.B.Bus.lively g.met.B.Bus.joins c.args.bus.now c.loop.bus c.read-answer.new.self c.args.words
+    c.loop.counter c.read-answer.result
     c.requires (c.loop.invariant.waits honest) (c.read-answer.ensures.acts (c.loop.invariant.honest honest)) c.if-answer-ne0.true).commands
 
 pub returns-else-answer-eq0-clause-commands : goal.returns-else-answer-eq0-clause-commands
 returns-else-answer-eq0-clause-commands g c honest =
     absurd (c.if-answer-eq0.false
-    (answered g.B.Bus.world g.B.Bus.happened g.B.Bus.lively g.met.B.Bus.joins c.args.bus.now c.loop.bus c.read-answer.new.self c.args.words c.loop.counter c.read-answer.result
+    (answered g.B.Bus.world g.B.Bus.happened g.B.Bus.lively g.met.B.Bus.joins c.args.bus.now c.loop.bus c.read-answer.new.self c.args.words
+    c.loop.counter c.read-answer.result
     c.requires (c.loop.invariant.waits honest) (c.read-answer.ensures.acts (c.loop.invariant.honest honest)) c.if-answer-ne0.true).right)
 
 pub returns-clause-commands : goal.returns-clause-commands
 returns-clause-commands g c honest =
-    unanswered g.B.Bus.world g.B.Bus.happened g.B.Bus.lively c.args.bus.now c.loop.bus c.args.words c.loop.counter c.loop-test.false (c.loop.invariant.waits honest)
+    unanswered g.B.Bus.world g.B.Bus.happened g.B.Bus.lively c.args.bus.now c.loop.bus c.args.words c.loop.counter c.loop-test.false
+    (c.loop.invariant.waits honest)

@@ -12,7 +12,8 @@ returns-clause-sets g c honest =
     let h2 = c.write-2.ensures.honest h1 in
     let h3 = c.write-3.ensures.honest h2 in
     let h4 = c.write-4.ensures.honest h3 in
-    sets-five world happened g.met.B.Bus.joins start c.write.new.self c.write-2.new.self c.write-3.new.self c.write-4.new.self c.write-5.new.self _ _ _ _ _
+    sets-five world happened g.met.B.Bus.joins start c.write.new.self c.write-2.new.self c.write-3.new.self c.write-4.new.self
+    c.write-5.new.self _ _ _ _ _
     (sets-word world happened lively start c.write.new.self 0x3800 _ _ c.low_word.ensures (c.write.ensures.acts honest))
     (sets-word world happened lively c.write.new.self c.write-2.new.self 0x3804 _ _ c.high_word.ensures (c.write-2.ensures.acts h1))
     (sets-write world happened lively c.write-2.new.self c.write-3.new.self 0x3808 c.args.ring.bytes (c.write-3.ensures.acts h2))
@@ -25,6 +26,8 @@ returns-clause-ran g c d honest ready oldest new rx tx first long =
     let h2 = c.write-2.ensures.honest h1 in
     let h3 = c.write-3.ensures.honest h2 in
     let h4 = c.write-4.ensures.honest h3 in
-    sets-transmit_ring g.B.Bus.world g.B.Bus.happened g.B.Bus.lively g.met.B.Bus.joins c.args.bus.now c.write.new.self c.write-2.new.self c.write-3.new.self c.write-4.new.self c.write-5.new.self
+    sets-transmit_ring g.B.Bus.world g.B.Bus.happened g.B.Bus.lively g.met.B.Bus.joins c.args.bus.now c.write.new.self c.write-2.new.self
+    c.write-3.new.self c.write-4.new.self c.write-5.new.self
     c.low_word.result c.high_word.result c.args.ring.base c.args.ring.bytes d c.low_word.ensures c.high_word.ensures first long rx tx oldest
-    (c.write.ensures.acts honest) (c.write-2.ensures.acts h1) (c.write-3.ensures.acts h2) (c.write-4.ensures.acts h3) (c.write-5.ensures.acts h4) ready new
+    (c.write.ensures.acts honest) (c.write-2.ensures.acts h1) (c.write-3.ensures.acts h2) (c.write-4.ensures.acts h3)
+    (c.write-5.ensures.acts h4) ready new

@@ -11,7 +11,8 @@ use Rattle.bus.proofs.sound_buses.with_buffered_frame.Goals as goal
 world-is : (c : goal.After-step) → c.step.new.self.world ≡ sent 4096 c.args.image.now
 world-is c =
     let state : SoloState → World = λ solo. solo.world in
-    sent-found 4096 c.args.image.now (solo_stepped c.step.result c.in_ok-bus.bus) c.in_ok-bus.bus.world c.step.new.self.world (omega arith) c.in_ok-bus.ensures.world c.step.ensures.answer (ap state c.step.ensures.state)
+    sent-found 4096 c.args.image.now (solo_stepped c.step.result c.in_ok-bus.bus) c.in_ok-bus.bus.world c.step.new.self.world
+    (omega arith) c.in_ok-bus.ensures.world c.step.ensures.answer (ap state c.step.ensures.state)
 
 pub returns-clause-world : goal.returns-clause-world
 returns-clause-world c = world-is c
@@ -20,7 +21,8 @@ pub returns-clause-sound : goal.returns-clause-sound
 returns-clause-sound c =
     let state : SoloState → World = λ solo. solo.world in
     subst (Sound 0 0) (sym (ap state c.step.ensures.state))
-    (stepped-sound TxTake (has_room c.in_ok-bus.bus) (solo_stepped c.step.result c.in_ok-bus.bus) c.in_ok-bus.bus.world c.step.ensures.running c.step.ensures.answer c.in_ok-bus.ensures.sound)
+    (stepped-sound TxTake (has_room c.in_ok-bus.bus) (solo_stepped c.step.result c.in_ok-bus.bus) c.in_ok-bus.bus.world
+    c.step.ensures.running c.step.ensures.answer c.in_ok-bus.ensures.sound)
 
 pub returns-clause-in_buffer : goal.returns-clause-in_buffer
 returns-clause-in_buffer c = subst HasFramesInBuffer (sym (world-is c)) (sent-has_frames 4096 c.args.image.now)

@@ -14,7 +14,8 @@ returns c =
     let stored : c.store_now.new.self.world ≡ world_after_store 2176 request c.in_ok-bus.bus.world =
     ap state c.store_now.ensures.state ∙ ap (λ (address : ℕ). world_after_store address request c.in_ok-bus.bus.world) c.from.ensures in
     let is : c.write_now.new.self.world ≡ sending 4096 words =
-    ap state c.write_now.ensures.state ∙ ap (world_after_write 0x3818 1) (stored ∙ ap (world_after_store 2176 request) c.in_ok-bus.ensures) ∙ sending-written 4096 words in
+    ap state c.write_now.ensures.state ∙ ap (world_after_write 0x3818 1) (stored ∙ ap (world_after_store 2176 request) c.in_ok-bus.ensures)
+    ∙ sending-written 4096 words in
     record {
       world = is;
       sound = subst (Sound 0 0) (sym is) (sending-sound 4096 words (omega arith));

@@ -11,7 +11,8 @@ pub returns : goal.returns
 returns c =
     let words = c.args.image.now in
     let is : c.write_now.new.self.world ≡ ready 4096 words =
-    ap (λ (solo : SoloState). solo.world) c.write_now.ensures.state ∙ ap (world_after_write 0x2818 1) c.in_ok-bus.ensures ∙ ready-written 4096 words in
+    ap (λ (solo : SoloState). solo.world) c.write_now.ensures.state ∙ ap (world_after_write 0x2818 1) c.in_ok-bus.ensures
+    ∙ ready-written 4096 words in
     record {
       world = is;
       sound = subst (Sound 0 0) (sym is) (ready-sound 4096 words (omega arith));

@@ -11,8 +11,12 @@ returns-clause-app c =
     ap app_of_fields c.after_help.ensures ∙ ap app_of_fields c.about.ensures ∙ c.new.ensures.app in
     let needs : app_of c.subcommand_required.result ≡ on_top (λ s. record s { subcommand_required = true }) (app_of c.after_help.result) =
     ap app_of_fields c.subcommand_required.ensures in
-    let helps : app_of c.arg_required_else_help-program.result ≡ on_top (λ s. record s { arg_required_else_help = true }) (app_of c.subcommand_required.result) =
+    let helps : app_of c.arg_required_else_help-program.result
+    ≡ on_top (λ s. record s { arg_required_else_help = true }) (app_of c.subcommand_required.result) =
     ap app_of_fields c.arg_required_else_help-program.ensures in
-    let settings : app_of c.arg_required_else_help-program.result ≡ on_top (λ s. record s { subcommand_required = true; arg_required_else_help = true }) (new_app (codes "nicbench")) =
-    helps ∙ ap (on_top (λ s. record s { arg_required_else_help = true })) (needs ∙ ap (on_top (λ s. record s { subcommand_required = true })) named) in
-    c.in_ok-program.ensures.shape c.in_ok-pass.ensures.local ∙ ap₂ with_subcommand settings (ap (λ (a : App). a.top) c.in_ok-pass.ensures.app)
+    let settings : app_of c.arg_required_else_help-program.result
+    ≡ on_top (λ s. record s { subcommand_required = true; arg_required_else_help = true }) (new_app (codes "nicbench")) =
+    helps ∙ ap (on_top (λ s. record s { arg_required_else_help = true })) (needs
+    ∙ ap (on_top (λ s. record s { subcommand_required = true })) named) in
+    c.in_ok-program.ensures.shape c.in_ok-pass.ensures.local
+    ∙ ap₂ with_subcommand settings (ap (λ (a : App). a.top) c.in_ok-pass.ensures.app)

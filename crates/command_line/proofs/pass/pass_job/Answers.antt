@@ -13,8 +13,10 @@ unwrap-output-requires c = is_got (found_of c.args.matches.now) (codes "OUT") c.
 pub returns-clause-job : goal.returns-clause-job
 returns-clause-job c = record {
   filter = record { address = c.in_ok-address.ensures.value; group = c.in_ok-group.ensures.value; vlan = c.in_ok-vlan.ensures.value };
-  input = some_text (found_of c.args.matches.now) (codes "IN") c.get_str.result c.unwrap-input.result c.get_str.ensures c.unwrap-input.ensures;
-  output = some_text (found_of c.args.matches.now) (codes "OUT") c.get_str-2.result c.unwrap-output.result c.get_str-2.ensures c.unwrap-output.ensures;
+  input = some_text (found_of c.args.matches.now) (codes "IN") c.get_str.result c.unwrap-input.result c.get_str.ensures
+      c.unwrap-input.ensures;
+  output = some_text (found_of c.args.matches.now) (codes "OUT") c.get_str-2.result c.unwrap-output.result c.get_str-2.ensures
+      c.unwrap-output.ensures;
 }
 
 pub returns-clause-bounds : goal.returns-clause-bounds

@@ -7,12 +7,14 @@ pub job_of-requires-clause-named : goal.job_of-requires-clause-named
 job_of-requires-clause-named c =
     let words = texts c.args.words.now in
     let m = c.in_ok-matches in
-    let got = subcommand_got words m.matches c.subcommand.result c.unwrap.result c.unwrap.ensures c.subcommand.ensures.name c.subcommand.ensures.rows m.ensures.found.1 in
+    let got = subcommand_got words m.matches c.subcommand.result c.unwrap.result c.unwrap.ensures c.subcommand.ensures.name
+    c.subcommand.ensures.rows m.ensures.found.1 in
     (taken words c.unwrap.result.0.now (rows_of (found_of c.unwrap.result.1.now)) m.ensures.taken got).0
 
 pub job_of-requires-clause-files : goal.job_of-requires-clause-files
 job_of-requires-clause-files c =
     let words = texts c.args.words.now in
     let m = c.in_ok-matches in
-    let got = subcommand_got words m.matches c.subcommand.result c.unwrap.result c.unwrap.ensures c.subcommand.ensures.name c.subcommand.ensures.rows m.ensures.found.1 in
+    let got = subcommand_got words m.matches c.subcommand.result c.unwrap.result c.unwrap.ensures c.subcommand.ensures.name
+    c.subcommand.ensures.rows m.ensures.found.1 in
     (taken words c.unwrap.result.0.now (rows_of (found_of c.unwrap.result.1.now)) m.ensures.taken got).1

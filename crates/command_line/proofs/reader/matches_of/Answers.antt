@@ -23,7 +23,8 @@ pub returns-clause-taken : goal.returns-clause-taken
 returns-clause-taken c =
     let is = c.in_ok-command.ensures.app in
     let words = texts c.args.words.now in
-    sym (refusals_are (app_of c.in_ok-command.command) words is) ∙ c.in_ok-matches.ensures.kinds (ap is_simple_and_free is ∙ simple_and_free)
+    sym (refusals_are (app_of c.in_ok-command.command) words is)
+    ∙ c.in_ok-matches.ensures.kinds (ap is_simple_and_free is ∙ simple_and_free)
 
 pub returns-clause-found : goal.returns-clause-found
 returns-clause-found c =

@@ -3,7 +3,8 @@ use Rattle.std.proofs.Common.{◌≡◌, ◌≢◌, ◌+◌, ◌*◌, ◌<◌, �
 use Rattle.std.proofs.lemmas.List.{length-set, get_or-set_same, get_or-set_other}
 use Rattle.command_line.specs.Spelling.{SpellsByte}
 use Rattle.command_line.proofs.spelling.address_of.Goals as goal
-use Rattle.command_line.proofs.spelling.address_of.Goals.{else-k-lt-ADDRESS_BYTES-via-then-k-lt-ADDRESS_BYTES+else-text-k-ne58, else-k-lt-ADDRESS_BYTES-via-else-k-lt-ADDRESS_BYTES}
+use Rattle.command_line.proofs.spelling.address_of.Goals.{else-k-lt-ADDRESS_BYTES-via-then-k-lt-ADDRESS_BYTES+else-text-k-ne58}
+use Rattle.command_line.proofs.spelling.address_of.Goals.{else-k-lt-ADDRESS_BYTES-via-else-k-lt-ADDRESS_BYTES}
 
 -- one byte more is read, and put into its place
 pairs_more : (text address : List ℕ) (k byte : ℕ) → k < length address

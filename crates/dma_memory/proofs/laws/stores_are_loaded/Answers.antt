@@ -1,4 +1,5 @@
-use Rattle.dma_memory.specs.Laws.{LiesIn-each, LiesIn-from_each, length-with_bytes, bytes_at-stored, bytes_at-elsewhere, with_bytes-adjacent, with_bytes-none}
+use Rattle.dma_memory.specs.Laws.{LiesIn-each, LiesIn-from_each, length-with_bytes, bytes_at-stored, bytes_at-elsewhere}
+use Rattle.dma_memory.specs.Laws.{with_bytes-adjacent, with_bytes-none}
 use Rattle.dma_memory.proofs.laws.stores_are_loaded.Goals as goal
 
 pub returns : goal.returns

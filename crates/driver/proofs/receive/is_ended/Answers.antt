@@ -4,4 +4,5 @@ use Rattle.registers.specs.Laws.{contains_bit}
 use Rattle.driver.proofs.receive.is_ended.Goals as goal
 
 pub returns : goal.returns
-returns c = subst (λ (b : Bool). IsTrue b ↔ HasBit c.args.descriptor.now.status.0 1) (sym (c.contains.ensures tt)) (contains_bit c.args.descriptor.now.status.0 1)
+returns c = subst (λ (b : Bool). IsTrue b ↔ HasBit c.args.descriptor.now.status.0 1) (sym (c.contains.ensures tt))
+    (contains_bit c.args.descriptor.now.status.0 1)

@@ -15,7 +15,8 @@ returns-clause-written c =
       | in-Some w ↦
           ap (λ (pair : AddressWords). after_write 0x5404 pair.high (after_write 0x5400 pair.low state)) w.words-is
           ∙ ap (λ (high : ℕ). after_write 0x5404 high (after_write 0x5400 w.of-words.result.low state)) w.of-words.ensures.high
-          ∙ ap (λ (low : ℕ). after_write 0x5404 (high_word w.in-Some.address + 2 ^ 31) (after_write 0x5400 low state)) w.of-words.ensures.low
+          ∙ ap (λ (low : ℕ). after_write 0x5404 (high_word w.in-Some.address + 2 ^ 31) (after_write 0x5400 low state))
+          w.of-words.ensures.low
           ∙ wrote-address w.in-Some.address state w.of-words.ensures.address
           ∙ ap (λ (o : Option (List ℕ)). record state { filter = with_address o state.filter }) (sym w.in-Some.is)
       | in-None w ↦

@@ -14,6 +14,7 @@ returns-clause-written c =
     ∙ ap (λ (s : AdapterState). record s { filter = record s.filter { vet = 0x8100 } }) (
     c.write_vlan.ensures
     ∙ ap (λ (s : AdapterState). record s { filter = with_vlan options.vlan s.filter }) (
-    c.write_group.ensures ∙ ap (λ (s : AdapterState). record s { filter = with_group options.group s.filter }) c.write_address.ensures.written
+    c.write_group.ensures
+    ∙ ap (λ (s : AdapterState). record s { filter = with_group options.group s.filter }) c.write_address.ensures.written
     )
     )

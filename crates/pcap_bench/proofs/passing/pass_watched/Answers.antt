@@ -8,7 +8,8 @@ use Rattle.rx_filter.specs.Registers.{FilterRegisters, filter_of}
 use Rattle.pcap_bench.specs.Lane.{slot_bytes, IsWaiting, LaneState}
 use Rattle.pcap_bench.specs.Options.{filter_for, KeptBy}
 use Rattle.pcap_bench.proofs.Choices.{kept, turned_away}
-use Rattle.pcap_bench.proofs.Passes.{SoFar, SoFar-start, SoFar-illegal, SoFar-filtered, SoFar-kept, SoFar-stops, StopsAmong-start, Grows-none, Grows-more, header_waits}
+use Rattle.pcap_bench.proofs.Passes.{SoFar, SoFar-start, SoFar-illegal, SoFar-filtered, SoFar-kept, SoFar-stops, StopsAmong-start}
+use Rattle.pcap_bench.proofs.Passes.{Grows-none, Grows-more, header_waits}
 use Rattle.pcap_bench.proofs.passing.pass_watched.Goals as goal
 
 pub returns-in_err-lane-clause-err : goal.returns-in_err-lane-clause-err
@@ -31,8 +32,11 @@ loop-frame-init g c =
       filter = c.in_ok-lane.ensures.filter;
       read = c.len.ensures;
       grows = Grows-none taken;
-      so_far = SoFar-start (KeptBy c.args.filter.now) c.args.trace.now.frames c.into_iter-frame-iterator.result c.default.result.illegal c.default.result.filtered c.default.result.written taken (append_known taken c.in_ok-writer.writer)
-          (c.into_iter-frame-iterator.ensures.into_iter_gives ∙ c.iter-frame-items.ensures) zeros.1.0 zeros.1.1.0 zeros.1.1.1 (header_waits taken c.in_ok-writer.writer c.in_ok-writer.ensures);
+      so_far = SoFar-start (KeptBy c.args.filter.now) c.args.trace.now.frames c.into_iter-frame-iterator.result c.default.result.illegal
+          c.default.result.filtered c.default.result.written taken (append_known taken c.in_ok-writer.writer)
+          (c.into_iter-frame-iterator.ensures.into_iter_gives
+          ∙ c.iter-frame-items.ensures) zeros.1.0 zeros.1.1.0 zeros.1.1.1
+          (header_waits taken c.in_ok-writer.writer c.in_ok-writer.ensures);
     }
 
 pub loop-frame-preserved-then-not-is_sendable : goal.loop-frame-preserved-then-not-is_sendable
@@ -41,15 +45,18 @@ loop-frame-preserved-then-not-is_sendable g c =
     let counts = c.loop-frame.counts in
     let after = append_known (g.W.Sink.taken c.loop-frame.sink) c.loop-frame.writer in
     let f = c.in-Some.frame.now in
-    let s : SoFar (KeptBy c.args.filter.now) c.args.trace.now.frames (f ∷ c.next.new.self) c.loop-frame.next counts.illegal counts.filtered counts.written taken after =
-    subst (λ (rest : List (List ℕ)). SoFar (KeptBy c.args.filter.now) c.args.trace.now.frames rest c.loop-frame.next counts.illegal counts.filtered counts.written taken after) c.in-Some.ensures.steps c.loop-frame.invariant.so_far in
+    let s : SoFar (KeptBy c.args.filter.now) c.args.trace.now.frames
+    (f ∷ c.next.new.self) c.loop-frame.next counts.illegal counts.filtered counts.written taken after =
+    subst (λ (rest : List (List ℕ)). SoFar (KeptBy c.args.filter.now) c.args.trace.now.frames rest c.loop-frame.next counts.illegal
+    counts.filtered counts.written taken after) c.in-Some.ensures.steps c.loop-frame.invariant.so_far in
     record {
       quiet = c.loop-frame.invariant.quiet;
       waiting = c.loop-frame.invariant.waiting;
       filter = c.loop-frame.invariant.filter;
       read = c.loop-frame.invariant.read;
       grows = c.loop-frame.invariant.grows;
-      so_far = SoFar-illegal (KeptBy c.args.filter.now) c.args.trace.now.frames c.next.new.self f c.loop-frame.next counts.illegal counts.filtered counts.written taken after (sym c.if-not-is_sendable.ensures) s;
+      so_far = SoFar-illegal (KeptBy c.args.filter.now) c.args.trace.now.frames c.next.new.self f c.loop-frame.next counts.illegal
+          counts.filtered counts.written taken after (sym c.if-not-is_sendable.ensures) s;
     }
 
 pub loop-frame-preserved-then-not-receive : goal.loop-frame-preserved-then-not-receive
@@ -58,24 +65,32 @@ loop-frame-preserved-then-not-receive g c =
     let counts = c.loop-frame.counts in
     let after = append_known (g.W.Sink.taken c.loop-frame.sink) c.loop-frame.writer in
     let f = c.in-Some.frame.now in
-    let s : SoFar (KeptBy c.args.filter.now) c.args.trace.now.frames (f ∷ c.next.new.self) c.loop-frame.next counts.illegal counts.filtered counts.written taken after =
-    subst (λ (rest : List (List ℕ)). SoFar (KeptBy c.args.filter.now) c.args.trace.now.frames rest c.loop-frame.next counts.illegal counts.filtered counts.written taken after) c.in-Some.ensures.steps c.loop-frame.invariant.so_far in
-    let away = turned_away c.args.filter.now c.loop-frame.lane.adapter.filter (padded f) c.receive.result c.loop-frame.invariant.filter c.receive.ensures.passes c.if-not-receive.true in
+    let s : SoFar (KeptBy c.args.filter.now) c.args.trace.now.frames
+    (f ∷ c.next.new.self) c.loop-frame.next counts.illegal counts.filtered counts.written taken after =
+    subst (λ (rest : List (List ℕ)). SoFar (KeptBy c.args.filter.now) c.args.trace.now.frames rest c.loop-frame.next counts.illegal
+    counts.filtered counts.written taken after) c.in-Some.ensures.steps c.loop-frame.invariant.so_far in
+    let away = turned_away c.args.filter.now c.loop-frame.lane.adapter.filter
+    (padded f) c.receive.result c.loop-frame.invariant.filter c.receive.ensures.passes c.if-not-receive.true in
     let left : c.receive.new.self ≡ c.loop-frame.lane = c.receive.ensures.left (λ received. cc) in
     record {
       quiet = c.loop-frame.invariant.quiet;
       waiting = subst IsWaiting (sym left) c.loop-frame.invariant.waiting;
-      filter = subst (λ (lane : LaneState). SameSets (filter_of lane.adapter.filter) (filter_for c.args.filter.now)) (sym left) c.loop-frame.invariant.filter;
+      filter = subst (λ (lane : LaneState). SameSets (filter_of lane.adapter.filter) (filter_for c.args.filter.now))
+          (sym left) c.loop-frame.invariant.filter;
       read = c.loop-frame.invariant.read;
       grows = c.loop-frame.invariant.grows;
-      so_far = SoFar-filtered (KeptBy c.args.filter.now) c.args.trace.now.frames c.next.new.self f c.loop-frame.next counts.illegal counts.filtered counts.written taken after (sym c.if-not-is_sendable.ensures) away s;
+      so_far = SoFar-filtered (KeptBy c.args.filter.now) c.args.trace.now.frames c.next.new.self f c.loop-frame.next counts.illegal
+          counts.filtered counts.written taken after (sym c.if-not-is_sendable.ensures) away s;
     }
 
 pub returns-in_err-write_received-clause-err : goal.returns-in_err-write_received-clause-err
 returns-in_err-write_received-clause-err g c =
     let p = err_from_is_err_and c.from_residual-in_err-write_received.result c.from_residual-in_err-write_received.ensures.1 in
     let counts = c.loop-frame.counts in
-    rw p.1 (SoFar-stops (KeptBy c.args.filter.now) c.args.trace.now.frames c.loop-frame.frame-iterator c.loop-frame.next counts.illegal counts.filtered counts.written (g.W.Sink.taken c.args.sink.now) (g.W.Sink.taken c.loop-frame.sink) (g.W.Sink.taken c.write_received.new.sink) c.loop-frame.writer c.loop-frame.invariant.grows c.loop-frame.invariant.so_far c.in_err-write_received.ensures.err)
+    rw p.1 (SoFar-stops (KeptBy c.args.filter.now) c.args.trace.now.frames c.loop-frame.frame-iterator c.loop-frame.next counts.illegal
+    counts.filtered counts.written (g.W.Sink.taken c.args.sink.now) (g.W.Sink.taken c.loop-frame.sink)
+    (g.W.Sink.taken c.write_received.new.sink) c.loop-frame.writer c.loop-frame.invariant.grows c.loop-frame.invariant.so_far
+    c.in_err-write_received.ensures.err)
 
 pub loop-frame-preserved : goal.loop-frame-preserved
 loop-frame-preserved g c =
@@ -85,23 +100,34 @@ loop-frame-preserved g c =
     let counts = c.loop-frame.counts in
     let waiting = append_known mid c.loop-frame.writer in
     let f = c.in-Some.frame.now in
-    let s : SoFar (KeptBy c.args.filter.now) c.args.trace.now.frames (f ∷ c.next.new.self) c.loop-frame.next counts.illegal counts.filtered counts.written taken waiting =
-    subst (λ (rest : List (List ℕ)). SoFar (KeptBy c.args.filter.now) c.args.trace.now.frames rest c.loop-frame.next counts.illegal counts.filtered counts.written taken waiting) c.in-Some.ensures.steps c.loop-frame.invariant.so_far in
-    let keep : KeptBy c.args.filter.now (padded f) = kept c.args.filter.now c.loop-frame.lane.adapter.filter (padded f) c.receive.result c.loop-frame.invariant.filter c.receive.ensures.passes c.if-not-receive.false in
+    let s : SoFar (KeptBy c.args.filter.now) c.args.trace.now.frames
+    (f ∷ c.next.new.self) c.loop-frame.next counts.illegal counts.filtered counts.written taken waiting =
+    subst (λ (rest : List (List ℕ)). SoFar (KeptBy c.args.filter.now) c.args.trace.now.frames rest c.loop-frame.next counts.illegal
+    counts.filtered counts.written taken waiting) c.in-Some.ensures.steps c.loop-frame.invariant.so_far in
+    let keep : KeptBy c.args.filter.now (padded f) = kept c.args.filter.now c.loop-frame.lane.adapter.filter
+    (padded f) c.receive.result c.loop-frame.invariant.filter c.receive.ensures.passes c.if-not-receive.false in
     let bytes : slot_bytes c.receive.new.self ≡ padded f = (c.receive.ensures.finished c.if-not-receive.false).finished.bytes in
-    let went = subst (λ (x : List ℕ). Appends waiting (append_known next c.write_received.new.writer) (packet_of (record { time = c.loop-frame.next; frame = x }))) bytes c.in_ok-write_received.ensures.ok in
-    let same : c.write_received.new.lane.adapter.filter ≡ c.loop-frame.lane.adapter.filter = c.in_ok-write_received.ensures.filter ∙ c.receive.ensures.filter in
+    let went = subst (λ (x : List ℕ). Appends waiting (append_known next c.write_received.new.writer)
+    (packet_of (record { time = c.loop-frame.next; frame = x }))) bytes c.in_ok-write_received.ensures.ok in
+    let same : c.write_received.new.lane.adapter.filter ≡ c.loop-frame.lane.adapter.filter = c.in_ok-write_received.ensures.filter
+    ∙ c.receive.ensures.filter in
     record {
       quiet = c.in_ok-write_received.ensures.faults ∙ c.loop-frame.invariant.quiet;
       waiting = c.in_ok-write_received.ensures.waiting;
-      filter = subst (λ (r : FilterRegisters). SameSets (filter_of r) (filter_for c.args.filter.now)) (sym same) c.loop-frame.invariant.filter;
+      filter = subst (λ (r : FilterRegisters). SameSets (filter_of r) (filter_for c.args.filter.now))
+          (sym same) c.loop-frame.invariant.filter;
       read = c.loop-frame.invariant.read;
       grows = Grows-more taken mid next c.loop-frame.invariant.grows c.in_ok-write_received.ensures.grows;
-      so_far = SoFar-kept (KeptBy c.args.filter.now) c.args.trace.now.frames c.next.new.self f c.loop-frame.next counts.illegal counts.filtered counts.written taken waiting (append_known next c.write_received.new.writer) (sym c.if-not-is_sendable.ensures) keep s went;
+      so_far = SoFar-kept (KeptBy c.args.filter.now) c.args.trace.now.frames c.next.new.self f c.loop-frame.next counts.illegal
+          counts.filtered counts.written taken waiting (append_known next c.write_received.new.writer)
+          (sym c.if-not-is_sendable.ensures) keep s went;
     }
 
 pub returns-in_err-flush-clause-err : goal.returns-in_err-flush-clause-err
 returns-in_err-flush-clause-err g c =
     let p = err_from_is_err_and c.from_residual-in_err-flush.result c.from_residual-in_err-flush.ensures.1 in
     let counts = c.loop-frame.counts in
-    rw p.1 (SoFar-stops (KeptBy c.args.filter.now) c.args.trace.now.frames c.loop-frame.frame-iterator c.loop-frame.next counts.illegal counts.filtered counts.written (g.W.Sink.taken c.args.sink.now) (g.W.Sink.taken c.loop-frame.sink) (g.W.Sink.taken c.flush.new.sink) c.loop-frame.writer c.loop-frame.invariant.grows c.loop-frame.invariant.so_far c.in_err-flush.ensures.err)
+    rw p.1 (SoFar-stops (KeptBy c.args.filter.now) c.args.trace.now.frames c.loop-frame.frame-iterator c.loop-frame.next counts.illegal
+    counts.filtered counts.written (g.W.Sink.taken c.args.sink.now) (g.W.Sink.taken c.loop-frame.sink)
+    (g.W.Sink.taken c.flush.new.sink) c.loop-frame.writer c.loop-frame.invariant.grows c.loop-frame.invariant.so_far
+    c.in_err-flush.ensures.err)

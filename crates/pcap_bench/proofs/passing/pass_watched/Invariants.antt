@@ -15,5 +15,6 @@ invariant-loop-frame g l = record {
   filter : SameSets (filter_of l.lane.adapter.filter) (filter_for l.fn.filter);
   read : l.counts.read ≡ length l.fn.trace.frames;
   grows : Grows (g.W.Sink.taken l.fn.sink) (g.W.Sink.taken l.sink);
-  so_far : SoFar (KeptBy l.fn.filter) l.fn.trace.frames l.frame-iterator l.next l.counts.illegal l.counts.filtered l.counts.written (g.W.Sink.taken l.fn.sink) (append_known (g.W.Sink.taken l.sink) l.writer);
+  so_far : SoFar (KeptBy l.fn.filter) l.fn.trace.frames l.frame-iterator l.next l.counts.illegal l.counts.filtered l.counts.written
+      (g.W.Sink.taken l.fn.sink) (append_known (g.W.Sink.taken l.sink) l.writer);
 }

@@ -10,8 +10,10 @@ loop-slot-preserved c =
     let slot = c.loop-slot.slot in
     let memory = c.loop-slot.memory in
     let buffer = c.receive_buffer.result in
-    let is : buffer ≡ buffer_at slot = c.receive_buffer.ensures.start ∙ ap (λ (counts : Counts). start_of counts (ReceiveBuffer slot)) c.requires.layout in
-    let named = NameBelow-offered memory slot (slot + 1) buffer c.loop-slot-test.true c.loop-slot.invariant.size is (λ k below other. c.loop-slot.invariant.named k (elim other [ inl before ↦ before | inr after ↦ absurd (omega arith) ])) in
+    let is : buffer ≡ buffer_at slot = c.receive_buffer.ensures.start
+    ∙ ap (λ (counts : Counts). start_of counts (ReceiveBuffer slot)) c.requires.layout in
+    let named = NameBelow-offered memory slot (slot + 1) buffer c.loop-slot-test.true c.loop-slot.invariant.size is
+    (λ k below other. c.loop-slot.invariant.named k (elim other [ inl before ↦ before | inr after ↦ absurd (omega arith) ])) in
     record {
       size = ap length c.offer.ensures ∙ length-offer memory slot buffer c.loop-slot-test.true c.loop-slot.invariant.size;
       named = λ k below. ap (λ (m : List ℕ). named_address m (16 * k)) c.offer.ensures ∙ named k below;

@@ -2,9 +2,11 @@ use Rattle.std.proofs.Common.{◌≡◌, ℕ, List, eqb, ◌+◌, ◌-◌, ◌�
 use Rattle.std.proofs.lemmas.List.{length-drop, length-append}
 use Rattle.std.specs.Io.KnownBytes.{prepend_known}
 use Rattle.pcap_trace.specs.Format.{captured_length, original_length}
-use Rattle.pcap_trace.proofs.Going.{GoesOnKnown-read, GoesOnKnown-kept, GoesOnKnown-skipped, word-read, ends_short, ends_cut, ends_oversized}
+use Rattle.pcap_trace.proofs.Going.{GoesOnKnown-read, GoesOnKnown-kept, GoesOnKnown-skipped, word-read, ends_short, ends_cut}
+use Rattle.pcap_trace.proofs.Going.{ends_oversized}
 use Rattle.pcap_trace.proofs.reading.read_body.Goals as goal
-use Rattle.pcap_trace.proofs.reading.read_body.Goals.{then-lengths, else-lengths+in_ok-push, in_default, in-Some+else-lengths-gt-MOST_CAPTURED+in_ok-fill-2+then-held-whole}
+use Rattle.pcap_trace.proofs.reading.read_body.Goals.{then-lengths, else-lengths+in_ok-push, in_default}
+use Rattle.pcap_trace.proofs.reading.read_body.Goals.{in-Some+else-lengths-gt-MOST_CAPTURED+in_ok-fill-2+then-held-whole}
 
 pub returns-then-lengths-gt-MOST_CAPTURED-clause-fault : goal.returns-then-lengths-gt-MOST_CAPTURED-clause-fault
 returns-then-lengths-gt-MOST_CAPTURED-clause-fault g c =
@@ -12,9 +14,12 @@ returns-then-lengths-gt-MOST_CAPTURED-clause-fault g c =
     let a = prepend_known c.args.block.now (g.S.Source.left c.args.source.now) in
     let left = g.S.Source.left c.fill.new.source in
     let held = c.fill.new.self in
-    let so_far = GoesOnKnown-read number a (g.S.Source.left c.packets.source) left c.packets.block held c.packets.frames c.packets.skipped c.in_ok-fill.ensures.received c.packets.invariant.so_far in
-    let told : c.in-Some.lengths.captured ≡ captured_length number held = c.in-Some.ensures.captured ∙ ap (captured_length number) c.held.ensures in
-    ends_oversized number g.met.T.ByteOrder.reads_first a left held c.packets.frames c.packets.skipped c.in-Some.lengths.captured told (omega (arith, c.in-Some.ensures.whole, ap length c.held.ensures)) (omega arith) so_far
+    let so_far = GoesOnKnown-read number a (g.S.Source.left c.packets.source) left c.packets.block held c.packets.frames c.packets.skipped
+    c.in_ok-fill.ensures.received c.packets.invariant.so_far in
+    let told : c.in-Some.lengths.captured ≡ captured_length number held = c.in-Some.ensures.captured
+    ∙ ap (captured_length number) c.held.ensures in
+    ends_oversized number g.met.T.ByteOrder.reads_first a left held c.packets.frames c.packets.skipped c.in-Some.lengths.captured told
+    (omega (arith, c.in-Some.ensures.whole, ap length c.held.ensures)) (omega arith) so_far
 
 pub packets-preserved : goal.packets-preserved
 packets-preserved g c =
@@ -27,20 +32,57 @@ packets-preserved g c =
     let all = c.fill-in-packets.new.self in
     let n = c.in-Some.lengths.captured in
     let long : 16 ≤ length held = omega (arith, c.in-Some.ensures.whole, ap length c.held.ensures) in
-    let so_far = GoesOnKnown-read number a left next held all c.packets.frames c.packets.skipped c.in_ok-fill-2.ensures.received (GoesOnKnown-read number a (g.S.Source.left c.packets.source) left c.packets.block held c.packets.frames c.packets.skipped c.in_ok-fill.ensures.received c.packets.invariant.so_far) in
-    let told : n ≡ captured_length number all = c.in-Some.ensures.captured ∙ ap (captured_length number) c.held.ensures ∙ sym (word-read number first 8 held all left next (omega arith) c.in_ok-fill-2.ensures.received) in
-    let origin : c.in-Some.lengths.original ≡ original_length number all = c.in-Some.ensures.original ∙ ap (original_length number) c.held.ensures ∙ sym (word-read number first 12 held all left next (omega arith) c.in_ok-fill-2.ensures.received) in
+    let so_far = GoesOnKnown-read number a left next held all c.packets.frames c.packets.skipped c.in_ok-fill-2.ensures.received
+    (GoesOnKnown-read number a (g.S.Source.left c.packets.source) left c.packets.block held c.packets.frames c.packets.skipped
+    c.in_ok-fill.ensures.received c.packets.invariant.so_far) in
+    let told : n ≡ captured_length number all = c.in-Some.ensures.captured ∙ ap (captured_length number) c.held.ensures
+    ∙ sym (word-read number first 8 held all left next (omega arith) c.in_ok-fill-2.ensures.received) in
+    let origin : c.in-Some.lengths.original ≡ original_length number all = c.in-Some.ensures.original
+    ∙ ap (original_length number) c.held.ensures
+    ∙ sym (word-read number first 12 held all left next (omega arith) c.in_ok-fill-2.ensures.received) in
     let text : take (16 + n - 16) (drop 16 all) ≡ take n (drop 16 all) = ap (λ (k : ℕ). take k (drop 16 all)) (omega arith) in
     elim c.if-lengths.branch [
       | then-lengths w ↦ record {
         sound = c.in_ok-fill-2.ensures.faults ∙ c.in_ok-fill.ensures.faults ∙ c.packets.invariant.sound;
-        room = omega (arith, ap length c.skip.ensures, length-drop (16 + n) all, w.skipped-is, ap length c.held-in-packets.ensures, c.in_ok-fill.ensures.limit, c.in_ok-fill-2.ensures.limit, c.packets.invariant.room);
-        so_far = rw (c.skip.ensures, w.frames-is, w.skipped-is) (GoesOnKnown-skipped number first a next all c.packets.frames c.packets.skipped n told (omega arith) (omega (arith, ap length c.held-in-packets.ensures)) (omega (arith, w.if-lengths.true, origin)) so_far);
+        room = omega (
+          arith,
+          ap length c.skip.ensures,
+          length-drop
+              (16 + n) all,
+          w.skipped-is,
+          ap length c.held-in-packets.ensures,
+          c.in_ok-fill.ensures.limit,
+          c.in_ok-fill-2.ensures.limit,
+          c.packets.invariant.room,
+        );
+        so_far = rw (c.skip.ensures, w.frames-is, w.skipped-is)
+            (GoesOnKnown-skipped number first a next all c.packets.frames c.packets.skipped n told (omega arith)
+            (omega (arith, ap length c.held-in-packets.ensures)) (omega (arith, w.if-lengths.true, origin)) so_far);
       }
       | else-lengths+in_ok-push w ↦ record {
         sound = c.in_ok-fill-2.ensures.faults ∙ c.in_ok-fill.ensures.faults ∙ c.packets.invariant.sound;
-        room = omega (arith, ap length c.skip.ensures, length-drop (16 + n) all, w.skipped-is, ap length c.held-in-packets.ensures, c.in_ok-fill.ensures.limit, c.in_ok-fill-2.ensures.limit, c.packets.invariant.room);
-        so_far = rw (c.skip.ensures, w.frames-is, w.in_ok-push.ensures.ok, ap (λ (xs : List ℕ). take (16 + n - 16) (drop 16 xs)) w.held-else-lengths.ensures, text, w.skipped-is) (GoesOnKnown-kept number first a next all c.packets.frames c.packets.skipped n told (omega arith) (omega (arith, ap length c.held-in-packets.ensures)) (omega (arith, w.if-lengths.false, origin)) so_far);
+        room = omega (
+          arith,
+          ap length c.skip.ensures,
+          length-drop
+              (16 + n) all,
+          w.skipped-is,
+          ap length c.held-in-packets.ensures,
+          c.in_ok-fill.ensures.limit,
+          c.in_ok-fill-2.ensures.limit,
+          c.packets.invariant.room,
+        );
+        so_far = rw (
+          c.skip.ensures,
+          w.frames-is,
+          w.in_ok-push.ensures.ok,
+          ap
+              (λ (xs : List ℕ). take (16 + n - 16) (drop 16 xs)) w.held-else-lengths.ensures,
+          text,
+          w.skipped-is,
+        )
+            (GoesOnKnown-kept number first a next all c.packets.frames c.packets.skipped n told (omega arith)
+            (omega (arith, ap length c.held-in-packets.ensures)) (omega (arith, w.if-lengths.false, origin)) so_far);
       }
     ]
 
@@ -51,18 +93,26 @@ returns-clause-ok g c =
     let a = prepend_known c.args.block.now (g.S.Source.left c.args.source.now) in
     let left = g.S.Source.left c.fill.new.source in
     let held = c.fill.new.self in
-    let so_far = GoesOnKnown-read number a (g.S.Source.left c.packets.source) left c.packets.block held c.packets.frames c.packets.skipped c.in_ok-fill.ensures.received c.packets.invariant.so_far in
+    let so_far = GoesOnKnown-read number a (g.S.Source.left c.packets.source) left c.packets.block held c.packets.frames c.packets.skipped
+    c.in_ok-fill.ensures.received c.packets.invariant.so_far in
     elim c.match-packet_lengths.branch [
       | in_default w ↦
-          let is : c.is_empty.result ≡ eqb (length held) 0 = c.is_empty.ensures ∙ ap (λ (xs : List ℕ). eqb (length xs) 0) (c.held-2.ensures ∙ w.block-is) in
-          ends_short number a left held c.packets.frames c.packets.skipped c.is_empty.result is (omega (arith, w.in_default.ensures.short, ap length c.held.ensures)) c.in_ok-fill.ensures.filled so_far
+          let is : c.is_empty.result ≡ eqb (length held) 0 = c.is_empty.ensures
+          ∙ ap (λ (xs : List ℕ). eqb (length xs) 0) (c.held-2.ensures ∙ w.block-is) in
+          ends_short number a left held c.packets.frames c.packets.skipped c.is_empty.result is
+          (omega (arith, w.in_default.ensures.short, ap length c.held.ensures)) c.in_ok-fill.ensures.filled so_far
       | in-Some+else-lengths-gt-MOST_CAPTURED+in_ok-fill-2+then-held-whole w ↦
           let next = g.S.Source.left w.fill-in-packets.new.source in
           let all = w.fill-in-packets.new.self in
           let n = w.in-Some.lengths.captured in
-          let is : c.is_empty.result ≡ eqb (length all) 0 = c.is_empty.ensures ∙ ap (λ (xs : List ℕ). eqb (length xs) 0) (c.held-2.ensures ∙ w.block-is) in
+          let is : c.is_empty.result ≡ eqb (length all) 0 = c.is_empty.ensures
+          ∙ ap (λ (xs : List ℕ). eqb (length xs) 0) (c.held-2.ensures ∙ w.block-is) in
           let long : 16 ≤ length held = omega (arith, w.in-Some.ensures.whole, ap length c.held.ensures) in
-          let told : n ≡ captured_length number all = w.in-Some.ensures.captured ∙ ap (captured_length number) c.held.ensures ∙ sym (word-read number first 8 held all left next (omega arith) w.in_ok-fill-2.ensures.received) in
-          let now = GoesOnKnown-read number a left next held all c.packets.frames c.packets.skipped w.in_ok-fill-2.ensures.received so_far in
-          ends_cut number a next all c.packets.frames c.packets.skipped c.is_empty.result n is told (omega (arith, ap length w.in_ok-fill-2.ensures.received.1, length-append held w.in_ok-fill-2.ensures.received.0)) (omega arith) (omega (arith, w.if-held-whole.true, ap length w.held-in-packets.ensures)) w.in_ok-fill-2.ensures.filled now
+          let told : n ≡ captured_length number all = w.in-Some.ensures.captured ∙ ap (captured_length number) c.held.ensures
+          ∙ sym (word-read number first 8 held all left next (omega arith) w.in_ok-fill-2.ensures.received) in
+          let now = GoesOnKnown-read number a left next held all c.packets.frames c.packets.skipped w.in_ok-fill-2.ensures.received so_far
+          in
+          ends_cut number a next all c.packets.frames c.packets.skipped c.is_empty.result n is told
+          (omega (arith, ap length w.in_ok-fill-2.ensures.received.1, length-append held w.in_ok-fill-2.ensures.received.0))
+          (omega arith) (omega (arith, w.if-held-whole.true, ap length w.held-in-packets.ensures)) w.in_ok-fill-2.ensures.filled now
     ]

@@ -1,4 +1,5 @@
-use Rattle.registers.specs.Laws.{HasBit-union, HasBit-intersection, HasBit-difference, HasBit-zero, Meet-places, IsSubset-places, same_places}
+use Rattle.registers.specs.Laws.{HasBit-union, HasBit-intersection, HasBit-difference, HasBit-zero, Meet-places, IsSubset-places}
+use Rattle.registers.specs.Laws.{same_places}
 use Rattle.registers.proofs.laws.sets_of_places.Goals as goal
 
 pub returns-clause-union : goal.returns-clause-union

@@ -17,7 +17,10 @@ returns-then-report-clause-to_send c =
     let memory = c.args.memory.now in
     let buffer = c.args.engine.now.buffer in
     let changed = c.store.new.self in
-    subst (λ (t : Transmitter). IfFront buffer (λ queued. (ring : Ring) (pad : Bool) → All (λ slot. IsAwayFrom memory (area_at (status_place queued) 1) (address_of ring slot)) (owned ring) → to_send memory ring pad buffer ≡ queued.frame ∷ to_send changed ring pad t.buffer)) (sym c.pop.ensures.rest) (to_send-gone memory changed buffer (returns-then-report-clause-written c))
+    subst (λ (t : Transmitter). IfFront buffer (λ queued. (ring : Ring) (pad : Bool)
+    → All (λ slot. IsAwayFrom memory (area_at (status_place queued) 1) (address_of ring slot)) (owned ring)
+    → to_send memory ring pad buffer ≡ queued.frame ∷ to_send changed ring pad t.buffer)) (sym c.pop.ensures.rest)
+    (to_send-gone memory changed buffer (returns-then-report-clause-written c))
 
 pub returns-else-report-clause-written : goal.returns-else-report-clause-written
 returns-else-report-clause-written c = search rules
@@ -26,4 +29,7 @@ pub returns-else-report-clause-to_send : goal.returns-else-report-clause-to_send
 returns-else-report-clause-to_send c =
     let memory = c.args.memory.now in
     let buffer = c.args.engine.now.buffer in
-    subst (λ (t : Transmitter). IfFront buffer (λ queued. (ring : Ring) (pad : Bool) → All (λ slot. IsAwayFrom memory (area_at (status_place queued) 1) (address_of ring slot)) (owned ring) → to_send memory ring pad buffer ≡ queued.frame ∷ to_send memory ring pad t.buffer)) (sym c.pop.ensures.rest) (to_send-gone memory memory buffer (returns-else-report-clause-written c))
+    subst (λ (t : Transmitter). IfFront buffer (λ queued. (ring : Ring) (pad : Bool)
+    → All (λ slot. IsAwayFrom memory (area_at (status_place queued) 1) (address_of ring slot)) (owned ring)
+    → to_send memory ring pad buffer ≡ queued.frame ∷ to_send memory ring pad t.buffer)) (sym c.pop.ensures.rest)
+    (to_send-gone memory memory buffer (returns-else-report-clause-written c))

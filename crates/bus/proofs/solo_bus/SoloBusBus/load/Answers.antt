@@ -11,5 +11,6 @@ returns-clause-extent c = size_prepared c.args.self.now c.prepare.new.self c.pre
 
 pub returns-clause-acts : goal.returns-clause-acts
 returns-clause-acts c honest =
-    acts_on c.args.self.now c.prepare.new.self c.prepare.new.self (Loads c.args.address (length c.args.into.now)) _ c.prepare.ensures refl tt c.load_now.ensures.adapter
+    acts_on c.args.self.now c.prepare.new.self c.prepare.new.self
+    (Loads c.args.address (length c.args.into.now)) _ c.prepare.ensures refl tt c.load_now.ensures.adapter
     (c.load_now.ensures.loaded, refl)

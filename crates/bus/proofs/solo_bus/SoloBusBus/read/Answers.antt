@@ -5,9 +5,12 @@ use Rattle.bus.proofs.Accessing.{acts_on, size_prepared}
 use Rattle.bus.proofs.solo_bus.SoloBusBus.read.Goals as goal
 
 pub returns-clause-extent : goal.returns-clause-extent
-returns-clause-extent c = ap (λ (s : SoloState). length s.world.memory) c.read_now.ensures.state ∙ size_prepared c.args.self.now c.prepare.new.self c.prepare.ensures
+returns-clause-extent c = ap (λ (s : SoloState). length s.world.memory) c.read_now.ensures.state
+    ∙ size_prepared c.args.self.now c.prepare.new.self c.prepare.ensures
 
 pub returns-clause-acts : goal.returns-clause-acts
 returns-clause-acts c honest =
-    acts_on c.args.self.now c.prepare.new.self c.read_now.new.self (Reads c.args.offset c.read_now.result) _ c.prepare.ensures c.read_now.ensures.state c.read_now.ensures.answer c.read_now.ensures.adapter
+    acts_on c.args.self.now c.prepare.new.self c.read_now.new.self
+    (Reads c.args.offset c.read_now.result) _ c.prepare.ensures c.read_now.ensures.state c.read_now.ensures.answer
+    c.read_now.ensures.adapter
     (c.read_now.ensures.answer, ap (λ (s : SoloState). s.world) c.read_now.ensures.state)

@@ -11,10 +11,12 @@ store_now-requires c = omega (arith, c.requires, size_prepared c.args.self.now c
 pub returns-clause-extent : goal.returns-clause-extent
 returns-clause-extent c =
     ap (λ (s : SoloState). length s.world.memory) c.store_now.ensures.state
-    ∙ length-with_bytes c.prepare.new.self.world.memory c.args.bytes.now c.args.address (omega (arith, c.requires, size_prepared c.args.self.now c.prepare.new.self c.prepare.ensures))
+    ∙ length-with_bytes c.prepare.new.self.world.memory c.args.bytes.now c.args.address
+    (omega (arith, c.requires, size_prepared c.args.self.now c.prepare.new.self c.prepare.ensures))
     ∙ size_prepared c.args.self.now c.prepare.new.self c.prepare.ensures
 
 pub returns-clause-acts : goal.returns-clause-acts
 returns-clause-acts c honest =
-    acts_on c.args.self.now c.prepare.new.self c.store_now.new.self (Stores c.args.address c.args.bytes.now) _ c.prepare.ensures c.store_now.ensures.state tt c.store_now.ensures.adapter
+    acts_on c.args.self.now c.prepare.new.self c.store_now.new.self
+    (Stores c.args.address c.args.bytes.now) _ c.prepare.ensures c.store_now.ensures.state tt c.store_now.ensures.adapter
     (ap (λ (s : SoloState). s.world) c.store_now.ensures.state)

@@ -5,7 +5,8 @@ use Rattle.dma_memory.proofs.pool.Pool.new.Goals as goal
 
 pub loop-number-preserved : goal.loop-number-preserved
 loop-number-preserved c = record {
-  all_so_far = rw c.in_ok-push.ensures.items (one_owner-push c.loop-number.number c.loop-number.free.items c.loop-number.invariant.all_so_far);
+  all_so_far = rw c.in_ok-push.ensures.items
+      (one_owner-push c.loop-number.number c.loop-number.free.items c.loop-number.invariant.all_so_far);
   room = omega (arith, c.push.ensures.capacity, c.loop-number.invariant.room);
 }
 

@@ -12,7 +12,8 @@ known : (n : ℕ) (xs : List ℕ) (last : Option ℕ) → HasNoSecondOwner n (xs
 known n xs None once = tt
 known n xs (Some number) once = known_from_taken n number (xs ++ number ∷ []) xs once (last_is_taken number xs)
 
-out : (n : ℕ) (xs : List ℕ) (last : Option ℕ) → HasNoSecondOwner n (xs ++ option_to_list last) → IfSome last (λ number. copies number xs ≡ 0)
+out : (n : ℕ) (xs : List ℕ) (last : Option ℕ) → HasNoSecondOwner n (xs ++ option_to_list last)
+    → IfSome last (λ number. copies number xs ≡ 0)
 out n xs None once = tt
 out n xs (Some number) once = out_from_taken n number (xs ++ number ∷ []) xs once (last_is_taken number xs)
 

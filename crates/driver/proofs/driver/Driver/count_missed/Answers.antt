@@ -9,7 +9,8 @@ use Rattle.driver.proofs.driver.Driver.count_missed.Given.{Over}
 use Rattle.driver.proofs.driver.Driver.count_missed.Goals as goal
 use Rattle.driver.proofs.driver.Driver.count_missed.Goals.{then-self, else-self}
 
-is_exact : (g : Over) (c : goal.After-self-2-1 g) → c.if-self.self ≡ (c.self.inside.exact && adds_exactly c.self.inside.missed c.read-value.result)
+is_exact : (g : Over) (c : goal.After-self-2-1 g)
+    → c.if-self.self ≡ (c.self.inside.exact && adds_exactly c.self.inside.missed c.read-value.result)
 is_exact g c =
     let both : Bool → Bool = λ exact. exact && adds_exactly c.self.inside.missed c.read-value.result in
     elim c.if-self.branch [
@@ -19,11 +20,15 @@ is_exact g c =
 
 -- What it leaves.
 left : (g : Over) (c : goal.After-self-2-1 g)
-    → state_of (record c.self.inside { missed = c.saturating_add-self-inside.result; exact = c.if-self.self }) ≡ with_missed c.read-value.result (state_of c.self.inside)
+    → state_of (record c.self.inside { missed = c.saturating_add-self-inside.result; exact = c.if-self.self })
+    ≡ with_missed c.read-value.result (state_of c.self.inside)
 left g c =
     let shape : ℕ → Bool → DriverState = λ missed exact. record (state_of c.self.inside) { missed = missed; exact = exact } in
-    let sum : c.saturating_add-self-inside.result ≡ min (c.self.inside.missed + c.read-value.result) (2 ^ 64 - 1) = omega (arith, c.saturating_add-self-inside.ensures, c.from.ensures) in
-    ap (λ (missed : ℕ). shape missed c.if-self.self) sum ∙ ap (shape (min (c.self.inside.missed + c.read-value.result) (2 ^ 64 - 1))) (is_exact g c)
+    let sum : c.saturating_add-self-inside.result
+    ≡ min (c.self.inside.missed + c.read-value.result) (2 ^ 64 - 1) = omega
+    (arith, c.saturating_add-self-inside.ensures, c.from.ensures) in
+    ap (λ (missed : ℕ). shape missed c.if-self.self) sum
+    ∙ ap (shape (min (c.self.inside.missed + c.read-value.result) (2 ^ 64 - 1))) (is_exact g c)
 
 pub returns-clause-others : goal.returns-clause-others
 returns-clause-others g c = rw (← c.self.view_is) (left g c)
@@ -33,5 +38,7 @@ returns-clause-ran g c = rw (← c.self.view_is) (λ up held honest ready.
     let d = holding held (state_of c.self.inside) in
     let new = c.read-value.new.self in
     let below : c.self.inside.missed < 2 ^ 64 = omega arith in
-    subst (λ (s : DriverState). RanBy up g.B.Bus.world g.B.Bus.happened (Reads 0x4010 c.read-value.result ∷ []) c.args.bus.now new d (holding held s) [] []) (sym (left g c))
-    (ran_by-misses g.B.Bus.world g.B.Bus.happened g.B.Bus.lively c.args.bus.now new d c.read-value.result below (c.read-value.ensures.acts honest) ready))
+    subst (λ (s : DriverState). RanBy up g.B.Bus.world g.B.Bus.happened (Reads 0x4010 c.read-value.result ∷ []) c.args.bus.now new d
+    (holding held s) [] []) (sym (left g c))
+    (ran_by-misses g.B.Bus.world g.B.Bus.happened g.B.Bus.lively c.args.bus.now new d c.read-value.result below
+    (c.read-value.ensures.acts honest) ready))

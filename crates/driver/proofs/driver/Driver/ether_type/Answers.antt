@@ -15,13 +15,15 @@ pub returns-clause-ran : goal.returns-clause-ran
 returns-clause-ran g c up held honest ready =
     let d = holding held c.args.self.now in
     subst (λ (place : ℕ). RanBy up g.B.Bus.world g.B.Bus.happened (Loads place 2 ∷ []) c.args.bus.now c.load.new.self d d [] []) (at g c)
-    (ran_by-reads g.B.Bus.world g.B.Bus.happened g.B.Bus.lively c.args.bus.now c.load.new.self d (c.receive_buffer.result + 12) 2 c.load.new.into (c.load.ensures.acts honest) ready)
+    (ran_by-reads g.B.Bus.world g.B.Bus.happened g.B.Bus.lively c.args.bus.now c.load.new.self d
+    (c.receive_buffer.result + 12) 2 c.load.new.into (c.load.ensures.acts honest) ready)
 
 pub returns-clause-shows : goal.returns-clause-shows
 returns-clause-shows g c up held one honest ready is least =
     let d = holding (held ++ one ∷ []) c.args.self.now in
     let two : c.load.new.into ≡ take 2 (drop 12 one.frame) =
-    frame-read g.B.Bus.world g.B.Bus.happened g.B.Bus.lively c.args.bus.now c.load.new.self d held [] one (c.receive_buffer.result + 12) 12 2 c.load.new.into (c.load.ensures.acts honest) ready refl
+    frame-read g.B.Bus.world g.B.Bus.happened g.B.Bus.lively c.args.bus.now c.load.new.self d held [] one
+    (c.receive_buffer.result + 12) 12 2 c.load.new.into (c.load.ensures.acts honest) ready refl
     (at g c ∙ ap (λ (number : ℕ). buffer_at c.args.self.now.counts number + 12) (sym is)) (omega (arith, least)) in
     let byte : (i : ℕ) → i < 2 → slice_index c.load.new.into i ≡ slice_index one.frame (12 + i) = λ i below.
     ap (λ (list : List ℕ). slice_index list i) two ∙ get_or-take 2 (drop 12 one.frame) i 0 below ∙ get_or-drop 12 one.frame i 0 in

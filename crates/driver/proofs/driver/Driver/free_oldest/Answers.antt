@@ -23,15 +23,21 @@ pub returns-then-not-shows_done-clause-ran : goal.returns-then-not-shows_done-cl
 returns-then-not-shows_done-clause-ran g c held honest ready =
     let d = holding held c.args.self.now in
     let same = ap (λ (s : DriverState). s.sending) c.self.view_is in
-    let at : c.descriptor_address.result ≡ transmit_slot d.counts d.oldest_sent = c.descriptor_address.ensures.start ∙ ap (λ (s : DriverState). transmit_slot s.counts s.oldest_sent) c.self.view_is in
-    (waits-oldest g.B.Bus.world g.B.Bus.happened g.B.Bus.lively c.args.bus.now c.load.new.self d c.descriptor_address.result c.load.new.into at (omega (arith, same, c.if-self-eq0.false)) (sym c.shows_done.ensures ∙ c.if-not-shows_done.true) (c.load.ensures.acts honest) ready).ran
+    let at : c.descriptor_address.result ≡ transmit_slot d.counts d.oldest_sent = c.descriptor_address.ensures.start
+    ∙ ap (λ (s : DriverState). transmit_slot s.counts s.oldest_sent) c.self.view_is in
+    (waits-oldest g.B.Bus.world g.B.Bus.happened g.B.Bus.lively c.args.bus.now c.load.new.self d c.descriptor_address.result c.load.new.into
+    at (omega (arith, same, c.if-self-eq0.false)) (sym c.shows_done.ensures
+    ∙ c.if-not-shows_done.true) (c.load.ensures.acts honest) ready).ran
 
 pub returns-then-not-shows_done-clause-none : goal.returns-then-not-shows_done-clause-none
 returns-then-not-shows_done-clause-none g c held honest ready =
     let d = holding held c.args.self.now in
     let same = ap (λ (s : DriverState). s.sending) c.self.view_is in
-    let at : c.descriptor_address.result ≡ transmit_slot d.counts d.oldest_sent = c.descriptor_address.ensures.start ∙ ap (λ (s : DriverState). transmit_slot s.counts s.oldest_sent) c.self.view_is in
-    (waits-oldest g.B.Bus.world g.B.Bus.happened g.B.Bus.lively c.args.bus.now c.load.new.self d c.descriptor_address.result c.load.new.into at (omega (arith, same, c.if-self-eq0.false)) (sym c.shows_done.ensures ∙ c.if-not-shows_done.true) (c.load.ensures.acts honest) ready).behind
+    let at : c.descriptor_address.result ≡ transmit_slot d.counts d.oldest_sent = c.descriptor_address.ensures.start
+    ∙ ap (λ (s : DriverState). transmit_slot s.counts s.oldest_sent) c.self.view_is in
+    (waits-oldest g.B.Bus.world g.B.Bus.happened g.B.Bus.lively c.args.bus.now c.load.new.self d c.descriptor_address.result c.load.new.into
+    at (omega (arith, same, c.if-self-eq0.false)) (sym c.shows_done.ensures
+    ∙ c.if-not-shows_done.true) (c.load.ensures.acts honest) ready).behind
 
 pub invariant_of-self : goal.invariant_of-self
 invariant_of-self g c =
@@ -49,7 +55,13 @@ returns-clause-ran g c held honest ready =
     let d = holding held c.args.self.now in
     let s = c.self.inside in
     let same = ap (λ (state : DriverState). state.sending) c.self.view_is in
-    let at : c.descriptor_address.result ≡ transmit_slot d.counts d.oldest_sent = c.descriptor_address.ensures.start ∙ ap (λ (state : DriverState). transmit_slot state.counts state.oldest_sent) c.self.view_is in
-    let ran = frees-oldest g.B.Bus.world g.B.Bus.happened g.B.Bus.lively c.args.bus.now c.load.new.self d c.descriptor_address.result c.load.new.into at (omega (arith, same, c.if-self-eq0.false)) (sym c.shows_done.ensures ∙ c.if-not-shows_done.false) (c.load.ensures.acts honest) ready in
-    let freed = sym (ap (λ (state : DriverState). with_freed (holding held state)) c.self.view_is) ∙ ap (λ (n : ℕ). let state : DriverState = record (holding held (state_of s)) { oldest_sent = (s.oldest_sent + 1) % n; sending = s.sending - 1 } in state) (sym c.tx.ensures.count) in
-    subst (λ (state : DriverState). RanBy true g.B.Bus.world g.B.Bus.happened (transmit_loads d.counts d.oldest_sent (min d.sending 1)) c.args.bus.now c.load.new.self d state [] []) freed ran
+    let at : c.descriptor_address.result ≡ transmit_slot d.counts d.oldest_sent = c.descriptor_address.ensures.start
+    ∙ ap (λ (state : DriverState). transmit_slot state.counts state.oldest_sent) c.self.view_is in
+    let ran = frees-oldest g.B.Bus.world g.B.Bus.happened g.B.Bus.lively c.args.bus.now c.load.new.self d c.descriptor_address.result
+    c.load.new.into at (omega (arith, same, c.if-self-eq0.false)) (sym c.shows_done.ensures
+    ∙ c.if-not-shows_done.false) (c.load.ensures.acts honest) ready in
+    let freed = sym (ap (λ (state : DriverState). with_freed (holding held state)) c.self.view_is)
+    ∙ ap (λ (n : ℕ). let state : DriverState = record (holding held (state_of s))
+    { oldest_sent = (s.oldest_sent + 1) % n; sending = s.sending - 1 } in state) (sym c.tx.ensures.count) in
+    subst (λ (state : DriverState). RanBy true g.B.Bus.world g.B.Bus.happened
+    (transmit_loads d.counts d.oldest_sent (min d.sending 1)) c.args.bus.now c.load.new.self d state [] []) freed ran

@@ -24,5 +24,6 @@ returns-clause-owners g c k =
 
 pub returns-clause-ran : goal.returns-clause-ran
 returns-clause-ran g c up first later one is honest ready =
-    gives g.B.Bus.world g.B.Bus.happened g.met.B.Bus.stays g.met.B.Bus.joins c.args.bus.now c.refill.new.bus c.args.self.now c.put_back.new.self c.refill.new.self c.args.buffer
+    gives g.B.Bus.world g.B.Bus.happened g.met.B.Bus.stays g.met.B.Bus.joins c.args.bus.now c.refill.new.bus c.args.self.now
+    c.put_back.new.self c.refill.new.self c.args.buffer
     c.put_back.ensures.others c.put_back.ensures.back up first later one is ready (c.refill.ensures.ran up _ honest)

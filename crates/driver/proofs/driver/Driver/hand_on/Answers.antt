@@ -14,7 +14,8 @@ pub returns-then-not-finished-clause-hands : goal.returns-then-not-finished-clau
 returns-then-not-finished-clause-hands g c =
     let d = c.args.self.now in
     let after = c.self.inside in
-    let same : after.bad ≡ d.bad = ap (λ (s : DriverState). s.bad) c.self.view_is ∙ ap (λ (s : DriverState). s.bad) c.put_back.ensures.others in
+    let same : after.bad ≡ d.bad = ap (λ (s : DriverState). s.bad) c.self.view_is
+    ∙ ap (λ (s : DriverState). s.bad) c.put_back.ensures.others in
     let pool : c.put_back.new.self.pool ≡ after.pool.free = ap (λ (s : DriverState). s.pool) (sym c.self.view_is) in
     let is = c.saturating_add-self-inside.ensures in
     let below : after.bad < 2 ^ 64 = omega arith in
@@ -24,7 +25,12 @@ returns-then-not-finished-clause-hands g c =
       told = g.met.R.Receiver.stays c.args.receiver.now;
       one = omega arith;
       sizes = all-none (λ (x : Received). IsFrameSize x.length);
-      bad = record { least = omega (arith, same, is, below); most = omega (arith, same, is); exactly = λ loose. omega (arith, same, is, loose) };
+      bad = record {
+        least = omega (arith, same, is, below);
+        most = omega (arith, same, is);
+        exactly = λ loose. omega
+            (arith, same, is, loose);
+      };
       buffers = λ k. c.put_back.ensures.back k ∙ ap (copies k) (pool ∙ sym (append-nil after.pool.free));
     }
 
@@ -42,9 +48,11 @@ returns-clause-over g c up held one honest ready number long whole =
     ∙ ap (λ (size : ℕ). shape c.args.finished.buffer size (ether_type one.frame)) long
     ∙ ap (shape c.args.finished.buffer c.args.finished.length) (sym type) in
     record {
-      shows = subst (λ (received : Received). Shows g.R.Receiver.took c.args.receiver.now c.show.new.receiver received d.pool c.show.new.self.pool) (sym is) c.show.ensures.shows;
+      shows = subst (λ (received : Received). Shows g.R.Receiver.took c.args.receiver.now c.show.new.receiver received d.pool
+          c.show.new.self.pool) (sym is) c.show.ensures.shows;
       bad = ap (λ (s : DriverState). s.bad) c.show.ensures.others;
       ran =
-          subst (λ (buffer : ℕ). RanBy up g.B.Bus.world g.B.Bus.happened (Loads (buffer_at d.counts buffer + 12) 2 ∷ []) c.args.bus.now new d d [] []) (sym named)
+          subst (λ (buffer : ℕ). RanBy up g.B.Bus.world g.B.Bus.happened
+          (Loads (buffer_at d.counts buffer + 12) 2 ∷ []) c.args.bus.now new d d [] []) (sym named)
           (c.ether_type-ether_type.ensures.ran up handed honest ready);
     }

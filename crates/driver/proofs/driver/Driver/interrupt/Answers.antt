@@ -11,7 +11,8 @@ use Rattle.driver.proofs.driver.Driver.interrupt.Goals as goal
 
 pub returns-then-not-is_mine-clause-handles : goal.returns-then-not-is_mine-clause-handles
 returns-then-not-is_mine-clause-handles g c up held honest ready =
-    let reads = reads-causes g.B.Bus.world g.B.Bus.happened g.B.Bus.lively c.args.bus.now c.read.new.self (holding held c.args.self.now) c.read.result (c.read.ensures.acts honest) ready in
+    let reads = reads-causes g.B.Bus.world g.B.Bus.happened g.B.Bus.lively c.args.bus.now c.read.new.self
+    (holding held c.args.self.now) c.read.result (c.read.ensures.acts honest) ready in
     let none : ¬ Meet c.read.result handled_causes = λ meet.
     let is : c.is_mine.result ≡ true = c.is_mine.ensures.1 meet in
     let not : c.is_mine.result ≡ false = c.if-not-is_mine.true in
@@ -48,26 +49,45 @@ returns-clause-shows g c =
         exactly = λ below. let same = all.bad.exactly (omega (arith, below, last)) in omega (arith, same, first, last);
       };
       buffers = λ k.
-          let same : copies k (owners d2) ≡ copies k (owners d1) = ap (λ (s : DriverState). copies k (owners s)) c.count_missed.ensures.others in
-          omega (arith, same, all.buffers k, c.refill.ensures.owners k, copies-append k (owners d3) (buffers_of all.kept), copies-append k (owners d4) (buffers_of all.kept));
+          let same : copies k (owners d2)
+          ≡ copies k (owners d1) = ap (λ (s : DriverState). copies k (owners s)) c.count_missed.ensures.others in
+          omega (
+            arith,
+            same,
+            all.buffers k,
+            c.refill.ensures.owners k,
+            copies-append k (owners d3) (buffers_of all.kept),
+            copies-append k
+                (owners d4) (buffers_of all.kept),
+          );
     }
 
 pub returns-clause-handles : goal.returns-clause-handles
 returns-clause-handles g c up held honest ready =
     let d1 = c.args.self.now in
-    let reads = reads-causes g.B.Bus.world g.B.Bus.happened g.B.Bus.lively c.args.bus.now c.read.new.self (holding held d1) c.read.result (c.read.ensures.acts honest) ready in
+    let reads = reads-causes g.B.Bus.world g.B.Bus.happened g.B.Bus.lively c.args.bus.now c.read.new.self (holding held d1) c.read.result
+    (c.read.ensures.acts honest) ready in
     let counts = c.count_missed.ensures.ran up held (c.read.ensures.honest honest) reads.flows.ready in
     let counting = c.count_missed.ensures.honest (c.read.ensures.honest honest) in
     let takes = c.take_finished-taken.ensures.takes up held counting counts.goes.flows.ready in
     let none = c.take_finished-taken.ensures.none_left up held counting counts.goes.flows.ready in
-    let refills = c.refill.ensures.ran up (held ++ takes.handed_out) (c.take_finished-taken.ensures.honest counting) takes.ran.goes.flows.ready in
+    let refills = c.refill.ensures.ran up (held ++ takes.handed_out)
+    (c.take_finished-taken.ensures.honest counting) takes.ran.goes.flows.ready in
     record {
       middle = c.read.new.self;
       causes = c.read.result;
       reads = reads;
       behind =
-          handles-it g.B.Bus.world g.B.Bus.happened g.R.Receiver.took g.met.B.Bus.joins c.args.bus.now c.read.new.self c.count_missed.new.bus c.take_finished-taken.new.bus c.refill.new.bus
-          c.args.receiver.now c.take_finished-taken.new.receiver d1 c.count_missed.new.self c.take_finished-taken.new.self c.refill.new.self c.read.result c.count_missed.result c.take_finished-taken.result held
-          (record { counted = c.count_missed.ensures.others; taken = c.take_finished-taken.ensures.others; place = c.take_finished-taken.ensures.next; refilled = c.refill.ensures.others })
+          handles-it g.B.Bus.world g.B.Bus.happened g.R.Receiver.took g.met.B.Bus.joins c.args.bus.now c.read.new.self
+          c.count_missed.new.bus c.take_finished-taken.new.bus c.refill.new.bus
+          c.args.receiver.now c.take_finished-taken.new.receiver d1 c.count_missed.new.self c.take_finished-taken.new.self c.refill.new.self
+          c.read.result c.count_missed.result c.take_finished-taken.result held
+          (record {
+            counted = c.count_missed.ensures.others;
+            taken = c.take_finished-taken.ensures.others;
+            place =
+                c.take_finished-taken.ensures.next;
+            refilled = c.refill.ensures.others;
+          })
           (c.is_mine.ensures.0 c.if-not-is_mine.false) reads counts takes none refills;
     }

@@ -6,7 +6,8 @@ invariant_of-self c =
     let known = rw (← c.self.view_is) at c.requires.known in
     let out = rw (← c.self.view_is) at c.requires.out in
     record {
-      receives = given-inside c.self.inside c.args.buffer c.give.new.self c.self.invariant.receives known out c.give.ensures.given c.give.ensures.buffers;
+      receives = given-inside c.self.inside c.args.buffer c.give.new.self c.self.invariant.receives known out c.give.ensures.given
+          c.give.ensures.buffers;
       sends = c.self.invariant.sends;
       sums = c.self.invariant.sums;
     }

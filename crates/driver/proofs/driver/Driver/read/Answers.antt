@@ -19,10 +19,12 @@ at g c = rw (← c.self.view_is) (c.receive_buffer-buffer.ensures.start ∙ ap (
 pub returns-clause-ran : goal.returns-clause-ran
 returns-clause-ran g c up held honest ready =
     let d = holding held c.args.self.now in
-    let access : Loads c.receive_buffer-buffer.result (length (take c.from-size.result c.args.into.now)) ≡ Loads (buffer_at c.args.self.now.counts c.args.received.now.buffer) c.from-size.result =
+    let access : Loads c.receive_buffer-buffer.result (length (take c.from-size.result c.args.into.now))
+    ≡ Loads (buffer_at c.args.self.now.counts c.args.received.now.buffer) c.from-size.result =
     ap (Loads c.receive_buffer-buffer.result) (part g c) ∙ ap (λ (place : ℕ). Loads place c.from-size.result) (at g c) in
     subst (λ (one : Access). RanBy up g.B.Bus.world g.B.Bus.happened (one ∷ []) c.args.bus.now c.load.new.self d d [] []) access
-    (ran_by-reads g.B.Bus.world g.B.Bus.happened g.B.Bus.lively c.args.bus.now c.load.new.self d c.receive_buffer-buffer.result (length (take c.from-size.result c.args.into.now)) c.load.new.into
+    (ran_by-reads g.B.Bus.world g.B.Bus.happened g.B.Bus.lively c.args.bus.now c.load.new.self d c.receive_buffer-buffer.result
+    (length (take c.from-size.result c.args.into.now)) c.load.new.into
     (c.load.ensures.acts honest) ready)
 
 pub returns-clause-frame : goal.returns-clause-frame
@@ -30,8 +32,14 @@ returns-clause-frame g c up first later one honest ready is long =
     let d = holding (first ++ one ∷ later) c.args.self.now in
     let n = length (take c.from-size.result c.args.into.now) in
     let whole : n ≡ length one.frame = omega (arith, part g c, c.from-size.ensures, long) in
-    let place : c.receive_buffer-buffer.result ≡ buffer_at c.args.self.now.counts one.number + 0 = omega (arith, at g c ∙ ap (buffer_at c.args.self.now.counts) (sym is)) in
+    let place : c.receive_buffer-buffer.result ≡ buffer_at c.args.self.now.counts one.number + 0 = omega (
+      arith,
+      at g c
+          ∙ ap (buffer_at c.args.self.now.counts) (sym is),
+    ) in
     let bytes : c.load.new.into ≡ take n (drop 0 one.frame) =
-    frame-read g.B.Bus.world g.B.Bus.happened g.B.Bus.lively c.args.bus.now c.load.new.self d first later one c.receive_buffer-buffer.result 0 n c.load.new.into (c.load.ensures.acts honest) ready refl
+    frame-read g.B.Bus.world g.B.Bus.happened g.B.Bus.lively c.args.bus.now c.load.new.self d first later one c.receive_buffer-buffer.result
+    0 n c.load.new.into (c.load.ensures.acts honest) ready refl
     place (omega (arith, whole)) in
-    take_at c.load.new.into _ c.from-size.result (c.load.ensures.length ∙ part g c) ∙ bytes ∙ ap (λ (i : ℕ). take i (drop 0 one.frame)) whole ∙ take-length one.frame
+    take_at c.load.new.into _ c.from-size.result (c.load.ensures.length ∙ part g c) ∙ bytes
+    ∙ ap (λ (i : ℕ). take i (drop 0 one.frame)) whole ∙ take-length one.frame

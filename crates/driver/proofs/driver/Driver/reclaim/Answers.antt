@@ -22,7 +22,8 @@ loop-preserved g c =
       honest = λ honest. turn.honest (l.honest honest);
       lively = λ lively. turn.lively (l.lively lively);
       freed =
-          has_freed-more g.B.Bus.honest g.B.Bus.world g.B.Bus.happened g.met.B.Bus.joins c.args.bus.now c.loop.bus c.free_oldest.new.bus c.args.self.now c.loop.self
+          has_freed-more g.B.Bus.honest g.B.Bus.world g.B.Bus.happened g.met.B.Bus.joins c.args.bus.now c.loop.bus c.free_oldest.new.bus
+          c.args.self.now c.loop.self
           c.free_oldest.new.self l.honest l.freed turn.ran turn.some turn.freed;
     }
 
@@ -30,5 +31,6 @@ pub returns-clause-ran : goal.returns-clause-ran
 returns-clause-ran g c =
     let l = c.loop.invariant in
     let turn = c.loop-test.ensures in
-    has_freed-all g.B.Bus.honest g.B.Bus.world g.B.Bus.happened g.met.B.Bus.joins c.args.bus.now c.loop.bus c.free_oldest.new.bus c.args.self.now c.loop.self
+    has_freed-all g.B.Bus.honest g.B.Bus.world g.B.Bus.happened g.met.B.Bus.joins c.args.bus.now c.loop.bus c.free_oldest.new.bus
+    c.args.self.now c.loop.self
     c.free_oldest.new.self l.honest l.freed turn.ran turn.stays turn.none

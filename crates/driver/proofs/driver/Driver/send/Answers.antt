@@ -25,7 +25,8 @@ invariant_of-self g c =
       sums = c.self.invariant.sums;
       sends =
           subst (λ (n : ℕ). IsSending s.layout s.oldest_sent ((s.next_sent + 1) % n) (s.sending + 1)) (sym c.tx.ensures.count)
-          (sending-more s.layout s.oldest_sent s.next_sent s.sending (omega (arith, c.requires.room, count, sending)) c.self.invariant.sends);
+          (sending-more s.layout s.oldest_sent s.next_sent s.sending
+          (omega (arith, c.requires.room, count, sending)) c.self.invariant.sends);
     }
 
 pub returns-clause-ran : goal.returns-clause-ran
@@ -37,17 +38,22 @@ returns-clause-ran g c held honest ready =
     let first = c.store.ensures.honest honest in
     let second = c.store-2.ensures.honest first in
     let buffer : c.transmit_buffer-buffer.result ≡ transmit_buffer d.counts (transmit_tail d) =
-    c.transmit_buffer-buffer.ensures.start ∙ ap (transmit_buffer s.layout) next ∙ ap (λ (state : DriverState). transmit_buffer state.counts (transmit_tail state)) c.self.view_is in
+    c.transmit_buffer-buffer.ensures.start ∙ ap (transmit_buffer s.layout) next
+    ∙ ap (λ (state : DriverState). transmit_buffer state.counts (transmit_tail state)) c.self.view_is in
     let slot : c.descriptor_address.result ≡ transmit_slot d.counts (transmit_tail d) =
-    c.descriptor_address.ensures.start ∙ ap (transmit_slot s.layout) next ∙ ap (λ (state : DriverState). transmit_slot state.counts (transmit_tail state)) c.self.view_is in
+    c.descriptor_address.ensures.start ∙ ap (transmit_slot s.layout) next
+    ∙ ap (λ (state : DriverState). transmit_slot state.counts (transmit_tail state)) c.self.view_is in
     let bytes : c.whole_packet-descriptor.result ≡ whole_descriptor (transmit_buffer d.counts (transmit_tail d)) (length frame) =
     c.whole_packet-descriptor.ensures ∙ ap (λ (address : ℕ). whole_descriptor address (length frame)) buffer in
     let tail : c.from.result ≡ (transmit_tail d + 1) % d.counts.tx =
     c.from.ensures ∙ ap (λ (n : ℕ). (s.next_sent + 1) % n) c.tx.ensures.count ∙ ap (λ (place : ℕ). (place + 1) % s.layout.tx) next
     ∙ ap (λ (state : DriverState). (transmit_tail state + 1) % state.counts.tx) c.self.view_is in
     let ran =
-    run-sends g.B.Bus.world g.B.Bus.happened g.B.Bus.lively g.met.B.Bus.joins c.args.bus.now c.store.new.self c.store-2.new.self c.write.new.self d frame c.requires.room c.requires.least c.requires.most
+    run-sends g.B.Bus.world g.B.Bus.happened g.B.Bus.lively g.met.B.Bus.joins c.args.bus.now c.store.new.self c.store-2.new.self
+    c.write.new.self d frame c.requires.room c.requires.least c.requires.most
     c.transmit_buffer-buffer.result c.descriptor_address.result c.from.result c.whole_packet-descriptor.result buffer slot bytes tail
     (c.store.ensures.acts honest) (c.store-2.ensures.acts first) (c.write.ensures.acts second) ready in
-    let sent = ap (λ (state : DriverState). let more : DriverState = record (holding held state) { sending = state.sending + 1 } in more) (sym c.self.view_is) in
-    subst (λ (state : DriverState). RanBy true g.B.Bus.world g.B.Bus.happened (send_accesses d frame) c.args.bus.now c.write.new.self d state [] (padded frame ∷ [])) sent ran
+    let sent = ap (λ (state : DriverState). let more : DriverState = record (holding held state) { sending = state.sending + 1 } in more)
+    (sym c.self.view_is) in
+    subst (λ (state : DriverState). RanBy true g.B.Bus.world g.B.Bus.happened
+    (send_accesses d frame) c.args.bus.now c.write.new.self d state [] (padded frame ∷ [])) sent ran

@@ -29,10 +29,13 @@ pub invariant_of-self-2 : goal.invariant_of-self-2
 invariant_of-self-2 g c =
     let d = c.self.inside in
     let receives = c.self.invariant.receives in
-    let room : length d.buffers.items + 1 < d.layout.rx = omega (arith, receives.room, c.if-len-from.false, c.len.ensures.len, c.from.ensures, c.rx-count.ensures.count) in
-    let moved : (d.next_received + 1) % c.rx-count.result ≡ (d.next_received + 1) % d.layout.rx = ap (λ (n : ℕ). (d.next_received + 1) % n) c.rx-count.ensures.count in
+    let room : length d.buffers.items + 1 < d.layout.rx = omega
+    (arith, receives.room, c.if-len-from.false, c.len.ensures.len, c.from.ensures, c.rx-count.ensures.count) in
+    let moved : (d.next_received + 1) % c.rx-count.result
+    ≡ (d.next_received + 1) % d.layout.rx = ap (λ (n : ℕ). (d.next_received + 1) % n) c.rx-count.ensures.count in
     record {
-      receives = (staged-inside d _ c.in-Some.buffer c.push_back.new.self c.take.new.self receives room moved c.push_back.ensures.items c.take.ensures.buffers c.in-Some.ensures.taken).receives;
+      receives = (staged-inside d _ c.in-Some.buffer c.push_back.new.self c.take.new.self receives room moved c.push_back.ensures.items
+          c.take.ensures.buffers c.in-Some.ensures.taken).receives;
       sends = c.self.invariant.sends;
       sums = c.self.invariant.sums;
     }
@@ -45,21 +48,30 @@ returns-clause-stages g c =
     let new = c.store.new.self in
     let receives = c.self.invariant.receives in
     let split = queue-split d receives in
-    let room : length d.buffers.items + 1 < d.layout.rx = omega (arith, receives.room, c.if-len-from.false, c.len.ensures.len, c.from.ensures, c.rx-count.ensures.count) in
-    let moved : (d.next_received + 1) % c.rx-count.result ≡ (d.next_received + 1) % d.layout.rx = ap (λ (n : ℕ). (d.next_received + 1) % n) c.rx-count.ensures.count in
-    let staged = staged-inside d _ m c.push_back.new.self c.take.new.self receives room moved c.push_back.ensures.items c.take.ensures.buffers c.in-Some.ensures.taken in
+    let room : length d.buffers.items + 1 < d.layout.rx = omega
+    (arith, receives.room, c.if-len-from.false, c.len.ensures.len, c.from.ensures, c.rx-count.ensures.count) in
+    let moved : (d.next_received + 1) % c.rx-count.result
+    ≡ (d.next_received + 1) % d.layout.rx = ap (λ (n : ℕ). (d.next_received + 1) % n) c.rx-count.ensures.count in
+    let staged = staged-inside d _ m c.push_back.new.self c.take.new.self receives room moved c.push_back.ensures.items
+    c.take.ensures.buffers c.in-Some.ensures.taken in
     let bytes : c.to_bytes.result ≡ empty_descriptor (buffer_at d.layout m) =
-    c.to_bytes.ensures ∙ c.descriptor_of-descriptor.ensures ∙ ap empty_descriptor (c.receive_buffer.ensures.start ∙ ap (buffer_at d.layout) c.number.ensures) in
+    c.to_bytes.ensures ∙ c.descriptor_of-descriptor.ensures
+    ∙ ap empty_descriptor (c.receive_buffer.ensures.start ∙ ap (buffer_at d.layout) c.number.ensures) in
     let at : c.receive_slot.result ≡ 16 * next_received (state_of d) = c.receive_slot.ensures ∙ ap (λ (slot : ℕ). 16 * slot) split.next in
-    let fits : length (state_of d).buffers + length (state_of d).staged + 1 < d.layout.rx = omega (arith, room, split.outstanding, split.staged) in
+    let fits : length (state_of d).buffers + length (state_of d).staged + 1 < d.layout.rx = omega
+    (arith, room, split.outstanding, split.staged) in
     rw (← c.self.view_is) (
       m,
       record {
         others = staged.view;
         pool = c.in-Some.ensures.taken;
         ran = λ up held honest ready.
-            subst (λ (s : DriverState). RanBy up g.B.Bus.world g.B.Bus.happened (stores_from d.layout (next_received (state_of d)) (m ∷ [])) old new (holding held (state_of d)) (holding held s) [] []) (sym staged.view)
-            (ran_by-stages g.B.Bus.world g.B.Bus.happened g.B.Bus.lively old new (holding held (state_of d)) m c.receive_slot.result c.take.new.self.free c.to_bytes.result fits
-            (omega (arith, c.in-Some.ensures.known, receives.buffers)) c.in-Some.ensures.taken at bytes (c.store.ensures.acts honest) ready);
+            subst (λ (s : DriverState). RanBy up g.B.Bus.world g.B.Bus.happened
+            (stores_from d.layout (next_received (state_of d)) (m ∷ [])) old new (holding held (state_of d)) (holding held s) [] [])
+            (sym staged.view)
+            (ran_by-stages g.B.Bus.world g.B.Bus.happened g.B.Bus.lively old new
+            (holding held (state_of d)) m c.receive_slot.result c.take.new.self.free c.to_bytes.result fits
+            (omega (arith, c.in-Some.ensures.known, receives.buffers)) c.in-Some.ensures.taken at bytes
+            (c.store.ensures.acts honest) ready);
       },
     )

@@ -8,7 +8,8 @@ invariant-loop-finished g l = record {
   kept : g.B.Bus.kept l.initial.bus l.bus;
   honest : g.B.Bus.honest l.initial.bus → g.B.Bus.honest l.bus;
   lively : g.B.Bus.lively l.initial.bus → g.B.Bus.lively l.bus;
-  walks : (n : ℕ) × Walks g.B.Bus.honest g.B.Bus.world g.B.Bus.happened g.R.Receiver.took l.initial.bus l.bus l.initial.receiver l.receiver l.initial.self l.self n;
+  walks : (n : ℕ) × Walks g.B.Bus.honest g.B.Bus.world g.B.Bus.happened g.R.Receiver.took l.initial.bus l.bus l.initial.receiver l.receiver
+      l.initial.self l.self n;
 }
 
 abbrev pub decreases-loop-finished : goal.decreases-loop-finished

@@ -7,11 +7,19 @@ use Rattle.driver.proofs.driver.Driver.transmit.Goals as goal
 
 pub returns-then-frame-lt-SHORTEST_SENT-clause-ran : goal.returns-then-frame-lt-SHORTEST_SENT-clause-ran
 returns-then-frame-lt-SHORTEST_SENT-clause-ran g c held honest ready =
-    record { ran = ran_by-stays g.B.Bus.world g.B.Bus.happened g.met.B.Bus.stays c.args.bus.now (holding held c.args.self.now) ready; answer = tt }
+    record {
+      ran = ran_by-stays g.B.Bus.world g.B.Bus.happened g.met.B.Bus.stays c.args.bus.now
+          (holding held c.args.self.now) ready;
+      answer = tt;
+    }
 
 pub returns-then-frame-gt-LONGEST_SENT-clause-ran : goal.returns-then-frame-gt-LONGEST_SENT-clause-ran
 returns-then-frame-gt-LONGEST_SENT-clause-ran g c held honest ready =
-    record { ran = ran_by-stays g.B.Bus.world g.B.Bus.happened g.met.B.Bus.stays c.args.bus.now (holding held c.args.self.now) ready; answer = tt }
+    record {
+      ran = ran_by-stays g.B.Bus.world g.B.Bus.happened g.met.B.Bus.stays c.args.bus.now
+          (holding held c.args.self.now) ready;
+      answer = tt;
+    }
 
 pub returns-then-self-tx-clause-ran : goal.returns-then-self-tx-clause-ran
 returns-then-self-tx-clause-ran g c held honest ready =
@@ -36,7 +44,8 @@ returns-clause-ran g c held honest ready =
     let sends = c.send.ensures.ran held (c.reclaim.ensures.honest honest) reclaims.ran.goes.flows.ready in
     record {
       ran =
-          frees-and-sends g.B.Bus.world g.B.Bus.happened g.met.B.Bus.joins c.args.bus.now c.reclaim.new.bus c.send.new.bus d1 d2 d3 c.args.frame.now counts c.reclaim.ensures.tail more
+          frees-and-sends g.B.Bus.world g.B.Bus.happened g.met.B.Bus.joins c.args.bus.now c.reclaim.new.bus c.send.new.bus d1 d2 d3
+          c.args.frame.now counts c.reclaim.ensures.tail more
           reclaims sends;
       answer = tt;
     }

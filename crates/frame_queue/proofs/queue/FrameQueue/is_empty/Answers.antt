@@ -8,4 +8,6 @@ returns c =
     let capacity = c.self.inside.lengths.capacity in
     let first = c.self.inside.first in
     let lengths = c.self.inside.lengths.items in
-    rw (← c.self.view_is) (empty_from_length (frames_from bytes capacity first lengths) _ c.is_empty.result (length-frames_from bytes capacity first lengths) c.is_empty.ensures)
+    rw (← c.self.view_is)
+    (empty_from_length (frames_from bytes capacity first lengths) _ c.is_empty.result
+    (length-frames_from bytes capacity first lengths) c.is_empty.ensures)

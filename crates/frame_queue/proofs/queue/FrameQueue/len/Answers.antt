@@ -5,4 +5,5 @@ use Rattle.frame_queue.proofs.queue.FrameQueue.len.Goals as goal
 pub returns-clause-count : goal.returns-clause-count
 returns-clause-count c =
     let queue = c.self.inside in
-    rw (← c.self.view_is) (c.len.ensures.len ∙ sym (length-frames_from queue.bytes.items queue.lengths.capacity queue.first queue.lengths.items))
+    rw (← c.self.view_is) (c.len.ensures.len
+    ∙ sym (length-frames_from queue.bytes.items queue.lengths.capacity queue.first queue.lengths.items))

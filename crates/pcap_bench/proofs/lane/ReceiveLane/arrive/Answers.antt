@@ -16,26 +16,36 @@ finish_frame-requires-clause-place c =
     let is = c.self.invariant in
     let waiting = rw (← c.self.view_is) at c.requires.waiting in
     let stored : c.arrive.new.self ≡ with_stored lane.adapter lane.slot frame =
-    c.arrive.ensures.state ∙ ap (λ (f : Fate). after_arrive f frame lane.adapter) c.in-Stored.is ∙ ap (after_arrive Stored frame) (calm_of lane is waiting) in
+    c.arrive.ensures.state ∙ ap (λ (f : Fate). after_arrive f frame lane.adapter) c.in-Stored.is
+    ∙ ap (after_arrive Stored frame) (calm_of lane is waiting) in
     let room = has_room lane.memory frame lane.slot is.slot is.size is.buffers c.requires.legal in
-    subst (CanMoveFrame lane.memory) (sym stored) (can_move lane.adapter lane.memory frame lane.slot is.receiving is.slot is.size c.requires.legal room)
+    subst (CanMoveFrame lane.memory) (sym stored)
+    (can_move lane.adapter lane.memory frame lane.slot is.receiving is.slot is.size c.requires.legal room)
 
-all : (c : goal.After-finish_frame) → Received (record { adapter = c.finish_frame.new.adapter; memory = c.finish_frame.new.memory; slot = c.self.inside.slot }) c.args.frame.now
+all : (c : goal.After-finish_frame)
+    → Received (record { adapter = c.finish_frame.new.adapter; memory = c.finish_frame.new.memory; slot = c.self.inside.slot })
+    c.args.frame.now
 all c =
     let lane : LaneState = record { adapter = c.self.inside.adapter; memory = c.self.inside.memory; slot = c.self.inside.slot } in
     let frame = c.args.frame.now in
     let is = c.self.invariant in
     let waiting = rw (← c.self.view_is) at c.requires.waiting in
     let stored : c.arrive.new.self ≡ with_stored lane.adapter lane.slot frame =
-    c.arrive.ensures.state ∙ ap (λ (f : Fate). after_arrive f frame lane.adapter) c.in-Stored.is ∙ ap (after_arrive Stored frame) (calm_of lane is waiting) in
+    c.arrive.ensures.state ∙ ap (λ (f : Fate). after_arrive f frame lane.adapter) c.in-Stored.is
+    ∙ ap (after_arrive Stored frame) (calm_of lane is waiting) in
     let room = has_room lane.memory frame lane.slot is.slot is.size is.buffers c.requires.legal in
     let adapter : c.finish_frame.new.adapter ≡ (after_steps lane.adapter lane.memory frame lane.slot).adapter =
     c.finish_frame.ensures.adapter ∙ ap (λ (s : AdapterState). after_done Done (after_data Moved s)) stored in
     let memory : c.finish_frame.new.memory ≡ (after_steps lane.adapter lane.memory frame lane.slot).memory =
-    c.finish_frame.ensures.memory ∙ ap (λ (s : AdapterState). memory_after_done_step (memory_after_data_step Moved lane.memory s) (after_data Moved s)) stored ∙ memory_is lane.adapter lane.memory frame lane.slot is.slot room in
+    c.finish_frame.ensures.memory
+    ∙ ap (λ (s : AdapterState). memory_after_done_step (memory_after_data_step Moved lane.memory s) (after_data Moved s)) stored
+    ∙ memory_is lane.adapter lane.memory frame lane.slot is.slot room in
     let last = received lane.adapter lane.memory frame lane.slot is.receiving is.slot is.size is.buffers c.requires.legal room in
-    subst (λ (s : AdapterState). Received (record { adapter = s; memory = c.finish_frame.new.memory; slot = lane.slot }) frame) (sym adapter)
-    (subst (λ (m : List ℕ). Received (record { adapter = (after_steps lane.adapter lane.memory frame lane.slot).adapter; memory = m; slot = lane.slot }) frame) (sym memory) last)
+    subst (λ (s : AdapterState). Received (record { adapter = s; memory = c.finish_frame.new.memory; slot = lane.slot }) frame)
+    (sym adapter)
+    (subst (λ (m : List ℕ). Received
+    (record { adapter = (after_steps lane.adapter lane.memory frame lane.slot).adapter; memory = m; slot = lane.slot }) frame)
+    (sym memory) last)
 
 pub invariant_of-self : goal.invariant_of-self
 invariant_of-self c = (all c).is_lane

@@ -23,7 +23,8 @@ ready words options = record (new_adapter words Never) {
 is_ready : (c : goal.After-write) → c.write.new.self ≡ ready c.with_address-image.result c.args.options.now
 is_ready c =
     let options = c.args.options.now in
-    let tables = c.write_filter.ensures.written ∙ ap (λ (s : AdapterState). record s { filter = with_tables options s.filter }) c.in_ok-adapter.ensures in
+    let tables = c.write_filter.ensures.written
+    ∙ ap (λ (s : AdapterState). record s { filter = with_tables options s.filter }) c.in_ok-adapter.ensures in
     let ring = c.write_ring.ensures ∙ ap (λ (s : AdapterState). record s { receive_ring = ring_at 0 0 }) tables in
     c.write.ensures.state
     ∙ ap (λ (bits : ℕ). after_write 0x100 bits c.write_ring.new.adapter) (c.bits.ensures tt ∙ c.mode_of.ensures)

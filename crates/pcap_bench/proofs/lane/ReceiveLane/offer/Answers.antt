@@ -19,7 +19,8 @@ buffer_is c =
 wrote : (c : goal.After-self-1) → c.write.new.self ≡ with_tail c.self.inside.adapter c.self.inside.slot
 wrote c =
     let below = c.self.invariant.slot in
-    c.write.ensures.state ∙ ap (λ (tail : ℕ). after_write 0x2818 tail c.self.inside.adapter) c.from.ensures ∙ wrote-tail c.self.inside.slot c.self.inside.adapter (omega arith)
+    c.write.ensures.state ∙ ap (λ (tail : ℕ). after_write 0x2818 tail c.self.inside.adapter) c.from.ensures
+    ∙ wrote-tail c.self.inside.slot c.self.inside.adapter (omega arith)
 
 pub invariant_of-self : goal.invariant_of-self
 invariant_of-self c =
@@ -27,7 +28,8 @@ invariant_of-self c =
     let lane : LaneState = record { adapter = c.self.inside.adapter; memory = c.self.inside.memory; slot = slot } in
     let is = IsLane-offered lane c.descriptor-buffer.result.address c.self.invariant (buffer_is c) in
     subst (λ (s : AdapterState). IsLane (record { adapter = s; memory = c.offer.new.memory; slot = (slot + 1) % 8 })) (sym (wrote c))
-    (subst (λ (m : List ℕ). IsLane (record { adapter = with_tail lane.adapter slot; memory = m; slot = (slot + 1) % 8 })) (sym c.offer.ensures) is)
+    (subst (λ (m : List ℕ). IsLane (record { adapter = with_tail lane.adapter slot; memory = m; slot = (slot + 1) % 8 }))
+    (sym c.offer.ensures) is)
 
 pub returns-clause-offered : goal.returns-clause-offered
 returns-clause-offered c =
@@ -37,8 +39,10 @@ returns-clause-offered c =
     let below = c.self.invariant.slot in
     let named = buffer_is c in
     let small : buffer < 2 ^ 64 = omega arith in
-    let is : descriptor_at c.offer.new.memory (16 * slot) ≡ record { address = buffer; length = 0; checksum = 0; status = record { 0 = 0 }; errors = 0; special = 0 } =
-    ap (λ (m : List ℕ). descriptor_at m (16 * slot)) c.offer.ensures ∙ descriptor_at-offered memory slot buffer below c.self.invariant.size small in
+    let is : descriptor_at c.offer.new.memory (16 * slot)
+    ≡ record { address = buffer; length = 0; checksum = 0; status = record { 0 = 0 }; errors = 0; special = 0 } =
+    ap (λ (m : List ℕ). descriptor_at m (16 * slot)) c.offer.ensures
+    ∙ descriptor_at-offered memory slot buffer below c.self.invariant.size small in
     rw (← c.self.view_is) (ap (λ (d : RxDesc). status_bits d.status) is)
 
 pub returns-clause-waiting : goal.returns-clause-waiting

@@ -10,5 +10,10 @@ returns-clause-received g c =
     let moved = c.copy_within.new.self in
     let new = c.read_behind.new.bytes in
     let front : take k new ≡ take k moved.items = c.in_ok-count.ensures.front ∙ ap (take k) c.as_mut_slice.ensures.value in
-    let length_is : length new ≡ moved.len = omega (arith, c.read_behind.auto.bytes, ap length c.as_mut_slice.ensures.value, c.as_mut_slice.ensures.len) in
-    rw (← c.self.view_is) (read_more c.self.inside.bytes.items moved.items new (with_items moved new).items c.self.inside.start c.self.inside.end c.in_ok-count.count (g.S.Source.left c.args.source.now) (g.S.Source.left c.read_behind.new.source) (omega arith) (omega arith) c.copy_within.ensures.items front c.in_ok-count.ensures.read (with_items_is moved new length_is))
+    let length_is : length new
+    ≡ moved.len = omega (arith, c.read_behind.auto.bytes, ap length c.as_mut_slice.ensures.value, c.as_mut_slice.ensures.len) in
+    rw (← c.self.view_is)
+    (read_more c.self.inside.bytes.items moved.items new
+    (with_items moved new).items c.self.inside.start c.self.inside.end c.in_ok-count.count (g.S.Source.left c.args.source.now)
+    (g.S.Source.left c.read_behind.new.source) (omega arith)
+    (omega arith) c.copy_within.ensures.items front c.in_ok-count.ensures.read (with_items_is moved new length_is))

@@ -7,4 +7,5 @@ pub returns : goal.returns
 returns c =
     let engine = c.self.inside in
     let none = side_by_side-none engine.frames.frames engine.reports.items c.self.invariant.same in
-    subst (λ (t : Transmitter). IsTrue c.is_empty.result ↔ (t.buffer ≡ [])) c.self.view_is (λ empty. none.0 (c.is_empty.ensures.0 empty), λ empty. c.is_empty.ensures.1 (none.1 empty))
+    subst (λ (t : Transmitter). IsTrue c.is_empty.result
+    ↔ (t.buffer ≡ [])) c.self.view_is (λ empty. none.0 (c.is_empty.ensures.0 empty), λ empty. c.is_empty.ensures.1 (none.1 empty))

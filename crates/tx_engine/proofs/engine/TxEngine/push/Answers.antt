@@ -16,7 +16,8 @@ invariant_of-self c =
     let size = length-side_by_side engine.frames.frames engine.reports.items c.self.invariant.same in
     let seen = ap (λ (t : Transmitter). length t.buffer) c.self.view_is in
     let room : length engine.frames.frames < 4 = omega (arith, c.requires.room) in
-    pushed-whole engine _ _ c.push_padded.new.self c.push_back.new.self c.self.invariant room c.push_padded.ensures c.push_back.ensures.items
+    pushed-whole engine _ _ c.push_padded.new.self c.push_back.new.self c.self.invariant room c.push_padded.ensures
+    c.push_back.ensures.items
 
 pub returns : goal.returns
 returns c =
@@ -24,4 +25,5 @@ returns c =
     let size = length-side_by_side engine.frames.frames engine.reports.items c.self.invariant.same in
     let seen = ap (λ (t : Transmitter). length t.buffer) c.self.view_is in
     let room : length engine.frames.frames < 4 = omega (arith, c.requires.room) in
-    pushed-view engine _ _ c.push_padded.new.self c.push_back.new.self c.args.self.now c.self.view_is c.self.invariant room c.push_padded.ensures c.push_back.ensures.items
+    pushed-view engine _ _ c.push_padded.new.self c.push_back.new.self c.args.self.now c.self.view_is c.self.invariant room
+    c.push_padded.ensures c.push_back.ensures.items
