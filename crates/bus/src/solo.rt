@@ -103,8 +103,8 @@ impl SoloBus {
         ensures state { self.new ≡ solo_after_step kind (solo_stepped result self.old) self.old }
         ensures running { IsAdapter self.old.world.adapter }
     {
-        self.adapter
-            .step_onto(kind, &mut self.memory, &mut self.wire)
+        let wire = &mut self.wire;
+        self.adapter.step_onto(kind, &mut self.memory, wire)
     }
 
     /// A frame is delivered to the adapter, and meets its fate.
