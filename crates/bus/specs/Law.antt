@@ -55,6 +55,7 @@ pub record Steady (a b : World) (past : Past) : Type 0 where
   pub device_control : b.adapter.device_control ≡ a.adapter.device_control
   pub transmit_control : b.adapter.transmit_control ≡ a.adapter.transmit_control
   pub allocation : b.adapter.receive_kilobytes ≡ a.adapter.receive_kilobytes
+  -- MPC grows by what was missed, and sticks at its greatest value; one that stands there already stays.
   pub missed : b.adapter.missed_packets ≡ max a.adapter.missed_packets (min (a.adapter.missed_packets + past.missed) greatest_count)
   -- Where RCTL.EN is 0 no frame is stored or missed.
   pub off : ¬ (HasBit a.adapter.filter.rctl rctl_en) → (past.stored ≡ []) × (past.missed ≡ 0)

@@ -33,7 +33,7 @@ pub record IsFrameSize (size : ℕ) : Type 0 where
 abbrev pub AreFrames : List Received → Type 0
 AreFrames list = All (λ received. IsFrameSize received.length) list
 
--- A count of bad slots grew by so many, but stays at the greatest u64.
+-- A count grew by so many, but stays at the greatest u64.
 pub record GrowsBy (before after more : ℕ) : Type 0 where
   pub least : before ≤ after
   pub most : after ≤ before + more

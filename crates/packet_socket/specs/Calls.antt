@@ -25,11 +25,13 @@ use Rattle.packet_socket.specs.HostState.{HostState}
 use Rattle.packet_socket.specs.SocketsState.{Queues, claimed_of, queue_at, unclaimed_of}
 use Rattle.registers.specs.Places.{rxt0}
 
+-- the frames of slots that were taken
 abbrev pub frames_taken : List HandedOut → List (List ℕ)
 frames_taken taken = map (λ (one : HandedOut). one.frame) taken
 
 -- Sending.
 
+-- The driver was given the frame, where the answer is Ok; queues are as they were.
 pub record HostTransmits {B : Type 0} (world : B → World) (happened : B → B → Past → Type 0) (old new : B) (h h' : HostState)
     (frame : List ℕ) (result : Answer) : Type 0 where
   pub ran :

@@ -13,6 +13,7 @@ abbrev pub takes_all : SocketKind → Bool
 takes_all (Ether own) = false
 takes_all All = true
 
+-- the first, or else the second
 abbrev pub or_else : Option ℕ → Option ℕ → Option ℕ
 or_else (Some first) second = Some first
 or_else None second = second
@@ -21,6 +22,7 @@ or_else None second = second
 abbrev pub socket_of : List SocketKind → ℕ → Option ℕ
 socket_of kinds ether_type = or_else (position (is_of ether_type) kinds) (position takes_all kinds)
 
+-- whether it is at this place
 abbrev pub is_at : ℕ → Option ℕ → Bool
 is_at socket None = false
 is_at socket (Some place) = place == socket
