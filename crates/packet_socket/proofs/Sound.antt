@@ -36,7 +36,7 @@ entry-splits driver before after socket count received host below size is = spli
 pub record CanComeBack (driver : DriverState) (received : Received) : Type 0 where
   pub known : received.buffer < driver.counts.buffers
   pub out : copies received.buffer (owners driver) ≡ 0
-  pub short : received.length ≤ 1518
+  pub size : IsFrameSize received.length
 
 -- What is in the middle of a list.
 middle-copies : (k : ℕ) (first last : List Received) (received : Received)
@@ -72,7 +72,7 @@ can-come-back driver sockets socket received later host parts =
     record {
       known = known_from_no_second n k all host.owners (omega (arith, sum));
       out = omega (arith, sum, once_from_no_second n k all host.owners);
-      short = (all-head (λ (r : Received). IsFrameSize r.length) received parts.last frames).most;
+      size = all-head (λ (r : Received). IsFrameSize r.length) received parts.last frames;
     }
 
 -- It comes back.

@@ -22,6 +22,7 @@ use crate::sockets::{MOST_SOCKETS, Sockets};
 use arrayvec::ArrayVec;
 use bring_up::{Config, InitError};
 use bus::Bus;
+use dma_memory::Layout;
 use driver::{Driver, SendError};
 use std::alloc::Global;
 use std::marker::Model;
@@ -82,6 +83,13 @@ impl Host {
         let sockets = Sockets::new(alloc, kinds, usize::from(layout.buffers()))?;
         let driver = Driver::init(alloc, bus, config)?;
         Ok(Host { driver, sockets })
+    }
+
+    /// Where its driver's rings and buffers stand. Calls that reach memory need a bus with that many bytes.
+    pub fn layout(&self) -> Layout
+        ensures { result ≡ self.now.driver.counts }
+    {
+        self.driver.layout()
     }
 
     /// How many frames wait for a socket: none for one that isn't there. No buffer has two owners, at any

@@ -3,6 +3,7 @@
 ghost use Rattle.std.specs.Prelude.{◌≡◌, ◌↔◌, ◌≤◌, ◌<◌, [], Bool, Err, IfErr, IfOk, drop, length, take};
 ghost use Rattle.dma_memory.specs.Layout.{size_of};
 ghost use Rattle.driver_law.specs.Goes.{IsRefilled};
+ghost use Rattle.driver.specs.Takes.{IsFrameSize};
 ghost use Rattle.packet_socket.specs.Calls.{LeavesSome, Receives};
 ghost use Rattle.packet_socket.specs.Holding.{HostReadyWith};
 ghost use Rattle.packet_socket.specs.SocketsState.{queue_at};
@@ -52,6 +53,7 @@ impl Host {
         ensures counts { self.new.driver.counts ≡ self.old.driver.counts }
         ensures leaves { IfOk result (LeavesSome self.old self.new socket) }
         ensures refilled { IfOk result (λ size. IsRefilled self.new.driver) }
+        ensures size { IfOk result IsFrameSize }
         ensures rest { IfOk result (λ size. drop size into.new ≡ drop size into.old) }
 
         // And over one that obeys the law.

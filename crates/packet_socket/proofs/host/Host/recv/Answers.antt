@@ -1,5 +1,6 @@
-use Rattle.std.proofs.Common.{◌≡◌, ◌<◌, length, take, ◌∙◌, ap, sym, arith}
+use Rattle.std.proofs.Common.{◌≡◌, ◌<◌, length, take, ◌∙◌, ap, sym, subst, arith}
 use Rattle.driver_law.specs.DriverState.{DriverState}
+use Rattle.driver.specs.Takes.{IsFrameSize}
 use Rattle.packet_socket.specs.Holding.{driver_of}
 use Rattle.packet_socket.specs.InsideHost.{host_of, host_with}
 use Rattle.packet_socket.specs.SocketsState.{SocketsState}
@@ -21,7 +22,14 @@ read-size-requires-clause-size g c =
     let d = c.self.inside.driver in
     let before = c.self.inside.sockets in
     let parts = entry-splits d before c.next.new.self c.args.socket c.len.result c.in-Some.received c.self.invariant c.if-socket-len.false c.len.ensures.count c.in-Some.ensures.oldest in
-    (can-come-back d before c.args.socket c.in-Some.received _ c.self.invariant parts).short
+    (can-come-back d before c.args.socket c.in-Some.received _ c.self.invariant parts).size.most
+
+pub returns-clause-size : goal.returns-clause-size
+returns-clause-size g c =
+    let d = c.self.inside.driver in
+    let before = c.self.inside.sockets in
+    let parts = entry-splits d before c.next.new.self c.args.socket c.len.result c.in-Some.received c.self.invariant c.if-socket-len.false c.len.ensures.count c.in-Some.ensures.oldest in
+    subst IsFrameSize (sym c.read-size.ensures.length) (can-come-back d before c.args.socket c.in-Some.received _ c.self.invariant parts).size
 
 pub give-requires-clause-known : goal.give-requires-clause-known
 give-requires-clause-known g c =
