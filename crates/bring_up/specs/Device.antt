@@ -37,7 +37,8 @@ IsWhy NoLink image accesses = 2000 ≤ accesses
 IsWhy Memory image accesses = ⊥
 IsWhy errors.Config image accesses = ⊥
 
--- Over a lively bus no time-out comes, and a link that comes up within 2,000 ticks is always seen; so a wrong checksum is always told, as no
+-- Over a lively bus no time-out comes, and a link that comes up within 2,000 ticks is always seen; so a wrong checksum is always told, as
+-- no
 -- other error is left for it, and Ok wants a right one.
 abbrev pub IsWhyLively : InitError → World → Type 0
 IsWhyLively EepromTimeout before = ⊥

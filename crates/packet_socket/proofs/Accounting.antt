@@ -1,5 +1,6 @@
 -- Where each frame went.
-use Rattle.std.proofs.Common.{◌≡◌, ◌≤◌, ◌<◌, ◌+◌, ◌-◌, ◌^◌, ◌++◌, ◌∷◌, [], ℕ, Bool, cond, List, length, map, refl, sym, ap, subst, ◌∙◌, append_assoc, arith}
+use Rattle.std.proofs.Common.{◌≡◌, ◌≤◌, ◌<◌, ◌+◌, ◌-◌, ◌^◌, ◌++◌, ◌∷◌, [], ℕ, Bool, cond, List, length, map, refl, sym, ap, subst, ◌∙◌}
+use Rattle.std.proofs.Common.{append_assoc, arith}
 use Rattle.std.specs.Prelude.{◌==◌}
 use Rattle.std.specs.List.{filter}
 use Rattle.std.proofs.lemmas.List.{map-append}
@@ -15,21 +16,25 @@ use Rattle.packet_socket.specs.HostState.{HostState}
 use Rattle.packet_socket.specs.Kinds.{goes_to, has_none}
 use Rattle.packet_socket.specs.declared.socket_kind.SocketKind.{SocketKind}
 
-pub for-append : (kinds : List SocketKind) (socket : ℕ) (xs ys : List (List ℕ)) → frames_for kinds socket (xs ++ ys) ≡ frames_for kinds socket xs ++ frames_for kinds socket ys
+pub for-append : (kinds : List SocketKind) (socket : ℕ) (xs ys : List (List ℕ))
+    → frames_for kinds socket (xs ++ ys) ≡ frames_for kinds socket xs ++ frames_for kinds socket ys
 for-append kinds socket xs ys = filter-append (λ (frame : List ℕ). goes_to kinds socket (ether_type frame)) xs ys
 
-pub without-append : (kinds : List SocketKind) (xs ys : List (List ℕ)) → without_socket kinds (xs ++ ys) ≡ without_socket kinds xs + without_socket kinds ys
+pub without-append : (kinds : List SocketKind) (xs ys : List (List ℕ))
+    → without_socket kinds (xs ++ ys) ≡ without_socket kinds xs + without_socket kinds ys
 without-append kinds xs ys = sum_by-append (λ (frame : List ℕ). cond (has_none kinds (ether_type frame)) 1 0) xs ys
 
 -- Frames were taken off the ring: they went to the queues or were counted.
-pub accounts : (h : HostState) (a : World) (h' : HostState) (b : World) (given : List Given) (taken stored : List (List ℕ)) → h'.kinds ≡ h.kinds
+pub accounts : (h : HostState) (a : World) (h' : HostState) (b : World) (given : List Given) (taken stored : List (List ℕ))
+    → h'.kinds ≡ h.kinds
     → taken ++ frames_held h'.driver.oldest_received b ≡ frames_held h.driver.oldest_received a ++ stored
     → ((socket : ℕ) → given_for socket given ++ frames_in h' socket b ≡ frames_in h socket a ++ frames_for h.kinds socket taken)
     → GrowsBy h.unclaimed h'.unclaimed (without_socket h.kinds taken) → Accounts h a h' b given stored
 accounts h a h' b given taken stored kinds holds queues grows =
     let before = frames_held h.driver.oldest_received a in
     let behind = frames_held h'.driver.oldest_received b in
-    let count : without_socket h.kinds taken + without_socket h'.kinds behind ≡ without_socket h.kinds before + without_socket h.kinds stored =
+    let count : without_socket h.kinds taken + without_socket h'.kinds behind
+    ≡ without_socket h.kinds before + without_socket h.kinds stored =
     ap (λ (k : List SocketKind). without_socket h.kinds taken + without_socket k behind) kinds
     ∙ sym (without-append h.kinds taken behind)
     ∙ ap (without_socket h.kinds) holds
@@ -41,7 +46,8 @@ accounts h a h' b given taken stored kinds holds queues grows =
           ∙ ap (λ (list : List (List ℕ)). list ++ frames_for h'.kinds s behind) (queues s)
           ∙ ap (λ (k : List SocketKind). (frames_in h s a ++ frames_for h.kinds s taken) ++ frames_for k s behind) kinds
           ∙ append_assoc (frames_in h s a) (frames_for h.kinds s taken) (frames_for h.kinds s behind)
-          ∙ ap (λ (list : List (List ℕ)). frames_in h s a ++ list) (sym (for-append h.kinds s taken behind) ∙ ap (frames_for h.kinds s) holds ∙ for-append h.kinds s before stored)
+          ∙ ap (λ (list : List (List ℕ)). frames_in h s a ++ list) (sym (for-append h.kinds s taken behind)
+          ∙ ap (frames_for h.kinds s) holds ∙ for-append h.kinds s before stored)
           ∙ sym (append_assoc (frames_in h s a) (frames_for h.kinds s before) (frames_for h.kinds s stored));
       least = grows.least;
       most = omega (arith, grows.most, count);
@@ -55,17 +61,20 @@ given-append socket xs ys =
     ∙ map-append frame (filter (λ (one : Given). one.socket == socket) xs) (filter (λ (one : Given). one.socket == socket) ys)
 
 -- Two stretches are one.
-pub accounts-join : (h1 h2 h3 : HostState) (a b c : World) (given more : List Given) (stored later : List (List ℕ)) → Accounts h1 a h2 b given stored → Accounts h2 b h3 c more later
+pub accounts-join : (h1 h2 h3 : HostState) (a b c : World) (given more : List Given) (stored later : List (List ℕ))
+    → Accounts h1 a h2 b given stored → Accounts h2 b h3 c more later
     → Accounts h1 a h3 c (given ++ more) (stored ++ later)
 accounts-join h1 h2 h3 a b c given more stored later one two =
-    let also : without_socket h2.kinds later ≡ without_socket h1.kinds later = ap (λ (k : List SocketKind). without_socket k later) one.kinds in
+    let also : without_socket h2.kinds later
+    ≡ without_socket h1.kinds later = ap (λ (k : List SocketKind). without_socket k later) one.kinds in
     let sum = without-append h1.kinds stored later in
     record {
       kinds = two.kinds ∙ one.kinds;
       sockets = λ s.
           ap (λ (list : List (List ℕ)). list ++ held_for h3 s c) (given-append s given more)
           ∙ append_assoc (given_for s given) (given_for s more) (held_for h3 s c)
-          ∙ ap (λ (list : List (List ℕ)). given_for s given ++ list) (two.sockets s ∙ ap (λ (k : List SocketKind). held_for h2 s b ++ frames_for k s later) one.kinds)
+          ∙ ap (λ (list : List (List ℕ)). given_for s given ++ list) (two.sockets s
+          ∙ ap (λ (k : List SocketKind). held_for h2 s b ++ frames_for k s later) one.kinds)
           ∙ sym (append_assoc (given_for s given) (held_for h2 s b) (frames_for h1.kinds s later))
           ∙ ap (λ (list : List (List ℕ)). list ++ frames_for h1.kinds s later) (one.sockets s)
           ∙ append_assoc (held_for h1 s a) (frames_for h1.kinds s stored) (frames_for h1.kinds s later)

@@ -1,5 +1,6 @@
 -- Queues, as the host keeps them.
-use Rattle.std.proofs.Common.{◌≡◌, ◌+◌, ◌-◌, ◌<◌, ◌++◌, ◌∷◌, [], ℕ, zero, suc, Some, None, Option, List, length, map, drop, replicate, refl, sym, ap, subst, ◌∙◌, length-append, arith}
+use Rattle.std.proofs.Common.{◌≡◌, ◌+◌, ◌-◌, ◌<◌, ◌++◌, ◌∷◌, [], ℕ, zero, suc, Some, None, Option, List, length, map, drop, replicate, refl}
+use Rattle.std.proofs.Common.{sym, ap, subst, ◌∙◌, length-append, arith}
 use Rattle.std.specs.List.{All, slice_get, slice_index_or, slice_set}
 use Rattle.std.specs.Option.{IfSome}
 use Rattle.std.proofs.lemmas.List.{length-map, map-set}
@@ -11,13 +12,15 @@ use Rattle.packet_socket.specs.SocketsState.{SocketsState, Sorts, queue_at}
 use Rattle.packet_socket.specs.SortingLaws.{sorts-kept}
 use Rattle.packet_socket.specs.declared.socket_kind.SocketKind.{SocketKind}
 
-pub queue-found : (queues : List (Buffer Received)) (socket : ℕ) (queue : Buffer Received) → socket < length queues → queue ≡ slice_index_or queues socket queue
+pub queue-found : (queues : List (Buffer Received)) (socket : ℕ) (queue : Buffer Received) → socket < length queues
+    → queue ≡ slice_index_or queues socket queue
     → queue_at (map items_of queues) socket ≡ queue.items
 queue-found [] socket queue below is = absurd (omega (arith, below))
 queue-found (first ∷ later) zero queue below is = ap items_of (sym is)
 queue-found (first ∷ later) (suc socket) queue below is = queue-found later socket queue (omega (arith, below)) is
 
-queue-new : (queues : List (Buffer Received)) (socket : ℕ) (queue : Buffer Received) → socket < length queues → queue_at (map items_of (slice_set queues socket queue)) socket ≡ queue.items
+queue-new : (queues : List (Buffer Received)) (socket : ℕ) (queue : Buffer Received) → socket < length queues
+    → queue_at (map items_of (slice_set queues socket queue)) socket ≡ queue.items
 queue-new [] socket queue below = absurd (omega (arith, below))
 queue-new (first ∷ later) zero queue below = refl
 queue-new (first ∷ later) (suc socket) queue below = queue-new later socket queue (omega (arith, below))
@@ -28,41 +31,55 @@ first-is : (items : List Received) → IfSome (slice_get items 0) (λ received. 
 first-is [] = tt
 first-is (first ∷ later) = refl
 
-pub oldest-leaves : (queues : List (Buffer Received)) (socket : ℕ) (queue queue' : Buffer Received) (result : Option Received) → socket < length queues → queue ≡ slice_index_or queues socket queue
+pub oldest-leaves : (queues : List (Buffer Received)) (socket : ℕ) (queue queue' : Buffer Received) (result : Option Received)
+    → socket < length queues → queue ≡ slice_index_or queues socket queue
     → queue' ≡ buffer (drop 1 queue.items) queue.capacity → result ≡ slice_get queue.items 0
-    → IfSome result (λ received. queue_at (map items_of queues) socket ≡ received ∷ queue_at (map items_of (slice_set queues socket queue')) socket)
+    → IfSome result (λ received. queue_at (map items_of queues) socket
+    ≡ received ∷ queue_at (map items_of (slice_set queues socket queue')) socket)
 oldest-leaves queues socket queue queue' result below is new value =
     let before : queue.items ≡ queue_at (map items_of queues) socket = sym (queue-found queues socket queue below is) in
-    let behind : drop 1 queue.items ≡ queue_at (map items_of (slice_set queues socket queue')) socket = ap items_of (sym new) ∙ sym (queue-new queues socket queue' below) in
-    subst (λ (found : Option Received). IfSome found (λ received. queue_at (map items_of queues) socket ≡ received ∷ queue_at (map items_of (slice_set queues socket queue')) socket)) (sym value)
-    (subst (λ (list : List Received). IfSome (slice_get queue.items 0) (λ received. list ≡ received ∷ queue_at (map items_of (slice_set queues socket queue')) socket)) before
-    (subst (λ (list : List Received). IfSome (slice_get queue.items 0) (λ received. queue.items ≡ received ∷ list)) behind (first-is queue.items)))
+    let behind : drop 1 queue.items ≡ queue_at (map items_of (slice_set queues socket queue')) socket = ap items_of (sym new)
+    ∙ sym (queue-new queues socket queue' below) in
+    subst (λ (found : Option Received). IfSome found (λ received. queue_at (map items_of queues) socket
+    ≡ received ∷ queue_at (map items_of (slice_set queues socket queue')) socket)) (sym value)
+    (subst (λ (list : List Received). IfSome (slice_get queue.items 0)
+    (λ received. list ≡ received ∷ queue_at (map items_of (slice_set queues socket queue')) socket)) before
+    (subst (λ (list : List Received). IfSome (slice_get queue.items 0) (λ received. queue.items ≡ received ∷ list)) behind
+    (first-is queue.items)))
 
 pub others-stay : (queues : List (Buffer Received)) (socket : ℕ) (queue : Buffer Received) → socket < length queues
-    → map items_of (slice_set queues socket queue) ≡ slice_set (map items_of queues) socket (queue_at (map items_of (slice_set queues socket queue)) socket)
-others-stay queues socket queue below = map-set items_of queues socket queue ∙ ap (slice_set (map items_of queues) socket) (sym (queue-new queues socket queue below))
+    → map items_of (slice_set queues socket queue)
+    ≡ slice_set (map items_of queues) socket (queue_at (map items_of (slice_set queues socket queue)) socket)
+others-stay queues socket queue below = map-set items_of queues socket queue
+    ∙ ap (slice_set (map items_of queues) socket) (sym (queue-new queues socket queue below))
 
 -- A frame goes to the end.
 
-last-kept : (capacity : ℕ) (items : List Received) (received : Received) → length items < capacity → keep_last capacity (items ++ received ∷ []) ≡ items ++ received ∷ []
+last-kept : (capacity : ℕ) (items : List Received) (received : Received) → length items < capacity
+    → keep_last capacity (items ++ received ∷ []) ≡ items ++ received ∷ []
 last-kept capacity items received below =
     let none : length (items ++ received ∷ []) - capacity ≡ 0 = omega (arith, below, length-append items (received ∷ [])) in
     ap (λ (n : ℕ). drop n (items ++ received ∷ [])) none
 
-pub newest-comes : (kinds : List SocketKind) (queues : List (Buffer Received)) (room unclaimed socket : ℕ) (received : Received) (queue queue' : Buffer Received)
-    → socket_of kinds received.ether_type ≡ Some socket → socket < length queues → queue ≡ slice_index_or queues socket queue → All (λ (q : Buffer Received). q.capacity ≡ room) queues
+pub newest-comes : (kinds : List SocketKind) (queues : List (Buffer Received)) (room unclaimed socket : ℕ) (received : Received)
+    (queue queue' : Buffer Received)
+    → socket_of kinds received.ether_type ≡ Some socket → socket < length queues → queue ≡ slice_index_or queues socket queue
+    → All (λ (q : Buffer Received). q.capacity ≡ room) queues
     → queue' ≡ buffer (keep_last queue.capacity (queue.items ++ received ∷ [])) queue.capacity
     → Sorts (record { kinds = kinds; queues = map items_of queues; room = room; unclaimed = unclaimed })
-    (record { kinds = kinds; queues = map items_of (slice_set queues socket queue'); room = room; unclaimed = unclaimed }) (received ∷ []) (received ∷ [])
+    (record { kinds = kinds; queues = map items_of (slice_set queues socket queue'); room = room; unclaimed = unclaimed }) (received ∷ [])
+    (received ∷ [])
 newest-comes kinds queues room unclaimed socket received queue queue' is below found rooms new =
     let lists = map items_of queues in
     let before : SocketsState = record { kinds = kinds; queues = lists; room = room; unclaimed = unclaimed } in
     let size : length lists ≡ length queues = length-map queues items_of in
     let same : queue_at lists socket ≡ queue.items = queue-found queues socket queue below found in
     let capacity : queue.capacity ≡ room = ap (λ (q : Buffer Received). q.capacity) found ∙ rooms socket queue below in
-    subst (λ (list : List (List Received)). Sorts before (record { kinds = kinds; queues = list; room = room; unclaimed = unclaimed }) (received ∷ []) (received ∷ [])) (sym (map-set items_of queues socket queue'))
+    subst (λ (list : List (List Received)). Sorts before (record { kinds = kinds; queues = list; room = room; unclaimed = unclaimed })
+    (received ∷ []) (received ∷ [])) (sym (map-set items_of queues socket queue'))
     (sorts-kept kinds lists room unclaimed socket received queue'.items is (omega (arith, below, size))
-    (λ fits. ap items_of new ∙ last-kept queue.capacity queue.items received (omega (arith, fits, capacity, ap length same)) ∙ ap (λ (list : List Received). list ++ received ∷ []) (sym same)))
+    (λ fits. ap items_of new ∙ last-kept queue.capacity queue.items received (omega (arith, fits, capacity, ap length same))
+    ∙ ap (λ (list : List Received). list ++ received ∷ []) (sym same)))
 
 -- At first all are empty.
 

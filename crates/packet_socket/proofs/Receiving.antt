@@ -1,5 +1,6 @@
 -- A host gives the oldest frame of a queue.
-use Rattle.std.proofs.Common.{Bool, true, false, cond, inl, inr, ◌≡◌, ◌≢◌, ◌≤◌, ◌<◌, ◌+◌, ◌-◌, ◌^◌, ◌++◌, ◌∷◌, [], ℕ, List, length, map, refl, sym, ap, subst, ◌∙◌, arith}
+use Rattle.std.proofs.Common.{Bool, true, false, cond, inl, inr, ◌≡◌, ◌≢◌, ◌≤◌, ◌<◌, ◌+◌, ◌-◌, ◌^◌, ◌++◌, ◌∷◌, [], ℕ, List, length, map}
+use Rattle.std.proofs.Common.{refl, sym, ap, subst, ◌∙◌, arith}
 use Rattle.std.specs.Prelude.{◌==◌}
 use Rattle.std.specs.List.{All, slice_set}
 use Rattle.std.proofs.lemmas.Bool.Decides.{eqb_tells}
@@ -29,13 +30,15 @@ use Rattle.packet_socket.proofs.Standing.{AreLong, AreSame, all-long, all-same, 
 use Rattle.packet_socket.proofs.Stretches.{ran-as}
 
 -- What is given, by sockets.
-given-here : (socket : ℕ) (frame : List ℕ) (other : ℕ) (goes : Bool) → (socket == other) ≡ goes → given_for other (record { socket = socket; frame = frame } ∷ []) ≡ cond goes (frame ∷ []) []
+given-here : (socket : ℕ) (frame : List ℕ) (other : ℕ) (goes : Bool) → (socket == other) ≡ goes
+    → given_for other (record { socket = socket; frame = frame } ∷ []) ≡ cond goes (frame ∷ []) []
 given-here socket frame other goes is =
     let one : Given = record { socket = socket; frame = frame } in
     let frame_of : Given → List ℕ = λ g. g.frame in
     ap (λ (b : Bool). map frame_of (cond b (one ∷ []) [])) is ∙ by-cases goes
   where
-    by-cases : (b : Bool) → map (λ (g : Given). g.frame) (cond b (record { socket = socket; frame = frame } ∷ []) []) ≡ cond b (frame ∷ []) []
+    by-cases : (b : Bool)
+        → map (λ (g : Given). g.frame) (cond b (record { socket = socket; frame = frame } ∷ []) []) ≡ cond b (frame ∷ []) []
     by-cases true = refl
     by-cases false = refl
 
@@ -43,9 +46,12 @@ pub host-receives : {up : Bool} {B : Type 0} (world : B → World) (happened : B
     → ((a b c : B) (first later : Past) → happened a b first → happened b c later → happened a c (joined first later))
     → (a b c : B) (h h' : HostState) (socket size : ℕ) (received : Received) (bytes : List ℕ) → HostReadyWith up h (world a)
     → Splits h.queues socket received (queue_at h'.queues socket) → Leaves h h' socket size received
-    → RanBy up world happened (Loads (buffer_at h.driver.counts received.buffer) size ∷ []) a b (driver_of h (world a)) (driver_of h (world a)) [] []
-    → ((first later : List HandedOut) (one : HandedOut) → ReadyWith up (holding (first ++ one ∷ later) h.driver) (world a) → one.number ≡ received.buffer → length one.frame ≡ received.length → bytes ≡ one.frame)
-    → ((first later : List HandedOut) (one : HandedOut) → one.number ≡ received.buffer → ReadyWith up (holding (first ++ one ∷ later) h.driver) (world b)
+    → RanBy up world happened (Loads (buffer_at h.driver.counts received.buffer) size ∷ []) a b (driver_of h (world a))
+    (driver_of h (world a)) [] []
+    → ((first later : List HandedOut) (one : HandedOut) → ReadyWith up (holding (first ++ one ∷ later) h.driver) (world a)
+    → one.number ≡ received.buffer → length one.frame ≡ received.length → bytes ≡ one.frame)
+    → ((first later : List HandedOut) (one : HandedOut) → one.number ≡ received.buffer
+    → ReadyWith up (holding (first ++ one ∷ later) h.driver) (world b)
     → Refills up world happened b c (holding (first ++ one ∷ later) h.driver) (holding (first ++ later) h'.driver))
     → Receives up world happened a c h h' socket size bytes
 host-receives {up} world happened joins a b c h h' socket size received bytes host parts leaves reads shows gives =
@@ -58,29 +64,37 @@ host-receives {up} world happened joins a b c h h' socket size received bytes ho
     let first = map waiting parts.first in
     let later = map waiting parts.last in
     let one = waiting received in
-    let long : AreLong counts m (parts.first ++ received ∷ parts.last) = subst (AreLong counts m) parts.before (all-long h (world a) host) in
+    let long : AreLong counts m (parts.first ++ received ∷ parts.last) = subst (AreLong counts m) parts.before
+    (all-long h (world a) host) in
     let Long : Received → Type 0 = λ r. length (frame_at counts m r) ≡ r.length in
     let whole : Long received = all-head Long received parts.last (all-right Long parts.first (received ∷ parts.last) long) in
     let split : d ≡ holding (first ++ one ∷ later) h.driver =
-    ap (λ (list : List HandedOut). holding list h.driver) (ap (map waiting) parts.before ∙ map-append waiting parts.first (received ∷ parts.last)) in
+    ap (λ (list : List HandedOut). holding list h.driver) (ap (map waiting) parts.before
+    ∙ map-append waiting parts.first (received ∷ parts.last)) in
     let d2 = holding (first ++ one ∷ later) h.driver in
     let ready : ReadyWith up d2 (world a) = subst (λ (s : DriverState). ReadyWith up s (world a)) split host.ready in
     let loads : List Access = Loads (buffer_at counts received.buffer) size ∷ [] in
-    let reads2 : RanBy up world happened loads a b d2 d2 [] [] = subst (λ (s : DriverState). RanBy up world happened loads a b s s [] []) split reads in
+    let reads2 : RanBy up world happened loads a b d2 d2 [] [] = subst
+    (λ (s : DriverState). RanBy up world happened loads a b s s [] []) split reads in
     let refills = gives first later one refl reads2.goes.flows.ready in
     let e = holding (first ++ later) h'.driver in
-    let stores : List Access = stores_from counts (next_received h.driver) refills.numbers ++ tail_write (next_received h'.driver) (h.driver.staged ++ refills.numbers) in
-    let both : RanBy up world happened (loads ++ stores) a c d2 e [] [] = ran_by-join world happened joins loads stores a b c d2 d2 e [] [] [] [] reads2 refills.ran in
-    let from : RanBy up world happened (loads ++ stores) a c d e [] [] = subst (λ (s : DriverState). RanBy up world happened (loads ++ stores) a c s e [] []) (sym split) both in
+    let stores : List Access = stores_from counts (next_received h.driver) refills.numbers
+    ++ tail_write (next_received h'.driver) (h.driver.staged ++ refills.numbers) in
+    let both : RanBy up world happened (loads ++ stores) a c d2 e [] [] = ran_by-join world happened joins loads stores a b c d2 d2
+    e [] [] [] [] reads2 refills.ran in
+    let from : RanBy up world happened (loads ++ stores) a c d e [] [] = subst
+    (λ (s : DriverState). RanBy up world happened (loads ++ stores) a c s e [] []) (sym split) both in
     let size_is : h'.driver.counts ≡ counts = from.goes.flows.counts in
     let left = parts.first ++ parts.last in
     let all : all_of h'.queues ≡ left = ap all_of leaves.others ∙ parts.behind in
     let stand : All (Stands counts mc) (map waiting left) =
     subst (λ (k : Counts). All (Stands k mc) (map waiting left)) size_is
-    (subst (λ (list : List HandedOut). All (Stands h'.driver.counts mc) list) (sym (map-append waiting parts.first parts.last)) from.goes.flows.ready.stand) in
+    (subst (λ (list : List HandedOut). All (Stands h'.driver.counts mc) list)
+    (sym (map-append waiting parts.first parts.last)) from.goes.flows.ready.stand) in
     let same : AreSame counts m mc left = all-same counts m mc left (all-without Long parts.first received parts.last long) stand in
     let end : e ≡ driver_of h' (world c) =
-    sym (ends-as h' (world c) counts m left all size_is same ∙ ap (λ (list : List HandedOut). holding list h'.driver) (map-append waiting parts.first parts.last)) in
+    sym (ends-as h' (world c) counts m left all size_is same
+    ∙ ap (λ (list : List HandedOut). holding list h'.driver) (map-append waiting parts.first parts.last)) in
     let queue_frames : (s : ℕ) → frames_in h' s (world c) ≡ map frame (queue_at h'.queues s) = λ s.
     ap (λ (k : Counts). map (frame_at k mc) (queue_at h'.queues s)) size_is
     ∙ queue-frames-same counts m mc h'.queues (subst (AreSame counts m mc) (sym all) same) s in
@@ -112,10 +126,18 @@ host-receives {up} world happened joins a b c h h' socket size received bytes ho
       offered = refills.numbers;
       newest = refills.offered;
       ran = record {
-        sizes = subst AreFrames (sym all) (all-without (λ (r : Received). IsFrameSize r.length) parts.first received parts.last (subst AreFrames parts.before host.sizes));
-        ran = ran-as world happened (loads ++ stores) (receive_accesses h.driver h'.driver received.buffer size refills.numbers) a c d e (driver_of h' (world c)) [] [] refl end from;
+        sizes = subst AreFrames (sym all)
+            (all-without (λ (r : Received). IsFrameSize r.length) parts.first received parts.last
+            (subst AreFrames parts.before host.sizes));
+        ran = ran-as world happened (loads ++ stores) (receive_accesses h.driver h'.driver received.buffer size refills.numbers) a c d e
+            (driver_of h' (world c)) [] [] refl end from;
         accounts =
             accounts h (world a) h' (world c) given [] from.past.stored leaves.kinds from.goes.flows.holds moved
-            (record { least = omega (arith, leaves.unclaimed); most = omega (arith, leaves.unclaimed); exactly = λ below. omega (arith, leaves.unclaimed) });
+            (record {
+              least = omega (arith, leaves.unclaimed);
+              most = omega (arith, leaves.unclaimed);
+              exactly = λ below. omega
+                  (arith, leaves.unclaimed);
+            });
       };
     }

@@ -1,5 +1,6 @@
 -- Frames that wait stand in memory.
-use Rattle.std.proofs.Common.{Bool, ◌≡◌, ◌≤◌, ◌<◌, ◌+◌, ◌-◌, ◌++◌, ◌∷◌, [], ℕ, zero, suc, List, length, map, refl, sym, ap, subst, ◌∙◌, arith}
+use Rattle.std.proofs.Common.{Bool, ◌≡◌, ◌≤◌, ◌<◌, ◌+◌, ◌-◌, ◌++◌, ◌∷◌, [], ℕ, zero, suc, List, length, map, refl, sym, ap, subst, ◌∙◌}
+use Rattle.std.proofs.Common.{arith}
 use Rattle.std.specs.List.{All, slice_index_or}
 use Rattle.dma_memory.specs.HostMemory.{LiesIn, bytes_at}
 use Rattle.dma_memory.specs.Laws.{length-bytes_at}
@@ -18,7 +19,8 @@ use Rattle.packet_socket.specs.HostState.{HostState}
 use Rattle.packet_socket.specs.SocketsState.{all_of, queue_at}
 
 -- What holds of all that wait holds of each queue.
-pub queue-all : (P : Received → Type 0) (queues : List (List Received)) (socket : ℕ) → All P (all_of queues) → All P (queue_at queues socket)
+pub queue-all : (P : Received → Type 0) (queues : List (List Received)) (socket : ℕ) → All P (all_of queues)
+    → All P (queue_at queues socket)
 queue-all P [] socket all = all-none P
 queue-all P (queue ∷ later) zero all = all-left P queue (all_of later) all
 queue-all P (queue ∷ later) (suc socket) all = queue-all P later socket (all-right P queue (all_of later) all)
@@ -34,8 +36,10 @@ all-long h a host =
     let list = all_of h.queues in
     let number : HandedOut → ℕ = λ one. one.number in
     let Known : ℕ → Type 0 = λ m. m < counts.buffers in
-    let numbers : All Known (numbers_of d.handed_out) = all-copies Known (numbers_of d.handed_out) (λ m some. (elsewhere-number d m host.ready.driver_is (omega (arith, some))).known) in
-    let known = all-unmapped (λ (one : HandedOut). Known one.number) (waiting_at counts a.memory) list (all-unmapped Known number d.handed_out numbers) in
+    let numbers : All Known (numbers_of d.handed_out) = all-copies Known (numbers_of d.handed_out)
+    (λ m some. (elsewhere-number d m host.ready.driver_is (omega (arith, some))).known) in
+    let known = all-unmapped (λ (one : HandedOut). Known one.number) (waiting_at counts a.memory) list
+    (all-unmapped Known number d.handed_out numbers) in
     λ k r below.
     let lies = buffer-lies d a _ host.ready (known k r below) in
     let short = (host.sizes k r below).most in
@@ -45,32 +49,41 @@ all-long h a host =
 abbrev pub AreSame : Counts → (memory memory' : List ℕ) → List Received → Type 0
 AreSame counts memory memory' list = All (λ (received : Received). frame_at counts memory' received ≡ frame_at counts memory received) list
 
-pub one-same : (counts : Counts) (memory memory' : List ℕ) (received : Received) → length (frame_at counts memory received) ≡ received.length → Stands counts memory' (waiting_at counts memory received)
+pub one-same : (counts : Counts) (memory memory' : List ℕ) (received : Received)
+    → length (frame_at counts memory received) ≡ received.length → Stands counts memory' (waiting_at counts memory received)
     → frame_at counts memory' received ≡ frame_at counts memory received
 one-same counts memory memory' received long stands =
     subst (λ (n : ℕ). bytes_at memory' (buffer_at counts received.buffer) n ≡ frame_at counts memory received) long stands.bytes
 
-pub all-same : (counts : Counts) (memory memory' : List ℕ) (list : List Received) → AreLong counts memory list → All (Stands counts memory') (map (waiting_at counts memory) list) → AreSame counts memory memory' list
+pub all-same : (counts : Counts) (memory memory' : List ℕ) (list : List Received) → AreLong counts memory list
+    → All (Stands counts memory') (map (waiting_at counts memory) list) → AreSame counts memory memory' list
 all-same counts memory memory' list long stand k r below =
-    one-same counts memory memory' (slice_index_or list k r) (long k r below) (all-unmapped (Stands counts memory') (waiting_at counts memory) list stand k r below)
+    one-same counts memory memory' (slice_index_or list k r) (long k r below)
+    (all-unmapped (Stands counts memory') (waiting_at counts memory) list stand k r below)
 
-waiting-with : (number : ℕ) (frame frame' : List ℕ) → frame' ≡ frame → let one : HandedOut = record { number = number; frame = frame' } in one ≡ record { number = number; frame = frame }
+waiting-with : (number : ℕ) (frame frame' : List ℕ) → frame' ≡ frame
+    → let one : HandedOut = record { number = number; frame = frame' } in one ≡ record { number = number; frame = frame }
 waiting-with number frame frame' same = ap (λ (list : List ℕ). let one : HandedOut = record { number = number; frame = list } in one) same
 
-pub waiting-same : (counts : Counts) (memory memory' : List ℕ) (list : List Received) → AreSame counts memory memory' list → map (waiting_at counts memory') list ≡ map (waiting_at counts memory) list
+pub waiting-same : (counts : Counts) (memory memory' : List ℕ) (list : List Received) → AreSame counts memory memory' list
+    → map (waiting_at counts memory') list ≡ map (waiting_at counts memory) list
 waiting-same counts memory memory' list same =
     map-same (waiting_at counts memory') (waiting_at counts memory) list
-    (λ k r below. waiting-with (slice_index_or list k r).buffer (frame_at counts memory (slice_index_or list k r)) (frame_at counts memory' (slice_index_or list k r)) (same k r below))
+    (λ k r below. waiting-with (slice_index_or list k r).buffer (frame_at counts memory (slice_index_or list k r))
+    (frame_at counts memory' (slice_index_or list k r)) (same k r below))
 
 -- The driver behind a stretch.
-pub ends-as : (h : HostState) (b : World) (counts : Counts) (memory : List ℕ) (list : List Received) → all_of h.queues ≡ list → h.driver.counts ≡ counts
+pub ends-as : (h : HostState) (b : World) (counts : Counts) (memory : List ℕ) (list : List Received) → all_of h.queues ≡ list
+    → h.driver.counts ≡ counts
     → AreSame counts memory b.memory list → driver_of h b ≡ holding (map (waiting_at counts memory) list) h.driver
 ends-as h b counts memory list all is same =
     ap (λ (c : Counts). holding (map (waiting_at c b.memory) (all_of h.queues)) h.driver) is
     ∙ ap (λ (l : List Received). holding (map (waiting_at counts b.memory) l) h.driver) all
     ∙ ap (λ (l : List HandedOut). holding l h.driver) (waiting-same counts memory b.memory list same)
 
-pub queue-frames-same : (counts : Counts) (memory memory' : List ℕ) (queues : List (List Received)) → AreSame counts memory memory' (all_of queues)
+pub queue-frames-same : (counts : Counts) (memory memory' : List ℕ) (queues : List (List Received))
+    → AreSame counts memory memory' (all_of queues)
     → (socket : ℕ) → map (frame_at counts memory') (queue_at queues socket) ≡ map (frame_at counts memory) (queue_at queues socket)
 queue-frames-same counts memory memory' queues same socket =
-    map-same (frame_at counts memory') (frame_at counts memory) (queue_at queues socket) (queue-all (λ (r : Received). frame_at counts memory' r ≡ frame_at counts memory r) queues socket same)
+    map-same (frame_at counts memory') (frame_at counts memory) (queue_at queues socket)
+    (queue-all (λ (r : Received). frame_at counts memory' r ≡ frame_at counts memory r) queues socket same)

@@ -32,15 +32,19 @@ with_driver driver host = record host { driver = driver }
 pub queues-stand : {up : Bool} (h : HostState) (d : DriverState) (a b : World) → HostReadyWith up h a → d.counts ≡ h.driver.counts
     → All (Stands d.counts b.memory) (driver_of h a).handed_out → AreSame h.driver.counts a.memory b.memory (all_of h.queues)
 queues-stand h d a b host counts stand =
-    all-same h.driver.counts a.memory b.memory (all_of h.queues) (all-long h a host) (subst (λ (c : Counts). All (Stands c b.memory) (driver_of h a).handed_out) counts stand)
+    all-same h.driver.counts a.memory b.memory (all_of h.queues) (all-long h a host)
+    (subst (λ (c : Counts). All (Stands c b.memory) (driver_of h a).handed_out) counts stand)
 
 pub driver-stays : {up : Bool} (h : HostState) (d : DriverState) (a b : World) → HostReadyWith up h a → d.counts ≡ h.driver.counts
     → All (Stands d.counts b.memory) (driver_of h a).handed_out → driver_of (with_driver d h) b ≡ holding (driver_of h a).handed_out d
-driver-stays h d a b host counts stand = ends-as (with_driver d h) b h.driver.counts a.memory (all_of h.queues) refl counts (queues-stand h d a b host counts stand)
+driver-stays h d a b host counts stand = ends-as (with_driver d h) b h.driver.counts a.memory (all_of h.queues) refl counts
+    (queues-stand h d a b host counts stand)
 
 -- Nothing is taken or given.
-pub accounts-stay : {up : Bool} (h : HostState) (d : DriverState) (a b : World) (stored : List (List ℕ)) → HostReadyWith up h a → d.counts ≡ h.driver.counts
-    → All (Stands d.counts b.memory) (driver_of h a).handed_out → frames_held d.oldest_received b ≡ frames_held h.driver.oldest_received a ++ stored
+pub accounts-stay : {up : Bool} (h : HostState) (d : DriverState) (a b : World) (stored : List (List ℕ)) → HostReadyWith up h a
+    → d.counts ≡ h.driver.counts
+    → All (Stands d.counts b.memory) (driver_of h a).handed_out
+    → frames_held d.oldest_received b ≡ frames_held h.driver.oldest_received a ++ stored
     → Accounts h a (with_driver d h) b [] stored
 accounts-stay h d a b stored host counts stand holds =
     let same = queues-stand h d a b host counts stand in
@@ -52,7 +56,8 @@ accounts-stay h d a b stored host counts stand holds =
     (record { least = omega arith; most = omega arith; exactly = λ below. omega arith })
 
 -- The same stretch, while others hold other frames at its end.
-abbrev pub flows-hold : {up : Bool} (d : DriverState) (a : World) (e : DriverState) (b : World) (taken sent : List (List ℕ)) (past : Past) (held : List HandedOut)
+abbrev pub flows-hold : {up : Bool} (d : DriverState) (a : World) (e : DriverState) (b : World) (taken sent : List (List ℕ)) (past : Past)
+    (held : List HandedOut)
     → FlowsTo up d a e b taken sent past → ReadyWith up (holding held e) b → FlowsTo up d a (holding held e) b taken sent past
 flows-hold d a e b taken sent past held flows ready = record {
   ready = ready;
@@ -68,7 +73,8 @@ flows-hold d a e b taken sent past held flows ready = record {
   exactly = λ exact loose. let all = flows.exactly exact loose in record { exact = all.exact; loose = all.loose; sum = all.sum };
 }
 
-abbrev pub goes-hold : {up : Bool} (d : DriverState) (a : World) (e : DriverState) (b : World) (taken sent : List (List ℕ)) (past : Past) (held : List HandedOut)
+abbrev pub goes-hold : {up : Bool} (d : DriverState) (a : World) (e : DriverState) (b : World) (taken sent : List (List ℕ)) (past : Past)
+    (held : List HandedOut)
     → GoesTo up d a e b taken sent past → ReadyWith up (holding held e) b → GoesTo up d a (holding held e) b taken sent past
 goes-hold d a e b taken sent past held goes ready = record {
   flows = flows-hold d a e b taken sent past held goes.flows ready;
@@ -77,7 +83,8 @@ goes-hold d a e b taken sent past held goes ready = record {
 }
 
 -- A stretch over a bus, whose end is told otherwise.
-abbrev pub ran-as : {up : Bool} {B : Type 0} (world : B → World) (happened : B → B → Past → Type 0) (xs ys : List Access) (old new : B) (d e e' : DriverState) (taken sent : List (List ℕ))
+abbrev pub ran-as : {up : Bool} {B : Type 0} (world : B → World) (happened : B → B → Past
+    → Type 0) (xs ys : List Access) (old new : B) (d e e' : DriverState) (taken sent : List (List ℕ))
     → xs ≡ ys → e ≡ e' → RanBy up world happened xs old new d e taken sent → RanBy up world happened ys old new d e' taken sent
 ran-as {up} world happened xs ys old new d e e' taken sent accesses last ran = record {
   past = ran.past;
@@ -90,7 +97,8 @@ ran-as {up} world happened xs ys old new d e e' taken sent accesses last ran = r
 }
 
 -- A frame is sent.
-pub host-transmits : {B : Type 0} (world : B → World) (happened : B → B → Past → Type 0) (old new : B) (h : HostState) (d' : DriverState) (frame : List ℕ) (result : Answer) → HostReady h (world old)
+pub host-transmits : {B : Type 0} (world : B → World) (happened : B → B → Past
+    → Type 0) (old new : B) (h : HostState) (d' : DriverState) (frame : List ℕ) (result : Answer) → HostReady h (world old)
     → Transmits world happened old new (driver_of h (world old)) (holding (driver_of h (world old)).handed_out d') frame result
     → HostTransmits world happened old new h (with_driver d' h) frame result
 host-transmits world happened old new h d' frame result host transmits =
@@ -102,14 +110,16 @@ host-transmits world happened old new h d' frame result host transmits =
     record {
       ran = record {
         sizes = host.sizes;
-        ran = ran-as world happened (accesses_by result d e frame) (accesses_by result d e' frame) old new d e e' [] (given_by result frame) (ap (λ (s : DriverState). accesses_by result d s frame) end) end transmits.ran;
+        ran = ran-as world happened (accesses_by result d e frame) (accesses_by result d e' frame) old new d e e' [] (given_by result frame)
+            (ap (λ (s : DriverState). accesses_by result d s frame) end) end transmits.ran;
         accounts = accounts-stay h d' (world old) (world new) transmits.ran.past.stored host flows.counts flows.ready.stand flows.holds;
       };
       answer = transmits.answer;
     }
 
 -- Whatever happens between two calls.
-pub host-happens : {up : Bool} (h : HostState) (a b : World) (past : Past) → HostReadyWith up h a → Happens a b past → HostGoesTo up h a h b [] [] [] past
+pub host-happens : {up : Bool} (h : HostState) (a b : World) (past : Past) → HostReadyWith up h a → Happens a b past
+    → HostGoesTo up h a h b [] [] [] past
 host-happens {up} h a b past host happens =
     let d = driver_of h a in
     let goes = goes-happens d a b past host.ready happens in
@@ -121,16 +131,20 @@ host-happens {up} h a b past host happens =
     }
 
 -- Two stretches are one.
-pub host-flows-join : {first_up up : Bool} (h1 h2 h3 : HostState) (a b c : World) (t1 t2 : List (List ℕ)) (given more : List Given) (s1 s2 : List (List ℕ)) (first later : Past)
-    → HostFlowsTo first_up h1 a h2 b t1 given s1 first → HostFlowsTo up h2 b h3 c t2 more s2 later → HostFlowsTo up h1 a h3 c (t1 ++ t2) (given ++ more) (s1 ++ s2) (joined first later)
+pub host-flows-join : {first_up up : Bool} (h1 h2 h3 : HostState) (a b c : World) (t1 t2 : List (List ℕ)) (given more : List Given)
+    (s1 s2 : List (List ℕ)) (first later : Past)
+    → HostFlowsTo first_up h1 a h2 b t1 given s1 first → HostFlowsTo up h2 b h3 c t2 more s2 later
+    → HostFlowsTo up h1 a h3 c (t1 ++ t2) (given ++ more) (s1 ++ s2) (joined first later)
 host-flows-join h1 h2 h3 a b c t1 t2 given more s1 s2 first later one two = record {
   sizes = two.sizes;
   flows = flows_join (driver_of h1 a) (driver_of h2 b) (driver_of h3 c) a b c t1 t2 s1 s2 first later one.flows two.flows;
   accounts = accounts-join h1 h2 h3 a b c given more first.stored later.stored one.accounts two.accounts;
 }
 
-pub host-goes-join : {first_up up : Bool} (h1 h2 h3 : HostState) (a b c : World) (t1 t2 : List (List ℕ)) (given more : List Given) (s1 s2 : List (List ℕ)) (first later : Past)
-    → HostGoesTo first_up h1 a h2 b t1 given s1 first → HostGoesTo up h2 b h3 c t2 more s2 later → HostGoesTo up h1 a h3 c (t1 ++ t2) (given ++ more) (s1 ++ s2) (joined first later)
+pub host-goes-join : {first_up up : Bool} (h1 h2 h3 : HostState) (a b c : World) (t1 t2 : List (List ℕ)) (given more : List Given)
+    (s1 s2 : List (List ℕ)) (first later : Past)
+    → HostGoesTo first_up h1 a h2 b t1 given s1 first → HostGoesTo up h2 b h3 c t2 more s2 later
+    → HostGoesTo up h1 a h3 c (t1 ++ t2) (given ++ more) (s1 ++ s2) (joined first later)
 host-goes-join h1 h2 h3 a b c t1 t2 given more s1 s2 first later one two = record {
   sizes = two.sizes;
   goes = goes_join (driver_of h1 a) (driver_of h2 b) (driver_of h3 c) a b c t1 t2 s1 s2 first later one.goes two.goes;

@@ -121,7 +121,8 @@ pub record HostLeaves (up : Bool) {B : Type 0} (world : B → World) (old middle
 abbrev pub HostHandlesBy : Handled → Bool → {B : Type 0} → (B → World) → (B → B → Past → Type 0) → (old middle new : B) → Past
     → (h h' : HostState) → (causes : ℕ) → Type 0
 HostHandlesBy NotMine up world happened old middle new first h h' causes = HostLeaves up world old middle new first h h' causes
-HostHandlesBy (answers.Handled taken) up world happened old middle new first h h' causes = HostWorks up world happened old middle new first h h' causes taken
+HostHandlesBy (answers.Handled taken) up world happened old middle new first h h' causes = HostWorks up world happened old middle new first
+    h h' causes taken
 
 -- First it reads ICR, alone. What it does behind that is by the causes that were read.
 pub record HostHandles (up : Bool) {B : Type 0} (world : B → World) (happened : B → B → Past → Type 0) (old new : B) (h h' : HostState)

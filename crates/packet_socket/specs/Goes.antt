@@ -23,7 +23,8 @@ given_for socket given = map (λ (one : Given). one.frame) (filter (λ (one : Gi
 abbrev pub unclaimed_in : HostState → World → ℕ
 unclaimed_in host world = host.unclaimed + without_socket host.kinds (frames_held host.driver.oldest_received world)
 
--- Where each frame went: the table of sockets stays. For each socket the frames given, and then those held, are those that were held, and then
+-- Where each frame went: the table of sockets stays. For each socket the frames given, and then those held, are those that were held, and
+-- then
 -- the frames stored that go to it. The others are counted, up to the greatest u64.
 pub record Accounts (h : HostState) (a : World) (h' : HostState) (b : World) (given : List Given) (stored : List (List ℕ)) : Type 0 where
   pub kinds : h'.kinds ≡ h.kinds

@@ -5,9 +5,11 @@ use Rattle.std.proofs.lemmas.Bool.Decides.{eqb_tells}
 use Rattle.packet_socket.specs.Kinds.{goes_to, has_none, has_socket, is_at, socket_of}
 use Rattle.packet_socket.specs.declared.socket_kind.SocketKind.{SocketKind}
 
-pub goes-there : (kinds : List SocketKind) (socket ether_type : ℕ) → socket_of kinds ether_type ≡ Some socket → goes_to kinds socket ether_type ≡ true
+pub goes-there : (kinds : List SocketKind) (socket ether_type : ℕ) → socket_of kinds ether_type ≡ Some socket
+    → goes_to kinds socket ether_type ≡ true
 goes-there kinds socket ether_type is = ap (is_at socket) is ∙ eq-eqb socket socket refl
 
-pub goes-nowhere-else : (kinds : List SocketKind) (socket other ether_type : ℕ) → socket_of kinds ether_type ≡ Some socket → socket ≢ other → goes_to kinds other ether_type ≡ false
+pub goes-nowhere-else : (kinds : List SocketKind) (socket other ether_type : ℕ) → socket_of kinds ether_type ≡ Some socket → socket ≢ other
+    → goes_to kinds other ether_type ≡ false
 goes-nowhere-else kinds socket other ether_type is differ =
     ap (is_at other) is ∙ elim (eqb_tells socket other) [ inl same ↦ absurd (differ same.1) | inr not ↦ not.0 ]

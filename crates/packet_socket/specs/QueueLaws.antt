@@ -1,5 +1,6 @@
 -- A frame at the end of a queue.
-use Rattle.std.proofs.Common.{◌≡◌, ◌≢◌, inl, inr, ◌+◌, ◌≤◌, ◌<◌, ◌++◌, ◌∷◌, [], ℕ, zero, suc, Bool, true, false, cond, Some, List, length, refl, sym, ap, subst, ◌∙◌, append_assoc, length-append, arith}
+use Rattle.std.proofs.Common.{◌≡◌, ◌≢◌, inl, inr, ◌+◌, ◌≤◌, ◌<◌, ◌++◌, ◌∷◌, [], ℕ, zero, suc, Bool, true, false, cond, Some, List, length}
+use Rattle.std.proofs.Common.{refl, sym, ap, subst, ◌∙◌, append_assoc, length-append, arith}
 use Rattle.std.specs.List.{filter, slice_set}
 use Rattle.std.specs.List.Sorted.{IsPermutation}
 use Rattle.std.proofs.lemmas.Bool.Decides.{eqb_tells}
@@ -22,8 +23,10 @@ pub all-pushed : (queues : List (List Received)) (socket : ℕ) (received : Rece
     → IsPermutation (all_of queues ++ received ∷ []) (all_of (slice_set queues socket (queue_at queues socket ++ received ∷ [])))
 all-pushed [] socket received below = absurd (omega (arith, below))
 all-pushed (queue ∷ later) zero received below =
-    let moved = IsPermutation-append_right queue (all_of later ++ received ∷ []) (received ∷ all_of later) (IsPermutation-to_front (all_of later) received) in
-    subst (λ (list : List Received). IsPermutation list ((queue ++ received ∷ []) ++ all_of later)) (sym (append_assoc queue (all_of later) (received ∷ [])))
+    let moved = IsPermutation-append_right queue (all_of later ++ received ∷ []) (received ∷ all_of later)
+    (IsPermutation-to_front (all_of later) received) in
+    subst (λ (list : List Received). IsPermutation list ((queue ++ received ∷ []) ++ all_of later))
+    (sym (append_assoc queue (all_of later) (received ∷ [])))
     (subst (IsPermutation (queue ++ (all_of later ++ received ∷ []))) (sym (append_assoc queue (received ∷ []) (all_of later))) moved)
 all-pushed (queue ∷ later) (suc socket) received below =
     let there : socket < length later = omega (arith, below) in
@@ -33,7 +36,8 @@ all-pushed (queue ∷ later) (suc socket) received below =
 
 -- A frame went to the end of its socket's queue.
 pub queues-pushed : (kinds : List SocketKind) (queues : List (List Received)) (socket : ℕ) (received : Received) → socket < length queues
-    → socket_of kinds received.ether_type ≡ Some socket → Queues kinds queues (slice_set queues socket (queue_at queues socket ++ received ∷ [])) (received ∷ [])
+    → socket_of kinds received.ether_type ≡ Some socket
+    → Queues kinds queues (slice_set queues socket (queue_at queues socket ++ received ∷ [])) (received ∷ [])
 queues-pushed kinds queues socket received there is =
     let pushed = queue_at queues socket ++ received ∷ [] in
     let one : Bool → List Received = λ goes. cond goes (received ∷ []) [] in
@@ -41,12 +45,15 @@ queues-pushed kinds queues socket received there is =
       ends = λ other.
           elim (eqb_tells socket other) [
             | inl same ↦
-                subst (λ (t : ℕ). queue_at (slice_set queues socket pushed) t ≡ queue_at queues t ++ frames_of kinds t (received ∷ [])) same.1
-                (get_or-set_same queues socket pushed [] there ∙ ap (λ (goes : Bool). queue_at queues socket ++ one goes) (sym (goes-there kinds socket received.ether_type is)))
+                subst (λ (t : ℕ). queue_at (slice_set queues socket pushed) t
+                ≡ queue_at queues t ++ frames_of kinds t (received ∷ [])) same.1
+                (get_or-set_same queues socket pushed [] there
+                ∙ ap (λ (goes : Bool). queue_at queues socket ++ one goes) (sym (goes-there kinds socket received.ether_type is)))
             | inr differ ↦
                 get_or-set_other queues socket other pushed [] (λ same. differ.1 (sym same))
                 ∙ sym (append-nil (queue_at queues other))
-                ∙ ap (λ (goes : Bool). queue_at queues other ++ one goes) (sym (goes-nowhere-else kinds socket other received.ether_type is differ.1))
+                ∙ ap (λ (goes : Bool). queue_at queues other ++ one goes)
+                (sym (goes-nowhere-else kinds socket other received.ether_type is differ.1))
           ];
       all = all-pushed queues socket received there;
     }

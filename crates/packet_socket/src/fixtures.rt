@@ -2,7 +2,7 @@
 
 use crate::sockets::MOST_SOCKETS;
 use crate::{Host, SocketKind};
-use adapter::{Adapter, Fate, StepKind, Stepped};
+use adapter::{Adapter, Fate, StepKind, StepOutcome};
 use arrayvec::ArrayVec;
 use bring_up::{Config, InitError};
 use bus::{Bus, HonestBus, SoloBus};
@@ -79,8 +79,8 @@ pub(crate) fn frame_of(ether_type: u16, mark: u8) -> [u8; 60] {
 /// A frame comes, and is written to memory.
 pub(crate) fn deliver(rt: &impl Abort, bus: &mut SoloBus, frame: &[u8]) {
     assert_eq!(rt; bus.arrive(frame), Fate::Stored);
-    assert_eq!(rt; bus.step(StepKind::RxData), Stepped::Moved);
-    assert_eq!(rt; bus.step(StepKind::RxDone), Stepped::Done);
+    assert_eq!(rt; bus.step(StepKind::RxData), StepOutcome::Moved);
+    assert_eq!(rt; bus.step(StepKind::RxDone), StepOutcome::Done);
 }
 
 /// Asserts what becomes of an interrupt.

@@ -3,7 +3,7 @@
 use crate::fixtures::*;
 use crate::{Host, RecvError, SocketKind};
 use adapter::offsets::{RDT, RNBC};
-use adapter::{Fate, StepKind, Stepped};
+use adapter::{Fate, StepKind, StepOutcome};
 use bring_up::InitError;
 use bus::{Bus, HonestBus, SoloBus};
 use driver::{Handled, SendError};
@@ -94,11 +94,11 @@ fn queues_hold_buffers_until_they_are_given(rt: HostRuntime) -> Result<(), Fail>
     assert_eq!(rt; (host.waiting(0), bus.read(RDT)), (8, 0));
     assert_eq!(rt; bus.arrive(&frame_of(ARP, 8)), Fate::Stored);
     assert_eq!(rt; bus.read(RNBC), 1);
-    assert_eq!(rt; bus.step(StepKind::RxData), Stepped::Nothing);
+    assert_eq!(rt; bus.step(StepKind::RxData), StepOutcome::Nothing);
     check_given(&rt, &mut host, &mut bus, 0, &frame_of(ARP, 0));
     assert_eq!(rt; bus.read(RDT), 1);
-    assert_eq!(rt; bus.step(StepKind::RxData), Stepped::Moved);
-    assert_eq!(rt; bus.step(StepKind::RxDone), Stepped::Done);
+    assert_eq!(rt; bus.step(StepKind::RxData), StepOutcome::Moved);
+    assert_eq!(rt; bus.step(StepKind::RxDone), StepOutcome::Done);
     check_interrupt(&rt, &mut host, &mut bus, Handled::Handled { taken: 1 });
     assert_eq!(rt; host.waiting(0), 8);
     Ok(())
@@ -163,8 +163,8 @@ fn a_frame_is_sent_with_padding(rt: HostRuntime) -> Result<(), Fail> {
     let frame = frame_of(ARP, 1);
     assert!(rt; host.layout().size() <= bus.size());
     assert_eq!(rt; host.send(&mut bus, &frame[..15]), Ok(()));
-    assert_eq!(rt; bus.step(StepKind::TxTake), Stepped::Took);
-    assert!(rt; matches!(bus.step(StepKind::TxPut), Stepped::Put(_)));
+    assert_eq!(rt; bus.step(StepKind::TxTake), StepOutcome::Took);
+    assert!(rt; bus.step(StepKind::TxPut) == StepOutcome::Put);
     let put = bus.take_put().unwrap_or_default();
     assert_eq!(rt; put.as_slice(), frame.as_slice());
     assert!(rt; bus.take_put().is_none());

@@ -30,12 +30,15 @@ returns-in_err-sockets-clause-refuses g c honest =
 pub invariant_of-result : goal.invariant_of-result
 invariant_of-result g c =
     new-host c.in_ok-driver.driver c.in_ok-sockets.sockets c.args.kinds.items c.from.result c.in_ok-sockets.ensures.new
-    (c.from.ensures ∙ c.buffers.ensures.count ∙ ap (λ (counts : Counts). counts.buffers) (c.in_ok-layout.ensures.counts ∙ sym c.in_ok-driver.ensures.counts))
+    (c.from.ensures ∙ c.buffers.ensures.count
+    ∙ ap (λ (counts : Counts). counts.buffers) (c.in_ok-layout.ensures.counts ∙ sym c.in_ok-driver.ensures.counts))
     (no_second_from_one c.in_ok-driver.driver.counts.buffers (owners c.in_ok-driver.driver) c.in_ok-driver.ensures.one_owner)
 
 pub returns-clause-ready : goal.returns-clause-ready
 returns-clause-ready g c honest =
-    new-ready c.in_ok-driver.driver c.in_ok-sockets.sockets c.args.kinds.items c.from.result (g.B.Bus.world c.init.new.bus) c.in_ok-sockets.ensures.new c.in_ok-driver.ensures.none_out (c.in_ok-driver.ensures.initialises honest).ready
+    new-ready c.in_ok-driver.driver c.in_ok-sockets.sockets c.args.kinds.items c.from.result
+    (g.B.Bus.world c.init.new.bus) c.in_ok-sockets.ensures.new c.in_ok-driver.ensures.none_out
+    (c.in_ok-driver.ensures.initialises honest).ready
 
 pub returns-clause-had : goal.returns-clause-had
 returns-clause-had g c = subst (CanBeHad c.args.config.now) c.size.ensures (c.in_ok-layout.ensures.ok.0 refl)

@@ -14,43 +14,51 @@ pub read-size-requires-clause-known : goal.read-size-requires-clause-known
 read-size-requires-clause-known g c =
     let d = c.self.inside.driver in
     let before = c.self.inside.sockets in
-    let parts = entry-splits d before c.next.new.self c.args.socket c.len.result c.in-Some.received c.self.invariant c.if-socket-len.false c.len.ensures.count c.in-Some.ensures.oldest in
+    let parts = entry-splits d before c.next.new.self c.args.socket c.len.result c.in-Some.received c.self.invariant c.if-socket-len.false
+    c.len.ensures.count c.in-Some.ensures.oldest in
     (can-come-back d before c.args.socket c.in-Some.received _ c.self.invariant parts).known
 
 pub read-size-requires-clause-size : goal.read-size-requires-clause-size
 read-size-requires-clause-size g c =
     let d = c.self.inside.driver in
     let before = c.self.inside.sockets in
-    let parts = entry-splits d before c.next.new.self c.args.socket c.len.result c.in-Some.received c.self.invariant c.if-socket-len.false c.len.ensures.count c.in-Some.ensures.oldest in
+    let parts = entry-splits d before c.next.new.self c.args.socket c.len.result c.in-Some.received c.self.invariant c.if-socket-len.false
+    c.len.ensures.count c.in-Some.ensures.oldest in
     (can-come-back d before c.args.socket c.in-Some.received _ c.self.invariant parts).size.most
 
 pub returns-clause-size : goal.returns-clause-size
 returns-clause-size g c =
     let d = c.self.inside.driver in
     let before = c.self.inside.sockets in
-    let parts = entry-splits d before c.next.new.self c.args.socket c.len.result c.in-Some.received c.self.invariant c.if-socket-len.false c.len.ensures.count c.in-Some.ensures.oldest in
-    subst IsFrameSize (sym c.read-size.ensures.length) (can-come-back d before c.args.socket c.in-Some.received _ c.self.invariant parts).size
+    let parts = entry-splits d before c.next.new.self c.args.socket c.len.result c.in-Some.received c.self.invariant c.if-socket-len.false
+    c.len.ensures.count c.in-Some.ensures.oldest in
+    subst IsFrameSize (sym c.read-size.ensures.length)
+    (can-come-back d before c.args.socket c.in-Some.received _ c.self.invariant parts).size
 
 pub give-requires-clause-known : goal.give-requires-clause-known
 give-requires-clause-known g c =
     let d = c.self.inside.driver in
     let before = c.self.inside.sockets in
-    let parts = entry-splits d before c.next.new.self c.args.socket c.len.result c.in-Some.received c.self.invariant c.if-socket-len.false c.len.ensures.count c.in-Some.ensures.oldest in
+    let parts = entry-splits d before c.next.new.self c.args.socket c.len.result c.in-Some.received c.self.invariant c.if-socket-len.false
+    c.len.ensures.count c.in-Some.ensures.oldest in
     (can-come-back d before c.args.socket c.in-Some.received _ c.self.invariant parts).known
 
 pub give-requires-clause-out : goal.give-requires-clause-out
 give-requires-clause-out g c =
     let d = c.self.inside.driver in
     let before = c.self.inside.sockets in
-    let parts = entry-splits d before c.next.new.self c.args.socket c.len.result c.in-Some.received c.self.invariant c.if-socket-len.false c.len.ensures.count c.in-Some.ensures.oldest in
+    let parts = entry-splits d before c.next.new.self c.args.socket c.len.result c.in-Some.received c.self.invariant c.if-socket-len.false
+    c.len.ensures.count c.in-Some.ensures.oldest in
     (can-come-back d before c.args.socket c.in-Some.received _ c.self.invariant parts).out
 
 pub invariant_of-self-2 : goal.invariant_of-self-2
 invariant_of-self-2 g c =
     let d = c.self.inside.driver in
     let before = c.self.inside.sockets in
-    let parts = entry-splits d before c.next.new.self c.args.socket c.len.result c.in-Some.received c.self.invariant c.if-socket-len.false c.len.ensures.count c.in-Some.ensures.oldest in
-    stays-host d c.give.new.self before c.next.new.self c.args.socket c.in-Some.received c.self.invariant parts c.in-Some.ensures.others (ap (λ (s : DriverState). s.counts) c.give.ensures.others) c.give.ensures.owners
+    let parts = entry-splits d before c.next.new.self c.args.socket c.len.result c.in-Some.received c.self.invariant c.if-socket-len.false
+    c.len.ensures.count c.in-Some.ensures.oldest in
+    stays-host d c.give.new.self before c.next.new.self c.args.socket c.in-Some.received c.self.invariant parts c.in-Some.ensures.others
+    (ap (λ (s : DriverState). s.counts) c.give.ensures.others) c.give.ensures.owners
 
 pub returns-clause-receives : goal.returns-clause-receives
 returns-clause-receives g c = rw (← c.self.view_is) (λ up honest host.
@@ -59,8 +67,10 @@ returns-clause-receives g c = rw (← c.self.view_is) (λ up honest host.
     let after = c.next.new.self in
     let h = host_of c.self.inside in
     let held = (driver_of h (g.B.Bus.world c.args.bus.now)).handed_out in
-    let parts = entry-splits d before after c.args.socket c.len.result c.in-Some.received c.self.invariant c.if-socket-len.false c.len.ensures.count c.in-Some.ensures.oldest in
-    host-receives g.B.Bus.world g.B.Bus.happened g.met.B.Bus.joins c.args.bus.now c.read-size.new.bus c.give.new.bus h (host_with c.give.new.self after) c.args.socket c.read-size.result c.in-Some.received
+    let parts = entry-splits d before after c.args.socket c.len.result c.in-Some.received c.self.invariant c.if-socket-len.false
+    c.len.ensures.count c.in-Some.ensures.oldest in
+    host-receives g.B.Bus.world g.B.Bus.happened g.met.B.Bus.joins c.args.bus.now c.read-size.new.bus c.give.new.bus h
+    (host_with c.give.new.self after) c.args.socket c.read-size.result c.in-Some.received
     (take c.read-size.result c.read-size.new.into) host parts
     (record {
       oldest = c.in-Some.ensures.oldest;

@@ -8,4 +8,5 @@ pub returns-clause-ran : goal.returns-clause-ran
 returns-clause-ran g c = rw (← c.self.view_is) (λ honest host.
     let h = host_of c.self.inside in
     let d = driver_of h (g.B.Bus.world c.args.bus.now) in
-    host-transmits g.B.Bus.world g.B.Bus.happened c.args.bus.now c.transmit.new.bus h c.transmit.new.self c.args.frame.now c.transmit.result host (c.transmit.ensures.ran d.handed_out honest host.ready))
+    host-transmits g.B.Bus.world g.B.Bus.happened c.args.bus.now c.transmit.new.bus h c.transmit.new.self c.args.frame.now c.transmit.result
+    host (c.transmit.ensures.ran d.handed_out honest host.ready))

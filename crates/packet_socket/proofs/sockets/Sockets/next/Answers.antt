@@ -10,8 +10,12 @@ there : (c : goal.After-self-1) → c.args.socket < length c.self.inside.queues.
 there c = omega (arith, c.requires.there, ap (λ (s : SocketsState). length s.kinds) c.self.view_is, c.self.invariant.queues)
 
 pub returns-clause-oldest : goal.returns-clause-oldest
-returns-clause-oldest c = rw (← c.self.view_is) (oldest-leaves c.self.inside.queues.items c.args.socket c.index_mut.result.now c.pop_front.new.self c.pop_front.result (there c) c.index_mut.ensures.value c.pop_front.ensures.items c.pop_front.ensures.value)
+returns-clause-oldest c = rw (← c.self.view_is)
+    (oldest-leaves c.self.inside.queues.items c.args.socket c.index_mut.result.now c.pop_front.new.self c.pop_front.result
+    (there c) c.index_mut.ensures.value c.pop_front.ensures.items c.pop_front.ensures.value)
 
 pub returns-clause-others : goal.returns-clause-others
-returns-clause-others c = rw (← c.self.view_is) (ap (λ (list : List (List Received)). let s : SocketsState = record { kinds = c.self.inside.kinds.items; queues = list; room = c.self.inside.room; unclaimed = c.self.inside.unclaimed } in s)
+returns-clause-others c = rw (← c.self.view_is)
+    (ap (λ (list : List (List Received)). let s : SocketsState = record
+    { kinds = c.self.inside.kinds.items; queues = list; room = c.self.inside.room; unclaimed = c.self.inside.unclaimed } in s)
     (others-stay c.self.inside.queues.items c.args.socket c.pop_front.new.self (there c)))
