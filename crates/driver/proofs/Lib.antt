@@ -6,3 +6,4 @@ pub mod Takes
 pub mod Handles
 pub mod FirstSlots
 pub mod Initialisation
+pub mod TestOwners

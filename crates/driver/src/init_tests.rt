@@ -1,23 +1,18 @@
 //! Worked examples of bring-up over a lively bus, and over buses whose registers all read one value.
 
-use crate::{Driver, Handled, Received, Receiver};
+use crate::fixtures::{ADDRESS, Keeper, NEEDED, config, good_bus, new_bus};
+use crate::{Driver, Handled};
 use adapter::offsets::*;
 use adapter::{Adapter, Fate, StepKind, StepOutcome};
 use arrayvec::ArrayVec;
 use bring_up::{Config, InitError, MOST_VLANS};
 use bus::{Bus, HonestBus, SoloBus};
-use dma_memory::{BufId, HostMemory};
+use dma_memory::HostMemory;
 use eeprom::Image;
 use mdic_phy::Link;
-use std::alloc::{AllocError, Global};
+use std::alloc::Global;
 use std::process::Abort;
 use std::test::Fail;
-
-/// The bytes that rings of 8 slots and 16 receive buffers need.
-const NEEDED: u64 = 51_200;
-
-/// The adapter's Ethernet address.
-const ADDRESS: [u8; 6] = [0x02, 0, 0, 0, 0, 0x01];
 
 /// An address that is no adapter's here.
 const OTHER: [u8; 6] = [0x02, 0, 0, 0, 0, 0x09];
@@ -58,19 +53,6 @@ const BROUGHT_UP: [(u32, u32); 16] = [
     (RAL, 0x0000_0002),
 ];
 
-/// Rings of 8 slots, 16 receive buffers, and no groups or VLANs.
-fn config() -> Config {
-    Config {
-        rx: 8,
-        tx: 8,
-        buffers: 16,
-        rxa: 48,
-        promiscuous: false,
-        groups: ArrayVec::new(),
-        vlans: None,
-    }
-}
-
 /// These VLANs, of which a configuration has room for 32.
 fn vlans(numbers: &[u16]) -> Option<ArrayVec<u16, MOST_VLANS>> {
     let mut vlans = ArrayVec::new();
@@ -78,23 +60,6 @@ fn vlans(numbers: &[u16]) -> Option<ArrayVec<u16, MOST_VLANS>> {
         let _ = vlans.try_push(*number);
     }
     Some(vlans)
-}
-
-/// A lively bus with so many bytes of memory, and a new adapter with this image and link.
-fn new_bus(
-    alloc: Global,
-    image: &Image,
-    link: Link,
-    memory_bytes: u64,
-) -> Result<SoloBus, AllocError> {
-    let adapter = Adapter::new(alloc, image, link)?;
-    let memory = HostMemory::new(alloc, memory_bytes)?;
-    SoloBus::new(alloc, adapter, memory, true)
-}
-
-/// A lively bus on which an adapter can be brought up.
-fn good_bus(alloc: Global) -> Result<SoloBus, AllocError> {
-    new_bus(alloc, &Image::with_address(ADDRESS), Link::After(1), NEEDED)
 }
 
 /// A frame of 60 bytes to this address, with these bytes behind both addresses.
@@ -232,29 +197,6 @@ fn a_refused_allocation_is_memory(rt: HostRuntime) {
     }
 }
 
-/// Counts the frames that it is shown, and gives their buffers back.
-#[derive(Drop)]
-struct Counter {
-    frames: u32,
-    bytes: u32,
-}
-
-impl Receiver for Counter {
-    ghost use Rattle.std.specs.Prelude.{⊤};
-
-    ghost took = { λ old new shown kept. ⊤ };
-
-    fn take(&mut self, received: Received) -> Option<BufId> {
-        self.frames = self.frames.saturating_add(1);
-        self.bytes = self.bytes.saturating_add(u32::from(received.length));
-        Some(received.buffer)
-    }
-
-    ghost stays = { λ receiver. tt };
-
-    ghost joins = { λ a b c shown kept later more one two. tt };
-}
-
 #[test]
 fn frames_that_come_behind_bring_up_are_held(rt: HostRuntime) -> Result<(), Fail> {
     let mut bus = good_bus(rt.alloc())?;
@@ -266,17 +208,14 @@ fn frames_that_come_behind_bring_up_are_held(rt: HostRuntime) -> Result<(), Fail
         assert_eq!(rt; bus.step(StepKind::RxData), StepOutcome::Moved);
         assert_eq!(rt; bus.step(StepKind::RxDone), StepOutcome::Done);
     }
-    let mut counter = Counter {
-        frames: 0,
-        bytes: 0,
-    };
+    let mut keeper = Keeper::new(false);
     assert!(rt; driver.layout().size() <= bus.size());
-    let handled = driver.interrupt(&mut bus, &mut counter);
+    let handled = driver.interrupt(&mut bus, &mut keeper);
     assert_eq!(rt; handled, Handled::Handled { taken: 3 });
-    assert_eq!(rt; (counter.frames, counter.bytes), (3, 180));
+    assert_eq!(rt; (keeper.frames, keeper.bytes), (3, 180));
     check(&rt, &mut bus, &[(RDH, 3), (RDT, 2)]);
     assert!(rt; driver.layout().size() <= bus.size());
-    let again = driver.interrupt(&mut bus, &mut counter);
+    let again = driver.interrupt(&mut bus, &mut keeper);
     assert_eq!(rt; again, Handled::NotMine);
     Ok(())
 }
