@@ -1,17 +1,19 @@
 //! What the tests of hosts are made of: a lively bus, hosts on it, and frames.
 
 use crate::sockets::MOST_SOCKETS;
-use crate::{Host, SocketKind};
+use crate::{Host, RecvError, SocketKind};
 use adapter::{Adapter, Fate, StepKind, StepOutcome};
 use arrayvec::ArrayVec;
 use bring_up::{Config, InitError};
 use bus::{Bus, HonestBus, SoloBus};
+use descriptors::Frame;
 use dma_memory::HostMemory;
-use driver::Handled;
+use driver::{Handled, SendError};
 use eeprom::Image;
 use mdic_phy::Link;
 use std::alloc::{AllocError, Global};
 use std::process::Abort;
+use std::test::Fail;
 
 /// The EtherType of ARP.
 pub(crate) const ARP: u16 = 0x0806;
@@ -63,7 +65,10 @@ pub(crate) fn new_host(
     bus: &mut SoloBus,
     kinds: &[SocketKind],
 ) -> Result<Host, InitError> {
-    Host::new(alloc, bus, &config(), table_of(kinds))
+    let config = config();
+    let table = table_of(kinds);
+    let host = Host::new(alloc, bus, &config, table)?;
+    Ok(host)
 }
 
 /// A frame of 60 bytes to the adapter, of this EtherType and marked by its first byte of data; the rest is
@@ -76,35 +81,107 @@ pub(crate) fn frame_of(ether_type: u16, mark: u8) -> [u8; 60] {
     frame
 }
 
-/// A frame comes, and is written to memory.
-pub(crate) fn deliver(rt: &impl Abort, bus: &mut SoloBus, frame: &[u8]) {
-    assert_eq!(rt; bus.arrive(frame), Fate::Stored);
-    assert_eq!(rt; bus.step(StepKind::RxData), StepOutcome::Moved);
-    assert_eq!(rt; bus.step(StepKind::RxDone), StepOutcome::Done);
-}
-
-/// Asserts what becomes of an interrupt.
-pub(crate) fn check_interrupt(rt: &impl Abort, host: &mut Host, bus: &mut SoloBus, want: Handled) {
-    assert!(rt; host.layout().size() <= bus.size());
-    assert_eq!(rt; host.interrupt(bus), want);
-}
-
 /// As many bytes as the frames of [`frame_of`] have.
 fn front_of(bytes: &[u8; 1518]) -> &[u8] {
     &bytes[..60]
 }
 
-/// Asserts that this is the oldest frame of a socket. Nothing is written behind it.
-pub(crate) fn check_given(
-    rt: &impl Abort,
-    host: &mut Host,
-    bus: &mut SoloBus,
-    socket: usize,
-    frame: &[u8; 60],
-) {
-    let mut into = [UNTOUCHED; 1518];
-    assert!(rt; host.layout().size() <= bus.size());
-    assert_eq!(rt; host.recv(bus, socket, &mut into), Ok(60));
-    assert_eq!(rt; front_of(&into), frame.as_slice());
-    assert_eq!(rt; into[60], UNTOUCHED);
+/// A host on its bus. Its calls say nothing of what they do, so that what a test asserts is what the test sees.
+#[derive(Drop)]
+pub(crate) struct Machine {
+    bus: SoloBus,
+    host: Host,
+}
+
+impl Machine {
+    /// A host with these sockets, its adapter brought up.
+    pub(crate) fn new(alloc: Global, kinds: &[SocketKind]) -> Result<Machine, Fail> {
+        let mut bus = new_bus(alloc)?;
+        let host = new_host(alloc, &mut bus, kinds)?;
+        Ok(Machine { bus, host })
+    }
+
+    /// What a register reads.
+    pub(crate) fn register(&mut self, offset: u32) -> u32 {
+        self.bus.read(offset)
+    }
+
+    /// How many accesses there were.
+    pub(crate) fn accesses(&self) -> u64 {
+        self.bus.accesses()
+    }
+
+    /// A step of the adapter.
+    pub(crate) fn step(&mut self, kind: StepKind) -> StepOutcome {
+        self.bus.step(kind)
+    }
+
+    /// The oldest frame that was put leaves the wire.
+    pub(crate) fn take_put(&mut self) -> Option<Frame> {
+        self.bus.take_put()
+    }
+
+    /// A frame comes.
+    pub(crate) fn arrive(&mut self, ether_type: u16, mark: u8) -> Fate {
+        self.bus.arrive(&frame_of(ether_type, mark))
+    }
+
+    /// The oldest frame that came is written to memory.
+    pub(crate) fn finish(&mut self, rt: &impl Abort) {
+        assert_eq!(rt; self.step(StepKind::RxData), StepOutcome::Moved);
+        assert_eq!(rt; self.step(StepKind::RxDone), StepOutcome::Done);
+    }
+
+    /// These frames come, each an EtherType and a mark, and are written to memory.
+    pub(crate) fn deliver(&mut self, rt: &impl Abort, frames: &[(u16, u8)]) {
+        for (ether_type, mark) in frames {
+            assert_eq!(rt; self.arrive(*ether_type, *mark), Fate::Stored);
+            self.finish(rt);
+        }
+    }
+
+    /// Handles an interrupt.
+    pub(crate) fn interrupt(&mut self, rt: &impl Abort) -> Handled {
+        assert!(rt; self.host.layout().size() <= self.bus.size());
+        self.host.interrupt(&mut self.bus)
+    }
+
+    /// Sends a frame.
+    pub(crate) fn send(&mut self, rt: &impl Abort, frame: &[u8]) -> Result<(), SendError> {
+        assert!(rt; self.host.layout().size() <= self.bus.size());
+        self.host.send(&mut self.bus, frame)
+    }
+
+    /// Asserts that this is the oldest frame of a socket. Nothing is written behind it.
+    pub(crate) fn check_given(&mut self, rt: &impl Abort, socket: usize, frame: (u16, u8)) {
+        let mut into = [UNTOUCHED; 1518];
+        assert!(rt; self.host.layout().size() <= self.bus.size());
+        assert_eq!(rt; self.host.recv(&mut self.bus, socket, &mut into), Ok(60));
+        assert_eq!(rt; front_of(&into), frame_of(frame.0, frame.1).as_slice());
+        assert_eq!(rt; into[60], UNTOUCHED);
+    }
+
+    /// Asserts that a socket gives no frame, without an access.
+    pub(crate) fn check_gives_none(&mut self, rt: &impl Abort, socket: usize, want: RecvError) {
+        let before = self.accesses();
+        let mut into = [UNTOUCHED; 1518];
+        assert!(rt; self.host.layout().size() <= self.bus.size());
+        assert_eq!(rt; self.host.recv(&mut self.bus, socket, &mut into), Err(want));
+        assert_eq!(rt; (self.accesses(), into[0]), (before, UNTOUCHED));
+    }
+
+    /// How many frames wait for a socket.
+    pub(crate) fn waiting(&self, socket: usize) -> usize {
+        self.host.waiting(socket)
+    }
+
+    /// How many frames went to no socket.
+    pub(crate) fn unclaimed(&self) -> u64 {
+        self.host.unclaimed()
+    }
+}
+
+/// So many frames were taken.
+pub(crate) fn took(taken: u64) -> Handled {
+    Handled::Handled { taken }
 }
