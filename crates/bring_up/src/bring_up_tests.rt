@@ -7,10 +7,11 @@ use crate::{
 };
 use adapter::Adapter;
 use adapter::offsets::*;
-use bus::{Bus, HonestBus, SoloBus};
+use bus::{Bus, HonestBus};
 use dma_memory::HostMemory;
 use eeprom::Image;
 use mdic_phy::Link;
+use solo_bus::SoloBus;
 use std::alloc::Global;
 use std::process::Abort;
 use std::test::Fail;

@@ -3,10 +3,11 @@
 use crate::{InitError, read_image};
 use adapter::Adapter;
 use adapter::offsets::EERD;
-use bus::{Bus, HonestBus, SoloBus};
+use bus::{Bus, HonestBus};
 use dma_memory::HostMemory;
 use eeprom::Image;
 use mdic_phy::Link;
+use solo_bus::SoloBus;
 use std::alloc::Global;
 use std::test::Fail;
 

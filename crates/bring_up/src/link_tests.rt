@@ -2,10 +2,11 @@
 
 use crate::{InitError, await_link, negotiate};
 use adapter::Adapter;
-use bus::{Bus, HonestBus, SoloBus};
+use bus::{Bus, HonestBus};
 use dma_memory::HostMemory;
 use eeprom::Image;
 use mdic_phy::Link;
+use solo_bus::SoloBus;
 use std::test::Fail;
 
 /// A bus without an adapter, on which every register reads the same.

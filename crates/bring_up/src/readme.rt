@@ -6,10 +6,11 @@ use crate::{
 };
 use adapter::Adapter;
 use adapter::offsets::RDLEN;
-use bus::{Bus, SoloBus};
+use bus::Bus;
 use dma_memory::{HostMemory, Layout};
 use eeprom::Image;
 use mdic_phy::Link;
+use solo_bus::SoloBus;
 use std::test::Fail;
 
 #[test]

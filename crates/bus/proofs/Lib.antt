@@ -16,9 +16,6 @@ pub mod Trails
 pub mod Accesses
 pub mod TrailFaults
 pub mod TrailCauses
-pub mod Examples
-pub mod Playing
-pub mod Accessing
 pub mod Own
 pub mod OwnStores
 pub mod OwnSlots
@@ -29,7 +26,6 @@ pub mod Carrying
 pub mod KnownRings
 pub mod Writes
 pub mod Idle
-pub mod SoundBuses
 pub mod Initialising
 pub mod Waiting
 pub mod Settings

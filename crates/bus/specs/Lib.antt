@@ -8,12 +8,8 @@ pub mod TrailLaws
 pub mod Accesses
 pub mod TrailFaults
 pub mod TrailCauses
-pub mod Examples
 pub mod Groups
 pub mod GroupLaws
-pub mod Solo
-pub mod SoloView
-pub mod SoloLaws
 pub mod Own
 pub mod OwnStores
 pub mod OwnSlots
@@ -22,7 +18,6 @@ pub mod Offering
 pub mod TakingSlots
 pub mod Spare
 pub mod Idle
-pub mod SoundBuses
 pub mod Initialising
 pub mod Settings
 pub mod Rest

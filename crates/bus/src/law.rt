@@ -2,8 +2,6 @@
 
 ghost use Rattle.adapter.specs.World.{receive_ring, transmit_ring};
 ghost use Rattle.bus.specs.Composing.{HappeningsJoin, NothingHappens, SoundStays};
-ghost use Rattle.bus.specs.Examples.{HasFinished, HasFramesInBuffer, HasFramesInRing, HasRings, HasWork};
-ghost use Rattle.bus.specs.Examples.{HasWrittenBack, SomeSound};
 ghost use Rattle.bus.specs.Faults.{FaultsNeverCome};
 ghost use Rattle.bus.specs.Idle.{HappeningsKeepIdle, IdleAfterPowerOn, IdleAfterReset, IdleRingsAreSound};
 ghost use Rattle.bus.specs.Idle.{OtherWritesKeepIdle, ReadsKeepIdle, StoresKeepIdle, WritesKeepIdle};
@@ -182,17 +180,4 @@ pub fn registers_can_be_set()
 pub fn rings_wait()
     ensures offers { OffersWait }
     ensures transmit_ring { TransmitStaysIdle }
-{}
-
-/// The conditions of the law can be met, with frames that fit into their buffers and both engines
-/// running: in a world whose rings are both set up and whose receive ring offers slots; in one with a
-/// frame in work, in one with a finished slot, in one with a written-back slot, in one with frames to be
-/// sent in the transmit ring, and in one with frames in the transmit packet buffer.
-pub fn conditions_can_be_met()
-    ensures rings { SomeSound HasRings }
-    ensures work { SomeSound HasWork }
-    ensures finished { SomeSound HasFinished }
-    ensures written { SomeSound HasWrittenBack }
-    ensures in_ring { SomeSound HasFramesInRing }
-    ensures in_buffer { SomeSound HasFramesInBuffer }
 {}

@@ -9,30 +9,21 @@ mod event;
 mod law;
 mod link_law;
 mod settings_law;
-mod solo;
-mod solo_bus;
-pub mod sound_buses;
 mod trail_law;
 
 pub use bus::{Bus, HonestBus};
 pub use event::{Access, Event, StoredBytes};
 pub use law::{
-    any_steps_may_happen, areas_stay_apart, between_composes, conditions_can_be_met,
-    drivers_keep_their_own, faults_never_come, finished_slots_can_be_taken, frames_can_be_offered,
+    any_steps_may_happen, areas_stay_apart, between_composes, drivers_keep_their_own, faults_never_come, finished_slots_can_be_taken, frames_can_be_offered,
     idle_rings_are_sound, idle_rings_stay_idle, known_rings_stay, many_slots_can_be_offered,
     own_slots_can_be_written, own_stores_leave_frames, registers_can_be_set, rings_wait,
     slots_can_be_offered, steps_are_instances, tails_can_be_moved, written_slots_can_be_freed,
 };
 pub use link_law::links_stay_up;
 pub use settings_law::{adapters_rest, writes_alone_set};
-pub use solo::{MOST_TICKS, SoloBus, SoloTick, WIRE_FRAMES};
 pub use trail_law::{
     causes_are_those_of_steps, faults_stay_visible, quiet_accesses_leave_adapters,
 };
 
 #[cfg(test)]
 mod event_tests;
-#[cfg(test)]
-mod sound_bus_tests;
-#[cfg(test)]
-mod tests;

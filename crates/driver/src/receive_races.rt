@@ -5,8 +5,8 @@ use crate::fixtures::{Rig, broadcast, config, took};
 use adapter::offsets::{ICS, MPC, RDH, RDT, RNBC};
 use adapter::{Fate, StepKind, StepOutcome};
 use bring_up::Config;
-use bus::SoloTick;
 use descriptors::Frame;
+use solo_bus::SoloTick;
 use std::process::Abort;
 use std::test::Fail;
 

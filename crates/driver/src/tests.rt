@@ -5,11 +5,12 @@ ghost use Rattle.std.specs.Prelude.{⊤};
 use crate::{Driver, Received, Receiver, SendError};
 use adapter::offsets::{RCTL, RDLEN, RDT, TCTL, TDBAL, TDLEN, TDT};
 use adapter::{Adapter, Fate, StepKind, StepOutcome};
-use bus::{Bus, HonestBus, SoloBus};
+use bus::{Bus, HonestBus};
 use circular_buffer::HeapCircularBuffer;
 use dma_memory::{BufId, HostMemory, Layout, Pool};
 use eeprom::Image;
 use mdic_phy::Link;
+use solo_bus::SoloBus;
 use std::alloc::{AllocError, Global};
 use std::test::Fail;
 

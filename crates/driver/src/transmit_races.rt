@@ -4,7 +4,7 @@ use crate::fixtures::{Rig, broadcast, config, took};
 use crate::{Handled, SendError};
 use adapter::offsets::{TDH, TDT};
 use adapter::{StepKind, StepOutcome};
-use bus::SoloTick;
+use solo_bus::SoloTick;
 use std::process::Abort;
 use std::test::Fail;
 

@@ -4,11 +4,12 @@ use crate::{Host, SocketKind};
 use adapter::{Adapter, StepKind};
 use arrayvec::ArrayVec;
 use bring_up::Config;
-use bus::{Bus, HonestBus, SoloBus};
+use bus::{Bus, HonestBus};
 use dma_memory::HostMemory;
 use driver::Handled;
 use eeprom::Image;
 use mdic_phy::Link;
+use solo_bus::SoloBus;
 use std::test::Fail;
 
 #[test]

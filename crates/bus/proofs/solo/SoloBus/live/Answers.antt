@@ -1,8 +1,0 @@
-use Rattle.std.proofs.Common.{arith}
-use Rattle.bus.specs.Solo.{solo_stepped}
-use Rattle.bus.proofs.Playing.{kinds_on}
-use Rattle.bus.proofs.solo.SoloBus.live.Goals as goal
-
-pub loop-kind-preserved : goal.loop-kind-preserved
-loop-kind-preserved c = kinds_on _ c.loop-kind.kind-index _ _ c.loop-kind.self _ (solo_stepped c.step.result c.loop-kind.self)
-    (omega arith) c.loop-kind.invariant c.step.ensures.running c.step.ensures.answer c.step.ensures.state

@@ -1,5 +1,0 @@
-use Rattle.bus.proofs.Playing.{prepared_on}
-use Rattle.bus.proofs.solo.SoloBus.prepare.Goals as goal
-
-pub returns : goal.returns
-returns c = prepared_on _ c.live.new.self c.play_group.new.self _ c.live.ensures c.play_group.ensures c.count_access.ensures

@@ -1,0 +1,4 @@
+pub mod SoloTicks
+pub mod SoloAccesses
+pub mod SoundBuses
+pub mod SoundWorlds

@@ -1,0 +1,143 @@
+-- An access over a solo bus, behind what comes before it.
+use Rattle.std.proofs.Common.{◌≡◌, ◌+◌, ◌++◌, ◌∷◌, [], Bool, true, List, length, if◌then◌else◌, refl, sym, ap, ◌∙◌, arith}
+use Rattle.std.specs.List.{All}
+use Rattle.std.proofs.lemmas.List.{append-nil, map-append}
+use Rattle.bus.specs.Law.{Acts, Happens}
+use Rattle.bus.specs.Past.{Past}
+use Rattle.bus.specs.declared.event.Access.{Access}
+use Rattle.bus.specs.Groups.{group_of}
+use Rattle.solo_bus.specs.SoloBuses.{Prepared, Recounts, SoloState, is_go, own_ticks, tick_of}
+use Rattle.solo_bus.specs.SoloLaws.{are_free_joins, recounts_own}
+use Rattle.bus.specs.TrailLaws.{past_of-append, same_past, trail_joins}
+use Rattle.bus.specs.Trails.{IsAnswered, IsStep, past_of, past_of_event, world_after_access}
+use Rattle.bus.specs.declared.event.Event.{Event}
+use Rattle.bus.specs.declared.event.Event.TheVariants.{Accesses, Arrives, Steps}
+use Rattle.adapter.specs.declared.step.StepKind.TheVariants.{TxTake, TxPut, RxData, RxDone, EepromTick, PhyTick}
+use Rattle.adapter.specs.State.{IsAdapter}
+use Rattle.adapter.specs.World.{World}
+use Rattle.solo_bus.specs.declared.solo_bus.SoloTick.{SoloTick}
+use Rattle.solo_bus.specs.declared.solo_bus.SoloTick.TheVariants.{Go}
+use Rattle.bus.proofs.Lists.{all-head, all-tail}
+use Rattle.bus.proofs.Trails.{trail_happens}
+
+-- What may happen doesn't speak of accesses.
+pub happens_accesses : (a b : World) (past : Past) (accesses : List Access) → Happens a b past
+    → Happens a b (record past { accesses = accesses })
+happens_accesses a b past accesses happens =
+    let steady = happens.steady in
+    record {
+      steady = record {
+        size = steady.size;
+        image = steady.image;
+        causes = steady.causes;
+        mask = steady.mask;
+        receive_ring = steady.receive_ring;
+        transmit_ring = steady.transmit_ring;
+        filter = steady.filter;
+        device_control = steady.device_control;
+        transmit_control = steady.transmit_control;
+        allocation = steady.allocation;
+        missed = steady.missed;
+        off = steady.off;
+        receive_head = steady.receive_head;
+        transmit_head = steady.transmit_head;
+        legal = steady.legal;
+        eerd = steady.eerd;
+        management = steady.management;
+      };
+      between = λ o p sound.
+          let between = happens.between o p sound in
+          record {
+            sends = between.sends;
+            reported = between.reported;
+            written = between.written;
+            each_reported = between.each_reported;
+            holds = between.holds;
+            more = between.more;
+            done = between.done;
+            told = between.told;
+            fits = between.fits;
+            whole = between.whole;
+            untouched = between.untouched;
+            foreign = between.foreign;
+            runs = between.runs;
+            sound = between.sound;
+          };
+    }
+
+-- A step is no access.
+event-no_access : (event : Event) → IsStep event → (past_of_event event).accesses ≡ []
+event-no_access (Steps TxTake wire_free answer) is = refl
+event-no_access (Steps TxPut wire_free answer) is = refl
+event-no_access (Steps RxData wire_free answer) is = refl
+event-no_access (Steps RxDone wire_free answer) is = refl
+event-no_access (Steps EepromTick wire_free answer) is = refl
+event-no_access (Steps PhyTick wire_free answer) is = refl
+event-no_access (Arrives frame fate) is = refl
+event-no_access (Accesses access) is = absurd is
+
+pub no_access : (events : List Event) → All IsStep events → (past_of events).accesses ≡ []
+no_access [] are = refl
+no_access (event ∷ later) are =
+    ap (λ (accesses : List Access). accesses ++ (past_of later).accesses) (event-no_access event (all-head IsStep event later are))
+    ∙ no_access later (all-tail IsStep event later are)
+
+-- Steps, and then an access.
+past-with_access : (events : List Event) (access : Access) → All IsStep events
+    → record (past_of events) { accesses = access ∷ [] } ≡ past_of (events ++ Accesses access ∷ [])
+past-with_access events access are =
+    let past = past_of events in
+    same_past _ _ _ _ _ _ _ _ _ _ _ _ (sym (append-nil past.put)) (sym (append-nil past.stored)) (omega arith) (omega arith) (omega arith)
+    (ap (λ (accesses : List Access). accesses ++ access ∷ []) (sym (no_access events are)))
+    ∙ sym (past_of-append events (Accesses access ∷ []))
+
+-- The world of a solo bus.
+abbrev pub solo_world : SoloState → World
+solo_world solo = solo.world
+
+abbrev pub is_lively : SoloState → Type 0
+is_lively solo = solo.lively ≡ true
+
+pub acts_on : (a p b : SoloState) (access : Access) (effect : World → World → Type 0) → Prepared a p
+    → b ≡ record p { world = world_after_access access p.world } → IsAnswered access p.world → IsAdapter p.world.adapter
+    → effect p.world b.world → Acts solo_world Recounts is_lively a b access effect
+acts_on a p b access effect prepared after answered adapter does =
+    let plays = prepared.plays in
+    let events = plays.events in
+    let middle = p.world in
+    let own = own_ticks a.lively in
+    let group = group_of is_go a.waiting in
+    let world_b : b.world ≡ world_after_access access p.world = ap solo_world after in
+    let waiting_b : b.waiting ≡ p.waiting = ap (λ (s : SoloState). s.waiting) after in
+    let wire_b : b.wire ≡ p.wire = ap (λ (s : SoloState). s.wire) after in
+    let lively_b : b.lively ≡ p.lively = ap (λ (s : SoloState). s.lively) after in
+    let count_b : b.accesses ≡ p.accesses = ap (λ (s : SoloState). s.accesses) after in
+    let past : Past = record (past_of events) { accesses = access ∷ [] } in
+    let told : Recounts a b past = record {
+      events = events ++ Accesses access ∷ [];
+      trail = trail_joins events (Accesses access ∷ []) a.world middle b.world plays.trail (answered, world_b);
+      past_is = past-with_access events access plays.are;
+      played = map-append tick_of events (Accesses access ∷ []) ∙ ap (λ (ticks : List SoloTick). ticks ++ Go ∷ []) plays.played;
+      waiting = waiting_b ∙ plays.waiting;
+      free = are_free_joins events (Accesses access ∷ []) (length a.wire) (length a.wire + length (past_of events).put) refl plays.free tt;
+      wire = wire_b ∙ plays.wire;
+      lively = lively_b ∙ plays.lively;
+      count = omega (arith, count_b, prepared.count);
+    } in
+    let own_is = recounts_own a b past told in
+    record {
+      middle = middle;
+      past = past;
+      only = refl;
+      told = told;
+      ticks = λ lively.
+          let one : (if a.lively then length past.accesses else 0) ≡ 1 = ap (λ (is : Bool). if is then 1 else 0) lively in
+          record { eeprom = omega (arith, own_is.eeprom, one); phy = omega (arith, own_is.phy, one) };
+      before = happens_accesses a.world middle (past_of events) (access ∷ []) (trail_happens events a.world middle plays.are plays.trail);
+      adapter = adapter;
+      effect_is = does;
+    }
+
+-- The size of memory stays while ticks are played.
+pub size_prepared : (a p : SoloState) → Prepared a p → length p.world.memory ≡ length a.world.memory
+size_prepared a p prepared = (trail_happens prepared.plays.events a.world p.world prepared.plays.are prepared.plays.trail).steady.size

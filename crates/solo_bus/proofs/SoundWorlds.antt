@@ -1,0 +1,239 @@
+-- The conditions of the law hold of the worlds of `specs/SoundBuses`, and their engines can run.
+use Rattle.std.proofs.Common.{◌≡◌, ◌≤◌, ◌+◌, ◌++◌, ◌∷◌, [], true, ℕ, List, length, replicate, refl, sym, ap, subst, ◌∙◌, arith}
+use Rattle.std.specs.List.{All, take_while}
+use Rattle.std.proofs.lemmas.List.Elements.{All-cons}
+use Rattle.dma_memory.specs.Areas.{Area}
+use Rattle.dma_memory.specs.HostMemory.{with_bytes}
+use Rattle.descriptors.specs.Ring.{owned}
+use Rattle.rx_engine.specs.Finishing.{finished_bytes}
+use Rattle.rx_engine.specs.declared.engine.Work.{Work}
+use Rattle.tx_engine.specs.Fetching.{fetched}
+use Rattle.tx_engine.specs.Transmitter.{Queued}
+use Rattle.solo_bus.specs.SoundWorlds.{HasFinished, HasFramesInBuffer, HasFramesInRing, HasRings, HasWork, HasWrittenBack, SomeSound}
+use Rattle.adapter.specs.HostAreas.{buffer_size}
+use Rattle.adapter.specs.HostFrames.{named}
+use Rattle.adapter.specs.Slots.{finished, is_done, written_back}
+use Rattle.adapter.specs.Conditions.{FitBuffers, Sound}
+use Rattle.bus.specs.Law.{Between}
+use Rattle.bus.specs.Past.{Past, nothing}
+use Rattle.adapter.specs.Running.{CanRun, CanTransmit}
+use Rattle.solo_bus.specs.SoundBuses.{call, called, ready, requested, resting, sending, working}
+use Rattle.adapter.specs.World.{receive_ring, transmit_ring, World}
+use Rattle.bus.proofs.Finishing.{between_done, done_adapter}
+use Rattle.bus.proofs.Idle.{idle_rings_are_sound, offered-none, outstanding-none}
+use Rattle.bus.proofs.Lists.{all-none}
+use Rattle.bus.proofs.Moving.{between_moved}
+use Rattle.bus.proofs.Offering.{frames_can_be_offered, slots_can_be_offered}
+use Rattle.bus.proofs.Putting.{between_put, put_adapter}
+use Rattle.solo_bus.proofs.SoundBuses.{call-legal, called-can_move, called-has_frame, ready-has_rings, ready-sound, requested-can_send}
+use Rattle.solo_bus.proofs.SoundBuses.{requested-idle, resting-can_offer, resting-sound, sending-fields, sending-has_frames, sending-sound}
+use Rattle.solo_bus.proofs.SoundBuses.{working-has_work}
+use Rattle.bus.proofs.Taking.{between_padded, taken}
+
+-- Engines that can run.
+
+-- this frame fits into a buffer
+abbrev Short : World → List ℕ → Type 0
+Short world frame = length frame ≤ buffer_size world
+
+-- over any memory, while nothing is offered
+resting-runs : (size : ℕ) (words memory : List ℕ) → CanRun (record (resting size words) { memory = memory })
+resting-runs size words memory = record {
+  receiver_runs = refl;
+  transmitter_runs = refl;
+  receive_indices = λ differ. absurd (differ refl);
+  transmit_indices = λ differ. absurd (differ refl);
+  not_extended = λ set. absurd (omega (arith, set));
+  frames = all-none (Short (resting size words));
+  transmittable = subst (λ (slots : List ℕ). All (CanTransmit memory) slots) (sym (offered-none (transmit_ring (resting size words)) refl))
+      (all-none (CanTransmit memory));
+}
+
+resting-fits : (size : ℕ) (words memory : List ℕ) → FitBuffers 0 (record (resting size words) { memory = memory })
+resting-fits size words memory =
+    let Fits : ℕ → Type 0 = λ slot. (named memory slot).size ≤ buffer_size (resting size words) in
+    record {
+      finished_fit = subst (λ (slots : List ℕ). All Fits (take_while (is_done memory) slots))
+          (sym (outstanding-none (receive_ring (resting size words)))) (all-none Fits);
+      work_fits = all-none (λ (area : Area). area.size ≤ buffer_size (resting size words));
+    }
+
+ready-fits : (size : ℕ) (words : List ℕ) → 4096 ≤ size → FitBuffers 0 (ready size words)
+ready-fits size words fits =
+    (slots_can_be_offered 0 0 (resting size words) (resting-sound size words fits) (resting-can_offer size words fits)).same.fits
+    (omega arith) (resting-fits size words (replicate size 0))
+
+ready-runs : (size : ℕ) (words : List ℕ) → 4096 ≤ size → CanRun (ready size words)
+ready-runs size words fits =
+    (slots_can_be_offered 0 0 (resting size words) (resting-sound size words fits) (resting-can_offer size words fits)).runs
+    (resting-runs size words (replicate size 0))
+
+sending-runs : (size : ℕ) (words : List ℕ) → 4096 ≤ size → CanRun (sending size words)
+sending-runs size words fits =
+    let w = requested size words in
+    (frames_can_be_offered 0 0 w (idle_rings_are_sound w (requested-idle size words fits)) (requested-can_send size words fits)).runs
+    (sending-fields size words fits) (resting-runs size words w.memory)
+
+sending-fits : (size : ℕ) (words : List ℕ) → 4096 ≤ size → FitBuffers 0 (sending size words)
+sending-fits size words fits =
+    let w = requested size words in
+    (frames_can_be_offered 0 0 w (idle_rings_are_sound w (requested-idle size words fits)) (requested-can_send size words fits)).fits
+    (resting-fits size words w.memory)
+
+-- A frame has arrived.
+
+called-sound : (size : ℕ) (words : List ℕ) → 4096 ≤ size → Sound 0 0 (called size words)
+called-sound size words fits =
+    let sound = ready-sound size words fits in
+    record {
+      receive_slots = sound.receive_slots;
+      transmit_slots = sound.transmit_slots;
+      separate = sound.separate;
+      reports = sound.reports;
+      pads = sound.pads;
+    }
+
+called-fits : (size : ℕ) (words : List ℕ) → 4096 ≤ size → FitBuffers 0 (called size words)
+called-fits size words fits = let fit = ready-fits size words fits in record { finished_fit = fit.finished_fit; work_fits = fit.work_fits }
+
+called-runs : (size : ℕ) (words : List ℕ) → 4096 ≤ size → CanRun (called size words)
+called-runs size words fits =
+    let can = ready-runs size words fits in
+    record {
+      receiver_runs = can.receiver_runs;
+      transmitter_runs = can.transmitter_runs;
+      receive_indices = can.receive_indices;
+      transmit_indices = can.transmit_indices;
+      not_extended = can.not_extended;
+      frames = All-cons (Short (called size words)) call [] (omega (arith, call-legal.most)) (all-none (Short (called size words)));
+      transmittable = can.transmittable;
+    }
+
+-- It is in work,
+working-between : (size : ℕ) (words : List ℕ) → 4096 ≤ size → Between 0 0 (called size words) (working size words) nothing
+working-between size words fits = between_moved 0 0 (called size words) (called-has_frame size words) (called-can_move size words fits)
+    (called-sound size words fits)
+
+working-runs : (size : ℕ) (words : List ℕ) → 4096 ≤ size → CanRun (working size words)
+working-runs size words fits = (working-between size words fits).runs (all-none (Short (called size words))) (called-runs size words fits)
+
+abbrev work : Work
+work = record { descriptor = 2048; length = 60 }
+
+-- and finished.
+abbrev done_with : ℕ → List ℕ → World
+done_with size words = record
+    { memory = with_bytes (working size words).memory (2048 + 8) (finished_bytes 60); adapter = done_adapter (working size words) }
+
+done-between : (size : ℕ) (words : List ℕ) → 4096 ≤ size → Between 0 0 (working size words) (done_with size words) nothing
+done-between size words fits = between_done 0 0 work (working size words) (omega arith) (omega arith)
+    (working-between size words fits).sound
+
+done-finished : (size : ℕ) (words : List ℕ) → 4096 ≤ size → HasFinished (done_with size words)
+unfolding owned
+done-finished size words fits none =
+    let sound = (done-between size words fits).sound in
+    let all : 2048 ∷ [] ≡ finished 0 (done_with size words) ++ [] = sound.receive_slots.classes in
+    let empty : (let one : List ℕ = 2048 ∷ [] in one) ≡ [] = all ∙ ap (λ (slots : List ℕ). slots ++ []) none in
+    cc
+
+-- A frame to be sent is taken,
+abbrev took : ℕ → List ℕ → World
+took size words = taken true (sending size words)
+
+took-between : (size : ℕ) (words : List ℕ) → 4096 ≤ size → Between 0 0 (sending size words) (took size words) nothing
+took-between size words fits =
+    between_padded 0 0 (sending size words) (record { head = omega arith; tail = omega arith }) (λ same. absurd (omega (arith, same)))
+    (sending-sound size words fits)
+
+took-runs : (size : ℕ) (words : List ℕ) → 4096 ≤ size → CanRun (took size words)
+took-runs size words fits = (took-between size words fits).runs (all-none (Short (sending size words))) (sending-runs size words fits)
+
+-- and put, and its slot is written back.
+abbrev fetched_one : ℕ → List ℕ → Queued
+fetched_one size words = fetched true (sending size words).memory 2176
+
+abbrev put_with : ℕ → List ℕ → World
+put_with size words = record {
+  memory = with_bytes (took size words).memory (2176 + 12) (1 ∷ []);
+  adapter = put_adapter (fetched_one size words) []
+      (took size words);
+}
+
+put-between : (size : ℕ) (words : List ℕ) → 4096 ≤ size
+    → Between 0 0 (took size words) (put_with size words)
+    (let one : Past = record nothing { put = (fetched_one size words).frame ∷ [] } in one)
+put-between size words fits = between_put 0 0 (fetched_one size words) [] (took size words) (took-between size words fits).sound
+
+put-written : (size : ℕ) (words : List ℕ) → 4096 ≤ size → HasWrittenBack (put_with size words)
+unfolding owned
+put-written size words fits none =
+    let sound = (put-between size words fits).sound in
+    let all : 2176 ∷ [] ≡ written_back 0 (put_with size words) ++ [] = sound.transmit_slots.classes in
+    let empty : (let one : List ℕ = 2176 ∷ [] in one) ≡ [] = all ∙ ap (λ (slots : List ℕ). slots ++ []) none in
+    cc
+
+-- All of them, over 4,096 bytes of memory and an EEPROM of zeros.
+
+abbrev words : List ℕ
+words = replicate 64 0
+
+pub rings_can : SomeSound HasRings
+rings_can =
+    let fits : 4096 ≤ 4096 = omega arith in
+    (ready 4096 words, ready-sound 4096 words fits, ready-fits 4096 words fits, ready-runs 4096 words fits, ready-has_rings 4096 words)
+
+pub work_can : SomeSound HasWork
+work_can =
+    let fits : 4096 ≤ 4096 = omega arith in
+    let between = working-between 4096 words fits in (
+      working 4096 words,
+      between.sound,
+      between.fits (called-fits 4096 words fits),
+      working-runs 4096 words fits,
+      working-has_work 4096
+          words,
+    )
+
+pub finished_can : SomeSound HasFinished
+finished_can =
+    let fits : 4096 ≤ 4096 = omega arith in
+    let between = done-between 4096 words fits in
+    let fit = between.fits ((working-between 4096 words fits).fits (called-fits 4096 words fits)) in (
+      done_with 4096 words,
+      between.sound,
+      fit,
+      between.runs (all-none (Short (working 4096 words)))
+          (working-runs 4096 words fits),
+      done-finished 4096 words fits,
+    )
+
+pub frames_can : SomeSound HasFramesInRing
+frames_can =
+    let fits : 4096 ≤ 4096 = omega arith in (
+      sending 4096 words,
+      sending-sound 4096 words fits,
+      sending-fits 4096 words fits,
+      sending-runs 4096 words fits,
+      sending-has_frames 4096
+          words,
+    )
+
+pub buffered_can : SomeSound HasFramesInBuffer
+buffered_can =
+    let fits : 4096 ≤ 4096 = omega arith in
+    let between = took-between 4096 words fits in
+    (took 4096 words, between.sound, between.fits (sending-fits 4096 words fits), took-runs 4096 words fits, λ none. absurd (cc))
+
+pub written_can : SomeSound HasWrittenBack
+written_can =
+    let fits : 4096 ≤ 4096 = omega arith in
+    let between = put-between 4096 words fits in
+    let fit = between.fits ((took-between 4096 words fits).fits (sending-fits 4096 words fits)) in (
+      put_with 4096 words,
+      between.sound,
+      fit,
+      between.runs (all-none (Short (took 4096 words)))
+          (took-runs 4096 words fits),
+      put-written 4096 words fits,
+    )

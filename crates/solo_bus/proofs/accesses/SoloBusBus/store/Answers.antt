@@ -1,0 +1,22 @@
+use Rattle.std.proofs.Common.{ap, ◌∙◌, length, arith}
+use Rattle.dma_memory.specs.Laws.{length-with_bytes}
+use Rattle.bus.specs.declared.event.Access.TheVariants.{Stores}
+use Rattle.solo_bus.specs.SoloBuses.{SoloState}
+use Rattle.solo_bus.proofs.SoloAccesses.{acts_on, size_prepared}
+use Rattle.solo_bus.proofs.accesses.SoloBusBus.store.Goals as goal
+
+pub store_now-requires : goal.store_now-requires
+store_now-requires c = omega (arith, c.requires, size_prepared c.args.self.now c.prepare.new.self c.prepare.ensures)
+
+pub returns-clause-extent : goal.returns-clause-extent
+returns-clause-extent c =
+    ap (λ (s : SoloState). length s.world.memory) c.store_now.ensures.state
+    ∙ length-with_bytes c.prepare.new.self.world.memory c.args.bytes.now c.args.address
+    (omega (arith, c.requires, size_prepared c.args.self.now c.prepare.new.self c.prepare.ensures))
+    ∙ size_prepared c.args.self.now c.prepare.new.self c.prepare.ensures
+
+pub returns-clause-acts : goal.returns-clause-acts
+returns-clause-acts c honest =
+    acts_on c.args.self.now c.prepare.new.self c.store_now.new.self
+    (Stores c.args.address c.args.bytes.now) _ c.prepare.ensures c.store_now.ensures.state tt c.store_now.ensures.adapter
+    (ap (λ (s : SoloState). s.world) c.store_now.ensures.state)

@@ -1,0 +1,5 @@
+pub mod SoloBuses
+pub mod SoloView
+pub mod SoloLaws
+pub mod SoundBuses
+pub mod SoundWorlds

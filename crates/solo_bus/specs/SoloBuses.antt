@@ -1,0 +1,123 @@
+-- What a solo bus is, and what its calls leave.
+use Rattle.std.specs.Prelude.{⊤, ◌≡◌, ◌+◌, ◌-◌, ◌^◌, ◌++◌, ℕ, Bool, true, false, List, [], ◌∷◌, All, length, map, min, nat_lt, sum_by}
+use Rattle.std.specs.Prelude.{if◌then◌else◌}
+use Rattle.rx_engine.specs.declared.arrival.Fate.{Fate}
+use Rattle.adapter.specs.Outcomes.{put_by, stepped_of}
+use Rattle.adapter.specs.World.{World}
+use Rattle.adapter.specs.declared.step.StepKind.{StepKind}
+use Rattle.adapter.specs.declared.step.StepKind.TheVariants.{EepromTick, PhyTick}
+use Rattle.adapter.specs.declared.step.StepOutcome.{StepOutcome}
+use Rattle.adapter.specs.declared.step.Stepped.{Stepped}
+use Rattle.bus.specs.Groups.{behind_group, group_of, groups_of, played_in, waiting_after}
+use Rattle.bus.specs.Past.{Past}
+use Rattle.bus.specs.declared.event.Access.{Access}
+use Rattle.bus.specs.Steps.{past_of_step, world_after_arrival, world_after_step}
+use Rattle.bus.specs.Trails.{IsStep, Trail, past_of}
+use Rattle.bus.specs.declared.event.Event.{Event}
+use Rattle.bus.specs.declared.event.Event.TheVariants.{Accesses, Arrives, Steps}
+use Rattle.solo_bus.specs.declared.solo_bus.SoloTick.{SoloTick}
+use Rattle.solo_bus.specs.declared.solo_bus.SoloTick.TheVariants.{Arrive, Go, Step}
+
+pub record SoloState : Type 0 where
+  pub world : World
+  -- whether a tick of the EEPROM and one of the PHY come before each access
+  pub lively : Bool
+  -- the ticks that are still to be played
+  pub waiting : List SoloTick
+  -- the frames that were put and not yet taken away, the oldest first
+  pub wire : List (List ℕ)
+  -- how many accesses there were
+  pub accesses : ℕ
+
+-- the wire has room while less than 64 frames are on it
+abbrev pub has_room : SoloState → Bool
+has_room solo = nat_lt (length solo.wire) 64
+
+-- the answer of a step with this outcome
+abbrev pub solo_stepped : StepOutcome → SoloState → Stepped
+solo_stepped outcome solo = stepped_of outcome solo.world.adapter
+
+-- a frame that a step put is behind the others on the wire
+abbrev pub solo_after_step : StepKind → Stepped → SoloState → SoloState
+solo_after_step kind answer solo = record solo { world = world_after_step kind answer solo.world; wire = solo.wire ++ put_by answer }
+
+abbrev pub solo_after_arrival : Fate → List ℕ → SoloState → SoloState
+solo_after_arrival fate frame solo = record solo { world = world_after_arrival fate frame solo.world }
+
+-- Ticks and events.
+
+abbrev pub is_go : SoloTick → Bool
+is_go Go = true
+is_go (Step kind) = false
+is_go (Arrive frame) = false
+
+-- the tick that an event is of; an access stands where Go does
+abbrev pub tick_of : Event → SoloTick
+tick_of (Steps kind wire_free answer) = Step kind
+tick_of (Arrives frame fate) = Arrive frame
+tick_of (Accesses access) = Go
+
+-- what a bus plays by itself before each access: where it is lively, a tick of the EEPROM and then one of the PHY
+abbrev pub own_ticks : Bool → List SoloTick
+own_ticks lively = if lively then Step EepromTick ∷ Step PhyTick ∷ [] else []
+
+-- each step found the wire free exactly where less than 64 frames were on it, of so many before the first
+abbrev pub AreFree : List Event → ℕ → Type 0
+AreFree [] frames = ⊤
+AreFree (Steps kind wire_free answer ∷ later) frames =
+    (wire_free ≡ nat_lt frames 64) × AreFree later (frames + length (past_of_step kind answer).put)
+AreFree (Arrives frame fate ∷ later) frames = AreFree later frames
+AreFree (Accesses access ∷ later) frames = AreFree later frames
+
+-- the greatest count of accesses
+abbrev pub most_accesses : ℕ
+most_accesses = 2 ^ 64 - 1
+
+-- What happened from one state to another: these events, of these ticks, what they put on the wire, and their accesses in the count.
+pub record Recounts (a b : SoloState) (past : Past) : Type 0 where
+  pub events : List Event
+  pub trail : Trail events a.world b.world
+  pub past_is : past ≡ past_of events
+  -- before each access the bus's own ticks and those of the next group, one event for each in order; nothing behind the last access
+  pub played : map tick_of events ≡ played_in is_go Go (own_ticks a.lively) past.accesses a.waiting
+  -- a group for each access waits no longer, and all other ticks do
+  pub waiting : b.waiting ≡ waiting_after is_go past.accesses a.waiting
+  pub free : AreFree events (length a.wire)
+  pub wire : b.wire ≡ a.wire ++ past.put
+  pub lively : b.lively ≡ a.lively
+  pub count : min b.accesses most_accesses ≡ min (a.accesses + length past.accesses) most_accesses
+
+-- one for a tick of the EEPROM, and one for a tick of the PHY
+abbrev pub eeprom_tick : SoloTick → ℕ
+eeprom_tick (Step EepromTick) = 1
+eeprom_tick _ = 0
+
+abbrev pub phy_tick : SoloTick → ℕ
+phy_tick (Step PhyTick) = 1
+phy_tick _ = 0
+
+-- how many ticks of each kind a bus plays by itself in these accesses
+abbrev pub own_count : Bool → List Access → ℕ
+own_count lively accesses = if lively then length accesses else 0
+
+-- A lively bus plays exactly one tick of each kind by itself for each access, and all others are of the groups that waited.
+pub record PlaysOwn (a : SoloState) (past : Past) : Type 0 where
+  pub eeprom : past.eeprom_ticks ≡ own_count a.lively past.accesses + sum_by eeprom_tick (groups_of is_go past.accesses a.waiting)
+  pub phy : past.phy_ticks ≡ own_count a.lively past.accesses + sum_by phy_tick (groups_of is_go past.accesses a.waiting)
+
+-- From one state to another exactly these ticks are played, one event for each and no access, and then these wait.
+pub record Plays (ticks left : List SoloTick) (a b : SoloState) : Type 0 where
+  pub events : List Event
+  pub are : All IsStep events
+  pub trail : Trail events a.world b.world
+  pub played : map tick_of events ≡ ticks
+  pub waiting : b.waiting ≡ left
+  pub free : AreFree events (length a.wire)
+  pub wire : b.wire ≡ a.wire ++ (past_of events).put
+  pub lively : b.lively ≡ a.lively
+  pub accesses : b.accesses ≡ a.accesses
+
+-- What comes before an access: the bus's own ticks and the next group are played, and the access is counted.
+pub record Prepared (a b : SoloState) : Type 0 where
+  pub plays : Plays (own_ticks a.lively ++ group_of is_go a.waiting) (behind_group is_go a.waiting) a (record b { accesses = a.accesses })
+  pub count : b.accesses ≡ min (a.accesses + 1) most_accesses

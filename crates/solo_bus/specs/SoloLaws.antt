@@ -1,0 +1,125 @@
+-- What a solo bus tells of two stretches it tells of both together.
+use Rattle.std.proofs.Common.{◌≡◌, ◌+◌, ◌++◌, ◌∷◌, [], Bool, true, false, List, ℕ, length, map, min, sum_by, if◌then◌else◌, refl, sym, ap}
+use Rattle.std.proofs.Common.{subst, ◌∙◌, append_assoc, arith, length-append}
+use Rattle.std.proofs.lemmas.List.{append-nil, map-append}
+use Rattle.std.proofs.lemmas.List.Sums.{sum_by-cons}
+use Rattle.bus.specs.Past.{Past, joined, nothing}
+use Rattle.adapter.specs.declared.step.StepKind.TheVariants.{TxTake, TxPut, RxData, RxDone, EepromTick, PhyTick}
+use Rattle.bus.specs.GroupLaws.{played_counts, played_joins, waiting_joins}
+use Rattle.bus.specs.Groups.{played_in, waiting_after}
+use Rattle.solo_bus.specs.SoloBuses.{AreFree, PlaysOwn, Recounts, SoloState, eeprom_tick, is_go, most_accesses, own_ticks, phy_tick, tick_of}
+use Rattle.bus.specs.TrailLaws.{past_of-append, trail_joins}
+use Rattle.bus.specs.Steps.{past_of_step}
+use Rattle.bus.specs.Trails.{past_of, past_of_event}
+use Rattle.bus.specs.declared.event.Event.{Event}
+use Rattle.bus.specs.declared.event.Event.TheVariants.{Accesses, Arrives, Steps}
+use Rattle.solo_bus.specs.declared.solo_bus.SoloTick.{SoloTick}
+use Rattle.solo_bus.specs.declared.solo_bus.SoloTick.TheVariants.{Go}
+
+pub are_free_joins : (first later : List Event) (n m : ℕ) → m ≡ n + length (past_of first).put → AreFree first n → AreFree later m
+    → AreFree (first ++ later) n
+are_free_joins [] later n m is one two = let none : m ≡ n = omega (arith, is) in subst (λ (k : ℕ). AreFree later k) none two
+are_free_joins (Steps kind wire_free answer ∷ first) later n m is one two =
+    let put = (past_of_step kind answer).put in
+    (one.0, are_free_joins first later (n + length put) m (omega (arith, is, length-append put (past_of first).put)) one.1 two)
+are_free_joins (Arrives frame fate ∷ first) later n m is one two = are_free_joins first later n m is one two
+are_free_joins (Accesses access ∷ first) later n m is one two = are_free_joins first later n m is one two
+
+pub recounts_none : (a : SoloState) → Recounts a a nothing
+recounts_none a = record {
+  events = [];
+  trail = refl;
+  past_is = refl;
+  played = refl;
+  waiting = refl;
+  free = tt;
+  wire = sym (append-nil a.wire);
+  lively = refl;
+  count = omega arith;
+}
+
+pub recounts_join : (a b c : SoloState) (first later : Past) → Recounts a b first → Recounts b c later → Recounts a c (joined first later)
+recounts_join a b c first later one two = record {
+  events = one.events ++ two.events;
+  trail = trail_joins one.events two.events a.world b.world c.world one.trail two.trail;
+  past_is = ap (λ (p : Past). joined p later) one.past_is ∙ ap (joined (past_of one.events)) two.past_is
+      ∙ sym (past_of-append one.events two.events);
+  played =
+      map-append tick_of one.events two.events
+      ∙ ap (λ (ticks : List SoloTick). ticks ++ map tick_of two.events) one.played
+      ∙ ap (λ (ticks : List SoloTick). played_in is_go Go (own_ticks a.lively) first.accesses a.waiting ++ ticks)
+      (two.played
+      ∙ ap (λ (lively : Bool). played_in is_go Go (own_ticks lively) later.accesses b.waiting) one.lively
+      ∙ ap (played_in is_go Go (own_ticks a.lively) later.accesses) one.waiting)
+      ∙ sym (played_joins is_go Go (own_ticks a.lively) first.accesses later.accesses a.waiting);
+  waiting =
+      two.waiting
+      ∙ ap (waiting_after is_go later.accesses) one.waiting
+      ∙ sym (waiting_joins is_go first.accesses later.accesses a.waiting);
+  free =
+      are_free_joins one.events two.events (length a.wire) (length b.wire)
+      (ap length one.wire ∙ length-append a.wire first.put ∙ ap (λ (p : Past). length a.wire + length p.put) one.past_is) one.free two.free;
+  wire = two.wire ∙ ap (λ (frames : List (List ℕ)). frames ++ later.put) one.wire ∙ append_assoc a.wire first.put later.put;
+  lively = two.lively ∙ one.lively;
+  count = omega (arith, one.count, two.count, length-append first.accesses later.accesses);
+}
+
+-- Each access raises the count of a solo bus by one.
+pub recounts_count : (a b : SoloState) (past : Past) → Recounts a b past
+    → min b.accesses most_accesses ≡ min (min a.accesses most_accesses + length past.accesses) most_accesses
+recounts_count a b past recounts = omega (arith, recounts.count)
+
+-- The ticks of each kind among some events are those that were played.
+
+is_eeprom_tick : (event : Event) → (past_of_event event).eeprom_ticks ≡ eeprom_tick (tick_of event)
+is_eeprom_tick (Steps TxTake wire_free answer) = refl
+is_eeprom_tick (Steps TxPut wire_free answer) = refl
+is_eeprom_tick (Steps RxData wire_free answer) = refl
+is_eeprom_tick (Steps RxDone wire_free answer) = refl
+is_eeprom_tick (Steps EepromTick wire_free answer) = refl
+is_eeprom_tick (Steps PhyTick wire_free answer) = refl
+is_eeprom_tick (Arrives frame fate) = refl
+is_eeprom_tick (Accesses access) = refl
+
+is_phy_tick : (event : Event) → (past_of_event event).phy_ticks ≡ phy_tick (tick_of event)
+is_phy_tick (Steps TxTake wire_free answer) = refl
+is_phy_tick (Steps TxPut wire_free answer) = refl
+is_phy_tick (Steps RxData wire_free answer) = refl
+is_phy_tick (Steps RxDone wire_free answer) = refl
+is_phy_tick (Steps EepromTick wire_free answer) = refl
+is_phy_tick (Steps PhyTick wire_free answer) = refl
+is_phy_tick (Arrives frame fate) = refl
+is_phy_tick (Accesses access) = refl
+
+eeprom_ticks_of : (events : List Event) → (past_of events).eeprom_ticks ≡ sum_by eeprom_tick (map tick_of events)
+eeprom_ticks_of [] = refl
+eeprom_ticks_of (event ∷ later) =
+    omega (arith, is_eeprom_tick event, eeprom_ticks_of later, sum_by-cons eeprom_tick (tick_of event) (map tick_of later))
+
+phy_ticks_of : (events : List Event) → (past_of events).phy_ticks ≡ sum_by phy_tick (map tick_of events)
+phy_ticks_of [] = refl
+phy_ticks_of (event ∷ later) =
+    omega (arith, is_phy_tick event, phy_ticks_of later, sum_by-cons phy_tick (tick_of event) (map tick_of later))
+
+own_eeprom_tick : (lively : Bool) → sum_by eeprom_tick (own_ticks lively) ≡ (if lively then 1 else 0)
+own_eeprom_tick true = refl
+own_eeprom_tick false = refl
+
+own_phy_tick : (lively : Bool) → sum_by phy_tick (own_ticks lively) ≡ (if lively then 1 else 0)
+own_phy_tick true = refl
+own_phy_tick false = refl
+
+-- What a bus tells names its own ticks.
+pub recounts_own : (a b : SoloState) (past : Past) → Recounts a b past → PlaysOwn a past
+recounts_own a b past recounts = record {
+  eeprom =
+      ap (λ (p : Past). p.eeprom_ticks) recounts.past_is
+      ∙ eeprom_ticks_of recounts.events
+      ∙ ap (sum_by eeprom_tick) recounts.played
+      ∙ played_counts is_go Go (own_ticks a.lively) eeprom_tick a.lively past.accesses a.waiting refl (own_eeprom_tick a.lively);
+  phy =
+      ap (λ (p : Past). p.phy_ticks) recounts.past_is
+      ∙ phy_ticks_of recounts.events
+      ∙ ap (sum_by phy_tick) recounts.played
+      ∙ played_counts is_go Go (own_ticks a.lively) phy_tick a.lively past.accesses a.waiting refl (own_phy_tick a.lively);
+}

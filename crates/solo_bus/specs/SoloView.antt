@@ -1,0 +1,17 @@
+-- How the fields of a solo bus are the plain data of its contracts (own).
+use Rattle.std.specs.Prelude.{◌≡◌}
+use Rattle.solo_bus.specs.SoloBuses.{SoloState}
+use Rattle.solo_bus.specs.declared.solo_bus.SoloBus.TheInside.{Inside}
+
+abbrev pub solo_of : Inside → SoloState
+solo_of inside = record {
+  world = record { memory = inside.memory; adapter = inside.adapter };
+  lively = inside.lively;
+  waiting = inside.waiting.items;
+  wire = inside.wire.frames;
+  accesses = inside.accesses;
+}
+
+pub record HasQueues (inside : Inside) : Type 0 where
+  pub waiting : inside.waiting.capacity ≡ 32
+  pub wire : inside.wire.capacity ≡ 64

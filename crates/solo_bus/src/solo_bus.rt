@@ -1,0 +1,288 @@
+// The solo bus: one adapter and its memory.
+
+ghost use Rattle.std.specs.Prelude.{◌≡◌, ◌≤◌, ◌+◌, ◌++◌, ◌↔◌, [], drop, length, min, slice_get, IfOk, IfSome, IsNone};
+ghost use Rattle.std.specs.Prelude.{Some};
+
+use adapter::{Adapter, Fate, StepKind, StepOutcome};
+use circular_buffer::HeapCircularBuffer;
+use descriptors::Frame;
+use dma_memory::HostMemory;
+use frame_queue::FrameQueue;
+use std::alloc::{AllocError, Global};
+use std::marker::Model;
+
+/// How many ticks may wait to be played.
+pub const MOST_TICKS: usize = 32;
+
+/// How many frames fit on the wire of a solo bus.
+pub const WIRE_FRAMES: u8 = 64;
+
+/// What is played before an access.
+#[derive(Debug, Drop, PartialEq, Eq)]
+pub enum SoloTick {
+    /// The next access comes here.
+    Go,
+    /// The adapter takes a step.
+    Step(StepKind),
+    /// A frame is delivered to the adapter.
+    Arrive(Frame),
+}
+
+/// A bus with one adapter and its memory, and nobody else at its wire.
+///
+/// In contracts it is a `SoloState`, plain data that `specs/Solo.antt` lists. All memory is taken when
+/// it is made.
+#[derive(Drop)]
+pub struct SoloBus {
+    adapter: Adapter,
+    memory: HostMemory,
+    lively: bool,
+    waiting: HeapCircularBuffer<SoloTick>,
+    wire: FrameQueue,
+    accesses: u64,
+}
+
+impl Model for SoloBus {
+    ghost use Rattle.solo_bus.specs.SoloBuses.{SoloState};
+
+    ghost Value = { SoloState };
+
+    ghost use Rattle.solo_bus.specs.SoloView.{solo_of, HasQueues};
+
+    ghost view = { solo_of };
+
+    ghost invariant = { HasQueues };
+}
+
+impl SoloBus {
+    ghost use Rattle.adapter.specs.Receiving.{IsFate};
+    ghost use Rattle.adapter.specs.Registers.{answer_at};
+    ghost use Rattle.adapter.specs.Steps.{Answers};
+    ghost use Rattle.bus.specs.Groups.{behind_group, group_of, without_go};
+    ghost use Rattle.solo_bus.specs.SoloBuses.{Plays, Prepared, has_room, is_go, most_accesses, own_ticks, solo_after_arrival};
+    ghost use Rattle.solo_bus.specs.SoloBuses.{solo_after_step, solo_stepped};
+    ghost use Rattle.adapter.specs.State.{IsAdapter};
+    ghost use Rattle.adapter.specs.World.{world_after_read, world_after_store, world_after_write};
+    ghost use Rattle.dma_memory.specs.HostMemory.{bytes_at, LiesIn};
+
+    /// A bus with no ticks to be played and an empty wire. A lively one plays a tick of the EEPROM and
+    /// one of the PHY before each access.
+    ///
+    /// # Errors
+    ///
+    /// Want of memory alone.
+    pub fn new(
+        alloc: Global,
+        adapter: Adapter,
+        memory: HostMemory,
+        lively: bool,
+    ) -> Result<SoloBus, AllocError>
+        ensures { IfOk result (λ bus. bus ≡ record {
+          world = record { memory = memory; adapter = adapter };
+          lively = lively;
+          waiting = [];
+          wire = [];
+          accesses = 0;
+        }) }
+    {
+        Ok(SoloBus {
+            adapter,
+            memory,
+            lively,
+            waiting: HeapCircularBuffer::with_capacity(alloc, MOST_TICKS)?,
+            wire: FrameQueue::new(alloc, WIRE_FRAMES)?,
+            accesses: 0,
+        })
+    }
+
+    /// A step of the adapter. The wire has room while less than 64 frames are on it; a frame that is put
+    /// stands there behind the others, and is taken off it by [`take_put`](SoloBus::take_put).
+    pub fn step(&mut self, kind: StepKind) -> StepOutcome
+        ensures answer { Answers kind (has_room self.old) self.old.world.memory self.old.world.adapter
+            (solo_stepped result self.old) }
+        ensures state { self.new ≡ solo_after_step kind (solo_stepped result self.old) self.old }
+        ensures running { IsAdapter self.old.world.adapter }
+    {
+        let wire = &mut self.wire;
+        self.adapter.step_onto(kind, &mut self.memory, wire)
+    }
+
+    /// A frame is delivered to the adapter, and meets its fate.
+    pub fn arrive(&mut self, frame: &[u8]) -> Fate
+        ensures fate { IsFate self.old.world.adapter frame.now result }
+        ensures state { self.new ≡ solo_after_arrival result frame.now self.old }
+        ensures running { IsAdapter self.old.world.adapter }
+    {
+        self.adapter.arrive(frame)
+    }
+
+    /// Takes the oldest frame off the wire; `None` exactly where there is none.
+    pub fn take_put(&mut self) -> Option<Frame>
+        ensures none { IsNone result ↔ (self.old.wire ≡ []) }
+        ensures oldest { IfSome result (λ frame. slice_get self.old.wire 0 ≡ Some frame) }
+        ensures state { self.new ≡ record self.old { wire = drop 1 self.old.wire } }
+    {
+        let frame = Frame::from_slice(self.wire.front()?);
+        self.wire.pop();
+        Some(frame)
+    }
+
+    /// Lets ticks be played, behind those that wait already, before the accesses that follow: before
+    /// each those up to the next [`Go`](SoloTick::Go). With them at most 32 wait.
+    pub fn play(&mut self, ticks: &[SoloTick])
+        requires room { length self.old.waiting + length ticks.now ≤ MOST_TICKS }
+        ensures { self.new ≡ record self.old { waiting = self.old.waiting ++ ticks.now } }
+    {
+        for tick in ticks {
+            let _ = self.waiting.push_back(copy_of(tick));
+        }
+    }
+
+    /// How many ticks wait to be played.
+    pub fn waiting(&self) -> usize
+        ensures count { result ≡ length self.now.waiting }
+        ensures fits { result ≤ MOST_TICKS }
+    {
+        self.waiting.len()
+    }
+
+    /// Plays all ticks that wait, with [`Go`](SoloTick::Go) skipped.
+    pub fn finish(&mut self)
+        ensures { Plays (without_go is_go self.old.waiting) [] self.old self.new }
+    {
+        while let Some(tick) = self.next_tick() {
+            match tick {
+                SoloTick::Go => {}
+                SoloTick::Step(kind) => {
+                    self.step(kind);
+                }
+                SoloTick::Arrive(frame) => {
+                    self.arrive(frame.as_slice());
+                }
+            }
+        }
+    }
+
+    /// Plays the ticks up to the next [`Go`](SoloTick::Go), which waits no longer.
+    fn play_group(&mut self)
+        ensures { Plays (group_of is_go self.old.waiting) (behind_group is_go self.old.waiting) self.old self.new }
+    {
+        while let Some(tick) = self.next_tick() {
+            match tick {
+                SoloTick::Go => return,
+                SoloTick::Step(kind) => {
+                    self.step(kind);
+                }
+                SoloTick::Arrive(frame) => {
+                    self.arrive(frame.as_slice());
+                }
+            }
+        }
+    }
+
+    /// A lively bus plays a tick of the EEPROM, and then one of the PHY.
+    fn live(&mut self)
+        ensures { Plays (own_ticks self.old.lively) self.old.waiting self.old self.new }
+    {
+        if self.is_lively() {
+            for kind in [StepKind::EepromTick, StepKind::PhyTick] {
+                self.step(kind);
+            }
+        }
+    }
+
+    /// Counts an access.
+    fn count_access(&mut self)
+        ensures { self.new ≡ record self.old { accesses = min (self.old.accesses + 1) most_accesses } }
+    {
+        self.accesses = self.accesses.saturating_add(1);
+    }
+
+    /// Plays what comes before an access, and counts the access.
+    pub(crate) fn prepare(&mut self)
+        ensures { Prepared self.old self.new }
+    {
+        self.live();
+        self.play_group();
+        self.count_access();
+    }
+
+    /// Whether the bus plays a tick of the EEPROM and one of the PHY before each access.
+    pub fn is_lively(&self) -> bool
+        ensures { result ≡ self.now.lively }
+    {
+        self.lively
+    }
+
+    /// How many bytes the memory has.
+    pub(crate) fn memory_size(&self) -> u64
+        ensures { result ≡ length self.now.world.memory }
+    {
+        self.memory.size()
+    }
+
+    /// How many accesses there were, up to the greatest `u64`.
+    pub(crate) fn access_count(&self) -> u64
+        ensures { result ≡ self.now.accesses }
+    {
+        self.accesses
+    }
+
+    /// Reads a register, with nothing before it.
+    pub(crate) fn read_now(&mut self, offset: u32) -> u32
+        ensures answer { result ≡ answer_at offset self.old.world.adapter }
+        ensures state { self.new ≡ record self.old { world = world_after_read offset self.old.world } }
+        ensures adapter { IsAdapter self.old.world.adapter }
+    {
+        self.adapter.read(offset)
+    }
+
+    /// Writes a register, with nothing before it.
+    pub(crate) fn write_now(&mut self, offset: u32, value: u32)
+        ensures state { self.new ≡ record self.old { world = world_after_write offset value self.old.world } }
+        ensures adapter { IsAdapter self.old.world.adapter }
+    {
+        self.adapter.write(offset, value);
+    }
+
+    /// Loads bytes that lie in memory, with nothing before it.
+    pub(crate) fn load_now(&self, address: u64, into: &mut [u8])
+        requires lies { LiesIn self.now.world.memory address (length into.old) }
+        ensures loaded { into.new ≡ bytes_at self.now.world.memory address (length into.old) }
+        ensures adapter { IsAdapter self.now.world.adapter }
+    {
+        // A call of the adapter, so that the clause `adapter` may say what holds of every one.
+        let _line = self.adapter.line();
+        let _ = self.memory.load(address, into);
+    }
+
+    /// Stores bytes that lie in memory, with nothing before it.
+    pub(crate) fn store_now(&mut self, address: u64, bytes: &[u8])
+        requires lies { LiesIn self.old.world.memory address (length bytes.now) }
+        ensures state { self.new ≡ record self.old { world = world_after_store address bytes.now self.old.world } }
+        ensures adapter { IsAdapter self.old.world.adapter }
+    {
+        // A call of the adapter, so that the clause `adapter` may say what holds of every one.
+        let _line = self.adapter.line();
+        let _ = self.memory.store(address, bytes);
+    }
+
+    /// The next tick, which waits no longer.
+    fn next_tick(&mut self) -> Option<SoloTick>
+        ensures next { result ≡ slice_get self.old.waiting 0 }
+        ensures state { self.new ≡ record self.old { waiting = drop 1 self.old.waiting } }
+    {
+        self.waiting.pop_front()
+    }
+}
+
+/// A copy of a tick.
+fn copy_of(tick: &SoloTick) -> SoloTick
+    ensures { result ≡ tick.now }
+{
+    match tick {
+        SoloTick::Go => SoloTick::Go,
+        SoloTick::Step(kind) => SoloTick::Step(*kind),
+        SoloTick::Arrive(frame) => SoloTick::Arrive(Frame::from_slice(frame.as_slice())),
+    }
+}

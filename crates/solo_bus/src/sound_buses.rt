@@ -1,0 +1,135 @@
+//! Buses on which the conditions of the law hold: none of these is empty.
+//!
+//! Each has a new adapter whose link never comes up, and 4,096 bytes of memory: a receive buffer at 0,
+//! the receive ring of eight slots at 2,048, the transmit ring of eight at 2,176, and data to be sent at
+//! 2,304. Slot 0 is the driver's oldest in both rings.
+
+ghost use Rattle.std.specs.Prelude.{◌≡◌, IfOk};
+ghost use Rattle.solo_bus.specs.SoundWorlds.{HasFinished, HasFramesInBuffer, HasFramesInRing, HasRings, HasWork};
+ghost use Rattle.adapter.specs.Conditions.{Sound};
+ghost use Rattle.solo_bus.specs.SoundBuses.{ready, reported, resting, sending, sent, working};
+
+use crate::SoloBus;
+use adapter::offsets::{RCTL, RDBAL, RDLEN, RDT, TCTL, TDBAL, TDLEN, TDT};
+use adapter::{Adapter, StepKind};
+use dma_memory::HostMemory;
+use eeprom::Image;
+use mdic_phy::Link;
+use std::alloc::{AllocError, Global};
+
+/// The bytes of memory.
+const MEMORY_BYTES: u64 = 4096;
+
+/// Where the receive ring stands, behind the buffer at 0.
+const RECEIVE_RING: u32 = 2048;
+
+/// Where the transmit ring stands.
+const TRANSMIT_RING: u32 = 2176;
+
+/// The bytes of a ring of eight slots.
+const RING_BYTES: u32 = 128;
+
+/// RCTL with EN and BAM, and buffers of 2,048 bytes.
+const RECEIVE: u32 = 0x0000_8002;
+
+/// TCTL with EN and PSP.
+const TRANSMIT: u32 = 0x0000_000A;
+
+/// A frame that every adapter with BAM accepts.
+const BROADCAST: [u8; 60] = [0xFF; 60];
+
+/// A transmit descriptor of 60 bytes at 2,304, with EOP, IFCS and RS.
+const REQUEST: [u8; 16] = [0, 9, 0, 0, 0, 0, 0, 0, 60, 0, 0, 0x0B, 0, 0, 0, 0];
+
+/// A bus on which both rings are set up and the first receive slot is offered.
+///
+/// # Errors
+///
+/// Want of memory alone.
+pub fn with_rings(alloc: Global, image: &Image) -> Result<SoloBus, AllocError>
+    ensures world { IfOk result (λ bus. bus.world ≡ ready 4096 image.now) }
+    ensures sound { IfOk result (λ bus. Sound 0 0 bus.world) }
+    ensures rings { IfOk result (λ bus. HasRings bus.world) }
+{
+    let mut bus = at_rest(alloc, image)?;
+    bus.write_now(RDT, 1);
+    Ok(bus)
+}
+
+/// A bus with a frame in work.
+///
+/// # Errors
+///
+/// Want of memory alone.
+pub fn with_work(alloc: Global, image: &Image) -> Result<SoloBus, AllocError>
+    ensures world { IfOk result (λ bus. bus.world ≡ working 4096 image.now) }
+    ensures sound { IfOk result (λ bus. Sound 0 0 bus.world) }
+    ensures work { IfOk result (λ bus. HasWork bus.world) }
+{
+    let mut bus = with_rings(alloc, image)?;
+    bus.arrive(&BROADCAST);
+    bus.step(StepKind::RxData);
+    Ok(bus)
+}
+
+/// A bus with a finished receive slot.
+///
+/// # Errors
+///
+/// Want of memory alone.
+pub fn with_finished_slot(alloc: Global, image: &Image) -> Result<SoloBus, AllocError>
+    ensures world { IfOk result (λ bus. bus.world ≡ reported 4096 image.now) }
+    ensures sound { IfOk result (λ bus. Sound 0 0 bus.world) }
+    ensures finished { IfOk result (λ bus. HasFinished bus.world) }
+{
+    let mut bus = with_work(alloc, image)?;
+    bus.step(StepKind::RxDone);
+    Ok(bus)
+}
+
+/// A bus with a frame to be sent in the transmit ring.
+///
+/// # Errors
+///
+/// Want of memory alone.
+pub fn with_frame_to_send(alloc: Global, image: &Image) -> Result<SoloBus, AllocError>
+    ensures world { IfOk result (λ bus. bus.world ≡ sending 4096 image.now) }
+    ensures sound { IfOk result (λ bus. Sound 0 0 bus.world) }
+    ensures in_ring { IfOk result (λ bus. HasFramesInRing bus.world) }
+{
+    let mut bus = at_rest(alloc, image)?;
+    bus.store_now(u64::from(TRANSMIT_RING), &REQUEST);
+    bus.write_now(TDT, 1);
+    Ok(bus)
+}
+
+/// A bus with a frame in the transmit packet buffer.
+///
+/// # Errors
+///
+/// Want of memory alone.
+pub fn with_buffered_frame(alloc: Global, image: &Image) -> Result<SoloBus, AllocError>
+    ensures world { IfOk result (λ bus. bus.world ≡ sent 4096 image.now) }
+    ensures sound { IfOk result (λ bus. Sound 0 0 bus.world) }
+    ensures in_buffer { IfOk result (λ bus. HasFramesInBuffer bus.world) }
+{
+    let mut bus = with_frame_to_send(alloc, image)?;
+    bus.step(StepKind::TxTake);
+    Ok(bus)
+}
+
+/// A bus on which both rings are set up, and nothing is offered.
+fn at_rest(alloc: Global, image: &Image) -> Result<SoloBus, AllocError>
+    ensures { IfOk result (λ bus. bus.world ≡ resting 4096 image.now) }
+{
+    let adapter = Adapter::new(alloc, image, Link::Never)?;
+    let memory = HostMemory::new(alloc, MEMORY_BYTES)?;
+    let mut bus = SoloBus::new(alloc, adapter, memory, false)?;
+    bus.write_now(RDBAL, RECEIVE_RING);
+    bus.write_now(RDLEN, RING_BYTES);
+    bus.write_now(TDBAL, TRANSMIT_RING);
+    bus.write_now(TDLEN, RING_BYTES);
+    bus.write_now(RCTL, RECEIVE);
+    bus.write_now(TCTL, TRANSMIT);
+    Ok(bus)
+}
