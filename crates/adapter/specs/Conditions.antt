@@ -1,5 +1,6 @@
 -- The conditions under which a driver and its adapter share memory: without them no frame can be told from another (own).
 use Rattle.std.specs.Prelude.{◌≡◌, ◌≤◌, ◌++◌, ℕ, true, List, All, map}
+use Rattle.descriptors.specs.Frames.{longest_frame, shortest_frame}
 use Rattle.dma_memory.specs.Areas.{AreSeparate}
 use Rattle.registers.specs.Bits.{HasBit}
 use Rattle.descriptors.specs.declared.rx_desc.RxDesc.{RxDesc}
@@ -18,10 +19,10 @@ abbrev pub Reports : Queued → Type 0
 Reports queued = queued.report ≡ true
 
 -- The conditions, for the slots that the driver counts as its oldest.
-pub record Sound (oldest_received oldest_sent : ℕ) (world : World) : Type 0 where
-  pub receive_slots : IsDealt world.memory (receive_ring world) oldest_received (in_work world)
-  pub transmit_slots : IsDealt world.memory (transmit_ring world) oldest_sent (buffered world)
-  pub separate : AreSeparate world.memory (areas oldest_received world)
+pub record Sound (oldest_receive oldest_transmit : ℕ) (world : World) : Type 0 where
+  pub receive_slots : IsDealt world.memory (receive_ring world) oldest_receive (in_work world)
+  pub transmit_slots : IsDealt world.memory (transmit_ring world) oldest_transmit (buffered world)
+  pub separate : AreSeparate world.memory (areas oldest_receive world)
   -- every frame to be sent asks for a report
   pub reports : All Reports (world.adapter.transmitter.buffer ++ map (fetched true world.memory) (offered (transmit_ring world)))
   -- TCTL.PSP
@@ -30,14 +31,14 @@ pub record Sound (oldest_received oldest_sent : ℕ) (world : World) : Type 0 wh
 -- a descriptor as this adapter finishes one: EOP, no errors, and the length of a legal frame
 pub record IsWhole (descriptor : RxDesc) : Type 0 where
   pub ended : HasBit (status_bits descriptor.status) eop
-  pub unharmed : descriptor.errors ≡ 0
-  pub least : 60 ≤ descriptor.length
-  pub most : descriptor.length ≤ 1518
+  pub has_no_errors : descriptor.errors ≡ 0
+  pub least : shortest_frame ≤ descriptor.length
+  pub most : descriptor.length ≤ longest_frame
 
 abbrev pub AreWhole : List ℕ → List ℕ → Type 0
 AreWhole memory slots = All (λ slot. IsWhole (descriptor_at memory slot)) slots
 
 -- Each finished frame, and the one in work, has at most as many bytes as a receive buffer, by RCTL.BSIZE.
-pub record FitBuffers (oldest_received : ℕ) (world : World) : Type 0 where
-  pub finished_fit : All (λ slot. (named world.memory slot).size ≤ buffer_size world) (finished oldest_received world)
+pub record FitBuffers (oldest_receive : ℕ) (world : World) : Type 0 where
+  pub finished_fit : All (λ slot. (named world.memory slot).size ≤ buffer_size world) (finished oldest_receive world)
   pub work_fits : All (λ area. area.size ≤ buffer_size world) (work_areas world.memory world.adapter.receiver.work)

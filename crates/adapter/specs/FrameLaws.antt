@@ -3,7 +3,7 @@ use Rattle.std.proofs.Common.{◌≡◌, ◌∷◌, [], ℕ, List, All, drop, re
 use Rattle.std.proofs.lemmas.List.{append-nil}
 use Rattle.dma_memory.specs.Areas.{area_at}
 use Rattle.descriptors.specs.declared.ring.Ring.{Ring}
-use Rattle.descriptors.specs.Ring.{address_of, owned}
+use Rattle.descriptors.specs.Ring.{address_of, offered_places}
 use Rattle.rx_engine.specs.Held.{held, in_work}
 use Rattle.rx_engine.specs.Laws.{held-after_data, held-after_done}
 use Rattle.rx_engine.specs.Moving.{is_half_free}
@@ -40,7 +40,8 @@ putting_takes_first wire_free memory state frame told apart = by_buffer state.tr
 
     by_buffer : (buffer : List Queued)
         → IsOldest buffer frame
-        → IfFront buffer (λ queued. All (λ slot. IsAwayFrom memory (area_at (status_place queued) 1) (address_of ring slot)) (owned ring))
+        → IfFront buffer
+        (λ queued. All (λ slot. IsAwayFrom memory (area_at (status_place queued) 1) (address_of ring slot)) (offered_places ring))
         → to_send memory ring (pads state.transmit_control) buffer
         ≡ frame ∷ to_send (reported buffer memory) ring (pads state.transmit_control) (drop 1 buffer)
     by_buffer [] none apart = absurd none

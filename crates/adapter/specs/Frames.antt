@@ -2,7 +2,7 @@
 use Rattle.std.specs.Prelude.{◌≡◌, ◌++◌, ◌∷◌, ℕ, List, All, Bool, length, Some}
 use Rattle.dma_memory.specs.Areas.{AreApart, area_at, descriptor_area}
 use Rattle.dma_memory.specs.HostMemory.{LiesIn}
-use Rattle.descriptors.specs.Ring.{address_of, owned}
+use Rattle.descriptors.specs.Ring.{address_of, offered_places}
 use Rattle.rx_engine.specs.Arriving.{kept}
 use Rattle.rx_engine.specs.Descriptors.{named_address}
 use Rattle.rx_engine.specs.Receiver.{IsReceiver, oldest}
@@ -40,7 +40,7 @@ abbrev pub ReportStandsApart : List ℕ → AdapterState → Type 0
 ReportStandsApart memory state =
     IfFront state.transmitter.buffer (λ queued.
     All (λ slot. IsAwayFrom memory (area_at (status_place queued) 1) (address_of (ring_of state.transmit_ring) slot))
-    (owned (ring_of state.transmit_ring)))
+    (offered_places (ring_of state.transmit_ring)))
 
 -- A step that puts a frame takes the front of the frames to be sent.
 abbrev pub PuttingTakesFirst : Type 0

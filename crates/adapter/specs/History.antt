@@ -18,25 +18,25 @@ use Rattle.adapter.specs.Table.{IsInTable, row_of}
 
 -- What may come to an adapter: a read at an offset, a write of a word at an offset, a step of its own, with its answer and the memory that
 -- it was given, and a frame from the wire, with its fate.
-pub data Event : Type 0 where
-  Read : ℕ → Event
-  Write : ℕ → ℕ → Event
-  Step : StepKind → Stepped → List ℕ → Event
-  Arrive : Fate → List ℕ → Event
+pub data AdapterEvent : Type 0 where
+  Read : ℕ → AdapterEvent
+  Write : ℕ → ℕ → AdapterEvent
+  Step : StepKind → Stepped → List ℕ → AdapterEvent
+  Arrive : Fate → List ℕ → AdapterEvent
 
-abbrev pub after_event : Event → AdapterState → AdapterState
+abbrev pub after_event : AdapterEvent → AdapterState → AdapterState
 after_event (Read offset) state = after_read offset state
 after_event (Write offset value) state = after_write offset value state
 after_event (Step kind answer memory) state = after_step kind answer memory state
 after_event (Arrive fate frame) state = after_arrive fate frame state
 
 -- The adapter behind a list of events, the oldest first, by the steps of the calls.
-abbrev pub after_events : List Event → AdapterState → AdapterState
+abbrev pub after_events : List AdapterEvent → AdapterState → AdapterState
 after_events [] state = state
 after_events (event ∷ later) state = after_events later (after_event event state)
 
 -- CTRL is written with RST.
-abbrev pub is_reset_event : Event → Bool
+abbrev pub is_reset_event : AdapterEvent → Bool
 is_reset_event (Read offset) = false
 is_reset_event (Write offset value) = offset == (row_of Ctrl).offset && is_reset Ctrl value
 is_reset_event (Step kind answer memory) = false
@@ -49,32 +49,32 @@ moves_head place RxData Moved = place == (row_of (Receive Head)).offset
 moves_head place kind answer = false
 
 -- The register at this offset is written, moved on by a step, or reset.
-abbrev pub sets_register : ℕ → Event → Bool
+abbrev pub sets_register : ℕ → AdapterEvent → Bool
 sets_register place (Read offset) = false
 sets_register place (Write offset value) = offset == place || is_reset_event (Write offset value)
 sets_register place (Step kind answer memory) = moves_head place kind answer
 sets_register place (Arrive fate frame) = false
 
 -- No event of the list sets the register at this offset.
-abbrev pub NoneSets : ℕ → List Event → Type 0
+abbrev pub NoneSets : ℕ → List AdapterEvent → Type 0
 NoneSets place events = list_any (sets_register place) events ≡ false
 
 -- What a read at an offset answers behind a list of events since power-on.
-abbrev pub reads : List ℕ → Link → List Event → ℕ → ℕ
+abbrev pub reads : List ℕ → Link → List AdapterEvent → ℕ → ℕ
 reads words link events offset = answer_at offset (after_events events (new_adapter words link))
 
 -- A register whose kept bits are its rule follows from the last write to it and the last reset, whatever else was read and
 -- written, at any offset, and whatever steps came between.
 pub record ReadsByHistory (register : Register) (kept : ℕ) (words : List ℕ) (link : Link) : Type 0 where
   -- It reads its reset value where it wasn't written;
-  pub never_written : (all : List Event) → NoneSets (row_of register).offset all
+  pub never_written : (all : List AdapterEvent) → NoneSets (row_of register).offset all
       → reads words link all (row_of register).offset ≡ (row_of register).reset words
   -- behind the last write, with no reset behind it, the kept bits of what was written;
-  pub written : (before : List Event) (value : ℕ) (after : List Event)
+  pub written : (before : List AdapterEvent) (value : ℕ) (after : List AdapterEvent)
       → is_reset_event (Write (row_of register).offset value) ≡ false → NoneSets (row_of register).offset after
       → reads words link (before ++ Write (row_of register).offset value ∷ after) (row_of register).offset ≡ bit_and value kept
   -- and behind the last reset, with no write behind it, its reset value again.
-  pub reset : (before : List Event) (event : Event) (after : List Event)
+  pub reset : (before : List AdapterEvent) (event : AdapterEvent) (after : List AdapterEvent)
       → is_reset_event event ≡ true → NoneSets (row_of register).offset after
       → reads words link (before ++ event ∷ after) (row_of register).offset ≡ (row_of register).reset words
 

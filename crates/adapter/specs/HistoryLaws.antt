@@ -18,7 +18,8 @@ use Rattle.adapter.specs.declared.step.Stepped.{Stepped}
 use Rattle.adapter.specs.declared.step.Stepped.TheVariants.{Took, Put, Moved, Done, Fault}
 use Rattle.adapter.specs.AccessLaws.{Touches, link_shown, causes_set, mask_cleared}
 use Rattle.adapter.specs.AdapterLaws.{HasRegisters-after_events, HasRegisters-new}
-use Rattle.adapter.specs.History.{Event, Read, Write, Step, Arrive, after_event, after_events, is_reset_event, moves_head, sets_register}
+use Rattle.adapter.specs.History.{AdapterEvent, Read, Write, Step, Arrive, after_event, after_events, is_reset_event, moves_head}
+use Rattle.adapter.specs.History.{sets_register}
 use Rattle.adapter.specs.History.{NoneSets, PlainByHistory}
 use Rattle.adapter.specs.Registers.{after_reset, after_write, answer, answer_at, answer_of, by_row, is_reset, left_by_read, left_by_write}
 use Rattle.adapter.specs.Registers.{new_adapter, read_of, write_of}
@@ -94,7 +95,7 @@ image-stepped RxDone answer memory state = (parts-done answer state).image
 image-stepped EepromTick answer memory state = refl
 image-stepped PhyTick answer memory state = image-told (mdi.told state.mdic state.phy) state
 
-pub image-after_event : (event : Event) (state : AdapterState) → (after_event event state).image ≡ state.image
+pub image-after_event : (event : AdapterEvent) (state : AdapterState) → (after_event event state).image ≡ state.image
 image-after_event (Read offset) state = by_case (register_at offset)
   where
     by_case : (found : Option Register) → (left_by_read found state).image ≡ state.image
@@ -108,7 +109,7 @@ image-after_event (Write offset value) state = by_case (register_at offset)
 image-after_event (Step kind answer memory) state = image-stepped kind answer memory state
 image-after_event (Arrive fate frame) state = (parts-arrived fate frame state).image
 
-pub image-after_events : (events : List Event) (state : AdapterState) → (after_events events state).image ≡ state.image
+pub image-after_events : (events : List AdapterEvent) (state : AdapterState) → (after_events events state).image ≡ state.image
 image-after_events [] state = refl
 image-after_events (event ∷ later) state = image-after_events later (after_event event state) ∙ image-after_event event state
 
@@ -234,7 +235,7 @@ plain-written offset value register kept state plain none =
     by_case None stands = refl
 
 -- an event that doesn't set it leaves what it reads
-plain-event : (event : Event) (register : Register) (kept : ℕ) (state : AdapterState) → (row_of register).kept ≡ Some kept
+plain-event : (event : AdapterEvent) (register : Register) (kept : ℕ) (state : AdapterState) → (row_of register).kept ≡ Some kept
     → sets_register (row_of register).offset event ≡ false
     → answer register (after_event event state) ≡ answer register state
 plain-event (Read offset) register kept state plain none = by_case (register_at offset)
@@ -247,7 +248,7 @@ plain-event (Step kind answered memory) register kept state plain none = plain-s
 plain-event (Arrive fate frame) register kept state plain none = plain-arrived register fate frame kept state plain
 
 -- and so does a list of them
-pub plain-events : (events : List Event) (register : Register) (kept : ℕ) (state : AdapterState) → (row_of register).kept ≡ Some kept
+pub plain-events : (events : List AdapterEvent) (register : Register) (kept : ℕ) (state : AdapterState) → (row_of register).kept ≡ Some kept
     → NoneSets (row_of register).offset events
     → answer register (after_events events state) ≡ answer register state
 plain-events [] register kept state plain none = refl
@@ -256,7 +257,7 @@ plain-events (event ∷ later) register kept state plain none =
     plain-events later register kept (after_event event state) plain parts.1 ∙ plain-event event register kept state plain parts.0
 
 -- one list of events behind another
-pub after_events-append : (before after : List Event) (state : AdapterState)
+pub after_events-append : (before after : List AdapterEvent) (state : AdapterState)
     → after_events (before ++ after) state ≡ after_events after (after_events before state)
 after_events-append [] after state = refl
 after_events-append (event ∷ before) after state = after_events-append before after (after_event event state)
@@ -268,7 +269,7 @@ plain-not_pba register kept plain same =
     cc
 
 -- what a reset event leaves
-pub reset-event : (event : Event) (state : AdapterState) → is_reset_event event ≡ true → after_event event state ≡ after_reset state
+pub reset-event : (event : AdapterEvent) (state : AdapterState) → is_reset_event event ≡ true → after_event event state ≡ after_reset state
 reset-event (Read offset) state resets = absurd (false≢true resets)
 reset-event (Step kind answer memory) state resets = absurd (false≢true resets)
 reset-event (Arrive fate frame) state resets = absurd (false≢true resets)

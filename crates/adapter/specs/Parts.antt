@@ -10,7 +10,7 @@ use Rattle.mdic_phy.specs.Phy.{new_phy}
 use Rattle.adapter.specs.declared.register.Register.{Register}
 use Rattle.adapter.specs.declared.register.Register.TheVariants.{Ctrl, Eerd, Mdic}
 use Rattle.adapter.specs.declared.step.StepKind.TheVariants.{EepromTick, PhyTick}
-use Rattle.adapter.specs.History.{Event, Read, Write, Step, Arrive, after_events, is_reset_event, reads}
+use Rattle.adapter.specs.History.{AdapterEvent, Read, Write, Step, Arrive, after_events, is_reset_event, reads}
 use Rattle.adapter.specs.Registers.{is_reset, new_adapter}
 use Rattle.adapter.specs.Table.{register_at, row_of}
 
@@ -20,14 +20,14 @@ eerd_written (Some Eerd) value = eerd.Write value ∷ []
 eerd_written found value = []
 
 -- What comes to EERD of an event, a reset apart.
-abbrev pub eerd_operation : Event → List eerd.Operation
+abbrev pub eerd_operation : AdapterEvent → List eerd.Operation
 eerd_operation (Read offset) = []
 eerd_operation (Write offset value) = eerd_written (register_at offset) value
 eerd_operation (Step EepromTick answer memory) = eerd.Tick ∷ []
 eerd_operation (Step kind answer memory) = []
 eerd_operation (Arrive fate frame) = []
 
-abbrev pub eerd_operations : List Event → List eerd.Operation
+abbrev pub eerd_operations : List AdapterEvent → List eerd.Operation
 eerd_operations [] = []
 eerd_operations (event ∷ later) = eerd_operation event ++ eerd_operations later
 
@@ -38,30 +38,31 @@ mdic_written (Some Ctrl) value = if is_reset Ctrl value then mdic.Write 0 ∷ []
 mdic_written found value = []
 
 -- What comes to MDIC of an event.
-abbrev pub mdic_event : Event → List MdicEvent
+abbrev pub mdic_event : AdapterEvent → List MdicEvent
 mdic_event (Read offset) = []
 mdic_event (Write offset value) = mdic_written (register_at offset) value
 mdic_event (Step PhyTick answer memory) = mdic.Tick ∷ []
 mdic_event (Step kind answer memory) = []
 mdic_event (Arrive fate frame) = []
 
-abbrev pub mdic_events : List Event → List MdicEvent
+abbrev pub mdic_events : List AdapterEvent → List MdicEvent
 mdic_events [] = []
 mdic_events (event ∷ later) = mdic_event event ++ mdic_events later
 
 -- Among these events there is no reset.
-abbrev pub NoReset : List Event → Type 0
+abbrev pub NoReset : List AdapterEvent → Type 0
 NoReset events = list_any is_reset_event events ≡ false
 
 -- EERD reads what the law of its history says of what came to it since power-on or the last reset;
 -- MDIC reads what the law of its history says of what came to it since power-on, and so stands the PHY.
 pub record PartsByHistory (words : List ℕ) (link : Link) : Type 0 where
-  pub eerd_since_power_on : (all : List Event) → NoReset all
+  pub eerd_since_power_on : (all : List AdapterEvent) → NoReset all
       → reads words link all (row_of Eerd).offset ≡ eerd.reads_after words (eerd_operations all)
-  pub eerd_since_reset : (before : List Event) (event : Event) (after : List Event) → is_reset_event event ≡ true → NoReset after
+  pub eerd_since_reset : (before : List AdapterEvent) (event : AdapterEvent) (after : List AdapterEvent) → is_reset_event event ≡ true
+      → NoReset after
       → reads words link (before ++ event ∷ after) (row_of Eerd).offset ≡ eerd.reads_after words (eerd_operations after)
-  pub mdic : (all : List Event) → reads words link all (row_of Mdic).offset ≡ mdic_reads (new_phy link) (mdic_events all)
-  pub phy : (all : List Event) → (after_events all (new_adapter words link)).phy ≡ phy_of (new_phy link) (mdic_events all)
+  pub mdic : (all : List AdapterEvent) → reads words link all (row_of Mdic).offset ≡ mdic_reads (new_phy link) (mdic_events all)
+  pub phy : (all : List AdapterEvent) → (after_events all (new_adapter words link)).phy ≡ phy_of (new_phy link) (mdic_events all)
 
 abbrev pub PartsHaveTheirLaws : Type 0
 PartsHaveTheirLaws = (words : List ℕ) (link : Link) → PartsByHistory words link

@@ -19,7 +19,7 @@ use Rattle.mdic_phy.specs.Phy as phy
 use Rattle.adapter.specs.declared.register.Register.{Register}
 use Rattle.adapter.specs.declared.register.Register.TheVariants.{Ctrl, Eerd, Mdic, Icr}
 use Rattle.adapter.specs.declared.step.StepKind.TheVariants.{TxTake, TxPut, RxData, RxDone, EepromTick, PhyTick}
-use Rattle.adapter.specs.History.{Event, Read, Write, Step, Arrive, after_event, after_events, is_reset_event}
+use Rattle.adapter.specs.History.{AdapterEvent, Read, Write, Step, Arrive, after_event, after_events, is_reset_event}
 use Rattle.adapter.specs.HistoryLaws.{LeavesParts, after_events-append, parts-arrived, parts-done, parts-moved, parts-put, parts-took}
 use Rattle.adapter.specs.HistoryLaws.{image-after_event, image-after_events, no_reset, reset-event}
 use Rattle.adapter.specs.Parts.{NoReset, PartsHaveTheirLaws, eerd_operation, eerd_operations, eerd_written, mdic_event, mdic_events}
@@ -93,7 +93,7 @@ both-read _ state = refl
 both-left : (before after : AdapterState) → LeavesParts before after → both_of after ≡ both_of before
 both-left before after left = rw (left.mdic, left.phy) refl
 
-both-event : (event : Event) (state : AdapterState)
+both-event : (event : AdapterEvent) (state : AdapterState)
     → both_of (after_event event state) ≡ after_mdic_events (mdic_event event) (both_of state)
 both-event (Read offset) state = by_case (register_at offset)
   where
@@ -114,7 +114,7 @@ both-event (Step EepromTick answer memory) state = refl
 both-event (Step PhyTick answer memory) state = both-ticked state
 both-event (Arrive fate frame) state = both-left state _ (parts-arrived fate frame state)
 
-pub both-events : (events : List Event) (state : AdapterState)
+pub both-events : (events : List AdapterEvent) (state : AdapterState)
     → both_of (after_events events state) ≡ after_mdic_events (mdic_events events) (both_of state)
 both-events [] state = refl
 both-events (event ∷ later) state =
@@ -137,7 +137,7 @@ eerd-told : (what : Option Ticked) (state : AdapterState) → (after_phy_told wh
 eerd-told (Some ticked) state = refl
 eerd-told None state = refl
 
-eerd-event : (event : Event) (state : AdapterState) → is_reset_event event ≡ false
+eerd-event : (event : AdapterEvent) (state : AdapterState) → is_reset_event event ≡ false
     → (after_event event state).eerd ≡ eerd.after_all state.image (eerd_operation event) state.eerd
 eerd-event (Read offset) state none = by_case (register_at offset)
   where
@@ -161,7 +161,7 @@ eerd-event (Step EepromTick answer memory) state none = refl
 eerd-event (Step PhyTick answer memory) state none = eerd-told (told state.mdic state.phy) state
 eerd-event (Arrive fate frame) state none = (parts-arrived fate frame state).eerd
 
-pub eerd-events : (events : List Event) (state : AdapterState) → NoReset events
+pub eerd-events : (events : List AdapterEvent) (state : AdapterState) → NoReset events
     → (after_events events state).eerd ≡ eerd.after_all state.image (eerd_operations events) state.eerd
 eerd-events [] state none = refl
 eerd-events (event ∷ later) state none =

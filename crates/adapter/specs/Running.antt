@@ -1,7 +1,7 @@
 -- When both engines of an adapter go on: what a step needs so that no fault stops its engine (that a fault stops an engine is own).
 use Rattle.std.specs.Prelude.{◌≡◌, ◌≢◌, ℕ, false, List, All}
 use Rattle.registers.specs.Bits.{HasBit}
-use Rattle.descriptors.specs.Ring.{IsSound}
+use Rattle.descriptors.specs.Ring.{HasValidIndices}
 use Rattle.registers.specs.Places.{rctl_bsex}
 use Rattle.tx_engine.specs.Fetching.{IsTransmittable, descriptor_at}
 use Rattle.adapter.specs.HostAreas.{buffer_size}
@@ -18,8 +18,8 @@ pub record CanRun (world : World) : Type 0 where
   pub receiver_runs : world.adapter.receiver.stopped ≡ false
   pub transmitter_runs : world.adapter.transmitter.stopped ≡ false
   -- Where head isn't tail, both are slots of their ring.
-  pub receive_indices : world.adapter.receive_ring.head ≢ world.adapter.receive_ring.tail → IsSound (receive_ring world)
-  pub transmit_indices : world.adapter.transmit_ring.head ≢ world.adapter.transmit_ring.tail → IsSound (transmit_ring world)
+  pub receive_indices : world.adapter.receive_ring.head ≢ world.adapter.receive_ring.tail → HasValidIndices (receive_ring world)
+  pub transmit_indices : world.adapter.transmit_ring.head ≢ world.adapter.transmit_ring.tail → HasValidIndices (transmit_ring world)
   -- RCTL.BSEX is 0, and each frame in the receive packet buffer fits into a buffer of the size that RCTL.BSIZE names.
   pub not_extended : ¬ (HasBit world.adapter.filter.rctl rctl_bsex)
   pub frames : AreWithin (buffer_size world) world.adapter.receiver.buffer

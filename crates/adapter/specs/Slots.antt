@@ -4,7 +4,7 @@ use Rattle.std.specs.Prelude.{◌≡◌, ◌<◌, ◌⊎◌, ◌++◌, ℕ, Bool
 use Rattle.dma_memory.specs.HostMemory.{bytes_at}
 use Rattle.registers.specs.Bits.{is_set}
 use Rattle.descriptors.specs.declared.ring.Ring.{Ring}
-use Rattle.descriptors.specs.Ring.{address_of, count_of, owned}
+use Rattle.descriptors.specs.Ring.{address_of, count_of, offered_places}
 use Rattle.rx_engine.specs.declared.engine.Work.{Work}
 use Rattle.tx_engine.specs.Transmitter.{Queued}
 use Rattle.adapter.specs.World.{World, receive_ring, transmit_ring}
@@ -12,7 +12,7 @@ use Rattle.descriptors.specs.RxStatus.{dd}
 
 -- the slots that the adapter owns: from head up to, not including, tail
 abbrev pub offered : Ring → List ℕ
-offered ring = map (address_of ring) (owned ring)
+offered ring = map (address_of ring) (offered_places ring)
 
 -- the slots from the driver's oldest one up to, not including, tail; all others are the driver's
 abbrev pub outstanding : Ring → ℕ → List ℕ

@@ -16,19 +16,19 @@ use Rattle.adapter.specs.HostFrames.{named}
 use Rattle.adapter.specs.Slots.{finished, outstanding}
 use Rattle.adapter.specs.World.{World, receive_ring, transmit_ring, world_after_store}
 use Rattle.adapter.specs.declared.ring.RingRegisters.{RingRegisters}
-use Rattle.bus.specs.Initialising.{with_transmit_ring}
+use Rattle.bus.specs.RegisterSetting.{with_transmit_ring}
 use Rattle.bus.specs.Law.{Acts}
-use Rattle.bus.specs.OwnSlots.{CanBeWritten}
-use Rattle.bus.specs.OwnStores.{IsOwn}
-use Rattle.bus.specs.Past.{Past, nothing}
+use Rattle.bus.specs.WritableSlots.{CanBeWritten}
+use Rattle.bus.specs.DriversStores.{IsDriversArea}
+use Rattle.bus.specs.PastOfStretch.{Past, nothing}
 use Rattle.bus.specs.declared.event.Access.TheVariants.{Stores}
-use Rattle.bus.proofs.Idle.{offered-none, outstanding-none}
+use Rattle.bus.proofs.IdleRings.{offered-none, outstanding-none}
 use Rattle.bus.proofs.Lists.{all-head, all-none, all-tail, pairs-head, pairs-tail}
-use Rattle.bus.proofs.OwnSlots.{own_receive_slots_can_be_written}
+use Rattle.bus.proofs.WritableSlots.{drivers_receive_slots_can_be_written}
 use Rattle.bus.proofs.Rings.{outstanding-inside}
 use Rattle.driver_law.specs.DriverState.{DriverState, receive_slot, receive_tail, transmit_slot}
-use Rattle.driver_law.specs.Goes.{GoesTo, RanBy}
-use Rattle.driver_law.specs.Ready.{ReadyWith}
+use Rattle.driver_law.specs.Stretches.{GoesTo, RanBy}
+use Rattle.driver_law.specs.ReadyDrivers.{ReadyWith}
 use Rattle.driver_law.proofs.Accesses.{ran_by-acts, store-sets}
 use Rattle.driver_law.proofs.Places.{place-add, place-below, places-differ}
 use Rattle.driver_law.proofs.Readiness.{own-staged, stored-kept}
@@ -42,7 +42,7 @@ zeros = replicate 16 0
 -- A descriptor lies in memory, and a store to it leaves what the law speaks of.
 record CanClear (d : DriverState) (world : World) (address : ℕ) : Type 0 where
   lies : LiesIn world.memory address 16
-  own : IsOwn d.oldest_received d.oldest_sent world (area_at address 16)
+  own : IsDriversArea d.oldest_receive d.oldest_transmit world (area_at address 16)
 
 -- A slot of the transmit ring's place, while the transmit side is off.
 
@@ -54,7 +54,7 @@ ring_of_one address = record { base_low = address; base_high = 0; length_bytes =
 sent-own : (d : DriverState) (slot : ℕ) (world : World) → ReadyWith false d world → slot < d.counts.tx
     → CanClear d world (transmit_slot d.counts slot)
 sent-own d slot world ready below =
-    let o = d.oldest_received in
+    let o = d.oldest_receive in
     let address = transmit_slot d.counts slot in
     let ring = ring_of_one address in
     let bare = with_transmit_ring ring world in
@@ -74,7 +74,7 @@ sent-own d slot world ready below =
     ≡ received = λ slots none. ap (λ (list : List ℕ). map (data_of world.memory) list ++ received) none in
     let bare_same : frame_areas o bare ≡ received = same _ (offered-none (transmit_ring bare) refl) in
     let world_same : frame_areas o world ≡ received = same _ (offered-none (transmit_ring world) ready.transmit.idle) in
-    let none : outstanding (transmit_ring world) d.oldest_sent
+    let none : outstanding (transmit_ring world) d.oldest_transmit
     ≡ [] = subst (λ (oldest : ℕ). outstanding (transmit_ring world) oldest ≡ []) ready.transmit.last
     (outstanding-none (transmit_ring world)) in
     let inside = outstanding-inside (receive_ring world) o ready.sound.receive_slots.slot in
@@ -98,7 +98,7 @@ clears-sent d slot world ready below =
     let others : (i : ℕ) → i < length d.staged
     → bytes_at memory' (receive_slot (place n (receive_tail d) i)) 16
     ≡ bytes_at world.memory (receive_slot (place n (receive_tail d) i)) 16 = λ i before.
-    let within = place-below n (receive_tail d) i (place-below n d.oldest_received (length d.buffers) ready.driver_is.oldest_slot) in
+    let within = place-below n (receive_tail d) i (place-below n d.oldest_receive (length d.buffers) ready.driver_is.oldest_slot) in
     bytes_at-elsewhere world.memory zeros address (receive_slot (place n (receive_tail d) i)) 16 can.lies (inr (omega (arith, within))) in
     goes-stores d d.staged d.pool world address zeros ready can.lies can.own ready.driver_is
     (stored-kept world.memory memory' d.counts (receive_tail d) d.staged others ready.stored)
@@ -117,12 +117,12 @@ clears-received : {up : Bool} (d : DriverState) (i : ℕ) (world : World) → Re
     → GoesTo up d world d (world_after_store (receive_slot (place d.counts.rx (receive_tail d) i)) zeros world) [] [] nothing
 clears-received {up} d i world ready behind short =
     let n = d.counts.rx in
-    let first = d.oldest_received in
+    let first = d.oldest_receive in
     let slot = place n (receive_tail d) i in
     let address = receive_slot slot in
     let at : address_of (receive_ring world) slot ≡ address = omega (arith, ready.receive.begins) in
-    let can : CanBeWritten first d.oldest_sent world address = subst (CanBeWritten first d.oldest_sent world) at
-    (own_receive_slots_can_be_written first d.oldest_sent slot world ready.sound (own-staged d world i ready short)) in
+    let can : CanBeWritten first d.oldest_transmit world address = subst (CanBeWritten first d.oldest_transmit world) at
+    (drivers_receive_slots_can_be_written first d.oldest_transmit slot world ready.sound (own-staged d world i ready short)) in
     let memory' = with_bytes world.memory address zeros in
     let below : slot < n = place-below n (receive_tail d) i (place-below n first (length d.buffers) ready.driver_is.oldest_slot) in
     let others : (j : ℕ) → j < length d.staged
@@ -148,11 +148,11 @@ walked n from (suc i) short =
     ap (λ (index : ℕ). place n index i) (mod-eq_of_lt inside) ∙ walked n (from + 1) i (omega (arith, short)) ∙ omega arith
 
 -- The last one, where the first is the oldest.
-clears-last : {up : Bool} (d : DriverState) (world : World) → ReadyWith up d world → d.oldest_received ≡ 0
+clears-last : {up : Bool} (d : DriverState) (world : World) → ReadyWith up d world → d.oldest_receive ≡ 0
     → GoesTo up d world d (world_after_store (receive_slot (d.counts.rx - 1)) zeros world) [] [] nothing
 clears-last {up} d world ready oldest =
     let n = d.counts.rx in
-    let first = d.oldest_received in
+    let first = d.oldest_receive in
     let room = ready.driver_is.room in
     let slot = ready.driver_is.oldest_slot in
     let i = n - 1 - length d.buffers in
@@ -191,7 +191,7 @@ ran_by-clears_sent world happened lively old new d slot address below at acts re
     (λ middle there. clears-sent d slot middle there below)
 
 pub ran_by-clears_received : {up : Bool} {B : Type 0} (world : B → World) (happened : B → B → Past → Type 0) (lively : B
-    → Type 0) (old new : B) (d : DriverState) (address : ℕ) → d.oldest_received ≡ 0 → address ≡ receive_slot (d.counts.rx - 1)
+    → Type 0) (old new : B) (d : DriverState) (address : ℕ) → d.oldest_receive ≡ 0 → address ≡ receive_slot (d.counts.rx - 1)
     → StoreActs world happened lively old new address → ReadyWith up d (world old)
     → RanBy up world happened (clears address ∷ []) old new d d [] []
 ran_by-clears_received world happened lively old new d address oldest at acts ready =

@@ -10,16 +10,16 @@ use Rattle.adapter.specs.State.{AdapterState}
 use Rattle.adapter.specs.Table.{address_high_at_reset, address_low_at_reset}
 use Rattle.bus.specs.Settings.{Settings, settings_after_all, settings_of}
 use Rattle.bring_up.specs.Configuration.{CanBeHad}
-use Rattle.bring_up.specs.Configured.{AreWords, IsConfigured, WritesConfigure, all_writes, names_vlans, writes_before_rings}
-use Rattle.bring_up.specs.Configured.{writes_from_rings}
+use Rattle.bring_up.specs.ConfiguredAdapters.{AreWords, IsConfigured, WritesConfigure, all_writes, names_vlans, writes_before_rings}
+use Rattle.bring_up.specs.ConfiguredAdapters.{writes_from_rings}
 use Rattle.bring_up.specs.FilterTables.{address_writes, table_writes}
 use Rattle.bring_up.specs.RingRegisters.{receive_control, receive_writes, ring_writes, transmit_writes}
-use Rattle.bring_up.specs.Table.{allocation_writes, link_writes, mask_writes, reset_writes, write_at}
+use Rattle.bring_up.specs.WrittenRegisters.{allocation_writes, link_writes, mask_writes, reset_writes, write_at}
 use Rattle.bring_up.specs.declared.config.Config.{Config}
 use Rattle.bring_up.proofs.RingSettings.{base-told, count-told, receive-ring-sets, receive-tail-sets, ring-fits, ring_at}
 use Rattle.bring_up.proofs.RingSettings.{transmit-ring-sets}
-use Rattle.bring_up.proofs.SettingGroups.{SetTo, allocation-sets, groups-join, link-sets, mask-sets, receive-sets, reset-sets, set-join}
-use Rattle.bring_up.proofs.SettingGroups.{transmit-sets}
+use Rattle.bring_up.proofs.SingleSettings.{SetTo, allocation-sets, groups-join, link-sets, mask-sets, receive-sets, reset-sets, set-join}
+use Rattle.bring_up.proofs.SingleSettings.{transmit-sets}
 use Rattle.bring_up.proofs.TableSettings.{address-set, groups-set, vlans-set}
 
 -- the filter when its tables and addresses have been written

@@ -6,15 +6,15 @@ use Rattle.adapter.specs.Registers.{after_write}
 use Rattle.adapter.specs.State.{AdapterState}
 use Rattle.adapter.specs.World.{World, world_after_read, world_after_write}
 use Rattle.bus.specs.Law.{Acts}
-use Rattle.bus.specs.Past.{Past, joined}
+use Rattle.bus.specs.PastOfStretch.{Past, joined}
 use Rattle.bus.specs.declared.event.Access.{Access}
 use Rattle.bus.specs.declared.event.Access.TheVariants.{Reads, Writes}
-use Rattle.bus.specs.Rest.{IsAtRest}
+use Rattle.bus.specs.AdaptersAtRest.{IsAtRest}
 use Rattle.bus.specs.Settings.{Settings, Write, settings_of, writes_in}
 use Rattle.bus.proofs.Lists.{all-none}
-use Rattle.bus.proofs.Rest.{accesses_keep_rest, happenings_keep_rest}
+use Rattle.bus.proofs.AdaptersAtRest.{accesses_keep_rest, happenings_keep_rest}
 use Rattle.bus.proofs.Settings.{happenings_leave_settings, reads-leave, writes-append}
-use Rattle.bring_up.specs.Sets.{Asks, IsAside}
+use Rattle.bring_up.specs.SettingSteps.{Asks, IsAside}
 
 -- What happens in two stretches happens in both together: the bus's own law.
 abbrev pub StretchesJoin : {B : Type 0} → (B → B → Past → Type 0) → Type 0

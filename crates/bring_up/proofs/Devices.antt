@@ -1,13 +1,13 @@
 -- A device is found, step by step.
 use Rattle.std.proofs.Common.{◌≡◌, ◌++◌, ℕ, List, sym, ap, ◌∙◌}
 use Rattle.adapter.specs.World.{World}
-use Rattle.bus.specs.Past.{Past, joined}
-use Rattle.bus.specs.Rest.{IsAtRest}
+use Rattle.bus.specs.PastOfStretch.{Past, joined}
+use Rattle.bus.specs.AdaptersAtRest.{IsAtRest}
 use Rattle.bus.specs.Settings.{Settings, Write, settings_after_all, settings_of}
 use Rattle.bus.proofs.Settings.{image-stays, link-stays, settings-append}
-use Rattle.bring_up.proofs.Asides.{allocation-aside, link-aside}
-use Rattle.bring_up.specs.Sets.{Asks, Sets}
-use Rattle.bring_up.specs.Table.{allocation_writes, link_writes, reset_writes}
+use Rattle.bring_up.proofs.WritesAtRest.{allocation-aside, link-aside}
+use Rattle.bring_up.specs.SettingSteps.{Asks, Sets}
+use Rattle.bring_up.specs.WrittenRegisters.{allocation_writes, link_writes, reset_writes}
 
 -- The image was read: the device is at rest, as it is behind a reset.
 pub record IsRead {B : Type 0} (world : B → World) (happened : B → B → Past → Type 0) (old new : B) : Type 0 where

@@ -16,26 +16,26 @@ use Rattle.adapter.specs.TableLaws.{register_at-there}
 use Rattle.adapter.specs.World.{World, receive_ring, transmit_ring, world_after_write}
 use Rattle.adapter.specs.declared.register.Register.{Register}
 use Rattle.adapter.specs.declared.register.Register.TheVariants.{Rctl, Tctl}
-use Rattle.bus.specs.Initialising.{with_receive_control, with_transmit_control}
+use Rattle.bus.specs.RegisterSetting.{with_receive_control, with_transmit_control}
 use Rattle.bus.specs.Law.{Acts}
-use Rattle.bus.specs.Past.{Past, nothing}
+use Rattle.bus.specs.PastOfStretch.{Past, nothing}
 use Rattle.bus.specs.Settings.{IsOff}
 use Rattle.bus.specs.declared.event.Access.{Access}
 use Rattle.bus.specs.declared.event.Access.TheVariants.{Writes}
 use Rattle.bus.proofs.KnownRings.{known_transmit_ring_stays}
 use Rattle.bus.proofs.Lists.{append-empty, map-empty}
 use Rattle.bus.proofs.Settings.{happens-off}
-use Rattle.bus.proofs.Waiting.{offers_wait}
-use Rattle.driver_law.specs.Beginnings.{Unmasked}
+use Rattle.bus.proofs.WaitingRings.{offers_wait}
+use Rattle.driver_law.specs.Beginnings.{Enabled}
 use Rattle.driver_law.specs.DriverState.{DriverState, transmit_tail}
-use Rattle.driver_law.specs.Goes.{Goes, GoesTo, RanBy}
-use Rattle.driver_law.specs.Ready.{Ready, ReadyWith}
+use Rattle.driver_law.specs.Stretches.{Goes, GoesTo, RanBy}
+use Rattle.driver_law.specs.ReadyDrivers.{Ready, ReadyWith}
 use Rattle.driver_law.proofs.Accesses.{SetsBy, access-link, access-set, write-sets}
-use Rattle.driver_law.proofs.Controls.{causes_are_unmasked, transmitter_is_enabled}
+use Rattle.driver_law.proofs.TransmitControl.{causes_are_enabled, transmitter_is_enabled}
 use Rattle.driver_law.proofs.ReceiveControl.{receiver_is_enabled}
 use Rattle.driver_law.proofs.Steps.{goes-happens}
 use Rattle.driver_law.proofs.Stretches.{goes_join, joined-nothing}
-use Rattle.bring_up.specs.DriverSteps.{LeavesDriver, LetsFramesIn, UnmasksCauses}
+use Rattle.bring_up.specs.DriverSteps.{LeavesDriver, LetsFramesIn, EnablesCauses}
 use Rattle.bring_up.specs.RingRegisters.{receive_control, receive_writes, transmit_writes}
 
 -- One access, from the very world in which it begins.
@@ -97,18 +97,18 @@ big-buffers false false world = refl
 pub lets-frames-in : {B : Type 0} (world : B → World) (happened : B → B → Past → Type 0) (lively : B
     → Type 0) (old new : B) (promiscuous by_vlan : Bool) (value : ℕ) (d : DriverState)
     → value ≡ receive_control promiscuous by_vlan → WriteActs world happened lively old new 0x0100 value → ReadyWith false d (world old)
-    → frames_held d.oldest_received (world old) ≡ [] → IsOff (world old)
+    → frames_held d.oldest_receive (world old) ≡ [] → IsOff (world old)
     → LetsFramesIn world happened (receive_writes promiscuous by_vlan) old new d
 unfolding ran_by-begins
 lets-frames-in world happened lively old new promiscuous by_vlan value d is written ready none off =
     let control = receive_control promiscuous by_vlan in
-    let o = d.oldest_received in
+    let o = d.oldest_receive in
     let acts = subst (WriteActs world happened lively old new 0x0100) is written in
     let middle = acts.middle in
     let within : o < count_of (receive_ring (world old)) = omega (arith, ready.driver_is.oldest_slot, ready.receive.slots) in
-    let waits = offers_wait o d.oldest_sent (world old) middle acts.past ready.sound within off none acts.before in
+    let waits = offers_wait o d.oldest_transmit (world old) middle acts.past ready.sound within off none acts.before in
     let arrives = acts.before.steady.off off in
-    let between = acts.before.between o d.oldest_sent ready.sound in
+    let between = acts.before.between o d.oldest_transmit ready.sound in
     let empty : frames_held o middle ≡ [] = between.holds ∙ ap (λ (frames : List (List ℕ)). frames ++ acts.past.stored) none ∙ arrives.0 in
     let done : world new ≡ with_receive_control control middle = acts.effect_is ∙ receive_control-written promiscuous by_vlan middle in
     let ready_there = (goes-happens d (world old) middle acts.past ready acts.before).flows.ready in
@@ -139,7 +139,7 @@ transmit_control-written world =
 pub lets-frames-out : {B : Type 0} (world : B → World) (happened : B → B → Past → Type 0) (lively : B
     → Type 0) (old new : B) (value : ℕ) (d : DriverState)
     → value ≡ 0x000400FA → WriteActs world happened lively old new 0x0400 value → ReadyWith false d (world old)
-    → d.oldest_sent < d.counts.tx
+    → d.oldest_transmit < d.counts.tx
     → KnowsRing (transmit_ring (world old)) (16 * d.counts.rx) d.counts.tx (transmit_tail d)
     → LeavesDriver true world happened transmit_writes old new d
 lets-frames-out world happened lively old new value d is written ready below knows =
@@ -159,31 +159,31 @@ no-slots (slot ∷ slots) none = absurd (omega (arith, none))
 
 -- What was told of finished slots before it.
 pub asked-still : (d : DriverState) (a b : World) (past : Past) → Goes d a d b [] [] past
-    → (finished d.oldest_received a ≡ []) ⊎ HasBit a.adapter.causes.recorded 7
-    → (finished d.oldest_received b ≡ []) ⊎ HasBit b.adapter.causes.recorded 7
+    → (finished d.oldest_receive a ≡ []) ⊎ HasBit a.adapter.causes.recorded 7
+    → (finished d.oldest_receive b ≡ []) ⊎ HasBit b.adapter.causes.recorded 7
 asked-still d a b past goes asked =
     ⊎_elim
-    (λ (same : length (finished d.oldest_received a) ≡ 0 + length (finished d.oldest_received b)).
+    (λ (same : length (finished d.oldest_receive a) ≡ 0 + length (finished d.oldest_receive b)).
     ⊎_elim
-    (λ (none : finished d.oldest_received a ≡ []). inl (no-slots (finished d.oldest_received b) (omega (arith, same, ap length none))))
+    (λ (none : finished d.oldest_receive a ≡ []). inl (no-slots (finished d.oldest_receive b) (omega (arith, same, ap length none))))
     (λ (bit : HasBit a.adapter.causes.recorded 7). inr (goes.causes 7 bit))
     asked)
     (λ (bit : HasBit b.adapter.causes.recorded 7). inr bit)
     goes.told
 
-pub unmasks-causes : {B : Type 0} (world : B → World) (happened : B → B → Past → Type 0) (lively : B
+pub enables-causes : {B : Type 0} (world : B → World) (happened : B → B → Past → Type 0) (lively : B
     → Type 0) (old new : B) (value : ℕ) (d : DriverState)
     → value ≡ 0xD1 → WriteActs world happened lively old new 0x00D0 value → Ready d (world old)
-    → UnmasksCauses world happened 0xD1 old new d
-unmasks-causes world happened lively old new value d is written ready =
+    → EnablesCauses world happened 0xD1 old new d
+enables-causes world happened lively old new value d is written ready =
     let acts = subst (WriteActs world happened lively old new 0x00D0) is written in
     let middle = acts.middle in
     let goes = goes-happens d (world old) middle acts.past ready acts.before in
     let sets = write-sets 0x00D0 0xD1 (world new) in
-    let unmasked : Unmasked true d 0xD1 middle (world new) =
-    subst (Unmasked true d 0xD1 middle) (sym acts.effect_is) (causes_are_unmasked true d 0xD1 middle goes.flows.ready) in
+    let enabled : Enabled true d 0xD1 middle (world new) =
+    subst (Enabled true d 0xD1 middle) (sym acts.effect_is) (causes_are_enabled true d 0xD1 middle goes.flows.ready) in
     let mask : HasBit (world new).adapter.causes.mask 7 =
-    subst (λ (bits : ℕ). HasBit bits 7) (sym unmasked.mask) ((HasBit-union middle.adapter.causes.mask 0xD1 7).1 (inr refl)) in
+    subst (λ (bits : ℕ). HasBit bits 7) (sym enabled.mask) ((HasBit-union middle.adapter.causes.mask 0xD1 7).1 (inr refl)) in
     record {
       past = acts.past;
       told = acts.told;
@@ -193,17 +193,17 @@ unmasks-causes world happened lively old new value d is written ready =
       link = access-link world happened lively old new (Writes 0x00D0 0xD1) _ acts sets;
       middle = middle;
       goes = goes;
-      unmasked = unmasked;
-      ready = unmasked.ready;
-      holds = unmasked.held ∙ goes.flows.holds;
+      enabled = enabled;
+      ready = enabled.ready;
+      holds = enabled.held ∙ goes.flows.holds;
       mask = mask;
       work = λ asked.
           record {
-            unmasked = mask;
+            enabled = mask;
             asked =
                 ⊎_elim
-                (λ (none : finished d.oldest_received middle ≡ []). inl (unmasked.finished_same ∙ none))
-                (λ (bit : HasBit middle.adapter.causes.recorded 7). inr (subst (λ (bits : ℕ). HasBit bits 7) (sym unmasked.recorded) bit))
+                (λ (none : finished d.oldest_receive middle ≡ []). inl (enabled.finished_same ∙ none))
+                (λ (bit : HasBit middle.adapter.causes.recorded 7). inr (subst (λ (bits : ℕ). HasBit bits 7) (sym enabled.recorded) bit))
                 (asked-still d (world old) middle acts.past goes asked);
           };
     }

@@ -6,9 +6,9 @@ use Rattle.std.proofs.lemmas.Bool.{false≢true}
 use Rattle.std.proofs.lemmas.Grind.{same_number_lists}
 use Rattle.eeprom.specs.Image.{word_at}
 use Rattle.adapter.specs.World.{World}
-use Rattle.bus.specs.Past.{Past, nothing}
+use Rattle.bus.specs.PastOfStretch.{Past, nothing}
 use Rattle.bring_up.specs.EepromReading.{ReadsImage, ReadsWord}
-use Rattle.bring_up.specs.Sets.{Asks}
+use Rattle.bring_up.specs.SettingSteps.{Asks}
 use Rattle.bring_up.specs.declared.init_error.InitError.{InitError}
 use Rattle.bring_up.proofs.CountedSteps.{AsksAtLeast, StretchesJoin, asks-image, asks-more}
 use Rattle.bring_up.proofs.Steps.{asks-join, asks-nothing}

@@ -17,9 +17,9 @@ use Rattle.adapter.specs.World.{World, world_after_read, world_after_write}
 use Rattle.adapter.specs.declared.register.Register.{Register}
 use Rattle.adapter.specs.declared.register.Register.TheVariants.{Eerd}
 use Rattle.bus.specs.Law.{Acts}
-use Rattle.bus.specs.Past.{Past}
+use Rattle.bus.specs.PastOfStretch.{Past}
 use Rattle.bus.specs.declared.event.Access.TheVariants.{Reads, Writes}
-use Rattle.bus.specs.Rest.{IsElsewhere}
+use Rattle.bus.specs.AdaptersAtRest.{IsElsewhere}
 use Rattle.bus.specs.Settings.{settings_of}
 use Rattle.bring_up.specs.EepromReading.{ReadsWord}
 use Rattle.bring_up.specs.declared.init_error.InitError.TheVariants.{EepromTimeout}

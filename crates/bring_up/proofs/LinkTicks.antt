@@ -16,8 +16,8 @@ use Rattle.adapter.specs.State.{AdapterState}
 use Rattle.adapter.specs.World.{World}
 use Rattle.bus.specs.Law.{Management, management_of}
 use Rattle.bus.specs.Link.{HasLink}
-use Rattle.bring_up.specs.Link.{Ends, IsNegotiating, NeedsMoreThan, restart_words, started, status_words}
-use Rattle.bring_up.proofs.PhyLine.{shown_status, ticks-none}
+use Rattle.bring_up.specs.Link.{Ends, IsNegotiating, NeedsMoreThan, restart_word, started, status_word}
+use Rattle.bring_up.proofs.MdicAndPhy.{shown_status, ticks-none}
 
 link-iterate : (n : ℕ) (phy : PhyState) → (iterate after_tick n phy).link ≡ phy.link
 link-iterate zero phy = refl
@@ -41,7 +41,7 @@ up-iterate (suc n) phy up = up-iterate n (after_tick phy) (complete-stays phy.ne
 -- Negotiation behind its start.
 
 pub negotiating : (lively : Type 0) (all : ℕ) (a : Management) (adapter : AdapterState) (answer : ℕ)
-    → Ends lively restart_words all a (management_of adapter) answer
+    → Ends lively restart_word all a (management_of adapter) answer
     → (begun : IsNegotiating adapter) × (begun.ticks < all)
 negotiating lively all a adapter answer ends =
     let link : adapter.phy.link ≡ ends.phy.link = ap (λ (p : PhyState). p.link) ends.leaves
@@ -146,7 +146,7 @@ abbrev HasBoth : ℕ → Type 0
 HasBoth value = HasBit value 5 × HasBit value 2
 
 -- Where an answer has bit 2 it has bit 5 too,
-pub seen-of : (lively : Type 0) (all : ℕ) (a b : Management) (answer : ℕ) → Ends lively status_words all a b answer
+pub seen-of : (lively : Type 0) (all : ℕ) (a b : Management) (answer : ℕ) → Ends lively status_word all a b answer
     → bit_and answer 0x04 ≢ 0 → HasBit b.mdic.value 5 × HasBit b.mdic.value 2
 seen-of lively all a b answer ends set =
     let at = ends.phy in
@@ -156,7 +156,7 @@ seen-of lively all a b answer ends set =
 
 -- and the link is up.
 pub up-of : (lively : Type 0) (all : ℕ) (a : Management) (world : World) (answer : ℕ)
-    → Ends lively status_words all a (management_of world.adapter) answer → bit_and answer 0x04 ≢ 0 → HasLink world
+    → Ends lively status_word all a (management_of world.adapter) answer → bit_and answer 0x04 ≢ 0 → HasLink world
 up-of lively all a world answer ends set =
     let at = ends.phy in
     let up : link_is_up at
@@ -169,11 +169,11 @@ up-of lively all a world answer ends set =
 -- Rounds of the wait.
 
 -- So many rounds behind a start of negotiation at least: two ticks a round, and from the first on the latch is clear.
-pub record Rounds (rounds : ℕ) (line : Management) : Type 0 where
-  pub no_command : line.mdic.pending ≡ None
-  pub counted : HasCounted (2 * rounds) line.phy
-  pub latch : 1 ≤ rounds → line.phy.latched_low ≡ false
-  pub needs : 2 ≤ rounds → NeedsMoreThan (2 * rounds) line.phy.link
+pub record Rounds (rounds : ℕ) (management : Management) : Type 0 where
+  pub no_command : management.mdic.pending ≡ None
+  pub counted : HasCounted (2 * rounds) management.phy
+  pub latch : 1 ≤ rounds → management.phy.latched_low ≡ false
+  pub needs : 2 ≤ rounds → NeedsMoreThan (2 * rounds) management.phy.link
 
 pub no-rounds : (adapter : AdapterState) → IsNegotiating adapter → Rounds 0 (management_of adapter)
 no-rounds adapter begun = record {
@@ -183,7 +183,7 @@ no-rounds adapter begun = record {
   needs = λ some. absurd (omega arith);
 }
 
-pub one-round : (lively : Type 0) (all : ℕ) (a b : Management) (rounds answer : ℕ) → lively → Ends lively status_words all a b answer
+pub one-round : (lively : Type 0) (all : ℕ) (a b : Management) (rounds answer : ℕ) → lively → Ends lively status_word all a b answer
     → NotBoth answer → Rounds rounds a → Rounds (rounds + 1) b
 one-round lively all a b rounds answer alive ends down before =
     let at = ends.phy in

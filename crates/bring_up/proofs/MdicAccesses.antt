@@ -7,15 +7,15 @@ use Rattle.adapter.specs.State.{AdapterState}
 use Rattle.adapter.specs.Table.{register_at}
 use Rattle.adapter.specs.World.{World, world_after_read, world_after_write}
 use Rattle.bus.specs.Law.{Acts}
-use Rattle.bus.specs.Past.{Past, joined, nothing}
+use Rattle.bus.specs.PastOfStretch.{Past, joined, nothing}
 use Rattle.bus.specs.declared.event.Access.{Access}
 use Rattle.bus.specs.declared.event.Access.TheVariants.{Reads, Writes}
-use Rattle.bus.specs.Rest.{IsAtRest, IsElsewhere, NoFrame}
+use Rattle.bus.specs.AdaptersAtRest.{IsAtRest, IsElsewhere, NoFrame}
 use Rattle.bus.specs.Settings.{Write, settings_of, writes_in}
 use Rattle.bus.proofs.Lists.{all-none}
-use Rattle.bus.proofs.Rest.{accesses_keep_rest, happenings_keep_rest}
+use Rattle.bus.proofs.AdaptersAtRest.{accesses_keep_rest, happenings_keep_rest}
 use Rattle.bus.proofs.Settings.{happenings_leave_settings, reads-leave, writes-append}
-use Rattle.bring_up.specs.Sets.{Asks}
+use Rattle.bring_up.specs.SettingSteps.{Asks}
 use Rattle.bring_up.proofs.Steps.{asks-nothing}
 
 pub record AsksTimes {B : Type 0} (world : B → World) (happened : B → B → Past → Type 0) (old new : B) (offset times : ℕ) : Type 0 where

@@ -2,28 +2,28 @@
 use Rattle.std.proofs.Common.{◌≡◌, ◌≢◌, ◌+◌, ◌*◌, ℕ, Result, Err, Ok, bit_and, refl, subst, ◌∙◌, arith}
 use Rattle.std.proofs.lemmas.Bool.{false≢true}
 use Rattle.adapter.specs.World.{World}
-use Rattle.bus.specs.Past.{Past, joined, nothing}
+use Rattle.bus.specs.PastOfStretch.{Past, joined, nothing}
 use Rattle.bring_up.specs.declared.init_error.InitError.{InitError}
 use Rattle.bring_up.specs.declared.init_error.InitError.TheVariants.{NoLink, PhyTimeout}
-use Rattle.bring_up.specs.Link.{AwaitsLink, Commands, IsNegotiating, NeedsMoreThan, Negotiates, restart_words, status_words}
+use Rattle.bring_up.specs.Link.{AwaitsLink, Commands, IsNegotiating, NeedsMoreThan, Negotiates, restart_word, status_word}
 use Rattle.bring_up.proofs.MdicAccesses.{AsksTimes, asks-both, asks-fewer, asks-none}
-use Rattle.bring_up.proofs.PhyCommands.{line_of}
+use Rattle.bring_up.proofs.PhyCommands.{management_behind}
 use Rattle.bring_up.proofs.LinkTicks.{NotBoth, Rounds, negotiating, no-rounds, one-round, seen-of, up-of}
 
 pub negotiates : {B : Type 0} (world : B → World) (happened : B → B → Past → Type 0) (lively : B
     → Type 0) (old new : B) (answer : ℕ) (done : Unit {0})
-    → Commands world happened lively old new restart_words (Ok answer) → Negotiates world happened lively old new (Ok done)
+    → Commands world happened lively old new restart_word (Ok answer) → Negotiates world happened lively old new (Ok done)
 negotiates world happened lively old new answer done commands = record {
   asks = commands.asks;
   link = commands.link;
-  started = negotiating (lively old) commands.asks.past.phy_ticks (line_of (world old)) (world new).adapter answer commands.ends;
+  started = negotiating (lively old) commands.asks.past.phy_ticks (management_behind (world old)) (world new).adapter answer commands.ends;
   late = tt;
   in_time = λ ticks. refl;
 }
 
 pub negotiates-late : {B : Type 0} (world : B → World) (happened : B → B → Past → Type 0) (lively : B
     → Type 0) (old new : B) (error told : InitError)
-    → Commands world happened lively old new restart_words (Err error) → Negotiates world happened lively old new (Err told)
+    → Commands world happened lively old new restart_word (Err error) → Negotiates world happened lively old new (Err told)
 negotiates-late world happened lively old new error told commands = record {
   asks = commands.asks;
   link = commands.link;
@@ -37,7 +37,7 @@ pub record Awaits {B : Type 0} (world : B → World) (happened : B → B → Pas
     → Type 0) (old now : B) (rounds : ℕ) : Type 0 where
   pub asked : AsksTimes world happened old now 0x0020 (2 * rounds)
   pub link : (world now).adapter.phy.link ≡ (world old).adapter.phy.link
-  pub counted : lively old → IsNegotiating (world old).adapter → Rounds rounds (line_of (world now))
+  pub counted : lively old → IsNegotiating (world old).adapter → Rounds rounds (management_behind (world now))
 
 pub begins : {B : Type 0} (world : B → World) (happened : B → B → Past → Type 0) (lively : B → Type 0) → ((b : B) → happened b b nothing)
     → (b : B) → Awaits world happened lively b b 0
@@ -51,7 +51,7 @@ begins world happened lively stays b = record {
 commands-both : {B : Type 0} (world : B → World) (happened : B → B → Past → Type 0) (lively : B → Type 0)
     → ((a b c : B) (s t : Past) → happened a b s → happened b c t → happened a c (joined s t))
     → (old now new : B) (rounds : ℕ) (result : Result ℕ InitError) → Awaits world happened lively old now rounds
-    → Commands world happened lively now new status_words result
+    → Commands world happened lively now new status_word result
     → AsksTimes world happened old new 0x0020 (2 * rounds + 2)
 commands-both world happened lively joins old now new rounds result awaits commands =
     asks-both world happened joins old now new 0x0020 (2 * rounds) 2 awaits.asked
@@ -60,13 +60,15 @@ commands-both world happened lively joins old now new rounds result awaits comma
 pub awaits-on : {B : Type 0} (world : B → World) (happened : B → B → Past → Type 0) (lively : B → Type 0)
     → ((a b c : B) (s t : Past) → happened a b s → happened b c t → happened a c (joined s t))
     → (old now new : B) (rounds answer : ℕ) → (lively old → lively now) → Awaits world happened lively old now rounds
-    → Commands world happened lively now new status_words (Ok answer)
+    → Commands world happened lively now new status_word (Ok answer)
     → NotBoth answer → Awaits world happened lively old new (rounds + 1)
 awaits-on world happened lively joins old now new rounds answer alive awaits commands down = record {
   asked = asks-fewer world happened old new 0x0020 (2 * rounds + 2) (2 * (rounds + 1)) (omega arith)
       (commands-both world happened lively joins old now new rounds (Ok answer) awaits commands);
   link = commands.link ∙ awaits.link;
-  counted = λ ticks begun. one-round (lively now) commands.asks.past.phy_ticks (line_of (world now)) (line_of (world new)) rounds answer
+  counted =
+      λ ticks begun. one-round (lively now) commands.asks.past.phy_ticks (management_behind (world now))
+      (management_behind (world new)) rounds answer
       (alive ticks) commands.ends down (awaits.counted ticks begun);
 }
 
@@ -74,13 +76,14 @@ awaits-on world happened lively joins old now new rounds answer alive awaits com
 pub awaits-up : {B : Type 0} (world : B → World) (happened : B → B → Past → Type 0) (lively : B → Type 0)
     → ((a b c : B) (s t : Past) → happened a b s → happened b c t → happened a c (joined s t))
     → (old now new : B) (rounds answer : ℕ) (done : Unit {0}) → Awaits world happened lively old now rounds
-    → Commands world happened lively now new status_words (Ok answer)
+    → Commands world happened lively now new status_word (Ok answer)
     → bit_and answer 0x04 ≢ 0 → AwaitsLink world happened lively old new (Ok done)
 awaits-up world happened lively joins old now new rounds answer done awaits commands set = record {
   asks = (commands-both world happened lively joins old now new rounds (Ok answer) awaits commands).asks;
   link = commands.link ∙ awaits.link;
-  seen = seen-of (lively now) commands.asks.past.phy_ticks (line_of (world now)) (line_of (world new)) answer commands.ends set;
-  up = up-of (lively now) commands.asks.past.phy_ticks (line_of (world now)) (world new) answer commands.ends set;
+  seen = seen-of (lively now) commands.asks.past.phy_ticks (management_behind (world now))
+      (management_behind (world new)) answer commands.ends set;
+  up = up-of (lively now) commands.asks.past.phy_ticks (management_behind (world now)) (world new) answer commands.ends set;
   late = tt;
   no_link = λ is. absurd (cc);
   in_time = λ ticks is. cc;
@@ -92,7 +95,7 @@ pub awaits-late : {B : Type 0} (world : B → World) (happened : B → B → Pas
     → ((a b c : B) (s t : Past) → happened a b s → happened b c t → happened a c (joined s t))
     → (old now new : B) (rounds : ℕ) (error told : InitError) → told ≡ PhyTimeout → (lively old → lively now)
     → Awaits world happened lively old now rounds
-    → Commands world happened lively now new status_words (Err error) → AwaitsLink world happened lively old new (Err told)
+    → Commands world happened lively now new status_word (Err error) → AwaitsLink world happened lively old new (Err told)
 awaits-late world happened lively joins old now new rounds error told timeout alive awaits commands =
     let both = asks-both world happened joins old now new 0x0020 (2 * rounds) 1000 awaits.asked
     (record { asks = commands.asks; often = commands.late }) in

@@ -5,33 +5,33 @@ use Rattle.adapter.specs.Registers.{answer_at}
 use Rattle.adapter.specs.Table.{register_at}
 use Rattle.adapter.specs.World.{World, world_after_read, world_after_write}
 use Rattle.bus.specs.Law.{Acts, Management, management_of, phy_ticked}
-use Rattle.bus.specs.Past.{Past, joined}
+use Rattle.bus.specs.PastOfStretch.{Past, joined}
 use Rattle.bus.specs.declared.event.Access.TheVariants.{Reads, Writes}
 use Rattle.bring_up.specs.declared.init_error.InitError.TheVariants.{PhyTimeout}
 use Rattle.bring_up.specs.Link.{Commands, Ends, IsCommand}
 use Rattle.bring_up.proofs.MdicAccesses.{AsksTimes, asks-both, asks-read, asks-write}
-use Rattle.bring_up.proofs.PhyLine.{commanded, ends-of, error_bit, not-ended, ready_bit, right-then}
-use Rattle.bus.proofs.PhyLinks.{link-ticks}
+use Rattle.bring_up.proofs.MdicAndPhy.{commanded, ends-of, error_bit, not-ended, ready_bit, right-then}
+use Rattle.bus.proofs.LinkSettings.{link-ticks}
 
-abbrev pub line_of : World → Management
-line_of world = management_of world.adapter
+abbrev pub management_behind : World → Management
+management_behind world = management_of world.adapter
 
 -- What a read of MDIC finds: the line behind some ticks.
 pub record Finds (lively : Type 0) (ticks : ℕ) (a b : Management) (value : ℕ) : Type 0 where
   pub ticked : lively → 1 ≤ ticks
-  pub line : b ≡ iterate phy_ticked ticks a
+  pub management : b ≡ iterate phy_ticked ticks a
   pub shown : value ≡ b.mdic.value
 
 pub finds : {B : Type 0} (world : B → World) (happened : B → B → Past → Type 0) (lively : B → Type 0) (old new : B) (value : ℕ)
     → (acts : Acts world happened lively old new (Reads 0x0020 value) (λ before after. (value ≡ answer_at 0x0020 before.adapter)
     × (after ≡ world_after_read 0x0020 before)))
-    → Finds (lively old) acts.past.phy_ticks (line_of (world old)) (line_of (world new)) value
+    → Finds (lively old) acts.past.phy_ticks (management_behind (world old)) (management_behind (world new)) value
 unfolding register_at
 finds world happened lively old new value acts =
-    let after : line_of (world new) ≡ line_of acts.middle = ap line_of acts.effect_is.1 in
+    let after : management_behind (world new) ≡ management_behind acts.middle = ap management_behind acts.effect_is.1 in
     record {
       ticked = λ ticks. (acts.ticks ticks).phy;
-      line = after ∙ acts.before.steady.management;
+      management = after ∙ acts.before.steady.management;
       shown = acts.effect_is.0 ∙ sym (ap (λ (l : Management). l.mdic.value) after);
     }
 
@@ -42,7 +42,7 @@ pub record Waits {B : Type 0} (world : B → World) (happened : B → B → Past
   pub ticks : ℕ
   pub ticks_are : asked.asks.past.phy_ticks ≡ ticks
   pub ticked : lively old → 1 ≤ ticks
-  pub line : line_of (world now) ≡ commanded words (iterate phy_ticked ticks (line_of (world old)))
+  pub management : management_behind (world now) ≡ commanded words (iterate phy_ticked ticks (management_behind (world old)))
   pub none_in_vain : lively old → reads ≡ 0
 
 pub gives : {B : Type 0} (world : B → World) (happened : B → B → Past → Type 0) (lively : B → Type 0) (old new : B) (words : ℕ)
@@ -54,7 +54,7 @@ gives world happened lively old new words acts = record {
   ticks = acts.past.phy_ticks;
   ticks_are = refl;
   ticked = λ ticks. (acts.ticks ticks).phy;
-  line = ap line_of acts.effect_is ∙ ap (commanded words) acts.before.steady.management;
+  management = ap management_behind acts.effect_is ∙ ap (commanded words) acts.before.steady.management;
   none_in_vain = λ ticks. refl;
 }
 
@@ -67,11 +67,12 @@ pub waits-on : {B : Type 0} (world : B → World) (happened : B → B → Past �
     → bit_and value ready_bit ≡ 0 → Waits world happened lively old new words (reads + 1)
 waits-on world happened lively joins old now new words reads value command alive waits acts unset =
     let found = finds world happened lively now new value acts in
-    let given = commanded words (iterate phy_ticked waits.ticks (line_of (world old))) in
-    let line : line_of (world new) ≡ iterate phy_ticked acts.past.phy_ticks given = found.line
-    ∙ ap (iterate phy_ticked acts.past.phy_ticks) waits.line in
+    let given = commanded words (iterate phy_ticked waits.ticks (management_behind (world old))) in
+    let management : management_behind (world new) ≡ iterate phy_ticked acts.past.phy_ticks given = found.management
+    ∙ ap (iterate phy_ticked acts.past.phy_ticks) waits.management in
     let none : acts.past.phy_ticks ≡ 0 =
-    not-ended words acts.past.phy_ticks command (iterate phy_ticked waits.ticks (line_of (world old))) (line_of (world new)) line
+    not-ended words acts.past.phy_ticks command (iterate phy_ticked waits.ticks (management_behind (world old)))
+    (management_behind (world new)) management
     (ap (λ (v : ℕ). bit_and v ready_bit) (sym found.shown) ∙ unset) in
     record {
       asked = asks-both world happened joins old now new 0x0020 (reads + 1) 1 waits.asked
@@ -79,7 +80,7 @@ waits-on world happened lively joins old now new words reads value command alive
       ticks = waits.ticks;
       ticks_are = let before = waits.ticks_are in omega arith;
       ticked = waits.ticked;
-      line = line ∙ ap (λ (n : ℕ). iterate phy_ticked n given) none;
+      management = management ∙ ap (λ (n : ℕ). iterate phy_ticked n given) none;
       none_in_vain = λ ticks. absurd (let some = found.ticked (alive ticks) in omega arith);
     }
 
@@ -102,21 +103,21 @@ pub answered : {B : Type 0} (world : B → World) (happened : B → B → Past �
     → bit_and value ready_bit ≢ 0 → Answered world happened lively old new words value
 answered world happened lively joins old now new words reads value command waits acts set =
     let found = finds world happened lively now new value acts in
-    let a : Management = line_of (world old) in
-    let b : Management = line_of (world new) in
-    let line : b ≡ iterate phy_ticked acts.past.phy_ticks (commanded words (iterate phy_ticked waits.ticks a)) = found.line
-    ∙ ap (iterate phy_ticked acts.past.phy_ticks) waits.line in
+    let a : Management = management_behind (world old) in
+    let b : Management = management_behind (world new) in
+    let management : b ≡ iterate phy_ticked acts.past.phy_ticks (commanded words (iterate phy_ticked waits.ticks a)) = found.management
+    ∙ ap (iterate phy_ticked acts.past.phy_ticks) waits.management in
     let both = asks-both world happened joins old now new 0x0020 (reads + 1) 1 waits.asked
     (asks-read world happened lively now new 0x0020 value _ acts) in
     let shown : bit_and b.mdic.value ready_bit ≢ 0 = λ unset. set (ap (λ (v : ℕ). bit_and v ready_bit) found.shown ∙ unset) in
     let all = both.asks.past.phy_ticks in
     let total : waits.ticks + acts.past.phy_ticks ≡ all = let before = waits.ticks_are in omega arith in
-    let ends = ends-of (lively old) words acts.past.phy_ticks waits.ticks all total command a b waits.ticked line shown in
+    let ends = ends-of (lively old) words acts.past.phy_ticks waits.ticks all total command a b waits.ticked management shown in
     record {
       commands = record {
         asks = both.asks;
         accesses = let often = both.often in omega arith;
-        link = link-stays a b acts.past.phy_ticks words waits.ticks line;
+        link = link-stays a b acts.past.phy_ticks words waits.ticks management;
         ends = subst (Ends (lively old) words all a b) (sym found.shown) ends;
         late = tt;
         in_time = λ ticks. refl;
@@ -133,7 +134,7 @@ unanswered world happened lively old now words reads many waits =
     record {
       asks = waits.asked.asks;
       accesses = omega arith;
-      link = link-stays (line_of (world old)) (line_of (world now)) 0 words waits.ticks waits.line;
+      link = link-stays (management_behind (world old)) (management_behind (world now)) 0 words waits.ticks waits.management;
       ends = tt;
       late = omega arith;
       in_time = λ ticks. absurd (let none = waits.none_in_vain ticks in omega arith);

@@ -25,12 +25,12 @@ use Rattle.adapter.specs.World.{World, receive_ring, transmit_ring}
 use Rattle.adapter.specs.declared.register.RingRegister.{RingRegister}
 use Rattle.adapter.specs.declared.register.RingRegister.TheVariants.{BaseHigh, BaseLow, Head, Length, Tail}
 use Rattle.adapter.specs.declared.ring.RingRegisters.{RingRegisters}
-use Rattle.bus.specs.Past.{Past, joined}
-use Rattle.bus.specs.Rest.{IsAtRest}
+use Rattle.bus.specs.PastOfStretch.{Past, joined}
+use Rattle.bus.specs.AdaptersAtRest.{IsAtRest}
 use Rattle.bus.specs.Settings.{Write}
-use Rattle.bus.proofs.Idle.{outstanding-none}
+use Rattle.bus.proofs.IdleRings.{outstanding-none}
 use Rattle.bus.proofs.Lists.{all-none, pairs-none}
-use Rattle.bus.proofs.Rest.{happenings_keep_rest, rest_is_idle}
+use Rattle.bus.proofs.AdaptersAtRest.{happenings_keep_rest, rest_is_idle}
 use Rattle.driver_law.specs.Beginnings.{HasBegun}
 use Rattle.driver_law.proofs.Beginnings.{drivers_begin}
 use Rattle.driver_law.proofs.Readiness.{none-to_send}

@@ -10,8 +10,8 @@ use Rattle.adapter.specs.State.{AdapterState}
 use Rattle.adapter.specs.Table.{array_register_at, register_at}
 use Rattle.bus.specs.Settings.{settings_of}
 use Rattle.bring_up.specs.RingRegisters.{ring_writes}
-use Rattle.bring_up.specs.Table.{write_at}
-use Rattle.bring_up.proofs.SettingGroups.{SetTo}
+use Rattle.bring_up.specs.WrittenRegisters.{write_at}
+use Rattle.bring_up.proofs.SingleSettings.{SetTo}
 use Rattle.bring_up.proofs.TableSettings.{word-kept}
 
 -- a ring's registers, by its base and its length in bytes, with head and tail at its first slot

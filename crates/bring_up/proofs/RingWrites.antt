@@ -12,7 +12,7 @@ use Rattle.adapter.specs.declared.register.Register.TheVariants.{Receive, Transm
 use Rattle.adapter.specs.declared.register.RingRegister.{RingRegister}
 use Rattle.adapter.specs.declared.register.RingRegister.TheVariants.{BaseHigh, BaseLow, Length}
 use Rattle.adapter.specs.declared.ring.RingRegisters.{RingRegisters}
-use Rattle.bus.specs.Initialising.{with_transmit_ring}
+use Rattle.bus.specs.RegisterSetting.{with_transmit_ring}
 
 -- The registers, one of them written.
 

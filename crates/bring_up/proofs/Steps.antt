@@ -5,16 +5,16 @@ use Rattle.std.proofs.lemmas.List.Elements.{All-append}
 use Rattle.adapter.specs.World.{World, world_after_read, world_after_write}
 use Rattle.bus.specs.Law.{Acts}
 use Rattle.bus.specs.Link.{HasLink, LeavesPhy}
-use Rattle.bus.specs.Past.{Past, joined, nothing}
+use Rattle.bus.specs.PastOfStretch.{Past, joined, nothing}
 use Rattle.bus.specs.declared.event.Access.{Access}
 use Rattle.bus.specs.declared.event.Access.TheVariants.{Reads, Writes}
-use Rattle.bus.specs.Rest.{IsAtRest, NoFrame}
+use Rattle.bus.specs.AdaptersAtRest.{IsAtRest, NoFrame}
 use Rattle.bus.specs.Settings.{Settings, Write, settings_after_all, settings_of, writes_in}
 use Rattle.bus.proofs.Links.{accesses_keep_link, happenings_keep_link}
 use Rattle.bus.proofs.Lists.{all-head, all-left, all-none, all-right}
-use Rattle.bus.proofs.Rest.{accesses_keep_rest, happenings_keep_rest}
+use Rattle.bus.proofs.AdaptersAtRest.{accesses_keep_rest, happenings_keep_rest}
 use Rattle.bus.proofs.Settings.{happenings_leave_settings, reads-leave, settings-append, writes-append, writes-set}
-use Rattle.bring_up.specs.Sets.{Asks, IsAside, Sets}
+use Rattle.bring_up.specs.SettingSteps.{Asks, IsAside, Sets}
 
 -- Nothing is done.
 pub sets-nothing : {B : Type 0} (world : B → World) (happened : B → B → Past → Type 0) → ((b : B) → happened b b nothing) → (b : B)

@@ -14,9 +14,9 @@ use Rattle.adapter.specs.Table.{array_register_at, register_at}
 use Rattle.adapter.specs.TableLaws.{register_at-mta, register_at-vfta}
 use Rattle.bus.specs.Settings.{Settings, adapter_with, settings_after_all, settings_of}
 use Rattle.bus.proofs.Lists.{all-head, all-tail}
-use Rattle.bring_up.specs.Configured.{AreWords}
+use Rattle.bring_up.specs.ConfiguredAdapters.{AreWords}
 use Rattle.bring_up.specs.FilterTables.{address_writes, table_writes}
-use Rattle.bring_up.proofs.SettingGroups.{SetTo}
+use Rattle.bring_up.proofs.SingleSettings.{SetTo}
 
 -- A register of 32 bits keeps a word.
 pub word-kept : (word : ℕ) → word < 2 ^ 32 → bit_and word 0xFFFFFFFF ≡ word

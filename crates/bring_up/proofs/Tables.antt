@@ -8,7 +8,7 @@ use Rattle.rx_filter.specs.Laws.{HasTableBit-with_number, HasTableBit-zeros}
 use Rattle.rx_filter.specs.Writing.{with_number}
 use Rattle.bus.specs.Settings.{Write}
 use Rattle.bring_up.specs.FilterTables.{HasNumbers, empty_entries, entry_writes, table_writes}
-use Rattle.bring_up.specs.Table.{write_at}
+use Rattle.bring_up.specs.WrittenRegisters.{write_at}
 
 -- An empty list has no element, and one of one element has that.
 none-there : (n : ℕ) → ¬ (Contains {X = ℕ} [] n)

@@ -9,13 +9,13 @@ use Rattle.adapter.specs.World.{World}
 use Rattle.adapter.specs.declared.register.RingRegister.{RingRegister}
 use Rattle.adapter.specs.declared.register.RingRegister.TheVariants.{BaseHigh, BaseLow, Head, Length, Tail}
 use Rattle.adapter.specs.declared.ring.RingRegisters.{RingRegisters}
-use Rattle.bus.specs.Initialising.{with_transmit_ring}
-use Rattle.bus.specs.Past.{Past, joined, nothing}
+use Rattle.bus.specs.RegisterSetting.{with_transmit_ring}
+use Rattle.bus.specs.PastOfStretch.{Past, joined, nothing}
 use Rattle.bus.specs.declared.event.Access.{Access}
 use Rattle.bus.specs.declared.event.Access.TheVariants.{Writes}
 use Rattle.driver_law.specs.DriverState.{DriverState}
-use Rattle.driver_law.specs.Goes.{GoesTo, RanBy}
-use Rattle.driver_law.specs.Ready.{ReadyWith}
+use Rattle.driver_law.specs.Stretches.{GoesTo, RanBy}
+use Rattle.driver_law.specs.ReadyDrivers.{ReadyWith}
 use Rattle.driver_law.proofs.Accesses.{ran_by-join, write-sets}
 use Rattle.driver_law.proofs.Steps.{goes-happens}
 use Rattle.driver_law.proofs.TransmitRing.{transmit_ring_is_written}
@@ -34,7 +34,7 @@ record LeavesRing {B : Type 0} (world : B → World) (happened : B → B → Pas
 -- A ring with its head at its tail, at the place that the layout has for it.
 record IsIdleRing (d : DriverState) (ring : RingRegisters) : Type 0 where
   idle : ring.head ≡ ring.tail
-  last : ring.tail ≡ d.oldest_sent
+  last : ring.tail ≡ d.oldest_transmit
   inside : IsInside (ring_area (ring_of ring)) (area_of d.counts TransmitRing)
 
 -- One register is written.
@@ -56,7 +56,7 @@ transmit-write world happened lively old new part value word d before after is w
     ∙ ap (λ (ring : RingRegisters). with_transmit_ring (ring_written part word ring) middle) same
     ∙ ap (λ (ring : RingRegisters). with_transmit_ring ring middle) written in
     let goes : GoesTo false d middle d (with_transmit_ring after middle) [] [] nothing =
-    subst (λ (oldest : ℕ). GoesTo false d middle (record d { oldest_sent = oldest }) (with_transmit_ring after middle) [] [] nothing)
+    subst (λ (oldest : ℕ). GoesTo false d middle (record d { oldest_transmit = oldest }) (with_transmit_ring after middle) [] [] nothing)
     fits.last
     (transmit_ring_is_written d after middle there fits.idle fits.inside) in
     record {
@@ -82,7 +82,7 @@ pub sets-transmit_ring : {B : Type 0} (world : B → World) (happened : B → B 
     → ((a b c : B) (s t : Past) → happened a b s → happened b c t → happened a c (joined s t))
     → (b0 b1 b2 b3 b4 b5 : B) (low high base bytes : ℕ) (d : DriverState) → low ≡ base % 2 ^ 32 → high ≡ base / 2 ^ 32
     → base ≡ 16 * d.counts.rx → bytes ≡ 16 * d.counts.tx
-    → IsRingSize d.counts.rx → IsRingSize d.counts.tx → d.oldest_sent ≡ 0
+    → IsRingSize d.counts.rx → IsRingSize d.counts.tx → d.oldest_transmit ≡ 0
     → WriteActs world happened lively b0 b1 0x3800 low → WriteActs world happened lively b1 b2 0x3804 high
     → WriteActs world happened lively b2 b3 0x3808 bytes
     → WriteActs world happened lively b3 b4 0x3810 0 → WriteActs world happened lively b4 b5 0x3818 0

@@ -9,15 +9,15 @@ use Rattle.adapter.specs.declared.register.Register.TheVariants.{Mta, Rah, Ral, 
 use Rattle.adapter.specs.Table.{array_register_at, register_at}
 use Rattle.adapter.specs.TableLaws.{register_at-mta, register_at-rah, register_at-ral, register_at-vfta}
 use Rattle.bus.specs.Link.{IsNotOfPhy, LeavesPhy}
-use Rattle.bus.specs.Rest.{IsElsewhere}
+use Rattle.bus.specs.AdaptersAtRest.{IsElsewhere}
 use Rattle.bus.specs.Settings.{Write}
 use Rattle.bus.proofs.Lists.{all-none}
-use Rattle.bring_up.specs.Configured.{LinkComesFirst, RingsComeLast, names_vlans}
+use Rattle.bring_up.specs.ConfiguredAdapters.{LinkComesFirst, RingsComeLast, names_vlans}
 use Rattle.bring_up.specs.FilterTables.{address_writes, empty_entries, entry_writes, table_writes}
 use Rattle.bring_up.specs.RingRegisters.{receive_control, receive_writes, ring_writes, transmit_writes}
-use Rattle.bring_up.specs.Sets.{IsAside}
-use Rattle.bring_up.specs.Table.{allocation_writes, link_writes, mask_writes, reset_writes, write_at}
-use Rattle.bring_up.proofs.Asides.{allocation-aside, link-aside}
+use Rattle.bring_up.specs.SettingSteps.{IsAside}
+use Rattle.bring_up.specs.WrittenRegisters.{allocation_writes, link_writes, mask_writes, reset_writes, write_at}
+use Rattle.bring_up.proofs.WritesAtRest.{allocation-aside, link-aside}
 
 -- Each of the writes is of a register of which this holds.
 abbrev AreOf : (Option Register → Type 0) → List Write → Type 0

@@ -1,13 +1,14 @@
 -- What a driver knows of a device that it has found.
-use Rattle.std.specs.Prelude.{⊤, ◌≡◌, ◌≤◌, ◌++◌, ℕ, List, Result, IfErr, IfOk, length}
+use Rattle.std.specs.Prelude.{⊤, ◌≡◌, ◌≤◌, ◌++◌, ◌*◌, ℕ, List, Result, IfErr, IfOk, length}
 use Rattle.eeprom.specs.Image.{HasRightSum}
 use Rattle.adapter.specs.World.{World}
 use Rattle.bus.specs.Link.{HasLink}
-use Rattle.bus.specs.Past.{Past}
-use Rattle.bus.specs.Rest.{IsAtRest}
+use Rattle.bus.specs.PastOfStretch.{Past}
+use Rattle.bus.specs.AdaptersAtRest.{IsAtRest}
 use Rattle.bus.specs.Settings.{settings_after_all, settings_of}
+use Rattle.bring_up.specs.EepromReading.{most_reads}
 use Rattle.bring_up.specs.Link.{NeedsMoreThan}
-use Rattle.bring_up.specs.Table.{allocation_writes, link_writes, reset_writes}
+use Rattle.bring_up.specs.WrittenRegisters.{allocation_writes, link_writes, reset_writes}
 use Rattle.bring_up.specs.declared.init_error.InitError.{InitError}
 use Rattle.bring_up.specs.declared.init_error.InitError.TheVariants.{Checksum, EepromTimeout, Memory, NoLink, PhyTimeout}
 use Rattle.bring_up.specs.declared.init_error.InitError.TheVariants as errors
@@ -27,26 +28,25 @@ pub record IsFound {B : Type 0} (world : B → World) (old new : B) (kilobytes :
       (settings_of (world old).adapter)
   pub up : HasLink (world new)
 
--- When a device isn't found, by the error: over a bus that obeys the law a checksum only where it is wrong, and a time-out only behind so
--- many accesses.
-abbrev pub IsWhy : InitError → (image : List ℕ) (accesses : ℕ) → Type 0
-IsWhy EepromTimeout image accesses = 1000 ≤ accesses
-IsWhy Checksum image accesses = ¬ (HasRightSum image)
-IsWhy PhyTimeout image accesses = 1000 ≤ accesses
-IsWhy NoLink image accesses = 2000 ≤ accesses
-IsWhy Memory image accesses = ⊥
-IsWhy errors.Config image accesses = ⊥
+-- Why a device isn't found, by the error: over a bus that obeys the law E12 comes only where the sum is wrong, and a time-out only behind
+-- so many accesses.
+abbrev pub IsErrorOf : InitError → (image : List ℕ) (accesses : ℕ) → Type 0
+IsErrorOf EepromTimeout image accesses = most_reads ≤ accesses
+IsErrorOf Checksum image accesses = ¬ (HasRightSum image)
+IsErrorOf PhyTimeout image accesses = most_reads ≤ accesses
+IsErrorOf NoLink image accesses = 2 * most_reads ≤ accesses
+IsErrorOf Memory image accesses = ⊥
+IsErrorOf errors.Config image accesses = ⊥
 
--- Over a lively bus no time-out comes, and a link that comes up within 2,000 ticks is always seen; so a wrong checksum is always told, as
--- no
--- other error is left for it, and Ok wants a right one.
-abbrev pub IsWhyLively : InitError → World → Type 0
-IsWhyLively EepromTimeout before = ⊥
-IsWhyLively Checksum before = ⊤
-IsWhyLively PhyTimeout before = ⊥
-IsWhyLively NoLink before = HasRightSum before.adapter.image × NeedsMoreThan 2000 before.adapter.phy.link
-IsWhyLively Memory before = ⊤
-IsWhyLively errors.Config before = ⊤
+-- Over a lively bus no time-out comes, and a link that comes up within 2,000 ticks is always seen; so a wrong sum is always
+-- told, as no other error is left for it, and Ok wants a right one.
+abbrev pub IsErrorOfLively : InitError → World → Type 0
+IsErrorOfLively EepromTimeout before = ⊥
+IsErrorOfLively Checksum before = ⊤
+IsErrorOfLively PhyTimeout before = ⊥
+IsErrorOfLively NoLink before = HasRightSum before.adapter.image × NeedsMoreThan (2 * most_reads) before.adapter.phy.link
+IsErrorOfLively Memory before = ⊤
+IsErrorOfLively errors.Config before = ⊤
 
 -- A device is looked for.
 pub record FindsDevice {B : Type 0} (world : B → World) (happened : B → B → Past → Type 0) (lively : B → Type 0) (old new : B)
@@ -55,5 +55,5 @@ pub record FindsDevice {B : Type 0} (world : B → World) (happened : B → B �
   pub past : Past
   pub told : happened old new past
   pub found : IfOk result (IsFound world old new kilobytes)
-  pub why : IfErr result (λ error. IsWhy error (world old).adapter.image (length past.accesses))
-  pub why_lively : lively old → IfErr result (λ error. IsWhyLively error (world old))
+  pub why : IfErr result (λ error. IsErrorOf error (world old).adapter.image (length past.accesses))
+  pub why_lively : lively old → IfErr result (λ error. IsErrorOfLively error (world old))

@@ -3,11 +3,11 @@ use Rattle.std.specs.Prelude.{◌++◌, ℕ, List}
 use Rattle.adapter.specs.declared.offsets.TheConstants.{MTA, VFTA}
 use Rattle.rx_filter.specs.Addresses.{IsAddress}
 use Rattle.adapter.specs.World.{World}
-use Rattle.bus.specs.Past.{Past}
+use Rattle.bus.specs.PastOfStretch.{Past}
 use Rattle.bring_up.specs.Configuration.{vlans_of}
-use Rattle.bring_up.specs.Configured.{AreWords}
+use Rattle.bring_up.specs.ConfiguredAdapters.{AreWords}
 use Rattle.bring_up.specs.FilterTables.{HasNumbers, address_writes, numbers_of_groups, table_writes}
-use Rattle.bring_up.specs.Sets.{Sets}
+use Rattle.bring_up.specs.SettingSteps.{Sets}
 use Rattle.bring_up.specs.declared.config.Config.{Config}
 
 -- The tables are written with the bits of the configured groups and VLANs, and then the addresses.

@@ -6,7 +6,7 @@ use Rattle.adapter.specs.declared.offsets.TheConstants.{RAL}
 use Rattle.rx_filter.specs.Addresses.{group_number, high_word, low_word}
 use Rattle.rx_filter.specs.Registers.{HasTableBit}
 use Rattle.bus.specs.Settings.{Write}
-use Rattle.bring_up.specs.Table.{write_at}
+use Rattle.bring_up.specs.WrittenRegisters.{write_at}
 
 -- A table of 128 words has the bits of these numbers, and no other.
 pub record HasNumbers (table numbers : List ℕ) : Type 0 where

@@ -1,20 +1,23 @@
 -- What bring-up asks of the PHY, and what its link is then.
-use Rattle.std.specs.Prelude.{⊤, ◌≡◌, ◌≢◌, ◌≤◌, ◌<◌, ◌+◌, ◌⊎◌, ℕ, true, Err, None, Result, IfErr, IfOk, IsOk, length}
+use Rattle.std.specs.Prelude.{⊤, ◌≡◌, ◌≢◌, ◌≤◌, ◌<◌, ◌+◌, ◌*◌, ◌⊎◌, ℕ, true, Err, None, Result, IfErr, IfOk, IsOk, length}
 use Rattle.std.specs.Fn.{iterate}
 use Rattle.adapter.specs.declared.offsets.TheConstants.{MDIC}
 use Rattle.mdic_phy.specs.declared.phy.Link.{Link}
 use Rattle.mdic_phy.specs.declared.phy.Link.TheVariants.{After, Never}
 use Rattle.mdic_phy.specs.Mdic.{ended, kept, operation_of, phy_ended}
 use Rattle.mdic_phy.specs.Phy.{PhyState, after_tick, negotiation_of}
+use Rattle.mdic_phy.specs.Places.{control_enable, control_restart, mdic_op, mdic_phyadd, mdic_regadd}
 use Rattle.registers.specs.Bits.{HasBit}
+use Rattle.registers.specs.Places.{alone}
 use Rattle.adapter.specs.State.{AdapterState}
 use Rattle.adapter.specs.World.{World}
+use Rattle.bring_up.specs.EepromReading.{most_reads}
 use Rattle.bus.specs.Law.{Management, management_of, phy_ticked}
 use Rattle.bus.specs.Link.{HasLink}
-use Rattle.bus.specs.Past.{Past}
+use Rattle.bus.specs.PastOfStretch.{Past}
 use Rattle.bring_up.specs.declared.init_error.InitError.{InitError}
 use Rattle.bring_up.specs.declared.init_error.InitError.TheVariants.{NoLink, PhyTimeout}
-use Rattle.bring_up.specs.Sets.{Asks}
+use Rattle.bring_up.specs.SettingSteps.{Asks}
 use Rattle.mdic_phy.specs.Places.{status_complete, status_link}
 
 -- a PHY with this link, when its negotiation has been enabled and started
@@ -32,18 +35,23 @@ abbrev pub NeedsMoreThan : ℕ → Link → Type 0
 NeedsMoreThan ticks (After d) = ticks < d
 NeedsMoreThan ticks Never = ⊤
 
--- The commands: a write of bits 12 and 9 to the PHY's register 0, and a read of its register 1.
-abbrev pub restart_words : ℕ
-restart_words = 0x0420_1200
+-- A command to the PHY, which has the address 1: its operation, the PHY's register, and the data (13.4.7 "MDI Control Register").
+abbrev pub command_word : (operation register word : ℕ) → ℕ
+command_word operation register word = operation * alone mdic_op + alone mdic_phyadd + register * alone mdic_regadd + word
 
-abbrev pub status_words : ℕ
-status_words = 0x0821_0000
+-- The two that bring-up gives: a write (01b) of the control register, which enables negotiation and restarts it, and a read (10b) of the
+-- status register (IEEE 802.3, 22.2.4).
+abbrev pub restart_word : ℕ
+restart_word = command_word 1 0 (alone control_enable + alone control_restart)
+
+abbrev pub status_word : ℕ
+status_word = command_word 2 1 0
 
 abbrev pub IsCommand : ℕ → Type 0
-IsCommand words = (words ≡ restart_words) ⊎ (words ≡ status_words)
+IsCommand word = (word ≡ restart_word) ⊎ (word ≡ status_word)
 
 -- Of so many ticks in all some came before a command was given, the next one ended it, and the others came later. MDIC reads this answer.
-pub record Ends (lively : Type 0) (words all : ℕ) (a b : Management) (answer : ℕ) : Type 0 where
+pub record Ends (lively : Type 0) (word all : ℕ) (a b : Management) (answer : ℕ) : Type 0 where
   pub ticks : ℕ
   pub later : ℕ
   pub all_are : ticks + 1 + later ≡ all
@@ -51,19 +59,19 @@ pub record Ends (lively : Type 0) (words all : ℕ) (a b : Management) (answer :
   -- the PHY when the tick that ends the command has lowered its count
   pub phy : PhyState
   pub counted : phy ≡ after_tick (iterate phy_ticked ticks a).phy
-  pub answers : answer ≡ ended (operation_of words) (kept words) phy
+  pub answers : answer ≡ ended (operation_of word) (kept word) phy
   pub mdic : b.mdic ≡ record { value = answer; pending = None }
-  pub leaves : b.phy ≡ iterate after_tick later (phy_ended (operation_of words) (kept words) phy)
+  pub leaves : b.phy ≡ iterate after_tick later (phy_ended (operation_of word) (kept word) phy)
 
 -- A command over an honest bus.
-pub record Commands {B : Type 0} (world : B → World) (happened : B → B → Past → Type 0) (lively : B → Type 0) (old new : B) (words : ℕ)
+pub record Commands {B : Type 0} (world : B → World) (happened : B → B → Past → Type 0) (lively : B → Type 0) (old new : B) (word : ℕ)
     (result : Result ℕ InitError) : Type 0 where
   pub asks : Asks world happened old new MDIC
   pub accesses : 2 ≤ length asks.past.accesses
   pub link : (world new).adapter.phy.link ≡ (world old).adapter.phy.link
   pub ends : IfOk result
-      (Ends (lively old) words asks.past.phy_ticks (management_of (world old).adapter) (management_of (world new).adapter))
-  pub late : IfErr result (λ error. 1000 ≤ length asks.past.accesses)
+      (Ends (lively old) word asks.past.phy_ticks (management_of (world old).adapter) (management_of (world new).adapter))
+  pub late : IfErr result (λ error. most_reads ≤ length asks.past.accesses)
   pub in_time : lively old → IsOk result
 
 -- Negotiation is started over an honest bus.
@@ -73,7 +81,7 @@ pub record Negotiates {B : Type 0} (world : B → World) (happened : B → B →
   pub link : (world new).adapter.phy.link ≡ (world old).adapter.phy.link
   -- It was started in this call: more ticks fell here than since its start.
   pub started : IfOk result (λ done. (begun : IsNegotiating (world new).adapter) × (begun.ticks < asks.past.phy_ticks))
-  pub late : IfErr result (λ error. 1000 ≤ length asks.past.accesses)
+  pub late : IfErr result (λ error. most_reads ≤ length asks.past.accesses)
   pub in_time : lively old → IsOk result
 
 -- The link is awaited over an honest bus.
@@ -85,8 +93,9 @@ pub record AwaitsLink {B : Type 0} (world : B → World) (happened : B → B →
   pub seen : IfOk result (λ done. HasBit (world new).adapter.mdic.value status_complete × HasBit (world new).adapter.mdic.value status_link)
   -- The link is up, and stays so by the law of links.
   pub up : IfOk result (λ done. HasLink (world new))
-  pub late : IfErr result (λ error. 1000 ≤ length asks.past.accesses)
-  pub no_link : result ≡ Err NoLink → 2000 ≤ length asks.past.accesses
+  pub late : IfErr result (λ error. most_reads ≤ length asks.past.accesses)
+  pub no_link : result ≡ Err NoLink → 2 * most_reads ≤ length asks.past.accesses
   pub in_time : lively old → result ≢ Err PhyTimeout
   -- Where negotiation was started before, a link that comes up within 2,000 ticks is seen.
-  pub slow : lively old → IsNegotiating (world old).adapter → result ≡ Err NoLink → NeedsMoreThan 2000 (world old).adapter.phy.link
+  pub slow : lively old → IsNegotiating (world old).adapter → result ≡ Err NoLink
+      → NeedsMoreThan (2 * most_reads) (world old).adapter.phy.link

@@ -5,13 +5,13 @@ use Rattle.dma_memory.specs.Owners.{HasOneOwner}
 use Rattle.adapter.specs.KnownRing.{KnowsRing}
 use Rattle.adapter.specs.Rings.{new_ring}
 use Rattle.adapter.specs.World.{World, receive_ring}
-use Rattle.bus.specs.Past.{Past}
-use Rattle.bus.specs.Rest.{IsAtRest, NoFrame}
+use Rattle.bus.specs.PastOfStretch.{Past}
+use Rattle.bus.specs.AdaptersAtRest.{IsAtRest, NoFrame}
 use Rattle.bus.specs.Settings.{Write}
 use Rattle.driver_law.specs.Beginnings.{HasBegun, new_driver}
-use Rattle.driver_law.specs.Ready.{ReadyWith}
-use Rattle.bring_up.specs.Quiet.{IsQuiet}
-use Rattle.bring_up.specs.Sets.{Sets}
+use Rattle.driver_law.specs.ReadyDrivers.{ReadyWith}
+use Rattle.bring_up.specs.NoFrames.{HasNoFrames}
+use Rattle.bring_up.specs.SettingSteps.{Sets}
 
 -- At rest, with both rings as a reset leaves them; the memory has room for so many receive descriptors.
 pub record HasNewRings (rx : ℕ) (world : World) : Type 0 where
@@ -34,11 +34,11 @@ pub record SetsAtRest {B : Type 0} (world : B → World) (happened : B → B →
   pub behind_is : before (world old) → behind (world new)
   pub no_frame : before (world old) → NoFrame sets.past
 
--- A driver that has offered nothing is ready there, and all is quiet.
+-- A driver that has offered nothing is ready there, and no frame is held or to be sent.
 pub record BeginsAtRest (counts : Counts) (pool : List ℕ) (world : World) : Type 0 where
   pub begun : HasBegun false counts pool world
   pub ready : ReadyWith false (new_driver counts pool) world
-  pub quiet : IsQuiet (new_driver counts pool) world
+  pub quiet : HasNoFrames (new_driver counts pool) world
 
 -- So it is wherever the receive ring is set up at rest, with allowed counts and one owner of each buffer.
 abbrev pub DriversBeginAtRest : Type 0

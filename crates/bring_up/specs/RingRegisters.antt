@@ -4,7 +4,7 @@ use Rattle.adapter.specs.declared.offsets.TheConstants.{RCTL, TCTL}
 use Rattle.adapter.specs.Rings.{ring_distance}
 use Rattle.adapter.specs.declared.register.RingRegister.TheVariants.{BaseHigh, Length, Head, Tail}
 use Rattle.bus.specs.Settings.{Write}
-use Rattle.bring_up.specs.Table.{write_at}
+use Rattle.bring_up.specs.WrittenRegisters.{write_at}
 use Rattle.registers.specs.Places.{alone, rctl_bam, rctl_en, rctl_mpe, rctl_secrc, rctl_upe, rctl_vfe, tctl_cold, tctl_ct, tctl_en}
 use Rattle.registers.specs.Places.{tctl_psp}
 

@@ -1,9 +1,9 @@
 //! An adapter is brought up over a lively bus, step by step.
 
 use crate::{
-    InitError, RingPlace, clear_descriptors, drivers_begin_at_rest, enable_receiver,
-    enable_transmitter, find_device, group_table, set_receive_ring, set_transmit_ring,
-    unmask_interrupts, vlan_table, write_addresses, write_groups, write_vlans, writes_configure,
+    InitError, RingPlace, clear_descriptors, drivers_begin_at_rest, enable_interrupts,
+    enable_receiver, enable_transmitter, find_device, group_table, set_receive_ring,
+    set_transmit_ring, vlan_table, write_addresses, write_groups, write_vlans, writes_configure,
 };
 use adapter::Adapter;
 use adapter::offsets::*;
@@ -105,7 +105,7 @@ fn registers_stand_as_brought_up(rt: HostRuntime) -> Result<(), Fail> {
     enable_receiver(&mut bus, false, false);
     set_transmit_ring(&mut bus, TRANSMIT_RING);
     enable_transmitter(&mut bus);
-    unmask_interrupts(&mut bus);
+    enable_interrupts(&mut bus);
     check(
         &rt,
         &mut bus,

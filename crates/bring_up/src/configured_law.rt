@@ -1,6 +1,6 @@
 // What an adapter is set to behind bring-up.
 
-ghost use Rattle.bring_up.specs.Configured.{LinkComesFirst, RingsComeLast, WritesConfigure};
+ghost use Rattle.bring_up.specs.ConfiguredAdapters.{LinkComesFirst, RingsComeLast, WritesConfigure};
 
 /// What the writes of bring-up do, in order.
 /// - `configure`: they configure an adapter, whatever it was set to before, and leave its EEPROM.

@@ -1,23 +1,23 @@
 //! The registers of the whole device: reset, interrupts, packet buffer, link.
 
 ghost use Rattle.std.specs.Prelude.{◌≡◌};
-ghost use Rattle.bus.specs.Rest.{IsAtRest};
-ghost use Rattle.bring_up.specs.DriverSteps.{UnmasksCauses};
-ghost use Rattle.bring_up.specs.Sets.{Sets};
-ghost use Rattle.bring_up.specs.Table.{allocation_writes, handled_causes, link_writes, mask_writes, reset_writes};
+ghost use Rattle.bus.specs.AdaptersAtRest.{IsAtRest};
+ghost use Rattle.bring_up.specs.DriverSteps.{EnablesCauses};
+ghost use Rattle.bring_up.specs.SettingSteps.{Sets};
+ghost use Rattle.bring_up.specs.WrittenRegisters.{allocation_writes, handled_causes, link_writes, mask_writes, reset_writes};
 ghost use Rattle.driver_law.specs.DriverState.{DriverState};
-ghost use Rattle.driver_law.specs.Ready.{Ready};
+ghost use Rattle.driver_law.specs.ReadyDrivers.{Ready};
 
 use adapter::offsets::{CTRL, ICR, IMC, IMS, PBA};
 use bitflags::Flags;
 use bus::Bus;
 use registers::{Cause, Ctrl};
 
-/// Resets the device, masks every interrupt and forgets those that were recorded ("14.3 General
+/// Resets the device, takes every cause out of the mask and forgets those that were recorded ("14.3 General
 /// Initialization": interrupts are off meanwhile).
 pub fn reset_device<B: Bus>(bus: &mut B)
     ensures extent { B.extent bus.new ≡ B.extent bus.old }
-    ensures kept { B.kept bus.old bus.new }
+    ensures lent_stays { B.lent_stays bus.old bus.new }
     ensures honest { B.honest bus.old → B.honest bus.new }
     ensures lively { B.lively bus.old → B.lively bus.new }
     ensures sets { B.honest bus.old → Sets B.world B.happened bus.old bus.new reset_writes }
@@ -32,7 +32,7 @@ pub fn reset_device<B: Bus>(bus: &mut B)
 /// Gives frames from the wire so many kilobytes of the packet buffer (PBA.RXA).
 pub fn allocate_packet_buffer<B: Bus>(bus: &mut B, kilobytes: u8)
     ensures extent { B.extent bus.new ≡ B.extent bus.old }
-    ensures kept { B.kept bus.old bus.new }
+    ensures lent_stays { B.lent_stays bus.old bus.new }
     ensures honest { B.honest bus.old → B.honest bus.new }
     ensures lively { B.lively bus.old → B.lively bus.new }
     ensures sets { B.honest bus.old → Sets B.world B.happened bus.old bus.new (allocation_writes kilobytes) }
@@ -43,7 +43,7 @@ pub fn allocate_packet_buffer<B: Bus>(bus: &mut B, kilobytes: u8)
 /// Lets the link come up, at the speed that the PHY finds (CTRL.SLU and CTRL.ASDE).
 pub fn set_link_up<B: Bus>(bus: &mut B)
     ensures extent { B.extent bus.new ≡ B.extent bus.old }
-    ensures kept { B.kept bus.old bus.new }
+    ensures lent_stays { B.lent_stays bus.old bus.new }
     ensures honest { B.honest bus.old → B.honest bus.new }
     ensures lively { B.lively bus.old → B.lively bus.new }
     ensures sets { B.honest bus.old → Sets B.world B.happened bus.old bus.new link_writes }
@@ -51,17 +51,17 @@ pub fn set_link_up<B: Bus>(bus: &mut B)
     bus.write(CTRL, Ctrl::SLU.union(Ctrl::ASDE).bits());
 }
 
-/// Unmasks the causes that a driver handles: a frame was transmitted, or received, receive descriptors
+/// Enables the causes that a driver handles: a frame was transmitted, or received, receive descriptors
 /// become few, or a frame found no room. A driver that is ready stays so, and no work is forgotten behind
 /// it, where no slot was finished before it or RXT0 was recorded.
-pub fn unmask_interrupts<B: Bus>(bus: &mut B)
+pub fn enable_interrupts<B: Bus>(bus: &mut B)
     ensures extent { B.extent bus.new ≡ B.extent bus.old }
-    ensures kept { B.kept bus.old bus.new }
+    ensures lent_stays { B.lent_stays bus.old bus.new }
     ensures honest { B.honest bus.old → B.honest bus.new }
     ensures lively { B.lively bus.old → B.lively bus.new }
     ensures sets { B.honest bus.old → Sets B.world B.happened bus.old bus.new mask_writes }
-    ensures unmasks { (d : DriverState) → B.honest bus.old → Ready d (B.world bus.old)
-        → UnmasksCauses B.world B.happened handled_causes bus.old bus.new d }
+    ensures enables { (d : DriverState) → B.honest bus.old → Ready d (B.world bus.old)
+        → EnablesCauses B.world B.happened handled_causes bus.old bus.new d }
 {
     let causes = Cause::TXDW
         .union(Cause::RXDMT0)

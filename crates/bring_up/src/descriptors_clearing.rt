@@ -3,8 +3,8 @@
 ghost use Rattle.std.specs.Prelude.{◌≡◌, ◌+◌, ◌-◌, ◌*◌, ◌^◌, ◌<◌, ◌≤◌, ◌∷◌, ℕ, Bool, [], false};
 ghost use Rattle.bring_up.specs.ClearedDescriptors.{clears, clears_from};
 ghost use Rattle.driver_law.specs.DriverState.{DriverState, receive_slot, transmit_slot};
-ghost use Rattle.driver_law.specs.Goes.{RanBy};
-ghost use Rattle.driver_law.specs.Ready.{ReadyWith};
+ghost use Rattle.driver_law.specs.Stretches.{RanBy};
+ghost use Rattle.driver_law.specs.ReadyDrivers.{ReadyWith};
 
 use bus::Bus;
 use dma_memory::DESCRIPTOR_BYTES;
@@ -18,14 +18,14 @@ const CLEAR: [u8; 16] = [0; 16];
 pub fn clear_descriptor<B: Bus>(bus: &mut B, address: u64)
     requires { address + 16 ≤ B.extent bus.old }
     ensures extent { B.extent bus.new ≡ B.extent bus.old }
-    ensures kept { B.kept bus.old bus.new }
+    ensures lent_stays { B.lent_stays bus.old bus.new }
     ensures honest { B.honest bus.old → B.honest bus.new }
     ensures lively { B.lively bus.old → B.lively bus.new }
     ensures sent { (d : DriverState) (slot : ℕ) → B.honest bus.old → ReadyWith false d (B.world bus.old)
         → slot < d.counts.tx → address ≡ transmit_slot d.counts slot
         → RanBy false B.world B.happened (clears address ∷ []) bus.old bus.new d d [] [] }
     ensures received { (up : Bool) (d : DriverState) → B.honest bus.old → ReadyWith up d (B.world bus.old)
-        → d.oldest_received ≡ 0 → address ≡ receive_slot (d.counts.rx - 1)
+        → d.oldest_receive ≡ 0 → address ≡ receive_slot (d.counts.rx - 1)
         → RanBy up B.world B.happened (clears address ∷ []) bus.old bus.new d d [] [] }
 {
     bus.store(address, &CLEAR);
@@ -37,7 +37,7 @@ pub fn clear_descriptors<B: Bus>(bus: &mut B, first: u64, count: u16)
     requires memory { first + 16 * count ≤ B.extent bus.old }
     requires addresses { first + 16 * count < 2 ^ 64 }
     ensures extent { B.extent bus.new ≡ B.extent bus.old }
-    ensures kept { B.kept bus.old bus.new }
+    ensures lent_stays { B.lent_stays bus.old bus.new }
     ensures honest { B.honest bus.old → B.honest bus.new }
     ensures lively { B.lively bus.old → B.lively bus.new }
     ensures ran { (d : DriverState) → B.honest bus.old → ReadyWith false d (B.world bus.old)

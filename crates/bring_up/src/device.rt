@@ -19,7 +19,7 @@ use eeprom::{Image, checksum_ok};
 /// [`PhyTimeout`](InitError::PhyTimeout) and [`NoLink`](InitError::NoLink).
 pub fn find_device<B: Bus>(bus: &mut B, kilobytes: u8) -> Result<Image, InitError>
     ensures extent { B.extent bus.new ≡ B.extent bus.old }
-    ensures kept { B.kept bus.old bus.new }
+    ensures lent_stays { B.lent_stays bus.old bus.new }
     ensures honest { B.honest bus.old → B.honest bus.new }
     ensures lively { B.lively bus.old → B.lively bus.new }
     ensures errors { IfErr result (λ error. ¬ (IsBeforeAccess error)) }

@@ -29,7 +29,7 @@ const DATA_SHIFT: u32 = 16;
 /// [`EepromTimeout`](InitError::EepromTimeout) where 1,000 reads of EERD for one word didn't show DONE.
 pub fn read_image<B: Bus>(bus: &mut B) -> Result<Image, InitError>
     ensures extent { B.extent bus.new ≡ B.extent bus.old }
-    ensures kept { B.kept bus.old bus.new }
+    ensures lent_stays { B.lent_stays bus.old bus.new }
     ensures honest { B.honest bus.old → B.honest bus.new }
     ensures lively { B.lively bus.old → B.lively bus.new }
     ensures only { IsOkUnless result InitError.EepromTimeout }
@@ -46,7 +46,7 @@ pub fn read_image<B: Bus>(bus: &mut B) -> Result<Image, InitError>
 /// Reads one word of the EEPROM.
 fn read_word<B: Bus>(bus: &mut B, address: u8) -> Result<u16, InitError>
     ensures extent { B.extent bus.new ≡ B.extent bus.old }
-    ensures kept { B.kept bus.old bus.new }
+    ensures lent_stays { B.lent_stays bus.old bus.new }
     ensures honest { B.honest bus.old → B.honest bus.new }
     ensures lively { B.lively bus.old → B.lively bus.new }
     ensures only { IsOkUnless result InitError.EepromTimeout }

@@ -13,7 +13,7 @@ use bus::Bus;
 pub fn set_filter<B: Bus>(bus: &mut B, config: &Config, address: &[u8; 6])
     requires { All (λ vlan. vlan < 4096) (vlans_of config.now.vlans) }
     ensures extent { B.extent bus.new ≡ B.extent bus.old }
-    ensures kept { B.kept bus.old bus.new }
+    ensures lent_stays { B.lent_stays bus.old bus.new }
     ensures honest { B.honest bus.old → B.honest bus.new }
     ensures lively { B.lively bus.old → B.lively bus.new }
     ensures sets { B.honest bus.old → SetsFilter B.world B.happened bus.old bus.new config.now address.now }

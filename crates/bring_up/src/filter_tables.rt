@@ -3,10 +3,10 @@
 ghost use Rattle.std.specs.Prelude.{◌≡◌, ◌<◌, ◌^◌, All, replicate};
 ghost use Rattle.rx_filter.specs.Addresses.{IsAddress};
 ghost use Rattle.rx_filter.specs.Writing.{with_number};
-ghost use Rattle.bring_up.specs.Configured.{AreWords};
+ghost use Rattle.bring_up.specs.ConfiguredAdapters.{AreWords};
 ghost use Rattle.bring_up.specs.FilterTables.{HasNumbers, address_writes, entry_writes, numbers_of_groups};
 ghost use Rattle.bring_up.specs.FilterTables.{table_writes};
-ghost use Rattle.bring_up.specs.Sets.{Sets};
+ghost use Rattle.bring_up.specs.SettingSteps.{Sets};
 
 use adapter::offsets::{ADDRESS_PAIR_BYTES, MTA, RAL, REGISTER_BYTES, VFTA};
 use bus::Bus;
@@ -56,7 +56,7 @@ fn add_number(table: &mut [u32; TABLE_WORDS], number: u16)
 /// Writes the group table, MTA.
 pub fn write_groups<B: Bus>(bus: &mut B, table: &[u32; TABLE_WORDS])
     ensures extent { B.extent bus.new ≡ B.extent bus.old }
-    ensures kept { B.kept bus.old bus.new }
+    ensures lent_stays { B.lent_stays bus.old bus.new }
     ensures honest { B.honest bus.old → B.honest bus.new }
     ensures lively { B.lively bus.old → B.lively bus.new }
     ensures sets { B.honest bus.old → Sets B.world B.happened bus.old bus.new (table_writes MTA table.now) }
@@ -68,7 +68,7 @@ pub fn write_groups<B: Bus>(bus: &mut B, table: &[u32; TABLE_WORDS])
 /// Writes the VLAN table, VFTA.
 pub fn write_vlans<B: Bus>(bus: &mut B, table: &[u32; TABLE_WORDS])
     ensures extent { B.extent bus.new ≡ B.extent bus.old }
-    ensures kept { B.kept bus.old bus.new }
+    ensures lent_stays { B.lent_stays bus.old bus.new }
     ensures honest { B.honest bus.old → B.honest bus.new }
     ensures lively { B.lively bus.old → B.lively bus.new }
     ensures sets { B.honest bus.old → Sets B.world B.happened bus.old bus.new (table_writes VFTA table.now) }
@@ -80,7 +80,7 @@ pub fn write_vlans<B: Bus>(bus: &mut B, table: &[u32; TABLE_WORDS])
 /// Writes the exact addresses, RAL and RAH: this one as the first, and no other.
 pub fn write_addresses<B: Bus>(bus: &mut B, address: &[u8; 6])
     ensures extent { B.extent bus.new ≡ B.extent bus.old }
-    ensures kept { B.kept bus.old bus.new }
+    ensures lent_stays { B.lent_stays bus.old bus.new }
     ensures honest { B.honest bus.old → B.honest bus.new }
     ensures lively { B.lively bus.old → B.lively bus.new }
     ensures sets { B.honest bus.old → Sets B.world B.happened bus.old bus.new (address_writes address.now) }
@@ -96,7 +96,7 @@ pub fn write_addresses<B: Bus>(bus: &mut B, address: &[u8; 6])
 fn write_address<B: Bus>(bus: &mut B, entry: u32, words: AddressWords)
     requires { entry < 16 }
     ensures extent { B.extent bus.new ≡ B.extent bus.old }
-    ensures kept { B.kept bus.old bus.new }
+    ensures lent_stays { B.lent_stays bus.old bus.new }
     ensures honest { B.honest bus.old → B.honest bus.new }
     ensures lively { B.lively bus.old → B.lively bus.new }
     ensures sets { B.honest bus.old
@@ -111,7 +111,7 @@ fn write_address<B: Bus>(bus: &mut B, entry: u32, words: AddressWords)
 fn write_table<B: Bus>(bus: &mut B, first: u32, words: &[u32; TABLE_WORDS])
     requires { first < 2 ^ 16 }
     ensures extent { B.extent bus.new ≡ B.extent bus.old }
-    ensures kept { B.kept bus.old bus.new }
+    ensures lent_stays { B.lent_stays bus.old bus.new }
     ensures honest { B.honest bus.old → B.honest bus.new }
     ensures lively { B.lively bus.old → B.lively bus.new }
     ensures sets { B.honest bus.old → Sets B.world B.happened bus.old bus.new (table_writes first words.now) }

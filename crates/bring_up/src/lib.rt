@@ -21,7 +21,7 @@ mod ring_registers;
 
 pub use config::{Config, MOST_GROUPS, MOST_VLANS};
 pub use configured_law::writes_configure;
-pub use controls::{allocate_packet_buffer, reset_device, set_link_up, unmask_interrupts};
+pub use controls::{allocate_packet_buffer, enable_interrupts, reset_device, set_link_up};
 pub use descriptors_clearing::{clear_descriptor, clear_descriptors};
 pub use device::find_device;
 pub use eeprom_reading::read_image;
@@ -29,7 +29,7 @@ pub use filter_setting::set_filter;
 pub use filter_tables::{group_table, vlan_table, write_addresses, write_groups, write_vlans};
 pub use init_error::InitError;
 pub use link::{await_link, negotiate};
-pub use resting_law::{drivers_begin_at_rest, quiet_drivers_stay_so};
+pub use resting_law::{drivers_begin_at_rest, drivers_without_frames_stay_so};
 pub use ring_registers::{
     RingPlace, enable_receiver, enable_transmitter, set_receive_ring, set_transmit_ring,
 };

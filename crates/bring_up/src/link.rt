@@ -46,7 +46,7 @@ const LINK: u32 = 1 << 2;
 /// [`PhyTimeout`](InitError::PhyTimeout) as of every command.
 pub fn negotiate<B: Bus>(bus: &mut B) -> Result<(), InitError>
     ensures extent { B.extent bus.new ≡ B.extent bus.old }
-    ensures kept { B.kept bus.old bus.new }
+    ensures lent_stays { B.lent_stays bus.old bus.new }
     ensures honest { B.honest bus.old → B.honest bus.new }
     ensures lively { B.lively bus.old → B.lively bus.new }
     ensures error { IsOkUnless result InitError.PhyTimeout }
@@ -64,7 +64,7 @@ pub fn negotiate<B: Bus>(bus: &mut B) -> Result<(), InitError>
 /// command.
 pub fn await_link<B: Bus>(bus: &mut B) -> Result<(), InitError>
     ensures extent { B.extent bus.new ≡ B.extent bus.old }
-    ensures kept { B.kept bus.old bus.new }
+    ensures lent_stays { B.lent_stays bus.old bus.new }
     ensures honest { B.honest bus.old → B.honest bus.new }
     ensures lively { B.lively bus.old → B.lively bus.new }
     ensures errors { IfErr result (λ error. (error ≡ InitError.PhyTimeout) ⊎ (error ≡ InitError.NoLink)) }
@@ -91,16 +91,16 @@ fn shows_link(status: u32) -> bool
 /// # Errors
 ///
 /// [`PhyTimeout`](InitError::PhyTimeout) where 1,000 reads of MDIC didn't show R, or one showed R and E.
-fn command<B: Bus>(bus: &mut B, words: u32) -> Result<u32, InitError>
-    requires { IsCommand words }
+fn command<B: Bus>(bus: &mut B, word: u32) -> Result<u32, InitError>
+    requires { IsCommand word }
     ensures extent { B.extent bus.new ≡ B.extent bus.old }
-    ensures kept { B.kept bus.old bus.new }
+    ensures lent_stays { B.lent_stays bus.old bus.new }
     ensures honest { B.honest bus.old → B.honest bus.new }
     ensures lively { B.lively bus.old → B.lively bus.new }
     ensures error { IsOkUnless result InitError.PhyTimeout }
-    ensures commands { B.honest bus.old → Commands B.world B.happened B.lively bus.old bus.new words result }
+    ensures commands { B.honest bus.old → Commands B.world B.happened B.lively bus.old bus.new word result }
 {
-    bus.write(MDIC, words);
+    bus.write(MDIC, word);
     for _ in 0..MOST_READS {
         let answer = bus.read(MDIC);
         if answer & READY != 0 {

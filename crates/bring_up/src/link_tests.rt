@@ -42,15 +42,15 @@ impl Bus for FixedBus {
 
     ghost happened = { λ a b past. ⊤ };
 
-    ghost kept = { λ a b. ⊤ };
+    ghost lent_stays = { λ a b. ⊤ };
 
     ghost stays = { λ bus. tt };
 
     ghost joins = { λ a b c first later one two. tt };
 
-    ghost keeps = { λ bus. tt };
+    ghost lent_stays_here = { λ bus. tt };
 
-    ghost keeps_on = { λ a b c one two. tt };
+    ghost lent_stays_on = { λ a b c one two. tt };
 
     ghost sized = { λ bus honest. absurd honest };
 

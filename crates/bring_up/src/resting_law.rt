@@ -5,7 +5,7 @@ ghost use Rattle.dma_memory.specs.Layout.{Counts};
 ghost use Rattle.bus.specs.Settings.{writes_in};
 ghost use Rattle.driver_law.specs.Accesses.{stores_from};
 ghost use Rattle.bring_up.specs.ClearedDescriptors.{clears_from};
-ghost use Rattle.bring_up.specs.Quiet.{NewTransmitRingStays, QuietStays};
+ghost use Rattle.bring_up.specs.NoFrames.{NewTransmitRingStays, NoFramesStay};
 ghost use Rattle.bring_up.specs.RestingRings.{DriversBeginAtRest};
 
 /// Over an adapter at rest whose receive ring is set up, with no slot offered, a driver begins ready, with
@@ -18,8 +18,8 @@ pub fn drivers_begin_at_rest()
 /// - `quiet`: no frame comes, leaves or is held, while RCTL.EN is 0 and RCTL isn't written.
 /// - `transmit_ring`: a new transmit ring stays new, until one of its registers is written.
 /// - `staged`, `cleared`: stores of descriptors write no register.
-pub fn quiet_drivers_stay_so()
-    ensures quiet { QuietStays }
+pub fn drivers_without_frames_stay_so()
+    ensures quiet { NoFramesStay }
     ensures transmit_ring { NewTransmitRingStays }
     ensures staged { (counts : Counts) (slot : ℕ) (numbers : List ℕ)
         → writes_in (stores_from counts slot numbers) ≡ [] }

@@ -9,12 +9,12 @@ ghost use Rattle.adapter.specs.Rings.{new_ring};
 ghost use Rattle.adapter.specs.World.{transmit_ring};
 ghost use Rattle.bus.specs.Settings.{IsOff};
 ghost use Rattle.driver_law.specs.DriverState.{DriverState, transmit_tail};
-ghost use Rattle.driver_law.specs.Ready.{ReadyWith};
+ghost use Rattle.driver_law.specs.ReadyDrivers.{ReadyWith};
 ghost use Rattle.bring_up.specs.DriverSteps.{LeavesDriver, LetsFramesIn, SetsTransmitRing};
 ghost use Rattle.bring_up.specs.RestingRings.{HasNewRings, HasReceiveRing, SetsAtRest};
 ghost use Rattle.bring_up.specs.RingRegisters.{receive_control, receive_writes, ring_writes, transmit_control};
 ghost use Rattle.bring_up.specs.RingRegisters.{transmit_writes};
-ghost use Rattle.bring_up.specs.Sets.{Sets};
+ghost use Rattle.bring_up.specs.SettingSteps.{Sets};
 
 use adapter::offsets::{RCTL, RDBAH, RDBAL, RDH, RDLEN, RDT, TCTL, TDBAH, TDBAL, TDH, TDLEN, TDT};
 use bitflags::Flags;
@@ -43,7 +43,7 @@ pub struct RingPlace {
 /// where the ring stands at the beginning of memory, and the driver knows its receive ring then.
 pub fn set_receive_ring<B: Bus>(bus: &mut B, ring: RingPlace)
     ensures extent { B.extent bus.new ≡ B.extent bus.old }
-    ensures kept { B.kept bus.old bus.new }
+    ensures lent_stays { B.lent_stays bus.old bus.new }
     ensures honest { B.honest bus.old → B.honest bus.new }
     ensures lively { B.lively bus.old → B.lively bus.new }
     ensures sets { B.honest bus.old
@@ -63,12 +63,12 @@ pub fn set_receive_ring<B: Bus>(bus: &mut B, ring: RingPlace)
 /// the ring stands at its place of the layout, and knows its transmit ring then.
 pub fn set_transmit_ring<B: Bus>(bus: &mut B, ring: RingPlace)
     ensures extent { B.extent bus.new ≡ B.extent bus.old }
-    ensures kept { B.kept bus.old bus.new }
+    ensures lent_stays { B.lent_stays bus.old bus.new }
     ensures honest { B.honest bus.old → B.honest bus.new }
     ensures lively { B.lively bus.old → B.lively bus.new }
     ensures sets { B.honest bus.old
         → Sets B.world B.happened bus.old bus.new (ring_writes TDBAL ring.base ring.bytes) }
-    ensures ran { (d : DriverState) → B.honest bus.old → ReadyWith false d (B.world bus.old) → d.oldest_sent ≡ 0
+    ensures ran { (d : DriverState) → B.honest bus.old → ReadyWith false d (B.world bus.old) → d.oldest_transmit ≡ 0
         → (B.world bus.old).adapter.transmit_ring ≡ new_ring → IsRingSize d.counts.rx → IsRingSize d.counts.tx
         → ring.base ≡ 16 * d.counts.rx → ring.bytes ≡ 16 * d.counts.tx
         → SetsTransmitRing B.world B.happened (ring_writes TDBAL ring.base ring.bytes) bus.old bus.new d }
@@ -85,12 +85,12 @@ pub fn set_transmit_ring<B: Bus>(bus: &mut B, ring: RingPlace)
 /// frame held, stays so, and none is held behind it.
 pub fn enable_receiver<B: Bus>(bus: &mut B, promiscuous: bool, by_vlan: bool)
     ensures extent { B.extent bus.new ≡ B.extent bus.old }
-    ensures kept { B.kept bus.old bus.new }
+    ensures lent_stays { B.lent_stays bus.old bus.new }
     ensures honest { B.honest bus.old → B.honest bus.new }
     ensures lively { B.lively bus.old → B.lively bus.new }
     ensures sets { B.honest bus.old → Sets B.world B.happened bus.old bus.new (receive_writes promiscuous by_vlan) }
     ensures ran { (d : DriverState) → B.honest bus.old → ReadyWith false d (B.world bus.old)
-        → frames_held d.oldest_received (B.world bus.old) ≡ [] → IsOff (B.world bus.old)
+        → frames_held d.oldest_receive (B.world bus.old) ≡ [] → IsOff (B.world bus.old)
         → LetsFramesIn B.world B.happened (receive_writes promiscuous by_vlan) bus.old bus.new d }
 {
     bus.write(RCTL, receive_control(promiscuous, by_vlan));
@@ -114,12 +114,12 @@ fn receive_control(promiscuous: bool, by_vlan: bool) -> u32
 /// side set up then.
 pub fn enable_transmitter<B: Bus>(bus: &mut B)
     ensures extent { B.extent bus.new ≡ B.extent bus.old }
-    ensures kept { B.kept bus.old bus.new }
+    ensures lent_stays { B.lent_stays bus.old bus.new }
     ensures honest { B.honest bus.old → B.honest bus.new }
     ensures lively { B.lively bus.old → B.lively bus.new }
     ensures sets { B.honest bus.old → Sets B.world B.happened bus.old bus.new (transmit_writes) }
     ensures ran { (d : DriverState) → B.honest bus.old → ReadyWith false d (B.world bus.old)
-        → d.oldest_sent < d.counts.tx
+        → d.oldest_transmit < d.counts.tx
         → KnowsRing (transmit_ring (B.world bus.old)) (16 * d.counts.rx) d.counts.tx (transmit_tail d)
         → LeavesDriver true B.world B.happened transmit_writes bus.old bus.new d }
 {

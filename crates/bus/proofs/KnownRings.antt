@@ -1,7 +1,7 @@
 -- What a driver knows of its rings stays known, and what a write of RDT or TDT leaves.
 use Rattle.std.proofs.Common.{◌≡◌, ◌<◌, ◌⊎◌, ⊎_elim, ℕ, Option, sym, ap, subst, ◌∙◌, arith, bit_and}
 use Rattle.std.proofs.lemmas.Nat.{and_mask}
-use Rattle.descriptors.specs.Ring.{IsSound, count_of}
+use Rattle.descriptors.specs.Ring.{HasValidIndices, count_of}
 use Rattle.adapter.specs.declared.register.Register.{Register}
 use Rattle.adapter.specs.declared.register.Register.TheVariants.{Receive, Transmit}
 use Rattle.adapter.specs.declared.register.RingRegister.TheVariants.{Tail}
@@ -14,17 +14,19 @@ use Rattle.adapter.specs.World.{receive_ring, transmit_ring, World}
 use Rattle.bus.specs.KnownRings.{KnownRingStays, ReceiveTailMoves, TransmitTailMoves}
 
 -- A head that stays, or is a slot, is a slot where it was one.
-head-slot : (a b : RingRegisters) → b ≡ record a { head = b.head } → (b.head ≡ a.head) ⊎ IsSound (ring_of b) → a.head < count_of (ring_of a)
+head-slot : (a b : RingRegisters) → b ≡ record a { head = b.head } → (b.head ≡ a.head) ⊎ HasValidIndices (ring_of b) → a.head
+    < count_of (ring_of a)
     → b.head < count_of (ring_of a)
 head-slot a b same moved below =
     let count : count_of (ring_of b) ≡ count_of (ring_of a) = ap (λ (registers : RingRegisters). count_of (ring_of registers)) same in
     ⊎_elim
     (λ (still : b.head ≡ a.head). subst (λ (head : ℕ). head < count_of (ring_of a)) (sym still) below)
-    (λ (slot : IsSound (ring_of b)). subst (λ (n : ℕ). b.head < n) count slot.head)
+    (λ (slot : HasValidIndices (ring_of b)). subst (λ (n : ℕ). b.head < n) count slot.head)
     moved
 
 -- What the driver knows of its ring it knows still where the head alone has moved.
-pub knows-carried : (a b : RingRegisters) (base count tail : ℕ) → b ≡ record a { head = b.head } → (b.head ≡ a.head) ⊎ IsSound (ring_of b)
+pub knows-carried : (a b : RingRegisters) (base count tail : ℕ) → b ≡ record a { head = b.head } → (b.head ≡ a.head)
+    ⊎ HasValidIndices (ring_of b)
     → KnowsRing (ring_of a) base count tail → KnowsRing (ring_of b) base count tail
 knows-carried a b base count tail same moved knows = record {
   begins = ap (λ (registers : RingRegisters). (ring_of registers).base) same ∙ knows.begins;

@@ -24,9 +24,9 @@ use Rattle.bus.proofs.Settings.{writes-append}
 -- Ticks.
 
 -- The link is up, and no command waits.
-record IsUp (line : Management) : Type 0 where
-  up : link_is_up line.phy ≡ true
-  no_command : line.mdic.pending ≡ None
+record IsUp (management : Management) : Type 0 where
+  up : link_is_up management.phy ≡ true
+  no_command : management.mdic.pending ≡ None
 
 complete-stays : (negotiation : Negotiation) → is_complete negotiation ≡ true → is_complete (counted negotiation) ≡ true
 complete-stays NotStarted up = up
@@ -34,27 +34,27 @@ complete-stays (Running left) up = absurd (false≢true up)
 complete-stays Complete up = refl
 
 abbrev ticked : Management → Management
-ticked line = record { mdic = mdic_after_tick line.mdic line.phy; phy = phy_after_tick line.mdic line.phy }
+ticked management = record { mdic = mdic_after_tick management.mdic management.phy; phy = phy_after_tick management.mdic management.phy }
 
-tick-keeps : (line : Management) → IsUp line → IsUp (phy_ticked line)
-tick-keeps line is = by_case (has_work line.mdic line.phy)
+tick-keeps : (management : Management) → IsUp management → IsUp (phy_ticked management)
+tick-keeps management is = by_case (has_work management.mdic management.phy)
   where
-    ended : IsUp (ticked line)
+    ended : IsUp (ticked management)
     ended = record {
       up =
-          subst (λ (pending : Option Operation). link_is_up (phy_ended pending line.mdic.value (after_tick line.phy)) ≡ true)
+          subst (λ (pending : Option Operation). link_is_up (phy_ended pending management.mdic.value (after_tick management.phy)) ≡ true)
           (sym is.no_command)
-          (complete-stays line.phy.negotiation is.up);
+          (complete-stays management.phy.negotiation is.up);
       no_command = refl;
     }
 
-    by_case : (works : Bool) → IsUp (cond works (ticked line) line)
+    by_case : (works : Bool) → IsUp (cond works (ticked management) management)
     by_case true = ended
     by_case false = is
 
-ticks-keep : (n : ℕ) (line : Management) → IsUp line → IsUp (iterate phy_ticked n line)
-ticks-keep zero line is = is
-ticks-keep (suc n) line is = ticks-keep n (phy_ticked line) (tick-keeps line is)
+ticks-keep : (n : ℕ) (management : Management) → IsUp management → IsUp (iterate phy_ticked n management)
+ticks-keep zero management is = is
+ticks-keep (suc n) management is = ticks-keep n (phy_ticked management) (tick-keeps management is)
 
 -- Whatever happens.
 pub happenings_keep_link : HappeningsKeepLink
@@ -66,8 +66,8 @@ happenings_keep_link a b past happens link =
 -- Accesses.
 
 -- MDIC and the PHY are those of before.
-same-line : (a b : World) → management_of b.adapter ≡ management_of a.adapter → HasLink a → HasLink b
-same-line a b same link =
+same-management : (a b : World) → management_of b.adapter ≡ management_of a.adapter → HasLink a → HasLink b
+same-management a b same link =
     let before : IsUp (management_of a.adapter) = record { up = link.up; no_command = link.no_command } in
     let behind = subst IsUp (sym same) before in
     record { up = behind.up; no_command = behind.no_command }
@@ -93,19 +93,19 @@ write-leaves_line Ctrl value adapter other = absurd other
 write-leaves_line Mdic value adapter other = absurd other
 write-leaves_line _ value adapter other = refl
 
-writes-leave_line : (write : Write) (adapter : AdapterState) → LeavesPhy write
+writes-leave_management : (write : Write) (adapter : AdapterState) → LeavesPhy write
     → management_of (after_write write.offset write.value adapter) ≡ management_of adapter
-writes-leave_line write adapter leaves = by_case (register_at write.offset) leaves
+writes-leave_management write adapter leaves = by_case (register_at write.offset) leaves
   where
     by_case : (found : Option Register) → IsNotOfPhy found → management_of (left_by_write found write.value adapter) ≡ management_of adapter
     by_case None other = refl
     by_case (Some register) other = write-leaves_line register write.value adapter other
 
 pub accesses_keep_link : AccessesKeepLink
-accesses_keep_link (Reads offset value) world leaves link = same-line world _ (reads-leave_line offset world.adapter) link
+accesses_keep_link (Reads offset value) world leaves link = same-management world _ (reads-leave_line offset world.adapter) link
 accesses_keep_link (Writes offset value) world leaves link =
     let write : Write = record { offset = offset; value = value } in
-    same-line world _ (writes-leave_line write world.adapter (all-head LeavesPhy write [] leaves)) link
+    same-management world _ (writes-leave_management write world.adapter (all-head LeavesPhy write [] leaves)) link
 accesses_keep_link (Loads address size) world leaves link = link
 accesses_keep_link (Stores address bytes) world leaves link = record { up = link.up; no_command = link.no_command }
 

@@ -9,8 +9,8 @@ use Rattle.std.proofs.lemmas.List.Kept.{AllPairs-cons}
 use Rattle.dma_memory.specs.Areas.{AreApart, IsInside, descriptor_area}
 use Rattle.dma_memory.specs.AreaLaws.{apart-sym}
 use Rattle.descriptors.specs.declared.ring.Ring.{Ring}
-use Rattle.descriptors.specs.Ring.{IsSound, address_of, count_of, distance_of, next_of, owned, slots_from}
-use Rattle.descriptors.specs.RingLaws.{distance-around, distance-forward, distance-step, next-below, next-inner, next-last, owned-head}
+use Rattle.descriptors.specs.Ring.{HasValidIndices, address_of, count_of, distance_of, next_of, offered_places, slots_from}
+use Rattle.descriptors.specs.RingLaws.{distance-around, distance-forward, distance-step, next-below, next-inner, next-last, places-head}
 use Rattle.adapter.specs.HostAreas.{ring_area}
 use Rattle.adapter.specs.Slots.{done_slots, is_done, IsDealt, offered, outstanding}
 use Rattle.bus.proofs.Lists.{all-left, all-none, all-right, all-tail, pairs-before, pairs-behind, pairs-mapped, pairs-none}
@@ -56,7 +56,7 @@ slots-distinct n i (suc k) below fits =
 -- A fact of each slot of the ring is one of each that is outstanding.
 pub each-outstanding : (ring : Ring) (oldest : ℕ) (P : ℕ → Type 0) → (oldest < count_of ring) ⊎ (outstanding ring oldest ≡ [])
     → ((slot : ℕ) → slot < count_of ring → P (address_of ring slot)) → All P (outstanding ring oldest)
-unfolding owned
+unfolding offered_places
 each-outstanding ring oldest P (inr none) fact = rw none (all-none P)
 each-outstanding ring oldest P (inl below) fact =
     let n = count_of ring in
@@ -82,7 +82,7 @@ far-apart base a b differ = grind arith
 -- and apart from one another.
 pub outstanding-apart : (ring : Ring) (oldest : ℕ) → (oldest < count_of ring) ⊎ (outstanding ring oldest ≡ [])
     → AllPairs (λ a b. AreApart (descriptor_area a) (descriptor_area b)) (outstanding ring oldest)
-unfolding owned
+unfolding offered_places
 outstanding-apart ring oldest (inr none) = rw none (pairs-none (λ a b. AreApart (descriptor_area a) (descriptor_area b)))
 outstanding-apart ring oldest (inl below) =
     let n = count_of ring in
@@ -124,12 +124,12 @@ dealt-same memory memory' ring oldest taken same dealt =
     }
 
 -- Where head differs from tail, the slot at the head is the first that is offered.
-pub offered-head : (ring : Ring) → IsSound ring → ¬ (ring.head ≡ ring.tail)
+pub offered-head : (ring : Ring) → HasValidIndices ring → ¬ (ring.head ≡ ring.tail)
     → offered ring ≡ address_of ring ring.head ∷ offered (record ring { head = next_of ring ring.head })
-offered-head ring sound apart = ap (map (address_of ring)) (owned-head ring sound apart)
+offered-head ring sound apart = ap (map (address_of ring)) (places-head ring sound apart)
 
 -- The head moves on: the slot at the head is taken.
-pub dealt-moved : (memory : List ℕ) (ring : Ring) (oldest : ℕ) (taken : List ℕ) → IsSound ring → ¬ (ring.head ≡ ring.tail)
+pub dealt-moved : (memory : List ℕ) (ring : Ring) (oldest : ℕ) (taken : List ℕ) → HasValidIndices ring → ¬ (ring.head ≡ ring.tail)
     → IsDealt memory ring oldest taken
     → IsDealt memory (record ring { head = next_of ring ring.head }) oldest (taken ++ address_of ring ring.head ∷ [])
 dealt-moved memory ring oldest taken sound apart dealt =

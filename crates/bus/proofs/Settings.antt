@@ -14,9 +14,9 @@ use Rattle.bus.specs.declared.event.Access.{Access}
 use Rattle.bus.specs.declared.event.Access.TheVariants.{Loads, Reads, Stores, Writes}
 use Rattle.adapter.specs.World.{World}
 use Rattle.bus.proofs.Lists.{all-head, all-left, all-right, all-tail}
-use Rattle.bus.proofs.PhyLinks.{link-ticks}
+use Rattle.bus.proofs.LinkSettings.{link-ticks}
 use Rattle.bus.specs.Law.{Management, management_of, Happens}
-use Rattle.bus.specs.Past.{Past, joined}
+use Rattle.bus.specs.PastOfStretch.{Past, joined}
 use Rattle.bus.specs.Settings.{adapter_with, AreSet, HappeningsLeaveSettings, IsNotReceiveControl, IsOff, LeavesReceiver, NoArrival}
 use Rattle.bus.specs.Settings.{Settings, settings_after, settings_after_all, settings_of, SettingsJoin, StaysOff, WhileOff, Write}
 use Rattle.bus.specs.Settings.{writes_in, WritesSet}
@@ -33,7 +33,7 @@ same-settings a b image link kilobytes control mask filter transmit_control rece
 pub happenings_leave_settings : HappeningsLeaveSettings
 happenings_leave_settings a b past happens =
     let steady = happens.steady in
-    same-settings a.adapter b.adapter steady.image (ap (λ (line : Management). line.phy.link) steady.management
+    same-settings a.adapter b.adapter steady.image (ap (λ (management : Management). management.phy.link) steady.management
     ∙ link-ticks past.phy_ticks (management_of a.adapter)) steady.allocation steady.device_control steady.mask steady.filter
     steady.transmit_control steady.receive_ring steady.transmit_ring
 

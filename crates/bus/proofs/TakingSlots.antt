@@ -8,7 +8,7 @@ use Rattle.std.proofs.lemmas.Nat.{mod_below}
 use Rattle.std.proofs.Math.Nat.{add-mod_right, mod-eq_of_lt, mod_self, suc-mod}
 use Rattle.dma_memory.specs.Areas.{AreApart, AreSeparate, descriptor_area}
 use Rattle.descriptors.specs.declared.ring.Ring.{Ring}
-use Rattle.descriptors.specs.Ring.{address_of, count_of, distance_of, next_of, owned, slots_from}
+use Rattle.descriptors.specs.Ring.{address_of, count_of, distance_of, next_of, offered_places, slots_from}
 use Rattle.descriptors.specs.RingLaws.{next-below, next-inner, next-last}
 use Rattle.rx_engine.specs.Descriptors.{descriptor_at}
 use Rattle.rx_engine.specs.Held.{held}
@@ -16,12 +16,12 @@ use Rattle.adapter.specs.Slots.{buffered, done_slots, in_work, is_done, IsDealt,
 use Rattle.adapter.specs.HostAreas.{buffer_size, data_of, IsForeign, offered_buffers, ring_area, work_areas}
 use Rattle.adapter.specs.HostFrames.{named}
 use Rattle.adapter.specs.Conditions.{IsWhole}
-use Rattle.bus.specs.Own.{IsOwnSlot, frame_named}
-use Rattle.bus.specs.TakingSlots.{FinishedSlotsCanBeTaken, WrittenSlotsCanBeFreed, next_received}
+use Rattle.bus.specs.DriversSlots.{IsDriversSlot, frame_named}
+use Rattle.bus.specs.TakingSlots.{FinishedSlotsCanBeTaken, WrittenSlotsCanBeFreed, behind_oldest_receive}
 use Rattle.adapter.specs.World.{receive_ring, transmit_ring}
 use Rattle.bus.proofs.Areas.{separate-without}
 use Rattle.bus.proofs.Lists.{all-head, all-tail, all-weaker, pairs-head, take_while-passes}
-use Rattle.bus.proofs.Own.{foreign-named}
+use Rattle.bus.proofs.DriversSlots.{foreign-named}
 use Rattle.bus.proofs.Rings.{outstanding-apart}
 
 -- The way from a slot.
@@ -67,7 +67,7 @@ list-some x xs same = let none : suc (length xs) ≡ 0 = ap length same in absur
 -- Where a slot is outstanding, the first one stands at the oldest place, and the others from the next place on.
 outstanding-first : (ring : Ring) (oldest slot : ℕ) (later : List ℕ) → oldest < count_of ring → outstanding ring oldest ≡ slot ∷ later
     → outstanding ring oldest ≡ address_of ring oldest ∷ outstanding ring (next_of ring oldest)
-unfolding owned
+unfolding offered_places
 outstanding-first ring oldest slot later below some = by-way (distance_of ring oldest ring.tail) refl
   where
     by-way : (d : ℕ) → distance_of ring oldest ring.tail ≡ d
@@ -86,7 +86,7 @@ pub record Ahead (memory : List ℕ) (ring : Ring) (oldest : ℕ) (taken : List 
   pub first : outstanding ring oldest ≡ slot ∷ outstanding ring (next_of ring oldest)
   pub dealt : IsDealt memory ring (next_of ring oldest) taken
   pub behind : done_slots memory ring (next_of ring oldest) ≡ later
-  pub own : IsOwnSlot ring (next_of ring oldest) oldest
+  pub own : IsDriversSlot ring (next_of ring oldest) oldest
 
 first-same : (x y : ℕ) (xs ys : List ℕ) → x ∷ xs ≡ y ∷ ys → x ≡ y
 first-same x y xs ys same = cc
@@ -150,7 +150,7 @@ dealt-ahead memory ring oldest taken slot later dealt done =
 pub finished_slots_can_be_taken : FinishedSlotsCanBeTaken
 finished_slots_can_be_taken o p a slot later sound done =
     let ahead = dealt-ahead a.memory (receive_ring a) o (in_work a) slot later sound.receive_slots done in
-    let next = next_received o a in
+    let next = behind_oldest_receive o a in
     let front = ring_area (receive_ring a) ∷ ring_area (transmit_ring a) ∷ map (data_of a.memory) (offered (transmit_ring a)) in
     let rest = work_areas a.memory a.adapter.receiver.work ++ offered_buffers a in
     let all : AreSeparate a.memory (front ++ (named a.memory slot ∷ (map (named a.memory) later ++ rest))) =

@@ -26,7 +26,7 @@ use Rattle.adapter.specs.declared.step.StepKind.TheVariants.{TxTake, TxPut, RxDa
 use Rattle.adapter.specs.declared.step.Stepped.{Stepped}
 use Rattle.adapter.specs.declared.step.Stepped.TheVariants.{Took, Put, Moved, Done, Fault}
 use Rattle.bus.specs.Accesses.{LeavesCauses, LeavesMask}
-use Rattle.bus.specs.Steps.{world_after_step}
+use Rattle.bus.specs.StepsAndArrivals.{world_after_step}
 use Rattle.bus.specs.TrailCauses.{CausesAreThoseOfSteps, MasksStay, RecordedCausesStay}
 use Rattle.bus.specs.TrailCauses.{causes_by, causes_by_arrival, causes_by_step, causes_by_tick, causes_in}
 use Rattle.bus.specs.Trails.{Trail, past_of, past_of_event, world_after}

@@ -22,14 +22,14 @@ use Rattle.adapter.specs.declared.step.Stepped.{Stepped}
 use Rattle.adapter.specs.declared.step.Stepped.TheVariants.{Took, Put, Moved, Done, Fault}
 use Rattle.bus.specs.Accesses.{IsNoReset, ResetsNothing}
 use Rattle.bus.specs.declared.event.Access.TheVariants.{Loads, Reads, Stores, Writes}
-use Rattle.bus.specs.Steps.{world_after_step}
+use Rattle.bus.specs.StepsAndArrivals.{world_after_step}
 use Rattle.bus.specs.TrailFaults.{EnginesRun, FaultsStay, IsNoFault, RunningEnginesMetNoFault, StaysStopped}
 use Rattle.bus.specs.Trails.{Occurs, past_of, past_of_event, world_after}
 use Rattle.bus.specs.declared.event.Event.{Event}
 use Rattle.bus.specs.declared.event.Event.TheVariants.{Accesses, Arrives, Steps}
 use Rattle.bus.proofs.Accesses.{by-row}
 use Rattle.bus.proofs.Lists.{all-head, all-left, all-none, all-right}
-use Rattle.bus.proofs.Writes.{row-leaves}
+use Rattle.bus.proofs.RegisterWrites.{row-leaves}
 
 -- What is stopped stays so.
 

@@ -2,13 +2,13 @@
 use Rattle.std.proofs.Common.{List, [], ◌∷◌, sym, subst}
 use Rattle.std.specs.List.{All}
 use Rattle.bus.specs.Law.{Happens}
-use Rattle.bus.specs.Past.{nothing}
+use Rattle.bus.specs.PastOfStretch.{nothing}
 use Rattle.bus.specs.Trails.{IsStep, Occurs, Trail, TrailsHappen, past_of, past_of_event, world_after}
 use Rattle.bus.specs.declared.event.Event.{Event}
 use Rattle.bus.specs.declared.event.Event.TheVariants.{Accesses, Arrives, Steps}
 use Rattle.adapter.specs.World.{World}
-use Rattle.bus.proofs.Composing.{happens_none, happens_trans}
-use Rattle.bus.proofs.Instances.{arrivals_happen, steps_happen}
+use Rattle.bus.proofs.Composition.{happens_none, happens_trans}
+use Rattle.bus.proofs.StepInstances.{arrivals_happen, steps_happen}
 use Rattle.bus.proofs.Lists.{all-head, all-tail}
 
 pub event_happens : (event : Event) (a : World) → IsStep event → Occurs event a → Happens a (world_after event a) (past_of_event event)

@@ -5,7 +5,7 @@ use Rattle.adapter.specs.Table.{register_at, row_of}
 use Rattle.adapter.specs.World.{World}
 use Rattle.adapter.specs.declared.register.Register.{Register}
 use Rattle.adapter.specs.declared.register.Register.TheVariants.{Icr, Ics, Ims, Imc, Mpc, Gprc, Gptc, Rnbc}
-use Rattle.bus.specs.Idle.{IsOfRing}
+use Rattle.bus.specs.IdleRings.{IsOfRing}
 use Rattle.bus.specs.declared.event.Access.{Access}
 use Rattle.bus.specs.declared.event.Access.TheVariants.{Loads, Reads, Stores, Writes}
 use Rattle.bus.specs.Trails.{world_after_access}

@@ -11,5 +11,5 @@ use Rattle.adapter.specs.World.{World}
 -- Where the conditions of the law hold and the engines can run, no answer of a step is a fault.
 abbrev pub FaultsNeverCome : Type 0
 FaultsNeverCome =
-    (oldest_received oldest_sent : ℕ) (world : World) (kind : StepKind) (wire_free : Bool) (answer : Stepped)
-    → Sound oldest_received oldest_sent world → CanRun world → Answers kind wire_free world.memory world.adapter answer → answer ≢ Fault
+    (oldest_receive oldest_transmit : ℕ) (world : World) (kind : StepKind) (wire_free : Bool) (answer : Stepped)
+    → Sound oldest_receive oldest_transmit world → CanRun world → Answers kind wire_free world.memory world.adapter answer → answer ≢ Fault

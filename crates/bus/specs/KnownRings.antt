@@ -5,7 +5,7 @@ use Rattle.descriptors.specs.declared.ring.Ring.{Ring}
 use Rattle.adapter.specs.KnownRing.{KnowsRing}
 use Rattle.adapter.specs.World.{World, world_after_write}
 use Rattle.bus.specs.Law.{Steady}
-use Rattle.bus.specs.Past.{Past}
+use Rattle.bus.specs.PastOfStretch.{Past}
 
 -- Whatever happens between two accesses, a driver that knows where the one ring or the other stands knows it still.
 abbrev pub KnownRingStays : (World → Ring) → Type 0

@@ -8,7 +8,7 @@ use Rattle.mdic_phy.specs.Phy.{PhyState}
 use Rattle.registers.specs.Bits.{HasBit}
 use Rattle.registers.specs.Counting.{greatest_count}
 use Rattle.descriptors.specs.Frames.{IsLegal}
-use Rattle.descriptors.specs.Ring.{IsSound}
+use Rattle.descriptors.specs.Ring.{HasValidIndices}
 use Rattle.adapter.specs.Conditions.{AreWhole, FitBuffers, Sound}
 use Rattle.adapter.specs.HostAreas.{IsForeign, buffer_size}
 use Rattle.adapter.specs.HostFrames.{AreWithin, frames_held, frames_to_send}
@@ -17,7 +17,7 @@ use Rattle.adapter.specs.Running.{CanRun}
 use Rattle.adapter.specs.Slots.{finished, written_back}
 use Rattle.adapter.specs.State.{AdapterState, IsAdapter}
 use Rattle.adapter.specs.World.{World}
-use Rattle.bus.specs.Past.{Past}
+use Rattle.bus.specs.PastOfStretch.{Past}
 use Rattle.bus.specs.declared.event.Access.{Access}
 use Rattle.registers.specs.Places.{rctl_en, rxt0}
 
@@ -33,10 +33,10 @@ management_of adapter = record { mdic = adapter.mdic; phy = adapter.phy }
 
 -- a tick of the PHY does something where its count runs or a command is pending
 abbrev pub phy_ticked : Management → Management
-phy_ticked line =
-    if has_work line.mdic line.phy
-    then record { mdic = mdic_after_tick line.mdic line.phy; phy = phy_after_tick line.mdic line.phy }
-    else line
+phy_ticked management =
+    if has_work management.mdic management.phy
+    then record { mdic = mdic_after_tick management.mdic management.phy; phy = phy_after_tick management.mdic management.phy }
+    else management
 
 -- What stands in every state, whatever the driver has made of rings and memory: registers stay, causes are added, ticks alone move EERD,
 -- MDIC and the PHY, and MPC counts what is missed.
@@ -48,8 +48,8 @@ pub record Steady (a b : World) (past : Past) : Type 0 where
   pub receive_ring : b.adapter.receive_ring ≡ record a.adapter.receive_ring { head = b.adapter.receive_ring.head }
   pub transmit_ring : b.adapter.transmit_ring ≡ record a.adapter.transmit_ring { head = b.adapter.transmit_ring.head }
   -- A head that moves is a slot of its ring, and so is the tail.
-  pub receive_head : (b.adapter.receive_ring.head ≡ a.adapter.receive_ring.head) ⊎ IsSound (ring_of b.adapter.receive_ring)
-  pub transmit_head : (b.adapter.transmit_ring.head ≡ a.adapter.transmit_ring.head) ⊎ IsSound (ring_of b.adapter.transmit_ring)
+  pub receive_head : (b.adapter.receive_ring.head ≡ a.adapter.receive_ring.head) ⊎ HasValidIndices (ring_of b.adapter.receive_ring)
+  pub transmit_head : (b.adapter.transmit_ring.head ≡ a.adapter.transmit_ring.head) ⊎ HasValidIndices (ring_of b.adapter.transmit_ring)
   -- RAL, RAH, MTA, VFTA, RCTL and VET
   pub filter : b.adapter.filter ≡ a.adapter.filter
   pub device_control : b.adapter.device_control ≡ a.adapter.device_control
@@ -66,33 +66,34 @@ pub record Steady (a b : World) (past : Past) : Type 0 where
 -- Frames.
 
 -- What happens to frames, slots and memory.
-pub record Between (oldest_received oldest_sent : ℕ) (a b : World) (past : Past) : Type 0 where
+pub record Between (oldest_receive oldest_transmit : ℕ) (a b : World) (past : Past) : Type 0 where
   -- Frames are put in order, and the written-back slots from the oldest on grow by as many.
   pub sends : past.put ++ frames_to_send b ≡ frames_to_send a
   pub reported : List ℕ
-  pub written : written_back oldest_sent b ≡ written_back oldest_sent a ++ reported
+  pub written : written_back oldest_transmit b ≡ written_back oldest_transmit a ++ reported
   pub each_reported : length reported ≡ length past.put
   -- The frames held grow at the end by those that were stored.
-  pub holds : frames_held oldest_received b ≡ frames_held oldest_received a ++ past.stored
+  pub holds : frames_held oldest_receive b ≡ frames_held oldest_receive a ++ past.stored
   -- The finished slots from the oldest on only grow, and where they grew RXT0, bit 7, is recorded.
   pub more : List ℕ
-  pub done : finished oldest_received b ≡ finished oldest_received a ++ more
+  pub done : finished oldest_receive b ≡ finished oldest_receive a ++ more
   pub told : (more ≡ []) ⊎ HasBit b.adapter.causes.recorded rxt0
   -- Frames that fit into their buffers still do, and new ones do.
-  pub fits : FitBuffers oldest_received a → FitBuffers oldest_received b
+  pub fits : FitBuffers oldest_receive a → FitBuffers oldest_receive b
   -- Finished slots that are whole stay whole, and new ones are.
-  pub whole : AreWhole a.memory (finished oldest_received a) → AreWhole b.memory (finished oldest_received b)
+  pub whole : AreWhole a.memory (finished oldest_receive a) → AreWhole b.memory (finished oldest_receive b)
   -- What isn't the adapter's stays as it is, and stays not the adapter's.
   pub untouched : (area : Area) → IsForeign a area → bytes_in b.memory area ≡ bytes_in a.memory area
   pub foreign : (area : Area) → IsForeign a area → IsForeign b area
   -- Where the frames stored fit into a buffer, engines that can run can run further: no fault stops them.
   pub runs : AreWithin (buffer_size a) past.stored → CanRun a → CanRun b
-  pub sound : Sound oldest_received oldest_sent b
+  pub sound : Sound oldest_receive oldest_transmit b
 
 -- Any adapter steps and deliveries, whichever slots the driver counts as its oldest.
 pub record Happens (a b : World) (past : Past) : Type 0 where
   pub steady : Steady a b past
-  pub between : (oldest_received oldest_sent : ℕ) → Sound oldest_received oldest_sent a → Between oldest_received oldest_sent a b past
+  pub between : (oldest_receive oldest_transmit : ℕ) → Sound oldest_receive oldest_transmit a
+      → Between oldest_receive oldest_transmit a b past
 
 -- ticks of both kinds fell
 pub record HasTicks (past : Past) : Type 0 where

@@ -6,7 +6,7 @@ use Rattle.adapter.specs.World.{World}
 use Rattle.adapter.specs.declared.register.Register.{Register}
 use Rattle.adapter.specs.declared.register.Register.TheVariants.{Ctrl, Mdic}
 use Rattle.bus.specs.Law.{Happens}
-use Rattle.bus.specs.Past.{Past, joined}
+use Rattle.bus.specs.PastOfStretch.{Past, joined}
 use Rattle.bus.specs.Settings.{Write, writes_in}
 use Rattle.bus.specs.Trails.{world_after_access}
 use Rattle.bus.specs.declared.event.Access.{Access}

@@ -6,10 +6,10 @@ use Rattle.adapter.specs.Steps.{Answers}
 use Rattle.bus.specs.declared.event.Event.{Event}
 use Rattle.bus.specs.declared.event.Event.TheVariants.{Accesses, Arrives, Steps}
 use Rattle.bus.specs.Law.{Happens}
-use Rattle.bus.specs.Past.{Past, joined, nothing}
+use Rattle.bus.specs.PastOfStretch.{Past, joined, nothing}
 use Rattle.bus.specs.declared.event.Access.{Access}
 use Rattle.bus.specs.declared.event.Access.TheVariants.{Loads, Reads, Stores, Writes}
-use Rattle.bus.specs.Steps.{past_of_arrival, past_of_step, world_after_arrival, world_after_step}
+use Rattle.bus.specs.StepsAndArrivals.{past_of_arrival, past_of_step, world_after_arrival, world_after_step}
 use Rattle.adapter.specs.State.{IsAdapter}
 use Rattle.adapter.specs.World.{World, world_after_read, world_after_store, world_after_write}
 

@@ -3,7 +3,7 @@
 ghost use Rattle.std.specs.Prelude.{◌≡◌, ◌+◌, ◌-◌, ◌^◌, ◌≤◌, ℕ, length, min};
 ghost use Rattle.adapter.specs.Registers.{answer_at};
 ghost use Rattle.bus.specs.Law.{Acts};
-ghost use Rattle.bus.specs.Past.{Past, joined, nothing};
+ghost use Rattle.bus.specs.PastOfStretch.{Past, joined, nothing};
 ghost use Rattle.bus.specs.declared.event.Access.TheVariants.{Loads, Reads, Stores, Writes};
 ghost use Rattle.adapter.specs.World.{World, world_after_read, world_after_store, world_after_write};
 ghost use Rattle.dma_memory.specs.HostMemory.{bytes_at};
@@ -30,8 +30,8 @@ pub trait Bus {
     /// The bus's own word on what happened from one of its states to another.
     ghost happened: { Self → Self → Past → Type 0 };
 
-    /// What stays of it, whatever is done over it, as what it was lent.
-    ghost kept: { Self → Self → Type 0 };
+    /// What it was lent, if anything, is the same in both states.
+    ghost lent_stays: { Self → Self → Type 0 };
 
     /// How many bytes the memory has, which never changes.
     fn size(&self) -> u64
@@ -40,7 +40,7 @@ pub trait Bus {
     /// Reads the register at an offset in bytes.
     fn read(&mut self, offset: u32) -> u32
         ensures extent { extent self.new ≡ extent self.old }
-        ensures kept { kept self.old self.new }
+        ensures lent_stays { lent_stays self.old self.new }
         ensures honest { honest self.old → honest self.new }
         ensures lively { lively self.old → lively self.new }
         ensures acts { honest self.old → Acts world happened lively self.old self.new (Reads offset result)
@@ -49,7 +49,7 @@ pub trait Bus {
     /// Writes the register at an offset in bytes.
     fn write(&mut self, offset: u32, value: u32)
         ensures extent { extent self.new ≡ extent self.old }
-        ensures kept { kept self.old self.new }
+        ensures lent_stays { lent_stays self.old self.new }
         ensures honest { honest self.old → honest self.new }
         ensures lively { lively self.old → lively self.new }
         ensures acts { honest self.old → Acts world happened lively self.old self.new (Writes offset value)
@@ -59,7 +59,7 @@ pub trait Bus {
     fn load(&mut self, address: u64, into: &mut [u8])
         requires { address + length into.old ≤ extent self.old }
         ensures extent { extent self.new ≡ extent self.old }
-        ensures kept { kept self.old self.new }
+        ensures lent_stays { lent_stays self.old self.new }
         ensures honest { honest self.old → honest self.new }
         ensures lively { lively self.old → lively self.new }
         ensures length { length into.new ≡ length into.old }
@@ -70,7 +70,7 @@ pub trait Bus {
     fn store(&mut self, address: u64, bytes: &[u8])
         requires { address + length bytes.now ≤ extent self.old }
         ensures extent { extent self.new ≡ extent self.old }
-        ensures kept { kept self.old self.new }
+        ensures lent_stays { lent_stays self.old self.new }
         ensures honest { honest self.old → honest self.new }
         ensures lively { lively self.old → lively self.new }
         ensures acts { honest self.old → Acts world happened lively self.old self.new (Stores address bytes.now)
@@ -83,11 +83,11 @@ pub trait Bus {
     ghost joins: { (a b c : Self) (first later : Past) → happened a b first → happened b c later
         → happened a c (joined first later) };
 
-    /// Each state keeps what it has.
-    ghost keeps: { (b : Self) → kept b b };
+    /// So it is from a state to itself.
+    ghost lent_stays_here: { (b : Self) → lent_stays b b };
 
-    /// What stays twice stays.
-    ghost keeps_on: { (a b c : Self) → kept a b → kept b c → kept a c };
+    /// And over two stretches.
+    ghost lent_stays_on: { (a b c : Self) → lent_stays a b → lent_stays b c → lent_stays a c };
 
     /// The memory of an honest bus is as large as it says.
     ghost sized: { (b : Self) → honest b → length (world b).memory ≡ extent b };

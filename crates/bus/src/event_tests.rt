@@ -1,7 +1,7 @@
 //! Accesses and events, as code holds them.
 
 ghost use Rattle.std.specs.Prelude.{◌≡◌, IfOk};
-ghost use Rattle.bus.specs.Past.{nothing};
+ghost use Rattle.bus.specs.PastOfStretch.{nothing};
 ghost use Rattle.bus.specs.Trails.{past_of_event};
 ghost use Rattle.bus.specs.declared.event.Access.TheVariants.{Stores};
 

@@ -1,21 +1,21 @@
 // Laws of what may happen between two accesses.
 
 ghost use Rattle.adapter.specs.World.{receive_ring, transmit_ring};
-ghost use Rattle.bus.specs.Composing.{HappeningsJoin, NothingHappens, SoundStays};
+ghost use Rattle.bus.specs.Composition.{HappeningsJoin, NothingHappens, SoundStays};
 ghost use Rattle.bus.specs.Faults.{FaultsNeverCome};
-ghost use Rattle.bus.specs.Idle.{HappeningsKeepIdle, IdleAfterPowerOn, IdleAfterReset, IdleRingsAreSound};
-ghost use Rattle.bus.specs.Idle.{OtherWritesKeepIdle, ReadsKeepIdle, StoresKeepIdle, WritesKeepIdle};
-ghost use Rattle.bus.specs.Initialising.{ManySlotsCanBeOffered, OffersWait, OtherWritesLeaveFrames, ReadsLeaveFrames};
-ghost use Rattle.bus.specs.Initialising.{ReceiverCanBeSet, TransmitRingCanBeSet, TransmitStaysIdle};
-ghost use Rattle.bus.specs.Initialising.{TransmitterCanBeSet};
-ghost use Rattle.bus.specs.Offering.{FramesCanBeOffered, SlotsCanBeOffered};
-ghost use Rattle.bus.specs.Own.{DriversKeepTheirOwn};
+ghost use Rattle.bus.specs.IdleRings.{HappeningsKeepIdle, IdleAfterPowerOn, IdleAfterReset, IdleRingsAreSound};
+ghost use Rattle.bus.specs.IdleRings.{OtherWritesKeepIdle, ReadsKeepIdle, StoresKeepIdle, WritesKeepIdle};
+ghost use Rattle.bus.specs.RegisterSetting.{ManySlotsCanBeOffered, OffersWait, OtherWritesLeaveFrames, ReadsLeaveFrames};
+ghost use Rattle.bus.specs.RegisterSetting.{ReceiverCanBeSet, TransmitRingCanBeSet, TransmitStaysIdle};
+ghost use Rattle.bus.specs.RegisterSetting.{TransmitterCanBeSet};
+ghost use Rattle.bus.specs.SlotOffers.{FramesCanBeOffered, SlotsCanBeOffered};
+ghost use Rattle.bus.specs.DriversSlots.{DriversSideStaysAlways};
 ghost use Rattle.bus.specs.KnownRings.{KnownRingStays, ReceiveTailMoves, TransmitTailMoves};
-ghost use Rattle.bus.specs.OwnSlots.{OwnReceiveSlotsCanBeWritten, OwnTransmitSlotsCanBeWritten, SlotsFromTailAreOwn};
-ghost use Rattle.bus.specs.OwnSlots.{TailSlotsAreOwn};
-ghost use Rattle.bus.specs.OwnStores.{OwnStoresLeaveForeign, OwnStoresLeaveFrames};
-ghost use Rattle.bus.specs.Spare.{AreasStayApart};
-ghost use Rattle.bus.specs.Steps.{ArrivalsHappen, StepsHappen};
+ghost use Rattle.bus.specs.WritableSlots.{DriversReceiveSlotsCanBeWritten, DriversTransmitSlotsCanBeWritten, SlotsFromTailBelongToDriver};
+ghost use Rattle.bus.specs.WritableSlots.{TailSlotsBelongToDriver};
+ghost use Rattle.bus.specs.DriversStores.{DriversStoresLeaveForeign, DriversStoresLeaveFrames};
+ghost use Rattle.bus.specs.SpareMemory.{AreasStayApart};
+ghost use Rattle.bus.specs.StepsAndArrivals.{ArrivalsHappen, StepsHappen};
 ghost use Rattle.bus.specs.TakingSlots.{FinishedSlotsCanBeTaken, WrittenSlotsCanBeFreed};
 ghost use Rattle.bus.specs.Trails.{TrailsHappen};
 
@@ -57,8 +57,8 @@ pub fn faults_never_come()
 /// and the frames that they name; so do those of written-back slots, and those of its own slots of both
 /// rings, which aren't outstanding and stay its own. Every receive descriptor keeps the address of its
 /// buffer, and every transmit descriptor all but its status.
-pub fn drivers_keep_their_own()
-    ensures { DriversKeepTheirOwn }
+pub fn drivers_side_stays()
+    ensures { DriversSideStaysAlways }
 {}
 
 /// A driver's store to memory of its own, apart from all outstanding descriptors and from the frames and
@@ -67,18 +67,18 @@ pub fn drivers_keep_their_own()
 ///   that are whole stay whole, frames that fit into their buffers still do, and engines that could run
 ///   still can.
 /// - `foreign`: what isn't the adapter's stays not the adapter's.
-pub fn own_stores_leave_frames()
-    ensures frames { OwnStoresLeaveFrames }
-    ensures foreign { OwnStoresLeaveForeign }
+pub fn drivers_stores_leave_frames()
+    ensures frames { DriversStoresLeaveFrames }
+    ensures foreign { DriversStoresLeaveForeign }
 {}
 
 /// Each slot of either ring that is a driver's own lies in memory, isn't the adapter's to write, and may
-/// be stored to, as [`own_stores_leave_frames`] says. Such are the slots from the tail on up to its oldest.
-pub fn own_slots_can_be_written()
-    ensures received { OwnReceiveSlotsCanBeWritten }
-    ensures sent { OwnTransmitSlotsCanBeWritten }
-    ensures from_tail { SlotsFromTailAreOwn }
-    ensures tail { TailSlotsAreOwn }
+/// be stored to, as [`drivers_stores_leave_frames`] says. Such are the slots from the tail on up to its oldest.
+pub fn drivers_slots_can_be_written()
+    ensures received { DriversReceiveSlotsCanBeWritten }
+    ensures sent { DriversTransmitSlotsCanBeWritten }
+    ensures from_tail { SlotsFromTailBelongToDriver }
+    ensures tail { TailSlotsBelongToDriver }
 {}
 
 /// A driver that knows where a ring begins, how many slots it has and which stands at the tail, and that

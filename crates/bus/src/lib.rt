@@ -14,9 +14,10 @@ mod trail_law;
 pub use bus::{Bus, HonestBus};
 pub use event::{Access, Event, StoredBytes};
 pub use law::{
-    any_steps_may_happen, areas_stay_apart, between_composes, drivers_keep_their_own, faults_never_come, finished_slots_can_be_taken, frames_can_be_offered,
-    idle_rings_are_sound, idle_rings_stay_idle, known_rings_stay, many_slots_can_be_offered,
-    own_slots_can_be_written, own_stores_leave_frames, registers_can_be_set, rings_wait,
+    any_steps_may_happen, areas_stay_apart, between_composes, drivers_side_stays,
+    drivers_slots_can_be_written, drivers_stores_leave_frames, faults_never_come,
+    finished_slots_can_be_taken, frames_can_be_offered, idle_rings_are_sound, idle_rings_stay_idle,
+    known_rings_stay, many_slots_can_be_offered, registers_can_be_set, rings_wait,
     slots_can_be_offered, steps_are_instances, tails_can_be_moved, written_slots_can_be_freed,
 };
 pub use link_law::links_stay_up;

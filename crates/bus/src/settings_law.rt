@@ -1,6 +1,6 @@
 // What a driver has set of an adapter stays, but for its own writes.
 
-ghost use Rattle.bus.specs.Rest.{AccessesKeepRest, HappeningsKeepRest, RestAfterReset, RestIsIdle};
+ghost use Rattle.bus.specs.AdaptersAtRest.{AccessesKeepRest, HappeningsKeepRest, RestAfterReset, RestIsIdle};
 ghost use Rattle.bus.specs.Settings.{HappeningsLeaveSettings, SettingsJoin, StaysOff, WritesSet};
 
 /// What a driver has set of an adapter, in its own registers of control, mask, filter, rings and packet

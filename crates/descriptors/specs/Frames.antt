@@ -1,19 +1,31 @@
 -- A frame is the list of its bytes, destination address to end of data, without the check sequence.
 use Rattle.std.specs.Prelude.{◌≡◌, ◌≤◌, ◌-◌, ◌++◌, ◌&&◌, Bool, IsTrue, ℕ, List, length, take, replicate, nat_le}
 
--- A frame that may be on the wire has 60 to 1,518 bytes (IEEE 802.3, 4.4.2, and own for frames without a VLAN tag).
+-- How many bytes the shortest frame on the wire has, the longest one (IEEE 802.3, 4.4.2, and own for frames without a VLAN tag), and the
+-- shortest one that a host may send: two addresses and the Length/Type field (own).
+abbrev pub shortest_frame : ℕ
+shortest_frame = 60
+
+abbrev pub longest_frame : ℕ
+longest_frame = 1518
+
+abbrev pub shortest_sent : ℕ
+shortest_sent = 14
+
+-- a frame that may be on the wire
 pub record IsLegal (frame : List ℕ) : Type 0 where
-  pub least : 60 ≤ length frame
-  pub most : length frame ≤ 1518
+  pub least : shortest_frame ≤ length frame
+  pub most : length frame ≤ longest_frame
 
--- A frame that a host may send has 14 to 1,518 bytes (own).
+-- A frame that a host may send, shorter ones among it (own).
 abbrev pub is_sendable : List ℕ → Bool
-is_sendable frame = nat_le 14 (length frame) && nat_le (length frame) 1518
+is_sendable frame = nat_le shortest_sent (length frame) && nat_le (length frame) longest_frame
 
--- The frame followed by zeros up to 60 bytes, and the frame itself from 60 bytes on ("13.4.33 Transmit Control Register",
+-- The frame followed by zeros up to the shortest one on the wire, and the frame itself from 60 bytes on ("13.4.33 Transmit Control
+-- Register",
 -- Pad Short Packets; that the padding is zeros: own).
 abbrev pub padded : List ℕ → List ℕ
-padded frame = frame ++ replicate (60 - length frame) 0
+padded frame = frame ++ replicate (shortest_frame - length frame) 0
 
 -- A frame that can be sent is legal once it is padded.
 abbrev pub SendablePaddedIsLegal : Type 0
@@ -23,6 +35,6 @@ SendablePaddedIsLegal = (frame : List ℕ) → IsTrue (is_sendable frame) → Is
 abbrev pub PaddedBeginsWithFrame : Type 0
 PaddedBeginsWithFrame = (frame : List ℕ) → take (length frame) (padded frame) ≡ frame
 
--- A frame of 60 bytes or more is its own padded frame.
+-- A frame that isn't too short is its own padded frame.
 abbrev pub LongFramesStay : Type 0
-LongFramesStay = (frame : List ℕ) → 60 ≤ length frame → padded frame ≡ frame
+LongFramesStay = (frame : List ℕ) → shortest_frame ≤ length frame → padded frame ≡ frame

@@ -10,7 +10,7 @@ abbrev pub count_of : Ring → ℕ
 count_of ring = min (ring.bytes / 16) 65536
 
 -- Head and tail are slots of the ring; a ring of no descriptors has none.
-pub record IsSound (ring : Ring) : Type 0 where
+pub record HasValidIndices (ring : Ring) : Type 0 where
   pub head : ring.head < count_of ring
   pub tail : ring.tail < count_of ring
 
@@ -33,27 +33,27 @@ slots_from n index (suc k) = index ∷ slots_from n ((index + 1) % n) k
 
 -- The slots that the adapter owns: from head up to, not including, tail, wrapping ("3.2.6 Receive Descriptor Queue
 -- Structure", "3.4 Transmit Descriptor Ring Structure"). Head equal to tail means that it owns none.
-unfoldable pub owned : Ring → List ℕ
-owned ring = slots_from (count_of ring) ring.head (distance_of ring ring.head ring.tail)
+unfoldable pub offered_places : Ring → List ℕ
+offered_places ring = slots_from (count_of ring) ring.head (distance_of ring ring.head ring.tail)
 
 -- Laws of rings whose head and tail are slots.
 
 -- Where head differs from tail, the slot at the head comes first, and then those behind it.
-abbrev pub OwnedBeginsAtHead : Type 0
-OwnedBeginsAtHead = (ring : Ring) → IsSound ring → ¬ (ring.head ≡ ring.tail)
-    → owned ring ≡ ring.head ∷ owned (record ring { head = next_of ring ring.head })
+abbrev pub OfferedBeginAtHead : Type 0
+OfferedBeginAtHead = (ring : Ring) → HasValidIndices ring → ¬ (ring.head ≡ ring.tail)
+    → offered_places ring ≡ ring.head ∷ offered_places (record ring { head = next_of ring ring.head })
 
 -- Where head equals tail, the adapter owns none.
-abbrev pub OwnedIsEmpty : Type 0
-OwnedIsEmpty = (ring : Ring) → ring.head ≡ ring.tail → owned ring ≡ []
+abbrev pub NoneIsOffered : Type 0
+NoneIsOffered = (ring : Ring) → ring.head ≡ ring.tail → offered_places ring ≡ []
 
 -- The adapter owns as many slots as it is from head to tail, fewer than the ring has.
-abbrev pub OwnedIsDistance : Type 0
-OwnedIsDistance = (ring : Ring) → length (owned ring) ≡ distance_of ring ring.head ring.tail
+abbrev pub OfferedAreDistance : Type 0
+OfferedAreDistance = (ring : Ring) → length (offered_places ring) ≡ distance_of ring ring.head ring.tail
 
 -- Where the slot behind tail isn't the head, moving tail on by one gives the slot at the old tail to the adapter, as the
 -- last one.
-abbrev pub OwnedGrowsAtTail : Type 0
-OwnedGrowsAtTail =
-    (ring : Ring) → IsSound ring → ¬ (next_of ring ring.tail ≡ ring.head)
-    → owned (record ring { tail = next_of ring ring.tail }) ≡ owned ring ++ ring.tail ∷ []
+abbrev pub OfferedGrowAtTail : Type 0
+OfferedGrowAtTail =
+    (ring : Ring) → HasValidIndices ring → ¬ (next_of ring ring.tail ≡ ring.head)
+    → offered_places (record ring { tail = next_of ring ring.tail }) ≡ offered_places ring ++ ring.tail ∷ []

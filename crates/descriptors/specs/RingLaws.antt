@@ -3,8 +3,8 @@ use Rattle.std.proofs.Common.{◌≡◌, ⊎_elim, ◌≤◌, ◌<◌, ◌+◌, 
 use Rattle.std.proofs.lemmas.Bool.{cases_eq, cases_lt}
 use Rattle.std.proofs.lemmas.Nat.{mod_below}
 use Rattle.std.proofs.Math.Nat.{mod-eq_of_lt, mod_self, add-mod_left}
-use Rattle.descriptors.specs.Ring.{count_of, distance_of, slots_from, owned, OwnedBeginsAtHead, OwnedIsEmpty, OwnedIsDistance}
-use Rattle.descriptors.specs.Ring.{OwnedGrowsAtTail}
+use Rattle.descriptors.specs.Ring.{count_of, distance_of, slots_from, offered_places, OfferedBeginAtHead, NoneIsOffered, OfferedAreDistance}
+use Rattle.descriptors.specs.Ring.{OfferedGrowAtTail}
 
 -- The slot behind an index, where it isn't the last one, and where it is.
 pub next-inner : (n i : ℕ) → i + 1 < n → (i + 1) % n ≡ i + 1
@@ -101,28 +101,28 @@ place-distance n (suc k) from to slot_from slot_to far =
     (cases_eq from to)
 
 -- The slots that the adapter owns begin at the head.
-pub owned-head : OwnedBeginsAtHead
-unfolding owned
-owned-head ring sound apart = ap (slots_from (count_of ring) ring.head)
+pub places-head : OfferedBeginAtHead
+unfolding offered_places
+places-head ring sound apart = ap (slots_from (count_of ring) ring.head)
     (distance-step (count_of ring) ring.head ring.tail sound.head sound.tail apart)
 
 -- Where head equals tail there are none.
-pub owned-none : OwnedIsEmpty
-unfolding owned
-owned-none ring same =
+pub places-none : NoneIsOffered
+unfolding offered_places
+places-none ring same =
     let n = count_of ring in
     let round : ring.tail + n - ring.head ≡ n = omega (arith, same) in
     ap (slots_from n ring.head) (ap (λ (k : ℕ). k % n) round ∙ mod_self n)
 
 -- There are as many as it is from head to tail.
-pub length-owned : OwnedIsDistance
-unfolding owned
-length-owned ring = length-slots_from (count_of ring) ring.head (distance_of ring ring.head ring.tail)
+pub length-places : OfferedAreDistance
+unfolding offered_places
+length-places ring = length-slots_from (count_of ring) ring.head (distance_of ring ring.head ring.tail)
 
 -- Moving tail on gives the slot at the old tail, as the last one.
-pub owned-tail : OwnedGrowsAtTail
-unfolding owned
-owned-tail ring sound apart =
+pub places-tail : OfferedGrowAtTail
+unfolding offered_places
+places-tail ring sound apart =
     let n = count_of ring in
     let d = distance_of ring ring.head ring.tail in
     let last : place n ring.head d ≡ ring.tail = place-distance n d ring.head ring.tail sound.head sound.tail refl in

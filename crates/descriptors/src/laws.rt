@@ -1,6 +1,6 @@
 ghost use Rattle.descriptors.specs.RxDesc.{DescriptorsComeBack, BytesComeBack};
 ghost use Rattle.descriptors.specs.TxDesc.{TxDescriptorsComeBack, TxBytesComeBack};
-ghost use Rattle.descriptors.specs.Ring.{OwnedBeginsAtHead, OwnedIsEmpty, OwnedIsDistance, OwnedGrowsAtTail};
+ghost use Rattle.descriptors.specs.Ring.{OfferedBeginAtHead, NoneIsOffered, OfferedAreDistance, OfferedGrowAtTail};
 ghost use Rattle.descriptors.specs.Frames.{SendablePaddedIsLegal, PaddedBeginsWithFrame, LongFramesStay};
 
 /// Laws of receive descriptors: from the bytes of a descriptor the descriptor comes back, and from the descriptor of
@@ -26,11 +26,11 @@ pub fn transmit_descriptors_come_back()
 /// moving tail on gives the slot at the old tail to the adapter, as the last one.
 ///
 /// It does nothing: its contract is the laws.
-pub fn owned_slots_go_from_head_to_tail()
-    ensures begins { OwnedBeginsAtHead }
-    ensures empty { OwnedIsEmpty }
-    ensures length { OwnedIsDistance }
-    ensures grows { OwnedGrowsAtTail }
+pub fn offered_places_go_from_head_to_tail()
+    ensures begins { OfferedBeginAtHead }
+    ensures empty { NoneIsOffered }
+    ensures length { OfferedAreDistance }
+    ensures grows { OfferedGrowAtTail }
 {}
 
 /// Laws of padding: a frame that can be sent is legal once it is padded, a padded frame begins with the frame, and a

@@ -15,8 +15,8 @@ mod tx_status;
 
 pub use frame::{Frame, LONGEST_LEGAL, LONGEST_SENDABLE, SHORTEST_LEGAL, SHORTEST_SENDABLE};
 pub use laws::{
-    descriptors_come_back, owned_slots_go_from_head_to_tail, sendable_frames_are_padded_to_legal,
-    transmit_descriptors_come_back,
+    descriptors_come_back, offered_places_go_from_head_to_tail,
+    sendable_frames_are_padded_to_legal, transmit_descriptors_come_back,
 };
 pub use ring::Ring;
 pub use rx_desc::{RX_DESC_BYTES, RxDesc};

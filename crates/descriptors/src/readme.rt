@@ -13,7 +13,7 @@ fn the_code_of_the_readme(rt: HostRuntime) -> Result<(), Fail> {
         head: 0,
         tail: 7,
     };
-    assert!(rt; ring.is_sound());
+    assert!(rt; ring.has_valid_indices());
     assert_eq!(rt; ring.distance(ring.head, ring.tail), 7);
     ring.head = ring.next(ring.head);
     assert_eq!(rt; ring.descriptor(ring.head), Some(0x90));

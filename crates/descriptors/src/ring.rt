@@ -24,7 +24,7 @@ pub struct Ring {
 }
 
 impl Ring {
-    ghost use Rattle.descriptors.specs.Ring.{count_of, IsSound, next_of, distance_of, address_of};
+    ghost use Rattle.descriptors.specs.Ring.{count_of, HasValidIndices, next_of, distance_of, address_of};
 
     /// How many descriptors the ring has: one for sixteen bytes of its length, 65,536 at most, which is as far as
     /// indices of 16 bits reach. The length registers have 20 bits and name fewer.
@@ -35,8 +35,8 @@ impl Ring {
     }
 
     /// Whether head and tail are slots of the ring. A ring of no descriptors has none.
-    pub fn is_sound(&self) -> bool
-        ensures { IsTrue result ↔ IsSound self.now }
+    pub fn has_valid_indices(&self) -> bool
+        ensures { IsTrue result ↔ HasValidIndices self.now }
     {
         let count = self.count();
         (self.head as u32) < count && (self.tail as u32) < count

@@ -27,9 +27,17 @@ pub record IsAllowed (counts : Counts) : Type 0 where
   pub tx : IsRingSize counts.tx
   pub buffers : IsBufferCount counts.rx counts.buffers
 
--- The least multiple of 2,048 at which both rings, of 16 bytes a descriptor, have ended (own).
+-- How many bytes a descriptor has ("3.2.3 Receive Descriptor Format", "3.3.3 Legacy Transmit Descriptor Format"), and a buffer ("13.4.22
+-- Receive Control", BSIZE 00b).
+abbrev pub descriptor_bytes : ℕ
+descriptor_bytes = 16
+
+abbrev pub buffer_bytes : ℕ
+buffer_bytes = 2048
+
+-- The least multiple of a buffer's size at which both rings have ended (own).
 abbrev pub buffers_start : Counts → ℕ
-buffers_start counts = next_multiple_of (16 * counts.rx + 16 * counts.tx) 2048
+buffers_start counts = next_multiple_of (descriptor_bytes * counts.rx + descriptor_bytes * counts.tx) buffer_bytes
 
 -- What has its place in a layout (own).
 pub data Place : Type 0 where
@@ -48,17 +56,16 @@ HasPlace counts (ReceiveBuffer number) = number < counts.buffers
 -- The first address of a place: the receive ring, the transmit ring, the transmit buffers, the receive buffers.
 abbrev pub start_of : Counts → Place → ℕ
 start_of counts ReceiveRing = 0
-start_of counts TransmitRing = 16 * counts.rx
-start_of counts (TransmitBuffer slot) = buffers_start counts + 2048 * slot
-start_of counts (ReceiveBuffer number) = buffers_start counts + 2048 * counts.tx + 2048 * number
+start_of counts TransmitRing = descriptor_bytes * counts.rx
+start_of counts (TransmitBuffer slot) = buffers_start counts + buffer_bytes * slot
+start_of counts (ReceiveBuffer number) = buffers_start counts + buffer_bytes * counts.tx + buffer_bytes * number
 
--- How many bytes stand at a place: 16 for each descriptor of a ring ("3.2.3 Receive Descriptor Format", "3.3.3
--- Legacy Transmit Descriptor Format"), 2,048 in a buffer ("13.4.22 Receive Control", BSIZE 00b).
+-- How many bytes stand at a place.
 abbrev pub bytes_of : Counts → Place → ℕ
-bytes_of counts ReceiveRing = 16 * counts.rx
-bytes_of counts TransmitRing = 16 * counts.tx
-bytes_of counts (TransmitBuffer slot) = 2048
-bytes_of counts (ReceiveBuffer number) = 2048
+bytes_of counts ReceiveRing = descriptor_bytes * counts.rx
+bytes_of counts TransmitRing = descriptor_bytes * counts.tx
+bytes_of counts (TransmitBuffer slot) = buffer_bytes
+bytes_of counts (ReceiveBuffer number) = buffer_bytes
 
 -- The memory that a layout needs ends where the last receive buffer ends.
 abbrev pub size_of : Counts → ℕ
@@ -78,8 +85,8 @@ abbrev pub PlacesLieBelowSize : Type 0
 PlacesLieBelowSize = (counts : Counts) (place : Place) → HasPlace counts place
     → start_of counts place + bytes_of counts place ≤ size_of counts
 
--- The buffers begin at the first multiple of 2,048 at which both rings have ended.
+-- The buffers begin at the first multiple of a buffer's size at which both rings have ended.
 pub record BeginsAtNextMultiple (counts : Counts) : Type 0 where
-  pub multiple : buffers_start counts % 2048 ≡ 0
-  pub behind_rings : 16 * counts.rx + 16 * counts.tx ≤ buffers_start counts
-  pub first : buffers_start counts < 16 * counts.rx + 16 * counts.tx + 2048
+  pub multiple : buffers_start counts % buffer_bytes ≡ 0
+  pub behind_rings : descriptor_bytes * counts.rx + descriptor_bytes * counts.tx ≤ buffers_start counts
+  pub first : buffers_start counts < descriptor_bytes * counts.rx + descriptor_bytes * counts.tx + buffer_bytes

@@ -7,7 +7,7 @@ use Rattle.dma_memory.specs.declared.pool.Pool.TheInside.{Inside}
 abbrev pub numbers_of : Inside → Numbers
 numbers_of pool = record { buffers = pool.buffers; free = pool.free.items }
 
-pub record IsSound (pool : Inside) : Type 0 where
+pub record IsConsistent (pool : Inside) : Type 0 where
   -- what is in the pool is in it once
   pub once : HasNoSecondOwner pool.buffers pool.free.items
   -- the vector never grows

@@ -43,11 +43,11 @@ impl Model for Pool {
 
     ghost Value = { Numbers };
 
-    ghost use Rattle.dma_memory.specs.Pool.{numbers_of, IsSound};
+    ghost use Rattle.dma_memory.specs.Pool.{numbers_of, IsConsistent};
 
     ghost view = { numbers_of };
 
-    ghost invariant = { IsSound };
+    ghost invariant = { IsConsistent };
 }
 
 impl Pool {

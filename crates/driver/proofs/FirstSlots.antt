@@ -6,23 +6,23 @@ use Rattle.dma_memory.specs.Layout.{Counts}
 use Rattle.dma_memory.specs.Owners.{HasOneOwner, HaveSameNumbers, copies}
 use Rattle.dma_memory.specs.OwnersLaws.{copies-append, length-one_owner, one_owner-same}
 use Rattle.descriptors.specs.declared.ring.Ring.{Ring}
-use Rattle.descriptors.specs.Ring.{address_of, distance_of, owned}
-use Rattle.descriptors.specs.RingLaws.{distance-forward, length-owned, place, place-distance}
+use Rattle.descriptors.specs.Ring.{address_of, distance_of, offered_places}
+use Rattle.descriptors.specs.RingLaws.{distance-forward, length-places, place, place-distance}
 use Rattle.adapter.specs.HostFrames.{frames_held}
 use Rattle.adapter.specs.World.{World, receive_ring}
-use Rattle.bus.specs.Past.{Past, joined}
+use Rattle.bus.specs.PastOfStretch.{Past, joined}
 use Rattle.bus.specs.declared.event.Access.TheVariants.{Writes}
-use Rattle.bus.proofs.Waiting.{all-offered, holds-none}
+use Rattle.bus.proofs.WaitingRings.{all-offered, holds-none}
 use Rattle.driver_law.proofs.Accesses.{ran_by-join, ran_by-same}
 use Rattle.driver_law.proofs.Owners.{owners-count}
 use Rattle.driver_law.specs.Accesses.{tail_write}
 use Rattle.driver_law.specs.Beginnings.{new_driver}
-use Rattle.driver_law.specs.DriverState.{DriverState, holding, next_received, owners, receive_slot, with_owners}
-use Rattle.driver_law.specs.Goes.{RanBy}
-use Rattle.driver_law.specs.Ready.{Ready, ReadyWith}
+use Rattle.driver_law.specs.DriverState.{DriverState, holding, next_receive, owners, receive_slot, with_owners}
+use Rattle.driver_law.specs.Stretches.{RanBy}
+use Rattle.driver_law.specs.ReadyDrivers.{Ready, ReadyWith}
 use Rattle.bring_up.specs.ClearedDescriptors.{clears}
-use Rattle.driver.specs.Initialises.{OffersFirst}
-use Rattle.driver.specs.Refills.{Stages}
+use Rattle.driver.specs.Initialisation.{OffersFirst}
+use Rattle.driver.specs.RefillSteps.{Stages}
 
 -- Where no frame is held, the slot at the head is the oldest.
 
@@ -37,22 +37,23 @@ last-place n k full =
     place-distance n k 0 (n - 1) (omega (arith, full)) (omega (arith, full))
     (distance-forward n 0 (n - 1) (omega (arith, full)) (omega arith) ∙ omega (arith, full))
 
-pub head-first : (d : DriverState) (world : World) → Ready d world → d.oldest_received ≡ 0 → length d.buffers + 1 ≡ d.counts.rx
-    → frames_held d.oldest_received world ≡ [] → (receive_ring world).head ≡ 0
+pub head-first : (d : DriverState) (world : World) → Ready d world → d.oldest_receive ≡ 0 → length d.buffers + 1 ≡ d.counts.rx
+    → frames_held d.oldest_receive world ≡ [] → (receive_ring world).head ≡ 0
 head-first d world ready first full none =
     let ring = receive_ring world in
     let n = d.counts.rx in
     let knows = ready.receive in
-    let same = all-offered d.oldest_received d.oldest_sent world ready.sound (holds-none d.oldest_received world none) in
-    let from : Ring = record ring { head = d.oldest_received } in
-    let long : distance_of from d.oldest_received ring.tail ≡ distance_of ring ring.head ring.tail =
-    sym (length-owned from) ∙ sym (length-map (owned from) (address_of from)) ∙ ap length same ∙ length-map (owned ring) (address_of ring)
-    ∙ length-owned ring in
+    let same = all-offered d.oldest_receive d.oldest_transmit world ready.sound (holds-none d.oldest_receive world none) in
+    let from : Ring = record ring { head = d.oldest_receive } in
+    let long : distance_of from d.oldest_receive ring.tail ≡ distance_of ring ring.head ring.tail =
+    sym (length-places from) ∙ sym (length-map (offered_places from) (address_of from)) ∙ ap length same
+    ∙ length-map (offered_places ring) (address_of ring)
+    ∙ length-places ring in
     let tail : ring.tail ≡ n - 1 = knows.last ∙ ap (λ (oldest : ℕ). place n oldest (length d.buffers)) first
     ∙ last-place n (length d.buffers) full in
     let back : (n - 1 + n - ring.head) % n ≡ (n - 1 + n - 0) % n =
     ap (λ (t : ℕ). (t + n - ring.head) % n) (sym tail) ∙ ap (λ (c : ℕ). (ring.tail + c - ring.head) % c) (sym knows.slots) ∙ sym long
-    ∙ ap (λ (c : ℕ). (ring.tail + c - d.oldest_received) % c) knows.slots ∙ ap (λ (o : ℕ). (ring.tail + n - o) % n) first
+    ∙ ap (λ (c : ℕ). (ring.tail + c - d.oldest_receive) % c) knows.slots ∙ ap (λ (o : ℕ). (ring.tail + n - o) % n) first
     ∙ ap (λ (t : ℕ). (t + n - 0) % n) tail in
     distance-same n ring.head (omega (arith, full)) knows.head_slot
     (back ∙ distance-forward n 0 (n - 1) (omega (arith, full)) (omega arith) ∙ omega arith)
@@ -88,10 +89,10 @@ pub offers-first : {B : Type 0} (honest : B → Type 0) (world : B → World) (h
     → Stages honest world happened b0 b1 (new_driver counts pool) d2 numbers
     → length d2.buffers + length d2.staged < d2.counts.rx → (d2.pool ≡ []) ⊎ (length d2.buffers + length d2.staged + 1 ≡ d2.counts.rx)
     → d3 ≡ with_owners d2 (d2.buffers ++ d2.staged) [] d2.pool [] → (honest b0 → honest b1) → (honest b1 → honest b2)
-    → ((d : DriverState) → honest b1 → ReadyWith false d (world b1) → d.oldest_received ≡ 0 → counts.rx ≡ d.counts.rx
+    → ((d : DriverState) → honest b1 → ReadyWith false d (world b1) → d.oldest_receive ≡ 0 → counts.rx ≡ d.counts.rx
     → RanBy false world happened (clears (receive_slot (counts.rx - 1)) ∷ []) b1 b2 d d [] [])
     → (honest b2 → ReadyWith false (holding [] d2) (world b2)
-    → RanBy false world happened (tail_write (next_received d2) d2.staged) b2 b3 (holding [] d2) (holding [] d3) [] [])
+    → RanBy false world happened (tail_write (next_receive d2) d2.staged) b2 b3 (holding [] d2) (holding [] d3) [] [])
     → OffersFirst honest world happened b0 b3 (new_driver counts pool) d3
 offers-first honest world happened joins b0 b1 b2 b3 counts pool numbers d2 d3 owner enough some stages room full behind obeys1 obeys2
     clearing offers =
@@ -106,8 +107,8 @@ offers-first honest world happened joins b0 b1 b2 b3 counts pool numbers d2 d3 o
     let left : d3.pool ≡ d2.pool = ap (λ (d : DriverState). d.pool) done in
     let same2 : holding [] d2 ≡ d2 = ap (holding []) staged ∙ sym staged in
     let same3 : holding [] d3 ≡ d3 = ap (holding []) done ∙ sym done in
-    let next : next_received d2 ≡ n - 1 = ap next_received staged ∙ last-place n (0 + length numbers) (omega (arith, count)) in
-    let tail : tail_write (next_received d2) d2.staged ≡ Writes 0x2818 (n - 1) ∷ [] =
+    let next : next_receive d2 ≡ n - 1 = ap next_receive staged ∙ last-place n (0 + length numbers) (omega (arith, count)) in
+    let tail : tail_write (next_receive d2) d2.staged ≡ Writes 0x2818 (n - 1) ∷ [] =
     ap (λ (slot : ℕ). tail_write slot d2.staged) next ∙ ap (λ (d : DriverState). tail_write (n - 1) d.staged) staged
     ∙ tail-written (n - 1) numbers (omega (arith, count, some)) in
     record {
@@ -118,7 +119,7 @@ offers-first honest world happened joins b0 b1 b2 b3 counts pool numbers d2 d3 o
       ran = λ obeys ready.
           let first = stages.ran false [] obeys ready in
           let ready1 = first.goes.flows.ready in
-          let second = clearing (holding [] d2) (obeys1 obeys) ready1 (ap (λ (d : DriverState). d.oldest_received) staged)
+          let second = clearing (holding [] d2) (obeys1 obeys) ready1 (ap (λ (d : DriverState). d.oldest_receive) staged)
           (sym (ap (λ (d : DriverState). d.counts.rx) staged)) in
           let third = offers (obeys2 (obeys1 obeys)) second.goes.flows.ready in
           let d1 = new_driver counts pool in

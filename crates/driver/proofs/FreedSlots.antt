@@ -10,7 +10,7 @@ use Rattle.descriptors.specs.RingLaws.{next-below, place}
 use Rattle.adapter.specs.Slots.{written_back}
 use Rattle.adapter.specs.World.{World}
 use Rattle.bus.specs.Law.{Acts}
-use Rattle.bus.specs.Past.{Past, joined, nothing}
+use Rattle.bus.specs.PastOfStretch.{Past, joined, nothing}
 use Rattle.bus.specs.declared.event.Access.{Access}
 use Rattle.bus.specs.declared.event.Access.TheVariants.{Loads}
 use Rattle.driver_law.proofs.Accesses.{ran_by-join, ran_by-stays}
@@ -18,20 +18,21 @@ use Rattle.driver_law.proofs.Places.{place-next}
 use Rattle.driver_law.proofs.RunsWith.{RanWith}
 use Rattle.driver_law.proofs.TransmitRuns.{run-frees, run-waits}
 use Rattle.driver_law.specs.DriverState.{DriverState, HandedOut, holding, transmit_slot, transmit_tail}
-use Rattle.driver_law.specs.Goes.{RanBy}
-use Rattle.driver_law.specs.Ready.{Ready}
-use Rattle.driver_law.specs.Transmit.{transmit_loads, with_freed}
-use Rattle.driver.specs.Inside.{IsSending}
-use Rattle.driver.specs.Sends.{Reclaims, probes, with_sending}
+use Rattle.driver_law.specs.Stretches.{RanBy}
+use Rattle.driver_law.specs.ReadyDrivers.{Ready}
+use Rattle.driver_law.specs.TransmitSteps.{transmit_loads, with_freed}
+use Rattle.driver.specs.InsideDriver.{IsSending}
+use Rattle.driver.specs.SendSteps.{Reclaims, slots_looked_at, with_sending}
 
 -- How many loads.
 
-loads-none : (d : DriverState) → d.sending ≡ 0 → transmit_loads d.counts d.oldest_sent (min d.sending 1) ≡ []
-loads-none d none = let zero_loads : min d.sending 1 ≡ 0 = omega (arith, none) in ap (transmit_loads d.counts d.oldest_sent) zero_loads
+loads-none : (d : DriverState) → d.sending ≡ 0 → transmit_loads d.counts d.oldest_transmit (min d.sending 1) ≡ []
+loads-none d none = let zero_loads : min d.sending 1 ≡ 0 = omega (arith, none) in ap (transmit_loads d.counts d.oldest_transmit) zero_loads
 
 loads-one : (d : DriverState) → 0 < d.sending
-    → transmit_loads d.counts d.oldest_sent (min d.sending 1) ≡ Loads (transmit_slot d.counts d.oldest_sent) 16 ∷ []
-loads-one d some = let one_load : min d.sending 1 ≡ suc zero = omega (arith, some) in ap (transmit_loads d.counts d.oldest_sent) one_load
+    → transmit_loads d.counts d.oldest_transmit (min d.sending 1) ≡ Loads (transmit_slot d.counts d.oldest_transmit) 16 ∷ []
+loads-one d some = let one_load : min d.sending 1 ≡ suc zero =
+    omega (arith, some) in ap (transmit_loads d.counts d.oldest_transmit) one_load
 
 slots-join : (n from i j : ℕ) → slots_from n from (i + j) ≡ slots_from n from i ++ slots_from n (place n from i) j
 slots-join n from zero j = let none : 0 + j ≡ j = omega arith in ap (slots_from n from) none
@@ -64,7 +65,7 @@ sending-freed counts oldest next sending some sends = record {
 -- None is outstanding,
 pub frees-none : {B : Type 0} (world : B → World) (happened : B → B → Past → Type 0) → ((b : B) → happened b b nothing)
     → (b : B) (d : DriverState) → d.sending ≡ 0 → Ready d (world b)
-    → RanBy true world happened (transmit_loads d.counts d.oldest_sent (min d.sending 1)) b b d d [] []
+    → RanBy true world happened (transmit_loads d.counts d.oldest_transmit (min d.sending 1)) b b d d [] []
 frees-none world happened stays b d none ready =
     subst (λ (accesses : List Access). RanBy true world happened accesses b b d d [] []) (sym (loads-none d none))
     (ran_by-stays world happened stays b d ready)
@@ -78,10 +79,10 @@ LoadsAt world happened lively old new bytes address =
 -- or the oldest is done and freed,
 pub frees-oldest : {B : Type 0} (world : B → World) (happened : B → B → Past → Type 0) (lively : B
     → Type 0) (old new : B) (d : DriverState) (address : ℕ) (bytes : List ℕ)
-    → address ≡ transmit_slot d.counts d.oldest_sent → 0 < d.sending → is_set (slice_index bytes 12) 0 ≡ true
+    → address ≡ transmit_slot d.counts d.oldest_transmit → 0 < d.sending → is_set (slice_index bytes 12) 0 ≡ true
     → Acts world happened lively old new (Loads address 16) (λ before after. (bytes ≡ bytes_at before.memory address 16) × (after ≡ before))
     → Ready d (world old)
-    → RanBy true world happened (transmit_loads d.counts d.oldest_sent (min d.sending 1)) old new d (with_freed d) [] []
+    → RanBy true world happened (transmit_loads d.counts d.oldest_transmit (min d.sending 1)) old new d (with_freed d) [] []
 frees-oldest world happened lively old new d address bytes at some done acts ready =
     subst (λ (accesses : List Access). RanBy true world happened accesses old new d (with_freed d) [] []) (sym (loads-one d some))
     (run-frees world happened lively old new d bytes some done (subst (LoadsAt world happened lively old new bytes) at acts) ready)
@@ -89,66 +90,67 @@ frees-oldest world happened lively old new d address bytes at some done acts rea
 -- or it isn't done.
 pub waits-oldest : {B : Type 0} (world : B → World) (happened : B → B → Past → Type 0) (lively : B
     → Type 0) (old new : B) (d : DriverState) (address : ℕ) (bytes : List ℕ)
-    → address ≡ transmit_slot d.counts d.oldest_sent → 0 < d.sending → is_set (slice_index bytes 12) 0 ≡ false
+    → address ≡ transmit_slot d.counts d.oldest_transmit → 0 < d.sending → is_set (slice_index bytes 12) 0 ≡ false
     → Acts world happened lively old new (Loads address 16) (λ before after. (bytes ≡ bytes_at before.memory address 16) × (after ≡ before))
     → Ready d (world old)
-    → RanWith true world happened (transmit_loads d.counts d.oldest_sent (min d.sending 1)) old new d d [] []
-    (λ after. written_back d.oldest_sent after ≡ [])
+    → RanWith true world happened (transmit_loads d.counts d.oldest_transmit (min d.sending 1)) old new d d [] []
+    (λ after. written_back d.oldest_transmit after ≡ [])
 waits-oldest world happened lively old new d address bytes at some clear acts ready =
     subst (λ (accesses : List Access). RanWith true world happened accesses old new d d [] []
-    (λ after. written_back d.oldest_sent after ≡ [])) (sym (loads-one d some))
+    (λ after. written_back d.oldest_transmit after ≡ [])) (sym (loads-one d some))
     (run-waits world happened lively old new d bytes clear (subst (LoadsAt world happened lively old new bytes) at acts) ready)
 
 -- Some slots, and then the oldest of those that are left.
 frees-more : {B : Type 0} (world : B → World) (happened : B → B → Past → Type 0)
     → ((a b c : B) (first later : Past) → happened a b first → happened b c later → happened a c (joined first later))
-    → (a b c : B) (d1 d2 d3 : DriverState) (k total : ℕ) → d2.counts ≡ d1.counts → d2.oldest_sent ≡ place d1.counts.tx d1.oldest_sent k
+    → (a b c : B) (d1 d2 d3 : DriverState) (k total : ℕ) → d2.counts ≡ d1.counts → d2.oldest_transmit
+    ≡ place d1.counts.tx d1.oldest_transmit k
     → k + min d2.sending 1 ≡ total
-    → RanBy true world happened (transmit_loads d1.counts d1.oldest_sent k) a b d1 d2 [] []
-    → RanBy true world happened (transmit_loads d2.counts d2.oldest_sent (min d2.sending 1)) b c d2 d3 [] []
-    → RanBy true world happened (transmit_loads d1.counts d1.oldest_sent total) a c d1 d3 [] []
+    → RanBy true world happened (transmit_loads d1.counts d1.oldest_transmit k) a b d1 d2 [] []
+    → RanBy true world happened (transmit_loads d2.counts d2.oldest_transmit (min d2.sending 1)) b c d2 d3 [] []
+    → RanBy true world happened (transmit_loads d1.counts d1.oldest_transmit total) a c d1 d3 [] []
 frees-more world happened joins a b c d1 d2 d3 k total counts walked sum one two =
-    let xs = transmit_loads d1.counts d1.oldest_sent k in
-    let ys = transmit_loads d2.counts d2.oldest_sent (min d2.sending 1) in
+    let xs = transmit_loads d1.counts d1.oldest_transmit k in
+    let ys = transmit_loads d2.counts d2.oldest_transmit (min d2.sending 1) in
     let both = ran_by-join world happened joins xs ys a b c d1 d2 d3 [] [] [] [] one two in
-    let same : xs ++ ys ≡ transmit_loads d1.counts d1.oldest_sent total =
-    ap (λ (other : Counts). xs ++ transmit_loads other d2.oldest_sent (min d2.sending 1)) counts
+    let same : xs ++ ys ≡ transmit_loads d1.counts d1.oldest_transmit total =
+    ap (λ (other : Counts). xs ++ transmit_loads other d2.oldest_transmit (min d2.sending 1)) counts
     ∙ ap (λ (slot : ℕ). xs ++ transmit_loads d1.counts slot (min d2.sending 1)) walked
-    ∙ loads-join d1.counts d1.oldest_sent k (min d2.sending 1)
-    ∙ ap (transmit_loads d1.counts d1.oldest_sent) sum in
+    ∙ loads-join d1.counts d1.oldest_transmit k (min d2.sending 1)
+    ∙ ap (transmit_loads d1.counts d1.oldest_transmit) sum in
     subst (λ (accesses : List Access). RanBy true world happened accesses a c d1 d3 [] []) same both
 
 -- The driver's own state as slots are freed: some of its outstanding slots are left, and the place behind them stays.
 pub record IsFreeing (d d' : DriverState) : Type 0 where
-  pub others : d' ≡ with_sending d d'.oldest_sent d'.sending
+  pub others : d' ≡ with_sending d d'.oldest_transmit d'.sending
   pub fewer : d'.sending ≤ d.sending
-  pub walked : d'.oldest_sent ≡ place d.counts.tx d.oldest_sent (d.sending - d'.sending)
+  pub walked : d'.oldest_transmit ≡ place d.counts.tx d.oldest_transmit (d.sending - d'.sending)
   pub tail : transmit_tail d' ≡ transmit_tail d
 
 freeing-none : (d : DriverState) → IsFreeing d d
 freeing-none d =
     let none : d.sending - d.sending ≡ 0 = omega arith in
-    record { others = refl; fewer = omega arith; walked = sym (ap (place d.counts.tx d.oldest_sent) none); tail = refl }
+    record { others = refl; fewer = omega arith; walked = sym (ap (place d.counts.tx d.oldest_transmit) none); tail = refl }
 
 freeing-more : (d1 d2 d3 : DriverState) → IsFreeing d1 d2 → 0 < d2.sending → d3 ≡ with_freed d2 → IsFreeing d1 d3
 freeing-more d1 d2 d3 freeing some freed =
     let n = d1.counts.tx in
-    let next = (d2.oldest_sent + 1) % d2.counts.tx in
+    let next = (d2.oldest_transmit + 1) % d2.counts.tx in
     let left = d2.sending - 1 in
     let sending : d3.sending ≡ left = ap (λ (d : DriverState). d.sending) freed in
     let counts : d2.counts ≡ d1.counts = ap (λ (d : DriverState). d.counts) freeing.others in
     let more : d1.sending - d2.sending + 1 ≡ d1.sending - d3.sending = omega (arith, freeing.fewer, some, sending) in
     record {
       others = freed ∙ ap (λ (d : DriverState). with_sending d next left) freeing.others
-          ∙ ap (λ (d : DriverState). with_sending d1 d.oldest_sent d.sending) (sym freed);
+          ∙ ap (λ (d : DriverState). with_sending d1 d.oldest_transmit d.sending) (sym freed);
       fewer = omega (arith, freeing.fewer, sending);
       walked =
-          ap (λ (d : DriverState). d.oldest_sent) freed
-          ∙ ap (λ (other : Counts). (d2.oldest_sent + 1) % other.tx) counts
+          ap (λ (d : DriverState). d.oldest_transmit) freed
+          ∙ ap (λ (other : Counts). (d2.oldest_transmit + 1) % other.tx) counts
           ∙ ap (λ (slot : ℕ). (slot + 1) % n) freeing.walked
-          ∙ sym (place-next n d1.oldest_sent (d1.sending - d2.sending))
-          ∙ ap (place n d1.oldest_sent) more;
-      tail = ap transmit_tail freed ∙ tail-freed d2.counts.tx d2.oldest_sent d2.sending some ∙ freeing.tail;
+          ∙ sym (place-next n d1.oldest_transmit (d1.sending - d2.sending))
+          ∙ ap (place n d1.oldest_transmit) more;
+      tail = ap transmit_tail freed ∙ tail-freed d2.counts.tx d2.oldest_transmit d2.sending some ∙ freeing.tail;
     }
 
 -- Some slots were freed over a bus, by one load each.
@@ -157,7 +159,7 @@ pub record HasFreed {B : Type 0} (honest : B → Type 0) (world : B → World) (
   pub freeing : IsFreeing d d'
   pub ran :
       (held : List HandedOut) → honest old → Ready (holding held d) (world old)
-      → RanBy true world happened (transmit_loads d.counts d.oldest_sent (d.sending - d'.sending)) old new (holding held d)
+      → RanBy true world happened (transmit_loads d.counts d.oldest_transmit (d.sending - d'.sending)) old new (holding held d)
       (holding held d') [] []
 
 pub has_freed-none : {B : Type 0} (honest : B → Type 0) (world : B → World) (happened : B → B → Past → Type 0)
@@ -168,7 +170,8 @@ has_freed-none honest world happened stays b d =
     record {
       freeing = freeing-none d;
       ran = λ held honest_b ready.
-          subst (λ (k : ℕ). RanBy true world happened (transmit_loads d.counts d.oldest_sent k) b b (holding held d) (holding held d) [] [])
+          subst (λ (k : ℕ). RanBy true world happened (transmit_loads d.counts d.oldest_transmit k) b b (holding held d)
+          (holding held d) [] [])
           (sym none)
           (ran_by-stays world happened stays b (holding held d) ready);
     }
@@ -178,7 +181,8 @@ abbrev pub Turns : {B : Type 0} (honest : B → Type 0) (world : B → World) (h
     → Type 0) (old new : B) (d d' : DriverState) → Type 0
 Turns honest world happened old new d d' =
     (held : List HandedOut) → honest old → Ready (holding held d) (world old)
-    → RanBy true world happened (transmit_loads d.counts d.oldest_sent (min d.sending 1)) old new (holding held d) (holding held d') [] []
+    → RanBy true world happened (transmit_loads d.counts d.oldest_transmit (min d.sending 1)) old new (holding held d)
+    (holding held d') [] []
 
 -- One more turn, and how many loads there are then.
 frees-turn : {B : Type 0} (honest : B → Type 0) (world : B → World) (happened : B → B → Past → Type 0)
@@ -187,7 +191,7 @@ frees-turn : {B : Type 0} (honest : B → Type 0) (world : B → World) (happene
     → (honest a → honest b) → HasFreed honest world happened a b d1 d2 → Turns honest world happened b c d2 d3
     → d1.sending - d2.sending + min d2.sending 1 ≡ total
     → (held : List HandedOut) → honest a → Ready (holding held d1) (world a)
-    → RanBy true world happened (transmit_loads d1.counts d1.oldest_sent total) a c (holding held d1) (holding held d3) [] []
+    → RanBy true world happened (transmit_loads d1.counts d1.oldest_transmit total) a c (holding held d1) (holding held d3) [] []
 frees-turn honest world happened joins a b c d1 d2 d3 total still freed turn sum held honest_a ready =
     let before = freed.ran held honest_a ready in
     frees-more world happened joins a b c (holding held d1) (holding held d2) (holding held d3) (d1.sending - d2.sending) total
@@ -213,14 +217,14 @@ pub has_freed-all : {B : Type 0} (honest : B → Type 0) (world : B → World) (
     → ((a b c : B) (first later : Past) → happened a b first → happened b c later → happened a c (joined first later))
     → (a b c : B) (d1 d2 d3 : DriverState)
     → (honest a → honest b) → HasFreed honest world happened a b d1 d2 → Turns honest world happened b c d2 d3 → d3 ≡ d2
-    → ((held : List HandedOut) → honest b → Ready (holding held d2) (world b) → written_back d3.oldest_sent (world c) ≡ [])
+    → ((held : List HandedOut) → honest b → Ready (holding held d2) (world b) → written_back d3.oldest_transmit (world c) ≡ [])
     → (held : List HandedOut) → honest a → Ready (holding held d1) (world a)
     → Reclaims world happened a c (holding held d1) (holding held d3)
 has_freed-all honest world happened joins a b c d1 d2 d3 still freed turn is none held honest_a ready =
     let left = ap (λ (d : DriverState). d.sending) is in
     let before = freed.ran held honest_a ready in
     record {
-      ran = frees-turn honest world happened joins a b c d1 d2 d3 (probes d1.sending d3.sending) still freed turn
+      ran = frees-turn honest world happened joins a b c d1 d2 d3 (slots_looked_at d1.sending d3.sending) still freed turn
           (omega (arith, left)) held honest_a ready;
       none = none held (still honest_a) before.goes.flows.ready;
     }

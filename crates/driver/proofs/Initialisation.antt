@@ -20,38 +20,38 @@ use Rattle.adapter.specs.declared.ring.RingRegisters.{RingRegisters}
 use Rattle.adapter.specs.declared.register.Register.TheVariants.{Rctl, Receive}
 use Rattle.adapter.specs.declared.register.RingRegister.TheVariants.{Tail}
 use Rattle.bus.specs.Link.{HasLink, KeepsLink, LeavesPhy}
-use Rattle.bus.specs.Past.{Past, joined}
-use Rattle.bus.specs.Rest.{NoFrame}
+use Rattle.bus.specs.PastOfStretch.{Past, joined}
+use Rattle.bus.specs.AdaptersAtRest.{NoFrame}
 use Rattle.bus.specs.Settings.{AreSet, IsNotReceiveControl, WhileOff, LeavesReceiver, Settings, Write, settings_after_all, settings_of}
 use Rattle.bus.specs.Settings.{writes_in}
 use Rattle.bus.specs.declared.event.Access.{Access}
 use Rattle.bus.proofs.Lists.{all-left, all-none, all-right, append-empty}
 use Rattle.bus.proofs.Settings.{settings-append, writes-append}
-use Rattle.bus.proofs.Waiting.{holds-none}
+use Rattle.bus.proofs.WaitingRings.{holds-none}
 use Rattle.driver_law.proofs.Accesses.{ran_by-join}
 use Rattle.driver_law.specs.Accesses.{stores_from}
 use Rattle.driver_law.specs.Beginnings.{new_driver}
 use Rattle.driver_law.specs.DriverState.{DriverState, transmit_tail}
-use Rattle.driver_law.specs.Goes.{GoesTo, RanBy}
-use Rattle.driver_law.specs.Ready.{ReadyWith}
+use Rattle.driver_law.specs.Stretches.{GoesTo, RanBy}
+use Rattle.driver_law.specs.ReadyDrivers.{ReadyWith}
 use Rattle.bring_up.specs.ClearedDescriptors.{clears_from}
 use Rattle.bring_up.specs.Configuration.{CanBeHad, counts_of}
-use Rattle.bring_up.specs.Configured.{IsConfigured, all_writes, names_vlans, writes_before_rings}
-use Rattle.bring_up.specs.DriverSteps.{LeavesDriver, LetsFramesIn, SetsTransmitRing, UnmasksCauses, accesses_of}
-use Rattle.bring_up.specs.Quiet.{IsNotTransmitRing, IsQuiet, LeavesTransmitRing}
+use Rattle.bring_up.specs.ConfiguredAdapters.{IsConfigured, all_writes, names_vlans, writes_before_rings}
+use Rattle.bring_up.specs.DriverSteps.{LeavesDriver, LetsFramesIn, SetsTransmitRing, EnablesCauses, accesses_of}
+use Rattle.bring_up.specs.NoFrames.{IsNotTransmitRing, HasNoFrames, LeavesTransmitRing}
 use Rattle.bring_up.specs.Device.{IsFound}
 use Rattle.bring_up.specs.FilterSetting.{SetsFilter}
 use Rattle.bring_up.specs.FilterTables.{address_writes, table_writes}
 use Rattle.bring_up.specs.RestingRings.{HasNewRings, HasReceiveRing, SetsAtRest}
-use Rattle.bring_up.specs.Sets.{IsAside}
+use Rattle.bring_up.specs.SettingSteps.{IsAside}
 use Rattle.bring_up.proofs.WritesOf.{link-first, rings-last}
 use Rattle.bring_up.proofs.ConfiguredSettings.{before-rings, writes-configure}
 use Rattle.bring_up.specs.RingRegisters.{receive_control, receive_writes, ring_writes, transmit_writes}
-use Rattle.bring_up.specs.Table.{allocation_writes, link_writes, mask_writes, reset_writes, write_at}
+use Rattle.bring_up.specs.WrittenRegisters.{allocation_writes, link_writes, mask_writes, reset_writes, write_at}
 use Rattle.bring_up.specs.declared.config.Config.{Config}
 use Rattle.bring_up.proofs.DriverAccesses.{asked-still}
-use Rattle.bring_up.proofs.Quiet.{clears-write_none, new_transmit_ring_stays, quiet_stays, stores-write_none}
-use Rattle.driver.specs.Initialises.{HasFoundRing, Initialises, first_accesses, transmit_accesses}
+use Rattle.bring_up.proofs.NoFrames.{clears-write_none, new_transmit_ring_stays, quiet_stays, stores-write_none}
+use Rattle.driver.specs.Initialisation.{HasFoundRing, Initialises, first_accesses, transmit_accesses}
 use Rattle.driver.proofs.FirstSlots.{head-first, offering}
 
 -- What the accesses of its steps write.
@@ -99,12 +99,12 @@ none-leaves_transmits accesses past only none = subst (All LeavesTransmitRing) (
 
 pub sets-transmitter : {B : Type 0} (world : B → World) (happened : B → B → Past → Type 0)
     → ((a b c : B) (first later : Past) → happened a b first → happened b c later → happened a c (joined first later))
-    → (b0 b1 b2 b3 : B) (d : DriverState) (counts : Counts) → d.counts ≡ counts → d.oldest_sent ≡ 0 → d.sending ≡ 0 → 0 < counts.tx
+    → (b0 b1 b2 b3 : B) (d : DriverState) (counts : Counts) → d.counts ≡ counts → d.oldest_transmit ≡ 0 → d.sending ≡ 0 → 0 < counts.tx
     → (world b0).adapter.transmit_ring ≡ new_ring
     → RanBy false world happened (clears_from (16 * counts.rx) counts.tx) b0 b1 d d [] []
     → (ReadyWith false d (world b1) → (world b1).adapter.transmit_ring ≡ new_ring
     → SetsTransmitRing world happened (ring_writes 0x3800 (16 * counts.rx) (16 * counts.tx)) b1 b2 d)
-    → (ReadyWith false d (world b2) → d.oldest_sent < d.counts.tx
+    → (ReadyWith false d (world b2) → d.oldest_transmit < d.counts.tx
     → KnowsRing (transmit_ring (world b2)) (16 * d.counts.rx) d.counts.tx (transmit_tail d)
     → LeavesDriver true world happened transmit_writes b2 b3 d)
     → RanBy true world happened (transmit_accesses counts) b0 b3 d d [] []
@@ -113,8 +113,9 @@ sets-transmitter world happened joins b0 b1 b2 b3 d counts is oldest none some n
     (none-leaves_transmits (clears_from (16 * counts.rx) counts.tx) clearing.past clearing.only
     (clears-write_none (16 * counts.rx) counts.tx)) new in
     let sets = rings clearing.goes.flows.ready n1 in
-    let tail : 0 ≡ transmit_tail d = ap (λ (o : ℕ). place d.counts.tx o 0) (sym oldest) ∙ ap (place d.counts.tx d.oldest_sent) (sym none) in
-    let below : d.oldest_sent < d.counts.tx = omega (arith, oldest, some, ap (λ (c : Counts). c.tx) is) in
+    let tail : 0 ≡ transmit_tail d =
+    ap (λ (o : ℕ). place d.counts.tx o 0) (sym oldest) ∙ ap (place d.counts.tx d.oldest_transmit) (sym none) in
+    let below : d.oldest_transmit < d.counts.tx = omega (arith, oldest, some, ap (λ (c : Counts). c.tx) is) in
     let runs = enables sets.ran.goes.flows.ready below
     (subst (KnowsRing (transmit_ring (world b2)) (16 * d.counts.rx) d.counts.tx) tail sets.knows) in
     ran_by-join world happened joins (clears_from (16 * counts.rx) counts.tx) _ b0 b1 b3 d d d [] [] [] [] clearing
@@ -229,8 +230,8 @@ settings-all config address groups vlans s0 s1 s2 s3 s4 s5 one two three four fi
 -- The receive slots are offered, and all is quiet still, and the transmit ring new.
 pub stays-quiet : (counts : Counts) (numbers : List ℕ) (d d' : DriverState) (a b : World) (past : Past)
     → past.accesses ≡ first_accesses counts numbers
-    → GoesTo false d a d' b [] [] past → AreSet a b past → WhileOff a past → IsQuiet d a → a.adapter.transmit_ring ≡ new_ring
-    → IsQuiet d' b × ((b.adapter.transmit_ring ≡ new_ring) × NoFrame past)
+    → GoesTo false d a d' b [] [] past → AreSet a b past → WhileOff a past → HasNoFrames d a → a.adapter.transmit_ring ≡ new_ring
+    → HasNoFrames d' b × ((b.adapter.transmit_ring ≡ new_ring) × NoFrame past)
 stays-quiet counts numbers d d' a b past only goes set off quiet new =
     let slot = counts.rx - 1 in
     let writes = sym (ap writes_in only ∙ first-writes counts numbers) in
@@ -255,13 +256,13 @@ new-still promiscuous by_vlan d a b past only ready set new =
 record Counts-from (d : DriverState) (a b c : World) (first later : Past) : Type 0 where
   none_put : first.put ++ later.put ≡ []
   none_to_send : frames_to_send c ≡ []
-  held : frames_held d.oldest_received c ≡ first.stored ++ later.stored
+  held : frames_held d.oldest_receive c ≡ first.stored ++ later.stored
   missed_most : c.adapter.missed_packets ≤ first.missed + later.missed
   missed : IsTrue d.exact → c.adapter.missed_packets < greatest_count → c.adapter.missed_packets ≡ first.missed + later.missed
 
 counts-from : {up1 up2 : Bool} (d : DriverState) (a b c : World) (first later : Past) → GoesTo up1 d a d b [] [] first
     → GoesTo up2 d b d c [] [] later
-    → frames_to_send a ≡ [] → frames_held d.oldest_received a ≡ [] → a.adapter.missed_packets ≡ 0 → Counts-from d a b c first later
+    → frames_to_send a ≡ [] → frames_held d.oldest_receive a ≡ [] → a.adapter.missed_packets ≡ 0 → Counts-from d a b c first later
 counts-from d a b c first later one two none_to_send none_held none_missed =
     let out1 = append-empty first.put (frames_to_send b) (one.flows.sends ∙ append-nil (frames_to_send a) ∙ none_to_send) in
     let out2 = append-empty later.put (frames_to_send c) (two.flows.sends ∙ append-nil (frames_to_send b) ∙ out1.1) in
@@ -272,9 +273,9 @@ counts-from d a b c first later one two none_to_send none_held none_missed =
           two.flows.holds ∙ ap (λ (frames : List (List ℕ)). frames ++ later.stored)
           (one.flows.holds ∙ ap (λ (frames : List (List ℕ)). frames ++ first.stored) none_held);
       missed_most = omega (arith, one.flows.at_most, two.flows.at_most, none_missed);
-      missed = λ exact loose.
-          let behind = two.flows.exactly exact loose in
-          let before = one.flows.exactly behind.exact behind.loose in
+      missed = λ exact below_greatest.
+          let behind = two.flows.exactly exact below_greatest in
+          let before = one.flows.exactly behind.exact behind.below_greatest in
           omega (arith, before.sum, behind.sum, none_missed);
     }
 
@@ -310,9 +311,9 @@ pub initialises : {B : Type 0} (world : B → World) (happened : B → B → Pas
     → happened b0 b1 past → HasFoundRing world b0 b1 config → length numbers + 1 ≡ config.rx
     → d ≡ offering (counts_of config) pool numbers d.pool
     → (first : RanBy false world happened (first_accesses (counts_of config) numbers) b1 b2 (new_driver (counts_of config) pool) d [] [])
-    → IsQuiet d (world b2) → NoFrame first.past
+    → HasNoFrames d (world b2) → NoFrame first.past
     → LetsFramesIn world happened (receive_writes config.promiscuous (names_vlans config.vlans)) b2 b3 d
-    → RanBy true world happened (transmit_accesses (counts_of config)) b3 b4 d d [] [] → UnmasksCauses world happened 0xD1 b4 b5 d
+    → RanBy true world happened (transmit_accesses (counts_of config)) b3 b4 d d [] [] → EnablesCauses world happened 0xD1 b4 b5 d
     → Initialises world happened b0 b5 config d
 initialises world happened joins b0 b1 b2 b3 b4 b5 config size pool numbers d past had told found count is first quiet no_frame lets sends
     masks =
@@ -335,7 +336,7 @@ initialises world happened joins b0 b1 b2 b3 b4 b5 config size pool numbers d pa
     ) in
     let from = counts-from d (world b3) (world b4) masks.middle sends.past masks.past sends.goes masks.goes out3.1 lets.none_held
     none_missed in
-    let held : frames_held d.oldest_received (world b5) ≡ later.stored = masks.unmasked.held ∙ from.held in
+    let held : frames_held d.oldest_receive (world b5) ≡ later.stored = masks.enabled.held ∙ from.held in
     let exact : IsTrue d.exact = ap (λ (s : DriverState). s.exact) is in
     let all =
     settings-all config words found.groups found.vlans (settings_of device.adapter) (settings_of (world b1).adapter)
@@ -373,9 +374,9 @@ initialises world happened joins b0 b1 b2 b3 b4 b5 config size pool numbers d pa
       work = masks.work (asked-still d (world b3) (world b4) sends.past sends.goes (inl lets.none_finished));
       held = held;
       none_put = from.none_put;
-      none_to_send = masks.unmasked.to_send ∙ from.none_to_send;
-      missed_most = omega (arith, from.missed_most, masks.unmasked.missed);
-      missed = λ loose. masks.unmasked.missed ∙ from.missed exact (omega (arith, loose, masks.unmasked.missed));
+      none_to_send = masks.enabled.to_send ∙ from.none_to_send;
+      missed_most = omega (arith, from.missed_most, masks.enabled.missed);
+      missed = λ below_greatest. masks.enabled.missed ∙ from.missed exact (omega (arith, below_greatest, masks.enabled.missed));
       sum = found.sum;
       image = ap (λ (settings : Settings). settings.image) all ∙ set.1;
       configured = subst (IsConfigured config words) (sym all) set.0;
@@ -384,9 +385,9 @@ initialises world happened joins b0 b1 b2 b3 b4 b5 config size pool numbers d pa
           (ap writes_in first.only ∙ first-writes counts numbers) (ap writes_in lets.ran.only)
           (ap writes_in sends.only ∙ transmit-writes counts) (ap writes_in masks.only)
           first.link lets.ran.link sends.link masks.link found.up;
-      none_finished = λ none. none-finished d.oldest_received (world b5) (held ∙ none);
+      none_finished = λ none. none-finished d.oldest_receive (world b5) (held ∙ none);
       head = λ none.
-          head-first d (world b5) masks.ready (ap (λ (s : DriverState). s.oldest_received) is)
+          head-first d (world b5) masks.ready (ap (λ (s : DriverState). s.oldest_receive) is)
           (ap (λ (s : DriverState). length s.buffers + 1) is ∙ count ∙ sym (ap (λ (s : DriverState). s.counts.rx) is)) (held ∙ none);
     }
 

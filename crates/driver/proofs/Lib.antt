@@ -1,9 +1,9 @@
 pub mod FreedSlots
 pub mod SentFrames
-pub mod Queue
-pub mod Refills
-pub mod Takes
-pub mod Handles
+pub mod BufferQueue
+pub mod RefillSteps
+pub mod TakenFrames
+pub mod HandlerSteps
 pub mod FirstSlots
 pub mod Initialisation
 pub mod TestOwners

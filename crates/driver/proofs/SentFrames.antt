@@ -4,17 +4,17 @@ use Rattle.dma_memory.specs.Layout.{Counts}
 use Rattle.descriptors.specs.Frames.{padded}
 use Rattle.adapter.specs.Slots.{written_back}
 use Rattle.adapter.specs.World.{World}
-use Rattle.bus.specs.Past.{Past, joined}
+use Rattle.bus.specs.PastOfStretch.{Past, joined}
 use Rattle.bus.specs.declared.event.Access.{Access}
 use Rattle.bus.specs.declared.event.Access.TheVariants.{Stores, Writes}
 use Rattle.driver_law.proofs.Accesses.{ran_by-join}
 use Rattle.driver_law.proofs.Places.{place-below, place-next}
 use Rattle.driver_law.specs.DriverState.{DriverState, transmit_slot, transmit_tail}
-use Rattle.driver_law.specs.Goes.{RanBy}
-use Rattle.driver_law.specs.Ready.{Ready}
-use Rattle.driver_law.specs.Transmit.{send_accesses, transmit_buffer, transmit_loads, whole_descriptor}
-use Rattle.driver.specs.Inside.{IsSending}
-use Rattle.driver.specs.Sends.{Reclaims, probes}
+use Rattle.driver_law.specs.Stretches.{RanBy}
+use Rattle.driver_law.specs.ReadyDrivers.{Ready}
+use Rattle.driver_law.specs.TransmitSteps.{send_accesses, transmit_buffer, transmit_loads, whole_descriptor}
+use Rattle.driver.specs.InsideDriver.{IsSending}
+use Rattle.driver.specs.SendSteps.{Reclaims, slots_looked_at}
 
 -- The place that is sent by.
 
@@ -33,7 +33,7 @@ sending-more counts oldest next sending room sends = record {
 -- A ring that is full behind the freeing was full before it, with no slot written back.
 pub record WasFull (d : DriverState) (world : World) : Type 0 where
   pub all : d.sending + 1 ≡ d.counts.tx
-  pub none : written_back d.oldest_sent world ≡ []
+  pub none : written_back d.oldest_transmit world ≡ []
 
 pub was-full : {B : Type 0} (world : B → World) (happened : B → B → Past → Type 0) (old new : B) (d d' : DriverState) → Ready d (world old)
     → Reclaims world happened old new d d' → d'.sending + 1 ≡ d.counts.tx → WasFull d (world old)
@@ -42,7 +42,7 @@ was-full world happened old new d d' ready reclaims full =
     let count = reclaims.ran.goes.flows.frees in
     record {
       all = omega (arith, full, count, room, ap length reclaims.none);
-      none = none-of (written_back d.oldest_sent (world old)) (omega (arith, full, count, room, ap length reclaims.none));
+      none = none-of (written_back d.oldest_transmit (world old)) (omega (arith, full, count, room, ap length reclaims.none));
     }
   where
     none-of : (slots : List ℕ) → length slots ≡ 0 → slots ≡ []
@@ -64,14 +64,15 @@ pub frees-and-sends : {B : Type 0} (world : B → World) (happened : B → B →
     → (a b c : B) (d1 d2 d3 : DriverState) (frame : List ℕ) → d2.counts ≡ d1.counts → transmit_tail d2 ≡ transmit_tail d1
     → d3.sending ≡ d2.sending + 1
     → Reclaims world happened a b d1 d2 → RanBy true world happened (send_accesses d2 frame) b c d2 d3 [] (padded frame ∷ [])
-    → RanBy true world happened (transmit_loads d1.counts d1.oldest_sent (probes d1.sending (d3.sending - 1)) ++ send_accesses d1 frame) a c
+    → RanBy true world happened
+    (transmit_loads d1.counts d1.oldest_transmit (slots_looked_at d1.sending (d3.sending - 1)) ++ send_accesses d1 frame) a c
     d1 d3 [] (padded frame ∷ [])
 frees-and-sends world happened joins a b c d1 d2 d3 frame counts tail more reclaims sends =
-    let xs = transmit_loads d1.counts d1.oldest_sent (probes d1.sending d2.sending) in
+    let xs = transmit_loads d1.counts d1.oldest_transmit (slots_looked_at d1.sending d2.sending) in
     let left : d2.sending ≡ d3.sending - 1 = omega (arith, more) in
-    let same : xs ++ send_accesses d2 frame ≡ transmit_loads d1.counts d1.oldest_sent (probes d1.sending (d3.sending - 1))
+    let same : xs ++ send_accesses d2 frame ≡ transmit_loads d1.counts d1.oldest_transmit (slots_looked_at d1.sending (d3.sending - 1))
     ++ send_accesses d1 frame =
     ap (λ (list : List Access). xs ++ list) (sends-same d1 d2 frame counts tail)
-    ∙ ap (λ (k : ℕ). transmit_loads d1.counts d1.oldest_sent (probes d1.sending k) ++ send_accesses d1 frame) left in
+    ∙ ap (λ (k : ℕ). transmit_loads d1.counts d1.oldest_transmit (slots_looked_at d1.sending k) ++ send_accesses d1 frame) left in
     subst (λ (accesses : List Access). RanBy true world happened accesses a c d1 d3 [] (padded frame ∷ [])) same
     (ran_by-join world happened joins xs (send_accesses d2 frame) a b c d1 d2 d3 [] [] [] (padded frame ∷ []) reclaims.ran sends)

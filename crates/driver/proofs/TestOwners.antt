@@ -5,8 +5,8 @@ use Rattle.std.proofs.lemmas.List.{append-nil, map-append}
 use Rattle.dma_memory.specs.Owners.{HaveSameNumbers, HasNoSecondOwner, copies}
 use Rattle.dma_memory.specs.OwnersLaws.{copies-append, copies-cons, copies-itself, once_from_no_second}
 use Rattle.driver_law.specs.DriverState.{DriverState, owners}
-use Rattle.driver.specs.Handles.{OnNotMine, OnTaken}
-use Rattle.driver.specs.Takes.{ShowsAll, buffers_of}
+use Rattle.driver.specs.HandlerSteps.{OnNotMine, OnTaken}
+use Rattle.driver.specs.TakenFrames.{ShowsAll, buffers_of}
 use Rattle.driver.specs.declared.interrupt.Handled.{Handled}
 use Rattle.driver.specs.declared.interrupt.Handled.TheVariants.{NotMine}
 use Rattle.driver.specs.declared.interrupt.Handled.TheVariants as answers

@@ -1,6 +1,6 @@
-pub mod Inside
-pub mod Sends
-pub mod Refills
-pub mod Takes
-pub mod Handles
-pub mod Initialises
+pub mod InsideDriver
+pub mod SendSteps
+pub mod RefillSteps
+pub mod TakenFrames
+pub mod HandlerSteps
+pub mod Initialisation

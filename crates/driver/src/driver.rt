@@ -18,18 +18,18 @@ use std::marker::Model;
 pub struct Driver {
     pub(crate) layout: Layout,
     /// The place of the oldest outstanding receive slot.
-    pub(crate) oldest_received: u16,
+    pub(crate) oldest_receive: u16,
     /// The place whose descriptor is stored next.
-    pub(crate) next_received: u16,
+    pub(crate) next_receive: u16,
     /// The buffers of the outstanding receive slots, the oldest first, and of the staged ones behind them.
     pub(crate) buffers: HeapCircularBuffer<BufId>,
     /// How many are staged.
     pub(crate) staged: u16,
     pub(crate) pool: Pool,
     /// The place of the oldest outstanding transmit slot.
-    pub(crate) oldest_sent: u16,
+    pub(crate) oldest_transmit: u16,
     /// The place behind the newest.
-    pub(crate) next_sent: u16,
+    pub(crate) next_transmit: u16,
     /// How many transmit slots are outstanding.
     pub(crate) sending: u16,
     /// The sum of what MPC was read as, up to the greatest `u64`.
@@ -45,11 +45,11 @@ impl Model for Driver {
 
     ghost Value = { DriverState };
 
-    ghost use Rattle.driver.specs.Inside.{IsSound, state_of};
+    ghost use Rattle.driver.specs.InsideDriver.{IsConsistent, state_of};
 
     ghost view = { state_of };
 
-    ghost invariant = { IsSound };
+    ghost invariant = { IsConsistent };
 }
 
 impl Driver {

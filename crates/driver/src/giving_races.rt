@@ -55,7 +55,7 @@ impl Model for Holding {
     ghost use Rattle.std.specs.Prelude.{⊤, ◌≤◌, ◌++◌, ℕ};
     ghost use Rattle.dma_memory.specs.Owners.{copies};
     ghost use Rattle.driver_law.specs.DriverState.{owners};
-    ghost use Rattle.driver.specs.Takes.{buffers_of};
+    ghost use Rattle.driver.specs.TakenFrames.{buffers_of};
 
     ghost Value = { ⊤ };
 

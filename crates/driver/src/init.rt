@@ -5,21 +5,21 @@ ghost use Rattle.dma_memory.specs.Layout.{IsAllowed, size_of};
 ghost use Rattle.dma_memory.specs.Owners.{HasOneOwner};
 ghost use Rattle.adapter.specs.Rings.{new_ring};
 ghost use Rattle.bring_up.specs.Configuration.{CanBeHad, counts_of};
-ghost use Rattle.bring_up.specs.Configured.{names_vlans};
+ghost use Rattle.bring_up.specs.ConfiguredAdapters.{names_vlans};
 ghost use Rattle.bring_up.specs.Device.{IsBeforeAccess};
 ghost use Rattle.bring_up.specs.declared.init_error.InitError.TheVariants as InitError;
 ghost use Rattle.driver_law.specs.Beginnings.{new_driver};
 ghost use Rattle.driver_law.specs.DriverState.{DriverState, owners, with_owners};
-ghost use Rattle.driver_law.specs.Goes.{IsRefilled, RanBy};
-ghost use Rattle.driver_law.specs.Ready.{ReadyWith};
-ghost use Rattle.driver.specs.Initialises.{FindsRing, Initialises, OffersFirst, Refuses, transmit_accesses};
+ghost use Rattle.driver_law.specs.Stretches.{IsRefilled, RanBy};
+ghost use Rattle.driver_law.specs.ReadyDrivers.{ReadyWith};
+ghost use Rattle.driver.specs.Initialisation.{FindsRing, Initialises, OffersFirst, Refuses, transmit_accesses};
 
 use crate::Driver;
 use crate::refill::receive_slot;
 use bring_up::{
-    Config, InitError, RingPlace, clear_descriptor, clear_descriptors, enable_receiver,
-    enable_transmitter, find_device, set_filter, set_receive_ring, set_transmit_ring,
-    unmask_interrupts,
+    Config, InitError, RingPlace, clear_descriptor, clear_descriptors, enable_interrupts,
+    enable_receiver, enable_transmitter, find_device, set_filter, set_receive_ring,
+    set_transmit_ring,
 };
 use bus::Bus;
 use circular_buffer::HeapCircularBuffer;
@@ -35,7 +35,7 @@ fn find_ring<B: Bus>(bus: &mut B, config: &Config, layout: Layout) -> Result<(),
     requires counts { layout ≡ counts_of config.now }
     requires had { CanBeHad config.now (B.extent bus.old) }
     ensures extent { B.extent bus.new ≡ B.extent bus.old }
-    ensures kept { B.kept bus.old bus.new }
+    ensures lent_stays { B.lent_stays bus.old bus.new }
     ensures honest { B.honest bus.old → B.honest bus.new }
     ensures lively { B.lively bus.old → B.lively bus.new }
     ensures errors { IfErr result (λ error. ¬ (IsBeforeAccess error)) }
@@ -62,11 +62,11 @@ fn set_up_transmitter<B: Bus>(bus: &mut B, layout: Layout)
     requires allowed { IsAllowed layout }
     requires memory { size_of layout ≤ B.extent bus.old }
     ensures extent { B.extent bus.new ≡ B.extent bus.old }
-    ensures kept { B.kept bus.old bus.new }
+    ensures lent_stays { B.lent_stays bus.old bus.new }
     ensures honest { B.honest bus.old → B.honest bus.new }
     ensures lively { B.lively bus.old → B.lively bus.new }
     ensures ran { (d : DriverState) → B.honest bus.old → ReadyWith false d (B.world bus.old) → d.counts ≡ layout
-        → d.oldest_sent ≡ 0 → d.sending ≡ 0 → (B.world bus.old).adapter.transmit_ring ≡ new_ring
+        → d.oldest_transmit ≡ 0 → d.sending ≡ 0 → (B.world bus.old).adapter.transmit_ring ≡ new_ring
         → RanBy true B.world B.happened (transmit_accesses layout) bus.old bus.new d d [] [] }
 {
     let ring = layout.transmit_ring();
@@ -83,13 +83,13 @@ impl Driver {
     {
         Ok(Driver {
             layout,
-            oldest_received: 0,
-            next_received: 0,
+            oldest_receive: 0,
+            next_receive: 0,
             buffers: HeapCircularBuffer::with_capacity(alloc, usize::from(layout.rx()))?,
             staged: 0,
             pool: Pool::new(alloc, layout.buffers())?,
-            oldest_sent: 0,
-            next_sent: 0,
+            oldest_transmit: 0,
+            next_transmit: 0,
             sending: 0,
             missed: 0,
             exact: true,
@@ -104,7 +104,7 @@ impl Driver {
         requires one_owner { HasOneOwner self.old.counts.buffers self.old.pool }
         requires enough { self.old.counts.rx ≤ self.old.counts.buffers }
         ensures extent { B.extent bus.new ≡ B.extent bus.old }
-        ensures kept { B.kept bus.old bus.new }
+        ensures lent_stays { B.lent_stays bus.old bus.new }
         ensures honest { B.honest bus.old → B.honest bus.new }
         ensures lively { B.lively bus.old → B.lively bus.new }
         ensures offers { OffersFirst B.honest B.world B.happened bus.old bus.new self.old self.new }
@@ -125,7 +125,7 @@ impl Driver {
     /// [`Config`](InitError::Config), else [`Memory`](InitError::Memory), else those of [`find_device`].
     pub fn init<B: Bus>(alloc: Global, bus: &mut B, config: &Config) -> Result<Driver, InitError>
         ensures extent { B.extent bus.new ≡ B.extent bus.old }
-        ensures kept { B.kept bus.old bus.new }
+        ensures lent_stays { B.lent_stays bus.old bus.new }
         ensures honest { B.honest bus.old → B.honest bus.new }
         ensures lively { B.lively bus.old → B.lively bus.new }
 
@@ -150,7 +150,7 @@ impl Driver {
         driver.offer_first(bus);
         enable_receiver(bus, config.promiscuous, config.vlans.is_some());
         set_up_transmitter(bus, layout);
-        unmask_interrupts(bus);
+        enable_interrupts(bus);
         Ok(driver)
     }
 }

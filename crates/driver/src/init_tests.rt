@@ -106,7 +106,7 @@ fn registers_stand_as_brought_up(rt: HostRuntime) -> Result<(), Fail> {
             &mut bus,
             &[(RAL + 4, high), (RAL + 8, 0), (RAL + 12, 0)],
         );
-        // The link's coming is recorded, and masked: the interrupt line is off.
+        // The link's coming is recorded, and not in the mask: the interrupt line is off.
         let causes = bus.read(ICR);
         let mask = bus.read(IMS);
         assert_eq!(rt; (causes, mask, causes & mask), (0x04, 0xD1, 0));
@@ -326,15 +326,15 @@ impl Bus for FixedBus {
 
     ghost happened = { λ a b past. ⊤ };
 
-    ghost kept = { λ a b. ⊤ };
+    ghost lent_stays = { λ a b. ⊤ };
 
     ghost stays = { λ bus. tt };
 
     ghost joins = { λ a b c first later one two. tt };
 
-    ghost keeps = { λ bus. tt };
+    ghost lent_stays_here = { λ bus. tt };
 
-    ghost keeps_on = { λ a b c one two. tt };
+    ghost lent_stays_on = { λ a b c one two. tt };
 
     ghost sized = { λ bus honest. absurd honest };
 

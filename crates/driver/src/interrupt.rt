@@ -6,12 +6,12 @@ ghost use Rattle.dma_memory.specs.Layout.{size_of};
 ghost use Rattle.dma_memory.specs.Owners.{HasNoSecondOwner};
 ghost use Rattle.bus.specs.declared.event.Access.TheVariants.{Reads};
 ghost use Rattle.driver_law.specs.DriverState.{HandedOut, holding, owners};
-ghost use Rattle.driver_law.specs.Goes.{IsRefilled, RanBy};
-ghost use Rattle.driver_law.specs.Readings as readings;
-ghost use Rattle.driver_law.specs.Ready.{ReadyWith};
-ghost use Rattle.driver.specs.Handles.{Handles, OnNotMine, OnTaken};
-ghost use Rattle.bring_up.specs.Table.{handled_causes};
-ghost use Rattle.driver.specs.Takes.{ShowsAll};
+ghost use Rattle.driver_law.specs.Stretches.{IsRefilled, RanBy};
+ghost use Rattle.driver_law.specs.RegisterReadings as readings;
+ghost use Rattle.driver_law.specs.ReadyDrivers.{ReadyWith};
+ghost use Rattle.driver.specs.HandlerSteps.{Handles, OnNotMine, OnTaken};
+ghost use Rattle.bring_up.specs.WrittenRegisters.{handled_causes};
+ghost use Rattle.driver.specs.TakenFrames.{ShowsAll};
 
 use crate::{Driver, Receiver};
 use adapter::offsets::{ICR, MPC};
@@ -50,7 +50,7 @@ impl Driver {
     /// Reads MPC, and adds it to the sum of frames that were missed.
     fn count_missed<B: Bus>(&mut self, bus: &mut B) -> u32
         ensures extent { B.extent bus.new ≡ B.extent bus.old }
-        ensures kept { B.kept bus.old bus.new }
+        ensures lent_stays { B.lent_stays bus.old bus.new }
         ensures honest { B.honest bus.old → B.honest bus.new }
         ensures lively { B.lively bus.old → B.lively bus.new }
         ensures others { self.new ≡ readings.with_missed result self.old }
@@ -70,7 +70,7 @@ impl Driver {
     pub fn interrupt<B: Bus, R: Receiver>(&mut self, bus: &mut B, receiver: &mut R) -> Handled
         requires memory { size_of self.old.counts ≤ B.extent bus.old }
         ensures extent { B.extent bus.new ≡ B.extent bus.old }
-        ensures kept { B.kept bus.old bus.new }
+        ensures lent_stays { B.lent_stays bus.old bus.new }
         ensures honest { B.honest bus.old → B.honest bus.new }
         ensures lively { B.lively bus.old → B.lively bus.new }
 
@@ -78,7 +78,7 @@ impl Driver {
         ensures stays { OnNotMine result (self.new ≡ self.old) }
         ensures unasked { OnNotMine result (receiver.new ≡ receiver.old) }
         ensures counts { self.new.counts ≡ self.old.counts }
-        ensures sends { (self.new.oldest_sent ≡ self.old.oldest_sent) × (self.new.sending ≡ self.old.sending) }
+        ensures sends { (self.new.oldest_transmit ≡ self.old.oldest_transmit) × (self.new.sending ≡ self.old.sending) }
         ensures refilled { OnTaken result (λ taken. IsRefilled self.new) }
         ensures shows { OnTaken result (λ taken. ShowsAll R.took receiver.old receiver.new self.old self.new taken) }
         ensures one_owner { OnTaken result (λ taken. HasNoSecondOwner self.new.counts.buffers (owners self.new)) }

@@ -4,8 +4,8 @@ ghost use Rattle.std.specs.Prelude.{◌≡◌, ◌≤◌, ◌<◌, ◌++◌, ◌
 ghost use Rattle.dma_memory.specs.Layout.{size_of};
 ghost use Rattle.bus.specs.declared.event.Access.TheVariants.{Loads};
 ghost use Rattle.driver_law.specs.DriverState.{HandedOut, buffer_at, holding};
-ghost use Rattle.driver_law.specs.Goes.{RanBy};
-ghost use Rattle.driver_law.specs.Ready.{ReadyWith};
+ghost use Rattle.driver_law.specs.Stretches.{RanBy};
+ghost use Rattle.driver_law.specs.ReadyDrivers.{ReadyWith};
 
 use crate::{Driver, Received};
 use bus::Bus;
@@ -18,7 +18,7 @@ impl Driver {
         requires known { received.now.buffer < self.now.counts.buffers }
         requires size { received.now.length ≤ 1518 }
         ensures extent { B.extent bus.new ≡ B.extent bus.old }
-        ensures kept { B.kept bus.old bus.new }
+        ensures lent_stays { B.lent_stays bus.old bus.new }
         ensures honest { B.honest bus.old → B.honest bus.new }
         ensures lively { B.lively bus.old → B.lively bus.new }
         ensures length { result ≡ received.now.length }

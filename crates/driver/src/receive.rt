@@ -12,11 +12,11 @@ ghost use Rattle.adapter.specs.Slots.{finished};
 ghost use Rattle.bus.specs.declared.event.Access.TheVariants.{Loads};
 ghost use Rattle.driver_law.specs.Accesses.{last_load};
 ghost use Rattle.driver_law.specs.DriverState.{HandedOut, buffer_at, holding, owners};
-ghost use Rattle.driver_law.specs.Goes.{RanBy};
+ghost use Rattle.driver_law.specs.Stretches.{RanBy};
 ghost use Rattle.driver_law.specs.OldestSlot.{TakesOldest};
-ghost use Rattle.driver_law.specs.Ready.{ReadyWith};
+ghost use Rattle.driver_law.specs.ReadyDrivers.{ReadyWith};
 ghost use Rattle.driver_law.specs.ReceiveSteps.{behind_oldest};
-ghost use Rattle.driver.specs.Takes.{HandsOn, HandsOver, IsFrameSize, Shows, ShowsAll, Takes};
+ghost use Rattle.driver.specs.TakenFrames.{HandsOn, HandsOver, IsFrameSize, Shows, ShowsAll, Takes};
 
 use crate::refill::receive_slot;
 use crate::{Driver, Received, Receiver};
@@ -73,7 +73,7 @@ impl Driver {
     fn take_next<B: Bus>(&mut self, bus: &mut B) -> Option<Finished>
         requires memory { size_of self.old.counts ≤ B.extent bus.old }
         ensures extent { B.extent bus.new ≡ B.extent bus.old }
-        ensures kept { B.kept bus.old bus.new }
+        ensures lent_stays { B.lent_stays bus.old bus.new }
         ensures honest { B.honest bus.old → B.honest bus.new }
         ensures lively { B.lively bus.old → B.lively bus.new }
         ensures stays { IfNone result (self.new ≡ self.old) }
@@ -88,11 +88,11 @@ impl Driver {
             → IfSome result (λ finished. IsTrue finished.whole) }
         ensures none { (up : Bool) (held : List HandedOut) → B.honest bus.old
             → ReadyWith up (holding held self.old) (B.world bus.old)
-            → IfNone result (finished self.old.oldest_received (B.world bus.new) ≡ []) }
+            → IfNone result (finished self.old.oldest_receive (B.world bus.new) ≡ []) }
         ensures looks { (up : Bool) (held : List HandedOut) → B.honest bus.old
             → ReadyWith up (holding held self.old) (B.world bus.old)
             → IfNone result
-            (RanBy up B.world B.happened (last_load self.old.oldest_received self.old.buffers) bus.old bus.new
+            (RanBy up B.world B.happened (last_load self.old.oldest_receive self.old.buffers) bus.old bus.new
             (holding held self.old) (holding held self.old) [] []) }
         ensures takes { (up : Bool) (held : List HandedOut) → B.honest bus.old
             → ReadyWith up (holding held self.old) (B.world bus.old)
@@ -104,7 +104,7 @@ impl Driver {
             return None;
         }
         let mut bytes = [0; RX_DESC_BYTES];
-        bus.load(receive_slot(self.oldest_received), &mut bytes);
+        bus.load(receive_slot(self.oldest_receive), &mut bytes);
         let descriptor = RxDesc::from_bytes(&bytes);
         if !is_done(&descriptor) {
             return None;
@@ -112,7 +112,7 @@ impl Driver {
         let Some(buffer) = self.buffers.pop_front() else {
             return None;
         };
-        self.oldest_received = (self.oldest_received + 1) % self.layout.rx();
+        self.oldest_receive = (self.oldest_receive + 1) % self.layout.rx();
         Some(Finished {
             buffer,
             length: descriptor.length,
@@ -125,7 +125,7 @@ impl Driver {
         requires memory { size_of self.now.counts ≤ B.extent bus.old }
         requires known { buffer < self.now.counts.buffers }
         ensures extent { B.extent bus.new ≡ B.extent bus.old }
-        ensures kept { B.kept bus.old bus.new }
+        ensures lent_stays { B.lent_stays bus.old bus.new }
         ensures honest { B.honest bus.old → B.honest bus.new }
         ensures lively { B.lively bus.old → B.lively bus.new }
         ensures ran { (up : Bool) (held : List HandedOut) → B.honest bus.old
@@ -161,7 +161,7 @@ impl Driver {
         requires out { copies finished.buffer (owners self.old) ≡ 0 }
         requires size { IsTrue finished.whole → IsFrameSize finished.length }
         ensures extent { B.extent bus.new ≡ B.extent bus.old }
-        ensures kept { B.kept bus.old bus.new }
+        ensures lent_stays { B.lent_stays bus.old bus.new }
         ensures honest { B.honest bus.old → B.honest bus.new }
         ensures lively { B.lively bus.old → B.lively bus.new }
         ensures others { self.new ≡ record self.old { pool = self.new.pool; bad = self.new.bad } }
@@ -192,20 +192,20 @@ impl Driver {
     pub fn take_finished<B: Bus, R: Receiver>(&mut self, bus: &mut B, receiver: &mut R) -> usize
         requires memory { size_of self.old.counts ≤ B.extent bus.old }
         ensures extent { B.extent bus.new ≡ B.extent bus.old }
-        ensures kept { B.kept bus.old bus.new }
+        ensures lent_stays { B.lent_stays bus.old bus.new }
         ensures honest { B.honest bus.old → B.honest bus.new }
         ensures lively { B.lively bus.old → B.lively bus.new }
 
         // What it does to its slots and buffers, over any bus.
         ensures others { self.new
             ≡ record self.old {
-              oldest_received = self.new.oldest_received;
+              oldest_receive = self.new.oldest_receive;
               buffers = self.new.buffers;
               pool =
                   self.new.pool;
               bad = self.new.bad;
             } }
-        ensures next { self.new.oldest_received ≡ place self.new.counts.rx self.old.oldest_received result }
+        ensures next { self.new.oldest_receive ≡ place self.new.counts.rx self.old.oldest_receive result }
         ensures count { result + length self.new.buffers ≡ length self.old.buffers }
         ensures shows { ShowsAll R.took receiver.old receiver.new self.old self.new result }
         ensures one_owner { HasNoSecondOwner self.new.counts.buffers (owners self.new) }
@@ -213,10 +213,10 @@ impl Driver {
         // And over one that obeys the law.
         ensures none_left { (up : Bool) (held : List HandedOut) → B.honest bus.old
             → ReadyWith up (holding held self.old) (B.world bus.old)
-            → finished self.new.oldest_received (B.world bus.new) ≡ [] }
+            → finished self.new.oldest_receive (B.world bus.new) ≡ [] }
         ensures takes { (up : Bool) (held : List HandedOut) → B.honest bus.old
             → ReadyWith up (holding held self.old) (B.world bus.old)
-            → Takes up B.world B.happened R.took (last_load self.new.oldest_received self.new.buffers)
+            → Takes up B.world B.happened R.took (last_load self.new.oldest_receive self.new.buffers)
             bus.old bus.new receiver.old receiver.new (holding held self.old) (holding held self.new) result }
     {
         let before = self.receiving();

@@ -6,10 +6,10 @@ ghost use Rattle.dma_memory.specs.Layout.{size_of};
 ghost use Rattle.dma_memory.specs.Owners.{HasNoSecondOwner, HaveSameNumbers, copies};
 ghost use Rattle.descriptors.specs.RxDesc.{rx_desc_bytes};
 ghost use Rattle.driver_law.specs.Accesses.{tail_write};
-ghost use Rattle.driver_law.specs.DriverState.{HandedOut, holding, next_received, owners, with_owners};
-ghost use Rattle.driver_law.specs.Goes.{IsRefilled, RanBy};
-ghost use Rattle.driver_law.specs.Ready.{ReadyWith, empty_descriptor};
-ghost use Rattle.driver.specs.Refills.{Refills, Stages, StagesSome};
+ghost use Rattle.driver_law.specs.DriverState.{HandedOut, holding, next_receive, owners, with_owners};
+ghost use Rattle.driver_law.specs.Stretches.{IsRefilled, RanBy};
+ghost use Rattle.driver_law.specs.ReadyDrivers.{ReadyWith, empty_descriptor};
+ghost use Rattle.driver.specs.RefillSteps.{Refills, Stages, StagesSome};
 
 use crate::Driver;
 use adapter::offsets::RDT;
@@ -45,7 +45,7 @@ impl Driver {
     fn stage<B: Bus>(&mut self, bus: &mut B) -> bool
         requires memory { size_of self.old.counts ≤ B.extent bus.old }
         ensures extent { B.extent bus.new ≡ B.extent bus.old }
-        ensures kept { B.kept bus.old bus.new }
+        ensures lent_stays { B.lent_stays bus.old bus.new }
         ensures honest { B.honest bus.old → B.honest bus.new }
         ensures lively { B.lively bus.old → B.lively bus.new }
         ensures stages { OnTrue result ((number : ℕ)
@@ -64,8 +64,8 @@ impl Driver {
             return false;
         };
         let descriptor = descriptor_of(self.layout.receive_buffer(buffer.number()));
-        bus.store(receive_slot(self.next_received), &descriptor.to_bytes());
-        self.next_received = (self.next_received + 1) % count;
+        bus.store(receive_slot(self.next_receive), &descriptor.to_bytes());
+        self.next_receive = (self.next_receive + 1) % count;
         let _ = self.buffers.push_back(buffer);
         self.staged += 1;
         true
@@ -75,7 +75,7 @@ impl Driver {
     pub(crate) fn stage_all<B: Bus>(&mut self, bus: &mut B)
         requires memory { size_of self.old.counts ≤ B.extent bus.old }
         ensures extent { B.extent bus.new ≡ B.extent bus.old }
-        ensures kept { B.kept bus.old bus.new }
+        ensures lent_stays { B.lent_stays bus.old bus.new }
         ensures honest { B.honest bus.old → B.honest bus.new }
         ensures lively { B.lively bus.old → B.lively bus.new }
         ensures stages { StagesSome B.honest B.world B.happened bus.old bus.new self.old self.new }
@@ -89,7 +89,7 @@ impl Driver {
     /// Offers all staged slots by one write of RDT, where there are any.
     pub(crate) fn offer<B: Bus>(&mut self, bus: &mut B)
         ensures extent { B.extent bus.new ≡ B.extent bus.old }
-        ensures kept { B.kept bus.old bus.new }
+        ensures lent_stays { B.lent_stays bus.old bus.new }
         ensures honest { B.honest bus.old → B.honest bus.new }
         ensures lively { B.lively bus.old → B.lively bus.new }
         ensures others { self.new ≡ with_owners self.old (self.old.buffers ++ self.old.staged) [] self.old.pool [] }
@@ -97,13 +97,13 @@ impl Driver {
         ensures one_owner { HasNoSecondOwner self.new.counts.buffers (owners self.new) }
         ensures ran { (up : Bool) (held : List HandedOut) → B.honest bus.old
             → ReadyWith up (holding held self.old) (B.world bus.old)
-            → RanBy up B.world B.happened (tail_write (next_received self.old) self.old.staged) bus.old bus.new
+            → RanBy up B.world B.happened (tail_write (next_receive self.old) self.old.staged) bus.old bus.new
             (holding held self.old) (holding held self.new) [] [] }
     {
         if self.staged == 0 {
             return;
         }
-        bus.write(RDT, u32::from(self.next_received));
+        bus.write(RDT, u32::from(self.next_receive));
         self.staged = 0;
     }
 
@@ -123,7 +123,7 @@ impl Driver {
     pub fn refill<B: Bus>(&mut self, bus: &mut B)
         requires memory { size_of self.old.counts ≤ B.extent bus.old }
         ensures extent { B.extent bus.new ≡ B.extent bus.old }
-        ensures kept { B.kept bus.old bus.new }
+        ensures lent_stays { B.lent_stays bus.old bus.new }
         ensures honest { B.honest bus.old → B.honest bus.new }
         ensures lively { B.lively bus.old → B.lively bus.new }
 
@@ -148,7 +148,7 @@ impl Driver {
         requires known { buffer < self.old.counts.buffers }
         requires out { copies buffer (owners self.old) ≡ 0 }
         ensures extent { B.extent bus.new ≡ B.extent bus.old }
-        ensures kept { B.kept bus.old bus.new }
+        ensures lent_stays { B.lent_stays bus.old bus.new }
         ensures honest { B.honest bus.old → B.honest bus.new }
         ensures lively { B.lively bus.old → B.lively bus.new }
 

@@ -54,13 +54,13 @@ impl Receiver for Keeper {
 fn new_driver(alloc: Global, layout: Layout) -> Result<Driver, AllocError> {
     Ok(Driver {
         layout,
-        oldest_received: 0,
-        next_received: 0,
+        oldest_receive: 0,
+        next_receive: 0,
         buffers: HeapCircularBuffer::with_capacity(alloc, usize::from(layout.rx()))?,
         staged: 0,
         pool: Pool::new(alloc, layout.buffers())?,
-        oldest_sent: 0,
-        next_sent: 0,
+        oldest_transmit: 0,
+        next_transmit: 0,
         sending: 0,
         missed: 0,
         exact: true,

@@ -7,10 +7,10 @@ ghost use Rattle.dma_memory.specs.Layout.{size_of};
 ghost use Rattle.descriptors.specs.Frames.{padded};
 ghost use Rattle.adapter.specs.Slots.{written_back};
 ghost use Rattle.driver_law.specs.DriverState.{HandedOut, holding, transmit_slot, transmit_tail};
-ghost use Rattle.driver_law.specs.Goes.{RanBy};
-ghost use Rattle.driver_law.specs.Ready.{Ready};
-ghost use Rattle.driver_law.specs.Transmit.{send_accesses, transmit_loads, whole_descriptor, with_freed};
-ghost use Rattle.driver.specs.Sends.{IsRefused, Reclaims, Transmits, with_sending};
+ghost use Rattle.driver_law.specs.Stretches.{RanBy};
+ghost use Rattle.driver_law.specs.ReadyDrivers.{Ready};
+ghost use Rattle.driver_law.specs.TransmitSteps.{send_accesses, transmit_loads, whole_descriptor, with_freed};
+ghost use Rattle.driver.specs.SendSteps.{IsRefused, Reclaims, Transmits, with_sending};
 
 use crate::Driver;
 use adapter::offsets::TDT;
@@ -79,7 +79,7 @@ impl Driver {
     fn free_oldest<B: Bus>(&mut self, bus: &mut B) -> bool
         requires memory { size_of self.old.counts ≤ B.extent bus.old }
         ensures extent { B.extent bus.new ≡ B.extent bus.old }
-        ensures kept { B.kept bus.old bus.new }
+        ensures lent_stays { B.lent_stays bus.old bus.new }
         ensures honest { B.honest bus.old → B.honest bus.new }
         ensures lively { B.lively bus.old → B.lively bus.new }
         ensures some { OnTrue result (0 < self.old.sending) }
@@ -87,23 +87,23 @@ impl Driver {
         ensures stays { OnFalse result (self.new ≡ self.old) }
         ensures ran { (held : List HandedOut) → B.honest bus.old → Ready (holding held self.old) (B.world bus.old)
             → RanBy true B.world B.happened
-            (transmit_loads self.old.counts self.old.oldest_sent (min self.old.sending 1)) bus.old bus.new
+            (transmit_loads self.old.counts self.old.oldest_transmit (min self.old.sending 1)) bus.old bus.new
             (holding held self.old) (holding held self.new) [] [] }
         ensures none { (held : List HandedOut) → B.honest bus.old → Ready (holding held self.old) (B.world bus.old)
-            → OnFalse result (written_back self.new.oldest_sent (B.world bus.new) ≡ []) }
+            → OnFalse result (written_back self.new.oldest_transmit (B.world bus.new) ≡ []) }
     {
         if self.sending == 0 {
             return false;
         }
         let mut bytes = [0; 16];
         bus.load(
-            descriptor_address(self.layout, self.oldest_sent),
+            descriptor_address(self.layout, self.oldest_transmit),
             &mut bytes,
         );
         if !shows_done(&bytes) {
             return false;
         }
-        self.oldest_sent = (self.oldest_sent + 1) % self.layout.tx();
+        self.oldest_transmit = (self.oldest_transmit + 1) % self.layout.tx();
         self.sending -= 1;
         true
     }
@@ -113,10 +113,10 @@ impl Driver {
     pub(crate) fn reclaim<B: Bus>(&mut self, bus: &mut B)
         requires memory { size_of self.old.counts ≤ B.extent bus.old }
         ensures extent { B.extent bus.new ≡ B.extent bus.old }
-        ensures kept { B.kept bus.old bus.new }
+        ensures lent_stays { B.lent_stays bus.old bus.new }
         ensures honest { B.honest bus.old → B.honest bus.new }
         ensures lively { B.lively bus.old → B.lively bus.new }
-        ensures others { self.new ≡ with_sending self.old self.new.oldest_sent self.new.sending }
+        ensures others { self.new ≡ with_sending self.old self.new.oldest_transmit self.new.sending }
         ensures tail { transmit_tail self.new ≡ transmit_tail self.old }
         ensures ran { (held : List HandedOut) → B.honest bus.old → Ready (holding held self.old) (B.world bus.old)
             → Reclaims B.world B.happened bus.old bus.new (holding held self.old) (holding held self.new) }
@@ -132,23 +132,23 @@ impl Driver {
         requires least { 14 ≤ length frame.now }
         requires most { length frame.now ≤ 1518 }
         ensures extent { B.extent bus.new ≡ B.extent bus.old }
-        ensures kept { B.kept bus.old bus.new }
+        ensures lent_stays { B.lent_stays bus.old bus.new }
         ensures honest { B.honest bus.old → B.honest bus.new }
         ensures lively { B.lively bus.old → B.lively bus.new }
-        ensures others { self.new ≡ with_sending self.old self.old.oldest_sent (self.old.sending + 1) }
+        ensures others { self.new ≡ with_sending self.old self.old.oldest_transmit (self.old.sending + 1) }
         ensures ran { (held : List HandedOut) → B.honest bus.old → Ready (holding held self.old) (B.world bus.old)
             → RanBy true B.world B.happened (send_accesses self.old frame.now) bus.old bus.new (holding held self.old)
             (holding held self.new)
             [] (padded frame.now ∷ []) }
     {
         let layout = self.layout;
-        let buffer = layout.transmit_buffer(self.next_sent);
+        let buffer = layout.transmit_buffer(self.next_transmit);
         let descriptor = whole_packet(buffer, frame.len() as u16);
         bus.store(buffer, frame);
-        bus.store(descriptor_address(layout, self.next_sent), &descriptor);
-        self.next_sent = (self.next_sent + 1) % layout.tx();
+        bus.store(descriptor_address(layout, self.next_transmit), &descriptor);
+        self.next_transmit = (self.next_transmit + 1) % layout.tx();
         self.sending += 1;
-        bus.write(TDT, u32::from(self.next_sent));
+        bus.write(TDT, u32::from(self.next_transmit));
     }
 
     /// Sends a frame of 14 to 1,518 bytes.
@@ -158,12 +158,12 @@ impl Driver {
     pub fn transmit<B: Bus>(&mut self, bus: &mut B, frame: &[u8]) -> Result<(), SendError>
         requires memory { size_of self.old.counts ≤ B.extent bus.old }
         ensures extent { B.extent bus.new ≡ B.extent bus.old }
-        ensures kept { B.kept bus.old bus.new }
+        ensures lent_stays { B.lent_stays bus.old bus.new }
         ensures honest { B.honest bus.old → B.honest bus.new }
         ensures lively { B.lively bus.old → B.lively bus.new }
 
         // What it does over any bus.
-        ensures others { self.new ≡ with_sending self.old self.new.oldest_sent self.new.sending }
+        ensures others { self.new ≡ with_sending self.old self.new.oldest_transmit self.new.sending }
         ensures too_short { (result ≡ Err SendError.TooShort) ↔ (length frame.now < 14) }
         ensures too_long { (result ≡ Err SendError.TooLong) ↔ (1518 < length frame.now) }
         ensures nothing { IsRefused result → (bus.new ≡ bus.old) × (self.new ≡ self.old) }

@@ -4,7 +4,7 @@ use Rattle.std.specs.List.{All}
 use Rattle.adapter.specs.World.{World, world_after_read, world_after_store, world_after_write}
 use Rattle.bus.specs.Law.{Acts}
 use Rattle.bus.specs.Link.{HasLink, KeepsLink, LeavesPhy}
-use Rattle.bus.specs.Past.{Past, joined, nothing}
+use Rattle.bus.specs.PastOfStretch.{Past, joined, nothing}
 use Rattle.bus.specs.Settings.{AreSet, settings_after_all, settings_of, writes_in}
 use Rattle.bus.proofs.Links.{accesses_keep_link, happenings_keep_link, link_stretches_join}
 use Rattle.bus.proofs.Settings.{happenings_leave_settings, happens-off, reads-leave, settings_join, while_off-joins, writes-set}
@@ -13,14 +13,14 @@ use Rattle.bus.specs.declared.event.Access.{Access}
 use Rattle.driver_law.proofs.Steps.{goes-happens, goes-stays}
 use Rattle.driver_law.proofs.Stretches.{goes_join, joined-nothing}
 use Rattle.driver_law.specs.DriverState.{DriverState}
-use Rattle.driver_law.specs.Goes.{GoesTo, RanBy, RanTo}
-use Rattle.driver_law.specs.Ready.{ReadyWith}
+use Rattle.driver_law.specs.Stretches.{GoesTo, RanBy, RanTo}
+use Rattle.driver_law.specs.ReadyDrivers.{ReadyWith}
 
 -- The driver does something by itself, without an access.
 pub ran_by-itself : {up : Bool} {B : Type 0} (world : B → World) (happened : B → B → Past → Type 0) → ((b : B) → happened b b nothing)
-    → (b : B) (d d' : DriverState) (taken given : List (List ℕ)) → GoesTo up d (world b) d' (world b) taken given nothing
-    → RanBy up world happened [] b b d d' taken given
-ran_by-itself world happened stays b d d' taken given goes = record {
+    → (b : B) (d d' : DriverState) (taken accepted : List (List ℕ)) → GoesTo up d (world b) d' (world b) taken accepted nothing
+    → RanBy up world happened [] b b d d' taken accepted
+ran_by-itself world happened stays b d d' taken accepted goes = record {
   past = nothing;
   told = stays b;
   only = refl;
@@ -91,11 +91,12 @@ access-link world happened lively old new access effect acts sets = λ leaves li
 -- One access: something happens, and then what the access does, from any world in which the driver is ready.
 pub ran_by-acts : {up : Bool} {B : Type 0} (world : B → World) (happened : B → B → Past → Type 0) (lively : B
     → Type 0) (old new : B) (access : Access) (effect : World → World → Type 0)
-    (d d' : DriverState) (taken given : List (List ℕ)) → Acts world happened lively old new access effect → SetsBy access effect (world new)
+    (d d' : DriverState) (taken accepted : List (List ℕ)) → Acts world happened lively old new access effect
+    → SetsBy access effect (world new)
     → ReadyWith up d (world old)
-    → ((middle : World) → ReadyWith up d middle → effect middle (world new) → GoesTo up d middle d' (world new) taken given nothing)
-    → RanBy up world happened (access ∷ []) old new d d' taken given
-ran_by-acts {up} world happened lively old new access effect d d' taken given acts sets ready step =
+    → ((middle : World) → ReadyWith up d middle → effect middle (world new) → GoesTo up d middle d' (world new) taken accepted nothing)
+    → RanBy up world happened (access ∷ []) old new d d' taken accepted
+ran_by-acts {up} world happened lively old new access effect d d' taken accepted acts sets ready step =
     let first = goes-happens d (world old) acts.middle acts.past ready acts.before in
     let later = step acts.middle first.flows.ready acts.effect_is in
     record {
@@ -103,8 +104,8 @@ ran_by-acts {up} world happened lively old new access effect d d' taken given ac
       told = acts.told;
       only = acts.only;
       goes =
-          subst (GoesTo up d (world old) d' (world new) taken given) (joined-nothing acts.past)
-          (goes_join d d d' (world old) acts.middle (world new) [] taken [] given acts.past nothing first later);
+          subst (GoesTo up d (world old) d' (world new) taken accepted) (joined-nothing acts.past)
+          (goes_join d d d' (world old) acts.middle (world new) [] taken [] accepted acts.past nothing first later);
       set = access-set world happened lively old new access effect acts sets;
       off = λ off leaves. happens-off (world old) acts.middle acts.past acts.before off;
       link = access-link world happened lively old new access effect acts sets;
@@ -129,9 +130,10 @@ ran_by-join world happened joins xs ys a b c d1 d2 d3 t1 t2 g1 g2 one two = reco
 -- Where exactly these accesses are done, and all of them are allowed, none but allowed ones are.
 pub ran-to : {up : Bool} {B : Type 0} (world : B → World) (happened : B → B → Past → Type 0) (allowed : Access
     → Type 0) (accesses : List Access) (old new : B)
-    (d d' : DriverState) (taken given : List (List ℕ)) → RanBy up world happened accesses old new d d' taken given → All allowed accesses
-    → RanTo up world happened allowed old new d d' taken given
-ran-to world happened allowed accesses old new d d' taken given ran all = record {
+    (d d' : DriverState) (taken accepted : List (List ℕ)) → RanBy up world happened accesses old new d d' taken accepted
+    → All allowed accesses
+    → RanTo up world happened allowed old new d d' taken accepted
+ran-to world happened allowed accesses old new d d' taken accepted ran all = record {
   past = ran.past;
   told = ran.told;
   only = subst (All allowed) (sym ran.only) all;
@@ -143,9 +145,10 @@ ran-to world happened allowed accesses old new d d' taken given ran all = record
 
 -- The same accesses, the same state at the end, and the same frames, told otherwise.
 pub ran_by-same : {up : Bool} {B : Type 0} (world : B → World) (happened : B → B → Past
-    → Type 0) (xs ys : List Access) (old new : B) (d d1 d2 : DriverState) (t1 t2 given : List (List ℕ))
-    → xs ≡ ys → d1 ≡ d2 → t1 ≡ t2 → RanBy up world happened xs old new d d1 t1 given → RanBy up world happened ys old new d d2 t2 given
-ran_by-same {up} world happened xs ys old new d d1 d2 t1 t2 given accesses last taken ran =
-    subst (λ (list : List Access). RanBy up world happened list old new d d2 t2 given) accesses
-    (subst (λ (end : DriverState). RanBy up world happened xs old new d end t2 given) last
-    (subst (λ (frames : List (List ℕ)). RanBy up world happened xs old new d d1 frames given) taken ran))
+    → Type 0) (xs ys : List Access) (old new : B) (d d1 d2 : DriverState) (t1 t2 accepted : List (List ℕ))
+    → xs ≡ ys → d1 ≡ d2 → t1 ≡ t2 → RanBy up world happened xs old new d d1 t1 accepted
+    → RanBy up world happened ys old new d d2 t2 accepted
+ran_by-same {up} world happened xs ys old new d d1 d2 t1 t2 accepted accesses last taken ran =
+    subst (λ (list : List Access). RanBy up world happened list old new d d2 t2 accepted) accesses
+    (subst (λ (end : DriverState). RanBy up world happened xs old new d end t2 accepted) last
+    (subst (λ (frames : List (List ℕ)). RanBy up world happened xs old new d d1 frames accepted) taken ran))

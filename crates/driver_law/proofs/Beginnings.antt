@@ -9,10 +9,10 @@ use Rattle.adapter.specs.HostAreas.{buffer_size, work_areas}
 use Rattle.adapter.specs.HostFrames.{named}
 use Rattle.adapter.specs.Slots.{finished, is_done, outstanding}
 use Rattle.adapter.specs.World.{World, receive_ring, transmit_ring}
-use Rattle.bus.proofs.Idle.{idle_rings_are_sound, outstanding-none}
+use Rattle.bus.proofs.IdleRings.{idle_rings_are_sound, outstanding-none}
 use Rattle.bus.proofs.Lists.{all-none}
 use Rattle.driver_law.specs.Beginnings.{DriversBegin}
-use Rattle.driver_law.specs.Ready.{TransmitIs}
+use Rattle.driver_law.specs.ReadyDrivers.{TransmitIs}
 
 tail-known : (up : Bool) (counts : Counts) (world : World)
     → TransmitIs up counts 0 0 world.memory (transmit_ring world) world.adapter.transmit_control world.adapter.transmitter.buffer

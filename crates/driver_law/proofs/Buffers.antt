@@ -17,15 +17,15 @@ use Rattle.adapter.specs.HostAreas.{IsForeign, areas, buffer_size, data_of, ring
 use Rattle.adapter.specs.Slots.{outstanding}
 use Rattle.adapter.specs.World.{World, receive_ring, transmit_ring}
 use Rattle.adapter.specs.KnownRing.{KnowsRing}
-use Rattle.bus.specs.Spare.{IsSpare}
-use Rattle.bus.proofs.Idle.{outstanding-none}
+use Rattle.bus.specs.SpareMemory.{IsSpare}
+use Rattle.bus.proofs.IdleRings.{outstanding-none}
 use Rattle.bus.proofs.Lists.{all-head, all-none, all-tail, all-unmapped}
 use Rattle.bus.proofs.Rings.{slots-below}
-use Rattle.bus.proofs.Spare.{spare-apart, spare-foreign}
+use Rattle.bus.proofs.SpareMemory.{spare-apart, spare-foreign}
 use Rattle.driver_law.proofs.Owners.{all-copies, elsewhere-number, outstanding-number}
 use Rattle.driver_law.proofs.Places.{outstanding-known}
 use Rattle.driver_law.specs.DriverState.{DriverState, HandedOut, buffer_at, numbers_of, transmit_slot}
-use Rattle.driver_law.specs.Ready.{ReadyWith, Stands, TransmitIs}
+use Rattle.driver_law.specs.ReadyDrivers.{ReadyWith, Stands, TransmitIs}
 
 pub known-area : (ring : Ring) (base n tail : ℕ) → KnowsRing ring base n tail → ring_area ring ≡ area_at base (16 * n)
 known-area ring base n tail knows =
@@ -67,7 +67,7 @@ transmit-away false counts p sending world number known side =
 
 buffer-spare : {up : Bool} (d : DriverState) (world : World) (number : ℕ) → ReadyWith up d world → number < d.counts.buffers
     → copies number d.buffers ≡ 0
-    → IsSpare d.oldest_received d.oldest_sent world (area_of d.counts (ReceiveBuffer number))
+    → IsSpare d.oldest_receive d.oldest_transmit world (area_of d.counts (ReceiveBuffer number))
 buffer-spare {up} d world number ready known free =
     let area = area_of d.counts (ReceiveBuffer number) in
     let Away : ℕ → Type 0 = λ address. AreApart (area_at address (buffer_size world)) area in
@@ -77,12 +77,12 @@ buffer-spare {up} d world number ready known free =
     subst (λ (size : ℕ). AreApart (area_at (buffer_at d.counts m) size) area) (sym ready.size)
     (places-apart d.counts (ReceiveBuffer m) (ReceiveBuffer number) (outstanding-number d m ready.driver_is some) known
     (λ same. differ (cc))))) in
-    let away = transmit-away up d.counts d.oldest_sent d.sending world number known ready.transmit in
+    let away = transmit-away up d.counts d.oldest_transmit d.sending world number known ready.transmit in
     record {
       receive_slots = subst (λ (other : Area). AreApart other area) (sym (known-area _ _ _ _ ready.receive))
           (places-apart d.counts ReceiveRing (ReceiveBuffer number) tt known (λ same. absurd (cc)));
       transmit_slots = away.ring;
-      buffers = all-unmapped Away (named_address world.memory) (outstanding (receive_ring world) d.oldest_received)
+      buffers = all-unmapped Away (named_address world.memory) (outstanding (receive_ring world) d.oldest_receive)
           (subst (λ (list : List ℕ). All Away list) (sym ready.names) each);
       sources = away.sources;
     }
@@ -98,14 +98,14 @@ buffer-lies {up} d world number ready known = let ends = place-below_size d.coun
 -- here on numbers are counted.
 pub record IsAside (d : DriverState) (world : World) (number : ℕ) : Type 0 where
   pub lies : LiesIn world.memory (buffer_at d.counts number) 2048
-  pub apart : All (λ other. AreApart other (area_of d.counts (ReceiveBuffer number))) (areas d.oldest_received world)
+  pub apart : All (λ other. AreApart other (area_of d.counts (ReceiveBuffer number))) (areas d.oldest_receive world)
   pub foreign : IsForeign world (area_of d.counts (ReceiveBuffer number))
 
 pub buffer-aside : {up : Bool} (d : DriverState) (world : World) (number : ℕ) → ReadyWith up d world → number < d.counts.buffers
     → copies number d.buffers ≡ 0 → IsAside d world number
 buffer-aside {up} d world number ready known free =
-    let o = d.oldest_received in
-    let p = d.oldest_sent in
+    let o = d.oldest_receive in
+    let p = d.oldest_transmit in
     let spare = buffer-spare d world number ready known free in
     record {
       lies = buffer-lies d world number ready known;

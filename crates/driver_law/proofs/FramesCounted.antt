@@ -2,7 +2,7 @@
 use Rattle.std.proofs.Common.{true, ◌≡◌, ◌+◌, ◌*◌, ◌++◌, ℕ, List, length, map, ap, ◌∙◌, length-append, arith}
 use Rattle.std.proofs.lemmas.List.{length-map}
 use Rattle.descriptors.specs.declared.ring.Ring.{Ring}
-use Rattle.descriptors.specs.Ring.{address_of, owned, slots_from}
+use Rattle.descriptors.specs.Ring.{address_of, offered_places, slots_from}
 use Rattle.descriptors.specs.RingLaws.{length-slots_from}
 use Rattle.tx_engine.specs.Fetching.{frame_at}
 use Rattle.tx_engine.specs.ToSend.{to_send}
@@ -10,7 +10,7 @@ use Rattle.tx_engine.specs.Transmitter.{Queued}
 use Rattle.adapter.specs.HostFrames.{frames_to_send}
 use Rattle.adapter.specs.Slots.{buffered, offered, outstanding, written_back}
 use Rattle.adapter.specs.World.{transmit_ring}
-use Rattle.driver_law.specs.Transmit.{SlotsHaveFrames}
+use Rattle.driver_law.specs.TransmitSteps.{SlotsHaveFrames}
 use Rattle.driver_law.proofs.Places.{outstanding-known}
 
 frames-count : (memory : List ℕ) (ring : Ring) (buffer : List Queued)
@@ -18,22 +18,22 @@ frames-count : (memory : List ℕ) (ring : Ring) (buffer : List Queued)
 unfolding to_send
 frames-count memory ring buffer =
     let first = map (λ (queued : Queued). queued.frame) buffer in
-    let later = map (λ (slot : ℕ). frame_at true memory (address_of ring slot)) (owned ring) in
+    let later = map (λ (slot : ℕ). frame_at true memory (address_of ring slot)) (offered_places ring) in
     omega (
       arith,
       length-append first later,
       length-map buffer (λ (queued : Queued). queued.frame),
       length-map buffer
           (λ (queued : Queued). queued.descriptor),
-      length-map (owned ring) (λ (slot : ℕ). frame_at true memory (address_of ring slot)),
-      length-map (owned ring) (address_of ring),
+      length-map (offered_places ring) (λ (slot : ℕ). frame_at true memory (address_of ring slot)),
+      length-map (offered_places ring) (address_of ring),
     )
 
 pub slots_have_frames : SlotsHaveFrames
 slots_have_frames driver world ready =
     let up = ready.transmit in
     let counts = driver.counts in
-    let o = driver.oldest_sent in
+    let o = driver.oldest_transmit in
     let ring = transmit_ring world in
     let known = outstanding-known ring (16 * counts.rx) counts.tx o driver.sending up.knows up.oldest_slot up.room in
     let frames = frames-count world.memory ring world.adapter.transmitter.buffer in

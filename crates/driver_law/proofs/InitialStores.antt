@@ -13,13 +13,13 @@ use Rattle.adapter.specs.HostAreas.{ring_area}
 use Rattle.adapter.specs.World.{World, receive_ring}
 use Rattle.bus.proofs.Lists.{all-none}
 use Rattle.bus.proofs.Rings.{outstanding-inside}
-use Rattle.bus.specs.OwnSlots.{CanBeWritten}
-use Rattle.bus.specs.OwnStores.{IsOwn}
+use Rattle.bus.specs.WritableSlots.{CanBeWritten}
+use Rattle.bus.specs.DriversStores.{IsDriversArea}
 use Rattle.driver_law.specs.Beginnings.{LastSlotIsStored, TransmitPlaceIsStored}
-use Rattle.driver_law.specs.DriverState.{DriverState, next_received, receive_slot, receive_tail}
-use Rattle.driver_law.specs.Ready.{ReadyWith}
+use Rattle.driver_law.specs.DriverState.{DriverState, next_receive, receive_slot, receive_tail}
+use Rattle.driver_law.specs.ReadyDrivers.{ReadyWith}
 use Rattle.driver_law.proofs.Buffers.{known-area}
-use Rattle.bus.proofs.OwnSlots.{own_receive_slots_can_be_written}
+use Rattle.bus.proofs.WritableSlots.{drivers_receive_slots_can_be_written}
 use Rattle.driver_law.proofs.Places.{place-add, place-below, places-differ}
 use Rattle.driver_law.proofs.Readiness.{own-staged, stored-kept}
 use Rattle.driver_law.proofs.Stores.{goes-stores, slots-apart}
@@ -29,29 +29,29 @@ use Rattle.driver_law.proofs.TransmitSlots.{stored-elsewhere}
 pub last_slot_is_stored : LastSlotIsStored
 last_slot_is_stored up driver bytes world ready long =
     let n = driver.counts.rx in
-    let o = driver.oldest_received in
-    let p = driver.oldest_sent in
+    let o = driver.oldest_receive in
+    let p = driver.oldest_transmit in
     let i = length driver.buffers in
     let j = length driver.staged in
     let room = ready.driver_is.room in
-    let slot = receive_slot (next_received driver) in
+    let slot = receive_slot (next_receive driver) in
     let area = area_at slot (length bytes) in
-    let walked : place n (receive_tail driver) j ≡ next_received driver = sym (place-add n o i j) in
+    let walked : place n (receive_tail driver) j ≡ next_receive driver = sym (place-add n o i j) in
     let at : address_of (receive_ring world) (place n (receive_tail driver) j)
     ≡ slot = omega (arith, ready.receive.begins, ap (λ (index : ℕ). 16 * index) walked) in
     let own : CanBeWritten o p world slot = subst (CanBeWritten o p world) at
-    (own_receive_slots_can_be_written o p _ world ready.sound (own-staged driver world j ready room)) in
+    (drivers_receive_slots_can_be_written o p _ world ready.sound (own-staged driver world j ready room)) in
     let lies : LiesIn world.memory slot (length bytes) = subst (LiesIn world.memory slot) (sym long) own.lies in
-    let below : next_received driver < n = place-below n o (i + j) ready.driver_is.oldest_slot in
+    let below : next_receive driver < n = place-below n o (i + j) ready.driver_is.oldest_slot in
     let inside : IsInside area (area_of driver.counts ReceiveRing) = record { from = omega arith; to = omega (arith, long, below) } in
     let staged : ℕ → ℕ = λ k. receive_slot (place n (receive_tail driver) k) in
     let others : (k : ℕ) → k < j
     → bytes_at (with_bytes world.memory slot bytes) (staged k) 16 ≡ bytes_at world.memory (staged k) 16 = λ k before.
     bytes_at-elsewhere world.memory bytes slot (staged k) 16 lies
-    (slots-apart (next_received driver) (place n (receive_tail driver) k) (length bytes) long
+    (slots-apart (next_receive driver) (place n (receive_tail driver) k) (length bytes) long
     (λ same. places-differ n o (i + k) (i + j) ready.driver_is.oldest_slot (omega (arith, before)) room (place-add n o i k ∙ same))) in
     goes-stores driver driver.staged driver.pool world slot bytes ready lies
-    (subst (λ (size : ℕ). IsOwn o p world (area_at slot size)) (sym long) own.own) ready.driver_is
+    (subst (λ (size : ℕ). IsDriversArea o p world (area_at slot size)) (sym long) own.own) ready.driver_is
     (stored-kept world.memory (with_bytes world.memory slot bytes) driver.counts (receive_tail driver) driver.staged others ready.stored)
     (λ number known.
     apart-inside area (area_of driver.counts ReceiveRing) (area_of driver.counts (ReceiveBuffer number)) inside
@@ -59,10 +59,10 @@ last_slot_is_stored up driver bytes world ready long =
 
 -- While the side is off, the place of the transmit ring is the driver's own.
 place-own : (driver : DriverState) (area : Area) (world : World) → ReadyWith false driver world
-    → IsInside area (area_of driver.counts TransmitRing) → IsOwn driver.oldest_received driver.oldest_sent world area
+    → IsInside area (area_of driver.counts TransmitRing) → IsDriversArea driver.oldest_receive driver.oldest_transmit world area
 place-own driver area world ready inside =
-    let o = driver.oldest_received in
-    let p = driver.oldest_sent in
+    let o = driver.oldest_receive in
+    let p = driver.oldest_transmit in
     let r = ring_area (receive_ring world) in
     let whole = area_of driver.counts TransmitRing in
     let received = outstanding-inside (receive_ring world) o ready.sound.receive_slots.slot in

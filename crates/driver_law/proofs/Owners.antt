@@ -7,7 +7,7 @@ use Rattle.dma_memory.specs.OwnersLaws.{copies-append, copies-cons, copies-itsel
 use Rattle.dma_memory.specs.OwnersLaws.{once_from_no_second}
 use Rattle.bus.proofs.Lists.{all-none}
 use Rattle.driver_law.specs.DriverState.{DriverState, numbers_of, owners}
-use Rattle.driver_law.specs.Ready.{IsDriver}
+use Rattle.driver_law.specs.ReadyDrivers.{IsDriver}
 
 pub owners-count : (k : ℕ) (d : DriverState)
     → copies k (owners d) ≡ copies k d.pool + (copies k d.buffers + (copies k d.staged + copies k (numbers_of d.handed_out)))

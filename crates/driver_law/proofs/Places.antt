@@ -5,10 +5,10 @@ use Rattle.std.proofs.lemmas.Bool.{cases_lt}
 use Rattle.std.proofs.lemmas.List.Elements.{All-map}
 use Rattle.std.proofs.Math.Nat.{mod-add-mod, mod-eq-sub-mod, mod-eq_of_lt}
 use Rattle.descriptors.specs.declared.ring.Ring.{Ring}
-use Rattle.descriptors.specs.Ring.{address_of, count_of, distance_of, owned, slots_from}
+use Rattle.descriptors.specs.Ring.{address_of, count_of, distance_of, offered_places, slots_from}
 use Rattle.descriptors.specs.RingLaws.{distance-around, distance-forward, next-below, place}
 use Rattle.adapter.specs.Slots.{outstanding}
-use Rattle.bus.specs.Own.{IsOwnSlot}
+use Rattle.bus.specs.DriversSlots.{IsDriversSlot}
 use Rattle.adapter.specs.KnownRing.{KnowsRing}
 use Rattle.bus.proofs.Rings.{slots-other}
 
@@ -60,7 +60,7 @@ places-differ n from i j slot before short same =
 -- The outstanding slots of a ring that the driver knows, by their places.
 pub outstanding-known : (ring : Ring) (base n oldest i : ℕ) → KnowsRing ring base n (place n oldest i) → oldest < n → i < n
     → outstanding ring oldest ≡ map (λ (slot : ℕ). base + 16 * slot) (slots_from n oldest i)
-unfolding owned
+unfolding offered_places
 outstanding-known ring base n oldest i knows slot short =
     let far : distance_of ring oldest ring.tail ≡ i =
     ap (λ (count : ℕ). (ring.tail + count - oldest) % count) knows.slots ∙ ap (λ (tail : ℕ). (tail + n - oldest) % n) knows.last
@@ -71,8 +71,8 @@ outstanding-known ring base n oldest i knows slot short =
 
 -- A place behind them is the driver's own.
 pub own-behind : (ring : Ring) (base n oldest i j : ℕ) → KnowsRing ring base n (place n oldest i) → oldest < n → i + j < n
-    → IsOwnSlot ring oldest (place n (place n oldest i) j)
-own-behind ring base n oldest i j knows slot short = subst (IsOwnSlot ring oldest) (place-add n oldest i j) (record {
+    → IsDriversSlot ring oldest (place n (place n oldest i) j)
+own-behind ring base n oldest i j knows slot short = subst (IsDriversSlot ring oldest) (place-add n oldest i j) (record {
   below = subst (λ (count : ℕ). place n oldest (i + j) < count) (sym knows.slots) within;
   apart =
       subst (λ (list : List ℕ). All Other list) (sym (outstanding-known ring base n oldest i knows slot (omega (arith, short))))

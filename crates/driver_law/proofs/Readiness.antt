@@ -11,8 +11,8 @@ use Rattle.dma_memory.specs.Layout.{Counts, TransmitBuffer, area_of, size_of}
 use Rattle.descriptors.specs.declared.ring.Ring.{Ring}
 use Rattle.descriptors.specs.declared.tx_desc.TxDesc.{TxDesc}
 use Rattle.descriptors.specs.Frames.{IsLegal}
-use Rattle.descriptors.specs.Ring.{IsSound, address_of, owned, slots_from}
-use Rattle.descriptors.specs.RingLaws.{owned-none, place}
+use Rattle.descriptors.specs.Ring.{HasValidIndices, address_of, offered_places, slots_from}
+use Rattle.descriptors.specs.RingLaws.{places-none, place}
 use Rattle.rx_engine.specs.Descriptors.{named_address}
 use Rattle.tx_engine.specs.Fetching.{frame_at}
 use Rattle.tx_engine.specs.ToSend.{to_send}
@@ -26,16 +26,16 @@ use Rattle.adapter.specs.Slots.{finished, offered, outstanding}
 use Rattle.adapter.specs.World.{World, receive_ring, transmit_ring}
 use Rattle.adapter.specs.declared.ring.RingRegisters.{RingRegisters}
 use Rattle.bus.specs.Law.{Happens}
-use Rattle.bus.specs.Own.{IsOwnSlot}
-use Rattle.bus.specs.Past.{Past}
-use Rattle.bus.proofs.Idle.{still-idle}
+use Rattle.bus.specs.DriversSlots.{IsDriversSlot}
+use Rattle.bus.specs.PastOfStretch.{Past}
+use Rattle.bus.proofs.IdleRings.{still-idle}
 use Rattle.bus.proofs.Lists.{all-unmapped, all-weaker, append-empty, map-empty, map-same}
-use Rattle.bus.proofs.Own.{drivers_keep_their_own}
+use Rattle.bus.proofs.DriversSlots.{drivers_side_stays}
 use Rattle.bus.proofs.Rings.{each-outstanding}
 use Rattle.bus.proofs.KnownRings.{knows-carried}
 use Rattle.driver_law.proofs.Places.{outstanding-known, own-behind}
 use Rattle.driver_law.specs.DriverState.{DriverState, receive_slot, receive_tail, transmit_slot, with_owners}
-use Rattle.driver_law.specs.Ready.{AreStored, IsDriver, ReadyWith, Stands, TransmitIs, TransmitIsOff}
+use Rattle.driver_law.specs.ReadyDrivers.{AreStored, IsDriver, ReadyWith, Stands, TransmitIs, TransmitIsOff}
 
 -- the same driver, but for what is staged and what is free
 abbrev pub with_staged : DriverState → (staged pool : List ℕ) → DriverState
@@ -57,8 +57,8 @@ stored-kept memory memory' counts slot (number ∷ later) same stored = (
 
 -- A slot behind the tail is the driver's own.
 pub own-staged : {up : Bool} (d : DriverState) (world : World) (i : ℕ) → ReadyWith up d world → length d.buffers + i < d.counts.rx
-    → IsOwnSlot (receive_ring world) d.oldest_received (place d.counts.rx (receive_tail d) i)
-own-staged {up} d world i ready below = own-behind (receive_ring world) 0 d.counts.rx d.oldest_received
+    → IsDriversSlot (receive_ring world) d.oldest_receive (place d.counts.rx (receive_tail d) i)
+own-staged {up} d world i ready below = own-behind (receive_ring world) 0 d.counts.rx d.oldest_receive
     (length d.buffers) i ready.receive ready.driver_is.oldest_slot below
 
 -- What a driver rests on stays from the first world to the second: the conditions, and what outstanding slots name; registers but the
@@ -73,8 +73,8 @@ pub record Keeps (o p : ℕ) (a b : World) : Type 0 where
   pub control : b.adapter.transmit_control ≡ a.adapter.transmit_control
   pub receives : b.adapter.receive_ring ≡ record a.adapter.receive_ring { head = b.adapter.receive_ring.head }
   pub transmits : b.adapter.transmit_ring ≡ record a.adapter.transmit_ring { head = b.adapter.transmit_ring.head }
-  pub receive_head : (b.adapter.receive_ring.head ≡ a.adapter.receive_ring.head) ⊎ IsSound (receive_ring b)
-  pub transmit_head : (b.adapter.transmit_ring.head ≡ a.adapter.transmit_ring.head) ⊎ IsSound (transmit_ring b)
+  pub receive_head : (b.adapter.receive_ring.head ≡ a.adapter.receive_ring.head) ⊎ HasValidIndices (receive_ring b)
+  pub transmit_head : (b.adapter.transmit_ring.head ≡ a.adapter.transmit_ring.head) ⊎ HasValidIndices (transmit_ring b)
   pub addresses : All (λ slot. named_address b.memory slot ≡ named_address a.memory slot) (outstanding (receive_ring a) o)
   pub sources : All (λ slot. data_of b.memory slot ≡ data_of a.memory slot) (outstanding (transmit_ring a) p)
   pub none_to_send : frames_to_send a ≡ [] → frames_to_send b ≡ []
@@ -85,16 +85,16 @@ pub none-to_send : (memory : List ℕ) (ring : Ring) (buffer : List Queued) → 
     → to_send memory ring true buffer ≡ []
 unfolding to_send
 none-to_send memory ring buffer none same =
-    let behind = map (λ (slot : ℕ). frame_at true memory (address_of ring slot)) (owned ring) in
+    let behind = map (λ (slot : ℕ). frame_at true memory (address_of ring slot)) (offered_places ring) in
     ap (λ (queue : List Queued). map (λ (queued : Queued). queued.frame) queue ++ behind) none
-    ∙ ap (map (λ (slot : ℕ). frame_at true memory (address_of ring slot))) (owned-none ring same)
+    ∙ ap (map (λ (slot : ℕ). frame_at true memory (address_of ring slot))) (places-none ring same)
 
 none-left : (memory : List ℕ) (ring : Ring) (buffer : List Queued) → to_send memory ring true buffer ≡ [] → (buffer ≡ [])
     × (offered ring ≡ [])
 unfolding to_send
 none-left memory ring buffer none =
     let parts = append-empty _ _ none in
-    (map-empty (λ (queued : Queued). queued.frame) buffer parts.0, ap (map (address_of ring)) (map-empty _ (owned ring) parts.1))
+    (map-empty (λ (queued : Queued). queued.frame) buffer parts.0, ap (map (address_of ring)) (map-empty _ (offered_places ring) parts.1))
 
 transmit-kept : (up : Bool) (o : ℕ) (counts : Counts) (p sending : ℕ) (a b : World) → Keeps o p a b
     → TransmitIs up counts p sending a.memory (transmit_ring a) a.adapter.transmit_control a.adapter.transmitter.buffer
@@ -129,7 +129,7 @@ transmit-kept false o counts p sending a b keeps side =
 
 -- All of it.
 pub ready-kept : {up : Bool} (d : DriverState) (staged pool : List ℕ) (a b : World) → ReadyWith up d a
-    → Keeps d.oldest_received d.oldest_sent a b
+    → Keeps d.oldest_receive d.oldest_transmit a b
     → IsDriver (with_staged d staged pool) → AreStored b.memory d.counts (receive_tail d) staged
     → All (Stands d.counts b.memory) d.handed_out
     → ReadyWith up (with_staged d staged pool) b
@@ -145,10 +145,10 @@ ready-kept {up} d staged pool a b ready keeps driver stored stand =
       lies = subst (λ (n : ℕ). size_of d.counts ≤ n) (sym keeps.size) ready.lies;
       size = ap (λ (filter : FilterRegisters). buffer_size_of (field filter.rctl 16 2)) keeps.filter ∙ ready.size;
       receive = knows-carried before behind 0 d.counts.rx (receive_tail d) keeps.receives keeps.receive_head ready.receive;
-      transmit = transmit-kept up d.oldest_received d.counts d.oldest_sent d.sending a b keeps ready.transmit;
+      transmit = transmit-kept up d.oldest_receive d.counts d.oldest_transmit d.sending a b keeps ready.transmit;
       names =
-          ap (λ (ring : RingRegisters). map (named_address b.memory) (outstanding (ring_of ring) d.oldest_received)) keeps.receives
-          ∙ map-same (named_address b.memory) (named_address a.memory) (outstanding (receive_ring a) d.oldest_received) keeps.addresses
+          ap (λ (ring : RingRegisters). map (named_address b.memory) (outstanding (ring_of ring) d.oldest_receive)) keeps.receives
+          ∙ map-same (named_address b.memory) (named_address a.memory) (outstanding (receive_ring a) d.oldest_receive) keeps.addresses
           ∙ ready.names;
       stored = stored;
       stand = stand;
@@ -156,13 +156,13 @@ ready-kept {up} d staged pool a b ready keeps driver stored stand =
 
 -- What happens keeps it.
 pub keeps-happening : {up : Bool} (d : DriverState) (a b : World) (past : Past) → ReadyWith up d a → Happens a b past
-    → Keeps d.oldest_received d.oldest_sent a b
+    → Keeps d.oldest_receive d.oldest_transmit a b
 keeps-happening {up} d a b past ready happens =
-    let o = d.oldest_received in
-    let p = d.oldest_sent in
+    let o = d.oldest_receive in
+    let p = d.oldest_transmit in
     let steady = happens.steady in
     let between = happens.between o p ready.sound in
-    let own = drivers_keep_their_own o p a b past ready.sound happens in
+    let own = drivers_side_stays o p a b past ready.sound happens in
     let Fits : List ℕ → Type 0 = λ frame. length frame ≤ buffer_size a in
     record {
       sound = between.sound;

@@ -9,9 +9,9 @@ use Rattle.descriptors.specs.RingLaws.{place}
 use Rattle.descriptors.specs.RxDesc.{rx_desc_of}
 use Rattle.adapter.specs.Conditions.{IsWhole}
 use Rattle.adapter.specs.World.{World, world_after_store, world_after_write}
-use Rattle.bus.specs.Initialising.{with_tail}
+use Rattle.bus.specs.RegisterSetting.{with_tail}
 use Rattle.bus.specs.Law.{Acts}
-use Rattle.bus.specs.Past.{Past, nothing}
+use Rattle.bus.specs.PastOfStretch.{Past, nothing}
 use Rattle.bus.specs.declared.event.Access.{Access}
 use Rattle.bus.specs.declared.event.Access.TheVariants.{Loads, Stores, Writes}
 use Rattle.std.specs.List.{All}
@@ -19,16 +19,16 @@ use Rattle.std.proofs.lemmas.List.{drop-drop, drop-take, take-take}
 use Rattle.bus.proofs.Lists.{all-head, all-right}
 use Rattle.bus.proofs.KnownRings.{receive_tail-written}
 use Rattle.driver_law.proofs.Accesses.{load-sets, ran_by-acts, store-sets, write-sets}
-use Rattle.driver_law.proofs.Offers.{staged_can_be_offered}
+use Rattle.driver_law.proofs.SlotOffers.{staged_can_be_offered}
 use Rattle.driver_law.proofs.Places.{place-below}
 use Rattle.driver_law.proofs.Steps.{goes-happens, goes-stays}
 use Rattle.driver_law.proofs.Stores.{slots_can_be_staged}
-use Rattle.driver_law.proofs.Takes.{finished-first, finished-none, oldest_can_be_taken, oldest_is_as_long, oldest_is_whole}
+use Rattle.driver_law.proofs.TakenSlots.{finished-first, finished-none, oldest_can_be_taken, oldest_is_as_long, oldest_is_whole}
 use Rattle.driver_law.specs.Accesses.{stores_from, takes_from}
-use Rattle.driver_law.specs.DriverState.{DriverState, HandedOut, buffer_at, next_received, receive_slot, with_owners}
-use Rattle.driver_law.specs.Goes.{GoesTo, RanBy}
+use Rattle.driver_law.specs.DriverState.{DriverState, HandedOut, buffer_at, next_receive, receive_slot, with_owners}
+use Rattle.driver_law.specs.Stretches.{GoesTo, RanBy}
 use Rattle.driver_law.specs.OldestSlot.{LeavesOldest, TakesOldest}
-use Rattle.driver_law.specs.Ready.{ReadyWith, Stands, empty_descriptor}
+use Rattle.driver_law.specs.ReadyDrivers.{ReadyWith, Stands, empty_descriptor}
 
 -- The lists of accesses grow at their ends.
 
@@ -51,14 +51,14 @@ takes-push counts slot m (number ∷ xs) =
 pub ran_by-stages : {up : Bool} {B : Type 0} (world : B → World) (happened : B → B → Past → Type 0) (lively : B
     → Type 0) (old new : B) (d : DriverState) (m address : ℕ) (pool bytes : List ℕ)
     → length d.buffers + length d.staged + 1 < d.counts.rx → m < d.counts.buffers → HaveSameNumbers d.pool (m ∷ pool)
-    → address ≡ receive_slot (next_received d) → bytes ≡ empty_descriptor (buffer_at d.counts m)
+    → address ≡ receive_slot (next_receive d) → bytes ≡ empty_descriptor (buffer_at d.counts m)
     → Acts world happened lively old new (Stores address bytes) (λ before after. after ≡ world_after_store address bytes before)
     → ReadyWith up d (world old)
-    → RanBy up world happened (stores_from d.counts (next_received d) (m ∷ [])) old new d
+    → RanBy up world happened (stores_from d.counts (next_receive d) (m ∷ [])) old new d
     (with_owners d d.buffers (d.staged ++ m ∷ []) pool d.handed_out) [] []
 ran_by-stages {up} world happened lively old new d m address pool bytes room known moves at is acts ready =
     let d' = with_owners d d.buffers (d.staged ++ m ∷ []) pool d.handed_out in
-    let slot = receive_slot (next_received d) in
+    let slot = receive_slot (next_receive d) in
     let access : Stores address bytes ≡ Stores slot (empty_descriptor (buffer_at d.counts m)) = ap (λ (x : ℕ). Stores x bytes) at
     ∙ ap (Stores slot) is in
     subst (λ (one : Access). RanBy up world happened (one ∷ []) old new d d' [] []) access
@@ -71,10 +71,10 @@ ran_by-stages {up} world happened lively old new d m address pool bytes room kno
 
 -- RDT is written, and offers all that are staged.
 pub ran_by-offers : {up : Bool} {B : Type 0} (world : B → World) (happened : B → B → Past → Type 0) (lively : B
-    → Type 0) (old new : B) (d : DriverState) (value : ℕ) → value ≡ next_received d
+    → Type 0) (old new : B) (d : DriverState) (value : ℕ) → value ≡ next_receive d
     → Acts world happened lively old new (Writes 0x2818 value) (λ before after. after ≡ world_after_write 0x2818 value before)
     → ReadyWith up d (world old)
-    → RanBy up world happened (Writes 0x2818 (next_received d) ∷ []) old new d
+    → RanBy up world happened (Writes 0x2818 (next_receive d) ∷ []) old new d
     (with_owners d (d.buffers ++ d.staged) [] d.pool d.handed_out) [] []
 ran_by-offers {up} world happened lively old new d value at acts ready =
     let d' = with_owners d (d.buffers ++ d.staged) [] d.pool d.handed_out in
@@ -82,7 +82,7 @@ ran_by-offers {up} world happened lively old new d value at acts ready =
       arith,
       at,
       ready.receive.slots,
-      place-below d.counts.rx d.oldest_received
+      place-below d.counts.rx d.oldest_receive
           (length d.buffers + length d.staged) ready.driver_is.oldest_slot,
     ) in
     subst (λ (place : ℕ). RanBy up world happened (Writes 0x2818 place ∷ []) old new d d' [] []) at
@@ -100,10 +100,10 @@ Shows address bytes before after = (bytes ≡ bytes_at before.memory address 16)
 
 ran_by-looks : {up : Bool} {B : Type 0} (world : B → World) (happened : B → B → Past → Type 0) (lively : B
     → Type 0) (old new : B) (d d' : DriverState) (taken : List (List ℕ)) (address : ℕ) (bytes : List ℕ)
-    → address ≡ receive_slot d.oldest_received → Acts world happened lively old new (Loads address 16) (Shows address bytes)
+    → address ≡ receive_slot d.oldest_receive → Acts world happened lively old new (Loads address 16) (Shows address bytes)
     → ReadyWith up d (world old)
     → (ReadyWith up d (world new) → GoesTo up d (world new) d' (world new) taken [] nothing)
-    → RanBy up world happened (Loads (receive_slot d.oldest_received) 16 ∷ []) old new d d' taken []
+    → RanBy up world happened (Loads (receive_slot d.oldest_receive) 16 ∷ []) old new d d' taken []
 ran_by-looks {up} world happened lively old new d d' taken address bytes at acts ready step =
     subst (λ (place : ℕ). RanBy up world happened (Loads place 16 ∷ []) old new d d' taken []) at
     (ran_by-acts world happened lively old new (Loads address 16) (Shows address bytes) d d' taken [] acts
@@ -114,11 +114,11 @@ ran_by-looks {up} world happened lively old new d d' taken address bytes at acts
 -- What it shows, in the world behind it.
 record IsSeen (up : Bool) (d : DriverState) (world : World) (bytes : List ℕ) : Type 0 where
   ready : ReadyWith up d world
-  shown : bytes ≡ bytes_at world.memory (receive_slot d.oldest_received) 16
+  shown : bytes ≡ bytes_at world.memory (receive_slot d.oldest_receive) 16
 
 seen : {up : Bool} {B : Type 0} (world : B → World) (happened : B → B → Past → Type 0) (lively : B
     → Type 0) (old new : B) (d : DriverState) (address : ℕ) (bytes : List ℕ)
-    → address ≡ receive_slot d.oldest_received → Acts world happened lively old new (Loads address 16) (Shows address bytes)
+    → address ≡ receive_slot d.oldest_receive → Acts world happened lively old new (Loads address 16) (Shows address bytes)
     → ReadyWith up d (world old) → IsSeen up d (world new) bytes
 seen {up} world happened lively old new d address bytes at acts ready = record {
   ready = subst (ReadyWith up d) (sym acts.effect_is.1) (goes-happens d (world old) acts.middle acts.past ready acts.before).flows.ready;
@@ -131,7 +131,7 @@ seen {up} world happened lively old new d address bytes at acts ready = record {
 -- It isn't done.
 pub ran_by-leaves : {up : Bool} {B : Type 0} (world : B → World) (happened : B → B → Past → Type 0) (lively : B
     → Type 0) (old new : B) (d : DriverState) (m address : ℕ) (later bytes : List ℕ)
-    → d.buffers ≡ m ∷ later → address ≡ receive_slot d.oldest_received → is_set (slice_index bytes 12) 0 ≡ false
+    → d.buffers ≡ m ∷ later → address ≡ receive_slot d.oldest_receive → is_set (slice_index bytes 12) 0 ≡ false
     → Acts world happened lively old new (Loads address 16) (Shows address bytes) → ReadyWith up d (world old)
     → LeavesOldest up world happened old new d
 ran_by-leaves {up} world happened lively old new d m address later bytes buffers at clear acts ready =
@@ -145,7 +145,7 @@ ran_by-leaves {up} world happened lively old new d m address later bytes buffers
 -- It is done.
 pub ran_by-takes : {up : Bool} {B : Type 0} (world : B → World) (happened : B → B → Past → Type 0) (lively : B
     → Type 0) (old new : B) (d : DriverState) (m address : ℕ) (later bytes : List ℕ)
-    → d.buffers ≡ m ∷ later → address ≡ receive_slot d.oldest_received → is_set (slice_index bytes 12) 0 ≡ true
+    → d.buffers ≡ m ∷ later → address ≡ receive_slot d.oldest_receive → is_set (slice_index bytes 12) 0 ≡ true
     → Acts world happened lively old new (Loads address 16) (Shows address bytes) → ReadyWith up d (world old)
     → TakesOldest up world happened old new d m (rx_desc_of bytes).length later
 ran_by-takes {up} world happened lively old new d m address later bytes buffers at done acts ready =
@@ -163,7 +163,7 @@ ran_by-takes {up} world happened lively old new d m address later bytes buffers 
 -- Its descriptor is whole then.
 pub takes-whole : {up : Bool} {B : Type 0} (world : B → World) (happened : B → B → Past → Type 0) (lively : B
     → Type 0) (old new : B) (d : DriverState) (m address : ℕ) (later bytes : List ℕ)
-    → d.buffers ≡ m ∷ later → address ≡ receive_slot d.oldest_received → is_set (slice_index bytes 12) 0 ≡ true
+    → d.buffers ≡ m ∷ later → address ≡ receive_slot d.oldest_receive → is_set (slice_index bytes 12) 0 ≡ true
     → Acts world happened lively old new (Loads address 16) (Shows address bytes) → ReadyWith up d (world old) → IsWhole (rx_desc_of bytes)
 takes-whole {up} world happened lively old new d m address later bytes buffers at done acts ready =
     let it = seen world happened lively old new d address bytes at acts ready in

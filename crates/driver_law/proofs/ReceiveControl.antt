@@ -17,16 +17,16 @@ use Rattle.adapter.specs.HostAreas.{areas, buffer_size, data_of, receives, ring_
 use Rattle.adapter.specs.HostFrames.{AreWithin, named}
 use Rattle.adapter.specs.Slots.{finished, in_work, offered, outstanding, slot_of_work}
 use Rattle.adapter.specs.World.{World, receive_ring, transmit_ring}
-use Rattle.bus.proofs.Idle.{first-two, offered-none}
-use Rattle.bus.proofs.Initialising.{receiver_can_be_set}
+use Rattle.bus.proofs.IdleRings.{first-two, offered-none}
+use Rattle.bus.proofs.RegisterSetting.{receiver_can_be_set}
 use Rattle.bus.proofs.Lists.{all-head, all-tail, pairs-head, pairs-none}
-use Rattle.bus.specs.Initialising.{with_receive_control}
+use Rattle.bus.specs.RegisterSetting.{with_receive_control}
 use Rattle.driver_law.specs.Beginnings.{ReceiverIsEnabled}
 use Rattle.driver_law.specs.DriverState.{DriverState, buffer_at, owners}
-use Rattle.driver_law.specs.Ready.{ReadyWith}
+use Rattle.driver_law.specs.ReadyDrivers.{ReadyWith}
 use Rattle.driver_law.proofs.Buffers.{buffer-lies, known-area}
 use Rattle.driver_law.proofs.Owners.{all-copies, outstanding-number, owners-count}
-use Rattle.driver_law.proofs.Rests.{goes-rests}
+use Rattle.driver_law.proofs.StepsWithoutFrames.{goes-rests}
 
 -- The buffers that outstanding slots have.
 
@@ -101,18 +101,18 @@ named-buffers counts memory size slots numbers big same =
 
 pub receiver_is_enabled : ReceiverIsEnabled
 receiver_is_enabled driver control world ready none idle plain big =
-    let o = driver.oldest_received in
+    let o = driver.oldest_receive in
     let b = with_receive_control control world in
     let ring = receive_ring world in
     let memory = world.memory in
     let r = ring_area ring in
     let t = ring_area (transmit_ring world) in
     let on = receives b in
-    let given : outstanding ring o ≡ offered ring = ready.sound.receive_slots.classes
+    let accepted : outstanding ring o ≡ offered ring = ready.sound.receive_slots.classes
     ∙ ap (λ (slots : List ℕ). slots ++ (in_work world ++ offered ring)) none
     ∙ ap (λ (work : Option Work). slot_of_work work ++ offered ring) idle in
     let named_at = named-buffers driver.counts memory (buffer_size b) (offered ring) driver.buffers big
-    (ap (map (named_address memory)) (sym given) ∙ ready.names) in
+    (ap (map (named_address memory)) (sym accepted) ∙ ready.names) in
     let bufs = map (λ slot. area_at (named_address memory slot) (buffer_size b)) (offered ring) in
     let count = if on then bufs else [] in
     let one = subst (λ (list : List Area). AreSeparate memory (r ∷ t ∷ (if on then list else []))) (sym named_at)
@@ -125,7 +125,7 @@ receiver_is_enabled driver control world ready none idle plain big =
     (r ∷ t ∷ (map (data_of memory) slots
     ++ (map (named memory) (finished o world) ++ (work_areas memory world.adapter.receiver.work ++ count)))))
     (sym (offered-none (transmit_ring world) ready.transmit.idle)) three in
-    let set = receiver_can_be_set o driver.oldest_sent control world ready.sound separate in
+    let set = receiver_can_be_set o driver.oldest_transmit control world ready.sound separate in
     goes-rests driver world driver b
     (record {
       driver_is = ready.driver_is;

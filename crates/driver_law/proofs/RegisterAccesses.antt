@@ -5,19 +5,19 @@ use Rattle.adapter.specs.Registers.{answer_at}
 use Rattle.adapter.specs.Slots.{finished}
 use Rattle.adapter.specs.Table.{register_at}
 use Rattle.adapter.specs.World.{World, world_after_read}
-use Rattle.bus.proofs.Initialising.{reads_leave_frames}
+use Rattle.bus.proofs.RegisterSetting.{reads_leave_frames}
 use Rattle.bus.proofs.Settings.{happens-off}
 use Rattle.bus.specs.Law.{Acts}
-use Rattle.bus.specs.Past.{Past, nothing}
+use Rattle.bus.specs.PastOfStretch.{Past, nothing}
 use Rattle.bus.specs.declared.event.Access.TheVariants.{Reads}
 use Rattle.driver_law.proofs.Accesses.{access-link, access-set, ran_by-acts, read-sets}
 use Rattle.driver_law.proofs.RegisterReads.{causes_are_read, misses_are_read}
 use Rattle.driver_law.proofs.Steps.{goes-happens}
 use Rattle.driver_law.proofs.Stretches.{flows_join, joined-nothing, work_kept}
 use Rattle.driver_law.specs.DriverState.{DriverState}
-use Rattle.driver_law.specs.Goes.{FlowsTo, GoesTo, RanBy}
-use Rattle.driver_law.specs.Readings.{ReadsCauses, with_missed}
-use Rattle.driver_law.specs.Ready.{ReadyWith}
+use Rattle.driver_law.specs.Stretches.{FlowsTo, GoesTo, RanBy}
+use Rattle.driver_law.specs.RegisterReadings.{ReadsCauses, with_missed}
+use Rattle.driver_law.specs.ReadyDrivers.{ReadyWith}
 
 -- A register shows its value, and is read.
 abbrev IsRead : (offset value : ℕ) → World → World → Type 0
@@ -38,8 +38,8 @@ reads-causes {up} world happened lively old new d value acts ready =
     let sets = read-sets 0xC0 value (λ before. value ≡ answer_at 0xC0 before.adapter) (world new) in
     let read = causes_are_read up d middle first.flows.ready in
     let later = subst (λ (w : World). FlowsTo up d middle d w [] [] nothing) (sym effect.1) read.flows in
-    let leaves = reads_leave_frames d.oldest_received d.oldest_sent 0xC0 middle first.flows.ready.sound in
-    let same : finished d.oldest_received (world new) ≡ finished d.oldest_received middle = ap (finished d.oldest_received) effect.1
+    let leaves = reads_leave_frames d.oldest_receive d.oldest_transmit 0xC0 middle first.flows.ready.sound in
+    let same : finished d.oldest_receive (world new) ≡ finished d.oldest_receive middle = ap (finished d.oldest_receive) effect.1
     ∙ leaves.same.finished_same in
     record {
       past = acts.past;
@@ -52,10 +52,10 @@ reads-causes {up} world happened lively old new d value acts ready =
       work = λ unread work.
           let before = work_kept d d (world old) middle [] [] acts.past first work in
           record {
-            unmasked = subst (λ (mask : ℕ). HasBit mask 7) (sym later.mask) before.unmasked;
+            enabled = subst (λ (mask : ℕ). HasBit mask 7) (sym later.mask) before.enabled;
             asked =
                 ⊎_elim
-                (λ (none : finished d.oldest_received middle ≡ []). inl (same ∙ none))
+                (λ (none : finished d.oldest_receive middle ≡ []). inl (same ∙ none))
                 (λ (bit : HasBit middle.adapter.causes.recorded 7).
                 absurd (unread (subst (λ (causes : ℕ). HasBit causes 7) (sym (effect.0 ∙ shown-causes middle)) bit)))
                 before.asked;

@@ -13,13 +13,13 @@ use Rattle.adapter.specs.TableLaws.{register_at-only}
 use Rattle.adapter.specs.World.{World, world_after_read}
 use Rattle.adapter.specs.declared.register.Register.{Register}
 use Rattle.adapter.specs.declared.register.Register.TheVariants.{Icr, Mpc, Gprc, Gptc, Rnbc}
-use Rattle.bus.proofs.Initialising.{reads_leave_frames}
-use Rattle.bus.specs.Past.{nothing}
+use Rattle.bus.proofs.RegisterSetting.{reads_leave_frames}
+use Rattle.bus.specs.PastOfStretch.{nothing}
 use Rattle.driver_law.specs.DriverState.{DriverState}
-use Rattle.driver_law.specs.Goes.{FlowsTo, IsExact}
-use Rattle.driver_law.specs.Readings.{adds_exactly, CausesAreRead, MissesAreRead, OthersAreRead}
-use Rattle.driver_law.specs.Ready.{ReadyWith}
-use Rattle.driver_law.proofs.Parts.{SameParts, ready-left}
+use Rattle.driver_law.specs.Stretches.{FlowsTo, IsExact}
+use Rattle.driver_law.specs.RegisterReadings.{adds_exactly, CausesAreRead, MissesAreRead, OthersAreRead}
+use Rattle.driver_law.specs.ReadyDrivers.{ReadyWith}
+use Rattle.driver_law.proofs.AlikeWorlds.{SameParts, ready-left}
 
 -- What a read leaves, and that it leaves the mask.
 record Read (a b : World) : Type 0 where
@@ -97,12 +97,12 @@ flows-read : {up : Bool} (driver : DriverState) (offset missed : ℕ) (exact : B
 flows-read {up} driver offset missed exact a ready more counted most exactly =
     let b = world_after_read offset a in
     let read = read-offset offset a in
-    let leaves = reads_leave_frames driver.oldest_received driver.oldest_sent offset a ready.sound in
+    let leaves = reads_leave_frames driver.oldest_receive driver.oldest_transmit offset a ready.sound in
     record {
       ready = resummed driver missed exact b (ready-left driver a b ready leaves read.parts);
       counts = refl;
       sends = leaves.same.to_send ∙ sym (append-nil (frames_to_send a));
-      holds = leaves.same.held ∙ sym (append-nil (frames_held driver.oldest_received a));
+      holds = leaves.same.held ∙ sym (append-nil (frames_held driver.oldest_receive a));
       least = omega (arith, ap length leaves.same.finished_same);
       frees = omega (arith, ap length leaves.same.written_same);
       mask = read.mask;
@@ -118,7 +118,7 @@ flows-same : {up : Bool} (driver : DriverState) (offset : ℕ) (a : World) → R
     → FlowsTo up driver a driver (world_after_read offset a) [] [] nothing
 flows-same driver offset a ready same =
     flows-read driver offset driver.missed driver.exact a ready (omega arith) (λ fits low. omega (arith, same)) (omega (arith, same))
-    (λ exact loose. record { exact = exact; loose = omega (arith, loose, same); sum = omega (arith, same) })
+    (λ exact below_greatest. record { exact = exact; below_greatest = omega (arith, below_greatest, same); sum = omega (arith, same) })
 
 -- ICR
 
@@ -136,18 +136,18 @@ misses_are_read up driver world fits ready =
     let b = world_after_read 0x4010 world in
     let shown : answer_at 0x4010 world.adapter ≡ world.adapter.missed_packets = refl in
     let none : b.adapter.missed_packets ≡ 0 = refl in
-    let same : length (finished driver.oldest_received world) ≡ length (finished driver.oldest_received b) = refl in
+    let same : length (finished driver.oldest_receive world) ≡ length (finished driver.oldest_receive b) = refl in
     let value = answer_at 0x4010 world.adapter in
     let missed = min (driver.missed + value) (2 ^ 64 - 1) in
     record {
       flows = flows-read driver 0x4010 missed (driver.exact && adds_exactly driver.missed value) world ready (omega (arith, fits))
           (λ most low. omega (arith, shown, none, low)) (omega (arith, shown, none))
-          (λ exact loose.
+          (λ exact below_greatest.
           let both = and_parts driver.exact (adds_exactly driver.missed value) exact in
           let tests = and_parts (nat_lt value greatest_count) (nat_lt (driver.missed + value) (2 ^ 64)) both.1 in
-          let loose = ltb-true value greatest_count tests.0 in
+          let below_greatest = ltb-true value greatest_count tests.0 in
           let sum = ltb-true (driver.missed + value) (2 ^ 64) tests.1 in
-          record { exact = both.0; loose = omega (arith, loose, shown); sum = omega (arith, sum, shown, none) });
+          record { exact = both.0; below_greatest = omega (arith, below_greatest, shown); sum = omega (arith, sum, shown, none) });
       causes = λ place has. has;
       told = inl (omega (arith, same));
     }
@@ -155,12 +155,12 @@ misses_are_read up driver world fits ready =
 -- Any other.
 
 -- What a driver is told by causes and MPC.
-record Quiet (a b : World) : Type 0 where
+record SameButAdapter (a b : World) : Type 0 where
   recorded : b.adapter.causes.recorded ≡ a.adapter.causes.recorded
   missed_packets : b.adapter.missed_packets ≡ a.adapter.missed_packets
 
 quiet-register : (register : Register) (world : World) → register ≢ Icr → register ≢ Mpc
-    → Quiet world (record world { adapter = read_of register world.adapter })
+    → SameButAdapter world (record world { adapter = read_of register world.adapter })
 quiet-register Icr world no_causes no_count = absurd (no_causes refl)
 quiet-register Mpc world no_causes no_count = absurd (no_count refl)
 quiet-register Gprc world no_causes no_count = record { recorded = refl; missed_packets = refl }
@@ -168,11 +168,11 @@ quiet-register Gptc world no_causes no_count = record { recorded = refl; missed_
 quiet-register Rnbc world no_causes no_count = record { recorded = refl; missed_packets = refl }
 quiet-register _ world no_causes no_count = record { recorded = refl; missed_packets = refl }
 
-quiet-offset : (offset : ℕ) (world : World) → offset ≢ 0xC0 → offset ≢ 0x4010 → Quiet world (world_after_read offset world)
-quiet-offset offset world no_causes no_count = by_case (register_at offset) refl
+same-offset : (offset : ℕ) (world : World) → offset ≢ 0xC0 → offset ≢ 0x4010 → SameButAdapter world (world_after_read offset world)
+same-offset offset world no_causes no_count = by_case (register_at offset) refl
   where
     by_case : (found : Option Register) → register_at offset ≡ found
-        → Quiet world (record world { adapter = left_by_read found world.adapter })
+        → SameButAdapter world (record world { adapter = left_by_read found world.adapter })
     by_case (Some register) is =
         let there = (register_at-only offset register is).there in
         quiet-register register world (λ same. no_causes (sym there ∙ ap (λ (r : Register). (row_of r).offset) same))
@@ -182,8 +182,8 @@ quiet-offset offset world no_causes no_count = by_case (register_at offset) refl
 pub others_are_read : OthersAreRead
 others_are_read up driver offset world no_causes no_count ready =
     let b = world_after_read offset world in
-    let quiet = quiet-offset offset world no_causes no_count in
-    let leaves = reads_leave_frames driver.oldest_received driver.oldest_sent offset world ready.sound in
+    let quiet = same-offset offset world no_causes no_count in
+    let leaves = reads_leave_frames driver.oldest_receive driver.oldest_transmit offset world ready.sound in
     let flows = flows-same driver offset world ready quiet.missed_packets in
     record {
       flows = flows;

@@ -5,7 +5,7 @@ use Rattle.adapter.specs.TableLaws.{register_at-there}
 use Rattle.adapter.specs.World.{World}
 use Rattle.adapter.specs.declared.register.Register.{Register}
 use Rattle.adapter.specs.declared.register.Register.TheVariants.{Rctl, Tctl, Transmit}
-use Rattle.driver_law.specs.Registers.{ReceiveControlWrites, TransmitControlWrites, TransmitRingWrites}
+use Rattle.driver_law.specs.ControlWrites.{ReceiveControlWrites, TransmitControlWrites, TransmitRingWrites}
 
 -- the world that a write leaves, by the register that it finds
 abbrev left : ℕ → World → Option Register → World

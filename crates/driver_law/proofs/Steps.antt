@@ -14,14 +14,14 @@ use Rattle.adapter.specs.HostFrames.{frames_held, frames_to_send}
 use Rattle.adapter.specs.Slots.{finished, written_back}
 use Rattle.adapter.specs.World.{World, receive_ring}
 use Rattle.bus.specs.Law.{Happens}
-use Rattle.bus.specs.OwnStores.{SameFrames}
-use Rattle.bus.specs.Past.{Past, nothing}
-use Rattle.bus.proofs.Own.{drivers_keep_their_own}
+use Rattle.bus.specs.DriversStores.{SameFrames}
+use Rattle.bus.specs.PastOfStretch.{Past, nothing}
+use Rattle.bus.proofs.DriversSlots.{drivers_side_stays}
 use Rattle.driver_law.proofs.Buffers.{buffer-aside, stand-kept}
 use Rattle.driver_law.proofs.Readiness.{keeps-happening, own-staged, ready-kept, stored-kept}
 use Rattle.driver_law.specs.DriverState.{DriverState, HandedOut, receive_slot, receive_tail, with_owners}
-use Rattle.driver_law.specs.Goes.{GoesTo}
-use Rattle.driver_law.specs.Ready.{ReadyWith, Stands}
+use Rattle.driver_law.specs.Stretches.{GoesTo}
+use Rattle.driver_law.specs.ReadyDrivers.{ReadyWith, Stands}
 
 -- Frames only leave and come, slots only become finished and written back, causes are only added, and MPC counts.
 pub record Passes (o p : ℕ) (a b : World) (past : Past) : Type 0 where
@@ -37,14 +37,14 @@ pub record Passes (o p : ℕ) (a b : World) (past : Past) : Type 0 where
   pub causes : (place : ℕ) → HasBit a.adapter.causes.recorded place → HasBit b.adapter.causes.recorded place
   pub missed : a.adapter.missed_packets + past.missed ≤ greatest_count → b.adapter.missed_packets ≡ a.adapter.missed_packets + past.missed
   pub missed_most : b.adapter.missed_packets ≤ a.adapter.missed_packets + past.missed
-  pub missed_loose : b.adapter.missed_packets < greatest_count → b.adapter.missed_packets ≡ a.adapter.missed_packets + past.missed
+  pub missed_below_greatest : b.adapter.missed_packets < greatest_count → b.adapter.missed_packets ≡ a.adapter.missed_packets + past.missed
 
 pub goes-passes : {up : Bool} (d : DriverState) (buffers staged pool : List ℕ) (handed_out : List HandedOut) (a b : World) (past : Past)
-    → Passes d.oldest_received d.oldest_sent a b past
+    → Passes d.oldest_receive d.oldest_transmit a b past
     → ReadyWith up (with_owners d buffers staged pool handed_out) b
     → GoesTo up d a (with_owners d buffers staged pool handed_out) b [] [] past
 goes-passes {up} d buffers staged pool handed_out a b past passes ready =
-    let longer = length-append (finished d.oldest_received a) passes.more in
+    let longer = length-append (finished d.oldest_receive a) passes.more in
     record {
       flows = record {
         ready = ready;
@@ -52,13 +52,14 @@ goes-passes {up} d buffers staged pool handed_out a b past passes ready =
         sends = passes.sends ∙ sym (append-nil (frames_to_send a));
         holds = passes.holds;
         least = omega (arith, ap length passes.done, longer);
-        frees = omega (arith, ap length passes.written, length-append (written_back d.oldest_sent a) passes.reported, passes.each_reported);
+        frees = omega
+            (arith, ap length passes.written, length-append (written_back d.oldest_transmit a) passes.reported, passes.each_reported);
         mask = passes.mask;
         sum = omega arith;
         counted = λ fits low. let same = passes.missed fits in omega (arith, same);
         at_most = omega (arith, passes.missed_most);
-        exactly = λ exact loose. let same = passes.missed_loose loose in record
-            { exact = exact; loose = omega (arith, same, loose); sum = omega (arith, same) };
+        exactly = λ exact below_greatest. let same = passes.missed_below_greatest below_greatest in record
+            { exact = exact; below_greatest = omega (arith, same, below_greatest); sum = omega (arith, same) };
       };
       causes = passes.causes;
       told =
@@ -84,14 +85,14 @@ passes-same o p a b same causes missed = record {
   causes = λ place has. subst (λ (c : Interrupts). HasBit c.recorded place) (sym causes) has;
   missed = λ fits. omega (arith, missed);
   missed_most = omega (arith, missed);
-  missed_loose = λ loose. omega (arith, missed);
+  missed_below_greatest = λ below_greatest. omega (arith, missed);
 }
 
 -- Nothing is done.
 pub goes-stays : {up : Bool} (d : DriverState) (a : World) → ReadyWith up d a → GoesTo up d a d a [] [] nothing
 goes-stays {up} d a ready =
     goes-passes d d.buffers d.staged d.pool d.handed_out a a nothing
-    (passes-same d.oldest_received d.oldest_sent a a
+    (passes-same d.oldest_receive d.oldest_transmit a a
     (record {
       sound = ready.sound;
       held = refl;
@@ -108,14 +109,14 @@ goes-stays {up} d a ready =
 pub goes-happens : {up : Bool} (d : DriverState) (a b : World) (past : Past) → ReadyWith up d a → Happens a b past
     → GoesTo up d a d b [] [] past
 goes-happens {up} d a b past ready happens =
-    let o = d.oldest_received in
-    let p = d.oldest_sent in
+    let o = d.oldest_receive in
+    let p = d.oldest_transmit in
     let between = happens.between o p ready.sound in
-    let own = drivers_keep_their_own o p a b past ready.sound happens in
+    let own = drivers_side_stays o p a b past ready.sound happens in
     let slot : ℕ → ℕ = λ i. place d.counts.rx (receive_tail d) i in
     let kept : (i : ℕ) → i < length d.staged
     → bytes_at b.memory (receive_slot (slot i)) 16 ≡ bytes_at a.memory (receive_slot (slot i)) 16 = λ i below.
-    let stays = own.own_received _ (own-staged d a i ready (omega (arith, below, ready.driver_is.room))) in
+    let stays = own.receive_slots _ (own-staged d a i ready (omega (arith, below, ready.driver_is.room))) in
     let at : address_of (receive_ring a) (slot i) ≡ receive_slot (slot i) = omega (arith, ready.receive.begins) in
     subst (λ (address : ℕ). bytes_at b.memory address 16 ≡ bytes_at a.memory address 16) at stays.bytes in
     let stand : All (Stands d.counts b.memory) d.handed_out = stand-kept d a b ready (λ number known free.
@@ -135,8 +136,8 @@ goes-happens {up} d a b past ready happens =
       causes = happens.steady.causes;
       missed = λ fits. let same = grown a.adapter.missed_packets past.missed fits in omega (arith, same, happens.steady.missed);
       missed_most = let most = grown-most a.adapter.missed_packets past.missed in omega (arith, most, happens.steady.missed);
-      missed_loose = λ loose.
-          let same = grown-loose a.adapter.missed_packets past.missed (omega (arith, loose, happens.steady.missed)) in
+      missed_below_greatest = λ below_greatest.
+          let same = grown-below_greatest a.adapter.missed_packets past.missed (omega (arith, below_greatest, happens.steady.missed)) in
           omega (arith, same, happens.steady.missed);
     })
     (ready-kept d d.staged d.pool a b ready (keeps-happening d a b past ready happens) ready.driver_is
@@ -148,5 +149,5 @@ goes-happens {up} d a b past ready happens =
     grown-most : (x y : ℕ) → max x (min (x + y) greatest_count) ≤ x + y
     grown-most x y = omega arith
 
-    grown-loose : (x y : ℕ) → max x (min (x + y) greatest_count) < greatest_count → max x (min (x + y) greatest_count) ≡ x + y
-    grown-loose x y loose = omega (arith, loose)
+    grown-below_greatest : (x y : ℕ) → max x (min (x + y) greatest_count) < greatest_count → max x (min (x + y) greatest_count) ≡ x + y
+    grown-below_greatest x y below_greatest = omega (arith, below_greatest)

@@ -19,32 +19,32 @@ use Rattle.descriptors.specs.TxDesc.{tx_desc_of}
 use Rattle.rx_engine.specs.Descriptors.{named_address}
 use Rattle.adapter.specs.Slots.{is_done, outstanding}
 use Rattle.adapter.specs.World.{World, receive_ring, transmit_ring, world_after_store}
-use Rattle.bus.specs.OwnStores.{IsOwn}
-use Rattle.bus.specs.Past.{nothing}
-use Rattle.bus.proofs.Kept.{same-apart}
-use Rattle.bus.proofs.OwnStores.{own_stores_leave_frames}
+use Rattle.bus.specs.DriversStores.{IsDriversArea}
+use Rattle.bus.specs.PastOfStretch.{nothing}
+use Rattle.bus.proofs.WrittenAreas.{same-apart}
+use Rattle.bus.proofs.DriversStores.{drivers_stores_leave_frames}
 use Rattle.bus.proofs.Rings.{far-apart}
-use Rattle.bus.specs.OwnSlots.{CanBeWritten}
+use Rattle.bus.specs.WritableSlots.{CanBeWritten}
 use Rattle.driver_law.proofs.Buffers.{stand-kept}
-use Rattle.bus.proofs.OwnSlots.{own_receive_slots_can_be_written}
+use Rattle.bus.proofs.WritableSlots.{drivers_receive_slots_can_be_written}
 use Rattle.driver_law.proofs.Owners.{one_owner-dealt}
 use Rattle.driver_law.proofs.Places.{place-add, place-below, places-differ}
 use Rattle.driver_law.proofs.Readiness.{Keeps, own-staged, ready-kept, stored-kept, with_staged}
 use Rattle.driver_law.proofs.Steps.{goes-passes, passes-same}
-use Rattle.driver_law.specs.DriverState.{DriverState, buffer_at, next_received, receive_slot, receive_tail}
-use Rattle.driver_law.specs.Goes.{GoesTo}
-use Rattle.driver_law.specs.Ready.{AreStored, IsDriver, ReadyWith, empty_descriptor}
+use Rattle.driver_law.specs.DriverState.{DriverState, buffer_at, next_receive, receive_slot, receive_tail}
+use Rattle.driver_law.specs.Stretches.{GoesTo}
+use Rattle.driver_law.specs.ReadyDrivers.{AreStored, IsDriver, ReadyWith, empty_descriptor}
 use Rattle.driver_law.specs.ReceiveSteps.{SlotsCanBeStaged}
 
 -- It keeps what the driver rests on.
 keeps-store : {up : Bool} (d : DriverState) (a : World) (address : ℕ) (bytes : List ℕ) → ReadyWith up d a
     → LiesIn a.memory address (length bytes)
-    → IsOwn d.oldest_received d.oldest_sent a (area_at address (length bytes))
-    → Keeps d.oldest_received d.oldest_sent a (world_after_store address bytes a)
+    → IsDriversArea d.oldest_receive d.oldest_transmit a (area_at address (length bytes))
+    → Keeps d.oldest_receive d.oldest_transmit a (world_after_store address bytes a)
 keeps-store {up} d a address bytes ready lies own =
-    let o = d.oldest_received in
-    let p = d.oldest_sent in
-    let leaves = own_stores_leave_frames o p a address bytes ready.sound lies own in
+    let o = d.oldest_receive in
+    let p = d.oldest_transmit in
+    let leaves = drivers_stores_leave_frames o p a address bytes ready.sound lies own in
     let memory' = with_bytes a.memory address bytes in
     let area = area_at address (length bytes) in
     let changes = changes_only_stored a.memory bytes address lies in
@@ -70,17 +70,17 @@ keeps-store {up} d a address bytes ready lies own =
 -- A store to memory of its own that is no receive buffer.
 pub goes-stores : {up : Bool} (d : DriverState) (staged pool : List ℕ) (a : World) (address : ℕ) (bytes : List ℕ) → ReadyWith up d a
     → LiesIn a.memory address (length bytes)
-    → IsOwn d.oldest_received d.oldest_sent a (area_at address (length bytes)) → IsDriver (with_staged d staged pool)
+    → IsDriversArea d.oldest_receive d.oldest_transmit a (area_at address (length bytes)) → IsDriver (with_staged d staged pool)
     → AreStored (with_bytes a.memory address bytes) d.counts (receive_tail d) staged
     → ((number : ℕ) → number < d.counts.buffers → AreApart (area_at address (length bytes)) (area_of d.counts (ReceiveBuffer number)))
     → GoesTo up d a (with_staged d staged pool) (world_after_store address bytes a) [] [] nothing
 goes-stores {up} d staged pool a address bytes ready lies own driver stored away =
     let b = world_after_store address bytes a in
-    let leaves = own_stores_leave_frames d.oldest_received d.oldest_sent a address bytes ready.sound lies own in
+    let leaves = drivers_stores_leave_frames d.oldest_receive d.oldest_transmit a address bytes ready.sound lies own in
     let changes = changes_only_stored a.memory bytes address lies in
     let stand = stand-kept d a b ready (λ number known free. changes.others (area_of d.counts (ReceiveBuffer number)) (away number known))
     in
-    goes-passes d d.buffers staged pool d.handed_out a b nothing (passes-same d.oldest_received d.oldest_sent a b leaves.same refl refl)
+    goes-passes d d.buffers staged pool d.handed_out a b nothing (passes-same d.oldest_receive d.oldest_transmit a b leaves.same refl refl)
     (ready-kept d staged pool a b ready (keeps-store d a address bytes ready lies own) driver stored stand)
 
 -- A descriptor that names a buffer, and is else 0.
@@ -142,31 +142,31 @@ slots_can_be_staged up d m pool a ready room known moves =
     let n = d.counts.rx in
     let i = length d.buffers in
     let j = length d.staged in
-    let first = d.oldest_received in
-    let slot = receive_slot (next_received d) in
+    let first = d.oldest_receive in
+    let slot = receive_slot (next_receive d) in
     let bytes = empty_descriptor (buffer_at d.counts m) in
     let memory' = with_bytes a.memory slot bytes in
     let staged' = d.staged ++ m ∷ [] in
     let long = length-empty_descriptor (buffer_at d.counts m) in
-    let walked : place n (receive_tail d) j ≡ next_received d = sym (place-add n first i j) in
+    let walked : place n (receive_tail d) j ≡ next_receive d = sym (place-add n first i j) in
     let at : address_of (receive_ring a) (place n (receive_tail d) j)
     ≡ slot = omega (arith, ready.receive.begins, ap (λ (index : ℕ). 16 * index) walked) in
-    let own : CanBeWritten first d.oldest_sent a slot = subst (CanBeWritten first d.oldest_sent a) at
-    (own_receive_slots_can_be_written first d.oldest_sent _ a ready.sound (own-staged d a j ready (omega (arith, room)))) in
+    let own : CanBeWritten first d.oldest_transmit a slot = subst (CanBeWritten first d.oldest_transmit a) at
+    (drivers_receive_slots_can_be_written first d.oldest_transmit _ a ready.sound (own-staged d a j ready (omega (arith, room)))) in
     let lies : LiesIn a.memory slot (length bytes) = subst (λ (size : ℕ). LiesIn a.memory slot size) (sym long) own.lies in
-    let mine : IsOwn first d.oldest_sent a (area_at slot (length bytes)) = subst
-    (λ (size : ℕ). IsOwn first d.oldest_sent a (area_at slot size)) (sym long) own.own in
+    let mine : IsDriversArea first d.oldest_transmit a (area_at slot (length bytes)) = subst
+    (λ (size : ℕ). IsDriversArea first d.oldest_transmit a (area_at slot size)) (sym long) own.own in
     let others : (k : ℕ) → k < j
     → bytes_at memory' (receive_slot (place n (receive_tail d) k)) 16
     ≡ bytes_at a.memory (receive_slot (place n (receive_tail d) k)) 16 = λ k before.
     bytes_at-elsewhere a.memory bytes slot (receive_slot (place n (receive_tail d) k)) 16 lies
-    (slots-apart (next_received d) (place n (receive_tail d) k) (length bytes) long
+    (slots-apart (next_receive d) (place n (receive_tail d) k) (length bytes) long
     (λ equal. places-differ n first (i + k) (i + j) ready.driver_is.oldest_slot (omega (arith, before)) (omega (arith, room))
     (place-add n first i k ∙ equal))) in
     let here : bytes_at memory' (receive_slot (place n (receive_tail d) j)) 16 ≡ bytes =
     ap (λ (index : ℕ). bytes_at memory' (receive_slot index) 16) walked
     ∙ subst (λ (size : ℕ). bytes_at memory' slot size ≡ bytes) long (bytes_at-stored a.memory bytes slot lies) in
-    let below : next_received d < n = place-below n first (i + j) ready.driver_is.oldest_slot in
+    let below : next_receive d < n = place-below n first (i + j) ready.driver_is.oldest_slot in
     goes-stores d staged' pool a slot bytes ready lies mine
     (record {
       oldest_slot = ready.driver_is.oldest_slot;

@@ -9,10 +9,10 @@ use Rattle.adapter.specs.Slots.{finished}
 use Rattle.adapter.specs.World.{World}
 use Rattle.bus.proofs.Links.{link_stretches_join}
 use Rattle.bus.proofs.Settings.{settings_join, while_off-joins}
-use Rattle.bus.specs.Past.{Past, joined, nothing}
+use Rattle.bus.specs.PastOfStretch.{Past, joined, nothing}
 use Rattle.bus.specs.declared.event.Access.{Access}
 use Rattle.driver_law.specs.DriverState.{DriverState}
-use Rattle.driver_law.specs.Goes.{FlowsTo, GoesTo, HasNoForgottenWork, RanTo}
+use Rattle.driver_law.specs.Stretches.{FlowsTo, GoesTo, HasNoForgottenWork, RanTo}
 
 pub flows_join : {first_up up : Bool} (d1 d2 d3 : DriverState) (a b c : World) (t1 t2 g1 g2 : List (List ℕ)) (first later : Past)
     → FlowsTo first_up d1 a d2 b t1 g1 first → FlowsTo up d2 b d3 c t2 g2 later
@@ -27,11 +27,11 @@ flows_join d1 d2 d3 a b c t1 t2 g1 g2 first later one two = record {
       ∙ ap (λ (frames : List (List ℕ)). frames ++ g2) one.sends
       ∙ append_assoc (frames_to_send a) g1 g2;
   holds =
-      append_assoc t1 t2 (frames_held d3.oldest_received c)
+      append_assoc t1 t2 (frames_held d3.oldest_receive c)
       ∙ ap (λ (frames : List (List ℕ)). t1 ++ frames) two.holds
-      ∙ sym (append_assoc t1 (frames_held d2.oldest_received b) later.stored)
+      ∙ sym (append_assoc t1 (frames_held d2.oldest_receive b) later.stored)
       ∙ ap (λ (frames : List (List ℕ)). frames ++ later.stored) one.holds
-      ∙ append_assoc (frames_held d1.oldest_received a) first.stored later.stored;
+      ∙ append_assoc (frames_held d1.oldest_receive a) first.stored later.stored;
   least = omega (arith, one.least, two.least, length-append t1 t2);
   frees = omega (arith, one.frees, two.frees, length-append first.put later.put, length-append g1 g2);
   mask = two.mask ∙ one.mask;
@@ -41,10 +41,10 @@ flows_join d1 d2 d3 a b c t1 t2 g1 g2 first later one two = record {
       let behind = two.counted (omega (arith, before, one.sum, fits)) (omega (arith, before, low)) in
       omega (arith, before, behind);
   at_most = omega (arith, one.at_most, two.at_most);
-  exactly = λ exact loose.
-      let behind = two.exactly exact loose in
-      let before = one.exactly behind.exact behind.loose in
-      record { exact = before.exact; loose = before.loose; sum = omega (arith, before.sum, behind.sum) };
+  exactly = λ exact below_greatest.
+      let behind = two.exactly exact below_greatest in
+      let before = one.exactly behind.exact behind.below_greatest in
+      record { exact = before.exact; below_greatest = before.below_greatest; sum = omega (arith, before.sum, behind.sum) };
 }
 
 pub goes_join : {first_up up : Bool} (d1 d2 d3 : DriverState) (a b c : World) (t1 t2 g1 g2 : List (List ℕ)) (first later : Past)
@@ -55,9 +55,9 @@ goes_join d1 d2 d3 a b c t1 t2 g1 g2 first later one two = record {
   causes = λ place has. two.causes place (one.causes place has);
   told =
       ⊎_elim
-      (λ (same : length (finished d2.oldest_received b) ≡ length t2 + length (finished d3.oldest_received c)).
+      (λ (same : length (finished d2.oldest_receive b) ≡ length t2 + length (finished d3.oldest_receive c)).
       ⊎_elim
-      (λ (before : length (finished d1.oldest_received a) ≡ length t1 + length (finished d2.oldest_received b)). inl
+      (λ (before : length (finished d1.oldest_receive a) ≡ length t1 + length (finished d2.oldest_receive b)). inl
       (omega (arith, before, same, length-append t1 t2)))
       (λ (bit : HasBit b.adapter.causes.recorded 7). inr (two.causes 7 bit))
       one.told)
@@ -95,15 +95,15 @@ joined-nothing past =
     rw (append-nil, append-nil, append-nil, add-zero, add-zero, add-zero) same
 
 -- Where ICR isn't read no work is forgotten.
-pub work_kept : {up : Bool} (d d' : DriverState) (a b : World) (taken given : List (List ℕ)) (past : Past)
-    → GoesTo up d a d' b taken given past → HasNoForgottenWork d a → HasNoForgottenWork d' b
-work_kept d d' a b taken given past goes work = record {
-  unmasked = subst (λ (mask : ℕ). HasBit mask 7) (sym goes.flows.mask) work.unmasked;
+pub work_kept : {up : Bool} (d d' : DriverState) (a b : World) (taken accepted : List (List ℕ)) (past : Past)
+    → GoesTo up d a d' b taken accepted past → HasNoForgottenWork d a → HasNoForgottenWork d' b
+work_kept d d' a b taken accepted past goes work = record {
+  enabled = subst (λ (mask : ℕ). HasBit mask 7) (sym goes.flows.mask) work.enabled;
   asked =
       ⊎_elim
-      (λ (same : length (finished d.oldest_received a) ≡ length taken + length (finished d'.oldest_received b)).
+      (λ (same : length (finished d.oldest_receive a) ≡ length taken + length (finished d'.oldest_receive b)).
       ⊎_elim
-      (λ (none : finished d.oldest_received a ≡ []). inl (empty (finished d'.oldest_received b) (omega (arith, same, ap length none))))
+      (λ (none : finished d.oldest_receive a ≡ []). inl (empty (finished d'.oldest_receive b) (omega (arith, same, ap length none))))
       (λ (bit : HasBit a.adapter.causes.recorded 7). inr (goes.causes 7 bit))
       work.asked)
       (λ (bit : HasBit b.adapter.causes.recorded 7). inr bit)

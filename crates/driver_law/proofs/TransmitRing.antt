@@ -15,19 +15,19 @@ use Rattle.adapter.specs.Rings.{new_ring, ring_of}
 use Rattle.adapter.specs.Slots.{finished, is_done, outstanding}
 use Rattle.adapter.specs.World.{World, receive_ring, transmit_ring}
 use Rattle.adapter.specs.declared.ring.RingRegisters.{RingRegisters}
-use Rattle.bus.proofs.Idle.{offered-none, outstanding-none}
-use Rattle.bus.proofs.Initialising.{transmit_ring_can_be_set}
+use Rattle.bus.proofs.IdleRings.{offered-none, outstanding-none}
+use Rattle.bus.proofs.RegisterSetting.{transmit_ring_can_be_set}
 use Rattle.bus.proofs.Lists.{all-head, all-none, all-tail, all-unmapped, all-weaker, pairs-head, pairs-tail}
-use Rattle.bus.proofs.Spare.{spare-apart}
-use Rattle.bus.specs.Initialising.{TransmitRingSet, with_transmit_ring}
-use Rattle.bus.specs.Spare.{IsSpare}
+use Rattle.bus.proofs.SpareMemory.{spare-apart}
+use Rattle.bus.specs.RegisterSetting.{TransmitRingSet, with_transmit_ring}
+use Rattle.bus.specs.SpareMemory.{IsSpare}
 use Rattle.driver_law.specs.Beginnings.{TransmitRingIsWritten}
 use Rattle.driver_law.specs.DriverState.{DriverState, buffer_at}
-use Rattle.driver_law.specs.Ready.{ReadyWith}
+use Rattle.driver_law.specs.ReadyDrivers.{ReadyWith}
 use Rattle.driver_law.proofs.Buffers.{known-area}
 use Rattle.driver_law.proofs.Owners.{all-copies, outstanding-number}
 use Rattle.driver_law.proofs.Readiness.{none-to_send}
-use Rattle.driver_law.proofs.Rests.{goes-rests}
+use Rattle.driver_law.proofs.StepsWithoutFrames.{goes-rests}
 
 -- Areas.
 
@@ -52,7 +52,7 @@ separate-replaced memory first old area rest separate lies apart away =
 -- The receive buffers that outstanding slots name are apart from an area where the layout keeps them apart from it.
 pub outstanding-buffers : {up : Bool} (driver : DriverState) (world : World) (area : Area) → ReadyWith up driver world
     → ((number : ℕ) → number < driver.counts.buffers → AreApart (area_of driver.counts (ReceiveBuffer number)) area)
-    → All (λ slot. AreApart (buffer_of world slot) area) (outstanding (receive_ring world) driver.oldest_received)
+    → All (λ slot. AreApart (buffer_of world slot) area) (outstanding (receive_ring world) driver.oldest_receive)
 outstanding-buffers driver world area ready away =
     let counts = driver.counts in
     let Away : ℕ → Type 0 = λ address. AreApart (area_at address (buffer_size world)) area in
@@ -60,13 +60,13 @@ outstanding-buffers driver world area ready away =
     (all-copies (λ number. Away (buffer_at counts number)) driver.buffers (λ number some.
     subst (λ (size : ℕ). AreApart (area_at (buffer_at counts number) size) area) (sym ready.size)
     (away number (outstanding-number driver number ready.driver_is some)))) in
-    all-unmapped Away (named_address world.memory) (outstanding (receive_ring world) driver.oldest_received)
+    all-unmapped Away (named_address world.memory) (outstanding (receive_ring world) driver.oldest_receive)
     (subst (λ (list : List ℕ). All Away list) (sym ready.names) each)
 
 -- A transmit side that is off.
 
 pub none-outstanding : (driver : DriverState) (world : World) → ReadyWith false driver world
-    → outstanding (transmit_ring world) driver.oldest_sent ≡ []
+    → outstanding (transmit_ring world) driver.oldest_transmit ≡ []
 none-outstanding driver world ready = subst (λ (oldest : ℕ). outstanding (transmit_ring world) oldest ≡ []) ready.transmit.last
     (outstanding-none (transmit_ring world))
 
@@ -85,24 +85,24 @@ areas-idle oldest world idle = ap (λ (slots : List ℕ). map (data_of world.mem
 ring-set : (driver : DriverState) (ring : RingRegisters) (world : World) → ReadyWith false driver world → ring.head ≡ ring.tail
     → LiesIn world.memory (ring_area (ring_of ring)).address (ring_area (ring_of ring)).size
     → AreApart (ring_area (receive_ring world)) (ring_area (ring_of ring))
-    → All (AreApart (ring_area (ring_of ring))) (received_areas driver.oldest_received world)
-    → TransmitRingSet driver.oldest_received world (with_transmit_ring ring world)
+    → All (AreApart (ring_area (ring_of ring))) (received_areas driver.oldest_receive world)
+    → TransmitRingSet driver.oldest_receive world (with_transmit_ring ring world)
 ring-set driver ring world ready idle lies apart away =
-    let o = driver.oldest_received in
+    let o = driver.oldest_receive in
     let r = ring_area (receive_ring world) in
     let before = subst (λ (list : List Area). AreSeparate world.memory (r ∷ ring_area (transmit_ring world) ∷ list))
     (areas-idle o world ready.transmit.idle) ready.sound.separate in
     let after = separate-replaced world.memory r (ring_area (transmit_ring world)) (ring_area (ring_of ring))
     (received_areas o world) before lies apart away in
-    transmit_ring_can_be_set o driver.oldest_sent ring world ready.sound ready.transmit.empty idle
+    transmit_ring_can_be_set o driver.oldest_transmit ring world ready.sound ready.transmit.empty idle
     (subst (λ (list : List Area). AreSeparate world.memory (r ∷ ring_area (ring_of ring) ∷ list))
     (sym (areas-idle o (with_transmit_ring ring world) idle)) after)
 
 -- The place of the transmit ring is apart from all that is received: this is seen where the ring itself has no slots, as after a reset.
 pub place-away : (driver : DriverState) (world : World) → ReadyWith false driver world
-    → All (λ other. AreApart other (area_of driver.counts TransmitRing)) (received_areas driver.oldest_received world)
+    → All (λ other. AreApart other (area_of driver.counts TransmitRing)) (received_areas driver.oldest_receive world)
 place-away driver world ready =
-    let o = driver.oldest_received in
+    let o = driver.oldest_receive in
     let area = area_of driver.counts TransmitRing in
     let bare = with_transmit_ring new_ring world in
     let set = ring-set driver new_ring world ready refl (omega arith) (inr (omega arith)) (λ k d below. inl (omega arith)) in
@@ -124,7 +124,7 @@ place-away driver world ready =
 pub transmit_ring_is_written : TransmitRingIsWritten
 transmit_ring_is_written driver ring world ready idle inside =
     let counts = driver.counts in
-    let o = driver.oldest_received in
+    let o = driver.oldest_receive in
     let b = with_transmit_ring ring world in
     let place = area_of counts TransmitRing in
     let area = ring_area (ring_of ring) in
@@ -135,7 +135,7 @@ transmit_ring_is_written driver ring world ready idle inside =
     (λ other apart. apart-inside area place other inside (apart-sym other place apart)) (place-away driver world ready) in
     let set = ring-set driver ring world ready idle (lies-inside world.memory area place inside (omega (arith, ends, ready.lies)))
     (inside-apart (ring_area (receive_ring world)) area place inside received) away in
-    goes-rests driver world (record driver { oldest_sent = ring.tail }) b
+    goes-rests driver world (record driver { oldest_transmit = ring.tail }) b
     (record {
       driver_is = record {
         oldest_slot = ready.driver_is.oldest_slot;

@@ -17,19 +17,21 @@ use Rattle.adapter.specs.World.{World, transmit_ring, world_after_store, world_a
 use Rattle.bus.proofs.Lists.{all-none}
 use Rattle.bus.proofs.KnownRings.{transmit_tail-written}
 use Rattle.bus.specs.Law.{Acts, Happens}
-use Rattle.bus.specs.Past.{Past, joined, nothing}
+use Rattle.bus.specs.PastOfStretch.{Past, joined, nothing}
 use Rattle.bus.specs.declared.event.Access.TheVariants.{Loads, Stores, Writes}
 use Rattle.driver_law.specs.DriverState.{DriverState, transmit_slot, transmit_tail}
-use Rattle.driver_law.specs.Goes.{Goes, RanBy}
-use Rattle.driver_law.specs.Ready.{Ready}
-use Rattle.driver_law.specs.Transmit.{FrameStands, IsQuiet, SendsEndWithTail, TailIsMoved, tail_buffer, tail_slot, transmit_loads}
-use Rattle.driver_law.specs.Transmit.{send_accesses, transmit_buffer, whole_descriptor, with_freed}
+use Rattle.driver_law.specs.Stretches.{Goes, RanBy}
+use Rattle.driver_law.specs.ReadyDrivers.{Ready}
+use Rattle.driver_law.specs.TransmitSteps.{FrameStands, IsLoadOrStore, SendsEndWithTail, TailIsMoved, tail_buffer, tail_slot}
+use Rattle.driver_law.specs.TransmitSteps.{transmit_loads}
+use Rattle.driver_law.specs.TransmitSteps.{send_accesses, transmit_buffer, whole_descriptor, with_freed}
 use Rattle.driver_law.proofs.Accesses.{load-sets, ran_by-join, store-sets, write-sets}
 use Rattle.driver_law.proofs.Buffers.{front-same}
-use Rattle.driver_law.proofs.FramesToSend.{frame_is_offered, length-whole, none_is_written_back, slot_is_freed}
+use Rattle.driver_law.proofs.OfferedAndFreedSlots.{frame_is_offered, length-whole, none_is_written_back, slot_is_freed}
 use Rattle.driver_law.proofs.RunsWith.{RanWith, run-with}
 use Rattle.driver_law.proofs.Steps.{goes-stays}
-use Rattle.driver_law.proofs.TransmitSlots.{data_is_stored, descriptor_is_stored, next_slot_is_own, own-buffer, own-descriptor}
+use Rattle.driver_law.proofs.TransmitSlots.{data_is_stored, descriptor_is_stored, next_slot_belongs_to_driver, drivers-buffer}
+use Rattle.driver_law.proofs.TransmitSlots.{own-descriptor}
 use Rattle.driver_law.proofs.TransmitSlots.{slots_keep_bytes}
 
 -- A frame is sent.
@@ -40,14 +42,14 @@ HasBytes d frame world = bytes_at world.memory (transmit_buffer d.counts (transm
 bytes-stay : (d : DriverState) (frame : List ℕ) → length frame ≤ 1518 → (a b : World) (past : Past) → Ready d a → Happens a b past
     → HasBytes d frame a → HasBytes d frame b
 bytes-stay d frame short a b past ready happens has =
-    let same = slots_keep_bytes d (transmit_tail d) a b past ready (next_slot_is_own d a ready) happens in
+    let same = slots_keep_bytes d (transmit_tail d) a b past ready (next_slot_belongs_to_driver d a ready) happens in
     front-same a.memory b.memory (transmit_buffer d.counts (transmit_tail d)) (length frame) 2048 (omega (arith, short)) same.data_same
     ∙ has
 
 stands-stay : (d : DriverState) (frame : List ℕ) → length frame ≤ 1518 → (a b : World) (past : Past) → Ready d a → Happens a b past
     → FrameStands d frame a → FrameStands d frame b
 stands-stay d frame short a b past ready happens stands =
-    let same = slots_keep_bytes d (transmit_tail d) a b past ready (next_slot_is_own d a ready) happens in
+    let same = slots_keep_bytes d (transmit_tail d) a b past ready (next_slot_belongs_to_driver d a ready) happens in
     record { bytes = bytes-stay d frame short a b past ready happens stands.bytes; descriptor = same.descriptor_same ∙ stands.descriptor }
 
 -- The descriptor's store leaves the frame's bytes.
@@ -63,8 +65,8 @@ stands-stored d frame world ready short has =
     let bytes = whole_descriptor start (length frame) in
     let b = world_after_store at bytes world in
     let long = length-whole start (length frame) in
-    let own = next_slot_is_own d world ready in
-    let below = (own-buffer d slot world ready own).below in
+    let own = next_slot_belongs_to_driver d world ready in
+    let below = (drivers-buffer d slot world ready own).below in
     let lies : LiesIn world.memory at (length bytes) = subst (LiesIn world.memory at) (sym long)
     (own-descriptor d slot world ready own).lies in
     let in_ring : IsInside (area_at at (length bytes)) (area_of counts TransmitRing) = record
@@ -84,7 +86,7 @@ pub tail_is_moved : TailIsMoved
 tail_is_moved d world ready =
     let ring = world.adapter.transmit_ring in
     let up = ready.transmit in
-    let below = (own-buffer d (transmit_tail d) world ready (next_slot_is_own d world ready)).below in
+    let below = (drivers-buffer d (transmit_tail d) world ready (next_slot_belongs_to_driver d world ready)).below in
     let next : (transmit_tail d + 1) % d.counts.tx
     ≡ next_of (transmit_ring world) ring.tail = ap (λ (tail : ℕ). (tail + 1) % d.counts.tx) (sym up.knows.last)
     ∙ ap (λ (count : ℕ). (ring.tail + 1) % count) (sym up.knows.slots) in
@@ -125,8 +127,9 @@ run-sends {B} world happened lively joins old one two new d frame room least sho
     (λ before after. after ≡ world_after_store start frame before) d d [] [] (λ world. Unit {0}) (HasBytes d frame) first
     (store-sets start frame (world one)) ready tt (λ a b past set happens u. tt)
     (λ middle set u stored.
-    let own = next_slot_is_own d middle set in
-    let lies : LiesIn middle.memory start (length frame) = omega (arith, (own-buffer d (transmit_tail d) middle set own).lies, short) in (
+    let own = next_slot_belongs_to_driver d middle set in
+    let lies : LiesIn middle.memory start (length frame) =
+    omega (arith, (drivers-buffer d (transmit_tail d) middle set own).lies, short) in (
       subst (λ (after : World). Goes d middle d after [] [] nothing) (sym stored)
           (data_is_stored d (transmit_tail d) frame middle set own (omega (arith, short))),
       subst (HasBytes d frame) (sym stored) (bytes_at-stored middle.memory frame start lies),
@@ -137,7 +140,7 @@ run-sends {B} world happened lively joins old one two new d frame room least sho
     (store-sets at descriptor (world two)) stored_data.ran.goes.flows.ready stored_data.behind (bytes-stay d frame short)
     (λ middle set has stored. (
       subst (λ (after : World). Goes d middle d after [] [] nothing) (sym stored)
-          (descriptor_is_stored d (transmit_tail d) descriptor middle set (next_slot_is_own d middle set)
+          (descriptor_is_stored d (transmit_tail d) descriptor middle set (next_slot_belongs_to_driver d middle set)
           (length-whole start (length frame))),
       subst (FrameStands d frame) (sym stored) (stands-stored d frame middle set short has),
     )) in
@@ -161,23 +164,23 @@ run-sends {B} world happened lively joins old one two new d frame room least sho
 abbrev pub LoadsOldest : {B : Type 0} (world : B → World) (happened : B → B → Past → Type 0) (lively : B
     → Type 0) (old new : B) (d : DriverState) (bytes : List ℕ) → Type 0
 LoadsOldest world happened lively old new d bytes =
-    Acts world happened lively old new (Loads (transmit_slot d.counts d.oldest_sent) 16)
-    (λ before after. (bytes ≡ bytes_at before.memory (transmit_slot d.counts d.oldest_sent) 16) × (after ≡ before))
+    Acts world happened lively old new (Loads (transmit_slot d.counts d.oldest_transmit) 16)
+    (λ before after. (bytes ≡ bytes_at before.memory (transmit_slot d.counts d.oldest_transmit) 16) × (after ≡ before))
 
 -- It is done: the slot is freed.
 pub run-frees : {B : Type 0} (world : B → World) (happened : B → B → Past → Type 0) (lively : B
     → Type 0) (old new : B) (d : DriverState) (bytes : List ℕ) → 0 < d.sending → is_set (slice_index bytes 12) 0 ≡ true
     → LoadsOldest world happened lively old new d bytes → Ready d (world old)
-    → RanBy true world happened (Loads (transmit_slot d.counts d.oldest_sent) 16 ∷ []) old new d (with_freed d) [] []
+    → RanBy true world happened (Loads (transmit_slot d.counts d.oldest_transmit) 16 ∷ []) old new d (with_freed d) [] []
 run-frees world happened lively old new d bytes some done acts ready =
-    (run-with world happened lively old new (Loads (transmit_slot d.counts d.oldest_sent) 16)
-    (λ before after. (bytes ≡ bytes_at before.memory (transmit_slot d.counts d.oldest_sent) 16)
+    (run-with world happened lively old new (Loads (transmit_slot d.counts d.oldest_transmit) 16)
+    (λ before after. (bytes ≡ bytes_at before.memory (transmit_slot d.counts d.oldest_transmit) 16)
     × (after ≡ before)) d (with_freed d) [] [] (λ world. Unit {0}) (λ world. Unit {0}) acts
-    (load-sets (transmit_slot d.counts d.oldest_sent) 16
-    (λ before. bytes ≡ bytes_at before.memory (transmit_slot d.counts d.oldest_sent) 16) (world new)) ready tt
+    (load-sets (transmit_slot d.counts d.oldest_transmit) 16
+    (λ before. bytes ≡ bytes_at before.memory (transmit_slot d.counts d.oldest_transmit) 16) (world new)) ready tt
     (λ a b past set happens u. tt)
     (λ middle set u loaded.
-    let is : is_done middle.memory (transmit_slot d.counts d.oldest_sent)
+    let is : is_done middle.memory (transmit_slot d.counts d.oldest_transmit)
     ≡ true = ap (λ (list : List ℕ). is_set (slice_index list 12) 0) (sym loaded.0) ∙ done in (
       subst (λ (after : World). Goes d middle (with_freed d) after [] [] nothing) (sym loaded.1)
           (slot_is_freed d middle set some is),
@@ -188,36 +191,37 @@ run-frees world happened lively old new d bytes some done acts ready =
 pub run-waits : {B : Type 0} (world : B → World) (happened : B → B → Past → Type 0) (lively : B
     → Type 0) (old new : B) (d : DriverState) (bytes : List ℕ) → is_set (slice_index bytes 12) 0 ≡ false
     → LoadsOldest world happened lively old new d bytes → Ready d (world old)
-    → RanWith true world happened (Loads (transmit_slot d.counts d.oldest_sent) 16 ∷ []) old new d d [] []
-    (λ world. written_back d.oldest_sent world ≡ [])
+    → RanWith true world happened (Loads (transmit_slot d.counts d.oldest_transmit) 16 ∷ []) old new d d [] []
+    (λ world. written_back d.oldest_transmit world ≡ [])
 run-waits world happened lively old new d bytes clear acts ready =
-    run-with world happened lively old new (Loads (transmit_slot d.counts d.oldest_sent) 16)
-    (λ before after. (bytes ≡ bytes_at before.memory (transmit_slot d.counts d.oldest_sent) 16)
-    × (after ≡ before)) d d [] [] (λ world. Unit {0}) (λ world. written_back d.oldest_sent world ≡ []) acts
-    (load-sets (transmit_slot d.counts d.oldest_sent) 16
-    (λ before. bytes ≡ bytes_at before.memory (transmit_slot d.counts d.oldest_sent) 16) (world new)) ready tt
+    run-with world happened lively old new (Loads (transmit_slot d.counts d.oldest_transmit) 16)
+    (λ before after. (bytes ≡ bytes_at before.memory (transmit_slot d.counts d.oldest_transmit) 16)
+    × (after ≡ before)) d d [] [] (λ world. Unit {0}) (λ world. written_back d.oldest_transmit world ≡ []) acts
+    (load-sets (transmit_slot d.counts d.oldest_transmit) 16
+    (λ before. bytes ≡ bytes_at before.memory (transmit_slot d.counts d.oldest_transmit) 16) (world new)) ready tt
     (λ a b past set happens u. tt)
     (λ middle set u loaded.
-    let is : is_done middle.memory (transmit_slot d.counts d.oldest_sent)
+    let is : is_done middle.memory (transmit_slot d.counts d.oldest_transmit)
     ≡ false = ap (λ (list : List ℕ). is_set (slice_index list 12) 0) (sym loaded.0) ∙ clear in (
       subst (λ (after : World). Goes d middle d after [] [] nothing) (sym loaded.1) (goes-stays d middle set),
-      subst (λ (after : World). written_back d.oldest_sent after ≡ []) (sym loaded.1) (none_is_written_back d middle set (inr is)),
+      subst (λ (after : World). written_back d.oldest_transmit after ≡ []) (sym loaded.1) (none_is_written_back d middle set (inr is)),
     ))
 
 -- The accesses.
 
 pub sends_end_with_tail : SendsEndWithTail
 sends_end_with_tail d frame k =
-    let loads = transmit_loads d.counts d.oldest_sent k in
+    let loads = transmit_loads d.counts d.oldest_transmit k in
     let data_store = Stores (tail_buffer d) frame in
     let descriptor_store = Stores (tail_slot d) (whole_descriptor (tail_buffer d) (length frame)) in
     let stores = data_store ∷ descriptor_store ∷ [] in
     record {
       quiet = loads ++ stores;
       all =
-          All-append IsQuiet loads stores
-          (All-map IsQuiet (λ slot. Loads (transmit_slot d.counts slot) 16) (slots_from d.counts.tx d.oldest_sent k)
+          All-append IsLoadOrStore loads stores
+          (All-map IsLoadOrStore (λ slot. Loads (transmit_slot d.counts slot) 16) (slots_from d.counts.tx d.oldest_transmit k)
           (λ i index below. tt))
-          (All-cons IsQuiet data_store (descriptor_store ∷ []) tt (All-cons IsQuiet descriptor_store [] tt (all-none IsQuiet)));
+          (All-cons IsLoadOrStore data_store (descriptor_store ∷ []) tt
+          (All-cons IsLoadOrStore descriptor_store [] tt (all-none IsLoadOrStore)));
       whole = sym (append_assoc loads stores (Writes 0x3818 ((transmit_tail d + 1) % d.counts.tx) ∷ []));
     }

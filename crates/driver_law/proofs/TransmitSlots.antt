@@ -15,54 +15,56 @@ use Rattle.adapter.specs.Slots.{outstanding}
 use Rattle.adapter.specs.World.{World, receive_ring, transmit_ring}
 use Rattle.bus.proofs.Lists.{all-head, all-tail, all-unmapped}
 use Rattle.bus.proofs.Rings.{outstanding-inside, slots-below}
-use Rattle.bus.proofs.Spare.{spare-apart, spare-foreign}
-use Rattle.bus.specs.OwnSlots.{CanBeWritten}
-use Rattle.bus.specs.Own.{IsOwnSlot}
-use Rattle.bus.specs.OwnStores.{IsOwn}
-use Rattle.bus.specs.Spare.{IsSpare}
+use Rattle.bus.proofs.SpareMemory.{spare-apart, spare-foreign}
+use Rattle.bus.specs.WritableSlots.{CanBeWritten}
+use Rattle.bus.specs.DriversSlots.{IsDriversSlot}
+use Rattle.bus.specs.DriversStores.{IsDriversArea}
+use Rattle.bus.specs.SpareMemory.{IsSpare}
 use Rattle.driver_law.specs.DriverState.{DriverState, receive_slot, receive_tail, transmit_slot}
-use Rattle.driver_law.specs.Ready.{AreStored, Ready, ReadyWith}
-use Rattle.driver_law.specs.Transmit.{DataIsStored, DescriptorIsStored, NextSlotIsOwn, SlotsKeepBytes, transmit_buffer}
+use Rattle.driver_law.specs.ReadyDrivers.{AreStored, Ready, ReadyWith}
+use Rattle.driver_law.specs.TransmitSteps.{DataIsStored, DescriptorIsStored, NextSlotBelongsToDriver, SlotsKeepBytes, transmit_buffer}
 use Rattle.driver_law.proofs.Buffers.{known-area}
-use Rattle.bus.proofs.OwnSlots.{own_transmit_slots_can_be_written}
+use Rattle.bus.proofs.WritableSlots.{drivers_transmit_slots_can_be_written}
 use Rattle.driver_law.proofs.Places.{outstanding-known, own-behind, place-below}
 use Rattle.driver_law.proofs.Readiness.{stored-kept}
 use Rattle.driver_law.proofs.Stores.{goes-stores}
 use Rattle.driver_law.proofs.TransmitRing.{outstanding-buffers}
 
-pub next_slot_is_own : NextSlotIsOwn
-next_slot_is_own driver world ready =
+pub next_slot_belongs_to_driver : NextSlotBelongsToDriver
+next_slot_belongs_to_driver driver world ready =
     let up = ready.transmit in
-    own-behind (transmit_ring world) (16 * driver.counts.rx) driver.counts.tx driver.oldest_sent driver.sending 0 up.knows up.oldest_slot
+    own-behind (transmit_ring world)
+    (16 * driver.counts.rx) driver.counts.tx driver.oldest_transmit driver.sending 0 up.knows up.oldest_slot
     (omega (arith, up.room))
 
 -- Its descriptor.
 
 pub own-descriptor : (driver : DriverState) (slot : ℕ) (world : World) → Ready driver world
-    → IsOwnSlot (transmit_ring world) driver.oldest_sent slot
-    → CanBeWritten driver.oldest_received driver.oldest_sent world (transmit_slot driver.counts slot)
+    → IsDriversSlot (transmit_ring world) driver.oldest_transmit slot
+    → CanBeWritten driver.oldest_receive driver.oldest_transmit world (transmit_slot driver.counts slot)
 own-descriptor driver slot world ready own =
     let at : address_of (transmit_ring world) slot ≡ transmit_slot driver.counts slot = omega (arith, ready.transmit.knows.begins) in
-    subst (CanBeWritten driver.oldest_received driver.oldest_sent world) at
-    (own_transmit_slots_can_be_written driver.oldest_received driver.oldest_sent slot world ready.sound own)
+    subst (CanBeWritten driver.oldest_receive driver.oldest_transmit world) at
+    (drivers_transmit_slots_can_be_written driver.oldest_receive driver.oldest_transmit slot world ready.sound own)
 
 -- Its buffer.
 
 below-count : (driver : DriverState) (slot : ℕ) (world : World) → Ready driver world
-    → IsOwnSlot (transmit_ring world) driver.oldest_sent slot → slot < driver.counts.tx
+    → IsDriversSlot (transmit_ring world) driver.oldest_transmit slot → slot < driver.counts.tx
 below-count driver slot world ready own = omega (arith, own.below, ready.transmit.knows.slots)
 
 -- It is apart from the data of each outstanding slot,
 sources-apart : (driver : DriverState) (slot : ℕ) (world : World) → Ready driver world
-    → IsOwnSlot (transmit_ring world) driver.oldest_sent slot
+    → IsDriversSlot (transmit_ring world) driver.oldest_transmit slot
     → All (λ other. AreApart (data_of world.memory other) (area_of driver.counts (TransmitBuffer slot)))
-    (outstanding (transmit_ring world) driver.oldest_sent)
+    (outstanding (transmit_ring world) driver.oldest_transmit)
 sources-apart driver slot world ready own =
     let counts = driver.counts in
     let up = ready.transmit in
     let area = area_of counts (TransmitBuffer slot) in
-    let slots = slots_from counts.tx driver.oldest_sent driver.sending in
-    let known = outstanding-known (transmit_ring world) (16 * counts.rx) counts.tx driver.oldest_sent driver.sending up.knows up.oldest_slot
+    let slots = slots_from counts.tx driver.oldest_transmit driver.sending in
+    let known =
+    outstanding-known (transmit_ring world) (16 * counts.rx) counts.tx driver.oldest_transmit driver.sending up.knows up.oldest_slot
     up.room in
     let Other : ℕ → Type 0 = λ address. address ≢ address_of (transmit_ring world) slot in
     let others : All (λ index. Other (transmit_slot counts index)) slots = all-unmapped Other (transmit_slot counts) slots
@@ -73,7 +75,7 @@ sources-apart driver slot world ready own =
     let other = get_or slots k index in
     apart-inside (data_of world.memory (transmit_slot counts other)) (area_of counts (TransmitBuffer other)) area (up.sources k index below)
     (places-apart counts (TransmitBuffer other) (TransmitBuffer slot)
-    (slots-below counts.tx driver.oldest_sent driver.sending up.oldest_slot k index below) (below-count driver slot world ready own)
+    (slots-below counts.tx driver.oldest_transmit driver.sending up.oldest_slot k index below) (below-count driver slot world ready own)
     (λ same. others k index below (omega (arith, up.knows.begins, number other slot same))))))
   where
     number : (a b : ℕ) → TransmitBuffer a ≡ TransmitBuffer b → a ≡ b
@@ -81,8 +83,8 @@ sources-apart driver slot world ready own =
 
 -- so no outstanding slot uses it.
 buffer-spare : (driver : DriverState) (slot : ℕ) (world : World) → Ready driver world
-    → IsOwnSlot (transmit_ring world) driver.oldest_sent slot
-    → IsSpare driver.oldest_received driver.oldest_sent world (area_of driver.counts (TransmitBuffer slot))
+    → IsDriversSlot (transmit_ring world) driver.oldest_transmit slot
+    → IsSpare driver.oldest_receive driver.oldest_transmit world (area_of driver.counts (TransmitBuffer slot))
 buffer-spare driver slot world ready own =
     let counts = driver.counts in
     let area = area_of counts (TransmitBuffer slot) in
@@ -99,17 +101,17 @@ buffer-spare driver slot world ready own =
     }
 
 -- It lies in memory, a store to its first bytes leaves what the law speaks of, and the adapter doesn't write it.
-pub record OwnBuffer (driver : DriverState) (slot : ℕ) (world : World) : Type 0 where
+pub record DriversBuffer (driver : DriverState) (slot : ℕ) (world : World) : Type 0 where
   pub below : slot < driver.counts.tx
   pub lies : LiesIn world.memory (transmit_buffer driver.counts slot) 2048
-  pub apart : All (λ other. AreApart other (area_of driver.counts (TransmitBuffer slot))) (areas driver.oldest_received world)
+  pub apart : All (λ other. AreApart other (area_of driver.counts (TransmitBuffer slot))) (areas driver.oldest_receive world)
   pub foreign : IsForeign world (area_of driver.counts (TransmitBuffer slot))
 
-pub own-buffer : (driver : DriverState) (slot : ℕ) (world : World) → Ready driver world
-    → IsOwnSlot (transmit_ring world) driver.oldest_sent slot → OwnBuffer driver slot world
-own-buffer driver slot world ready own =
-    let o = driver.oldest_received in
-    let p = driver.oldest_sent in
+pub drivers-buffer : (driver : DriverState) (slot : ℕ) (world : World) → Ready driver world
+    → IsDriversSlot (transmit_ring world) driver.oldest_transmit slot → DriversBuffer driver slot world
+drivers-buffer driver slot world ready own =
+    let o = driver.oldest_receive in
+    let p = driver.oldest_transmit in
     let area = area_of driver.counts (TransmitBuffer slot) in
     let below = below-count driver slot world ready own in
     let spare = buffer-spare driver slot world ready own in
@@ -121,11 +123,11 @@ own-buffer driver slot world ready own =
       foreign = spare-foreign o p world area ready.sound ready.fit spare;
     }
 
-buffer-own : (driver : DriverState) (slot size : ℕ) (world : World) → Ready driver world → OwnBuffer driver slot world → size ≤ 2048
-    → IsOwn driver.oldest_received driver.oldest_sent world (area_at (transmit_buffer driver.counts slot) size)
+buffer-own : (driver : DriverState) (slot size : ℕ) (world : World) → Ready driver world → DriversBuffer driver slot world → size ≤ 2048
+    → IsDriversArea driver.oldest_receive driver.oldest_transmit world (area_at (transmit_buffer driver.counts slot) size)
 buffer-own driver slot size world ready buffer short =
-    let o = driver.oldest_received in
-    let p = driver.oldest_sent in
+    let o = driver.oldest_receive in
+    let p = driver.oldest_transmit in
     let whole = area_of driver.counts (TransmitBuffer slot) in
     let area = area_at (transmit_buffer driver.counts slot) size in
     let inside : IsInside area whole = record { from = omega arith; to = omega (arith, short) } in
@@ -154,7 +156,7 @@ stored-elsewhere d a address bytes ready lies apart =
     stored-kept a.memory (with_bytes a.memory address bytes) d.counts (receive_tail d) d.staged
     (λ i below.
     let index = place-below d.counts.rx (receive_tail d) i
-    (place-below d.counts.rx d.oldest_received (length d.buffers) ready.driver_is.oldest_slot) in
+    (place-below d.counts.rx d.oldest_receive (length d.buffers) ready.driver_is.oldest_slot) in
     let slot = receive_slot (place d.counts.rx (receive_tail d) i) in
     let inside : IsInside (area_at slot 16) (area_of d.counts ReceiveRing) = record { from = omega arith; to = omega (arith, index) } in
     bytes_at-elsewhere a.memory bytes address slot 16 lies
@@ -165,7 +167,7 @@ stored-elsewhere d a address bytes ready lies apart =
 pub data_is_stored : DataIsStored
 data_is_stored driver slot bytes world ready own short =
     let counts = driver.counts in
-    let buffer = own-buffer driver slot world ready own in
+    let buffer = drivers-buffer driver slot world ready own in
     let whole = area_of counts (TransmitBuffer slot) in
     let area = area_at (transmit_buffer counts slot) (length bytes) in
     let inside : IsInside area whole = record { from = omega arith; to = omega (arith, short) } in
@@ -188,7 +190,7 @@ descriptor_is_stored driver slot bytes world ready own long =
     let mine = own-descriptor driver slot world ready own in
     let lies : LiesIn world.memory address (length bytes) = omega (arith, mine.lies, long) in
     goes-stores driver driver.staged driver.pool world address bytes ready lies
-    (subst (λ (size : ℕ). IsOwn driver.oldest_received driver.oldest_sent world (area_at address size)) (sym long) mine.own)
+    (subst (λ (size : ℕ). IsDriversArea driver.oldest_receive driver.oldest_transmit world (area_at address size)) (sym long) mine.own)
     ready.driver_is
     (stored-elsewhere driver world address bytes ready lies
     (inside-apart (area_of counts ReceiveRing) area (area_of counts TransmitRing) inside
@@ -200,9 +202,9 @@ descriptor_is_stored driver slot bytes world ready own long =
 
 pub slots_keep_bytes : SlotsKeepBytes
 slots_keep_bytes driver slot a b past ready own happens =
-    let between = happens.between driver.oldest_received driver.oldest_sent ready.sound in
+    let between = happens.between driver.oldest_receive driver.oldest_transmit ready.sound in
     record {
-      data_same = between.untouched (area_of driver.counts (TransmitBuffer slot)) (own-buffer driver slot a ready own).foreign;
+      data_same = between.untouched (area_of driver.counts (TransmitBuffer slot)) (drivers-buffer driver slot a ready own).foreign;
       descriptor_same = between.untouched (descriptor_area (transmit_slot driver.counts slot))
           (own-descriptor driver slot a ready own).foreign;
     }

@@ -5,7 +5,7 @@ use Rattle.dma_memory.specs.Layout.{Counts}
 use Rattle.bus.specs.declared.event.Access.{Access}
 use Rattle.bus.specs.declared.event.Access.TheVariants.{Loads, Stores, Writes}
 use Rattle.driver_law.specs.DriverState.{buffer_at, receive_slot}
-use Rattle.driver_law.specs.Ready.{empty_descriptor}
+use Rattle.driver_law.specs.ReadyDrivers.{empty_descriptor}
 
 -- the descriptors of the receive slots from a place on are stored, with these buffers
 abbrev pub stores_from : Counts → ℕ → List ℕ → List Access

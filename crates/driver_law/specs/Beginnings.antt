@@ -4,7 +4,7 @@ use Rattle.adapter.specs.declared.offsets.TheConstants.{IMS}
 use Rattle.registers.specs.Bits.{HasBit, union}
 use Rattle.registers.specs.Kept.{causes_of}
 use Rattle.dma_memory.specs.Areas.{IsInside, area_at}
-use Rattle.dma_memory.specs.Layout.{Counts, TransmitRing, area_of, size_of}
+use Rattle.dma_memory.specs.Layout.{Counts, TransmitRing, area_of, buffer_bytes, size_of}
 use Rattle.dma_memory.specs.Owners.{HasOneOwner}
 use Rattle.adapter.specs.HostAreas.{buffer_size, ring_area}
 use Rattle.adapter.specs.HostFrames.{frames_held, frames_to_send}
@@ -13,14 +13,14 @@ use Rattle.adapter.specs.Running.{CanRun}
 use Rattle.adapter.specs.Slots.{finished, written_back}
 use Rattle.adapter.specs.World.{World, receive_ring, transmit_ring, world_after_store, world_after_write}
 use Rattle.adapter.specs.declared.ring.RingRegisters.{RingRegisters}
-use Rattle.bus.specs.Idle.{IsIdle}
-use Rattle.bus.specs.Initialising.{with_receive_control, with_transmit_control, with_transmit_ring}
+use Rattle.bus.specs.IdleRings.{IsIdle}
+use Rattle.bus.specs.RegisterSetting.{with_receive_control, with_transmit_control, with_transmit_ring}
 use Rattle.bus.specs.Law.{Happens}
-use Rattle.bus.specs.Past.{Past, nothing}
+use Rattle.bus.specs.PastOfStretch.{Past, nothing}
 use Rattle.adapter.specs.KnownRing.{KnowsRing}
-use Rattle.driver_law.specs.DriverState.{DriverState, next_received, receive_slot, transmit_tail}
-use Rattle.driver_law.specs.Goes.{Goes, GoesTo, HasNoForgottenWork}
-use Rattle.driver_law.specs.Ready.{ReadyWith, TransmitIs}
+use Rattle.driver_law.specs.DriverState.{DriverState, next_receive, receive_slot, transmit_tail}
+use Rattle.driver_law.specs.Stretches.{Goes, GoesTo, HasNoForgottenWork}
+use Rattle.driver_law.specs.ReadyDrivers.{ReadyWith, TransmitIs}
 use Rattle.registers.specs.Places.{rctl_bsex, rctl_en, rxt0, tctl_psp}
 
 -- The beginning.
@@ -29,12 +29,12 @@ use Rattle.registers.specs.Places.{rctl_bsex, rctl_en, rxt0, tctl_psp}
 abbrev pub new_driver : Counts → List ℕ → DriverState
 new_driver counts pool = record {
   counts = counts;
-  oldest_received = 0;
+  oldest_receive = 0;
   buffers = [];
   staged = [];
   pool = pool;
   handed_out = [];
-  oldest_sent = 0;
+  oldest_transmit = 0;
   sending = 0;
   missed = 0;
   exact = true;
@@ -49,7 +49,7 @@ pub record HasBegun (up : Bool) (counts : Counts) (pool : List ℕ) (world : Wor
   pub one_owner : HasOneOwner counts.buffers (pool ++ [])
   pub addresses : size_of counts < 2 ^ 64
   pub lies : size_of counts ≤ length world.memory
-  pub size : buffer_size world ≡ 2048
+  pub size : buffer_size world ≡ buffer_bytes
   pub receive : KnowsRing (receive_ring world) 0 counts.rx 0
   pub transmit : TransmitIs up counts 0 0 world.memory (transmit_ring world) world.adapter.transmit_control world.adapter.transmitter.buffer
 
@@ -67,12 +67,12 @@ abbrev pub TransmitRingIsWritten : Type 0
 TransmitRingIsWritten =
     (driver : DriverState) (ring : RingRegisters) (world : World) → ReadyWith false driver world → ring.head ≡ ring.tail
     → IsInside (ring_area (ring_of ring)) (area_of driver.counts TransmitRing)
-    → GoesTo false driver world (record driver { oldest_sent = ring.tail }) (with_transmit_ring ring world) [] [] nothing
+    → GoesTo false driver world (record driver { oldest_transmit = ring.tail }) (with_transmit_ring ring world) [] [] nothing
 
 -- TCTL is written with PSP, bit 3, behind all registers of the transmit ring: the transmit side is set up then.
 abbrev pub TransmitterIsEnabled : Type 0
 TransmitterIsEnabled =
-    (driver : DriverState) (control : ℕ) (world : World) → ReadyWith false driver world → driver.oldest_sent < driver.counts.tx
+    (driver : DriverState) (control : ℕ) (world : World) → ReadyWith false driver world → driver.oldest_transmit < driver.counts.tx
     → KnowsRing (transmit_ring world) (16 * driver.counts.rx) driver.counts.tx (transmit_tail driver) → HasBit control tctl_psp
     → Goes driver world driver (with_transmit_control control world) [] [] nothing
 
@@ -81,32 +81,32 @@ TransmitterIsEnabled =
 abbrev pub ReceiverIsEnabled : Type 0
 ReceiverIsEnabled =
     (driver : DriverState) (control : ℕ) (world : World) → ReadyWith false driver world
-    → finished driver.oldest_received world ≡ [] → world.adapter.receiver.work ≡ None → ¬ (HasBit control rctl_bsex)
-    → buffer_size (with_receive_control control world) ≡ 2048
+    → finished driver.oldest_receive world ≡ [] → world.adapter.receiver.work ≡ None → ¬ (HasBit control rctl_bsex)
+    → buffer_size (with_receive_control control world) ≡ buffer_bytes
     → GoesTo false driver world driver (with_receive_control control world) [] [] nothing
 
--- Causes were unmasked, and nothing else happened.
-pub record Unmasked (up : Bool) (driver : DriverState) (causes : ℕ) (a b : World) : Type 0 where
+-- Causes were enabled, and nothing else happened.
+pub record Enabled (up : Bool) (driver : DriverState) (causes : ℕ) (a b : World) : Type 0 where
   pub ready : ReadyWith up driver b
   pub to_send : frames_to_send b ≡ frames_to_send a
-  pub held : frames_held driver.oldest_received b ≡ frames_held driver.oldest_received a
-  pub finished_same : finished driver.oldest_received b ≡ finished driver.oldest_received a
-  pub written_same : written_back driver.oldest_sent b ≡ written_back driver.oldest_sent a
+  pub held : frames_held driver.oldest_receive b ≡ frames_held driver.oldest_receive a
+  pub finished_same : finished driver.oldest_receive b ≡ finished driver.oldest_receive a
+  pub written_same : written_back driver.oldest_transmit b ≡ written_back driver.oldest_transmit a
   pub missed : b.adapter.missed_packets ≡ a.adapter.missed_packets
   pub recorded : b.adapter.causes.recorded ≡ a.adapter.causes.recorded
   pub mask : b.adapter.causes.mask ≡ union a.adapter.causes.mask (causes_of causes)
 
 -- IMS is written.
-abbrev pub CausesAreUnmasked : Type 0
-CausesAreUnmasked =
+abbrev pub CausesAreEnabled : Type 0
+CausesAreEnabled =
     (up : Bool) (driver : DriverState) (causes : ℕ) (world : World) → ReadyWith up driver world
-    → Unmasked up driver causes world (world_after_write IMS causes world)
+    → Enabled up driver causes world (world_after_write IMS causes world)
 
--- Where RXT0, bit 7, is unmasked, and the oldest receive slot isn't finished or RXT0 is recorded, no work is forgotten then.
-abbrev pub UnmaskedForgetsNoWork : Type 0
-UnmaskedForgetsNoWork =
-    (up : Bool) (driver : DriverState) (causes : ℕ) (a b : World) → Unmasked up driver causes a b → HasBit (causes_of causes) rxt0
-    → (finished driver.oldest_received a ≡ []) ⊎ HasBit a.adapter.causes.recorded rxt0 → HasNoForgottenWork driver b
+-- Where RXT0, bit 7, is enabled, and the oldest receive slot isn't finished or RXT0 is recorded, no work is forgotten then.
+abbrev pub EnabledForgetsNoWork : Type 0
+EnabledForgetsNoWork =
+    (up : Bool) (driver : DriverState) (causes : ℕ) (a b : World) → Enabled up driver causes a b → HasBit (causes_of causes) rxt0
+    → (finished driver.oldest_receive a ≡ []) ⊎ HasBit a.adapter.causes.recorded rxt0 → HasNoForgottenWork driver b
 
 -- Stores, beside those that stage slots.
 
@@ -114,7 +114,7 @@ UnmaskedForgetsNoWork =
 abbrev pub LastSlotIsStored : Type 0
 LastSlotIsStored =
     (up : Bool) (driver : DriverState) (bytes : List ℕ) (world : World) → ReadyWith up driver world → length bytes ≡ 16
-    → GoesTo up driver world driver (world_after_store (receive_slot (next_received driver)) bytes world) [] [] nothing
+    → GoesTo up driver world driver (world_after_store (receive_slot (next_receive driver)) bytes world) [] [] nothing
 
 -- Bytes are stored where the layout has the transmit ring, while the transmit side is off.
 abbrev pub TransmitPlaceIsStored : Type 0
@@ -128,7 +128,7 @@ TransmitPlaceIsStored =
 -- RCTL.EN is 0, and no frame is held, as before the write of RCTL.
 pub record IsWaiting (driver : DriverState) (world : World) : Type 0 where
   pub disabled : ¬ (HasBit world.adapter.filter.rctl rctl_en)
-  pub none : frames_held driver.oldest_received world ≡ []
+  pub none : frames_held driver.oldest_receive world ≡ []
 
 -- No frame comes then,
 abbrev pub NoFrameComes : Type 0
@@ -140,7 +140,7 @@ NoFrameComes =
 abbrev pub NothingIsHeld : Type 0
 NothingIsHeld =
     (driver : DriverState) (world : World) → IsWaiting driver world
-    → (finished driver.oldest_received world ≡ []) × (world.adapter.receiver.work ≡ None)
+    → (finished driver.oldest_receive world ≡ []) × (world.adapter.receiver.work ≡ None)
 
 -- The registers of the transmit ring stay while the side is off, TDH among them.
 abbrev pub RingsThatAreOffStay : Type 0

@@ -14,7 +14,7 @@ numbers_of handed_out = map (λ (one : HandedOut). one.number) handed_out
 pub record DriverState : Type 0 where
   pub counts : Counts
   -- the place of the oldest outstanding receive slot, and the numbers of the buffers of all that are outstanding, the oldest first
-  pub oldest_received : ℕ
+  pub oldest_receive : ℕ
   pub buffers : List ℕ
   -- the buffers of the slots behind these, whose descriptors are stored and which aren't offered yet
   pub staged : List ℕ
@@ -23,7 +23,7 @@ pub record DriverState : Type 0 where
   -- the frames that others hold, who may still read them
   pub handed_out : List HandedOut
   -- the place of the oldest outstanding transmit slot, and how many are outstanding
-  pub oldest_sent : ℕ
+  pub oldest_transmit : ℕ
   pub sending : ℕ
   -- the sum of all values that MPC was read as
   pub missed : ℕ
@@ -61,12 +61,12 @@ transmit_slot counts slot = 16 * counts.rx + 16 * slot
 
 -- the place that RDT names: behind the last receive slot that is outstanding
 abbrev pub receive_tail : DriverState → ℕ
-receive_tail driver = place driver.counts.rx driver.oldest_received (length driver.buffers)
+receive_tail driver = place driver.counts.rx driver.oldest_receive (length driver.buffers)
 
 -- the place behind the last receive slot whose descriptor is stored
-abbrev pub next_received : DriverState → ℕ
-next_received driver = place driver.counts.rx driver.oldest_received (length driver.buffers + length driver.staged)
+abbrev pub next_receive : DriverState → ℕ
+next_receive driver = place driver.counts.rx driver.oldest_receive (length driver.buffers + length driver.staged)
 
 -- the place that TDT names
 abbrev pub transmit_tail : DriverState → ℕ
-transmit_tail driver = place driver.counts.tx driver.oldest_sent driver.sending
+transmit_tail driver = place driver.counts.tx driver.oldest_transmit driver.sending

@@ -1,10 +1,10 @@
 pub mod DriverState
-pub mod Ready
-pub mod Goes
+pub mod ReadyDrivers
+pub mod Stretches
 pub mod Beginnings
-pub mod Readings
-pub mod Transmit
+pub mod RegisterReadings
+pub mod TransmitSteps
 pub mod Accesses
 pub mod ReceiveSteps
 pub mod OldestSlot
-pub mod Registers
+pub mod ControlWrites

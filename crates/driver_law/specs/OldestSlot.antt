@@ -2,17 +2,17 @@
 use Rattle.std.specs.Prelude.{◌≡◌, ◌++◌, ◌∷◌, ℕ, Bool, List, [], length}
 use Rattle.adapter.specs.Slots.{finished}
 use Rattle.adapter.specs.World.{World}
-use Rattle.bus.specs.Past.{Past}
+use Rattle.bus.specs.PastOfStretch.{Past}
 use Rattle.bus.specs.declared.event.Access.TheVariants.{Loads}
 use Rattle.driver_law.specs.DriverState.{DriverState, receive_slot}
-use Rattle.driver_law.specs.Goes.{RanBy}
+use Rattle.driver_law.specs.Stretches.{RanBy}
 use Rattle.driver_law.specs.ReceiveSteps.{behind_oldest}
 
 -- It isn't done, so that no slot is finished.
 pub record LeavesOldest (up : Bool) {B : Type 0} (world : B → World) (happened : B → B → Past → Type 0) (old new : B)
     (d : DriverState) : Type 0 where
-  pub none : finished d.oldest_received (world new) ≡ []
-  pub ran : RanBy up world happened (Loads (receive_slot d.oldest_received) 16 ∷ []) old new d d [] []
+  pub none : finished d.oldest_receive (world new) ≡ []
+  pub ran : RanBy up world happened (Loads (receive_slot d.oldest_receive) 16 ∷ []) old new d d [] []
 
 -- It is done: the slot is taken, and its frame, with as many bytes as the descriptor says, handed out.
 pub record TakesOldest (up : Bool) {B : Type 0} (world : B → World) (happened : B → B → Past → Type 0) (old new : B)
@@ -20,6 +20,6 @@ pub record TakesOldest (up : Bool) {B : Type 0} (world : B → World) (happened 
   pub frame : List ℕ
   pub long : length frame ≡ size
   pub ran :
-      RanBy up world happened (Loads (receive_slot d.oldest_received) 16 ∷ []) old new d
+      RanBy up world happened (Loads (receive_slot d.oldest_receive) 16 ∷ []) old new d
       (behind_oldest d later (d.handed_out ++ record { number = number; frame = frame } ∷ []))
       (frame ∷ []) []

@@ -4,12 +4,12 @@ use Rattle.dma_memory.specs.Owners.{HaveSameNumbers, copies}
 use Rattle.rx_engine.specs.Descriptors.{descriptor_at}
 use Rattle.adapter.specs.Slots.{finished}
 use Rattle.adapter.specs.World.{World, world_after_store}
-use Rattle.bus.specs.Initialising.{with_tail}
-use Rattle.bus.specs.Own.{frame_named}
-use Rattle.bus.specs.Past.{nothing}
-use Rattle.driver_law.specs.DriverState.{DriverState, HandedOut, buffer_at, next_received, numbers_of, receive_slot, with_owners}
-use Rattle.driver_law.specs.Goes.{GoesTo}
-use Rattle.driver_law.specs.Ready.{ReadyWith, Stands, empty_descriptor}
+use Rattle.bus.specs.RegisterSetting.{with_tail}
+use Rattle.bus.specs.DriversSlots.{frame_named}
+use Rattle.bus.specs.PastOfStretch.{nothing}
+use Rattle.driver_law.specs.DriverState.{DriverState, HandedOut, buffer_at, next_receive, numbers_of, receive_slot, with_owners}
+use Rattle.driver_law.specs.Stretches.{GoesTo}
+use Rattle.driver_law.specs.ReadyDrivers.{ReadyWith, Stands, empty_descriptor}
 
 -- A number leaves the pool, and the next slot's descriptor is stored with its buffer, where one slot more would still be left.
 abbrev pub SlotsCanBeStaged : Type 0
@@ -17,37 +17,37 @@ SlotsCanBeStaged =
     (up : Bool) (d : DriverState) (number : ℕ) (pool : List ℕ) (world : World) → ReadyWith up d world
     → length d.buffers + length d.staged + 1 < d.counts.rx → number < d.counts.buffers → HaveSameNumbers d.pool (number ∷ pool)
     → GoesTo up d world (with_owners d d.buffers (d.staged ++ number ∷ []) pool d.handed_out)
-    (world_after_store (receive_slot (next_received d)) (empty_descriptor (buffer_at d.counts number)) world) [] [] nothing
+    (world_after_store (receive_slot (next_receive d)) (empty_descriptor (buffer_at d.counts number)) world) [] [] nothing
 
 -- All staged slots are offered at once, by RDT.
 abbrev pub StagedCanBeOffered : Type 0
 StagedCanBeOffered =
     (up : Bool) (d : DriverState) (world : World) → ReadyWith up d world
-    → GoesTo up d world (with_owners d (d.buffers ++ d.staged) [] d.pool d.handed_out) (with_tail (next_received d) world) [] [] nothing
+    → GoesTo up d world (with_owners d (d.buffers ++ d.staged) [] d.pool d.handed_out) (with_tail (next_receive d) world) [] [] nothing
 
 -- the frame of the oldest slot, in the buffer that the driver has for it
 abbrev pub oldest_frame : DriverState → (number : ℕ) → World → HandedOut
-oldest_frame d number world = record { number = number; frame = frame_named world (receive_slot d.oldest_received) }
+oldest_frame d number world = record { number = number; frame = frame_named world (receive_slot d.oldest_receive) }
 
 -- the driver behind that slot, which had the first of its buffers
 abbrev pub behind_oldest : DriverState → (later : List ℕ) → List HandedOut → DriverState
 behind_oldest d later handed_out = record d
-    { oldest_received = (d.oldest_received + 1) % d.counts.rx; buffers = later; handed_out = handed_out }
+    { oldest_receive = (d.oldest_receive + 1) % d.counts.rx; buffers = later; handed_out = handed_out }
 
 -- The oldest slot is taken, where it is finished: its frame is handed out.
 abbrev pub OldestCanBeTaken : Type 0
 OldestCanBeTaken =
     (up : Bool) (d : DriverState) (number : ℕ) (later slots : List ℕ) (world : World) → ReadyWith up d world
-    → d.buffers ≡ number ∷ later → finished d.oldest_received world ≡ receive_slot d.oldest_received ∷ slots
+    → d.buffers ≡ number ∷ later → finished d.oldest_receive world ≡ receive_slot d.oldest_receive ∷ slots
     → GoesTo up d world (behind_oldest d later (d.handed_out ++ oldest_frame d number world ∷ [])) world
-    (frame_named world (receive_slot d.oldest_received) ∷ []) [] nothing
+    (frame_named world (receive_slot d.oldest_receive) ∷ []) [] nothing
 
 -- That frame has as many bytes as the slot's descriptor says.
 abbrev pub OldestIsAsLong : Type 0
 OldestIsAsLong =
     (up : Bool) (d : DriverState) (number : ℕ) (later slots : List ℕ) (world : World) → ReadyWith up d world
-    → d.buffers ≡ number ∷ later → finished d.oldest_received world ≡ receive_slot d.oldest_received ∷ slots
-    → length (frame_named world (receive_slot d.oldest_received)) ≡ (descriptor_at world.memory (receive_slot d.oldest_received)).length
+    → d.buffers ≡ number ∷ later → finished d.oldest_receive world ≡ receive_slot d.oldest_receive ∷ slots
+    → length (frame_named world (receive_slot d.oldest_receive)) ≡ (descriptor_at world.memory (receive_slot d.oldest_receive)).length
 
 -- Buffers that were handed out come back into the pool.
 abbrev pub BuffersCanComeBack : Type 0

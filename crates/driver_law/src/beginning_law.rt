@@ -1,9 +1,9 @@
 // Laws of a driver's beginning, and of the registers that it writes up to the end of its initialisation.
 
-ghost use Rattle.driver_law.specs.Beginnings.{CausesAreUnmasked, DriversBegin, LastSlotIsStored, NoFrameComes};
+ghost use Rattle.driver_law.specs.Beginnings.{CausesAreEnabled, DriversBegin, LastSlotIsStored, NoFrameComes};
 ghost use Rattle.driver_law.specs.Beginnings.{NothingIsHeld, ReceiverIsEnabled, RingsThatAreOffStay};
 ghost use Rattle.driver_law.specs.Beginnings.{TransmitPlaceIsStored, TransmitRingIsWritten, TransmitterIsEnabled};
-ghost use Rattle.driver_law.specs.Beginnings.{UnmaskedForgetsNoWork};
+ghost use Rattle.driver_law.specs.Beginnings.{EnabledForgetsNoWork};
 
 /// A driver whose receive ring is set up, whose transmit ring is or isn't, and that has offered no slot of
 /// either, is ready.
@@ -22,8 +22,8 @@ pub fn registers_are_set()
     ensures receiver { ReceiverIsEnabled }
     ensures transmit_ring { TransmitRingIsWritten }
     ensures transmitter { TransmitterIsEnabled }
-    ensures causes { CausesAreUnmasked }
-    ensures work { UnmaskedForgetsNoWork }
+    ensures causes { CausesAreEnabled }
+    ensures work { EnabledForgetsNoWork }
 {}
 
 /// A driver that is ready stays so at each other store of its initialisation.
@@ -35,7 +35,7 @@ pub fn rings_are_stored()
 {}
 
 /// What stays in initialisation, whatever happens between two accesses.
-/// - `frames`: while RCTL.EN is 0 and no frame is held, none is.
+/// - `frames`: that RCTL.EN is 0 and no frame is held.
 /// - `empty`: no receive slot is finished or in work then.
 /// - `transmit_ring`: the registers of a transmit ring whose side is off.
 pub fn rings_stay()

@@ -3,10 +3,10 @@
 ghost use Rattle.std.specs.Prelude.{◌++◌, ℕ, Bool, List, [], All};
 ghost use Rattle.adapter.specs.World.{World};
 ghost use Rattle.bus.specs.Law.{Happens};
-ghost use Rattle.bus.specs.Past.{Past, joined};
+ghost use Rattle.bus.specs.PastOfStretch.{Past, joined};
 ghost use Rattle.driver_law.specs.DriverState.{DriverState};
-ghost use Rattle.driver_law.specs.Goes.{FlowsTo, GoesTo, HasNoForgottenWork};
-ghost use Rattle.driver_law.specs.Ready.{ReadyWith, Stands};
+ghost use Rattle.driver_law.specs.Stretches.{FlowsTo, GoesTo, HasNoForgottenWork};
+ghost use Rattle.driver_law.specs.ReadyDrivers.{ReadyWith, Stands};
 ghost use Rattle.driver_law.specs.ReceiveSteps.{BuffersCanComeBack, OldestCanBeTaken, OldestIsAsLong};
 ghost use Rattle.driver_law.specs.ReceiveSteps.{SlotsCanBeStaged, StagedCanBeOffered};
 
@@ -33,8 +33,8 @@ pub fn stretches_join()
 pub fn drivers_go_on()
     ensures goes { (up : Bool) (d : DriverState) (a b : World) (past : Past)
         → ReadyWith up d a → Happens a b past → GoesTo up d a d b [] [] past }
-    ensures work { (up : Bool) (d d' : DriverState) (a b : World) (taken given : List (List ℕ)) (past : Past)
-        → GoesTo up d a d' b taken given past → HasNoForgottenWork d a → HasNoForgottenWork d' b }
+    ensures work { (up : Bool) (d d' : DriverState) (a b : World) (taken accepted : List (List ℕ)) (past : Past)
+        → GoesTo up d a d' b taken accepted past → HasNoForgottenWork d a → HasNoForgottenWork d' b }
     ensures handed_out { (up : Bool) (d : DriverState) (a b : World) (past : Past)
         → ReadyWith up d a → Happens a b past → All (Stands d.counts b.memory) d.handed_out }
 {}

@@ -1,7 +1,7 @@
 // Laws of the registers that a driver reads and writes.
 
-ghost use Rattle.driver_law.specs.Registers.{ReceiveControlWrites, TransmitControlWrites, TransmitRingWrites};
-ghost use Rattle.driver_law.specs.Readings.{CausesAreRead, MissesAreRead, OthersAreRead};
+ghost use Rattle.driver_law.specs.ControlWrites.{ReceiveControlWrites, TransmitControlWrites, TransmitRingWrites};
+ghost use Rattle.driver_law.specs.RegisterReadings.{CausesAreRead, MissesAreRead, OthersAreRead};
 
 /// What a driver's read of a register leaves of what it knows.
 /// - `causes`: of ICR: frames, slots and counts are the same, and no cause is recorded.

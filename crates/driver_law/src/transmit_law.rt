@@ -1,13 +1,13 @@
 // Laws of a driver's transmit side.
 
-ghost use Rattle.driver_law.specs.Transmit.{DataIsStored, DescriptorIsStored, FrameIsOffered, NextSlotIsOwn};
-ghost use Rattle.driver_law.specs.Transmit.{NoneIsWrittenBack, SendsEndWithTail, SlotIsFreed, SlotsHaveFrames};
-ghost use Rattle.driver_law.specs.Transmit.{SlotsKeepBytes, TailIsMoved};
+ghost use Rattle.driver_law.specs.TransmitSteps.{DataIsStored, DescriptorIsStored, FrameIsOffered, NextSlotBelongsToDriver};
+ghost use Rattle.driver_law.specs.TransmitSteps.{NoneIsWrittenBack, SendsEndWithTail, SlotIsFreed, SlotsHaveFrames};
+ghost use Rattle.driver_law.specs.TransmitSteps.{SlotsKeepBytes, TailIsMoved};
 
 /// A driver stores what it likes into the buffer and the descriptor of a transmit slot that isn't
-/// outstanding, as the one at the tail is, and both stay whatever happens.
-pub fn own_slots_are_stored()
-    ensures next { NextSlotIsOwn }
+/// outstanding, such as the one at the tail, and both stay whatever happens.
+pub fn transmit_slots_are_stored()
+    ensures next { NextSlotBelongsToDriver }
     ensures data_stored { DataIsStored }
     ensures descriptor { DescriptorIsStored }
     ensures stay { SlotsKeepBytes }

@@ -17,7 +17,7 @@ frames_of queue = record {
   frames = frames_from queue.bytes.items queue.lengths.capacity queue.first queue.lengths.items;
 }
 
-pub record IsSound (queue : Inside) : Type 0 where
+pub record IsConsistent (queue : Inside) : Type 0 where
   pub size : length queue.bytes.items ≡ queue.lengths.capacity * 1518
   pub first : 0 < queue.lengths.capacity → queue.first < queue.lengths.capacity
   pub count : length queue.lengths.items ≤ queue.lengths.capacity

@@ -27,11 +27,11 @@ impl Model for FrameQueue {
 
     ghost Value = { Frames };
 
-    ghost use Rattle.frame_queue.specs.Places.{frames_of, IsSound};
+    ghost use Rattle.frame_queue.specs.Places.{frames_of, IsConsistent};
 
     ghost view = { frames_of };
 
-    ghost invariant = { IsSound };
+    ghost invariant = { IsConsistent };
 }
 
 impl FrameQueue {

@@ -7,7 +7,7 @@ use Rattle.mdic_phy.specs.declared.mdic.Operation.TheVariants.{Write, Read}
 use Rattle.mdic_phy.specs.declared.mdic.Ticked.{Ticked}
 use Rattle.mdic_phy.specs.Phy.{PhyState}
 use Rattle.mdic_phy.specs.Phy as phy
-use Rattle.mdic_phy.specs.Places.{mdic_i}
+use Rattle.mdic_phy.specs.Places.{mdic_i, mdic_op, mdic_phyadd, mdic_regadd}
 
 -- The register's number, and the command that is pending.
 pub record MdicState : Type 0 where
@@ -23,13 +23,13 @@ abbrev pub data_of : ℕ → ℕ
 data_of value = value % 2 ^ 16
 
 abbrev pub regadd : ℕ → ℕ
-regadd value = field value 16 5
+regadd value = field value mdic_regadd 5
 
 abbrev pub phyadd : ℕ → ℕ
-phyadd value = field value 21 5
+phyadd value = field value mdic_phyadd 5
 
 abbrev pub op : ℕ → ℕ
-op value = field value 26 2
+op value = field value mdic_op 2
 
 -- OP 01 is a write, 10 a read (13.4.7); 00 and 11 begin no command (own).
 abbrev pub operation_of : ℕ → Option Operation

@@ -19,6 +19,16 @@ status_complete = 5
 abbrev pub status_link : ℕ
 status_link = 2
 
+-- MDIC's fields of several bits, by their lowest places: REGADD, PHYADD, OP
+abbrev pub mdic_regadd : ℕ
+mdic_regadd = 16
+
+abbrev pub mdic_phyadd : ℕ
+mdic_phyadd = 21
+
+abbrev pub mdic_op : ℕ
+mdic_op = 26
+
 -- MDIC's I: the end of the command is told
 abbrev pub mdic_i : ℕ
 mdic_i = 29

@@ -6,7 +6,7 @@ ghost use Rattle.pcap_bench.specs.Options.{HasVlanNumber};
 
 use command_line::{Job, LineError, PassFilter, line};
 use pcap_bench::{
-    Fault, PassCounts, ReaderSource, Sink, Source, Trace, WriterSink, pass, print_pass,
+    PassCounts, ProgramError, ReaderSource, Sink, Source, Trace, WriterSink, pass, print_pass,
 };
 use std::alloc::Global;
 use std::env;
@@ -16,25 +16,25 @@ use std::process::ExitCode;
 use std::rt::{Env, Files};
 
 /// A file as a source of the bytes that it has now.
-fn open<R: Files>(rt: &R, path: &str) -> Result<ReaderSource<R::File>, Fault>
-    ensures { IfOk result (λ source. ⟦<ReaderSource<R::File> as Source>⟧.faults source ≡ 0) }
+fn open<R: Files>(rt: &R, path: &str) -> Result<ReaderSource<R::File>, ProgramError>
+    ensures { IfOk result (λ source. ⟦<ReaderSource<R::File> as Source>⟧.failures source ≡ 0) }
 {
     let Ok(file) = fs::open(rt, path) else {
-        return Err(Fault::Open);
+        return Err(ProgramError::Open);
     };
     let Ok(metadata) = file.metadata() else {
-        return Err(Fault::Open);
+        return Err(ProgramError::Open);
     };
     Ok(ReaderSource::new(file, metadata.len()))
 }
 
 /// A new file as a sink. One that is there already loses its bytes.
-fn create<R: Files>(rt: &R, path: &str) -> Result<WriterSink<R::File>, Fault>
-    ensures { IfOk result (λ sink. ⟦<WriterSink<R::File> as Sink>⟧.faults sink ≡ 0) }
+fn create<R: Files>(rt: &R, path: &str) -> Result<WriterSink<R::File>, ProgramError>
+    ensures { IfOk result (λ sink. ⟦<WriterSink<R::File> as Sink>⟧.failures sink ≡ 0) }
 {
     match fs::create(rt, path) {
         Ok(file) => Ok(WriterSink::new(file)),
-        Err(_) => Err(Fault::Open),
+        Err(_) => Err(ProgramError::Open),
     }
 }
 
@@ -44,7 +44,7 @@ fn pass_file<R: Files + AllocGlobal>(
     filter: &PassFilter,
     input: &str,
     output: &str,
-) -> Result<(Trace, PassCounts), Fault>
+) -> Result<(Trace, PassCounts), ProgramError>
     requires { HasVlanNumber filter.now }
 {
     let mut source = open(rt, input)?;
@@ -60,7 +60,7 @@ fn run_pass<R: Files + Print + AllocGlobal>(
     filter: &PassFilter,
     input: &str,
     output: &str,
-) -> Result<(), Fault>
+) -> Result<(), ProgramError>
     requires { HasVlanNumber filter.now }
 {
     let (trace, counts) = pass_file(rt, filter, input, output)?;
@@ -92,7 +92,7 @@ fn borrowed<'a>(alloc: Global, words: &'a [String]) -> Result<Vec<&'a str>, Line
 }
 
 /// Tells a fault on standard error. The status is the fault's also where standard error takes nothing.
-fn tell<R: Eprint>(rt: &R, fault: &Fault) -> ExitCode {
+fn tell<R: Eprint>(rt: &R, fault: &ProgramError) -> ExitCode {
     let _ = eprintln!(rt; "nicbench: {fault}");
     ExitCode::from(fault.status())
 }

@@ -7,7 +7,7 @@ use Rattle.std.proofs.lemmas.List.{length-map, map-set}
 use Rattle.circular_buffer.specs.Buffer.{Buffer, buffer, keep_last}
 use Rattle.driver.specs.declared.receiver.Received.{Received}
 use Rattle.packet_socket.specs.InsideSockets.{items_of}
-use Rattle.packet_socket.specs.Kinds.{socket_of}
+use Rattle.packet_socket.specs.SocketKinds.{socket_of}
 use Rattle.packet_socket.specs.SocketsState.{SocketsState, Sorts, queue_at}
 use Rattle.packet_socket.specs.SortingLaws.{sorts-kept}
 use Rattle.packet_socket.specs.declared.socket_kind.SocketKind.{SocketKind}

@@ -1,9 +1,9 @@
 pub mod InsideQueues
-pub mod Parts
-pub mod Sound
-pub mod Standing
-pub mod Accounting
+pub mod QueueParts
+pub mod ConsistentHosts
+pub mod WaitingFrames
+pub mod Accounts
 pub mod Stretches
-pub mod Receiving
-pub mod Shown
-pub mod Handling
+pub mod GivenFrames
+pub mod ShownFrames
+pub mod HandledInterrupts

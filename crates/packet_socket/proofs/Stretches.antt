@@ -6,23 +6,23 @@ use Rattle.dma_memory.specs.Layout.{Counts}
 use Rattle.adapter.specs.HostFrames.{frames_held}
 use Rattle.adapter.specs.World.{World}
 use Rattle.bus.specs.Law.{Happens}
-use Rattle.bus.specs.Past.{Past, joined}
+use Rattle.bus.specs.PastOfStretch.{Past, joined}
 use Rattle.bus.specs.declared.event.Access.{Access}
 use Rattle.driver_law.proofs.Steps.{goes-happens}
 use Rattle.driver_law.proofs.Stretches.{flows_join, goes_join}
 use Rattle.driver_law.specs.DriverState.{DriverState, HandedOut, holding}
-use Rattle.driver_law.specs.Goes.{FlowsTo, GoesTo, RanBy}
-use Rattle.driver_law.specs.Ready.{ReadyWith, Stands}
-use Rattle.driver.specs.Sends.{Answer, Transmits, accesses_by, given_by}
-use Rattle.driver.specs.Takes.{GrowsBy}
+use Rattle.driver_law.specs.Stretches.{FlowsTo, GoesTo, RanBy}
+use Rattle.driver_law.specs.ReadyDrivers.{ReadyWith, Stands}
+use Rattle.driver.specs.SendSteps.{Answer, Transmits, accesses_by, accepted_by}
+use Rattle.driver.specs.TakenFrames.{GrowsBy}
 use Rattle.driver.specs.declared.receiver.Received.{Received}
-use Rattle.packet_socket.specs.Calls.{HostTransmits}
-use Rattle.packet_socket.specs.Goes.{Accounts, Given, HostFlowsTo, HostGoesTo}
-use Rattle.packet_socket.specs.Holding.{HostReady, HostReadyWith, driver_of, frame_at, frames_in, waiting_at}
+use Rattle.packet_socket.specs.HostCalls.{HostTransmits}
+use Rattle.packet_socket.specs.HostStretches.{Accounts, Given, HostFlowsTo, HostGoesTo}
+use Rattle.packet_socket.specs.HeldFrames.{HostReady, HostReadyWith, driver_of, waiting_frame, waiting_frames, waiting_entry}
 use Rattle.packet_socket.specs.HostState.{HostState}
 use Rattle.packet_socket.specs.SocketsState.{all_of, queue_at}
-use Rattle.packet_socket.proofs.Accounting.{accounts, accounts-join}
-use Rattle.packet_socket.proofs.Standing.{AreSame, all-long, all-same, ends-as, queue-frames-same}
+use Rattle.packet_socket.proofs.Accounts.{accounts, accounts-join}
+use Rattle.packet_socket.proofs.WaitingFrames.{AreSame, all-long, all-same, ends-as, queue-frames-same}
 
 -- The host with another state of its driver.
 abbrev pub with_driver : DriverState → HostState → HostState
@@ -44,15 +44,15 @@ driver-stays h d a b host counts stand = ends-as (with_driver d h) b h.driver.co
 pub accounts-stay : {up : Bool} (h : HostState) (d : DriverState) (a b : World) (stored : List (List ℕ)) → HostReadyWith up h a
     → d.counts ≡ h.driver.counts
     → All (Stands d.counts b.memory) (driver_of h a).handed_out
-    → frames_held d.oldest_received b ≡ frames_held h.driver.oldest_received a ++ stored
+    → frames_held d.oldest_receive b ≡ frames_held h.driver.oldest_receive a ++ stored
     → Accounts h a (with_driver d h) b [] stored
 accounts-stay h d a b stored host counts stand holds =
     let same = queues-stand h d a b host counts stand in
     accounts h a (with_driver d h) b [] [] stored refl holds
     (λ socket.
-    ap (λ (c : Counts). map (frame_at c b.memory) (queue_at h.queues socket)) counts
+    ap (λ (c : Counts). map (waiting_frame c b.memory) (queue_at h.queues socket)) counts
     ∙ queue-frames-same h.driver.counts a.memory b.memory h.queues same socket
-    ∙ sym (append-nil (frames_in h socket a)))
+    ∙ sym (append-nil (waiting_frames h socket a)))
     (record { least = omega arith; most = omega arith; exactly = λ below. omega arith })
 
 -- The same stretch, while others hold other frames at its end.
@@ -70,7 +70,8 @@ flows-hold d a e b taken sent past held flows ready = record {
   sum = flows.sum;
   counted = flows.counted;
   at_most = flows.at_most;
-  exactly = λ exact loose. let all = flows.exactly exact loose in record { exact = all.exact; loose = all.loose; sum = all.sum };
+  exactly = λ exact below_greatest. let all =
+      flows.exactly exact below_greatest in record { exact = all.exact; below_greatest = all.below_greatest; sum = all.sum };
 }
 
 abbrev pub goes-hold : {up : Bool} (d : DriverState) (a : World) (e : DriverState) (b : World) (taken sent : List (List ℕ)) (past : Past)
@@ -110,7 +111,8 @@ host-transmits world happened old new h d' frame result host transmits =
     record {
       ran = record {
         sizes = host.sizes;
-        ran = ran-as world happened (accesses_by result d e frame) (accesses_by result d e' frame) old new d e e' [] (given_by result frame)
+        ran = ran-as world happened (accesses_by result d e frame) (accesses_by result d e' frame) old new d e e' []
+            (accepted_by result frame)
             (ap (λ (s : DriverState). accesses_by result d s frame) end) end transmits.ran;
         accounts = accounts-stay h d' (world old) (world new) transmits.ran.past.stored host flows.counts flows.ready.stand flows.holds;
       };

@@ -2,7 +2,7 @@
 use Rattle.std.specs.Prelude.{◌≡◌, ◌++◌, ℕ, List, length}
 use Rattle.dma_memory.specs.Owners.{HasNoSecondOwner}
 use Rattle.driver_law.specs.DriverState.{DriverState, owners}
-use Rattle.driver.specs.Takes.{AreFrames, buffers_of}
+use Rattle.driver.specs.TakenFrames.{AreFrames, buffers_of}
 use Rattle.driver.specs.declared.receiver.Received.{Received}
 use Rattle.packet_socket.specs.HostState.{HostState}
 use Rattle.packet_socket.specs.SocketsState.{SocketsState, all_of}
@@ -22,5 +22,5 @@ pub record IsHost (driver : DriverState) (sockets : SocketsState) : Type 0 where
   pub owners : HasNoSecondOwner driver.counts.buffers (owners driver ++ buffers_of (all_of sockets.queues))
   pub sizes : AreFrames (all_of sockets.queues)
 
-abbrev pub IsSound : Inside → Type 0
-IsSound host = IsHost host.driver host.sockets
+abbrev pub IsConsistent : Inside → Type 0
+IsConsistent host = IsHost host.driver host.sockets

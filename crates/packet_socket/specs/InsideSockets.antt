@@ -17,6 +17,6 @@ sockets_of sockets = record {
 }
 
 -- There is a queue for each socket, with room for as many frames.
-pub record AreSound (sockets : Inside) : Type 0 where
+pub record AreConsistent (sockets : Inside) : Type 0 where
   pub queues : length sockets.queues.items ≡ length sockets.kinds.items
   pub rooms : All (λ (queue : Buffer Received). queue.capacity ≡ sockets.room) sockets.queues.items

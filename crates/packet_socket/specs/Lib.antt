@@ -1,4 +1,4 @@
-pub mod Kinds
+pub mod SocketKinds
 pub mod KindLaws
 pub mod SocketsState
 pub mod QueueLaws
@@ -6,6 +6,6 @@ pub mod SortingLaws
 pub mod InsideSockets
 pub mod HostState
 pub mod InsideHost
-pub mod Holding
-pub mod Goes
-pub mod Calls
+pub mod HeldFrames
+pub mod HostStretches
+pub mod HostCalls

@@ -1,9 +1,9 @@
 -- The sockets of a host, as plain data, and what frames do to them (own).
 use Rattle.std.specs.Prelude.{◌≡◌, ◌≤◌, ◌+◌, ◌++◌, ◌∷◌, ℕ, List, [], count_by, filter, length, slice_index_or}
 use Rattle.std.specs.List.Sorted.{IsPermutation}
-use Rattle.driver.specs.Takes.{GrowsBy}
+use Rattle.driver.specs.TakenFrames.{GrowsBy}
 use Rattle.driver.specs.declared.receiver.Received.{Received}
-use Rattle.packet_socket.specs.Kinds.{goes_to, has_none, has_socket}
+use Rattle.packet_socket.specs.SocketKinds.{goes_to, has_none, has_socket}
 use Rattle.packet_socket.specs.declared.socket_kind.SocketKind.{SocketKind}
 
 pub record SocketsState : Type 0 where

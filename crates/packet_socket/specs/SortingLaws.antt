@@ -8,9 +8,9 @@ use Rattle.std.proofs.lemmas.List.{append-nil, length-set}
 use Rattle.std.proofs.lemmas.List.Elements.{filter-append}
 use Rattle.std.proofs.lemmas.List.Sorted.{IsPermutation-append_left, IsPermutation-refl, IsPermutation-trans, length_permutation}
 use Rattle.std.proofs.lemmas.List.Sums.{sum_by-append, sum_by-cons}
-use Rattle.driver.specs.Takes.{GrowsBy}
+use Rattle.driver.specs.TakenFrames.{GrowsBy}
 use Rattle.driver.specs.declared.receiver.Received.{Received}
-use Rattle.packet_socket.specs.Kinds.{goes_to, has_none, has_socket, socket_of}
+use Rattle.packet_socket.specs.SocketKinds.{goes_to, has_none, has_socket, socket_of}
 use Rattle.packet_socket.specs.SocketsState.{Queues, SocketsState, Sorts, all_of, claimed_of, frames_of, queue_at, unclaimed_of}
 use Rattle.packet_socket.specs.declared.socket_kind.SocketKind.{SocketKind}
 use Rattle.packet_socket.specs.QueueLaws.{queue-within, queues-pushed}

@@ -7,13 +7,13 @@ ghost use Rattle.bring_up.specs.Configuration.{CanBeHad, counts_of};
 ghost use Rattle.bring_up.specs.Device.{IsBeforeAccess};
 ghost use Rattle.bring_up.specs.declared.init_error.InitError.TheVariants as InitError;
 ghost use Rattle.driver_law.specs.DriverState.{owners};
-ghost use Rattle.driver_law.specs.Goes.{IsRefilled};
-ghost use Rattle.driver.specs.Initialises.{Initialises, Refuses};
-ghost use Rattle.driver.specs.Sends.{IsRefused, with_sending};
-ghost use Rattle.driver.specs.Takes.{AreFrames, buffers_of};
+ghost use Rattle.driver_law.specs.Stretches.{IsRefilled};
+ghost use Rattle.driver.specs.Initialisation.{Initialises, Refuses};
+ghost use Rattle.driver.specs.SendSteps.{IsRefused, with_sending};
+ghost use Rattle.driver.specs.TakenFrames.{AreFrames, buffers_of};
 ghost use Rattle.driver.specs.declared.transmit.SendError.TheVariants as SendError;
-ghost use Rattle.packet_socket.specs.Calls.{HostTransmits};
-ghost use Rattle.packet_socket.specs.Holding.{HostReady};
+ghost use Rattle.packet_socket.specs.HostCalls.{HostTransmits};
+ghost use Rattle.packet_socket.specs.HeldFrames.{HostReady};
 ghost use Rattle.packet_socket.specs.HostState.{new_host};
 ghost use Rattle.packet_socket.specs.SocketsState.{all_of, queue_at};
 
@@ -39,11 +39,11 @@ impl Model for Host {
 
     ghost Value = { HostState };
 
-    ghost use Rattle.packet_socket.specs.InsideHost.{IsSound, host_of};
+    ghost use Rattle.packet_socket.specs.InsideHost.{IsConsistent, host_of};
 
     ghost view = { host_of };
 
-    ghost invariant = { IsSound };
+    ghost invariant = { IsConsistent };
 }
 
 impl Host {
@@ -61,7 +61,7 @@ impl Host {
         kinds: ArrayVec<SocketKind, MOST_SOCKETS>,
     ) -> Result<Host, InitError>
         ensures extent { B.extent bus.new ≡ B.extent bus.old }
-        ensures kept { B.kept bus.old bus.new }
+        ensures lent_stays { B.lent_stays bus.old bus.new }
         ensures honest { B.honest bus.old → B.honest bus.new }
         ensures lively { B.lively bus.old → B.lively bus.new }
 
@@ -119,13 +119,13 @@ impl Host {
     pub fn send<B: Bus>(&mut self, bus: &mut B, frame: &[u8]) -> Result<(), SendError>
         requires memory { size_of self.old.driver.counts ≤ B.extent bus.old }
         ensures extent { B.extent bus.new ≡ B.extent bus.old }
-        ensures kept { B.kept bus.old bus.new }
+        ensures lent_stays { B.lent_stays bus.old bus.new }
         ensures honest { B.honest bus.old → B.honest bus.new }
         ensures lively { B.lively bus.old → B.lively bus.new }
 
         // What it does over any bus.
         ensures others { self.new ≡ record self.old
-            { driver = with_sending self.old.driver self.new.driver.oldest_sent self.new.driver.sending } }
+            { driver = with_sending self.old.driver self.new.driver.oldest_transmit self.new.driver.sending } }
         ensures too_short { (result ≡ Err SendError.TooShort) ↔ (length frame.now < 14) }
         ensures too_long { (result ≡ Err SendError.TooLong) ↔ (1518 < length frame.now) }
         ensures nothing { IsRefused result → (bus.new ≡ bus.old) × (self.new ≡ self.old) }

@@ -2,10 +2,10 @@
 
 ghost use Rattle.std.specs.Prelude.{◌≡◌, ◌≤◌, Bool};
 ghost use Rattle.dma_memory.specs.Layout.{size_of};
-ghost use Rattle.driver_law.specs.Goes.{IsRefilled};
-ghost use Rattle.driver.specs.Handles.{OnNotMine, OnTaken};
-ghost use Rattle.packet_socket.specs.Calls.{HostHandles, SortsAll};
-ghost use Rattle.packet_socket.specs.Holding.{HostReadyWith};
+ghost use Rattle.driver_law.specs.Stretches.{IsRefilled};
+ghost use Rattle.driver.specs.HandlerSteps.{OnNotMine, OnTaken};
+ghost use Rattle.packet_socket.specs.HostCalls.{HostHandles, SortsAll};
+ghost use Rattle.packet_socket.specs.HeldFrames.{HostReadyWith};
 
 use crate::Host;
 use bus::Bus;
@@ -17,7 +17,7 @@ impl Host {
     pub fn interrupt<B: Bus>(&mut self, bus: &mut B) -> Handled
         requires memory { size_of self.old.driver.counts ≤ B.extent bus.old }
         ensures extent { B.extent bus.new ≡ B.extent bus.old }
-        ensures kept { B.kept bus.old bus.new }
+        ensures lent_stays { B.lent_stays bus.old bus.new }
         ensures honest { B.honest bus.old → B.honest bus.new }
         ensures lively { B.lively bus.old → B.lively bus.new }
 

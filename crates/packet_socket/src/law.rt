@@ -3,9 +3,9 @@
 ghost use Rattle.std.specs.Prelude.{◌++◌, ℕ, Bool, List, []};
 ghost use Rattle.adapter.specs.World.{World};
 ghost use Rattle.bus.specs.Law.{Happens};
-ghost use Rattle.bus.specs.Past.{Past, joined};
-ghost use Rattle.packet_socket.specs.Goes.{Given, HostFlowsTo, HostGoesTo};
-ghost use Rattle.packet_socket.specs.Holding.{HostReadyWith};
+ghost use Rattle.bus.specs.PastOfStretch.{Past, joined};
+ghost use Rattle.packet_socket.specs.HostStretches.{Given, HostFlowsTo, HostGoesTo};
+ghost use Rattle.packet_socket.specs.HeldFrames.{HostReadyWith};
 ghost use Rattle.packet_socket.specs.HostState.{HostState};
 
 /// What a host may rest on between two of its calls, whatever happens: what it knows stays, the frames in

@@ -2,10 +2,10 @@
 
 ghost use Rattle.std.specs.Prelude.{◌≡◌, ◌↔◌, ◌≤◌, ◌<◌, [], Bool, Err, IfErr, IfOk, drop, length, take};
 ghost use Rattle.dma_memory.specs.Layout.{size_of};
-ghost use Rattle.driver_law.specs.Goes.{IsRefilled};
-ghost use Rattle.driver.specs.Takes.{IsFrameSize};
-ghost use Rattle.packet_socket.specs.Calls.{LeavesSome, Receives};
-ghost use Rattle.packet_socket.specs.Holding.{HostReadyWith};
+ghost use Rattle.driver_law.specs.Stretches.{IsRefilled};
+ghost use Rattle.driver.specs.TakenFrames.{IsFrameSize};
+ghost use Rattle.packet_socket.specs.HostCalls.{LeavesSome, Receives};
+ghost use Rattle.packet_socket.specs.HeldFrames.{HostReadyWith};
 ghost use Rattle.packet_socket.specs.SocketsState.{queue_at};
 ghost use Rattle.packet_socket.specs.declared.receive.RecvError.TheVariants as RecvError;
 
@@ -40,7 +40,7 @@ impl Host {
     ) -> Result<usize, RecvError>
         requires memory { size_of self.old.driver.counts ≤ B.extent bus.old }
         ensures extent { B.extent bus.new ≡ B.extent bus.old }
-        ensures kept { B.kept bus.old bus.new }
+        ensures lent_stays { B.lent_stays bus.old bus.new }
         ensures honest { B.honest bus.old → B.honest bus.new }
         ensures lively { B.lively bus.old → B.lively bus.new }
 

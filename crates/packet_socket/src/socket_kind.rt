@@ -1,7 +1,7 @@
 // Which frames a socket takes.
 
 ghost use Rattle.std.specs.Prelude.{◌≡◌, ◌<◌, IfSome, length, position};
-ghost use Rattle.packet_socket.specs.Kinds as kinds;
+ghost use Rattle.packet_socket.specs.SocketKinds as kinds;
 
 /// Which frames a socket takes.
 #[derive(Clone, Copy, Debug, Default, PartialEq, Eq)]

@@ -32,11 +32,11 @@ impl Model for Sockets {
 
     ghost Value = { SocketsState };
 
-    ghost use Rattle.packet_socket.specs.InsideSockets.{AreSound, sockets_of};
+    ghost use Rattle.packet_socket.specs.InsideSockets.{AreConsistent, sockets_of};
 
     ghost view = { sockets_of };
 
-    ghost invariant = { AreSound };
+    ghost invariant = { AreConsistent };
 }
 
 impl Sockets {

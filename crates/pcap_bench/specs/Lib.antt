@@ -1,5 +1,5 @@
 pub mod Choosing
-pub mod Faults
+pub mod ProgramErrors
 pub mod Lane
 pub mod Options
 pub mod Passing

@@ -5,8 +5,8 @@ use Rattle.descriptors.specs.Frames.{padded, is_sendable}
 use Rattle.pcap_trace.specs.Devices.{AppendsFront}
 use Rattle.pcap_trace.specs.Format.{Timed, written}
 use Rattle.pcap_bench.specs.declared.counts.PassCounts.{PassCounts}
-use Rattle.pcap_bench.specs.declared.fault.BenchError.{BenchError}
-use Rattle.pcap_bench.specs.declared.fault.BenchError.TheVariants.{Memory, Write}
+use Rattle.pcap_bench.specs.declared.program_error.BenchError.{BenchError}
+use Rattle.pcap_bench.specs.declared.program_error.BenchError.TheVariants.{Memory, Write}
 
 -- which padded frames a filter keeps
 abbrev pub Filter : Type 1

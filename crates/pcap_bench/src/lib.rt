@@ -3,10 +3,10 @@
 
 mod choosing;
 mod counts;
-mod fault;
 mod lane;
 mod passing;
 mod printing;
+mod program_error;
 #[cfg(test)]
 mod readme;
 mod slots;
@@ -15,10 +15,10 @@ mod tests;
 
 pub use command_line::PassFilter;
 pub use counts::PassCounts;
-pub use fault::{BenchError, Fault};
 pub use passing::pass;
 pub use pcap_trace::{
     DeviceError, Frames, Iter, ReadError, ReaderSource, Sink, SliceSource, Source, Trace, VecSink,
     WriteError, WriterSink,
 };
 pub use printing::print_pass;
+pub use program_error::{BenchError, ProgramError};

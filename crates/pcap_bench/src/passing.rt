@@ -2,15 +2,15 @@
 ghost use Rattle.std.specs.Prelude.{◌≡◌, ◌<◌, ◌≤◌, length, IfOk, IfErr, OnOk, OnErr};
 ghost use Rattle.std.specs.Io.KnownBytes.{Appends, append_known};
 ghost use Rattle.descriptors.specs.Frames.{padded, is_sendable};
-ghost use Rattle.pcap_trace.specs.Devices.{AppendsFront, CountsFaults, Grows};
+ghost use Rattle.pcap_trace.specs.Devices.{AppendsFront, CountsFailures, Grows};
 ghost use Rattle.pcap_trace.specs.Format.{packet_of};
 ghost use Rattle.pcap_bench.specs.Options.{HasVlanNumber, KeptBy};
 ghost use Rattle.pcap_bench.specs.Passing.{WritesKept, StopsAmong, StopsBy};
 ghost use Rattle.pcap_bench.specs.Lane.{slot_bytes, HasFrame, IsWaiting};
 
 use crate::counts::PassCounts;
-use crate::fault::BenchError;
 use crate::lane::ReceiveLane;
+use crate::program_error::BenchError;
 use command_line::PassFilter;
 use descriptors::{LONGEST_SENDABLE, SHORTEST_SENDABLE};
 use pcap_trace::{RecordWriter, Sink, Trace, WriteError};
@@ -46,7 +46,7 @@ fn write_received<W: Sink, L: Watch>(
     sink: &mut W,
     number: u64,
 ) -> Result<(), WriteError>
-    requires sound { W.faults sink.old < u64.MAX }
+    requires sound { W.failures sink.old < u64.MAX }
     requires short { length (slot_bytes lane.old) ≤ 1518 }
     requires finished { HasFrame lane.old (slot_bytes lane.old) }
     ensures ok { OnOk result
@@ -54,7 +54,7 @@ fn write_received<W: Sink, L: Watch>(
         (packet_of (record { time = number; frame = slot_bytes lane.old }))) }
     ensures grows { OnOk result (Grows (W.taken sink.old) (W.taken sink.new)) }
     ensures err { OnErr result (AppendsFront (W.taken sink.old) (W.taken sink.new) writer.old) }
-    ensures faults { CountsFaults result (W.faults sink.old) (W.faults sink.new) }
+    ensures failures { CountsFailures result (W.failures sink.old) (W.failures sink.new) }
     ensures waiting { OnOk result (IsWaiting lane.new) }
     ensures filter { OnOk result (lane.new.adapter.filter ≡ lane.old.adapter.filter) }
 {
@@ -72,14 +72,14 @@ pub fn pass_watched<W: Sink, L: Watch>(
     filter: &PassFilter,
     sink: &mut W,
 ) -> Result<PassCounts, BenchError>
-    requires sound { W.faults sink.old < u64.MAX }
+    requires sound { W.failures sink.old < u64.MAX }
     requires vlan { HasVlanNumber filter.now }
     ensures ok { IfOk result
         (λ counts. WritesKept (KeptBy filter.now) trace.now.frames counts (W.taken sink.old) (W.taken sink.new)) }
-    ensures quiet { OnOk result (W.faults sink.new ≡ W.faults sink.old) }
+    ensures quiet { OnOk result (W.failures sink.new ≡ W.failures sink.old) }
     ensures err { OnErr result (StopsAmong (KeptBy filter.now) trace.now.frames (W.taken sink.old) (W.taken sink.new)) }
     ensures fault { IfErr result
-        (λ e. StopsBy e (W.taken sink.old) (W.taken sink.new) (W.faults sink.old) (W.faults sink.new)) }
+        (λ e. StopsBy e (W.taken sink.old) (W.taken sink.new) (W.failures sink.old) (W.failures sink.new)) }
 {
     let mut lane = ReceiveLane::new(alloc, filter)?;
     let mut writer = RecordWriter::new(alloc)?;
@@ -127,14 +127,14 @@ pub fn pass<W: Sink>(
     filter: &PassFilter,
     sink: &mut W,
 ) -> Result<PassCounts, BenchError>
-    requires sound { W.faults sink.old < u64.MAX }
+    requires sound { W.failures sink.old < u64.MAX }
     requires vlan { HasVlanNumber filter.now }
     ensures ok { IfOk result
         (λ counts. WritesKept (KeptBy filter.now) trace.now.frames counts (W.taken sink.old) (W.taken sink.new)) }
-    ensures quiet { OnOk result (W.faults sink.new ≡ W.faults sink.old) }
+    ensures quiet { OnOk result (W.failures sink.new ≡ W.failures sink.old) }
     ensures err { OnErr result (StopsAmong (KeptBy filter.now) trace.now.frames (W.taken sink.old) (W.taken sink.new)) }
     ensures fault { IfErr result
-        (λ e. StopsBy e (W.taken sink.old) (W.taken sink.new) (W.faults sink.old) (W.faults sink.new)) }
+        (λ e. StopsBy e (W.taken sink.old) (W.taken sink.new) (W.failures sink.old) (W.failures sink.new)) }
 {
     pass_watched(&mut Unwatched, alloc, trace, filter, sink)
 }

@@ -1,7 +1,7 @@
 //! The lines that the program prints.
 ghost use Rattle.std.specs.Prelude.{◌≡◌, ◌<◌, ◌≤◌, ◌+◌, ◌++◌, length, OnOk, OnErr};
 ghost use Rattle.std.specs.Io.KnownBytes.{Appends};
-ghost use Rattle.pcap_trace.specs.Devices.{AppendsFront, CountsFaults};
+ghost use Rattle.pcap_trace.specs.Devices.{AppendsFront, CountsFailures};
 ghost use Rattle.pcap_bench.specs.Printing.{field, pass_line};
 
 use crate::counts::PassCounts;
@@ -34,10 +34,10 @@ pub fn print_pass<W: Sink>(
     counts: &PassCounts,
     sink: &mut W,
 ) -> Result<(), WriteError>
-    requires { W.faults sink.old < u64.MAX }
+    requires { W.failures sink.old < u64.MAX }
     ensures ok { OnOk result (Appends (W.taken sink.old) (W.taken sink.new) (pass_line trace.now counts.now)) }
     ensures err { OnErr result (AppendsFront (W.taken sink.old) (W.taken sink.new) (pass_line trace.now counts.now)) }
-    ensures faults { CountsFaults result (W.faults sink.old) (W.faults sink.new) }
+    ensures failures { CountsFailures result (W.failures sink.old) (W.failures sink.new) }
 {
     let mut line = Line::new();
     push_field(&mut line, b"read ", counts.read);

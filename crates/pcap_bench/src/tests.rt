@@ -5,8 +5,8 @@ ghost use Rattle.pcap_bench.specs.Options.{HasVlanNumber};
 use crate::lane::ReceiveLane;
 use crate::passing::{Watch, pass_watched};
 use crate::{
-    BenchError, DeviceError, Fault, Frames, PassCounts, PassFilter, ReadError, Sink, SliceSource,
-    Trace, VecSink, WriteError, pass, print_pass,
+    BenchError, DeviceError, Frames, PassCounts, PassFilter, ProgramError, ReadError, Sink,
+    SliceSource, Trace, VecSink, WriteError, pass, print_pass,
 };
 use bitflags::Flags;
 use descriptors::{RxDesc, RxStatus};
@@ -270,7 +270,7 @@ impl Sink for FailingSink {
 
     ghost taken = { λ _. None };
 
-    ghost faults = { λ s. s.failures };
+    ghost failures = { λ s. s.failures };
 
     fn write(&mut self, bytes: &[u8]) -> Result<usize, DeviceError> {
         if self.writes_left == 0 || self.taken.failures() == u64::MAX {
@@ -334,13 +334,13 @@ fn memory_may_be_refused(rt: HostRuntime) -> Result<(), Fail> {
 #[test]
 fn faults_have_texts_and_statuses(rt: HostRuntime) -> Result<(), Fail> {
     let faults = [
-        (Fault::Read(ReadError::Header), "E60 Header", 1),
-        (Fault::Read(ReadError::Memory), "E65 Memory", 4),
-        (Fault::Read(ReadError::Read), "E66 Read", 3),
-        (Fault::Write(WriteError::Write), "E67 Write", 3),
-        (Fault::Bench(BenchError::Memory), "E57 Memory", 4),
-        (Fault::Bench(BenchError::Write), "E67 Write", 3),
-        (Fault::Open, "E68 Open", 3),
+        (ProgramError::Read(ReadError::Header), "E60 Header", 1),
+        (ProgramError::Read(ReadError::Memory), "E65 Memory", 4),
+        (ProgramError::Read(ReadError::Read), "E66 Read", 3),
+        (ProgramError::Write(WriteError::Write), "E67 Write", 3),
+        (ProgramError::Bench(BenchError::Memory), "E57 Memory", 4),
+        (ProgramError::Bench(BenchError::Write), "E67 Write", 3),
+        (ProgramError::Open, "E68 Open", 3),
     ];
     for (fault, text, status) in &faults {
         let shown = fault.to_string(rt.alloc())?;

@@ -3,8 +3,8 @@ use Rattle.std.specs.Prelude.{◌≡◌, ◌+◌, ◌++◌, ℕ, List, Option, R
 use Rattle.std.specs.Io.KnownBytes.{Appends, Consumes}
 
 -- Each error counts one failure, and nothing else does. (own)
-abbrev pub CountsFaults : {T E : Type 0} → Result T E → ℕ → ℕ → Type 0
-CountsFaults result old new = MatchResult result (λ _. new ≡ old) (λ _. new ≡ old + 1)
+abbrev pub CountsFailures : {T E : Type 0} → Result T E → ℕ → ℕ → Type 0
+CountsFailures result old new = MatchResult result (λ _. new ≡ old) (λ _. new ≡ old + 1)
 
 -- A beginning of these bytes went behind those that were there. (own)
 abbrev pub AppendsFront : Option (List ℕ) → Option (List ℕ) → List ℕ → Type 0

@@ -2,7 +2,7 @@
 ghost use Rattle.std.specs.Prelude.{◌≡◌, ◌<◌, ◌≤◌, ◌+◌, ◌++◌, ◌⊎◌, ◌↔◌, [], List, ℕ, length, take, drop, slice_range};
 ghost use Rattle.std.specs.Prelude.{IsTrue, IfOk, OnOk, OnErr, MatchResult};
 ghost use Rattle.std.specs.Io.KnownBytes.{Consumes, IsAtEnd, Keeps, prepend_known};
-ghost use Rattle.pcap_trace.specs.Devices.{CountsFaults, Receives};
+ghost use Rattle.pcap_trace.specs.Devices.{CountsFailures, Receives};
 
 use crate::device::{DeviceError, Source};
 use std::alloc::{AllocError, Global};
@@ -38,7 +38,7 @@ fn read_behind<S: Source>(
     bytes: &mut [u8],
     end: usize,
 ) -> Result<usize, DeviceError>
-    requires sound { S.faults source.old < u64.MAX }
+    requires sound { S.failures source.old < u64.MAX }
     requires room { end < length bytes.old }
     ensures front { take end bytes.new ≡ take end bytes.old }
     ensures fits { IfOk result (λ n. end + n ≤ length bytes.old) }
@@ -46,7 +46,7 @@ fn read_behind<S: Source>(
         (λ n. Consumes (S.left source.old) (S.left source.new) (slice_range bytes.new end (end + n))) }
     ensures at_end { IfOk result (λ n. n ≡ 0 → IsAtEnd (S.left source.new)) }
     ensures limit { IfOk result (λ n. S.most source.new + n ≤ S.most source.old) }
-    ensures faults { CountsFaults result (S.faults source.old) (S.faults source.new) }
+    ensures failures { CountsFailures result (S.failures source.old) (S.failures source.new) }
 {
     let room = CHUNK.min(bytes.len() - end);
     let into = &mut bytes[end..end + room];
@@ -84,13 +84,13 @@ impl Block {
     /// Moves what it holds to the front of its memory, and reads once from a source behind it. There has to be room
     /// for a byte.
     fn read_more<S: Source>(&mut self, source: &mut S) -> Result<usize, DeviceError>
-        requires sound { S.faults source.old < u64.MAX }
+        requires sound { S.failures source.old < u64.MAX }
         requires room { length self.old < ROOM }
         ensures received { OnOk result (Receives self.old self.new (S.left source.old) (S.left source.new)) }
         ensures more { IfOk result (λ n. length self.new ≡ length self.old + n) }
         ensures at_end { IfOk result (λ n. n ≡ 0 → IsAtEnd (S.left source.new)) }
         ensures limit { IfOk result (λ n. S.most source.new + n ≤ S.most source.old) }
-        ensures faults { CountsFaults result (S.faults source.old) (S.faults source.new) }
+        ensures failures { CountsFailures result (S.failures source.old) (S.failures source.new) }
     {
         self.bytes.copy_within(self.start..self.end, 0);
         let end = self.end - self.start;
@@ -103,12 +103,12 @@ impl Block {
 
     /// Reads from a source until so many bytes are held, at most 327,696, or the source is at its end.
     pub fn fill<S: Source>(&mut self, source: &mut S, want: usize) -> Result<(), DeviceError>
-        requires sound { S.faults source.old < u64.MAX }
+        requires sound { S.failures source.old < u64.MAX }
         requires room { want ≤ ROOM }
         ensures received { OnOk result (Receives self.old self.new (S.left source.old) (S.left source.new)) }
         ensures filled { OnOk result ((want ≤ length self.new) ⊎ IsAtEnd (S.left source.new)) }
         ensures limit { OnOk result (length self.new + S.most source.new ≤ length self.old + S.most source.old) }
-        ensures faults { CountsFaults result (S.faults source.old) (S.faults source.new) }
+        ensures failures { CountsFailures result (S.failures source.old) (S.failures source.new) }
     {
         while self.held().len() < want {
             if self.read_more(source)? == 0 {

@@ -1,7 +1,7 @@
 //! What bytes come from and go to: a file, or memory.
 ghost use Rattle.std.specs.Prelude.{◌≡◌, ◌<◌, ◌≤◌, ◌+◌, List, ℕ, Option, length, MatchResult, IfOk};
 ghost use Rattle.std.specs.Io.KnownBytes.{ReadConsumes, WriteAppends};
-ghost use Rattle.pcap_trace.specs.Devices.{CountsFaults};
+ghost use Rattle.pcap_trace.specs.Devices.{CountsFailures};
 
 use thiserror::Error;
 
@@ -22,17 +22,17 @@ pub trait Source {
     ghost most: { Self → ℕ };
 
     /// How often it has failed.
-    ghost faults: { Self → ℕ };
+    ghost failures: { Self → ℕ };
 
     /// Reads bytes into the front of a slice, and answers how many. None, where the slice isn't empty, is the end. An
     /// `Err` uses up none, and adds 1 to the failures.
     fn read(&mut self, into: &mut [u8]) -> Result<usize, DeviceError>
-        requires { faults self.old < u64.MAX }
+        requires { failures self.old < u64.MAX }
         ensures count { IfOk result (λ n. n ≤ length into.old) }
         ensures limit { MatchResult result (λ n. most self.new + n ≤ most self.old)
             (λ _. most self.new ≤ most self.old) }
         ensures bytes { ReadConsumes (left self.old) (left self.new) result into.new }
-        ensures faults { CountsFaults result (faults self.old) (faults self.new) };
+        ensures failures { CountsFailures result (failures self.old) (failures self.new) };
 
     /// The most bytes that it can still give; a read lowers it by at least what it gave.
     fn limit(&self) -> u64
@@ -40,7 +40,7 @@ pub trait Source {
 
     /// How often it has failed.
     fn failures(&self) -> u64
-        ensures { result ≡ faults self.now };
+        ensures { result ≡ failures self.now };
 }
 
 /// What bytes are written to, as a file or a vector.
@@ -52,18 +52,18 @@ pub trait Sink {
     ghost taken: { Self → Option (List ℕ) };
 
     /// How often it has failed.
-    ghost faults: { Self → ℕ };
+    ghost failures: { Self → ℕ };
 
     /// Takes bytes from the front of a slice, and answers how many: at least one where there is one. An `Err` takes
     /// none, and adds 1 to the failures.
     fn write(&mut self, bytes: &[u8]) -> Result<usize, DeviceError>
-        requires { faults self.old < u64.MAX }
+        requires { failures self.old < u64.MAX }
         ensures count { IfOk result (λ n. n ≤ length bytes.now) }
         ensures some { IfOk result (λ n. 0 < length bytes.now → 0 < n) }
         ensures bytes { WriteAppends (taken self.old) (taken self.new) result bytes.now }
-        ensures faults { CountsFaults result (faults self.old) (faults self.new) };
+        ensures failures { CountsFailures result (failures self.old) (failures self.new) };
 
     /// How often it has failed.
     fn failures(&self) -> u64
-        ensures { result ≡ faults self.now };
+        ensures { result ≡ failures self.now };
 }

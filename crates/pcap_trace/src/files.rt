@@ -19,7 +19,7 @@ impl<R: Read> ReaderSource<R> {
     pub fn new(reader: R, limit: u64) -> Self
         ensures left { ⟦<ReaderSource<R> as Source>⟧.left result ≡ first_of limit (R.remaining reader) }
         ensures most { ⟦<ReaderSource<R> as Source>⟧.most result ≡ limit }
-        ensures faults { ⟦<ReaderSource<R> as Source>⟧.faults result ≡ 0 }
+        ensures failures { ⟦<ReaderSource<R> as Source>⟧.failures result ≡ 0 }
     {
         ReaderSource {
             reader,
@@ -34,7 +34,7 @@ impl<R: Read> Source for ReaderSource<R> {
 
     ghost most = { λ s. s.limit };
 
-    ghost faults = { λ s. s.failures };
+    ghost failures = { λ s. s.failures };
 
     fn read(&mut self, into: &mut [u8]) -> Result<usize, DeviceError> {
         let room = into.len().min(self.limit as usize);
@@ -72,7 +72,7 @@ impl<W: Write> WriterSink<W> {
     /// A sink over a writer, which has not failed yet.
     pub fn new(writer: W) -> Self
         ensures taken { ⟦<WriterSink<W> as Sink>⟧.taken result ≡ W.contents writer }
-        ensures faults { ⟦<WriterSink<W> as Sink>⟧.faults result ≡ 0 }
+        ensures failures { ⟦<WriterSink<W> as Sink>⟧.failures result ≡ 0 }
     {
         WriterSink {
             writer,
@@ -84,7 +84,7 @@ impl<W: Write> WriterSink<W> {
 impl<W: Write> Sink for WriterSink<W> {
     ghost taken = { λ s. W.contents s.writer };
 
-    ghost faults = { λ s. s.failures };
+    ghost failures = { λ s. s.failures };
 
     fn write(&mut self, bytes: &[u8]) -> Result<usize, DeviceError> {
         match self.writer.write(bytes) {

@@ -15,7 +15,7 @@ impl<'a> SliceSource<'a> {
     pub fn new(bytes: &'a [u8]) -> Self
         ensures left { ⟦<SliceSource<'a> as Source>⟧.left result ≡ Some bytes.now }
         ensures most { ⟦<SliceSource<'a> as Source>⟧.most result ≡ length bytes.now }
-        ensures faults { ⟦<SliceSource<'a> as Source>⟧.faults result ≡ 0 }
+        ensures failures { ⟦<SliceSource<'a> as Source>⟧.failures result ≡ 0 }
     {
         SliceSource { bytes }
     }
@@ -26,7 +26,7 @@ impl<'a> Source for SliceSource<'a> {
 
     ghost most = { λ s. length s.bytes.now };
 
-    ghost faults = { λ _. 0 };
+    ghost failures = { λ _. 0 };
 
     fn read(&mut self, into: &mut [u8]) -> Result<usize, DeviceError> {
         let count = self.bytes.len().min(into.len());
@@ -56,7 +56,7 @@ impl VecSink {
     /// A sink that has taken nothing.
     pub fn new(alloc: Global) -> Self
         ensures taken { ⟦<VecSink as Sink>⟧.taken result ≡ Some [] }
-        ensures faults { ⟦<VecSink as Sink>⟧.faults result ≡ 0 }
+        ensures failures { ⟦<VecSink as Sink>⟧.failures result ≡ 0 }
     {
         VecSink {
             bytes: Vec::new(alloc),
@@ -75,7 +75,7 @@ impl VecSink {
 impl Sink for VecSink {
     ghost taken = { λ s. Some s.bytes.items };
 
-    ghost faults = { λ s. s.failures };
+    ghost failures = { λ s. s.failures };
 
     fn write(&mut self, bytes: &[u8]) -> Result<usize, DeviceError> {
         match self.bytes.extend_from_slice(bytes) {

@@ -47,14 +47,14 @@ fn read_body<T: ByteOrder, S: Source>(
     block: &mut Block,
     source: &mut S,
 ) -> Result<Trace, ReadError>
-    requires sound { S.faults source.old < u64.MAX }
+    requires sound { S.failures source.old < u64.MAX }
     requires small { length block.old ≤ 327696 }
     ensures ok { IfOk result
         (λ t. IfSome (prepend_known block.old (S.left source.old))
         (λ bytes. IsBody T.number_of bytes t.frames t.skipped (ending_of t.cut))) }
     ensures fault { IfErr result
         (λ e. IfSome (prepend_known block.old (S.left source.old)) (λ bytes. IsBodyFault T.number_of bytes e)) }
-    ensures failure { TellsFailure result (S.faults source.old) (S.faults source.new) }
+    ensures failure { TellsFailure result (S.failures source.old) (S.failures source.new) }
     ensures end { OnOk result (IsAtEnd (S.left source.new)) }
 {
     // It can give fewer than 2^64 bytes, and each skipped packet takes 16 of them, so that the count of these does
@@ -100,14 +100,14 @@ impl Trace {
     /// behind it. E65 is want of memory. A device's failure is E66 and never anything else. After an error some bytes
     /// of the source are used up.
     pub fn read<S: Source>(alloc: Global, source: &mut S) -> Result<Trace, ReadError>
-        requires { S.faults source.old < u64.MAX }
+        requires { S.failures source.old < u64.MAX }
 
         // The answer fits the bytes, and no other does. Want of memory and a failed device say nothing of the bytes.
         ensures fits { IfSome (S.left source.old) (λ bytes. IsAnswer bytes result) }
         ensures only { IfSome (S.left source.old) (λ bytes. IsOnlyAnswer bytes result) }
 
         // E66 comes exactly where the source failed.
-        ensures failure { TellsFailure result (S.faults source.old) (S.faults source.new) }
+        ensures failure { TellsFailure result (S.failures source.old) (S.failures source.new) }
         ensures end { OnOk result (IsAtEnd (S.left source.new)) }
     {
         let mut block = Block::new(alloc)?;

@@ -1,7 +1,7 @@
 //! A trace written in large blocks.
 ghost use Rattle.std.specs.Prelude.{◌≡◌, ◌<◌, ◌≤◌, ◌+◌, ◌++◌, [], length, OnOk, OnErr, IfOk, vec_capacity};
 ghost use Rattle.std.specs.Io.KnownBytes.{Appends, append_known};
-ghost use Rattle.pcap_trace.specs.Devices.{AppendsFront, CountsFaults, Grows};
+ghost use Rattle.pcap_trace.specs.Devices.{AppendsFront, CountsFailures, Grows};
 ghost use Rattle.pcap_trace.specs.Format.{file_header, packet_of};
 
 use crate::device::Sink;
@@ -55,7 +55,7 @@ impl RecordWriter {
         time: u64,
         frame: &[u8],
     ) -> Result<(), WriteError>
-        requires sound { W.faults sink.old < u64.MAX }
+        requires sound { W.failures sink.old < u64.MAX }
         requires short { length frame.now ≤ 1518 }
         ensures ok { OnOk result
             (Appends (append_known (W.taken sink.old) self.old) (append_known (W.taken sink.new) self.new)
@@ -63,7 +63,7 @@ impl RecordWriter {
         ensures grows { OnOk result (Grows (W.taken sink.old) (W.taken sink.new)) }
         ensures err { OnErr result (AppendsFront (W.taken sink.old) (W.taken sink.new) self.old) }
         ensures kept { OnErr result (self.new ≡ self.old) }
-        ensures faults { CountsFaults result (W.faults sink.old) (W.faults sink.new) }
+        ensures failures { CountsFailures result (W.failures sink.old) (W.failures sink.new) }
     {
         if BLOCK - PACKET_HEADER - frame.len() < self.block.len() {
             self.flush(sink)?;
@@ -89,12 +89,12 @@ impl RecordWriter {
     /// After an error (E67) a beginning of what waited went out, and all of it waits still: a further flush would
     /// send that beginning again.
     pub fn flush<W: Sink>(&mut self, sink: &mut W) -> Result<(), WriteError>
-        requires { W.faults sink.old < u64.MAX }
+        requires { W.failures sink.old < u64.MAX }
         ensures ok { OnOk result (Appends (W.taken sink.old) (W.taken sink.new) self.old) }
         ensures empty { OnOk result (self.new ≡ []) }
         ensures err { OnErr result (AppendsFront (W.taken sink.old) (W.taken sink.new) self.old) }
         ensures kept { OnErr result (self.new ≡ self.old) }
-        ensures faults { CountsFaults result (W.faults sink.old) (W.faults sink.new) }
+        ensures failures { CountsFailures result (W.failures sink.old) (W.failures sink.new) }
     {
         write_all(sink, &self.block)?;
         self.block.clear();

@@ -1,7 +1,7 @@
 //! Bytes and whole traces written to a sink.
 ghost use Rattle.std.specs.Prelude.{◌≡◌, ◌<◌, OnOk, OnErr, map};
 ghost use Rattle.std.specs.Io.KnownBytes.{Appends};
-ghost use Rattle.pcap_trace.specs.Devices.{AppendsFront, CountsFaults};
+ghost use Rattle.pcap_trace.specs.Devices.{AppendsFront, CountsFailures};
 ghost use Rattle.pcap_trace.specs.Format.{packet_of, timed, written};
 
 use crate::device::Sink;
@@ -12,10 +12,10 @@ use descriptors::Frame;
 
 /// Writes all of a slice to a sink, in as many writes as it takes. After an error (E67) a beginning of it went out.
 pub fn write_all<W: Sink>(sink: &mut W, bytes: &[u8]) -> Result<(), WriteError>
-    requires { W.faults sink.old < u64.MAX }
+    requires { W.failures sink.old < u64.MAX }
     ensures ok { OnOk result (Appends (W.taken sink.old) (W.taken sink.new) bytes.now) }
     ensures err { OnErr result (AppendsFront (W.taken sink.old) (W.taken sink.new) bytes.now) }
-    ensures faults { CountsFaults result (W.faults sink.old) (W.faults sink.new) }
+    ensures failures { CountsFailures result (W.failures sink.old) (W.failures sink.new) }
 {
     let mut rest = bytes;
     while !rest.is_empty() {
@@ -27,10 +27,10 @@ pub fn write_all<W: Sink>(sink: &mut W, bytes: &[u8]) -> Result<(), WriteError>
 
 /// Writes a packet.
 fn write_packet<W: Sink>(sink: &mut W, packet: &(u64, Frame)) -> Result<(), WriteError>
-    requires { W.faults sink.old < u64.MAX }
+    requires { W.failures sink.old < u64.MAX }
     ensures ok { OnOk result (Appends (W.taken sink.old) (W.taken sink.new) (packet_of (timed packet.now))) }
     ensures err { OnErr result (AppendsFront (W.taken sink.old) (W.taken sink.new) (packet_of (timed packet.now))) }
-    ensures faults { CountsFaults result (W.faults sink.old) (W.faults sink.new) }
+    ensures failures { CountsFailures result (W.failures sink.old) (W.failures sink.new) }
 {
     let (time, frame) = packet;
     write_all(sink, &packet_header(*time, frame.len() as u32))?;
@@ -45,11 +45,11 @@ impl Trace {
     ///
     /// A device's failure is E67, the only error; then a beginning of the file's bytes went out.
     pub fn write<W: Sink>(sink: &mut W, packets: &[(u64, Frame)]) -> Result<(), WriteError>
-        requires { W.faults sink.old < u64.MAX }
+        requires { W.failures sink.old < u64.MAX }
         ensures ok { OnOk result (Appends (W.taken sink.old) (W.taken sink.new) (written (map timed packets.now))) }
         ensures err { OnErr result
             (AppendsFront (W.taken sink.old) (W.taken sink.new) (written (map timed packets.now))) }
-        ensures faults { CountsFaults result (W.faults sink.old) (W.faults sink.new) }
+        ensures failures { CountsFailures result (W.failures sink.old) (W.failures sink.new) }
     {
         write_all(sink, &file_header())?;
         for packet in packets {

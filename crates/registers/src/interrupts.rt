@@ -96,7 +96,7 @@ impl Causes {
         }
     }
 
-    /// Records causes that came up in the adapter, masked or not.
+    /// Records causes that came up in the adapter, in the mask or not.
     pub fn raise(&mut self, cause: Cause)
         ensures { self.new ≡ record self.old { recorded = union self.old.recorded (causes_of cause.0) } }
     {
@@ -121,7 +121,7 @@ impl Causes {
         self.recorded = self.recorded.difference(Cause::kept(value));
     }
 
-    /// A write of ICS: records the causes that the word names, masked or not.
+    /// A write of ICS: records the causes that the word names, in the mask or not.
     pub fn set(&mut self, value: u32)
         ensures { self.new ≡ record self.old { recorded = union self.old.recorded (causes_of value) } }
     {

@@ -35,6 +35,6 @@ pub record IsFinished (memory : List ℕ) (descriptor : ℕ) (frame : List ℕ) 
   -- DD and EOP (3.2.3.1)
   pub done : HasBit (status_bits (descriptor_at memory descriptor).status) dd
   pub ended : HasBit (status_bits (descriptor_at memory descriptor).status) eop
-  pub unharmed : (descriptor_at memory descriptor).errors ≡ 0
+  pub has_no_errors : (descriptor_at memory descriptor).errors ≡ 0
   pub length : (descriptor_at memory descriptor).length ≡ length frame
   pub bytes : bytes_at memory (named_address memory descriptor) (descriptor_at memory descriptor).length ≡ frame

@@ -6,6 +6,6 @@ use Rattle.rx_engine.specs.declared.engine.RxEngine.TheInside.{Inside}
 abbrev pub receiver_of : Inside → Receiver
 receiver_of engine = record { buffer = engine.buffer.frames; work = engine.work; stopped = engine.stopped }
 
-pub record IsSound (engine : Inside) : Type 0 where
+pub record IsConsistent (engine : Inside) : Type 0 where
   pub capacity : engine.buffer.capacity ≡ 24
   pub keeps : IsReceiver (receiver_of engine)

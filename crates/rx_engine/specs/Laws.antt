@@ -122,7 +122,7 @@ written_back-finished memory at n short lies stands =
     record {
       done = ap (λ (d : RxDesc). status_bits d.status / 2 ^ 0 % 2) desc;
       ended = ap (λ (d : RxDesc). status_bits d.status / 2 ^ 1 % 2) desc;
-      unharmed = ap (λ (d : RxDesc). d.errors) desc;
+      has_no_errors = ap (λ (d : RxDesc). d.errors) desc;
       length = ap (λ (d : RxDesc). d.length) desc ∙ sym count;
       bytes = ap (λ (d : RxDesc). bytes_at memory' d.address d.length) desc ∙ kept;
     }
@@ -181,7 +181,7 @@ finished-kept memory memory' area descriptor frame only apart away finished =
     record {
       done = ap (λ (d : RxDesc). status_bits d.status / 2 ^ 0 % 2) same ∙ finished.done;
       ended = ap (λ (d : RxDesc). status_bits d.status / 2 ^ 1 % 2) same ∙ finished.ended;
-      unharmed = ap (λ (d : RxDesc). d.errors) same ∙ finished.unharmed;
+      has_no_errors = ap (λ (d : RxDesc). d.errors) same ∙ finished.has_no_errors;
       length = ap (λ (d : RxDesc). d.length) same ∙ count;
       bytes = ap (λ (d : RxDesc). bytes_at memory' d.address d.length) same ∙ ap (bytes_at memory' (named_address memory descriptor)) count
           ∙ kept ∙ bytes;

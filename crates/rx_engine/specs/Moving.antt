@@ -5,7 +5,7 @@ use Rattle.registers.specs.Places.{rctl_bsex, rctl_bsize, rctl_en}
 use Rattle.registers.specs.ReceiveControl.{buffer_size_of}
 use Rattle.dma_memory.specs.HostMemory.{with_bytes, LiesIn}
 use Rattle.descriptors.specs.declared.ring.Ring.{Ring}
-use Rattle.descriptors.specs.Ring.{IsSound, address_of, count_of, distance_of, next_of}
+use Rattle.descriptors.specs.Ring.{HasValidIndices, address_of, count_of, distance_of, next_of}
 use Rattle.rx_engine.specs.Descriptors.{named_address}
 use Rattle.rx_engine.specs.Receiver.{Receiver, IsReady, oldest}
 use Rattle.rx_engine.specs.declared.data.Data.{Data}
@@ -20,7 +20,7 @@ pub record HasFrameToMove (control : ℕ) (ring : Ring) (engine : Receiver) : Ty
 
 -- with RCTL at this word a frame of n bytes can be moved: else the step is a fault (own)
 pub record CanMove (control : ℕ) (ring : Ring) (memory : List ℕ) (n : ℕ) : Type 0 where
-  pub indices : IsSound ring
+  pub indices : HasValidIndices ring
   pub descriptor : LiesIn memory (address_of ring ring.head) 16
   pub place : LiesIn memory (named_address memory (address_of ring ring.head)) n
   -- RCTL.BSEX

@@ -1,7 +1,7 @@
 -- What the receive engine holds (own; "3.2 Packet Reception" of Intel's manual has one packet buffer and one engine).
 use Rattle.std.specs.Prelude.{◌≡◌, ◌≢◌, ◌≤◌, ℕ, List, [], ◌∷◌, All, length, Bool, false, Option, None}
 use Rattle.std.specs.Option.{ForSome}
-use Rattle.descriptors.specs.Frames.{IsLegal}
+use Rattle.descriptors.specs.Frames.{IsLegal, longest_frame, shortest_frame}
 use Rattle.rx_engine.specs.declared.engine.Work.{Work}
 
 pub record Receiver : Type 0 where
@@ -31,5 +31,5 @@ pub record IsReady (engine : Receiver) : Type 0 where
 pub record IsReceiver (engine : Receiver) : Type 0 where
   pub room : length engine.buffer ≤ 24
   pub frames : All IsLegal engine.buffer
-  pub least : ForSome engine.work (λ work. 60 ≤ work.length)
-  pub most : ForSome engine.work (λ work. work.length ≤ 1518)
+  pub least : ForSome engine.work (λ work. shortest_frame ≤ work.length)
+  pub most : ForSome engine.work (λ work. work.length ≤ longest_frame)

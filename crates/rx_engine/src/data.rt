@@ -3,7 +3,7 @@
 ghost use Rattle.std.specs.Prelude.{◌≡◌, ◌≤◌, ◌*◌, ◌↔◌, length, IsTrue, IsSome, IfSome};
 ghost use Rattle.registers.specs.Bits.{HasBit, field};
 ghost use Rattle.registers.specs.ReceiveControl.{buffer_size_of};
-ghost use Rattle.descriptors.specs.Ring.{IsSound, address_of, count_of, distance_of};
+ghost use Rattle.descriptors.specs.Ring.{HasValidIndices, address_of, count_of, distance_of};
 ghost use Rattle.dma_memory.specs.Areas.{ChangesOnly, area_at};
 ghost use Rattle.dma_memory.specs.HostMemory.{LiesIn};
 ghost use Rattle.rx_engine.specs.Descriptors.{named_address};
@@ -98,7 +98,10 @@ fn target_of(ring: &Ring, control: Rctl, memory: &HostMemory, length: u16) -> Op
     ensures buffer { IfSome result (λ target.
         target.buffer ≡ named_address memory.now (address_of ring.now ring.now.head)) }
 {
-    if !ring.is_sound() || control.extends_buffer_size() || length > control.buffer_size() {
+    if !ring.has_valid_indices()
+        || control.extends_buffer_size()
+        || length > control.buffer_size()
+    {
         return None;
     }
     let size = memory.size();
@@ -123,7 +126,7 @@ fn buffer_named_at(memory: &HostMemory, descriptor: u64) -> Option<u64>
 
 /// Whether the free descriptors, those from head to tail, are half the ring.
 fn is_half_free(ring: &Ring) -> bool
-    requires { IsSound ring.now }
+    requires { HasValidIndices ring.now }
     ensures { result ≡ is_half_free ring.now }
 {
     2 * ring.distance(ring.head, ring.tail) == ring.count()

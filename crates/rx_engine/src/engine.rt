@@ -33,11 +33,11 @@ impl Model for RxEngine {
 
     ghost Value = { Receiver };
 
-    ghost use Rattle.rx_engine.specs.Inside.{receiver_of, IsSound};
+    ghost use Rattle.rx_engine.specs.Inside.{receiver_of, IsConsistent};
 
     ghost view = { receiver_of };
 
-    ghost invariant = { IsSound };
+    ghost invariant = { IsConsistent };
 }
 
 impl RxEngine {

@@ -3,11 +3,11 @@ use Rattle.std.proofs.Common.{◌≡◌, ◌+◌, ◌++◌, ◌∷◌, [], Bool,
 use Rattle.std.specs.List.{All}
 use Rattle.std.proofs.lemmas.List.{append-nil, map-append}
 use Rattle.bus.specs.Law.{Acts, Happens}
-use Rattle.bus.specs.Past.{Past}
+use Rattle.bus.specs.PastOfStretch.{Past}
 use Rattle.bus.specs.declared.event.Access.{Access}
-use Rattle.bus.specs.Groups.{group_of}
-use Rattle.solo_bus.specs.SoloBuses.{Prepared, Recounts, SoloState, is_go, own_ticks, tick_of}
-use Rattle.solo_bus.specs.SoloLaws.{are_free_joins, recounts_own}
+use Rattle.bus.specs.TickGroups.{group_of}
+use Rattle.solo_bus.specs.SoloBuses.{Prepared, Recounts, SoloState, is_go, lively_ticks, tick_of}
+use Rattle.solo_bus.specs.SoloLaws.{are_free_joins, recounts_lively}
 use Rattle.bus.specs.TrailLaws.{past_of-append, same_past, trail_joins}
 use Rattle.bus.specs.Trails.{IsAnswered, IsStep, past_of, past_of_event, world_after_access}
 use Rattle.bus.specs.declared.event.Event.{Event}
@@ -105,7 +105,7 @@ acts_on a p b access effect prepared after answered adapter does =
     let plays = prepared.plays in
     let events = plays.events in
     let middle = p.world in
-    let own = own_ticks a.lively in
+    let own = lively_ticks a.lively in
     let group = group_of is_go a.waiting in
     let world_b : b.world ≡ world_after_access access p.world = ap solo_world after in
     let waiting_b : b.waiting ≡ p.waiting = ap (λ (s : SoloState). s.waiting) after in
@@ -124,7 +124,7 @@ acts_on a p b access effect prepared after answered adapter does =
       lively = lively_b ∙ plays.lively;
       count = omega (arith, count_b, prepared.count);
     } in
-    let own_is = recounts_own a b past told in
+    let own_is = recounts_lively a b past told in
     record {
       middle = middle;
       past = past;

@@ -14,9 +14,10 @@ use Rattle.adapter.specs.declared.step.Stepped.{Stepped}
 use Rattle.adapter.specs.declared.step.Stepped.TheVariants.{Put}
 use Rattle.eeprom.specs.Eerd.{is_pending}
 use Rattle.mdic_phy.specs.Mdic.{has_work}
-use Rattle.bus.specs.Groups.{behind_group, group_of, without_go}
-use Rattle.bus.specs.Past.{Past}
-use Rattle.solo_bus.specs.SoloBuses.{Plays, Prepared, SoloState, has_room, is_go, most_accesses, own_ticks, solo_after_arrival, solo_after_step}
+use Rattle.bus.specs.TickGroups.{behind_group, group_of, without_go}
+use Rattle.bus.specs.PastOfStretch.{Past}
+use Rattle.solo_bus.specs.SoloBuses.{Plays, Prepared, SoloState, has_room, is_go, most_accesses, lively_ticks, solo_after_arrival}
+use Rattle.solo_bus.specs.SoloBuses.{solo_after_step}
 use Rattle.solo_bus.specs.SoloBuses.{tick_of}
 use Rattle.solo_bus.specs.SoloLaws.{are_free_joins}
 use Rattle.bus.specs.TrailLaws.{past_of-append, trail_joins}
@@ -221,13 +222,13 @@ kinds_on kinds place other a s b answer inside before running answers after =
 
 -- All that comes before an access.
 pub prepared_on :
-    (a m g b : SoloState) → Plays (own_ticks a.lively) a.waiting a m
+    (a m g b : SoloState) → Plays (lively_ticks a.lively) a.waiting a m
     → Plays (group_of is_go m.waiting) (behind_group is_go m.waiting) m g
     → b ≡ record g { accesses = min (g.accesses + 1) most_accesses } → Prepared a b
 prepared_on a m g b own group is =
     let group_a : Plays (group_of is_go a.waiting) (behind_group is_go a.waiting) m g = subst
     (λ (ticks : List SoloTick). Plays (group_of is_go ticks) (behind_group is_go ticks) m g) own.waiting group in
-    let whole = plays_trans (own_ticks a.lively) (group_of is_go a.waiting) a.waiting (behind_group is_go a.waiting) a m g own group_a in
+    let whole = plays_trans (lively_ticks a.lively) (group_of is_go a.waiting) a.waiting (behind_group is_go a.waiting) a m g own group_a in
     subst (λ (x : SoloState). Prepared a x) (sym is) (record {
       plays = record {
         events = whole.events;

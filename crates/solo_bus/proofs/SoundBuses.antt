@@ -9,7 +9,7 @@ use Rattle.dma_memory.specs.Areas.{AreApart, Area}
 use Rattle.registers.specs.Bits.{is_set}
 use Rattle.dma_memory.specs.HostMemory.{LiesIn, bytes_at}
 use Rattle.dma_memory.specs.Laws.{bytes_at-stored, bytes_at-zeros, length-with_bytes}
-use Rattle.descriptors.specs.Ring.{owned}
+use Rattle.descriptors.specs.Ring.{offered_places}
 use Rattle.descriptors.specs.RxDesc.{rx_desc_of}
 use Rattle.descriptors.specs.TxDesc.{tx_desc_of}
 use Rattle.descriptors.specs.TxFields.{command_bits}
@@ -34,17 +34,17 @@ use Rattle.adapter.specs.Table.{array_register_at, register_at}
 use Rattle.solo_bus.specs.SoundWorlds.{HasFinished, HasFramesInBuffer, HasFramesInRing, HasRings, HasWork}
 use Rattle.adapter.specs.HostAreas.{buffer_of, data_of}
 use Rattle.adapter.specs.Slots.{finished, is_done}
-use Rattle.bus.specs.Idle.{IsIdle}
+use Rattle.bus.specs.IdleRings.{IsIdle}
 use Rattle.adapter.specs.Conditions.{Reports, Sound}
-use Rattle.bus.specs.Offering.{CanOffer, CanSend}
-use Rattle.solo_bus.specs.SoundBuses.{call, called, ready, reported, request, requested, resting, sending, sent, working}
-use Rattle.bus.specs.Steps.{world_after_arrival, world_after_step}
+use Rattle.bus.specs.SlotOffers.{CanOffer, CanSend}
+use Rattle.solo_bus.specs.SoundBuses.{call, called, ready, finished_slot, request, requested, resting, sending, taken, working}
+use Rattle.bus.specs.StepsAndArrivals.{world_after_arrival, world_after_step}
 use Rattle.adapter.specs.State.{IsAdapter}
 use Rattle.adapter.specs.World.{World, world_after_write}
-use Rattle.bus.proofs.Idle.{idle-areas, idle_rings_are_sound, stores_keep_idle}
-use Rattle.bus.proofs.Instances.{arrivals_happen, steps_happen}
+use Rattle.bus.proofs.IdleRings.{idle-areas, idle_rings_are_sound, stores_keep_idle}
+use Rattle.bus.proofs.StepInstances.{arrivals_happen, steps_happen}
 use Rattle.bus.proofs.Lists.{all-none, pairs-none}
-use Rattle.bus.proofs.Offering.{frames_can_be_offered, slots_can_be_offered}
+use Rattle.bus.proofs.SlotOffers.{frames_can_be_offered, slots_can_be_offered}
 
 -- Descriptors in a memory of zeros.
 
@@ -129,7 +129,7 @@ ready-sound size words fits =
 -- It alone is offered.
 
 pub ready-has_rings : (size : ℕ) (words : List ℕ) → HasRings (ready size words)
-unfolding owned
+unfolding offered_places
 ready-has_rings size words = record { receives = omega arith; transmits = omega arith; offers = λ none. absurd (cc) }
 
 -- RDT moves on by the write of 1.
@@ -184,17 +184,17 @@ data-moved size words fits _ answers = absurd answers
 pub working-has_work : (size : ℕ) (words : List ℕ) → HasWork (working size words)
 working-has_work size words none = absurd (cc)
 
--- It is reported.
+-- It is finished_slot.
 
 pub done-reported : (size : ℕ) (words : List ℕ) (answer : Stepped) → DoneAnswers (working size words).adapter answer → answer ≡ Done
 done-reported size words Done answers = refl
 done-reported size words Nothing answers = absurd (cc)
 done-reported size words _ answers = absurd answers
 
-pub reported-has_finished : (size : ℕ) (words : List ℕ) → Sound 0 0 (reported size words) → HasFinished (reported size words)
-unfolding owned
+pub reported-has_finished : (size : ℕ) (words : List ℕ) → Sound 0 0 (finished_slot size words) → HasFinished (finished_slot size words)
+unfolding offered_places
 reported-has_finished size words sound none =
-    let all : 2048 ∷ [] ≡ finished 0 (reported size words) ++ [] = sound.receive_slots.classes in
+    let all : 2048 ∷ [] ≡ finished 0 (finished_slot size words) ++ [] = sound.receive_slots.classes in
     let empty : (let one : List ℕ = 2048 ∷ [] in one) ≡ [] = all ∙ ap (λ (slots : List ℕ). slots ++ []) none in
     cc
 
@@ -222,12 +222,12 @@ working-found size words fate answer a b d fits begins is arrives answers steps 
     steps ∙ ap (λ (told : Stepped). world_after_step RxData told b) moved ∙ ap (world_after_step RxData Moved) there
 
 pub reported-found : (size : ℕ) (words : List ℕ) (answer : Stepped) (a b : World) → a ≡ working size words → DoneAnswers a.adapter answer
-    → b ≡ world_after_step RxDone answer a → b ≡ reported size words
+    → b ≡ world_after_step RxDone answer a → b ≡ finished_slot size words
 reported-found size words answer a b begins answers steps =
     let done : answer ≡ Done = done-reported size words answer (subst (λ (w : World). DoneAnswers w.adapter answer) begins answers) in
     steps ∙ ap (λ (told : Stepped). world_after_step RxDone told a) done ∙ ap (world_after_step RxDone Done) begins
 
--- A frame to be sent: its descriptor is stored,
+-- A frame to be taken: its descriptor is stored,
 
 request-lies : (size : ℕ) → 4096 ≤ size → LiesIn (replicate size 0) 2176 16
 request-lies size fits = omega (arith, length-replicate {A = ℕ} size 0, fits)
@@ -289,7 +289,7 @@ sending-sound size words fits =
     (requested-can_send size words fits)).sound
 
 pub sending-has_frames : (size : ℕ) (words : List ℕ) → HasFramesInRing (sending size words)
-unfolding owned to_send
+unfolding offered_places to_send
 sending-has_frames size words = record { slots = λ none. absurd (cc); frames = λ none. absurd (cc) }
 
 -- TDT moves on by the write of 1.
@@ -339,11 +339,11 @@ take-took size words fits Nothing answers = absurd (sending-busy size words answ
 take-took size words fits Fault answers = absurd (answers.1 (sending-can_take size words fits))
 take-took size words fits _ answers = absurd answers
 
-pub sent-has_frames : (size : ℕ) (words : List ℕ) → HasFramesInBuffer (sent size words)
+pub sent-has_frames : (size : ℕ) (words : List ℕ) → HasFramesInBuffer (taken size words)
 sent-has_frames size words none = absurd (cc)
 
 pub sent-found : (size : ℕ) (words : List ℕ) (answer : Stepped) (a b : World) → 4096 ≤ size → a ≡ sending size words
-    → TakeAnswers a.memory a.adapter answer → b ≡ world_after_step TxTake answer a → b ≡ sent size words
+    → TakeAnswers a.memory a.adapter answer → b ≡ world_after_step TxTake answer a → b ≡ taken size words
 sent-found size words answer a b fits begins answers steps =
     let took : answer ≡ Took = take-took size words fits answer
     (subst (λ (w : World). TakeAnswers w.memory w.adapter answer) begins answers) in

@@ -4,7 +4,7 @@ use Rattle.std.specs.List.{All, take_while}
 use Rattle.std.proofs.lemmas.List.Elements.{All-cons}
 use Rattle.dma_memory.specs.Areas.{Area}
 use Rattle.dma_memory.specs.HostMemory.{with_bytes}
-use Rattle.descriptors.specs.Ring.{owned}
+use Rattle.descriptors.specs.Ring.{offered_places}
 use Rattle.rx_engine.specs.Finishing.{finished_bytes}
 use Rattle.rx_engine.specs.declared.engine.Work.{Work}
 use Rattle.tx_engine.specs.Fetching.{fetched}
@@ -15,20 +15,20 @@ use Rattle.adapter.specs.HostFrames.{named}
 use Rattle.adapter.specs.Slots.{finished, is_done, written_back}
 use Rattle.adapter.specs.Conditions.{FitBuffers, Sound}
 use Rattle.bus.specs.Law.{Between}
-use Rattle.bus.specs.Past.{Past, nothing}
+use Rattle.bus.specs.PastOfStretch.{Past, nothing}
 use Rattle.adapter.specs.Running.{CanRun, CanTransmit}
 use Rattle.solo_bus.specs.SoundBuses.{call, called, ready, requested, resting, sending, working}
 use Rattle.adapter.specs.World.{receive_ring, transmit_ring, World}
-use Rattle.bus.proofs.Finishing.{between_done, done_adapter}
-use Rattle.bus.proofs.Idle.{idle_rings_are_sound, offered-none, outstanding-none}
+use Rattle.bus.proofs.RxDoneSteps.{between_done, done_adapter}
+use Rattle.bus.proofs.IdleRings.{idle_rings_are_sound, offered-none, outstanding-none}
 use Rattle.bus.proofs.Lists.{all-none}
-use Rattle.bus.proofs.Moving.{between_moved}
-use Rattle.bus.proofs.Offering.{frames_can_be_offered, slots_can_be_offered}
-use Rattle.bus.proofs.Putting.{between_put, put_adapter}
+use Rattle.bus.proofs.RxDataSteps.{between_moved}
+use Rattle.bus.proofs.SlotOffers.{frames_can_be_offered, slots_can_be_offered}
+use Rattle.bus.proofs.TxPutSteps.{between_put, put_adapter}
 use Rattle.solo_bus.proofs.SoundBuses.{call-legal, called-can_move, called-has_frame, ready-has_rings, ready-sound, requested-can_send}
 use Rattle.solo_bus.proofs.SoundBuses.{requested-idle, resting-can_offer, resting-sound, sending-fields, sending-has_frames, sending-sound}
 use Rattle.solo_bus.proofs.SoundBuses.{working-has_work}
-use Rattle.bus.proofs.Taking.{between_padded, taken}
+use Rattle.bus.proofs.TxTakeSteps.{between_padded, taken}
 
 -- Engines that can run.
 
@@ -130,14 +130,14 @@ done-between size words fits = between_done 0 0 work (working size words) (omega
     (working-between size words fits).sound
 
 done-finished : (size : ℕ) (words : List ℕ) → 4096 ≤ size → HasFinished (done_with size words)
-unfolding owned
+unfolding offered_places
 done-finished size words fits none =
     let sound = (done-between size words fits).sound in
     let all : 2048 ∷ [] ≡ finished 0 (done_with size words) ++ [] = sound.receive_slots.classes in
     let empty : (let one : List ℕ = 2048 ∷ [] in one) ≡ [] = all ∙ ap (λ (slots : List ℕ). slots ++ []) none in
     cc
 
--- A frame to be sent is taken,
+-- A frame to be taken is taken,
 abbrev took : ℕ → List ℕ → World
 took size words = taken true (sending size words)
 
@@ -166,7 +166,7 @@ put-between : (size : ℕ) (words : List ℕ) → 4096 ≤ size
 put-between size words fits = between_put 0 0 (fetched_one size words) [] (took size words) (took-between size words fits).sound
 
 put-written : (size : ℕ) (words : List ℕ) → 4096 ≤ size → HasWrittenBack (put_with size words)
-unfolding owned
+unfolding offered_places
 put-written size words fits none =
     let sound = (put-between size words fits).sound in
     let all : 2176 ∷ [] ≡ written_back 0 (put_with size words) ++ [] = sound.transmit_slots.classes in

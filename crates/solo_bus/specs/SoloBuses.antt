@@ -8,10 +8,10 @@ use Rattle.adapter.specs.declared.step.StepKind.{StepKind}
 use Rattle.adapter.specs.declared.step.StepKind.TheVariants.{EepromTick, PhyTick}
 use Rattle.adapter.specs.declared.step.StepOutcome.{StepOutcome}
 use Rattle.adapter.specs.declared.step.Stepped.{Stepped}
-use Rattle.bus.specs.Groups.{behind_group, group_of, groups_of, played_in, waiting_after}
-use Rattle.bus.specs.Past.{Past}
+use Rattle.bus.specs.TickGroups.{behind_group, group_of, groups_of, played_in, waiting_after}
+use Rattle.bus.specs.PastOfStretch.{Past}
 use Rattle.bus.specs.declared.event.Access.{Access}
-use Rattle.bus.specs.Steps.{past_of_step, world_after_arrival, world_after_step}
+use Rattle.bus.specs.StepsAndArrivals.{past_of_step, world_after_arrival, world_after_step}
 use Rattle.bus.specs.Trails.{IsStep, Trail, past_of}
 use Rattle.bus.specs.declared.event.Event.{Event}
 use Rattle.bus.specs.declared.event.Event.TheVariants.{Accesses, Arrives, Steps}
@@ -29,9 +29,16 @@ pub record SoloState : Type 0 where
   -- how many accesses there were
   pub accesses : ℕ
 
--- the wire has room while less than 64 frames are on it
+-- at most so many frames are on the wire, and so many ticks wait (own)
+abbrev pub wire_frames : ℕ
+wire_frames = 64
+
+abbrev pub most_ticks : ℕ
+most_ticks = 32
+
+-- the wire has room while it has less frames than that
 abbrev pub has_room : SoloState → Bool
-has_room solo = nat_lt (length solo.wire) 64
+has_room solo = nat_lt (length solo.wire) wire_frames
 
 -- the answer of a step with this outcome
 abbrev pub solo_stepped : StepOutcome → SoloState → Stepped
@@ -58,14 +65,14 @@ tick_of (Arrives frame fate) = Arrive frame
 tick_of (Accesses access) = Go
 
 -- what a bus plays by itself before each access: where it is lively, a tick of the EEPROM and then one of the PHY
-abbrev pub own_ticks : Bool → List SoloTick
-own_ticks lively = if lively then Step EepromTick ∷ Step PhyTick ∷ [] else []
+abbrev pub lively_ticks : Bool → List SoloTick
+lively_ticks lively = if lively then Step EepromTick ∷ Step PhyTick ∷ [] else []
 
--- each step found the wire free exactly where less than 64 frames were on it, of so many before the first
+-- each step found the wire free exactly where it had room, with so many frames before the first
 abbrev pub AreFree : List Event → ℕ → Type 0
 AreFree [] frames = ⊤
 AreFree (Steps kind wire_free answer ∷ later) frames =
-    (wire_free ≡ nat_lt frames 64) × AreFree later (frames + length (past_of_step kind answer).put)
+    (wire_free ≡ nat_lt frames wire_frames) × AreFree later (frames + length (past_of_step kind answer).put)
 AreFree (Arrives frame fate ∷ later) frames = AreFree later frames
 AreFree (Accesses access ∷ later) frames = AreFree later frames
 
@@ -79,7 +86,7 @@ pub record Recounts (a b : SoloState) (past : Past) : Type 0 where
   pub trail : Trail events a.world b.world
   pub past_is : past ≡ past_of events
   -- before each access the bus's own ticks and those of the next group, one event for each in order; nothing behind the last access
-  pub played : map tick_of events ≡ played_in is_go Go (own_ticks a.lively) past.accesses a.waiting
+  pub played : map tick_of events ≡ played_in is_go Go (lively_ticks a.lively) past.accesses a.waiting
   -- a group for each access waits no longer, and all other ticks do
   pub waiting : b.waiting ≡ waiting_after is_go past.accesses a.waiting
   pub free : AreFree events (length a.wire)
@@ -97,13 +104,13 @@ phy_tick (Step PhyTick) = 1
 phy_tick _ = 0
 
 -- how many ticks of each kind a bus plays by itself in these accesses
-abbrev pub own_count : Bool → List Access → ℕ
-own_count lively accesses = if lively then length accesses else 0
+abbrev pub lively_count : Bool → List Access → ℕ
+lively_count lively accesses = if lively then length accesses else 0
 
 -- A lively bus plays exactly one tick of each kind by itself for each access, and all others are of the groups that waited.
-pub record PlaysOwn (a : SoloState) (past : Past) : Type 0 where
-  pub eeprom : past.eeprom_ticks ≡ own_count a.lively past.accesses + sum_by eeprom_tick (groups_of is_go past.accesses a.waiting)
-  pub phy : past.phy_ticks ≡ own_count a.lively past.accesses + sum_by phy_tick (groups_of is_go past.accesses a.waiting)
+pub record PlaysLively (a : SoloState) (past : Past) : Type 0 where
+  pub eeprom : past.eeprom_ticks ≡ lively_count a.lively past.accesses + sum_by eeprom_tick (groups_of is_go past.accesses a.waiting)
+  pub phy : past.phy_ticks ≡ lively_count a.lively past.accesses + sum_by phy_tick (groups_of is_go past.accesses a.waiting)
 
 -- From one state to another exactly these ticks are played, one event for each and no access, and then these wait.
 pub record Plays (ticks left : List SoloTick) (a b : SoloState) : Type 0 where
@@ -119,5 +126,6 @@ pub record Plays (ticks left : List SoloTick) (a b : SoloState) : Type 0 where
 
 -- What comes before an access: the bus's own ticks and the next group are played, and the access is counted.
 pub record Prepared (a b : SoloState) : Type 0 where
-  pub plays : Plays (own_ticks a.lively ++ group_of is_go a.waiting) (behind_group is_go a.waiting) a (record b { accesses = a.accesses })
+  pub plays : Plays (lively_ticks a.lively ++ group_of is_go a.waiting) (behind_group is_go a.waiting) a
+      (record b { accesses = a.accesses })
   pub count : b.accesses ≡ min (a.accesses + 1) most_accesses

@@ -3,13 +3,14 @@ use Rattle.std.proofs.Common.{◌≡◌, ◌+◌, ◌++◌, ◌∷◌, [], Bool,
 use Rattle.std.proofs.Common.{subst, ◌∙◌, append_assoc, arith, length-append}
 use Rattle.std.proofs.lemmas.List.{append-nil, map-append}
 use Rattle.std.proofs.lemmas.List.Sums.{sum_by-cons}
-use Rattle.bus.specs.Past.{Past, joined, nothing}
+use Rattle.bus.specs.PastOfStretch.{Past, joined, nothing}
 use Rattle.adapter.specs.declared.step.StepKind.TheVariants.{TxTake, TxPut, RxData, RxDone, EepromTick, PhyTick}
-use Rattle.bus.specs.GroupLaws.{played_counts, played_joins, waiting_joins}
-use Rattle.bus.specs.Groups.{played_in, waiting_after}
-use Rattle.solo_bus.specs.SoloBuses.{AreFree, PlaysOwn, Recounts, SoloState, eeprom_tick, is_go, most_accesses, own_ticks, phy_tick, tick_of}
+use Rattle.bus.specs.TickGroupLaws.{played_counts, played_joins, waiting_joins}
+use Rattle.bus.specs.TickGroups.{played_in, waiting_after}
+use Rattle.solo_bus.specs.SoloBuses.{AreFree, PlaysLively, Recounts, SoloState, eeprom_tick, is_go, most_accesses, lively_ticks, phy_tick}
+use Rattle.solo_bus.specs.SoloBuses.{tick_of}
 use Rattle.bus.specs.TrailLaws.{past_of-append, trail_joins}
-use Rattle.bus.specs.Steps.{past_of_step}
+use Rattle.bus.specs.StepsAndArrivals.{past_of_step}
 use Rattle.bus.specs.Trails.{past_of, past_of_event}
 use Rattle.bus.specs.declared.event.Event.{Event}
 use Rattle.bus.specs.declared.event.Event.TheVariants.{Accesses, Arrives, Steps}
@@ -47,11 +48,11 @@ recounts_join a b c first later one two = record {
   played =
       map-append tick_of one.events two.events
       ∙ ap (λ (ticks : List SoloTick). ticks ++ map tick_of two.events) one.played
-      ∙ ap (λ (ticks : List SoloTick). played_in is_go Go (own_ticks a.lively) first.accesses a.waiting ++ ticks)
+      ∙ ap (λ (ticks : List SoloTick). played_in is_go Go (lively_ticks a.lively) first.accesses a.waiting ++ ticks)
       (two.played
-      ∙ ap (λ (lively : Bool). played_in is_go Go (own_ticks lively) later.accesses b.waiting) one.lively
-      ∙ ap (played_in is_go Go (own_ticks a.lively) later.accesses) one.waiting)
-      ∙ sym (played_joins is_go Go (own_ticks a.lively) first.accesses later.accesses a.waiting);
+      ∙ ap (λ (lively : Bool). played_in is_go Go (lively_ticks lively) later.accesses b.waiting) one.lively
+      ∙ ap (played_in is_go Go (lively_ticks a.lively) later.accesses) one.waiting)
+      ∙ sym (played_joins is_go Go (lively_ticks a.lively) first.accesses later.accesses a.waiting);
   waiting =
       two.waiting
       ∙ ap (waiting_after is_go later.accesses) one.waiting
@@ -101,25 +102,25 @@ phy_ticks_of [] = refl
 phy_ticks_of (event ∷ later) =
     omega (arith, is_phy_tick event, phy_ticks_of later, sum_by-cons phy_tick (tick_of event) (map tick_of later))
 
-own_eeprom_tick : (lively : Bool) → sum_by eeprom_tick (own_ticks lively) ≡ (if lively then 1 else 0)
-own_eeprom_tick true = refl
-own_eeprom_tick false = refl
+lively_eeprom_tick : (lively : Bool) → sum_by eeprom_tick (lively_ticks lively) ≡ (if lively then 1 else 0)
+lively_eeprom_tick true = refl
+lively_eeprom_tick false = refl
 
-own_phy_tick : (lively : Bool) → sum_by phy_tick (own_ticks lively) ≡ (if lively then 1 else 0)
-own_phy_tick true = refl
-own_phy_tick false = refl
+lively_phy_tick : (lively : Bool) → sum_by phy_tick (lively_ticks lively) ≡ (if lively then 1 else 0)
+lively_phy_tick true = refl
+lively_phy_tick false = refl
 
 -- What a bus tells names its own ticks.
-pub recounts_own : (a b : SoloState) (past : Past) → Recounts a b past → PlaysOwn a past
-recounts_own a b past recounts = record {
+pub recounts_lively : (a b : SoloState) (past : Past) → Recounts a b past → PlaysLively a past
+recounts_lively a b past recounts = record {
   eeprom =
       ap (λ (p : Past). p.eeprom_ticks) recounts.past_is
       ∙ eeprom_ticks_of recounts.events
       ∙ ap (sum_by eeprom_tick) recounts.played
-      ∙ played_counts is_go Go (own_ticks a.lively) eeprom_tick a.lively past.accesses a.waiting refl (own_eeprom_tick a.lively);
+      ∙ played_counts is_go Go (lively_ticks a.lively) eeprom_tick a.lively past.accesses a.waiting refl (lively_eeprom_tick a.lively);
   phy =
       ap (λ (p : Past). p.phy_ticks) recounts.past_is
       ∙ phy_ticks_of recounts.events
       ∙ ap (sum_by phy_tick) recounts.played
-      ∙ played_counts is_go Go (own_ticks a.lively) phy_tick a.lively past.accesses a.waiting refl (own_phy_tick a.lively);
+      ∙ played_counts is_go Go (lively_ticks a.lively) phy_tick a.lively past.accesses a.waiting refl (lively_phy_tick a.lively);
 }

@@ -1,6 +1,6 @@
 -- How the fields of a solo bus are the plain data of its contracts (own).
 use Rattle.std.specs.Prelude.{◌≡◌}
-use Rattle.solo_bus.specs.SoloBuses.{SoloState}
+use Rattle.solo_bus.specs.SoloBuses.{SoloState, most_ticks, wire_frames}
 use Rattle.solo_bus.specs.declared.solo_bus.SoloBus.TheInside.{Inside}
 
 abbrev pub solo_of : Inside → SoloState
@@ -13,5 +13,5 @@ solo_of inside = record {
 }
 
 pub record HasQueues (inside : Inside) : Type 0 where
-  pub waiting : inside.waiting.capacity ≡ 32
-  pub wire : inside.wire.capacity ≡ 64
+  pub waiting : inside.waiting.capacity ≡ most_ticks
+  pub wire : inside.wire.capacity ≡ wire_frames

@@ -7,8 +7,8 @@ use Rattle.rx_engine.specs.declared.arrival.Fate.TheVariants.{Stored}
 use Rattle.adapter.specs.Registers.{filter_at_reset, new_adapter}
 use Rattle.adapter.specs.declared.step.StepKind.TheVariants.{RxData, RxDone, TxTake}
 use Rattle.adapter.specs.declared.step.Stepped.TheVariants.{Done, Moved, Took}
-use Rattle.bus.specs.Offering.{offering, offering_frame}
-use Rattle.bus.specs.Steps.{world_after_arrival, world_after_step}
+use Rattle.bus.specs.SlotOffers.{offering, offering_frame}
+use Rattle.bus.specs.StepsAndArrivals.{world_after_arrival, world_after_step}
 use Rattle.adapter.specs.World.{World, world_after_store}
 
 -- both rings set up and nothing offered: RCTL.EN and BAM, with buffers of 2,048 bytes, and TCTL.EN and PSP
@@ -40,8 +40,8 @@ abbrev pub working : ℕ → List ℕ → World
 working size words = world_after_step RxData Moved (called size words)
 
 -- and its slot is finished
-abbrev pub reported : ℕ → List ℕ → World
-reported size words = world_after_step RxDone Done (working size words)
+abbrev pub finished_slot : ℕ → List ℕ → World
+finished_slot size words = world_after_step RxDone Done (working size words)
 
 -- a transmit descriptor of 60 bytes at 2,304, with EOP, IFCS and RS
 abbrev pub request : List ℕ
@@ -56,5 +56,5 @@ abbrev pub sending : ℕ → List ℕ → World
 sending size words = offering_frame (requested size words)
 
 -- and its frame taken
-abbrev pub sent : ℕ → List ℕ → World
-sent size words = world_after_step TxTake Took (sending size words)
+abbrev pub taken : ℕ → List ℕ → World
+taken size words = world_after_step TxTake Took (sending size words)

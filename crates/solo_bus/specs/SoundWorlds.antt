@@ -8,8 +8,7 @@ use Rattle.adapter.specs.Running.{CanRun}
 use Rattle.adapter.specs.World.{receive_ring, transmit_ring, World}
 
 -- A world of which the conditions hold, with the first slot of each ring as the oldest, whose frames fit their buffers and whose engines
--- can run,
--- has this.
+-- can run, has this.
 abbrev pub SomeSound : (World → Type 0) → Type 0
 SomeSound Has = (world : World) × Sound 0 0 world × FitBuffers 0 world × CanRun world × Has world
 
@@ -28,7 +27,7 @@ HasFinished world = finished 0 world ≢ []
 abbrev pub HasWrittenBack : World → Type 0
 HasWrittenBack world = written_back 0 world ≢ []
 
--- there are frames to be sent, named by descriptors from TDH to TDT
+-- there are frames to be taken, named by descriptors from TDH to TDT
 pub record HasFramesInRing (world : World) : Type 0 where
   pub slots : offered (transmit_ring world) ≢ []
   pub frames : frames_to_send world ≢ []

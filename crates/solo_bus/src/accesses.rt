@@ -21,15 +21,15 @@ impl Bus for SoloBus {
 
     ghost happened = { λ a b past. Recounts a b past };
 
-    ghost kept = { λ a b. b.lively ≡ a.lively };
+    ghost lent_stays = { λ a b. b.lively ≡ a.lively };
 
     ghost stays = { λ bus. recounts_none bus };
 
     ghost joins = { λ a b c first later one two. recounts_join a b c first later one two };
 
-    ghost keeps = { λ bus. refl };
+    ghost lent_stays_here = { λ bus. refl };
 
-    ghost keeps_on = { λ a b c one two. two ∙ one };
+    ghost lent_stays_on = { λ a b c one two. two ∙ one };
 
     ghost sized = { λ bus honest. refl };
 

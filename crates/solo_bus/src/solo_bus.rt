@@ -30,7 +30,7 @@ pub enum SoloTick {
 
 /// A bus with one adapter and its memory, and nobody else at its wire.
 ///
-/// In contracts it is a `SoloState`, plain data that `specs/Solo.antt` lists. All memory is taken when
+/// In contracts it is a `SoloState`, plain data that `specs/SoloBuses.antt` lists. All memory is taken when
 /// it is made.
 #[derive(Drop)]
 pub struct SoloBus {
@@ -58,8 +58,8 @@ impl SoloBus {
     ghost use Rattle.adapter.specs.Receiving.{IsFate};
     ghost use Rattle.adapter.specs.Registers.{answer_at};
     ghost use Rattle.adapter.specs.Steps.{Answers};
-    ghost use Rattle.bus.specs.Groups.{behind_group, group_of, without_go};
-    ghost use Rattle.solo_bus.specs.SoloBuses.{Plays, Prepared, has_room, is_go, most_accesses, own_ticks, solo_after_arrival};
+    ghost use Rattle.bus.specs.TickGroups.{behind_group, group_of, without_go};
+    ghost use Rattle.solo_bus.specs.SoloBuses.{Plays, Prepared, has_room, is_go, most_accesses, lively_ticks, solo_after_arrival};
     ghost use Rattle.solo_bus.specs.SoloBuses.{solo_after_step, solo_stepped};
     ghost use Rattle.adapter.specs.State.{IsAdapter};
     ghost use Rattle.adapter.specs.World.{world_after_read, world_after_store, world_after_write};
@@ -182,7 +182,7 @@ impl SoloBus {
 
     /// A lively bus plays a tick of the EEPROM, and then one of the PHY.
     fn live(&mut self)
-        ensures { Plays (own_ticks self.old.lively) self.old.waiting self.old self.new }
+        ensures { Plays (lively_ticks self.old.lively) self.old.waiting self.old self.new }
     {
         if self.is_lively() {
             for kind in [StepKind::EepromTick, StepKind::PhyTick] {

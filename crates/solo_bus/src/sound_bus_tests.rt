@@ -1,12 +1,15 @@
 //! Each bus on which the conditions of the law hold, once: the frame that it has goes on.
 
+use crate::SoloBus;
 use crate::sound_buses::{
     with_buffered_frame, with_finished_slot, with_frame_to_send, with_rings, with_work,
 };
-use crate::SoloBus;
 use adapter::offsets::*;
 use adapter::{Fate, StepKind, StepOutcome};
-use bus::{Bus, idle_rings_are_sound, idle_rings_stay_idle, many_slots_can_be_offered, registers_can_be_set, rings_wait};
+use bus::{
+    Bus, idle_rings_are_sound, idle_rings_stay_idle, many_slots_can_be_offered,
+    registers_can_be_set, rings_wait,
+};
 use eeprom::Image;
 use std::process::Abort;
 use std::test::Fail;

@@ -7,7 +7,7 @@
 ghost use Rattle.std.specs.Prelude.{◌≡◌, IfOk};
 ghost use Rattle.solo_bus.specs.SoundWorlds.{HasFinished, HasFramesInBuffer, HasFramesInRing, HasRings, HasWork};
 ghost use Rattle.adapter.specs.Conditions.{Sound};
-ghost use Rattle.solo_bus.specs.SoundBuses.{ready, reported, resting, sending, sent, working};
+ghost use Rattle.solo_bus.specs.SoundBuses.{ready, finished_slot, resting, sending, taken, working};
 
 use crate::SoloBus;
 use adapter::offsets::{RCTL, RDBAL, RDLEN, RDT, TCTL, TDBAL, TDLEN, TDT};
@@ -78,7 +78,7 @@ pub fn with_work(alloc: Global, image: &Image) -> Result<SoloBus, AllocError>
 ///
 /// Want of memory alone.
 pub fn with_finished_slot(alloc: Global, image: &Image) -> Result<SoloBus, AllocError>
-    ensures world { IfOk result (λ bus. bus.world ≡ reported 4096 image.now) }
+    ensures world { IfOk result (λ bus. bus.world ≡ finished_slot 4096 image.now) }
     ensures sound { IfOk result (λ bus. Sound 0 0 bus.world) }
     ensures finished { IfOk result (λ bus. HasFinished bus.world) }
 {
@@ -109,7 +109,7 @@ pub fn with_frame_to_send(alloc: Global, image: &Image) -> Result<SoloBus, Alloc
 ///
 /// Want of memory alone.
 pub fn with_buffered_frame(alloc: Global, image: &Image) -> Result<SoloBus, AllocError>
-    ensures world { IfOk result (λ bus. bus.world ≡ sent 4096 image.now) }
+    ensures world { IfOk result (λ bus. bus.world ≡ taken 4096 image.now) }
     ensures sound { IfOk result (λ bus. Sound 0 0 bus.world) }
     ensures in_buffer { IfOk result (λ bus. HasFramesInBuffer bus.world) }
 {

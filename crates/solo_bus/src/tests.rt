@@ -3,7 +3,12 @@
 use crate::{MOST_TICKS, SoloBus, SoloTick, conditions_can_be_met};
 use adapter::offsets::*;
 use adapter::{Adapter, Fate, StepKind, StepOutcome};
-use bus::{Bus, HonestBus, any_steps_may_happen, areas_stay_apart, between_composes, drivers_keep_their_own, faults_never_come, finished_slots_can_be_taken, frames_can_be_offered, known_rings_stay, own_slots_can_be_written, own_stores_leave_frames, slots_can_be_offered, steps_are_instances, tails_can_be_moved, written_slots_can_be_freed};
+use bus::{
+    Bus, HonestBus, any_steps_may_happen, areas_stay_apart, between_composes, drivers_side_stays,
+    drivers_slots_can_be_written, drivers_stores_leave_frames, faults_never_come,
+    finished_slots_can_be_taken, frames_can_be_offered, known_rings_stay, slots_can_be_offered,
+    steps_are_instances, tails_can_be_moved, written_slots_can_be_freed,
+};
 use descriptors::Frame;
 use dma_memory::HostMemory;
 use eeprom::Image;
@@ -199,9 +204,9 @@ fn laws_can_be_called(_rt: HostRuntime) -> Result<(), Fail> {
     steps_are_instances();
     conditions_can_be_met();
     faults_never_come();
-    drivers_keep_their_own();
-    own_stores_leave_frames();
-    own_slots_can_be_written();
+    drivers_side_stays();
+    drivers_stores_leave_frames();
+    drivers_slots_can_be_written();
     known_rings_stay();
     tails_can_be_moved();
     slots_can_be_offered();

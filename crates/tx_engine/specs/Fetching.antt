@@ -4,8 +4,8 @@ use Rattle.dma_memory.specs.HostMemory.{bytes_at, LiesIn}
 use Rattle.registers.specs.Bits.{HasBit, is_set}
 use Rattle.descriptors.specs.declared.ring.Ring.{Ring}
 use Rattle.descriptors.specs.declared.tx_desc.TxDesc.{TxDesc}
-use Rattle.descriptors.specs.Frames.{padded}
-use Rattle.descriptors.specs.Ring.{IsSound, address_of}
+use Rattle.descriptors.specs.Frames.{longest_frame, padded}
+use Rattle.descriptors.specs.Ring.{HasValidIndices, address_of}
 use Rattle.descriptors.specs.TxDesc.{tx_desc_of}
 use Rattle.descriptors.specs.TxFields.{command_bits}
 use Rattle.tx_engine.specs.Transmitter.{Queued, Transmitter}
@@ -48,12 +48,12 @@ pub record IsTransmittable (memory : List ℕ) (desc : TxDesc) : Type 0 where
   pub ends : HasBit (command_bits desc.command) 0
   pub legacy : ¬ (HasBit (command_bits desc.command) 5)
   pub least : 0 < desc.length
-  pub most : desc.length ≤ 1518
+  pub most : desc.length ≤ longest_frame
   pub lies : LiesIn memory desc.address desc.length
 
 -- The engine can take the descriptor at the head: the ring is sound, its descriptor lies in memory at an address that
 -- doesn't wrap, and it can be transmitted.
 pub record IsFetchable (memory : List ℕ) (ring : Ring) : Type 0 where
-  pub sound : IsSound ring
+  pub sound : HasValidIndices ring
   pub lies : LiesIn memory (address_of ring ring.head) 16
   pub transmittable : IsTransmittable memory (descriptor_at memory (address_of ring ring.head))

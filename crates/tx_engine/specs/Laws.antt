@@ -2,8 +2,8 @@
 use Rattle.std.proofs.Common.{◌≡◌, ◌-◌, replicate, ◌++◌, ◌∷◌, [], Bool, true, false, ℕ, List, length, map, refl, sym, ap, ◌∙◌, append_assoc}
 use Rattle.std.proofs.Common.{arith, cond}
 use Rattle.std.proofs.lemmas.List.{append-nil, map-append}
-use Rattle.descriptors.specs.Ring.{next_of, address_of, owned}
-use Rattle.descriptors.specs.RingLaws.{owned-head, owned-tail}
+use Rattle.descriptors.specs.Ring.{next_of, address_of, offered_places}
+use Rattle.descriptors.specs.RingLaws.{places-head, places-tail}
 use Rattle.tx_engine.specs.Transmitter.{Queued}
 use Rattle.tx_engine.specs.Fetching.{descriptor_at, named_by, frame_at, fetched, as_sent}
 use Rattle.tx_engine.specs.ToSend.{to_send, TakingMovesFrames, PuttingTakesFront, OfferingAddsFrames}
@@ -13,9 +13,9 @@ pub to_send-take : TakingMovesFrames
 unfolding to_send
 to_send-take memory ring pad buffer sound apart =
     let frames = λ (slot : ℕ). frame_at pad memory (address_of ring slot) in
-    let rest = owned (record ring { head = next_of ring ring.head }) in
+    let rest = offered_places (record ring { head = next_of ring ring.head }) in
     let last = fetched pad memory (address_of ring ring.head) in
-    let whole : map frames (owned ring) ≡ frames ring.head ∷ map frames rest = ap (map frames) (owned-head ring sound apart) in
+    let whole : map frames (offered_places ring) ≡ frames ring.head ∷ map frames rest = ap (map frames) (places-head ring sound apart) in
     ap (λ (front : List (List ℕ)). front ++ map frames rest) (map-append (λ (queued : Queued). queued.frame) buffer (last ∷ []))
     ∙ append_assoc (map (λ (queued : Queued). queued.frame) buffer) (last.frame ∷ []) (map frames rest)
     ∙ ap (λ (behind : List (List ℕ)). map (λ (queued : Queued). queued.frame) buffer ++ behind) (sym whole)
@@ -31,9 +31,9 @@ unfolding to_send
 to_send-offer memory ring pad buffer sound apart =
     let frames = λ (slot : ℕ). frame_at pad memory (address_of ring slot) in
     let front = map (λ (queued : Queued). queued.frame) buffer in
-    ap (λ (slots : List ℕ). front ++ map frames slots) (owned-tail ring sound apart)
-    ∙ ap (λ (behind : List (List ℕ)). front ++ behind) (map-append frames (owned ring) (ring.tail ∷ []))
-    ∙ sym (append_assoc front (map frames (owned ring)) (frames ring.tail ∷ []))
+    ap (λ (slots : List ℕ). front ++ map frames slots) (places-tail ring sound apart)
+    ∙ ap (λ (behind : List (List ℕ)). front ++ behind) (map-append frames (offered_places ring) (ring.tail ∷ []))
+    ∙ sym (append_assoc front (map frames (offered_places ring)) (frames ring.tail ∷ []))
 
 -- A frame followed by zeros up to 60 bytes, or up to none, is the frame as it is sent.
 zeros-as_sent : (pad : Bool) (frame : List ℕ) (least : ℕ) → least ≡ cond pad 60 0

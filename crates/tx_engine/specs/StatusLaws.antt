@@ -11,7 +11,7 @@ use Rattle.dma_memory.specs.Areas.{area_at}
 use Rattle.dma_memory.specs.HostMemory.{bytes_at, with_bytes, LiesIn}
 use Rattle.dma_memory.specs.Laws.{bytes_at-elsewhere}
 use Rattle.descriptors.specs.declared.ring.Ring.{Ring}
-use Rattle.descriptors.specs.Ring.{address_of, owned}
+use Rattle.descriptors.specs.Ring.{address_of, offered_places}
 use Rattle.descriptors.specs.TxDesc.{tx_desc_of}
 use Rattle.tx_engine.specs.Transmitter.{Queued}
 use Rattle.tx_engine.specs.Fetching.{descriptor_at, as_sent, frame_at}
@@ -88,11 +88,11 @@ pub to_send-elsewhere : OtherBytesLeaveFrames
 unfolding to_send
 to_send-elsewhere memory ring pad buffer place bytes lies away =
     ap (λ (frames : List (List ℕ)). map (λ (queued : Queued). queued.frame) buffer ++ frames)
-    (frames-away memory bytes ring pad place (owned ring) lies away)
+    (frames-away memory bytes ring pad place (offered_places ring) lies away)
 
 -- So does one byte.
 pub to_send-away : (memory : List ℕ) (ring : Ring) (pad : Bool) (buffer : List Queued) (place byte : ℕ) → LiesIn memory place 1
-    → All (λ slot. IsAwayFrom memory (area_at place 1) (address_of ring slot)) (owned ring)
+    → All (λ slot. IsAwayFrom memory (area_at place 1) (address_of ring slot)) (offered_places ring)
     → to_send (with_bytes memory place (byte ∷ [])) ring pad buffer ≡ to_send memory ring pad buffer
 to_send-away memory ring pad buffer place byte lies away = to_send-elsewhere memory ring pad buffer place (byte ∷ []) lies away
 
@@ -105,7 +105,7 @@ to_send-either false memory changed ring pad buffer same = refl
 
 -- The status byte of a frame that has gone out, away from them, leaves the frames to be sent, whether it is written or not.
 pub to_send-written_back : (memory : List ℕ) (ring : Ring) (pad : Bool) (buffer : List Queued) (queued : Queued)
-    → All (λ slot. IsAwayFrom memory (area_at (status_place queued) 1) (address_of ring slot)) (owned ring)
+    → All (λ slot. IsAwayFrom memory (area_at (status_place queued) 1) (address_of ring slot)) (offered_places ring)
     → to_send (written_back memory queued) ring pad buffer ≡ to_send memory ring pad buffer
 to_send-written_back memory ring pad buffer queued away =
     let lies_there = nat_lt (status_place queued) (length memory) in
@@ -118,7 +118,7 @@ to_send-written_back memory ring pad buffer queued away =
 -- Once the oldest frame of the buffer has gone out, it was the front of the frames to be sent, and the others are left.
 pub to_send-gone : (memory changed : List ℕ) (buffer : List Queued) → IfFront buffer (λ queued. changed ≡ written_back memory queued)
     → IfFront buffer (λ queued. (ring : Ring) (pad : Bool)
-    → All (λ slot. IsAwayFrom memory (area_at (status_place queued) 1) (address_of ring slot)) (owned ring)
+    → All (λ slot. IsAwayFrom memory (area_at (status_place queued) 1) (address_of ring slot)) (offered_places ring)
     → to_send memory ring pad buffer ≡ queued.frame ∷ to_send changed ring pad (drop 1 buffer))
 to_send-gone memory changed [] written = tt
 to_send-gone memory changed (queued ∷ rest) written = λ ring pad away.

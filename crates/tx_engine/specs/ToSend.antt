@@ -3,7 +3,7 @@ use Rattle.std.specs.Prelude.{◌≡◌, ◌++◌, ◌∷◌, [], Bool, ℕ, Lis
 use Rattle.dma_memory.specs.Areas.{Area, area_at, AreApart}
 use Rattle.dma_memory.specs.HostMemory.{with_bytes, LiesIn}
 use Rattle.descriptors.specs.declared.ring.Ring.{Ring}
-use Rattle.descriptors.specs.Ring.{IsSound, next_of, address_of, owned}
+use Rattle.descriptors.specs.Ring.{HasValidIndices, next_of, address_of, offered_places}
 use Rattle.tx_engine.specs.Transmitter.{Queued}
 use Rattle.tx_engine.specs.Fetching.{descriptor_at, frame_at, fetched}
 
@@ -11,7 +11,7 @@ use Rattle.tx_engine.specs.Fetching.{descriptor_at, frame_at, fetched}
 -- memory, padded where the adapter pads.
 unfoldable pub to_send : List ℕ → Ring → Bool → List Queued → List (List ℕ)
 to_send memory ring pad buffer = map (λ (queued : Queued). queued.frame) buffer
-    ++ map (λ (slot : ℕ). frame_at pad memory (address_of ring slot)) (owned ring)
+    ++ map (λ (slot : ℕ). frame_at pad memory (address_of ring slot)) (offered_places ring)
 
 -- An area is apart from what the descriptor at an address says of its frame (its first ten bytes, address and length), and
 -- from the frame.
@@ -22,7 +22,7 @@ pub record IsAwayFrom (memory : List ℕ) (area : Area) (address : ℕ) : Type 0
 -- Taking moves the frame of the slot at the head from the ring's part to the buffer's end.
 abbrev pub TakingMovesFrames : Type 0
 TakingMovesFrames =
-    (memory : List ℕ) (ring : Ring) (pad : Bool) (buffer : List Queued) → IsSound ring → ¬ (ring.head ≡ ring.tail)
+    (memory : List ℕ) (ring : Ring) (pad : Bool) (buffer : List Queued) → HasValidIndices ring → ¬ (ring.head ≡ ring.tail)
     → to_send memory (record ring { head = next_of ring ring.head }) pad (buffer ++ fetched pad memory (address_of ring ring.head) ∷ [])
     ≡ to_send memory ring pad buffer
 
@@ -37,12 +37,12 @@ abbrev pub OtherBytesLeaveFrames : Type 0
 OtherBytesLeaveFrames =
     (memory : List ℕ) (ring : Ring) (pad : Bool) (buffer : List Queued) (place : ℕ) (bytes : List ℕ)
     → LiesIn memory place (length bytes)
-    → All (λ slot. IsAwayFrom memory (area_at place (length bytes)) (address_of ring slot)) (owned ring)
+    → All (λ slot. IsAwayFrom memory (area_at place (length bytes)) (address_of ring slot)) (offered_places ring)
     → to_send (with_bytes memory place bytes) ring pad buffer ≡ to_send memory ring pad buffer
 
 -- A driver that moves tail on adds the frame of the slot at the old tail.
 abbrev pub OfferingAddsFrames : Type 0
 OfferingAddsFrames =
-    (memory : List ℕ) (ring : Ring) (pad : Bool) (buffer : List Queued) → IsSound ring → ¬ (next_of ring ring.tail ≡ ring.head)
+    (memory : List ℕ) (ring : Ring) (pad : Bool) (buffer : List Queued) → HasValidIndices ring → ¬ (next_of ring ring.tail ≡ ring.head)
     → to_send memory (record ring { tail = next_of ring ring.tail }) pad buffer
     ≡ to_send memory ring pad buffer ++ frame_at pad memory (address_of ring ring.tail) ∷ []

@@ -84,7 +84,7 @@ pub fn fetch<'a>(ring: &Ring, memory: &'a HostMemory) -> Option<Named<'a>>
     ensures reports { IfSome result (λ named. named.reports
         ≡ is_set (command_bits (descriptor_at memory.now (address_of ring.now ring.now.head)).command) 3) }
 {
-    if !ring.is_sound() {
+    if !ring.has_valid_indices() {
         return None;
     }
     let (descriptor, desc) = descriptor_at_head(ring, memory)?;

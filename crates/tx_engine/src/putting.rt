@@ -1,7 +1,7 @@
 ghost use Rattle.std.specs.Prelude.{◌≡◌, ◌↔◌, ◌∷◌, [], All, Bool, false, IsTrue, drop};
 ghost use Rattle.dma_memory.specs.Areas.{area_at};
 ghost use Rattle.descriptors.specs.declared.ring.Ring.{Ring};
-ghost use Rattle.descriptors.specs.Ring.{address_of, owned};
+ghost use Rattle.descriptors.specs.Ring.{address_of, offered_places};
 ghost use Rattle.tx_engine.specs.Steps.{IfPut, IfFront, DiffersAtMostAt, status_place, written_back};
 ghost use Rattle.tx_engine.specs.ToSend.{to_send, IsAwayFrom};
 
@@ -42,7 +42,7 @@ pub fn put(engine: &mut TxEngine, memory: &mut HostMemory, wire_free: bool) -> P
     ensures to_send { IfPut result (λ _. IfFront engine.old.buffer (λ queued.
         (ring : Ring) (pad : Bool)
         → All (λ slot. IsAwayFrom memory.old (area_at (status_place queued) 1) (address_of ring slot))
-        (owned ring)
+        (offered_places ring)
         → to_send memory.old ring pad engine.old.buffer
         ≡ queued.frame ∷ to_send memory.new ring pad engine.new.buffer)) }
 {

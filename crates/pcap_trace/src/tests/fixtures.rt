@@ -96,7 +96,7 @@ pub fn long_packets(alloc: Global) -> Result<Vec<(u64, Frame)>, AllocError> {
 
 /// How many frames are read from a source, how many packets are skipped, and whether the trace is cut.
 pub fn counts<S: Source>(alloc: Global, source: &mut S) -> Result<(usize, u64, bool), ReadError>
-    requires { S.faults source.old < u64.MAX }
+    requires { S.failures source.old < u64.MAX }
 {
     let trace = Trace::read(alloc, source)?;
     Ok((trace.frames.len(), trace.skipped, trace.cut))
@@ -108,7 +108,7 @@ pub fn record<W: Sink>(
     sink: &mut W,
     packets: &[(u64, Frame)],
 ) -> Result<(), WriteError>
-    requires { W.faults sink.old < u64.MAX }
+    requires { W.failures sink.old < u64.MAX }
 {
     for (time, frame) in packets {
         writer.write(sink, *time, frame.as_slice())?;
@@ -134,7 +134,7 @@ impl Source for SlowSource<'_> {
 
     ghost most = { λ s. s.limit };
 
-    ghost faults = { λ s. s.failures };
+    ghost failures = { λ s. s.failures };
 
     fn read(&mut self, into: &mut [u8]) -> Result<usize, DeviceError> {
         self.reads = self.reads.saturating_add(1);
@@ -191,7 +191,7 @@ impl SlowSink {
 impl Sink for SlowSink {
     ghost taken = { λ _. None };
 
-    ghost faults = { λ s. s.failures };
+    ghost failures = { λ s. s.failures };
 
     fn write(&mut self, bytes: &[u8]) -> Result<usize, DeviceError> {
         self.writes = self.writes.saturating_add(1);

@@ -1,8 +1,8 @@
 use Rattle.std.proofs.Common.{ap, ◌∙◌}
 use Rattle.adapter.specs.World.{World}
 use Rattle.bus.proofs.Lists.{all-none}
-use Rattle.bring_up.proofs.Asides.{mask-aside, read-forgets, reset-rests}
-use Rattle.bring_up.specs.Sets.{IsAside}
+use Rattle.bring_up.proofs.WritesAtRest.{mask-aside, read-forgets, reset-rests}
+use Rattle.bring_up.specs.SettingSteps.{IsAside}
 use Rattle.bring_up.proofs.Steps.{sets-join, sets-read, sets-word, sets-write}
 use Rattle.bring_up.proofs.controls.reset_device.Goals as goal
 

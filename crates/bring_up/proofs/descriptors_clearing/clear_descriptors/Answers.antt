@@ -1,5 +1,5 @@
 use Rattle.std.proofs.Common.{◌≡◌, ◌+◌, ◌*◌, ◌∷◌, [], ℕ, add-one, false, refl, sym, subst, ◌∙◌, arith}
-use Rattle.driver_law.specs.Goes.{RanBy}
+use Rattle.driver_law.specs.Stretches.{RanBy}
 use Rattle.driver_law.proofs.Accesses.{ran_by-join, ran_by-stays}
 use Rattle.bring_up.specs.ClearedDescriptors.{clears, clears_from}
 use Rattle.bring_up.proofs.descriptors_clearing.clear_descriptors.Goals as goal
@@ -7,7 +7,7 @@ use Rattle.bring_up.proofs.descriptors_clearing.clear_descriptors.Goals as goal
 pub loop-slot-init : goal.loop-slot-init
 loop-slot-init g c = record {
   extent = refl;
-  kept = g.met.B.Bus.keeps c.args.bus.now;
+  lent_stays = g.met.B.Bus.lent_stays_here c.args.bus.now;
   honest = λ honest. honest;
   lively = λ lively. lively;
   ran = λ d honest ready first below. ran_by-stays g.B.Bus.world g.B.Bus.happened g.met.B.Bus.stays c.args.bus.now d ready;
@@ -24,7 +24,7 @@ loop-slot-preserved g c =
     let address : c.args.first + 16 * c.from.result ≡ c.args.first + 16 * here.slot = omega (arith, c.from.ensures) in
     record {
       extent = c.clear_descriptor.ensures.extent ∙ so_far.extent;
-      kept = g.met.B.Bus.keeps_on start here.bus later so_far.kept c.clear_descriptor.ensures.kept;
+      lent_stays = g.met.B.Bus.lent_stays_on start here.bus later so_far.lent_stays c.clear_descriptor.ensures.lent_stays;
       honest = λ honest. c.clear_descriptor.ensures.honest (so_far.honest honest);
       lively = λ lively. c.clear_descriptor.ensures.lively (so_far.lively lively);
       ran = λ d honest ready first below.

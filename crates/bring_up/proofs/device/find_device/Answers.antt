@@ -2,10 +2,10 @@ use Rattle.std.proofs.Common.{⊎_elim, ◌≡◌, ◌++◌, Err, length-append,
 use Rattle.std.proofs.lemmas.Bool.{false≢true}
 use Rattle.std.proofs.lemmas.Result.{err_from_is_err_and}
 use Rattle.eeprom.specs.Image.{HasRightSum}
-use Rattle.bus.specs.Past.{joined}
+use Rattle.bus.specs.PastOfStretch.{joined}
 use Rattle.bring_up.specs.Device.{FindsDevice}
 use Rattle.bring_up.specs.Link.{NeedsMoreThan}
-use Rattle.bring_up.specs.Table.{allocation_writes, link_writes, reset_writes}
+use Rattle.bring_up.specs.WrittenRegisters.{allocation_writes, link_writes, reset_writes}
 use Rattle.bring_up.specs.declared.init_error.InitError.{InitError}
 use Rattle.bring_up.specs.declared.init_error.InitError.TheVariants.{EepromTimeout, NoLink, PhyTimeout}
 use Rattle.bring_up.proofs.Devices.{device-image, device-link, is-read, is-set, still-ready}

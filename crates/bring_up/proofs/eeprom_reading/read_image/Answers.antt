@@ -5,7 +5,7 @@ use Rattle.bring_up.proofs.eeprom_reading.read_image.Goals as goal
 pub loop-address-init : goal.loop-address-init
 loop-address-init g c = record {
   extent = search rules;
-  kept = g.met.B.Bus.keeps _;
+  lent_stays = g.met.B.Bus.lent_stays_here _;
   honest = search rules;
   lively = search rules;
   size = search rules;
@@ -19,7 +19,7 @@ loop-address-preserved g c =
     let next = c.read_word.new.bus in
     record {
       extent = search rules;
-      kept = g.met.B.Bus.keeps_on _ now _ kept.kept c.read_word.ensures.kept;
+      lent_stays = g.met.B.Bus.lent_stays_on _ now _ kept.lent_stays c.read_word.ensures.lent_stays;
       honest = search rules;
       lively = search rules;
       size = search rules;

@@ -8,7 +8,7 @@ loop-init g c =
     let written = start-with c.args.address c.from.result c.from.ensures small in
     record {
       extent = search rules;
-      kept = search rules;
+      lent_stays = search rules;
       honest = search rules;
       lively = search rules;
       awaits = λ honest.
@@ -31,7 +31,7 @@ loop-preserved g c =
     (c.loop.invariant.awaits honest) (c.read-answer.ensures.acts (c.loop.invariant.honest honest)) in
     record {
       extent = search rules;
-      kept = g.met.B.Bus.keeps_on start now next c.loop.invariant.kept c.read-answer.ensures.kept;
+      lent_stays = g.met.B.Bus.lent_stays_on start now next c.loop.invariant.lent_stays c.read-answer.ensures.lent_stays;
       honest = search rules;
       lively = search rules;
       awaits = λ honest. (tells honest).awaits;

@@ -1,7 +1,7 @@
 use Rattle.std.proofs.Common.{◌≡◌, ◌+◌, ◌-◌, ◌++◌, add-one, ℕ, refl, sym, ap, subst, ◌∙◌, arith}
 use Rattle.rx_filter.specs.Addresses.{high_word, low_word}
 use Rattle.bring_up.specs.FilterTables.{empty_entries, entry_writes}
-use Rattle.bring_up.specs.Sets.{Sets}
+use Rattle.bring_up.specs.SettingSteps.{Sets}
 use Rattle.bring_up.proofs.Steps.{sets-join, sets-nothing}
 use Rattle.bring_up.proofs.Tables.{entries-push}
 use Rattle.bring_up.proofs.filter_tables.write_addresses.Goals as goal
@@ -9,7 +9,7 @@ use Rattle.bring_up.proofs.filter_tables.write_addresses.Goals as goal
 pub loop-entry-init : goal.loop-entry-init
 loop-entry-init g c = record {
   extent = refl;
-  kept = g.met.B.Bus.keeps c.write_address.new.bus;
+  lent_stays = g.met.B.Bus.lent_stays_here c.write_address.new.bus;
   honest = λ honest. honest;
   lively = λ lively. lively;
   sets = λ honest. sets-nothing g.B.Bus.world g.B.Bus.happened g.met.B.Bus.stays c.write_address.new.bus;
@@ -21,7 +21,8 @@ loop-entry-preserved g c =
     let step = c.write_address-in-loop-entry in
     record {
       extent = step.ensures.extent ∙ here.invariant.extent;
-      kept = g.met.B.Bus.keeps_on c.write_address.new.bus here.bus step.new.bus here.invariant.kept step.ensures.kept;
+      lent_stays =
+          g.met.B.Bus.lent_stays_on c.write_address.new.bus here.bus step.new.bus here.invariant.lent_stays step.ensures.lent_stays;
       honest = λ honest. step.ensures.honest (here.invariant.honest honest);
       lively = λ lively. step.ensures.lively (here.invariant.lively lively);
       sets = λ honest.

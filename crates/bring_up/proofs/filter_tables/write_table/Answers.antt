@@ -2,8 +2,8 @@ use Rattle.std.proofs.Common.{◌≡◌, ◌<◌, ◌+◌, ◌*◌, ◌++◌, �
 use Rattle.std.proofs.Math.Seq.{take-length, take-suc}
 use Rattle.std.proofs.lemmas.List.{length-take-le}
 use Rattle.bring_up.specs.FilterTables.{table_writes}
-use Rattle.bring_up.specs.Sets.{Sets}
-use Rattle.bring_up.specs.Table.{write_at}
+use Rattle.bring_up.specs.SettingSteps.{Sets}
+use Rattle.bring_up.specs.WrittenRegisters.{write_at}
 use Rattle.bring_up.proofs.Steps.{sets-at, sets-join, sets-nothing}
 use Rattle.bring_up.proofs.Tables.{table-push}
 use Rattle.bring_up.proofs.filter_tables.write_table.Goals as goal
@@ -12,7 +12,7 @@ pub loop-word-init : goal.loop-word-init
 loop-word-init g c = record {
   offset = omega arith;
   extent = refl;
-  kept = g.met.B.Bus.keeps c.args.bus.now;
+  lent_stays = g.met.B.Bus.lent_stays_here c.args.bus.now;
   honest = λ honest. honest;
   lively = λ lively. lively;
   sets = λ honest. sets-nothing g.B.Bus.world g.B.Bus.happened g.met.B.Bus.stays c.args.bus.now;
@@ -36,7 +36,7 @@ loop-word-preserved g c =
     record {
       offset = omega (arith, kept.offset);
       extent = c.write.ensures.extent ∙ kept.extent;
-      kept = g.met.B.Bus.keeps_on start here.bus c.write.new.self kept.kept c.write.ensures.kept;
+      lent_stays = g.met.B.Bus.lent_stays_on start here.bus c.write.new.self kept.lent_stays c.write.ensures.lent_stays;
       honest = λ honest. c.write.ensures.honest (kept.honest honest);
       lively = λ lively. c.write.ensures.lively (kept.lively lively);
       sets = λ honest.

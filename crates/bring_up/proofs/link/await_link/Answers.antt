@@ -8,7 +8,7 @@ use Rattle.bring_up.proofs.link.await_link.Goals as goal
 pub loop-init : goal.loop-init
 loop-init g c = record {
   extent = refl;
-  kept = g.met.B.Bus.keeps c.args.bus.now;
+  lent_stays = g.met.B.Bus.lent_stays_here c.args.bus.now;
   honest = λ honest. honest;
   lively = λ lively. lively;
   awaits = λ honest. begins g.B.Bus.world g.B.Bus.happened g.B.Bus.lively g.met.B.Bus.stays c.args.bus.now;
@@ -21,7 +21,7 @@ loop-preserved g c =
     not-both c.in_ok-status.status (λ both. absurd (false≢true (sym c.if-shows_link.false ∙ c.shows_link.ensures.1 both))) in
     record {
       extent = c.in_ok-status.ensures.extent ∙ before.extent;
-      kept = g.met.B.Bus.keeps_on _ _ _ before.kept c.in_ok-status.ensures.kept;
+      lent_stays = g.met.B.Bus.lent_stays_on _ _ _ before.lent_stays c.in_ok-status.ensures.lent_stays;
       honest = λ honest. c.in_ok-status.ensures.honest (before.honest honest);
       lively = λ lively. c.in_ok-status.ensures.lively (before.lively lively);
       awaits = λ honest.

@@ -5,10 +5,10 @@ use Rattle.bring_up.proofs.link.command.Goals as goal
 pub loop-init : goal.loop-init
 loop-init g c = record {
   extent = c.write.ensures.extent;
-  kept = c.write.ensures.kept;
+  lent_stays = c.write.ensures.lent_stays;
   honest = c.write.ensures.honest;
   lively = c.write.ensures.lively;
-  waits = λ honest. gives g.B.Bus.world g.B.Bus.happened g.B.Bus.lively c.args.bus.now c.write.new.self c.args.words
+  waits = λ honest. gives g.B.Bus.world g.B.Bus.happened g.B.Bus.lively c.args.bus.now c.write.new.self c.args.word
       (c.write.ensures.acts honest);
 }
 
@@ -17,29 +17,29 @@ loop-preserved g c =
     let before = c.loop.invariant in
     record {
       extent = c.read-answer.ensures.extent ∙ before.extent;
-      kept = g.met.B.Bus.keeps_on _ _ _ before.kept c.read-answer.ensures.kept;
+      lent_stays = g.met.B.Bus.lent_stays_on _ _ _ before.lent_stays c.read-answer.ensures.lent_stays;
       honest = λ honest. c.read-answer.ensures.honest (before.honest honest);
       lively = λ lively. c.read-answer.ensures.lively (before.lively lively);
       waits = λ honest.
           waits-on g.B.Bus.world g.B.Bus.happened g.B.Bus.lively g.met.B.Bus.joins c.args.bus.now c.loop.bus c.read-answer.new.self
-          c.args.words c.loop.counter c.read-answer.result
+          c.args.word c.loop.counter c.read-answer.result
           c.requires before.lively (before.waits honest) (c.read-answer.ensures.acts (before.honest honest)) c.if-answer-ne0.false;
     }
 
 pub returns-then-answer-eq0-clause-commands : goal.returns-then-answer-eq0-clause-commands
 returns-then-answer-eq0-clause-commands g c honest =
-    (answered g.B.Bus.world g.B.Bus.happened g.B.Bus.lively g.met.B.Bus.joins c.args.bus.now c.loop.bus c.read-answer.new.self c.args.words
+    (answered g.B.Bus.world g.B.Bus.happened g.B.Bus.lively g.met.B.Bus.joins c.args.bus.now c.loop.bus c.read-answer.new.self c.args.word
     c.loop.counter c.read-answer.result
     c.requires (c.loop.invariant.waits honest) (c.read-answer.ensures.acts (c.loop.invariant.honest honest)) c.if-answer-ne0.true).commands
 
 pub returns-else-answer-eq0-clause-commands : goal.returns-else-answer-eq0-clause-commands
 returns-else-answer-eq0-clause-commands g c honest =
     absurd (c.if-answer-eq0.false
-    (answered g.B.Bus.world g.B.Bus.happened g.B.Bus.lively g.met.B.Bus.joins c.args.bus.now c.loop.bus c.read-answer.new.self c.args.words
+    (answered g.B.Bus.world g.B.Bus.happened g.B.Bus.lively g.met.B.Bus.joins c.args.bus.now c.loop.bus c.read-answer.new.self c.args.word
     c.loop.counter c.read-answer.result
     c.requires (c.loop.invariant.waits honest) (c.read-answer.ensures.acts (c.loop.invariant.honest honest)) c.if-answer-ne0.true).right)
 
 pub returns-clause-commands : goal.returns-clause-commands
 returns-clause-commands g c honest =
-    unanswered g.B.Bus.world g.B.Bus.happened g.B.Bus.lively c.args.bus.now c.loop.bus c.args.words c.loop.counter c.loop-test.false
+    unanswered g.B.Bus.world g.B.Bus.happened g.B.Bus.lively c.args.bus.now c.loop.bus c.args.word c.loop.counter c.loop-test.false
     (c.loop.invariant.waits honest)

@@ -5,8 +5,8 @@ use Rattle.bring_up.proofs.link.command.Given as goal
 abbrev pub invariant-loop : goal.invariant-loop
 invariant-loop g l = record {
   extent : g.B.Bus.extent l.bus ≡ g.B.Bus.extent l.fn.bus;
-  kept : g.B.Bus.kept l.fn.bus l.bus;
+  lent_stays : g.B.Bus.lent_stays l.fn.bus l.bus;
   honest : g.B.Bus.honest l.fn.bus → g.B.Bus.honest l.bus;
   lively : g.B.Bus.lively l.fn.bus → g.B.Bus.lively l.bus;
-  waits : g.B.Bus.honest l.fn.bus → Waits g.B.Bus.world g.B.Bus.happened g.B.Bus.lively l.fn.bus l.bus l.words l.counter;
+  waits : g.B.Bus.honest l.fn.bus → Waits g.B.Bus.world g.B.Bus.happened g.B.Bus.lively l.fn.bus l.bus l.word l.counter;
 }

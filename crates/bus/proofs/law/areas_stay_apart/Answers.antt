@@ -1,4 +1,4 @@
-use Rattle.bus.proofs.Carrying.{areas_stay_apart}
+use Rattle.bus.proofs.KnownMemory.{areas_stay_apart}
 use Rattle.bus.proofs.law.areas_stay_apart.Goals as goal
 
 pub returns : goal.returns

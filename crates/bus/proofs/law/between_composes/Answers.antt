@@ -1,4 +1,4 @@
-use Rattle.bus.proofs.Composing.{happens_none, happens_trans}
+use Rattle.bus.proofs.Composition.{happens_none, happens_trans}
 use Rattle.bus.proofs.law.between_composes.Goals as goal
 
 pub returns : goal.returns

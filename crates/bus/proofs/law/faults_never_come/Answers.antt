@@ -1,4 +1,4 @@
-use Rattle.bus.proofs.Running.{faults_never_come}
+use Rattle.bus.proofs.RunningEngines.{faults_never_come}
 use Rattle.bus.proofs.law.faults_never_come.Goals as goal
 
 pub returns : goal.returns

@@ -1,4 +1,4 @@
-use Rattle.bus.proofs.Idle.{idle_after_power_on, idle_after_reset, idle_rings_are_sound}
+use Rattle.bus.proofs.IdleRings.{idle_after_power_on, idle_after_reset, idle_rings_are_sound}
 use Rattle.bus.proofs.law.idle_rings_are_sound.Goals as goal
 
 pub returns : goal.returns

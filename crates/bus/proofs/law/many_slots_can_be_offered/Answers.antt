@@ -1,4 +1,4 @@
-use Rattle.bus.proofs.Initialising.{many_slots_can_be_offered}
+use Rattle.bus.proofs.RegisterSetting.{many_slots_can_be_offered}
 use Rattle.bus.proofs.law.many_slots_can_be_offered.Goals as goal
 
 pub returns : goal.returns

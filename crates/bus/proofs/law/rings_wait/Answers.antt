@@ -1,4 +1,4 @@
-use Rattle.bus.proofs.Waiting.{offers_wait, transmit_stays_idle}
+use Rattle.bus.proofs.WaitingRings.{offers_wait, transmit_stays_idle}
 use Rattle.bus.proofs.law.rings_wait.Goals as goal
 
 pub returns : goal.returns

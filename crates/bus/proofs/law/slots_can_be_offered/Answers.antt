@@ -1,4 +1,4 @@
-use Rattle.bus.proofs.Offering.{slots_can_be_offered}
+use Rattle.bus.proofs.SlotOffers.{slots_can_be_offered}
 use Rattle.bus.proofs.law.slots_can_be_offered.Goals as goal
 
 pub returns : goal.returns

@@ -1,4 +1,4 @@
-use Rattle.bus.proofs.Instances.{arrivals_happen, steps_happen}
+use Rattle.bus.proofs.StepInstances.{arrivals_happen, steps_happen}
 use Rattle.bus.proofs.law.steps_are_instances.Goals as goal
 
 pub returns : goal.returns

@@ -1,7 +1,7 @@
 use Rattle.std.proofs.Common.{◌≡◌, ◌≤◌, ◌*◌, ℕ, length, ap, subst, ◌∙◌, arith}
 use Rattle.dma_memory.specs.Layout.{Counts, ReceiveRing}
 use Rattle.dma_memory.specs.LayoutLaws.{place-below_size}
-use Rattle.bus.specs.Past.{joined}
+use Rattle.bus.specs.PastOfStretch.{joined}
 use Rattle.bring_up.specs.Configuration.{counts_of}
 use Rattle.bring_up.specs.RestingRings.{HasNewRings, HasReceiveRing, SetsAtRest}
 use Rattle.bring_up.specs.RingRegisters.{ring_writes}

@@ -4,7 +4,7 @@ use Rattle.bring_up.specs.DriverSteps.{SetsTransmitRing}
 use Rattle.bring_up.specs.RingRegisters.{ring_writes}
 use Rattle.bring_up.specs.declared.ring_registers.RingPlace.{RingPlace}
 use Rattle.dma_memory.specs.Layout.{Counts, IsAllowed}
-use Rattle.driver_law.specs.Goes.{RanBy}
+use Rattle.driver_law.specs.Stretches.{RanBy}
 use Rattle.driver.proofs.Initialisation.{sets-transmitter}
 use Rattle.driver.proofs.init.set_up_transmitter.Goals as goal
 

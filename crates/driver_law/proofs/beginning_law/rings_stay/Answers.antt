@@ -1,5 +1,5 @@
 -- As the lemmas say.
-use Rattle.driver_law.proofs.Waits.{no_frame_comes, nothing_is_held, rings_that_are_off_stay}
+use Rattle.driver_law.proofs.WaitingStates.{no_frame_comes, nothing_is_held, rings_that_are_off_stay}
 use Rattle.driver_law.proofs.beginning_law.rings_stay.Goals as goal
 
 pub returns : goal.returns

@@ -1,6 +1,6 @@
-use Rattle.driver_law.proofs.Offers.{staged_can_be_offered}
+use Rattle.driver_law.proofs.SlotOffers.{staged_can_be_offered}
 use Rattle.driver_law.proofs.Stores.{slots_can_be_staged}
-use Rattle.driver_law.proofs.Takes.{buffers_can_come_back, oldest_can_be_taken, oldest_is_as_long}
+use Rattle.driver_law.proofs.TakenSlots.{buffers_can_come_back, oldest_can_be_taken, oldest_is_as_long}
 use Rattle.driver_law.proofs.law.receive_slots_go_round.Goals as goal
 
 pub returns : goal.returns

@@ -1,6 +1,6 @@
 -- As the lemmas say.
 use Rattle.driver_law.proofs.FramesCounted.{slots_have_frames}
-use Rattle.driver_law.proofs.FramesToSend.{none_is_written_back, slot_is_freed}
+use Rattle.driver_law.proofs.OfferedAndFreedSlots.{none_is_written_back, slot_is_freed}
 use Rattle.driver_law.proofs.transmit_law.slots_are_freed.Goals as goal
 
 pub returns : goal.returns

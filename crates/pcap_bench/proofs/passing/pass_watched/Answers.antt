@@ -112,7 +112,7 @@ loop-frame-preserved g c =
     let same : c.write_received.new.lane.adapter.filter ≡ c.loop-frame.lane.adapter.filter = c.in_ok-write_received.ensures.filter
     ∙ c.receive.ensures.filter in
     record {
-      quiet = c.in_ok-write_received.ensures.faults ∙ c.loop-frame.invariant.quiet;
+      quiet = c.in_ok-write_received.ensures.failures ∙ c.loop-frame.invariant.quiet;
       waiting = c.in_ok-write_received.ensures.waiting;
       filter = subst (λ (r : FilterRegisters). SameSets (filter_of r) (filter_for c.args.filter.now))
           (sym same) c.loop-frame.invariant.filter;

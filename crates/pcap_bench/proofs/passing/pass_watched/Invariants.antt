@@ -10,7 +10,7 @@ use Rattle.pcap_bench.proofs.passing.pass_watched.Given as goal
 
 abbrev pub invariant-loop-frame : goal.invariant-loop-frame
 invariant-loop-frame g l = record {
-  quiet : g.W.Sink.faults l.sink ≡ g.W.Sink.faults l.fn.sink;
+  quiet : g.W.Sink.failures l.sink ≡ g.W.Sink.failures l.fn.sink;
   waiting : IsWaiting l.lane;
   filter : SameSets (filter_of l.lane.adapter.filter) (filter_for l.fn.filter);
   read : l.counts.read ≡ length l.fn.trace.frames;

@@ -3,12 +3,12 @@ use Rattle.adapter.specs.declared.step.StepKind.TheVariants.{TxTake}
 use Rattle.solo_bus.specs.SoundWorlds.{HasFramesInBuffer}
 use Rattle.adapter.specs.Conditions.{Sound}
 use Rattle.solo_bus.specs.SoloBuses.{SoloState, has_room, solo_stepped}
-use Rattle.solo_bus.specs.SoundBuses.{sent}
+use Rattle.solo_bus.specs.SoundBuses.{taken}
 use Rattle.adapter.specs.World.{World}
 use Rattle.solo_bus.proofs.SoundBuses.{sent-found, sent-has_frames, stepped-sound}
 use Rattle.solo_bus.proofs.sound_buses.with_buffered_frame.Goals as goal
 
-world-is : (c : goal.After-step) → c.step.new.self.world ≡ sent 4096 c.args.image.now
+world-is : (c : goal.After-step) → c.step.new.self.world ≡ taken 4096 c.args.image.now
 world-is c =
     let state : SoloState → World = λ solo. solo.world in
     sent-found 4096 c.args.image.now (solo_stepped c.step.result c.in_ok-bus.bus) c.in_ok-bus.bus.world c.step.new.self.world

@@ -3,12 +3,12 @@ use Rattle.adapter.specs.declared.step.StepKind.TheVariants.{RxDone}
 use Rattle.solo_bus.specs.SoundWorlds.{HasFinished}
 use Rattle.adapter.specs.Conditions.{Sound}
 use Rattle.solo_bus.specs.SoloBuses.{SoloState, has_room, solo_stepped}
-use Rattle.solo_bus.specs.SoundBuses.{reported}
+use Rattle.solo_bus.specs.SoundBuses.{finished_slot}
 use Rattle.adapter.specs.World.{World}
 use Rattle.solo_bus.proofs.SoundBuses.{reported-found, reported-has_finished, stepped-sound}
 use Rattle.solo_bus.proofs.sound_buses.with_finished_slot.Goals as goal
 
-world-is : (c : goal.After-step) → c.step.new.self.world ≡ reported 4096 c.args.image.now
+world-is : (c : goal.After-step) → c.step.new.self.world ≡ finished_slot 4096 c.args.image.now
 world-is c =
     let state : SoloState → World = λ solo. solo.world in
     reported-found 4096 c.args.image.now (solo_stepped c.step.result c.in_ok-bus.bus) c.in_ok-bus.bus.world c.step.new.self.world

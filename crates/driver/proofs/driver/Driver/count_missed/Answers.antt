@@ -2,9 +2,9 @@ use Rattle.std.proofs.Common.{Bool, ◌&&◌, ◌≡◌, ◌<◌, ◌-◌, ◌+�
 use Rattle.bus.specs.declared.event.Access.TheVariants.{Reads}
 use Rattle.driver_law.proofs.RegisterAccesses.{ran_by-misses}
 use Rattle.driver_law.specs.DriverState.{DriverState, holding}
-use Rattle.driver_law.specs.Goes.{RanBy}
-use Rattle.driver_law.specs.Readings.{adds_exactly, with_missed}
-use Rattle.driver.specs.Inside.{state_of}
+use Rattle.driver_law.specs.Stretches.{RanBy}
+use Rattle.driver_law.specs.RegisterReadings.{adds_exactly, with_missed}
+use Rattle.driver.specs.InsideDriver.{state_of}
 use Rattle.driver.proofs.driver.Driver.count_missed.Given.{Over}
 use Rattle.driver.proofs.driver.Driver.count_missed.Goals as goal
 use Rattle.driver.proofs.driver.Driver.count_missed.Goals.{then-self, else-self}

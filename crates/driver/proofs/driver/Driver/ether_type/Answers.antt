@@ -3,7 +3,7 @@ use Rattle.std.proofs.lemmas.List.{get_or-drop, get_or-take}
 use Rattle.bus.specs.declared.event.Access.TheVariants.{Loads}
 use Rattle.driver_law.proofs.ReceiveAccesses.{frame-read, ran_by-reads}
 use Rattle.driver_law.specs.DriverState.{buffer_at, holding}
-use Rattle.driver_law.specs.Goes.{RanBy}
+use Rattle.driver_law.specs.Stretches.{RanBy}
 use Rattle.driver.proofs.driver.Driver.ether_type.Given.{Over}
 use Rattle.driver.proofs.driver.Driver.ether_type.Goals as goal
 

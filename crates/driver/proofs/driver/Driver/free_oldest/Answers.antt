@@ -1,12 +1,12 @@
 -- The oldest transmit slot is freed where the load shows that it is done.
 use Rattle.std.proofs.Common.{◌≡◌, ◌+◌, ◌-◌, ◌%◌, ℕ, [], sym, ap, subst, ◌∙◌, arith}
-use Rattle.driver_law.proofs.FramesToSend.{none_is_written_back}
+use Rattle.driver_law.proofs.OfferedAndFreedSlots.{none_is_written_back}
 use Rattle.std.proofs.Common.{inl, min, true}
 use Rattle.driver_law.specs.DriverState.{DriverState, holding, transmit_slot}
-use Rattle.driver_law.specs.Goes.{RanBy}
-use Rattle.driver_law.specs.Transmit.{transmit_loads, with_freed}
+use Rattle.driver_law.specs.Stretches.{RanBy}
+use Rattle.driver_law.specs.TransmitSteps.{transmit_loads, with_freed}
 use Rattle.driver.proofs.FreedSlots.{frees-none, frees-oldest, sending-freed, waits-oldest}
-use Rattle.driver.specs.Inside.{IsSending, state_of}
+use Rattle.driver.specs.InsideDriver.{IsSending, state_of}
 use Rattle.driver.proofs.driver.Driver.free_oldest.Goals as goal
 
 pub returns-then-self-eq0-clause-ran : goal.returns-then-self-eq0-clause-ran
@@ -23,8 +23,8 @@ pub returns-then-not-shows_done-clause-ran : goal.returns-then-not-shows_done-cl
 returns-then-not-shows_done-clause-ran g c held honest ready =
     let d = holding held c.args.self.now in
     let same = ap (λ (s : DriverState). s.sending) c.self.view_is in
-    let at : c.descriptor_address.result ≡ transmit_slot d.counts d.oldest_sent = c.descriptor_address.ensures.start
-    ∙ ap (λ (s : DriverState). transmit_slot s.counts s.oldest_sent) c.self.view_is in
+    let at : c.descriptor_address.result ≡ transmit_slot d.counts d.oldest_transmit = c.descriptor_address.ensures.start
+    ∙ ap (λ (s : DriverState). transmit_slot s.counts s.oldest_transmit) c.self.view_is in
     (waits-oldest g.B.Bus.world g.B.Bus.happened g.B.Bus.lively c.args.bus.now c.load.new.self d c.descriptor_address.result c.load.new.into
     at (omega (arith, same, c.if-self-eq0.false)) (sym c.shows_done.ensures
     ∙ c.if-not-shows_done.true) (c.load.ensures.acts honest) ready).ran
@@ -33,8 +33,8 @@ pub returns-then-not-shows_done-clause-none : goal.returns-then-not-shows_done-c
 returns-then-not-shows_done-clause-none g c held honest ready =
     let d = holding held c.args.self.now in
     let same = ap (λ (s : DriverState). s.sending) c.self.view_is in
-    let at : c.descriptor_address.result ≡ transmit_slot d.counts d.oldest_sent = c.descriptor_address.ensures.start
-    ∙ ap (λ (s : DriverState). transmit_slot s.counts s.oldest_sent) c.self.view_is in
+    let at : c.descriptor_address.result ≡ transmit_slot d.counts d.oldest_transmit = c.descriptor_address.ensures.start
+    ∙ ap (λ (s : DriverState). transmit_slot s.counts s.oldest_transmit) c.self.view_is in
     (waits-oldest g.B.Bus.world g.B.Bus.happened g.B.Bus.lively c.args.bus.now c.load.new.self d c.descriptor_address.result c.load.new.into
     at (omega (arith, same, c.if-self-eq0.false)) (sym c.shows_done.ensures
     ∙ c.if-not-shows_done.true) (c.load.ensures.acts honest) ready).behind
@@ -46,8 +46,8 @@ invariant_of-self g c =
       receives = c.self.invariant.receives;
       sums = c.self.invariant.sums;
       sends =
-          subst (λ (n : ℕ). IsSending s.layout ((s.oldest_sent + 1) % n) s.next_sent (s.sending - 1)) (sym c.tx.ensures.count)
-          (sending-freed s.layout s.oldest_sent s.next_sent s.sending (omega (arith, c.if-self-eq0.false)) c.self.invariant.sends);
+          subst (λ (n : ℕ). IsSending s.layout ((s.oldest_transmit + 1) % n) s.next_transmit (s.sending - 1)) (sym c.tx.ensures.count)
+          (sending-freed s.layout s.oldest_transmit s.next_transmit s.sending (omega (arith, c.if-self-eq0.false)) c.self.invariant.sends);
     }
 
 pub returns-clause-ran : goal.returns-clause-ran
@@ -55,13 +55,13 @@ returns-clause-ran g c held honest ready =
     let d = holding held c.args.self.now in
     let s = c.self.inside in
     let same = ap (λ (state : DriverState). state.sending) c.self.view_is in
-    let at : c.descriptor_address.result ≡ transmit_slot d.counts d.oldest_sent = c.descriptor_address.ensures.start
-    ∙ ap (λ (state : DriverState). transmit_slot state.counts state.oldest_sent) c.self.view_is in
+    let at : c.descriptor_address.result ≡ transmit_slot d.counts d.oldest_transmit = c.descriptor_address.ensures.start
+    ∙ ap (λ (state : DriverState). transmit_slot state.counts state.oldest_transmit) c.self.view_is in
     let ran = frees-oldest g.B.Bus.world g.B.Bus.happened g.B.Bus.lively c.args.bus.now c.load.new.self d c.descriptor_address.result
     c.load.new.into at (omega (arith, same, c.if-self-eq0.false)) (sym c.shows_done.ensures
     ∙ c.if-not-shows_done.false) (c.load.ensures.acts honest) ready in
     let freed = sym (ap (λ (state : DriverState). with_freed (holding held state)) c.self.view_is)
     ∙ ap (λ (n : ℕ). let state : DriverState = record (holding held (state_of s))
-    { oldest_sent = (s.oldest_sent + 1) % n; sending = s.sending - 1 } in state) (sym c.tx.ensures.count) in
+    { oldest_transmit = (s.oldest_transmit + 1) % n; sending = s.sending - 1 } in state) (sym c.tx.ensures.count) in
     subst (λ (state : DriverState). RanBy true g.B.Bus.world g.B.Bus.happened
-    (transmit_loads d.counts d.oldest_sent (min d.sending 1)) c.args.bus.now c.load.new.self d state [] []) freed ran
+    (transmit_loads d.counts d.oldest_transmit (min d.sending 1)) c.args.bus.now c.load.new.self d state [] []) freed ran

@@ -3,7 +3,7 @@ use Rattle.dma_memory.specs.Owners.{copies}
 use Rattle.dma_memory.specs.OwnersLaws.{copies-cons}
 use Rattle.driver_law.proofs.Owners.{owners-count}
 use Rattle.driver_law.specs.DriverState.{DriverState, owners}
-use Rattle.driver.proofs.Refills.{gives}
+use Rattle.driver.proofs.RefillSteps.{gives}
 use Rattle.driver.proofs.driver.Driver.give.Goals as goal
 
 pub returns-clause-owners : goal.returns-clause-owners

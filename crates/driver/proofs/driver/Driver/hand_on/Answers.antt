@@ -5,8 +5,8 @@ use Rattle.rx_filter.specs.Addresses.{ether_type}
 use Rattle.bus.proofs.Lists.{all-none}
 use Rattle.bus.specs.declared.event.Access.TheVariants.{Loads}
 use Rattle.driver_law.specs.DriverState.{DriverState, buffer_at, holding}
-use Rattle.driver_law.specs.Goes.{RanBy}
-use Rattle.driver.specs.Takes.{IsFrameSize, Shows, received_of}
+use Rattle.driver_law.specs.Stretches.{RanBy}
+use Rattle.driver.specs.TakenFrames.{IsFrameSize, Shows, received_of}
 use Rattle.driver.specs.declared.receiver.Received.{Received}
 use Rattle.driver.proofs.driver.Driver.hand_on.Goals as goal
 
@@ -28,8 +28,8 @@ returns-then-not-finished-clause-hands g c =
       bad = record {
         least = omega (arith, same, is, below);
         most = omega (arith, same, is);
-        exactly = λ loose. omega
-            (arith, same, is, loose);
+        exactly = λ below_greatest. omega
+            (arith, same, is, below_greatest);
       };
       buffers = λ k. c.put_back.ensures.back k ∙ ap (copies k) (pool ∙ sym (append-nil after.pool.free));
     }

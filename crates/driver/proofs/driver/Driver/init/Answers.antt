@@ -3,7 +3,7 @@ use Rattle.std.proofs.lemmas.Result.{err_from_is_err_and}
 use Rattle.dma_memory.specs.Layout.{Counts, size_of}
 use Rattle.dma_memory.specs.Owners.{HasOneOwner}
 use Rattle.bring_up.specs.Configuration.{CanBeHad, counts_of}
-use Rattle.bring_up.specs.Configured.{names_vlans}
+use Rattle.bring_up.specs.ConfiguredAdapters.{names_vlans}
 use Rattle.bring_up.specs.DriverSteps.{LetsFramesIn}
 use Rattle.bring_up.specs.RingRegisters.{receive_writes}
 use Rattle.bring_up.specs.declared.init_error.InitError.TheVariants.{Memory}
@@ -11,9 +11,9 @@ use Rattle.bring_up.specs.declared.init_error.InitError.TheVariants as errors
 use Rattle.bring_up.proofs.RestingRings.{drivers_begin_at_rest}
 use Rattle.driver_law.specs.Beginnings.{new_driver}
 use Rattle.driver_law.specs.DriverState.{DriverState, owners}
-use Rattle.driver_law.specs.Goes.{RanBy}
-use Rattle.bus.specs.Past.{nothing}
-use Rattle.driver.specs.Initialises.{OffersFirst, Refuses, transmit_accesses}
+use Rattle.driver_law.specs.Stretches.{RanBy}
+use Rattle.bus.specs.PastOfStretch.{nothing}
+use Rattle.driver.specs.Initialisation.{OffersFirst, Refuses, transmit_accesses}
 use Rattle.driver.proofs.Initialisation.{initialises, new-still, stays-quiet, vlans-named}
 use Rattle.driver.proofs.FirstSlots.{offering, owners-offered}
 use Rattle.driver.proofs.driver.Driver.init.Given.{Over}
@@ -34,11 +34,11 @@ returns-in_err-driver-clause-refuses g c honest =
     (record { past = nothing; told = g.met.B.Bus.stays c.args.bus.now; why = refl; why_lively = λ lively. tt })
 
 -- The driver that is made.
-made : (g : Over) (c : goal.After-unmask_interrupts g)
+made : (g : Over) (c : goal.After-enable_interrupts g)
     → c.in_ok-driver.driver ≡ new_driver (counts_of c.args.config.now) c.in_ok-driver.driver.pool
 made g c = c.in_ok-driver.ensures.new ∙ ap (λ (layout : Counts). new_driver layout c.in_ok-driver.driver.pool) c.in_ok-layout.ensures.counts
 
-offered : (g : Over) (c : goal.After-unmask_interrupts g)
+offered : (g : Over) (c : goal.After-enable_interrupts g)
     → OffersFirst g.B.Bus.honest g.B.Bus.world g.B.Bus.happened c.find_ring.new.bus c.offer_first.new.bus
     (new_driver (counts_of c.args.config.now) c.in_ok-driver.driver.pool) c.offer_first.new.self
 offered g c =
@@ -46,7 +46,7 @@ offered g c =
     c.offer_first.new.self)
     (made g c) c.offer_first.ensures.offers
 
-owner : (g : Over) (c : goal.After-unmask_interrupts g) → HasOneOwner c.args.config.now.buffers c.in_ok-driver.driver.pool
+owner : (g : Over) (c : goal.After-enable_interrupts g) → HasOneOwner c.args.config.now.buffers c.in_ok-driver.driver.pool
 owner g c = subst (λ (layout : Counts). HasOneOwner layout.buffers c.in_ok-driver.driver.pool) c.in_ok-layout.ensures.counts
     c.in_ok-driver.ensures.one_owner
 
@@ -97,10 +97,10 @@ returns-clause-initialises g c honest =
     let sends : RanBy true world happened (transmit_accesses counts) b3 b4 d d [] [] =
     subst (λ (layout : Counts). RanBy true world happened (transmit_accesses layout) b3 b4 d d [] []) c.in_ok-layout.ensures.counts
     (c.set_up_transmitter.ensures.ran d h3 lets.ran.goes.flows.ready (same ∙ sym c.in_ok-layout.ensures.counts)
-    (ap (λ (s : DriverState). s.oldest_sent) o.others) (ap (λ (s : DriverState). s.sending) o.others) new) in
-    initialises world happened g.met.B.Bus.joins b0 b1 b2 b3 b4 c.unmask_interrupts.new.bus config (g.B.Bus.extent b0) pool o.numbers d
+    (ap (λ (s : DriverState). s.oldest_transmit) o.others) (ap (λ (s : DriverState). s.sending) o.others) new) in
+    initialises world happened g.met.B.Bus.joins b0 b1 b2 b3 b4 c.enable_interrupts.new.bus config (g.B.Bus.extent b0) pool o.numbers d
     finds.past had finds.told finds.found o.count o.others
-    first still.0 still.1.1 lets sends (c.unmask_interrupts.ensures.unmasks d h4 sends.goes.flows.ready)
+    first still.0 still.1.1 lets sends (c.enable_interrupts.ensures.enables d h4 sends.goes.flows.ready)
 
 pub returns-clause-new : goal.returns-clause-new
 returns-clause-new g c =

@@ -4,9 +4,9 @@ use Rattle.dma_memory.specs.OwnersLaws.{copies-append}
 use Rattle.registers.specs.Bits.{Meet}
 use Rattle.driver_law.proofs.RegisterAccesses.{reads-causes}
 use Rattle.driver_law.specs.DriverState.{DriverState, holding, owners}
-use Rattle.bring_up.specs.Table.{handled_causes}
-use Rattle.driver.specs.Takes.{buffers_of}
-use Rattle.driver.proofs.Handles.{handled-timer, handles-it}
+use Rattle.bring_up.specs.WrittenRegisters.{handled_causes}
+use Rattle.driver.specs.TakenFrames.{buffers_of}
+use Rattle.driver.proofs.HandlerSteps.{handled-timer, handles-it}
 use Rattle.driver.proofs.driver.Driver.interrupt.Goals as goal
 
 pub returns-then-not-is_mine-clause-handles : goal.returns-then-not-is_mine-clause-handles

@@ -4,11 +4,11 @@ use Rattle.bus.specs.declared.event.Access.TheVariants.{Writes}
 use Rattle.driver_law.proofs.Accesses.{ran_by-stays}
 use Rattle.driver_law.proofs.ReceiveAccesses.{ran_by-offers}
 use Rattle.driver_law.specs.Accesses.{tail_write}
-use Rattle.driver_law.specs.DriverState.{DriverState, holding, next_received}
-use Rattle.driver_law.specs.Goes.{RanBy}
-use Rattle.driver.specs.Inside.{state_of}
-use Rattle.driver.proofs.Queue.{no_second-inside, none-staged, owners-offered, offered-inside, queue-split, tail_write-none}
-use Rattle.driver.proofs.Queue.{tail_write-some}
+use Rattle.driver_law.specs.DriverState.{DriverState, holding, next_receive}
+use Rattle.driver_law.specs.Stretches.{RanBy}
+use Rattle.driver.specs.InsideDriver.{state_of}
+use Rattle.driver.proofs.BufferQueue.{no_second-inside, none-staged, owners-offered, offered-inside, queue-split, tail_write-none}
+use Rattle.driver.proofs.BufferQueue.{tail_write-some}
 use Rattle.driver.proofs.driver.Driver.offer.Goals as goal
 
 pub returns-then-self-eq0-clause-ran : goal.returns-then-self-eq0-clause-ran
@@ -18,7 +18,7 @@ returns-then-self-eq0-clause-ran g c up held honest ready =
     let none : length d.staged ≡ 0 = ap (λ (s : DriverState). length s.staged) (sym c.self.view_is)
     ∙ (queue-split c.self.inside c.self.invariant.receives).staged ∙ c.if-self-eq0.true in
     subst (λ (list : List Access). RanBy up g.B.Bus.world g.B.Bus.happened list bus bus (holding held d) (holding held d) [] [])
-    (sym (tail_write-none (next_received d) d.staged none))
+    (sym (tail_write-none (next_receive d) d.staged none))
     (ran_by-stays g.B.Bus.world g.B.Bus.happened g.met.B.Bus.stays bus (holding held d) ready)
 
 pub returns-clause-ran : goal.returns-clause-ran
@@ -28,7 +28,7 @@ returns-clause-ran g c =
     let new = c.write.new.self in
     let receives = c.self.invariant.receives in
     let split = queue-split d receives in
-    let at = next_received (state_of d) in
+    let at = next_receive (state_of d) in
     rw (← c.self.view_is) (λ up held honest ready.
     let some : tail_write at (state_of d).staged ≡ Writes 0x2818 at
     ∷ [] = tail_write-some at (state_of d).staged (λ none. c.if-self-eq0.false (sym split.staged ∙ none)) in

@@ -1,19 +1,19 @@
 use Rattle.std.proofs.Common.{◌≡◌, ◌<◌, ◌-◌, ◌*◌, ◌∷◌, [], ℕ, false, ap, sym, subst, ◌∙◌, arith}
 use Rattle.bring_up.specs.ClearedDescriptors.{clears}
-use Rattle.driver_law.specs.Goes.{RanBy}
-use Rattle.driver_law.specs.Ready.{ReadyWith}
+use Rattle.driver_law.specs.Stretches.{RanBy}
+use Rattle.driver_law.specs.ReadyDrivers.{ReadyWith}
 use Rattle.driver_law.specs.DriverState.{DriverState}
-use Rattle.driver.specs.Initialises.{OffersFirst}
-use Rattle.driver.specs.Refills.{Stages}
+use Rattle.driver.specs.Initialisation.{OffersFirst}
+use Rattle.driver.specs.RefillSteps.{Stages}
 use Rattle.driver.proofs.FirstSlots.{offers-first}
 use Rattle.driver.proofs.driver.Driver.offer_first.Goals as goal
 
-pub returns-clause-kept : goal.returns-clause-kept
-returns-clause-kept g c =
-    g.met.B.Bus.keeps_on c.args.bus.now c.clear_descriptor.new.bus c.offer.new.bus
-    (g.met.B.Bus.keeps_on c.args.bus.now c.stage_all.new.bus c.clear_descriptor.new.bus c.stage_all.ensures.kept
-    c.clear_descriptor.ensures.kept)
-    c.offer.ensures.kept
+pub returns-clause-lent_stays : goal.returns-clause-lent_stays
+returns-clause-lent_stays g c =
+    g.met.B.Bus.lent_stays_on c.args.bus.now c.clear_descriptor.new.bus c.offer.new.bus
+    (g.met.B.Bus.lent_stays_on c.args.bus.now c.stage_all.new.bus c.clear_descriptor.new.bus c.stage_all.ensures.lent_stays
+    c.clear_descriptor.ensures.lent_stays)
+    c.offer.ensures.lent_stays
 
 pub returns-clause-offers : goal.returns-clause-offers
 returns-clause-offers g c =
@@ -29,7 +29,7 @@ returns-clause-offers g c =
     let slot : c.receive_slot.result ≡ 16 * (d.counts.rx - 1) = c.receive_slot.ensures ∙ ap (λ (n : ℕ). 16 * (n - 1)) rx in
     let Clears : DriverState → ℕ → Type 0 = λ s address.
     RanBy false world happened (clears address ∷ []) c.stage_all.new.bus c.clear_descriptor.new.bus s s [] [] in
-    let clearing : (s : DriverState) → honest c.stage_all.new.bus → ReadyWith false s (world c.stage_all.new.bus) → s.oldest_received ≡ 0
+    let clearing : (s : DriverState) → honest c.stage_all.new.bus → ReadyWith false s (world c.stage_all.new.bus) → s.oldest_receive ≡ 0
     → d.counts.rx ≡ s.counts.rx
     → Clears s (16 * (d.counts.rx - 1)) = λ s obeys ready first same.
     subst (Clears s) slot (c.clear_descriptor.ensures.received false s obeys ready first (slot ∙ ap (λ (n : ℕ). 16 * (n - 1)) same)) in

@@ -1,4 +1,4 @@
-use Rattle.driver.proofs.Queue.{given-inside, no_second-inside}
+use Rattle.driver.proofs.BufferQueue.{given-inside, no_second-inside}
 use Rattle.driver.proofs.driver.Driver.put_back.Goals as goal
 
 pub invariant_of-self : goal.invariant_of-self

@@ -5,7 +5,7 @@ use Rattle.bus.specs.declared.event.Access.{Access}
 use Rattle.bus.specs.declared.event.Access.TheVariants.{Loads}
 use Rattle.driver_law.proofs.ReceiveAccesses.{frame-read, ran_by-reads}
 use Rattle.driver_law.specs.DriverState.{buffer_at, holding}
-use Rattle.driver_law.specs.Goes.{RanBy}
+use Rattle.driver_law.specs.Stretches.{RanBy}
 use Rattle.driver.proofs.driver.Driver.read.Given.{Over}
 use Rattle.driver.proofs.driver.Driver.read.Goals as goal
 

@@ -1,4 +1,4 @@
-use Rattle.driver.proofs.Queue.{no_second-inside}
+use Rattle.driver.proofs.BufferQueue.{no_second-inside}
 use Rattle.driver.proofs.driver.Driver.receiving.Goals as goal
 
 pub returns-clause-one_owner : goal.returns-clause-one_owner

@@ -6,7 +6,7 @@ use Rattle.driver.proofs.driver.Driver.reclaim.Goals as goal
 pub loop-init : goal.loop-init
 loop-init g c = record {
   extent = refl;
-  kept = g.met.B.Bus.keeps c.args.bus.now;
+  lent_stays = g.met.B.Bus.lent_stays_here c.args.bus.now;
   honest = λ honest. honest;
   lively = λ lively. lively;
   freed = has_freed-none g.B.Bus.honest g.B.Bus.world g.B.Bus.happened g.met.B.Bus.stays c.args.bus.now c.args.self.now;
@@ -18,7 +18,7 @@ loop-preserved g c =
     let turn = c.loop-test.ensures in
     record {
       extent = turn.extent ∙ l.extent;
-      kept = g.met.B.Bus.keeps_on c.args.bus.now c.loop.bus c.free_oldest.new.bus l.kept turn.kept;
+      lent_stays = g.met.B.Bus.lent_stays_on c.args.bus.now c.loop.bus c.free_oldest.new.bus l.lent_stays turn.lent_stays;
       honest = λ honest. turn.honest (l.honest honest);
       lively = λ lively. turn.lively (l.lively lively);
       freed =

@@ -1,5 +1,5 @@
 use Rattle.std.proofs.Common.{◌∙◌}
-use Rattle.driver.proofs.Refills.{owners-staged, refills}
+use Rattle.driver.proofs.RefillSteps.{owners-staged, refills}
 use Rattle.driver.proofs.driver.Driver.refill.Goals as goal
 
 pub returns-clause-owners : goal.returns-clause-owners

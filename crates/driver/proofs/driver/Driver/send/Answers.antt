@@ -3,17 +3,19 @@ use Rattle.std.proofs.Common.{◌≡◌, ◌+◌, ◌%◌, ◌∷◌, [], ℕ, l
 use Rattle.descriptors.specs.Frames.{padded}
 use Rattle.driver_law.proofs.TransmitRuns.{run-sends}
 use Rattle.driver_law.specs.DriverState.{DriverState, holding, transmit_slot, transmit_tail}
-use Rattle.driver_law.specs.Goes.{RanBy}
-use Rattle.driver_law.specs.Transmit.{send_accesses, transmit_buffer, whole_descriptor}
+use Rattle.driver_law.specs.Stretches.{RanBy}
+use Rattle.driver_law.specs.TransmitSteps.{send_accesses, transmit_buffer, whole_descriptor}
 use Rattle.driver.proofs.SentFrames.{next-slot, sending-more}
-use Rattle.driver.specs.Inside.{IsSending}
+use Rattle.driver.specs.InsideDriver.{IsSending}
 use Rattle.driver.proofs.driver.Driver.send.Goals as goal
 
 pub transmit_buffer-buffer-requires : goal.transmit_buffer-buffer-requires
-transmit_buffer-buffer-requires g c = let s = c.self.inside in next-slot s.layout s.oldest_sent s.next_sent s.sending c.self.invariant.sends
+transmit_buffer-buffer-requires g c = let s =
+    c.self.inside in next-slot s.layout s.oldest_transmit s.next_transmit s.sending c.self.invariant.sends
 
 pub descriptor_address-requires : goal.descriptor_address-requires
-descriptor_address-requires g c = let s = c.self.inside in next-slot s.layout s.oldest_sent s.next_sent s.sending c.self.invariant.sends
+descriptor_address-requires g c = let s =
+    c.self.inside in next-slot s.layout s.oldest_transmit s.next_transmit s.sending c.self.invariant.sends
 
 pub invariant_of-self : goal.invariant_of-self
 invariant_of-self g c =
@@ -24,8 +26,8 @@ invariant_of-self g c =
       receives = c.self.invariant.receives;
       sums = c.self.invariant.sums;
       sends =
-          subst (λ (n : ℕ). IsSending s.layout s.oldest_sent ((s.next_sent + 1) % n) (s.sending + 1)) (sym c.tx.ensures.count)
-          (sending-more s.layout s.oldest_sent s.next_sent s.sending
+          subst (λ (n : ℕ). IsSending s.layout s.oldest_transmit ((s.next_transmit + 1) % n) (s.sending + 1)) (sym c.tx.ensures.count)
+          (sending-more s.layout s.oldest_transmit s.next_transmit s.sending
           (omega (arith, c.requires.room, count, sending)) c.self.invariant.sends);
     }
 
@@ -46,7 +48,7 @@ returns-clause-ran g c held honest ready =
     let bytes : c.whole_packet-descriptor.result ≡ whole_descriptor (transmit_buffer d.counts (transmit_tail d)) (length frame) =
     c.whole_packet-descriptor.ensures ∙ ap (λ (address : ℕ). whole_descriptor address (length frame)) buffer in
     let tail : c.from.result ≡ (transmit_tail d + 1) % d.counts.tx =
-    c.from.ensures ∙ ap (λ (n : ℕ). (s.next_sent + 1) % n) c.tx.ensures.count ∙ ap (λ (place : ℕ). (place + 1) % s.layout.tx) next
+    c.from.ensures ∙ ap (λ (n : ℕ). (s.next_transmit + 1) % n) c.tx.ensures.count ∙ ap (λ (place : ℕ). (place + 1) % s.layout.tx) next
     ∙ ap (λ (state : DriverState). (transmit_tail state + 1) % state.counts.tx) c.self.view_is in
     let ran =
     run-sends g.B.Bus.world g.B.Bus.happened g.B.Bus.lively g.met.B.Bus.joins c.args.bus.now c.store.new.self c.store-2.new.self

@@ -4,11 +4,11 @@ use Rattle.dma_memory.specs.LayoutLaws.{place-below_size}
 use Rattle.descriptors.specs.Laws.{length-rx_desc_bytes}
 use Rattle.driver_law.proofs.ReceiveAccesses.{ran_by-stages}
 use Rattle.driver_law.specs.Accesses.{stores_from}
-use Rattle.driver_law.specs.DriverState.{DriverState, buffer_at, holding, next_received}
-use Rattle.driver_law.specs.Goes.{RanBy}
-use Rattle.driver_law.specs.Ready.{empty_descriptor}
-use Rattle.driver.specs.Inside.{state_of}
-use Rattle.driver.proofs.Queue.{queue-split, staged-inside}
+use Rattle.driver_law.specs.DriverState.{DriverState, buffer_at, holding, next_receive}
+use Rattle.driver_law.specs.Stretches.{RanBy}
+use Rattle.driver_law.specs.ReadyDrivers.{empty_descriptor}
+use Rattle.driver.specs.InsideDriver.{state_of}
+use Rattle.driver.proofs.BufferQueue.{queue-split, staged-inside}
 use Rattle.driver.proofs.driver.Driver.stage.Goals as goal
 
 pub store-requires : goal.store-requires
@@ -31,8 +31,8 @@ invariant_of-self-2 g c =
     let receives = c.self.invariant.receives in
     let room : length d.buffers.items + 1 < d.layout.rx = omega
     (arith, receives.room, c.if-len-from.false, c.len.ensures.len, c.from.ensures, c.rx-count.ensures.count) in
-    let moved : (d.next_received + 1) % c.rx-count.result
-    ≡ (d.next_received + 1) % d.layout.rx = ap (λ (n : ℕ). (d.next_received + 1) % n) c.rx-count.ensures.count in
+    let moved : (d.next_receive + 1) % c.rx-count.result
+    ≡ (d.next_receive + 1) % d.layout.rx = ap (λ (n : ℕ). (d.next_receive + 1) % n) c.rx-count.ensures.count in
     record {
       receives = (staged-inside d _ c.in-Some.buffer c.push_back.new.self c.take.new.self receives room moved c.push_back.ensures.items
           c.take.ensures.buffers c.in-Some.ensures.taken).receives;
@@ -50,14 +50,14 @@ returns-clause-stages g c =
     let split = queue-split d receives in
     let room : length d.buffers.items + 1 < d.layout.rx = omega
     (arith, receives.room, c.if-len-from.false, c.len.ensures.len, c.from.ensures, c.rx-count.ensures.count) in
-    let moved : (d.next_received + 1) % c.rx-count.result
-    ≡ (d.next_received + 1) % d.layout.rx = ap (λ (n : ℕ). (d.next_received + 1) % n) c.rx-count.ensures.count in
+    let moved : (d.next_receive + 1) % c.rx-count.result
+    ≡ (d.next_receive + 1) % d.layout.rx = ap (λ (n : ℕ). (d.next_receive + 1) % n) c.rx-count.ensures.count in
     let staged = staged-inside d _ m c.push_back.new.self c.take.new.self receives room moved c.push_back.ensures.items
     c.take.ensures.buffers c.in-Some.ensures.taken in
     let bytes : c.to_bytes.result ≡ empty_descriptor (buffer_at d.layout m) =
     c.to_bytes.ensures ∙ c.descriptor_of-descriptor.ensures
     ∙ ap empty_descriptor (c.receive_buffer.ensures.start ∙ ap (buffer_at d.layout) c.number.ensures) in
-    let at : c.receive_slot.result ≡ 16 * next_received (state_of d) = c.receive_slot.ensures ∙ ap (λ (slot : ℕ). 16 * slot) split.next in
+    let at : c.receive_slot.result ≡ 16 * next_receive (state_of d) = c.receive_slot.ensures ∙ ap (λ (slot : ℕ). 16 * slot) split.next in
     let fits : length (state_of d).buffers + length (state_of d).staged + 1 < d.layout.rx = omega
     (arith, room, split.outstanding, split.staged) in
     rw (← c.self.view_is) (
@@ -67,7 +67,7 @@ returns-clause-stages g c =
         pool = c.in-Some.ensures.taken;
         ran = λ up held honest ready.
             subst (λ (s : DriverState). RanBy up g.B.Bus.world g.B.Bus.happened
-            (stores_from d.layout (next_received (state_of d)) (m ∷ [])) old new (holding held (state_of d)) (holding held s) [] [])
+            (stores_from d.layout (next_receive (state_of d)) (m ∷ [])) old new (holding held (state_of d)) (holding held s) [] [])
             (sym staged.view)
             (ran_by-stages g.B.Bus.world g.B.Bus.happened g.B.Bus.lively old new
             (holding held (state_of d)) m c.receive_slot.result c.take.new.self.free c.to_bytes.result fits

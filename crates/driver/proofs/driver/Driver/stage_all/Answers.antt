@@ -1,11 +1,11 @@
 use Rattle.std.proofs.Common.{◌∷◌, [], refl, ◌∙◌}
-use Rattle.driver.proofs.Refills.{stages-join, stages-none}
+use Rattle.driver.proofs.RefillSteps.{stages-join, stages-none}
 use Rattle.driver.proofs.driver.Driver.stage_all.Goals as goal
 
 pub loop-init : goal.loop-init
 loop-init g c = record {
   extent = refl;
-  kept = g.met.B.Bus.keeps c.args.bus.now;
+  lent_stays = g.met.B.Bus.lent_stays_here c.args.bus.now;
   honest = λ honest. honest;
   lively = λ lively. lively;
   stages = record {
@@ -22,7 +22,7 @@ loop-preserved g c =
     let one = c.loop-test.ensures.stages in
     record {
       extent = s.extent ∙ l.extent;
-      kept = g.met.B.Bus.keeps_on c.args.bus.now c.loop.bus c.stage.new.bus l.kept s.kept;
+      lent_stays = g.met.B.Bus.lent_stays_on c.args.bus.now c.loop.bus c.stage.new.bus l.lent_stays s.lent_stays;
       honest = λ honest. s.honest (l.honest honest);
       lively = λ lively. s.lively (l.lively lively);
       stages = record {

@@ -1,15 +1,15 @@
 use Rattle.std.proofs.Common.{◌≡◌, ◌+◌, ◌-◌, ◌++◌, ℕ, length, refl, sym, ap, subst, ◌∙◌, arith}
 use Rattle.driver_law.specs.Accesses.{last_load}
 use Rattle.driver_law.specs.DriverState.{DriverState, holding}
-use Rattle.driver.specs.Takes.{Takes}
-use Rattle.driver.proofs.Takes.{walks-look, walks-next, walks-none}
+use Rattle.driver.specs.TakenFrames.{Takes}
+use Rattle.driver.proofs.TakenFrames.{walks-look, walks-next, walks-none}
 use Rattle.driver.proofs.driver.Driver.take_finished.Given.{Over}
 use Rattle.driver.proofs.driver.Driver.take_finished.Goals as goal
 
 pub loop-finished-init : goal.loop-finished-init
 loop-finished-init g c = record {
   extent = refl;
-  kept = g.met.B.Bus.keeps c.args.bus.now;
+  lent_stays = g.met.B.Bus.lent_stays_here c.args.bus.now;
   honest = λ honest. honest;
   lively = λ lively. lively;
   walks = (
@@ -27,8 +27,8 @@ loop-finished-preserved g c =
     let h = c.hand_on.ensures in
     record {
       extent = h.extent ∙ t.extent ∙ l.extent;
-      kept = g.met.B.Bus.keeps_on c.args.bus.now c.take_next.new.bus c.hand_on.new.bus
-          (g.met.B.Bus.keeps_on c.args.bus.now c.loop-finished.bus c.take_next.new.bus l.kept t.kept) h.kept;
+      lent_stays = g.met.B.Bus.lent_stays_on c.args.bus.now c.take_next.new.bus c.hand_on.new.bus
+          (g.met.B.Bus.lent_stays_on c.args.bus.now c.loop-finished.bus c.take_next.new.bus l.lent_stays t.lent_stays) h.lent_stays;
       honest = λ honest. h.honest (t.honest (l.honest honest));
       lively = λ lively. h.lively (t.lively (l.lively lively));
       walks = (
@@ -75,7 +75,7 @@ returns-clause-takes g c up held honest ready =
     (holding held c.loop-finished.self) n before look in
     let Taken : ℕ → DriverState → Type 0 = λ k last.
     Takes up g.B.Bus.world g.B.Bus.happened g.R.Receiver.took
-    (last_load last.oldest_received last.buffers) c.args.bus.now c.take_next.new.bus c.args.receiver.now c.loop-finished.receiver
+    (last_load last.oldest_receive last.buffers) c.args.bus.now c.take_next.new.bus c.args.receiver.now c.loop-finished.receiver
     (holding held d) (holding held last) k in
     subst (λ (last : DriverState). Taken (c.receiving-before.result - c.receiving.result) last) (sym c.in_default.ensures.stays)
     (subst (λ (k : ℕ). Taken k c.loop-finished.self) (number g c) all)

@@ -7,14 +7,14 @@ use Rattle.adapter.specs.Conditions.{IsWhole}
 use Rattle.driver_law.proofs.Accesses.{ran_by-stays}
 use Rattle.driver_law.proofs.ReceiveAccesses.{ran_by-leaves, ran_by-takes, takes-whole}
 use Rattle.driver_law.proofs.Stores.{status-bits}
-use Rattle.driver_law.proofs.Takes.{finished-empty}
+use Rattle.driver_law.proofs.TakenSlots.{finished-empty}
 use Rattle.driver_law.specs.Accesses.{last_load}
 use Rattle.driver_law.specs.DriverState.{HandedOut, holding}
-use Rattle.driver_law.specs.Goes.{RanBy}
+use Rattle.driver_law.specs.Stretches.{RanBy}
 use Rattle.driver_law.specs.OldestSlot.{LeavesOldest, TakesOldest}
-use Rattle.driver_law.specs.Ready.{ReadyWith}
-use Rattle.driver.specs.Inside.{state_of}
-use Rattle.driver.proofs.Queue.{HasTaken, none-outstanding, some-outstanding, taken-inside, without_oldest}
+use Rattle.driver_law.specs.ReadyDrivers.{ReadyWith}
+use Rattle.driver.specs.InsideDriver.{state_of}
+use Rattle.driver.proofs.BufferQueue.{HasTaken, none-outstanding, some-outstanding, taken-inside, without_oldest}
 use Rattle.driver.proofs.driver.Driver.take_next.Given.{Over}
 use Rattle.driver.proofs.driver.Driver.take_next.Goals as goal
 
@@ -36,7 +36,7 @@ returns-then-len-from-clause-looks g c = rw (← c.self.view_is) (λ up held hon
     let d = holding held (state_of c.self.inside) in
     let bus = c.args.bus.now in
     let none = none-outstanding c.self.inside c.self.invariant.receives (sym c.len.ensures.len ∙ c.if-len-from.true ∙ c.from.ensures) in
-    subst (λ (list : List ℕ). RanBy up g.B.Bus.world g.B.Bus.happened (last_load d.oldest_received list) bus bus d d [] []) (sym none)
+    subst (λ (list : List ℕ). RanBy up g.B.Bus.world g.B.Bus.happened (last_load d.oldest_receive list) bus bus d d [] []) (sym none)
     (ran_by-stays g.B.Bus.world g.B.Bus.happened g.met.B.Bus.stays bus d ready))
 
 -- It isn't done.
@@ -61,16 +61,16 @@ returns-then-not-is_done-clause-looks g c = rw (← c.self.view_is) (λ up held 
     let some = some-outstanding c.self.inside c.self.invariant.receives
     (λ none. c.if-len-from.false (c.len.ensures.len ∙ none ∙ sym c.from.ensures)) in
     subst (λ (list : List ℕ). RanBy up g.B.Bus.world g.B.Bus.happened
-    (last_load d.oldest_received list) c.args.bus.now c.load.new.self d d [] []) (sym some.2) (leaves g c up held honest ready).ran)
+    (last_load d.oldest_receive list) c.args.bus.now c.load.new.self d d [] []) (sym some.2) (leaves g c up held honest ready).ran)
 
 -- It is done.
 
 taken : (g : Over) (c : goal.After-is_whole g)
-    → HasTaken c.self.inside ((c.self.inside.oldest_received + 1) % c.rx.result) c.in-Some.buffer c.pop_front.new.self
+    → HasTaken c.self.inside ((c.self.inside.oldest_receive + 1) % c.rx.result) c.in-Some.buffer c.pop_front.new.self
 taken g c =
     taken-inside c.self.inside _ c.in-Some.buffer c.pop_front.new.self c.self.invariant.receives
     (λ none. c.if-len-from.false (c.len.ensures.len ∙ none ∙ sym c.from.ensures))
-    (ap (λ (n : ℕ). (c.self.inside.oldest_received + 1) % n) c.rx.ensures.count) (sym c.in-Some.ensures.value) c.pop_front.ensures.items
+    (ap (λ (n : ℕ). (c.self.inside.oldest_receive + 1) % n) c.rx.ensures.count) (sym c.in-Some.ensures.value) c.pop_front.ensures.items
 
 pub invariant_of-self-2 : goal.invariant_of-self-2
 invariant_of-self-2 g c = record { receives = (taken g c).receives; sends = c.self.invariant.sends; sums = c.self.invariant.sums }
@@ -103,7 +103,7 @@ pub returns-clause-takes : goal.returns-clause-takes
 returns-clause-takes g c = rw (← c.self.view_is) (λ up held honest ready.
     subst (λ (size : ℕ). TakesOldest up g.B.Bus.world g.B.Bus.happened c.args.bus.now c.load.new.self
     (holding held (state_of c.self.inside)) c.in-Some.buffer size
-    (state_of (without_oldest c.self.inside ((c.self.inside.oldest_received + 1) % c.rx.result) c.pop_front.new.self)).buffers)
+    (state_of (without_oldest c.self.inside ((c.self.inside.oldest_receive + 1) % c.rx.result) c.pop_front.new.self)).buffers)
     (ap (λ (desc : RxDesc). desc.length) (sym c.from_bytes-descriptor.ensures))
     (ran_by-takes g.B.Bus.world g.B.Bus.happened g.B.Bus.lively c.args.bus.now c.load.new.self
     (holding held (state_of c.self.inside)) c.in-Some.buffer c.receive_slot.result _ c.load.new.into

@@ -1,8 +1,8 @@
 use Rattle.driver_law.specs.DriverState.{HandedOut}
-use Rattle.packet_socket.specs.Holding.{driver_of}
+use Rattle.packet_socket.specs.HeldFrames.{driver_of}
 use Rattle.packet_socket.specs.InsideHost.{IsHost, host_of}
-use Rattle.packet_socket.proofs.Handling.{host-handles}
-use Rattle.packet_socket.proofs.Sound.{handled-host, sorts-all}
+use Rattle.packet_socket.proofs.HandledInterrupts.{host-handles}
+use Rattle.packet_socket.proofs.ConsistentHosts.{handled-host, sorts-all}
 use Rattle.packet_socket.proofs.host.Host.interrupt.Given.{Over}
 use Rattle.packet_socket.proofs.host.Host.interrupt.Goals as goal
 

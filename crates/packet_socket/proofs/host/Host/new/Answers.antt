@@ -5,11 +5,11 @@ use Rattle.dma_memory.specs.OwnersLaws.{no_second_from_one}
 use Rattle.bring_up.specs.Configuration.{CanBeHad}
 use Rattle.bring_up.specs.declared.init_error.InitError.TheVariants.{Memory}
 use Rattle.bring_up.specs.declared.init_error.InitError.TheVariants as errors
-use Rattle.bus.specs.Past.{nothing}
+use Rattle.bus.specs.PastOfStretch.{nothing}
 use Rattle.driver_law.specs.DriverState.{DriverState, owners}
-use Rattle.driver.specs.Initialises.{Refuses}
+use Rattle.driver.specs.Initialisation.{Refuses}
 use Rattle.packet_socket.specs.InsideHost.{IsHost}
-use Rattle.packet_socket.proofs.Sound.{new-host, new-ready}
+use Rattle.packet_socket.proofs.ConsistentHosts.{new-host, new-ready}
 use Rattle.packet_socket.proofs.host.Host.new.Given.{Over}
 use Rattle.packet_socket.proofs.host.Host.new.Goals as goal
 

@@ -1,12 +1,12 @@
 use Rattle.std.proofs.Common.{◌≡◌, ◌<◌, length, take, ◌∙◌, ap, sym, subst, arith}
 use Rattle.driver_law.specs.DriverState.{DriverState}
-use Rattle.driver.specs.Takes.{IsFrameSize}
-use Rattle.packet_socket.specs.Holding.{driver_of}
+use Rattle.driver.specs.TakenFrames.{IsFrameSize}
+use Rattle.packet_socket.specs.HeldFrames.{driver_of}
 use Rattle.packet_socket.specs.InsideHost.{host_of, host_with}
 use Rattle.packet_socket.specs.SocketsState.{SocketsState}
-use Rattle.packet_socket.proofs.Receiving.{host-receives}
-use Rattle.packet_socket.proofs.Parts.{Splits, splits}
-use Rattle.packet_socket.proofs.Sound.{CanComeBack, can-come-back, entry-splits, stays-host}
+use Rattle.packet_socket.proofs.GivenFrames.{host-receives}
+use Rattle.packet_socket.proofs.QueueParts.{Splits, splits}
+use Rattle.packet_socket.proofs.ConsistentHosts.{CanComeBack, can-come-back, entry-splits, stays-host}
 use Rattle.packet_socket.proofs.host.Host.recv.Given.{Over}
 use Rattle.packet_socket.proofs.host.Host.recv.Goals as goal
 

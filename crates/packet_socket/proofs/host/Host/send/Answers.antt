@@ -1,5 +1,5 @@
 use Rattle.driver_law.specs.DriverState.{HandedOut}
-use Rattle.packet_socket.specs.Holding.{driver_of}
+use Rattle.packet_socket.specs.HeldFrames.{driver_of}
 use Rattle.packet_socket.specs.InsideHost.{host_of}
 use Rattle.packet_socket.proofs.Stretches.{host-transmits}
 use Rattle.packet_socket.proofs.host.Host.send.Goals as goal

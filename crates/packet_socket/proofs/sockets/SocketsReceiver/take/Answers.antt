@@ -1,5 +1,5 @@
 use Rattle.std.proofs.Common.{◌≡◌, ◌<◌, Some, List, length, sym, ap, subst, ◌∙◌, arith}
-use Rattle.packet_socket.specs.Kinds.{socket_of}
+use Rattle.packet_socket.specs.SocketKinds.{socket_of}
 use Rattle.packet_socket.specs.declared.socket_kind.SocketKind.{SocketKind}
 use Rattle.packet_socket.proofs.InsideQueues.{newest-comes}
 use Rattle.packet_socket.proofs.sockets.SocketsReceiver.take.Goals as goal

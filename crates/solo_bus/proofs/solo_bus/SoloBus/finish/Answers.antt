@@ -1,4 +1,4 @@
-use Rattle.bus.specs.Groups.{without_go}
+use Rattle.bus.specs.TickGroups.{without_go}
 use Rattle.solo_bus.specs.SoloBuses.{is_go, solo_stepped}
 use Rattle.solo_bus.proofs.SoloTicks.{all_go_on, arrive_on, none_left, step_on}
 use Rattle.solo_bus.proofs.solo_bus.SoloBus.finish.Goals as goal

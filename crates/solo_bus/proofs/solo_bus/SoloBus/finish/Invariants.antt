@@ -1,5 +1,5 @@
 use Rattle.std.proofs.Common.{length}
-use Rattle.bus.specs.Groups.{without_go}
+use Rattle.bus.specs.TickGroups.{without_go}
 use Rattle.solo_bus.specs.SoloBuses.{is_go}
 use Rattle.solo_bus.proofs.SoloTicks.{PlaysOn, none_left}
 use Rattle.solo_bus.proofs.solo_bus.SoloBus.finish.Given as goal

@@ -1,4 +1,4 @@
-use Rattle.bus.specs.Groups.{behind_group, group_of}
+use Rattle.bus.specs.TickGroups.{behind_group, group_of}
 use Rattle.solo_bus.specs.SoloBuses.{is_go, solo_stepped}
 use Rattle.solo_bus.proofs.SoloTicks.{arrive_on, group_goes_on, step_on}
 use Rattle.solo_bus.proofs.solo_bus.SoloBus.play_group.Goals as goal

@@ -1,5 +1,5 @@
 use Rattle.std.proofs.Common.{length}
-use Rattle.bus.specs.Groups.{behind_group, group_of}
+use Rattle.bus.specs.TickGroups.{behind_group, group_of}
 use Rattle.solo_bus.specs.SoloBuses.{is_go}
 use Rattle.solo_bus.proofs.SoloTicks.{PlaysOn}
 use Rattle.solo_bus.proofs.solo_bus.SoloBus.play_group.Given as goal

@@ -1,0 +1,44 @@
+-- Writes that leave an adapter at rest, and a reset, behind which it is.
+use Rattle.std.proofs.Common.{◌≡◌, ◌∷◌, [], ℕ, Option, Some, refl, sym, ap, subst, ◌∙◌}
+use Rattle.std.specs.List.{All}
+use Rattle.std.proofs.lemmas.List.Elements.{All-cons}
+use Rattle.adapter.specs.Table.{IsInTable, register_at, row_of}
+use Rattle.adapter.specs.TableLaws.{register_at-there}
+use Rattle.adapter.specs.World.{World, world_after_read, world_after_write}
+use Rattle.adapter.specs.declared.register.Register.{Register}
+use Rattle.adapter.specs.declared.register.Register.TheVariants.{Ctrl, Imc, Pba}
+use Rattle.adapter.specs.Registers.{after_reset, left_by_write}
+use Rattle.bus.specs.AdaptersAtRest.{IsAtRest, IsElsewhere}
+use Rattle.bus.proofs.Lists.{all-none}
+use Rattle.bus.proofs.AdaptersAtRest.{rest_after_reset}
+use Rattle.bring_up.specs.SettingSteps.{IsAside}
+use Rattle.bring_up.specs.WrittenRegisters.{allocation_writes, link_writes, write_at}
+
+-- A register aside.
+pub aside-of : (register : Register) (value : ℕ) → IsInTable register → IsElsewhere (Some register)
+    → All IsAside (write_at (row_of register).offset value ∷ [])
+aside-of register value within elsewhere =
+    All-cons IsAside (write_at (row_of register).offset value) [] (subst IsElsewhere (sym (register_at-there register within)) elsewhere)
+    (all-none IsAside)
+
+pub mask-aside : All IsAside (write_at 0x00D8 0xFFFFFFFF ∷ [])
+mask-aside = aside-of Imc 0xFFFFFFFF tt tt
+
+pub allocation-aside : (kilobytes : ℕ) → All IsAside (allocation_writes kilobytes)
+allocation-aside kilobytes = aside-of Pba kilobytes tt tt
+
+pub link-aside : All IsAside link_writes
+link-aside = aside-of Ctrl 0x60 tt tt
+
+-- CTRL.RST is written.
+pub reset-rests : (value : ℕ) (before after : World) → value ≡ 0x04000000 → after ≡ world_after_write 0x0000 value before → IsAtRest after
+reset-rests value before after is written =
+    let resets : world_after_write 0x0000 0x04000000 before ≡ record before { adapter = after_reset before.adapter } =
+    ap (λ (found : Option Register). let w : World = record before { adapter = left_by_write found 0x04000000 before.adapter } in w)
+    (register_at-there Ctrl tt) in
+    subst IsAtRest (sym (written ∙ ap (λ (v : ℕ). world_after_write 0x0000 v before) is ∙ resets)) (rest_after_reset before)
+
+-- A read of ICR leaves no cause recorded.
+pub read-forgets : (world : World) → (world_after_read 0x00C0 world).adapter.causes.recorded ≡ 0
+unfolding register_at
+read-forgets world = refl

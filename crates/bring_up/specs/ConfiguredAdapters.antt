@@ -1,0 +1,100 @@
+-- What an adapter is set to behind bring-up, by its configuration and its Ethernet address, whatever else happened meanwhile.
+use Rattle.std.specs.Prelude.{◌≡◌, ◌<◌, ◌+◌, ◌-◌, ◌*◌, ◌^◌, ◌++◌, ℕ, Bool, true, false, List, ◌∷◌, [], All, Option, None, Some, length}
+use Rattle.std.specs.Prelude.{replicate}
+use Rattle.adapter.specs.declared.offsets.TheConstants.{MTA, RDBAL, RDT, TDBAL, VFTA}
+use Rattle.arrayvec.specs.declared.array_vec.ArrayVec.{ArrayVec}
+use Rattle.registers.specs.Places.{alone, rah_av}
+use Rattle.rx_filter.specs.Addresses.{IsAddress, high_word, low_word}
+use Rattle.adapter.specs.Rings.{ring_of}
+use Rattle.descriptors.specs.Ring.{count_of}
+use Rattle.bus.specs.Link.{LeavesPhy}
+use Rattle.bus.specs.Settings.{Settings, Write, settings_after_all}
+use Rattle.bring_up.specs.Configuration.{CanBeHad, vlans_of}
+use Rattle.bring_up.specs.FilterTables.{HasNumbers, address_writes, numbers_of_groups, table_writes}
+use Rattle.bring_up.specs.RingRegisters.{receive_control, receive_writes, ring_writes, transmit_control, transmit_writes}
+use Rattle.bring_up.specs.SettingSteps.{IsAside}
+use Rattle.bring_up.specs.WrittenRegisters.{allocation_writes, handled_causes, link_control, link_writes, mask_writes, reset_writes}
+use Rattle.bring_up.specs.WrittenRegisters.{write_at}
+use Rattle.bring_up.specs.declared.config.Config.{Config}
+use Rattle.rx_filter.specs.declared.filter.TheConstants.{VLAN_TYPE}
+
+-- whether VLANs are named, an empty list among them
+abbrev pub names_vlans : Option (ArrayVec ℕ 32 (Unit {0})) → Bool
+names_vlans None = false
+names_vlans (Some vlans) = true
+
+-- each is a word of 32 bits
+abbrev pub AreWords : List ℕ → Type 0
+AreWords words = All (λ word. word < 2 ^ 32) words
+
+-- All writes of registers in order, but for those of EERD and MDIC, which ask and set nothing. The tables are those of the configured
+-- groups and VLANs.
+
+-- those before the rings'
+abbrev pub writes_before_rings : Config → (address groups vlans : List ℕ) → List Write
+writes_before_rings config address groups vlans =
+    reset_writes
+    ++ (allocation_writes config.rxa
+    ++ (link_writes
+    ++ (table_writes MTA groups
+    ++ (table_writes VFTA vlans
+    ++ address_writes address))))
+
+-- and those from there on
+abbrev pub writes_from_rings : Config → List Write
+writes_from_rings config =
+    ring_writes RDBAL 0 (16 * config.rx)
+    ++ (write_at RDT (config.rx - 1) ∷ []
+    ++ (receive_writes config.promiscuous (names_vlans config.vlans)
+    ++ (ring_writes TDBAL (16 * config.rx) (16 * config.tx)
+    ++ (transmit_writes
+    ++ mask_writes))))
+
+abbrev pub all_writes : Config → (address groups vlans : List ℕ) → List Write
+all_writes config address groups vlans = writes_before_rings config address groups vlans ++ writes_from_rings config
+
+-- So the registers stand then.
+pub record IsConfigured (config : Config) (address : List ℕ) (settings : Settings) : Type 0 where
+  -- CTRL: SLU and ASDE
+  pub device_control : settings.device_control ≡ link_control
+  pub receive_control_is : settings.filter.rctl ≡ receive_control config.promiscuous (names_vlans config.vlans)
+  pub transmit_control : settings.transmit_control ≡ transmit_control
+  -- PBA.RXA
+  pub allocation : settings.receive_kilobytes ≡ config.rxa
+  -- IMS: TXDW, RXDMT0, RXO and RXT0
+  pub mask : settings.mask ≡ handled_causes
+  pub groups : HasNumbers settings.filter.mta (numbers_of_groups config.groups.items)
+  pub vlans : HasNumbers settings.filter.vfta (vlans_of config.vlans)
+  -- The address is the first exact one, and valid; the other 15 entries are 0.
+  pub address_low : settings.filter.ral ≡ low_word address ∷ replicate 15 0
+  pub address_high : settings.filter.rah ≡ (high_word address + alone rah_av) ∷ replicate 15 0
+  pub vlan_type : settings.filter.vet ≡ VLAN_TYPE
+  -- the rings: base, number of slots, tail
+  pub receive_base : (ring_of settings.receive_ring).base ≡ 0
+  pub receive_count : count_of (ring_of settings.receive_ring) ≡ config.rx
+  pub receive_tail : settings.receive_ring.tail ≡ config.rx - 1
+  pub transmit_base : (ring_of settings.transmit_ring).base ≡ 16 * config.rx
+  pub transmit_count : count_of (ring_of settings.transmit_ring) ≡ config.tx
+  pub transmit_tail : settings.transmit_ring.tail ≡ 0
+
+-- The writes of bring-up configure an adapter, whatever it was set to, and leave its EEPROM.
+abbrev pub WritesConfigure : Type 0
+WritesConfigure =
+    (config : Config) (address groups vlans : List ℕ) (size : ℕ) (settings : Settings)
+    → CanBeHad config size → IsAddress address → AreWords groups → AreWords vlans
+    → HasNumbers groups (numbers_of_groups config.groups.items) → HasNumbers vlans (vlans_of config.vlans)
+    → IsConfigured config address (settings_after_all (all_writes config address groups vlans) settings)
+    × ((settings_after_all (all_writes config address groups vlans) settings).image ≡ settings.image)
+
+-- None of those before the rings' is of RCTL or of a ring's register, where the tables have 128 words.
+abbrev pub RingsComeLast : Type 0
+RingsComeLast =
+    (config : Config) (address groups vlans : List ℕ) → length groups ≡ 128 → length vlans ≡ 128
+    → All IsAside (writes_before_rings config address groups vlans)
+
+-- None of those of the filter, nor of the rings and behind them, is of CTRL or of MDIC.
+abbrev pub LinkComesFirst : Type 0
+LinkComesFirst =
+    (config : Config) (address groups vlans : List ℕ) → length groups ≡ 128 → length vlans ≡ 128
+    → All LeavesPhy (table_writes MTA groups ++ (table_writes VFTA vlans ++ address_writes address))
+    × All LeavesPhy (writes_from_rings config)

@@ -1,0 +1,40 @@
+-- What stays while a driver sets its receive ring up, before frames are let in or out (own).
+use Rattle.std.specs.Prelude.{⊤, ◌≡◌, [], All, Option, Some, false}
+use Rattle.adapter.specs.HostFrames.{frames_held, frames_to_send}
+use Rattle.adapter.specs.Rings.{new_ring}
+use Rattle.adapter.specs.Table.{register_at}
+use Rattle.adapter.specs.World.{World}
+use Rattle.adapter.specs.declared.register.Register.{Register}
+use Rattle.adapter.specs.declared.register.Register.TheVariants.{Transmit}
+use Rattle.bus.specs.PastOfStretch.{Past}
+use Rattle.bus.specs.AdaptersAtRest.{NoFrame}
+use Rattle.bus.specs.Settings.{AreSet, IsOff, LeavesReceiver, WhileOff, Write, writes_in}
+use Rattle.driver_law.specs.DriverState.{DriverState}
+use Rattle.driver_law.specs.Stretches.{GoesTo}
+use Rattle.driver_law.specs.ReadyDrivers.{ReadyWith}
+
+-- RCTL.EN is 0, no frame is held, and none is to be sent.
+pub record HasNoFrames (d : DriverState) (world : World) : Type 0 where
+  pub off : IsOff world
+  pub none_held : frames_held d.oldest_receive world ≡ []
+  pub none_to_send : frames_to_send world ≡ []
+
+-- It stays so over a stretch in which RCTL isn't written and no frame is given, and no frame comes or leaves.
+abbrev pub NoFramesStay : Type 0
+NoFramesStay =
+    (d d' : DriverState) (a b : World) (past : Past) → GoesTo false d a d' b [] [] past → AreSet a b past → WhileOff a past
+    → All LeavesReceiver (writes_in past.accesses) → HasNoFrames d a → HasNoFrames d' b × NoFrame past
+
+abbrev pub IsNotTransmitRing : Option Register → Type 0
+IsNotTransmitRing (Some (Transmit part)) = ⊥
+IsNotTransmitRing _ = ⊤
+
+-- the write isn't of a register of the transmit ring
+abbrev pub LeavesTransmitRing : Write → Type 0
+LeavesTransmitRing write = IsNotTransmitRing (register_at write.offset)
+
+-- A new transmit ring stays new, where none of its registers is written and the transmit side is off.
+abbrev pub NewTransmitRingStays : Type 0
+NewTransmitRingStays =
+    (d : DriverState) (a b : World) (past : Past) → ReadyWith false d b → AreSet a b past → All LeavesTransmitRing (writes_in past.accesses)
+    → a.adapter.transmit_ring ≡ new_ring → b.adapter.transmit_ring ≡ new_ring

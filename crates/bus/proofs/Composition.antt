@@ -1,0 +1,167 @@
+-- What may happen between two accesses composes, and nothing at all is one of its cases.
+use Rattle.std.proofs.Common.{◌≡◌, ◌≤◌, ◌⊎◌, ◌+◌, ℕ, zero, suc, List, length, [], ◌++◌, refl, sym, ap, subst, ◌∙◌, inl, inr, append_assoc}
+use Rattle.std.proofs.Common.{arith, length-append}
+use Rattle.std.proofs.lemmas.List.{append-nil}
+use Rattle.std.specs.Fn.{iterate}
+use Rattle.eeprom.specs.Eerd as eeprom
+use Rattle.registers.specs.Bits.{HasBit, field}
+use Rattle.registers.specs.ReceiveControl.{buffer_size_of}
+use Rattle.rx_filter.specs.Registers.{FilterRegisters}
+use Rattle.adapter.specs.declared.ring.RingRegisters.{RingRegisters}
+use Rattle.adapter.specs.Slots.{finished, written_back}
+use Rattle.adapter.specs.HostAreas.{buffer_size}
+use Rattle.adapter.specs.HostFrames.{AreWithin, frames_held, frames_to_send}
+use Rattle.adapter.specs.Conditions.{Sound}
+use Rattle.bus.specs.Law.{Between, Happens, Steady, management_of, phy_ticked}
+use Rattle.bus.specs.PastOfStretch.{Past, joined, nothing}
+use Rattle.adapter.specs.World.{World}
+use Rattle.descriptors.specs.Frames.{IsLegal}
+use Rattle.descriptors.specs.Ring.{HasValidIndices}
+use Rattle.adapter.specs.Rings.{ring_of}
+use Rattle.std.proofs.lemmas.List.Elements.{All-append}
+use Rattle.bus.proofs.Lists.{all-left, all-none, all-right}
+
+-- As often as two numbers say together is as often as the one says, and then as the other does.
+pub iterate-add : {A : Type 0} (h : A → A) (m n : ℕ) (x : A) → iterate h (m + n) x ≡ iterate h n (iterate h m x)
+iterate-add h zero n x = let none : 0 + n ≡ n = omega arith in ap (λ (k : ℕ). iterate h k x) none
+iterate-add h (suc m) n x =
+    let moved : suc m + n ≡ suc (m + n) = omega arith in
+    ap (λ (k : ℕ). iterate h k x) moved ∙ iterate-add h m n (h x)
+
+-- Registers.
+
+-- A head that stayed twice stayed, and one that moved is a slot.
+head_trans : (a b c : RingRegisters) → c ≡ record b { head = c.head } → (b.head ≡ a.head) ⊎ HasValidIndices (ring_of b)
+    → (c.head ≡ b.head) ⊎ HasValidIndices (ring_of c) → (c.head ≡ a.head) ⊎ HasValidIndices (ring_of c)
+head_trans a b c moved one (inr slot) = inr slot
+head_trans a b c moved (inl first) (inl later) = inl (later ∙ first)
+head_trans a b c moved (inr slot) (inl later) =
+    let same : c ≡ b = moved ∙ ap (λ (head : ℕ). let ring : RingRegisters = record b { head = head } in ring) later in
+    inr (subst (λ (ring : RingRegisters). HasValidIndices (ring_of ring)) (sym same) slot)
+
+pub steady_trans : (a b c : World) (first later : Past) → Steady a b first → Steady b c later → Steady a c (joined first later)
+steady_trans a b c first later one two = record {
+  size = two.size ∙ one.size;
+  image = two.image ∙ one.image;
+  causes = λ place set. two.causes place (one.causes place set);
+  mask = two.mask ∙ one.mask;
+  receive_ring = two.receive_ring
+      ∙ ap (λ (ring : RingRegisters). let moved : RingRegisters = record ring { head = c.adapter.receive_ring.head } in moved)
+      one.receive_ring;
+  transmit_ring = two.transmit_ring
+      ∙ ap (λ (ring : RingRegisters). let moved : RingRegisters = record ring { head = c.adapter.transmit_ring.head } in moved)
+      one.transmit_ring;
+  receive_head = head_trans a.adapter.receive_ring b.adapter.receive_ring c.adapter.receive_ring two.receive_ring one.receive_head
+      two.receive_head;
+  transmit_head = head_trans a.adapter.transmit_ring b.adapter.transmit_ring c.adapter.transmit_ring two.transmit_ring one.transmit_head
+      two.transmit_head;
+  legal = All-append IsLegal first.stored later.stored one.legal two.legal;
+  filter = two.filter ∙ one.filter;
+  device_control = two.device_control ∙ one.device_control;
+  transmit_control = two.transmit_control ∙ one.transmit_control;
+  allocation = two.allocation ∙ one.allocation;
+  missed = omega (arith, one.missed, two.missed);
+  off = λ off.
+      let before = one.off off in
+      let after = two.off (subst (λ (filter : FilterRegisters). ¬ (HasBit filter.rctl 1)) (sym one.filter) off) in
+      (ap (λ (frames : List (List ℕ)). frames ++ later.stored) before.0 ∙ after.0, omega (arith, before.1, after.1));
+  eerd =
+      two.eerd
+      ∙ ap (λ (image : List ℕ). iterate (eeprom.after_tick image) later.eeprom_ticks b.adapter.eerd) one.image
+      ∙ ap (iterate (eeprom.after_tick a.adapter.image) later.eeprom_ticks) one.eerd
+      ∙ sym (iterate-add (eeprom.after_tick a.adapter.image) first.eeprom_ticks later.eeprom_ticks a.adapter.eerd);
+  management =
+      two.management
+      ∙ ap (iterate phy_ticked later.phy_ticks) one.management
+      ∙ sym (iterate-add phy_ticked first.phy_ticks later.phy_ticks (management_of a.adapter));
+}
+
+pub steady_refl : (a : World) → Steady a a nothing
+steady_refl a = record {
+  size = refl;
+  image = refl;
+  causes = λ place set. set;
+  mask = refl;
+  receive_ring = refl;
+  transmit_ring = refl;
+  filter = refl;
+  device_control = refl;
+  transmit_control = refl;
+  allocation = refl;
+  missed = omega arith;
+  off = λ off. (refl, refl);
+  receive_head = inl refl;
+  transmit_head = inl refl;
+  legal = all-none IsLegal;
+  eerd = refl;
+  management = refl;
+}
+
+-- Frames.
+
+-- A cause that is recorded where slots finished in a first stretch still is after a later one.
+told-joined : (m1 m2 : List ℕ) (b c : World) → (m1 ≡ []) ⊎ HasBit b.adapter.causes.recorded 7
+    → (m2 ≡ []) ⊎ HasBit c.adapter.causes.recorded 7
+    → ((place : ℕ) → HasBit b.adapter.causes.recorded place → HasBit c.adapter.causes.recorded place)
+    → (m1 ++ m2 ≡ []) ⊎ HasBit c.adapter.causes.recorded 7
+told-joined m1 m2 b c (inr set) two keeps = inr (keeps 7 set)
+told-joined m1 m2 b c (inl none) (inr set) keeps = inr set
+told-joined m1 m2 b c (inl none) (inl still) keeps = inl (rw (none, still) refl)
+
+pub between_trans : (o p : ℕ) (a b c : World) (first later : Past) → Steady a b first → Steady b c later → Between o p a b first
+    → Between o p b c later → Between o p a c (joined first later)
+between_trans o p a b c first later earlier steady one two = record {
+  sends = append_assoc first.put later.put (frames_to_send c) ∙ ap (λ (behind : List (List ℕ)). first.put ++ behind) two.sends ∙ one.sends;
+  reported = one.reported ++ two.reported;
+  written = two.written ∙ ap (λ (slots : List ℕ). slots ++ two.reported) one.written
+      ∙ append_assoc (written_back p a) one.reported two.reported;
+  each_reported = omega
+      (arith, one.each_reported, two.each_reported, length-append one.reported two.reported, length-append first.put later.put);
+  holds = two.holds ∙ ap (λ (frames : List (List ℕ)). frames ++ later.stored) one.holds
+      ∙ append_assoc (frames_held o a) first.stored later.stored;
+  more = one.more ++ two.more;
+  done = two.done ∙ ap (λ (slots : List ℕ). slots ++ two.more) one.done ∙ append_assoc (finished o a) one.more two.more;
+  told = told-joined one.more two.more b c one.told two.told steady.causes;
+  fits = λ fit. two.fits (one.fits fit);
+  whole = λ are. two.whole (one.whole are);
+  untouched = λ area apart. two.untouched area (one.foreign area apart) ∙ one.untouched area apart;
+  foreign = λ area apart. two.foreign area (one.foreign area apart);
+  runs = λ short can.
+      let Short : List ℕ → Type 0 = λ frame. length frame ≤ buffer_size a in
+      let late = all-right Short first.stored later.stored short in
+      two.runs (subst (λ (filter : FilterRegisters). AreWithin (buffer_size_of (field filter.rctl 16 2)) later.stored)
+      (sym earlier.filter) late)
+      (one.runs (all-left Short first.stored later.stored short) can);
+  sound = two.sound;
+}
+
+pub between_refl : (o p : ℕ) (a : World) → Sound o p a → Between o p a a nothing
+between_refl o p a sound = record {
+  sends = refl;
+  reported = [];
+  written = sym (append-nil (written_back p a));
+  each_reported = refl;
+  holds = sym (append-nil (frames_held o a));
+  more = [];
+  done = sym (append-nil (finished o a));
+  told = inl refl;
+  fits = λ fit. fit;
+  whole = λ are. are;
+  untouched = λ area apart. refl;
+  foreign = λ area apart. apart;
+  runs = λ short can. can;
+  sound = sound;
+}
+
+-- Both.
+
+pub happens_trans : (a b c : World) (first later : Past) → Happens a b first → Happens b c later → Happens a c (joined first later)
+happens_trans a b c first later one two = record {
+  steady = steady_trans a b c first later one.steady two.steady;
+  between = λ o p sound.
+      let before = one.between o p sound in
+      between_trans o p a b c first later one.steady two.steady before (two.between o p before.sound);
+}
+
+pub happens_none : (a : World) → Happens a a nothing
+happens_none a = record { steady = steady_refl a; between = λ o p sound. between_refl o p a sound }

@@ -1,0 +1,300 @@
+-- Accesses that keep the conditions of the law.
+use Rattle.std.proofs.Common.{◌≡◌, ◌≤◌, ◌<◌, ◌+◌, ◌%◌, ◌++◌, ◌∷◌, [], true, false, ℕ, Bool, List, Option, None, Some, zero, suc}
+use Rattle.std.proofs.Common.{if◌then◌else◌, map, refl, sym, ap, subst, ◌∙◌, append_assoc, arith}
+use Rattle.std.specs.Fn.{iterate}
+use Rattle.std.specs.List.{All}
+use Rattle.std.proofs.lemmas.List.{append-nil}
+use Rattle.std.proofs.Math.Nat.{mod-add-mod, mod-eq_of_lt}
+use Rattle.descriptors.specs.Ring.{address_of, count_of, next_of, offered_places, slots_from}
+use Rattle.descriptors.specs.RingLaws.{next-below, places-none}
+use Rattle.mdic_phy.specs.declared.phy.Link.TheVariants.{Never}
+use Rattle.rx_engine.specs.Receiver.{Receiver}
+use Rattle.tx_engine.specs.Fetching.{fetched, frame_at}
+use Rattle.tx_engine.specs.ToSend.{to_send}
+use Rattle.tx_engine.specs.Transmitter.{Queued, Transmitter}
+use Rattle.adapter.specs.declared.register.Register.{Register}
+use Rattle.adapter.specs.declared.register.Register.TheVariants.{Icr, Mpc, Gprc, Gptc, Rnbc}
+use Rattle.adapter.specs.declared.ring.RingRegisters.{RingRegisters}
+use Rattle.adapter.specs.Registers.{after_reset, by_row, is_reset, left_by_read, new_adapter, read_of}
+use Rattle.adapter.specs.Rings.{ring_of}
+use Rattle.adapter.specs.Table.{register_at, row_of}
+use Rattle.adapter.specs.Slots.{finished, offered, outstanding, written_back}
+use Rattle.adapter.specs.HostAreas.{buffer_size}
+use Rattle.adapter.specs.HostFrames.{frames_held, frames_to_send}
+use Rattle.bus.specs.RegisterSetting.{CanOfferMany, ManySlotsCanBeOffered, OfferedMany, OtherWritesLeaveFrames, ReadsLeaveFrames}
+use Rattle.bus.specs.RegisterSetting.{ReceiverCanBeSet, TransmitRingCanBeSet, TransmitterCanBeSet, with_receive_control, with_tail}
+use Rattle.adapter.specs.Conditions.{AreWhole, FitBuffers, Reports, Sound}
+use Rattle.bus.specs.SlotOffers.{offering}
+use Rattle.bus.specs.DriversStores.{LeavesFrames, SameFrames}
+use Rattle.adapter.specs.Running.{CanRun, CanTransmit}
+use Rattle.adapter.specs.World.{receive_ring, World}
+use Rattle.bus.proofs.IdleRings.{dealt-idle, offered-none, outstanding-none}
+use Rattle.bus.proofs.Lists.{all-none}
+use Rattle.bus.proofs.SlotOffers.{slots_can_be_offered}
+use Rattle.bus.proofs.RegisterWrites.{row-leaves}
+
+-- Controls and the transmit ring.
+
+pub receiver_can_be_set : ReceiverCanBeSet
+receiver_can_be_set o p control world sound separate = record {
+  same = record {
+    sound = record {
+      receive_slots = sound.receive_slots;
+      transmit_slots = sound.transmit_slots;
+      separate = separate;
+      reports = sound.reports;
+      pads = sound.pads;
+    };
+    held = refl;
+    to_send = refl;
+    finished_same = refl;
+    written_same = refl;
+    whole = λ are. are;
+    fits = λ larger fit.
+        let within : (n : ℕ) → n ≤ buffer_size world
+        → n ≤ buffer_size (with_receive_control control world) = λ n small. omega (arith, small, larger) in
+        record {
+          finished_fit = λ k d below. within _ (fit.finished_fit k d below);
+          work_fits = λ k place below. within _ (fit.work_fits k place below);
+        };
+  };
+  runs = λ not_extended short can. record {
+    receiver_runs = can.receiver_runs;
+    transmitter_runs = can.transmitter_runs;
+    receive_indices = can.receive_indices;
+    transmit_indices = can.transmit_indices;
+    not_extended = not_extended;
+    frames = short;
+    transmittable = can.transmittable;
+  };
+}
+
+pub transmitter_can_be_set : TransmitterCanBeSet
+transmitter_can_be_set o p control world sound pads = record {
+  same = record {
+    sound = record {
+      receive_slots = sound.receive_slots;
+      transmit_slots = sound.transmit_slots;
+      separate = sound.separate;
+      reports = sound.reports;
+      pads = pads;
+    };
+    held = refl;
+    to_send = refl;
+    finished_same = refl;
+    written_same = refl;
+    whole = λ are. are;
+    fits = λ larger fit. record { finished_fit = fit.finished_fit; work_fits = fit.work_fits };
+  };
+  runs = λ can. record {
+    receiver_runs = can.receiver_runs;
+    transmitter_runs = can.transmitter_runs;
+    receive_indices = can.receive_indices;
+    transmit_indices = can.transmit_indices;
+    not_extended = can.not_extended;
+    frames = can.frames;
+    transmittable = can.transmittable;
+  };
+}
+
+none-sent : (memory : List ℕ) (registers : RingRegisters) (buffer : List Queued) → buffer ≡ [] → registers.head ≡ registers.tail
+    → to_send memory (ring_of registers) true buffer ≡ []
+unfolding to_send
+none-sent memory registers buffer none same =
+    let ring = ring_of registers in
+    let behind = map (λ (slot : ℕ). frame_at true memory (address_of ring slot)) (offered_places ring) in
+    ap (λ (queue : List Queued). map (λ (queued : Queued). queued.frame) queue ++ behind) none
+    ∙ ap (map (λ (slot : ℕ). frame_at true memory (address_of ring slot))) (places-none ring same)
+
+pub transmit_ring_can_be_set : TransmitRingCanBeSet
+transmit_ring_can_be_set o p ring world sound none same separate =
+    let memory = world.memory in
+    let unsent = offered-none (ring_of ring) same in
+    let queue : world.adapter.transmitter.buffer ++ map (fetched true memory) (offered (ring_of ring)) ≡ [] =
+    ap (λ (frames : List Queued). frames ++ map (fetched true memory) (offered (ring_of ring))) none
+    ∙ ap (map (fetched true memory)) unsent in
+    record {
+      sound = record {
+        receive_slots = sound.receive_slots;
+        transmit_slots = dealt-idle memory (ring_of ring) _ same (ap (map (λ (queued : Queued). queued.descriptor)) none);
+        separate = separate;
+        reports = subst (λ (frames : List Queued). All Reports frames) (sym queue) (all-none Reports);
+        pads = λ differ. absurd (differ same);
+      };
+      none_outstanding = outstanding-none (ring_of ring);
+      none_to_send = none-sent memory ring world.adapter.transmitter.buffer none same;
+      held = refl;
+      finished_same = refl;
+      fits = λ fit. record { finished_fit = fit.finished_fit; work_fits = fit.work_fits };
+      runs = λ can. record {
+        receiver_runs = can.receiver_runs;
+        transmitter_runs = can.transmitter_runs;
+        receive_indices = can.receive_indices;
+        transmit_indices = λ differ. absurd (differ same);
+        not_extended = can.not_extended;
+        frames = can.frames;
+        transmittable = subst (λ (slots : List ℕ). All (CanTransmit memory) slots) (sym unsent) (all-none (CanTransmit memory));
+      };
+    }
+
+-- Other accesses.
+
+-- A world of these parts, which are all that the conditions, slots and frames rest on.
+abbrev of_parts : List ℕ → RingRegisters → RingRegisters → Receiver → Transmitter → ℕ → ℕ → World
+of_parts memory receive transmit receiver transmitter receive_control transmit_control = record {
+  memory = memory;
+  adapter = record (new_adapter [] Never) {
+    receive_ring = receive;
+    transmit_ring = transmit;
+    receiver = receiver;
+    transmitter = transmitter;
+    filter = record (new_adapter [] Never).filter { rctl = receive_control };
+    transmit_control = transmit_control;
+  };
+}
+
+abbrev parts : World → World
+parts world =
+    of_parts world.memory world.adapter.receive_ring world.adapter.transmit_ring world.adapter.receiver world.adapter.transmitter
+    world.adapter.filter.rctl
+    world.adapter.transmit_control
+
+to_parts : (o p : ℕ) (world : World) → Sound o p world → Sound o p (parts world)
+to_parts o p world sound = record {
+  receive_slots = sound.receive_slots;
+  transmit_slots = sound.transmit_slots;
+  separate = sound.separate;
+  reports = sound.reports;
+  pads = sound.pads;
+}
+
+from_parts : (o p : ℕ) (world : World) → Sound o p (parts world) → Sound o p world
+from_parts o p world sound = record {
+  receive_slots = sound.receive_slots;
+  transmit_slots = sound.transmit_slots;
+  separate = sound.separate;
+  reports = sound.reports;
+  pads = sound.pads;
+}
+
+running_to_parts : (world : World) → CanRun world → CanRun (parts world)
+running_to_parts world can = record {
+  receiver_runs = can.receiver_runs;
+  transmitter_runs = can.transmitter_runs;
+  receive_indices = can.receive_indices;
+  transmit_indices = can.transmit_indices;
+  not_extended = can.not_extended;
+  frames = can.frames;
+  transmittable = can.transmittable;
+}
+
+running_from_parts : (world : World) → CanRun (parts world) → CanRun world
+running_from_parts world can = record {
+  receiver_runs = can.receiver_runs;
+  transmitter_runs = can.transmitter_runs;
+  receive_indices = can.receive_indices;
+  transmit_indices = can.transmit_indices;
+  not_extended = can.not_extended;
+  frames = can.frames;
+  transmittable = can.transmittable;
+}
+
+fit_to_parts : (o : ℕ) (world : World) → FitBuffers o world → FitBuffers o (parts world)
+fit_to_parts o world fit = record { finished_fit = fit.finished_fit; work_fits = fit.work_fits }
+
+fit_from_parts : (o : ℕ) (world : World) → FitBuffers o (parts world) → FitBuffers o world
+fit_from_parts o world fit = record { finished_fit = fit.finished_fit; work_fits = fit.work_fits }
+
+by-parts : (o p : ℕ) (a b : World) → parts b ≡ parts a → Sound o p a → LeavesFrames o p a b
+by-parts o p a b same sound = record {
+  same = record {
+    sound = from_parts o p b (subst (Sound o p) (sym same) (to_parts o p a sound));
+    held = ap (frames_held o) same;
+    to_send = ap frames_to_send same;
+    finished_same = ap (finished o) same;
+    written_same = ap (written_back p) same;
+    whole = λ are. subst (λ (world : World). AreWhole world.memory (finished o world)) (sym same) are;
+    fits = λ larger fit. fit_from_parts o b (subst (FitBuffers o) (sym same) (fit_to_parts o a fit));
+  };
+  runs = λ can. running_from_parts b (subst CanRun (sym same) (running_to_parts a can));
+}
+
+read-leaves : (o p : ℕ) (register : Register) (world : World) → Sound o p world
+    → LeavesFrames o p world (record world { adapter = read_of register world.adapter })
+read-leaves o p Icr world sound = by-parts o p world _ refl sound
+read-leaves o p Mpc world sound = by-parts o p world _ refl sound
+read-leaves o p Gprc world sound = by-parts o p world _ refl sound
+read-leaves o p Gptc world sound = by-parts o p world _ refl sound
+read-leaves o p Rnbc world sound = by-parts o p world _ refl sound
+read-leaves o p _ world sound = by-parts o p world _ refl sound
+
+pub reads_leave_frames : ReadsLeaveFrames
+reads_leave_frames o p offset world sound = by_case (register_at offset)
+  where
+    by_case : (found : Option Register) → LeavesFrames o p world (record world { adapter = left_by_read found world.adapter })
+    by_case (Some register) = read-leaves o p register world sound
+    by_case None = by-parts o p world world refl sound
+
+pub other_writes_leave_frames : OtherWritesLeaveFrames
+other_writes_leave_frames o p register value world sound other none = by_test (is_reset register value) none
+  where
+    by_test : (test : Bool) → test ≡ false
+        → LeavesFrames o p world
+        (record world {
+          adapter = if test then after_reset world.adapter else by_row
+              (row_of register).kept register value world.adapter;
+        })
+    by_test true same = absurd (cc)
+    by_test false same =
+        let leaves = row-leaves register value world.adapter in
+        let controls = leaves.controls other in
+        let rings = leaves.rings controls.no_ring in
+        by-parts o p world _ (rw (leaves.receiver, leaves.transmitter, rings.0, rings.1, controls.receive, controls.transmit) refl) sound
+
+-- Many slots.
+
+same_trans : (o p : ℕ) (a b d : World) → buffer_size b ≡ buffer_size a → SameFrames o p a b → SameFrames o p b d → SameFrames o p a d
+same_trans o p a b d size one two = record {
+  sound = two.sound;
+  held = two.held ∙ one.held;
+  to_send = two.to_send ∙ one.to_send;
+  finished_same = two.finished_same ∙ one.finished_same;
+  written_same = two.written_same ∙ one.written_same;
+  whole = λ are. two.whole (one.whole are);
+  fits = λ larger fit. two.fits (omega (arith, size, larger)) (one.fits (omega (arith, size)) fit);
+}
+
+-- one by one
+offered_each : (o p k : ℕ) (world : World) → Sound o p world → CanOfferMany o k world → OfferedMany o p k world (iterate offering k world)
+offered_each o p zero world sound can = record
+    { same = (by-parts o p world world refl sound).same; runs = λ can. can; last = sym (append-nil (outstanding (receive_ring world) o)) }
+offered_each o p (suc k) world sound can =
+    let one = slots_can_be_offered o p world sound can.0 in
+    let rest = offered_each o p k (offering world) one.same.sound can.1 in
+    let ring = receive_ring world in
+    let later = map (address_of ring) (slots_from (count_of ring) (next_of ring ring.tail) k) in
+    record {
+      same = same_trans o p world (offering world) (iterate offering k (offering world)) refl one.same rest.same;
+      runs = λ can. rest.runs (one.runs can);
+      last = rest.last ∙ ap (λ (slots : List ℕ). slots ++ later) one.last
+          ∙ append_assoc (outstanding ring o) (address_of ring ring.tail ∷ []) later;
+    }
+
+moved_tail : (k : ℕ) (world : World) → world.adapter.receive_ring.tail < count_of (receive_ring world)
+    → iterate offering k world ≡ with_tail ((world.adapter.receive_ring.tail + k) % count_of (receive_ring world)) world
+moved_tail zero world within =
+    let n = count_of (receive_ring world) in
+    let tail = world.adapter.receive_ring.tail in
+    let whole : tail + 0 ≡ tail = omega arith in
+    let index : (tail + 0) % n ≡ tail = ap (λ (i : ℕ). i % n) whole ∙ mod-eq_of_lt within in
+    ap (λ (i : ℕ). with_tail i world) (sym index)
+moved_tail (suc k) world within =
+    let n = count_of (receive_ring world) in
+    let tail = world.adapter.receive_ring.tail in
+    let sum : tail + 1 + k ≡ tail + suc k = omega arith in
+    let index : ((tail + 1) % n + k) % n ≡ (tail + suc k) % n = mod-add-mod (tail + 1) n k ∙ ap (λ (i : ℕ). i % n) sum in
+    moved_tail k (offering world) (next-below n tail within) ∙ ap (λ (i : ℕ). with_tail i world) index
+
+pub many_slots_can_be_offered : ManySlotsCanBeOffered
+many_slots_can_be_offered o p k world sound within can =
+    subst (OfferedMany o p k world) (moved_tail k world within) (offered_each o p k world sound can)

@@ -1,0 +1,126 @@
+-- Engines that can run: no fault stops them, and what stays of them where memory is written or frames come and go.
+use Rattle.std.proofs.Common.{◌≡◌, ◌≢◌, ◌≤◌, inr, ◌∷◌, [], Bool, true, false, cond, ℕ, List, length, drop, map, sym, ap, subst, arith}
+use Rattle.std.specs.List.{All}
+use Rattle.std.proofs.lemmas.Bool.{eq-eqb}
+use Rattle.dma_memory.specs.Areas.{Area, IsInside, descriptor_area}
+use Rattle.dma_memory.specs.AreaLaws.{lies-inside}
+use Rattle.dma_memory.specs.HostMemory.{LiesIn}
+use Rattle.descriptors.specs.declared.tx_desc.TxDesc.{TxDesc}
+use Rattle.descriptors.specs.Ring.{address_of}
+use Rattle.descriptors.specs.TxDesc.{tx_desc_of}
+use Rattle.rx_engine.specs.Receiver.{oldest}
+use Rattle.tx_engine.specs.Fetching.{IsTransmittable}
+use Rattle.adapter.specs.Receiving.{CanMoveFrame, HasFrameAndDescriptor}
+use Rattle.adapter.specs.Steps.{Answers, ticked}
+use Rattle.adapter.specs.Transmitting.{CanTake, HasNothingToTake}
+use Rattle.adapter.specs.declared.step.StepKind.{StepKind}
+use Rattle.adapter.specs.declared.step.StepKind.TheVariants.{TxTake, TxPut, RxData, RxDone, EepromTick, PhyTick}
+use Rattle.adapter.specs.declared.step.Stepped.{Stepped}
+use Rattle.adapter.specs.declared.step.Stepped.TheVariants.{Fault}
+use Rattle.bus.specs.Faults.{FaultsNeverCome}
+use Rattle.adapter.specs.HostAreas.{buffer_of, buffer_size, receives, ring_area}
+use Rattle.adapter.specs.HostFrames.{AreWithin}
+use Rattle.adapter.specs.Slots.{buffered, in_work, offered}
+use Rattle.adapter.specs.Conditions.{Sound}
+use Rattle.adapter.specs.Running.{CanRun, CanTransmit}
+use Rattle.adapter.specs.World.{receive_ring, transmit_ring, World}
+use Rattle.bus.proofs.EachArea.{of-areas}
+use Rattle.bus.proofs.WrittenAreas.{IsSame}
+use Rattle.bus.proofs.Lists.{all-head, all-none, all-right, all-tail}
+use Rattle.bus.proofs.Rings.{dealt-right, offered-head, outstanding-inside}
+
+-- No fault.
+
+-- an area lies in memory
+abbrev pub Lies : List ℕ → Area → Type 0
+Lies memory area = LiesIn memory area.address area.size
+
+-- What a step that takes finds.
+pub can_take : (o p : ℕ) (a : World) → Sound o p a → CanRun a → ¬ (HasNothingToTake a.adapter) → CanTake a.memory a.adapter
+can_take o p a sound can not_idle =
+    let ring = transmit_ring a in
+    let t = ring_area ring in
+    let differ : ring.head ≢ ring.tail = λ same. not_idle (inr (inr (inr same))) in
+    let in_ring = can.transmit_indices differ in
+    let first = offered-head ring in_ring differ in
+    let head = address_of ring ring.head in
+    let slots = sound.transmit_slots in
+    let Within : ℕ → Type 0 = λ d. IsInside (descriptor_area d) t in
+    let within = all-right Within (buffered a) (offered ring)
+    (dealt-right a.memory ring p (buffered a) Within slots (outstanding-inside ring p slots.slot)) in
+    let inside = all-head Within head _ (subst (λ (list : List ℕ). All Within list) first within) in
+    let lie = of-areas (Lies a.memory) o a sound.separate.lie in
+    record {
+      sound = in_ring;
+      lies = lies-inside a.memory (descriptor_area head) t inside lie.sent;
+      transmittable = all-head (CanTransmit a.memory) head _
+          (subst (λ (list : List ℕ). All (CanTransmit a.memory) list) first can.transmittable);
+    }
+
+-- The oldest of frames within a size has at most as many bytes.
+oldest-fits : (size : ℕ) (buffer : List (List ℕ)) → AreWithin size buffer → length (oldest buffer) ≤ size
+oldest-fits size [] short = omega arith
+oldest-fits size (frame ∷ later) short = all-head (λ (f : List ℕ). length f ≤ size) frame later short
+
+-- What a data step finds.
+pub can_move : (o p : ℕ) (a : World) → Sound o p a → CanRun a → HasFrameAndDescriptor a.adapter → CanMoveFrame a.memory a.adapter
+can_move o p a sound can has =
+    let ring = receive_ring a in
+    let r = ring_area ring in
+    let in_ring = can.receive_indices has.offered in
+    let first = offered-head ring in_ring has.offered in
+    let head = address_of ring ring.head in
+    let buffer = buffer_of a head in
+    let slots = sound.receive_slots in
+    let Within : ℕ → Type 0 = λ d. IsInside (descriptor_area d) r in
+    let within = all-right Within (in_work a) (offered ring)
+    (dealt-right a.memory ring o (in_work a) Within slots (outstanding-inside ring o slots.slot)) in
+    let inside = all-head Within head _ (subst (λ (list : List ℕ). All Within list) first within) in
+    let lie = of-areas (Lies a.memory) o a sound.separate.lie in
+    let enabled : receives a ≡ true = eq-eqb _ _ has.enabled in
+    let on : All (Lies a.memory) (map (buffer_of a) (offered ring)) = subst
+    (λ (set : Bool). All (Lies a.memory) (cond set (map (buffer_of a) (offered ring)) [])) enabled lie.buffers in
+    let place : LiesIn a.memory buffer.address buffer.size = all-head (Lies a.memory) buffer _
+    (subst (λ (list : List ℕ). All (Lies a.memory) (map (buffer_of a) list)) first on) in
+    let short = oldest-fits (buffer_size a) a.adapter.receiver.buffer can.frames in
+    record {
+      indices = in_ring;
+      descriptor = lies-inside a.memory (descriptor_area head) r inside lie.received;
+      place = omega (arith, place, short);
+      not_extended = can.not_extended;
+      size = short;
+    }
+
+-- A tick is no fault.
+tick-no_fault : (works : Bool) → Fault ≢ ticked works
+tick-no_fault true same = absurd (cc)
+tick-no_fault false same = absurd (cc)
+
+no_fault : (o p : ℕ) (a : World) (kind : StepKind) (wire_free : Bool) → Sound o p a → CanRun a
+    → ¬ (Answers kind wire_free a.memory a.adapter Fault)
+no_fault o p a TxTake wire_free sound can answers = answers.1 (can_take o p a sound can answers.0)
+no_fault o p a TxPut wire_free sound can answers = answers
+no_fault o p a RxData wire_free sound can answers = answers.1 (can_move o p a sound can answers.0)
+no_fault o p a RxDone wire_free sound can answers = answers
+no_fault o p a EepromTick wire_free sound can answers = tick-no_fault _ answers
+no_fault o p a PhyTick wire_free sound can answers = tick-no_fault _ answers
+
+pub faults_never_come : FaultsNeverCome
+faults_never_come o p a kind wire_free answer sound can answers same =
+    no_fault o p a kind wire_free sound can (subst (λ (given : Stepped). Answers kind wire_free a.memory a.adapter given) same answers)
+
+-- What stays.
+
+-- Descriptors that stay, in a memory of the same size.
+pub transmittable-kept : (memory memory' : List ℕ) (slots : List ℕ) → length memory' ≡ length memory → All (IsSame memory memory') slots
+    → All (CanTransmit memory) slots → All (CanTransmit memory') slots
+transmittable-kept memory memory' slots size same can = λ k d below.
+    let old = can k d below in
+    let there : IsTransmittable memory' _ = record
+    { ends = old.ends; legacy = old.legacy; least = old.least; most = old.most; lies = omega (arith, size, old.lies) } in
+    subst (λ (desc : TxDesc). IsTransmittable memory' desc) (sym (ap tx_desc_of (same k d below))) there
+
+-- Frames without the oldest.
+pub later-fit : (size : ℕ) (buffer : List (List ℕ)) → AreWithin size buffer → AreWithin size (drop 1 buffer)
+later-fit size [] short = all-none (λ (f : List ℕ). length f ≤ size)
+later-fit size (frame ∷ later) short = all-tail (λ (f : List ℕ). length f ≤ size) frame later short

@@ -1,0 +1,229 @@
+-- A frame is moved from the receive packet buffer to memory.
+use Rattle.std.proofs.Common.{inr, ◌≡◌, ◌≤◌, inl, ◌++◌, ◌∷◌, [], Bool, true, cond, ℕ, List, Option, None, length, map, refl, sym, ap, subst}
+use Rattle.std.proofs.Common.{◌∙◌, append_assoc, arith}
+use Rattle.std.specs.List.{All}
+use Rattle.std.proofs.lemmas.Bool.{eq-eqb}
+use Rattle.std.proofs.lemmas.List.{append-nil}
+use Rattle.std.proofs.lemmas.List.Elements.{All-append, All-cons}
+use Rattle.dma_memory.specs.Areas.{AreApart, AreSeparate, Area, ChangesOnly, IsInside, descriptor_area}
+use Rattle.dma_memory.specs.AreaLaws.{apart-inside, apart-sym, changes_only_stored, inside-apart}
+use Rattle.registers.specs.Bits.{union}
+use Rattle.dma_memory.specs.Laws.{length-with_bytes}
+use Rattle.descriptors.specs.Ring.{address_of, next_of}
+use Rattle.descriptors.specs.RxDesc.{rx_desc_of}
+use Rattle.rx_engine.specs.Descriptors as receive
+use Rattle.rx_engine.specs.Receiver.{oldest}
+use Rattle.rx_engine.specs.Held.{held}
+use Rattle.rx_engine.specs.Laws.{held-after_data}
+use Rattle.rx_engine.specs.Moving.{is_half_free}
+use Rattle.rx_engine.specs.declared.data.Data.TheVariants as answers
+use Rattle.rx_engine.specs.declared.engine.Work.{Work}
+use Rattle.tx_engine.specs.Transmitter.{Queued}
+use Rattle.adapter.specs.Receiving.{CanMoveFrame, DataAnswers, HasFrameAndDescriptor, causes_of_moving}
+use Rattle.adapter.specs.Rings.{ring_of}
+use Rattle.adapter.specs.Transmitting.{moved_on}
+use Rattle.adapter.specs.declared.step.StepKind.TheVariants.{RxData}
+use Rattle.adapter.specs.declared.step.Stepped.{Stepped}
+use Rattle.adapter.specs.declared.step.Stepped.TheVariants.{Took, Put, WireFull, Moved, Done, Ticked, Nothing, Fault}
+use Rattle.adapter.specs.HostAreas.{areas, buffer_of, data_of, offered_buffers, receives, reported_half, ring_area, status_byte, work_areas}
+use Rattle.adapter.specs.Slots.{buffered, done_slots, finished, is_done, IsDealt, offered, outstanding, written_back}
+use Rattle.adapter.specs.HostFrames.{frames_held, named}
+use Rattle.adapter.specs.Conditions.{AreWhole, Reports, Sound}
+use Rattle.bus.specs.Law.{Between, Happens}
+use Rattle.bus.specs.PastOfStretch.{nothing}
+use Rattle.bus.specs.StepsAndArrivals.{world_after_step}
+use Rattle.adapter.specs.State.{IsAdapter}
+use Rattle.adapter.specs.World.{receive_ring, transmit_ring, World}
+use Rattle.bus.proofs.Areas.{separate-same, separate-shorter}
+use Rattle.bus.proofs.Composition.{happens_none}
+use Rattle.bus.proofs.EngineRegisters.{added, steady_moves, still}
+use Rattle.bus.proofs.WrittenAreas.{IsSame, buffers-kept, frame_of, frames-kept, is_done-same, named-kept, names_fit-kept, NamesFit}
+use Rattle.bus.proofs.WrittenAreas.{same-outstanding, transmit_kept, whole-kept}
+use Rattle.bus.proofs.Lists.{all-head, all-left, all-right, all-tail, all-weaker, all-without, pairs-before}
+use Rattle.bus.proofs.TxPutSteps.{areas-same}
+use Rattle.bus.proofs.StepsBesideRings.{between_stopped}
+use Rattle.bus.proofs.Rings.{dealt-left, dealt-moved, dealt-right, dealt-same, done-same, offered-head, outstanding-inside}
+use Rattle.descriptors.specs.Frames.{IsLegal}
+use Rattle.bus.proofs.Lists.{all-none}
+use Rattle.bus.proofs.RunningEngines.{can_move, later-fit, transmittable-kept}
+use Rattle.descriptors.specs.RingLaws.{next-below}
+use Rattle.descriptors.specs.Ring.{count_of}
+
+-- the world with this frame in work
+abbrev pub with_work : Option Work → World → World
+with_work work world = record world { adapter = record world.adapter { receiver = record world.adapter.receiver { work = work } } }
+
+pub between_moved : (o p : ℕ) (a0 : World) → HasFrameAndDescriptor (with_work None a0).adapter → CanMoveFrame a0.memory a0.adapter
+    → Sound o p (with_work None a0) → Between o p (with_work None a0) (world_after_step RxData Moved a0) nothing
+between_moved o p a0 has can sound =
+    let a = with_work None a0 in
+    let b = world_after_step RxData Moved a0 in
+    let memory = a.memory in
+    let memory' = b.memory in
+    let ring = receive_ring a in
+    let next = receive_ring b in
+    let frame = oldest a.adapter.receiver.buffer in
+    let n = length frame in
+    let head = address_of ring ring.head in
+    let rest = offered next in
+    let at = receive.named_address memory head in
+    let bsize = (buffer_of a 0).size in
+    let size : length memory' ≡ length memory = length-with_bytes memory frame at can.place in
+    let area : Area = record { address = at; size = n } in
+    let whole_buffer : Area = record { address = at; size = bsize } in
+    let part : IsInside area whole_buffer = record { from = omega arith; to = omega (arith, can.size) } in
+    let keeps : ChangesOnly memory memory' area = changes_only_stored memory frame at can.place in
+    let first : offered ring ≡ head ∷ rest = offered-head ring can.indices has.offered in
+    let enabled : receives a ≡ true = eq-eqb _ _ has.enabled in
+    let r = ring_area ring in
+    let t = ring_area (transmit_ring a) in
+    let payload = map (data_of memory) (offered (transmit_ring a)) in
+    let names = map (named memory) (finished o a) in
+    let others = map (buffer_of a) rest in
+    let buffers : offered_buffers a ≡ whole_buffer ∷ others =
+    ap (λ (on : Bool). cond on (map (buffer_of a) (offered ring)) []) enabled ∙ ap (map (buffer_of a)) first in
+    let front = r ∷ t ∷ (payload ++ names) in
+    let joined_front : (behind : List Area)
+    → r ∷ t ∷ (payload ++ (names ++ behind)) ≡ front
+    ++ behind = λ behind. ap (λ (list : List Area). r ∷ t ∷ list) (sym (append_assoc payload names behind)) in
+    let separate : AreSeparate memory (front ++ whole_buffer ∷ others) =
+    subst (λ (list : List Area). AreSeparate memory list) (joined_front (whole_buffer ∷ others))
+    (subst (λ (there : List Area). AreSeparate memory (r ∷ t ∷ (payload ++ (names ++ there)))) buffers sound.separate) in
+    let before = pairs-before AreApart front whole_buffer others separate.apart in
+    let apart_front : All (AreApart area) front = all-weaker (λ other. AreApart other whole_buffer) (AreApart area) front
+    (λ other apart. apart-inside area whole_buffer other part (apart-sym other whole_buffer apart)) before in
+    let apart_r = all-head (AreApart area) r (t ∷ (payload ++ names)) apart_front in
+    let apart_behind = all-tail (AreApart area) r (t ∷ (payload ++ names)) apart_front in
+    let apart_t = all-head (AreApart area) t (payload ++ names) apart_behind in
+    let apart_rest = all-tail (AreApart area) t (payload ++ names) apart_behind in
+    let transmitting = transmit_kept a memory' p area keeps sound.transmit_slots apart_t
+    (all-left (AreApart area) payload names apart_rest) in
+    let slots = sound.receive_slots in
+    let same = same-outstanding memory memory' area ring o [] keeps apart_r slots in
+    let done_as : All (λ d. is_done memory' d ≡ is_done memory d) (outstanding ring o) = λ k d below. is_done-same memory memory' _
+    (same k d below) in
+    let same_done = dealt-left memory ring o [] (IsSame memory memory') slots same in
+    let same_offered : All (IsSame memory memory') (head ∷ rest) = subst (λ (list : List ℕ). All (IsSame memory memory') list) first
+    (dealt-right memory ring o [] (IsSame memory memory') slots same) in
+    let done : done_slots memory' ring o ≡ finished o a = done-same memory memory' ring o done_as in
+    let dealt : IsDealt memory' next o (head ∷ []) = dealt-moved memory' ring o [] can.indices has.offered
+    (dealt-same memory memory' ring o [] done_as slots) in
+    let inside : All (λ d. IsInside (descriptor_area d) r) (head ∷ rest) =
+    subst (λ (list : List ℕ). All (λ d. IsInside (descriptor_area d) r) list) first
+    (dealt-right memory ring o [] (λ d. IsInside (descriptor_area d) r) slots (outstanding-inside ring o slots.slot)) in
+    let apart_head : AreApart area (descriptor_area head) = inside-apart area (descriptor_area head) r
+    (all-head (λ d. IsInside (descriptor_area d) r) head rest inside) apart_r in
+    let holding : held memory' b.adapter.receiver ≡ held memory a.adapter.receiver =
+    held-after_data a.adapter.filter.rctl ring a.adapter.receiver memory
+    (answers.Moved (is_half_free (ring_of (moved_on a.adapter.receive_ring))))
+    (λ _. record { has = has; can = can; apart = apart_head }) in
+    let frames : map (frame_of memory') (done_slots memory' ring o) ≡ map (frame_of memory) (finished o a) =
+    ap (map (frame_of memory')) done
+    ∙ frames-kept memory memory' area (finished o a) keeps same_done (all-right (AreApart area) payload names apart_rest) in
+    let named_same : map (named memory') (done_slots memory' ring o) ≡ names = ap (map (named memory')) done
+    ∙ named-kept memory memory' (finished o a) same_done in
+    let place : receive.named_address memory' head
+    ≡ at = ap (λ (bytes : List ℕ). (rx_desc_of bytes).address) (all-head (IsSame memory memory') head rest same_offered) in
+    let working : work_areas memory' b.adapter.receiver.work
+    ≡ area ∷ [] = ap (λ (address : ℕ). let there : Area = record { address = address; size = n } in there ∷ []) place in
+    let left : offered_buffers b ≡ others =
+    ap (λ (on : Bool). cond on (map (buffer_of b) rest) []) enabled
+    ∙ buffers-kept memory memory' bsize rest (all-tail (IsSame memory memory') head rest same_offered) in
+    let bytes = map status_byte (buffered a ++ offered (transmit_ring a)) in
+    record {
+      sends = transmitting.sends;
+      reported = [];
+      written = transmitting.done ∙ sym (append-nil (written_back p a));
+      each_reported = refl;
+      holds =
+          ap (λ (list : List (List ℕ)). list ++ held memory' b.adapter.receiver) frames
+          ∙ ap (λ (list : List (List ℕ)). map (frame_of memory) (finished o a) ++ list) holding
+          ∙ sym (append-nil (frames_held o a));
+      more = [];
+      done = done ∙ sym (append-nil (finished o a));
+      told = inl refl;
+      fits = λ fit. record {
+        finished_fit = subst (λ (list : List ℕ). NamesFit memory' bsize list) (sym done)
+            (names_fit-kept memory memory' bsize (finished o a) same_done fit.finished_fit);
+        work_fits = subst (λ (places : List Area). All (λ there. there.size ≤ bsize) places) (sym working)
+            (All-cons (λ (there : Area). there.size ≤ bsize) area [] can.size (all-none (λ (there : Area). there.size ≤ bsize)));
+      };
+      whole = λ are. subst (λ (list : List ℕ). AreWhole memory' list) (sym done) (whole-kept memory memory' (finished o a) same_done are);
+      untouched = λ other foreign.
+          let there = subst (λ (list : List Area). All (AreApart other) (map reported_half (offered ring) ++ (bytes ++ list))) buffers
+          foreign in
+          let last = all-right (AreApart other) bytes (whole_buffer ∷ others)
+          (all-right (AreApart other) (map reported_half (offered ring)) (bytes ++ whole_buffer ∷ others) there) in
+          keeps.others other (apart-inside area whole_buffer other part
+          (apart-sym other whole_buffer (all-head (AreApart other) whole_buffer others last)));
+      foreign = λ other foreign.
+          let there = subst (λ (list : List Area). All (AreApart other) (map reported_half (offered ring) ++ (bytes ++ list))) buffers
+          foreign in
+          let halves = subst (λ (list : List ℕ). All (AreApart other) (map reported_half list)) first
+          (all-left (AreApart other) (map reported_half (offered ring)) (bytes ++ whole_buffer ∷ others) there) in
+          let behind = all-without (AreApart other) bytes whole_buffer others
+          (all-right (AreApart other) (map reported_half (offered ring)) (bytes ++ whole_buffer ∷ others) there) in
+          let all = All-append (AreApart other) (map reported_half (head ∷ rest)) (bytes ++ others) halves behind in
+          subst (λ (list : List Area). All (AreApart other) (map reported_half (head ∷ rest) ++ (bytes ++ list))) (sym left) all;
+      runs = λ short run. record {
+        receiver_runs = run.receiver_runs;
+        transmitter_runs = run.transmitter_runs;
+        receive_indices = λ still_more. record { head = next-below (count_of ring) ring.head can.indices.head; tail = can.indices.tail };
+        transmit_indices = run.transmit_indices;
+        not_extended = run.not_extended;
+        frames = later-fit bsize a.adapter.receiver.buffer run.frames;
+        transmittable = transmittable-kept memory memory' (offered (transmit_ring a)) size transmitting.same_offered run.transmittable;
+      };
+      sound = record {
+        receive_slots = dealt;
+        transmit_slots = transmitting.dealt;
+        separate =
+            separate-same memory memory' (front ++ area ∷ others) (areas o b) size
+            (areas-same r t _ _ _ _ _ _ _ _ transmitting.data_areas named_same working left ∙ joined_front (area ∷ others))
+            (separate-shorter memory front at bsize n others can.size separate);
+        reports = subst (λ (queue : List Queued). All Reports (a.adapter.transmitter.buffer ++ queue))
+            (sym transmitting.fetches) sound.reports;
+        pads = sound.pads;
+      };
+    }
+
+-- Any answer of a data step.
+pub data_happens : (a : World) (answer : Stepped) → IsAdapter a.adapter → DataAnswers a.memory a.adapter answer
+    → Happens a (world_after_step RxData answer a) nothing
+data_happens a Moved running answers = record {
+  steady =
+      steady_moves a (world_after_step RxData Moved a).memory
+      (record (still a.adapter) {
+        recorded = union a.adapter.causes.recorded (causes_of_moving a.adapter.receive_ring);
+        receive_head = next_of (receive_ring a) a.adapter.receive_ring.head;
+        receiver = (world_after_step RxData Moved a).adapter.receiver;
+      })
+      nothing (length-with_bytes a.memory (oldest a.adapter.receiver.buffer) _ answers.1.place)
+      (added a.adapter.causes.recorded (causes_of_moving a.adapter.receive_ring)) (omega (arith, running.registers.counters.missed))
+      (λ off. (refl, refl))
+      (inr (record {
+        head = next-below (count_of (receive_ring a)) a.adapter.receive_ring.head answers.1.indices.head;
+        tail =
+            answers.1.indices.tail;
+      })) (inl refl) (all-none IsLegal) refl refl;
+  between = λ o p sound.
+      let free = answers.0.ready.free in
+      let has = subst (λ (work : Option Work). HasFrameAndDescriptor (with_work work a).adapter) free answers.0 in
+      let before = subst (λ (work : Option Work). Sound o p (with_work work a)) free sound in
+      subst (λ (work : Option Work). Between o p (with_work work a) (world_after_step RxData Moved a) nothing) (sym free)
+      (between_moved o p a has answers.1 before);
+}
+data_happens a Fault running answers = record {
+  steady =
+      steady_moves a a.memory (record (still a.adapter) { receiver = (world_after_step RxData Fault a).adapter.receiver })
+      nothing refl (λ place set. set) (omega (arith, running.registers.counters.missed)) (λ off. (refl, refl)) (inl refl) (inl refl)
+      (all-none IsLegal) refl refl;
+  between = λ o p sound. between_stopped o p a true a.adapter.transmitter.stopped
+      (λ can. answers.1 (can_move o p a sound can answers.0)) sound;
+}
+data_happens a Nothing running answers = happens_none a
+data_happens a (Put frame) running answers = absurd answers
+data_happens a WireFull running answers = absurd answers
+data_happens a Took running answers = absurd answers
+data_happens a Done running answers = absurd answers
+data_happens a Ticked running answers = absurd answers

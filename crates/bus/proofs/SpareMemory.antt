@@ -1,0 +1,84 @@
+-- Memory that no outstanding slot uses is apart from all that the conditions name, and stays so.
+use Rattle.std.proofs.Common.{◌≤◌, ◌++◌, [], Bool, true, false, cond, ℕ, List, Option, Some, None, map, arith}
+use Rattle.std.specs.List.{All}
+use Rattle.std.proofs.lemmas.List.Elements.{All-append, All-cons, All-map}
+use Rattle.dma_memory.specs.Areas.{AreApart, Area, IsInside}
+use Rattle.dma_memory.specs.AreaLaws.{apart-inside, apart-sym, inside-apart}
+use Rattle.rx_engine.specs.Descriptors as receive
+use Rattle.rx_engine.specs.declared.engine.Work.{Work}
+use Rattle.adapter.specs.HostAreas.{areas, buffer_of, buffer_size, data_of, IsForeign, offered_buffers, receives, reported_half, ring_area}
+use Rattle.adapter.specs.HostAreas.{status_byte, work_areas}
+use Rattle.adapter.specs.Slots.{buffered, in_work, offered, slot_of_work}
+use Rattle.adapter.specs.HostFrames.{named}
+use Rattle.adapter.specs.Conditions.{FitBuffers, Sound}
+use Rattle.bus.specs.SpareMemory.{IsSpare}
+use Rattle.adapter.specs.World.{receive_ring, transmit_ring, World}
+use Rattle.bus.proofs.EachArea.{all-areas, of-areas}
+use Rattle.bus.proofs.Lists.{all-head, all-left, all-none, all-right}
+use Rattle.bus.proofs.DriversSlots.{parts-of}
+use Rattle.bus.proofs.Rings.{dealt-left, dealt-right}
+
+-- Apart from the areas.
+
+-- The frame in work stands in its buffer.
+work-apart : (memory : List ℕ) (work : Option Work) (size : ℕ) (area : Area)
+    → All (λ d. AreApart (record { address = receive.named_address memory d; size = size }) area) (slot_of_work work)
+    → All (λ place. place.size ≤ size) (work_areas memory work) → All (λ other. AreApart other area) (work_areas memory work)
+work-apart memory None size area apart fit = all-none (λ other. AreApart other area)
+work-apart memory (Some work) size area apart fit =
+    let at = receive.named_address memory work.descriptor in
+    let place : Area = record { address = at; size = work.length } in
+    let whole : Area = record { address = at; size = size } in
+    let brief : work.length ≤ size = all-head (λ (other : Area). other.size ≤ size) place [] fit in
+    let inside : IsInside place whole = record { from = omega arith; to = omega (arith, brief) } in
+    All-cons (λ other. AreApart other area) place []
+    (apart-inside place whole area inside
+    (all-head (λ d. AreApart (record { address = receive.named_address memory d; size = size }) area) work.descriptor [] apart))
+    (all-none (λ other. AreApart other area))
+
+-- A finished frame stands in its buffer.
+name-apart : (memory : List ℕ) (size d : ℕ) (area : Area) → (named memory d).size ≤ size
+    → AreApart (record { address = receive.named_address memory d; size = size }) area → AreApart (named memory d) area
+name-apart memory size d area fit apart =
+    let whole : Area = record { address = receive.named_address memory d; size = size } in
+    let inside : IsInside (named memory d) whole = record { from = omega arith; to = omega (arith, fit) } in
+    apart-inside (named memory d) whole area inside apart
+
+buffers-apart : (on : Bool) (f : ℕ → Area) (slots : List ℕ) (area : Area) → All (λ d. AreApart (f d) area) slots
+    → All (λ other. AreApart other area) (cond on (map f slots) [])
+buffers-apart true f slots area apart = All-map (λ other. AreApart other area) f slots apart
+buffers-apart false f slots area apart = all-none (λ other. AreApart other area)
+
+pub spare-apart : (o p : ℕ) (a : World) (area : Area) → Sound o p a → FitBuffers o a → IsSpare o p a area
+    → All (λ other. AreApart other area) (areas o a)
+spare-apart o p a area sound fit spare =
+    let Away : ℕ → Type 0 = λ d. AreApart (buffer_of a d) area in
+    let Near : ℕ → Type 0 = λ d. AreApart (data_of a.memory d) area in
+    let work = a.adapter.receiver.work in
+    let done = dealt-left a.memory (receive_ring a) o (in_work a) Away sound.receive_slots spare.buffers in
+    let behind = dealt-right a.memory (receive_ring a) o (in_work a) Away sound.receive_slots spare.buffers in
+    let sent = dealt-right a.memory (transmit_ring a) p (buffered a) Near sound.transmit_slots spare.sources in
+    all-areas (λ other. AreApart other area) o a (record {
+      received = spare.receive_slots;
+      sent = spare.transmit_slots;
+      payload = all-right Near (buffered a) (offered (transmit_ring a)) sent;
+      names = λ k d below. name-apart a.memory (buffer_size a) _ area (fit.finished_fit k d below) (done k d below);
+      work = work-apart a.memory work (buffer_size a) area (all-left Away (in_work a) (offered (receive_ring a)) behind) fit.work_fits;
+      buffers = buffers-apart (receives a) (buffer_of a) (offered (receive_ring a)) area
+          (all-right Away (in_work a) (offered (receive_ring a)) behind);
+    })
+
+-- The adapter doesn't write it.
+pub spare-foreign : (o p : ℕ) (a : World) (area : Area) → Sound o p a → FitBuffers o a → IsSpare o p a area → IsForeign a area
+spare-foreign o p a area sound fit spare =
+    let parts = parts-of o p a sound in
+    let r = ring_area (receive_ring a) in
+    let t = ring_area (transmit_ring a) in
+    let halves = map reported_half (in_work a ++ offered (receive_ring a)) in
+    let bytes = map status_byte (buffered a ++ offered (transmit_ring a)) in
+    let buffers = (of-areas (λ other. AreApart other area) o a (spare-apart o p a area sound fit spare)).buffers in
+    All-append (AreApart area) halves (bytes ++ offered_buffers a)
+    (λ k d below. inside-apart area _ r (parts.halves k d below) (apart-sym r area spare.receive_slots))
+    (All-append (AreApart area) bytes (offered_buffers a)
+    (λ k d below. inside-apart area _ t (parts.bytes k d below) (apart-sym t area spare.transmit_slots))
+    (λ k d below. apart-sym _ area (buffers k d below)))

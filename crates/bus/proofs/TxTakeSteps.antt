@@ -1,0 +1,151 @@
+-- A frame is taken from the transmit ring.
+use Rattle.std.proofs.Common.{◌≡◌, inl, inr, ◌++◌, ◌∷◌, [], Bool, true, ℕ, List, map, refl, sym, ap, subst, ◌∙◌, append_assoc, arith}
+use Rattle.std.specs.List.{All}
+use Rattle.std.proofs.lemmas.Bool.{eq-eqb}
+use Rattle.std.proofs.lemmas.List.{append-nil, map-append}
+use Rattle.dma_memory.specs.Areas.{AreApart, AreSeparate}
+use Rattle.registers.specs.Bits.{union}
+use Rattle.descriptors.specs.Ring.{HasValidIndices, address_of, next_of}
+use Rattle.tx_engine.specs.Fetching.{fetched, pads}
+use Rattle.tx_engine.specs.Laws.{to_send-take}
+use Rattle.tx_engine.specs.Transmitter.{Queued}
+use Rattle.adapter.specs.Recording.{with_causes}
+use Rattle.adapter.specs.Transmitting.{CanTake, HasNothingToTake, TakeAnswers, causes_of_taking, moved_on}
+use Rattle.adapter.specs.declared.step.StepKind.TheVariants.{TxTake}
+use Rattle.adapter.specs.declared.step.Stepped.{Stepped}
+use Rattle.adapter.specs.declared.step.Stepped.TheVariants.{Took, Put, WireFull, Moved, Done, Ticked, Nothing, Fault}
+use Rattle.adapter.specs.Slots.{buffered, finished, in_work, IsDealt, offered, written_back}
+use Rattle.adapter.specs.HostAreas.{data_of, offered_buffers, reported_half, ring_area, status_byte, work_areas}
+use Rattle.adapter.specs.HostFrames.{frames_held, named}
+use Rattle.adapter.specs.Conditions.{Reports, Sound}
+use Rattle.bus.specs.Law.{Between, Happens}
+use Rattle.bus.specs.PastOfStretch.{nothing}
+use Rattle.adapter.specs.Running.{CanTransmit}
+use Rattle.bus.specs.StepsAndArrivals.{world_after_step}
+use Rattle.adapter.specs.State.{IsAdapter}
+use Rattle.adapter.specs.World.{receive_ring, transmit_ring, World}
+use Rattle.bus.proofs.Areas.{separate-without}
+use Rattle.bus.proofs.Composition.{happens_none}
+use Rattle.bus.proofs.StepsBesideRings.{between_stopped}
+use Rattle.bus.proofs.EngineRegisters.{added, steady_moves, still}
+use Rattle.bus.proofs.Rings.{dealt-moved, offered-head}
+use Rattle.descriptors.specs.Frames.{IsLegal}
+use Rattle.bus.proofs.Lists.{all-none, all-tail}
+use Rattle.bus.proofs.RunningEngines.{can_take}
+use Rattle.descriptors.specs.RingLaws.{next-below}
+use Rattle.descriptors.specs.Ring.{count_of}
+
+-- the world behind a step that took, with padding or without
+abbrev pub taken : Bool → World → World
+taken pad world = record world {
+  adapter = with_causes (causes_of_taking world.adapter.transmit_ring) (record world.adapter {
+    transmitter = record world.adapter.transmitter {
+      buffer = world.adapter.transmitter.buffer ++ fetched pad world.memory
+          (address_of (transmit_ring world) world.adapter.transmit_ring.head) ∷ [];
+    };
+    transmit_ring = moved_on world.adapter.transmit_ring;
+  });
+}
+
+-- The frame at the head goes to the packet buffer's end, and its slot from the offered to the taken ones.
+pub between_padded : (o p : ℕ) (a : World) → HasValidIndices (transmit_ring a)
+    → ¬ (a.adapter.transmit_ring.head ≡ a.adapter.transmit_ring.tail)
+    → Sound o p a → Between o p a (taken true a) nothing
+between_padded o p a in_ring differ sound =
+    let b = taken true a in
+    let ring = transmit_ring a in
+    let buffer = a.adapter.transmitter.buffer in
+    let head = address_of ring ring.head in
+    let rest = offered (transmit_ring b) in
+    let others = map (named a.memory) (finished o a) ++ (work_areas a.memory a.adapter.receiver.work ++ offered_buffers a) in
+    let first : offered ring ≡ head ∷ rest = offered-head ring in_ring differ in
+    let grown : buffered b
+    ≡ buffered a ++ head ∷ [] = map-append (λ (queued : Queued). queued.descriptor) buffer (fetched true a.memory head ∷ []) in
+    let same : buffered b ++ rest ≡ buffered a ++ offered ring =
+    ap (λ (slots : List ℕ). slots ++ rest) grown ∙ append_assoc (buffered a) (head ∷ []) rest
+    ∙ ap (λ (slots : List ℕ). buffered a ++ slots) (sym first) in
+    let areas : AreSeparate a.memory (ring_area (receive_ring a) ∷ ring_area ring
+    ∷ (data_of a.memory head ∷ (map (data_of a.memory) rest ++ others))) =
+    subst (λ (slots : List ℕ). AreSeparate a.memory (ring_area (receive_ring a) ∷ ring_area ring
+    ∷ (map (data_of a.memory) slots ++ others))) first sound.separate in
+    let reports : All Reports (buffer ++ (fetched true a.memory head ∷ map (fetched true a.memory) rest)) =
+    subst (λ (slots : List ℕ). All Reports (buffer ++ map (fetched true a.memory) slots)) first sound.reports in
+    record {
+      sends = to_send-take a.memory ring true buffer in_ring differ;
+      reported = [];
+      written = sym (append-nil (written_back p a));
+      each_reported = refl;
+      holds = sym (append-nil (frames_held o a));
+      more = [];
+      done = sym (append-nil (finished o a));
+      told = inl refl;
+      fits = λ fit. record { finished_fit = fit.finished_fit; work_fits = fit.work_fits };
+      whole = λ are. are;
+      untouched = λ area apart. refl;
+      foreign = λ area apart.
+          subst (λ (slots : List ℕ). All (AreApart area)
+          (map reported_half (in_work a ++ offered (receive_ring a)) ++ (map status_byte slots ++ offered_buffers a))) (sym same) apart;
+      runs = λ short can. record {
+        receiver_runs = can.receiver_runs;
+        transmitter_runs = can.transmitter_runs;
+        receive_indices = can.receive_indices;
+        transmit_indices = λ still_more. record { head = next-below (count_of ring) ring.head in_ring.head; tail = in_ring.tail };
+        not_extended = can.not_extended;
+        frames = can.frames;
+        transmittable = all-tail (CanTransmit a.memory) head rest
+            (subst (λ (slots : List ℕ). All (CanTransmit a.memory) slots) first can.transmittable);
+      };
+      sound = record {
+        receive_slots = sound.receive_slots;
+        transmit_slots =
+            subst (λ (slots : List ℕ). IsDealt a.memory (transmit_ring b) p slots) (sym grown)
+            (dealt-moved a.memory ring p (buffered a) in_ring differ sound.transmit_slots);
+        separate = separate-without a.memory (ring_area (receive_ring a) ∷ ring_area ring ∷ []) (data_of a.memory head)
+            (map (data_of a.memory) rest ++ others) areas;
+        reports = subst (λ (queue : List Queued). All Reports queue)
+            (sym (append_assoc buffer (fetched true a.memory head ∷ []) (map (fetched true a.memory) rest))) reports;
+        pads = λ still_more. sound.pads differ;
+      };
+    }
+
+between_taken : (o p : ℕ) (a : World) → ¬ (HasNothingToTake a.adapter) → CanTake a.memory a.adapter → Sound o p a
+    → Between o p a (world_after_step TxTake Took a) nothing
+between_taken o p a not_idle can sound =
+    let differ : ¬ (a.adapter.transmit_ring.head ≡ a.adapter.transmit_ring.tail) = λ same. not_idle (inr (inr (inr same))) in
+    let padded : pads a.adapter.transmit_control ≡ true = eq-eqb _ _ (sound.pads differ) in
+    subst (λ (pad : Bool). Between o p a (taken pad a) nothing) (sym padded) (between_padded o p a can.sound differ sound)
+
+-- Any answer of a step that takes.
+pub take_happens : (a : World) (answer : Stepped) → IsAdapter a.adapter → TakeAnswers a.memory a.adapter answer
+    → Happens a (world_after_step TxTake answer a) nothing
+take_happens a Took running answers = record {
+  steady =
+      steady_moves a a.memory
+      (record (still a.adapter) {
+        recorded = union a.adapter.causes.recorded (causes_of_taking a.adapter.transmit_ring);
+        transmit_head = next_of (transmit_ring a) a.adapter.transmit_ring.head;
+        transmitter = (taken (pads a.adapter.transmit_control) a).adapter.transmitter;
+      })
+      nothing refl (added a.adapter.causes.recorded (causes_of_taking a.adapter.transmit_ring))
+      (omega (arith, running.registers.counters.missed)) (λ off. (refl, refl)) (inl refl)
+      (inr (record {
+        head = next-below (count_of (transmit_ring a)) a.adapter.transmit_ring.head answers.1.sound.head;
+        tail =
+            answers.1.sound.tail;
+      })) (all-none IsLegal) refl refl;
+  between = λ o p sound. between_taken o p a answers.0 answers.1 sound;
+}
+take_happens a Fault running answers = record {
+  steady =
+      steady_moves a a.memory (record (still a.adapter) { transmitter = (world_after_step TxTake Fault a).adapter.transmitter })
+      nothing refl (λ place set. set) (omega (arith, running.registers.counters.missed)) (λ off. (refl, refl)) (inl refl) (inl refl)
+      (all-none IsLegal) refl refl;
+  between = λ o p sound. between_stopped o p a a.adapter.receiver.stopped true
+      (λ can. answers.1 (can_take o p a sound can answers.0)) sound;
+}
+take_happens a Nothing running answers = happens_none a
+take_happens a (Put frame) running answers = absurd answers
+take_happens a WireFull running answers = absurd answers
+take_happens a Moved running answers = absurd answers
+take_happens a Done running answers = absurd answers
+take_happens a Ticked running answers = absurd answers

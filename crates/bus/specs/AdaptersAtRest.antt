@@ -1,0 +1,62 @@
+-- An adapter at rest (own): as a reset leaves it, and as it stays while a driver sets it up, until it lets frames come.
+use Rattle.std.specs.Prelude.{⊤, ◌≡◌, [], Option, Some, length}
+use Rattle.rx_engine.specs.Receiver.{new_receiver}
+use Rattle.tx_engine.specs.Transmitter.{new_transmitter}
+use Rattle.adapter.specs.Registers.{after_reset}
+use Rattle.adapter.specs.Running.{CanRun}
+use Rattle.adapter.specs.Table.{register_at}
+use Rattle.adapter.specs.World.{World}
+use Rattle.adapter.specs.declared.register.Register.{Register}
+use Rattle.adapter.specs.declared.register.Register.TheVariants.{Rctl, Receive, Transmit}
+use Rattle.bus.specs.IdleRings.{HasIdleRings, IsIdle}
+use Rattle.bus.specs.Law.{Happens}
+use Rattle.bus.specs.PastOfStretch.{Past}
+use Rattle.bus.specs.declared.event.Access.{Access}
+use Rattle.bus.specs.declared.event.Access.TheVariants.{Loads, Reads, Stores, Writes}
+use Rattle.bus.specs.Trails.{world_after_access}
+
+-- Its rings offer nothing, its engines hold no frame and no fault has stopped them, RCTL is 0, and MPC counts nothing.
+pub record IsAtRest (world : World) : Type 0 where
+  pub rings : HasIdleRings world
+  pub receiver : world.adapter.receiver ≡ new_receiver
+  pub transmitter : world.adapter.transmitter ≡ new_transmitter
+  pub control : world.adapter.filter.rctl ≡ 0
+  pub none_missed : world.adapter.missed_packets ≡ 0
+
+-- Then its rings are idle, and its engines can run.
+abbrev pub RestIsIdle : Type 0
+RestIsIdle = (world : World) → IsAtRest world → IsIdle world × CanRun world
+
+-- So it is after a reset.
+abbrev pub RestAfterReset : Type 0
+RestAfterReset = (world : World) → IsAtRest (record world { adapter = after_reset world.adapter })
+
+-- No frame came or left, and none was missed.
+pub record NoFrame (past : Past) : Type 0 where
+  pub none_put : past.put ≡ []
+  pub none_stored : past.stored ≡ []
+  pub none_missed : past.missed ≡ 0
+
+-- Whatever happens leaves it at rest, and no frame comes or leaves.
+abbrev pub HappeningsKeepRest : Type 0
+HappeningsKeepRest = (a b : World) (past : Past) → Happens a b past → IsAtRest a → IsAtRest b × NoFrame past
+
+-- a register other than RCTL and those of the rings
+abbrev pub IsElsewhere : Option Register → Type 0
+IsElsewhere (Some Rctl) = ⊥
+IsElsewhere (Some (Receive part)) = ⊥
+IsElsewhere (Some (Transmit part)) = ⊥
+IsElsewhere _ = ⊤
+
+-- any access but a write of these
+abbrev pub LeavesRest : Access → Type 0
+LeavesRest (Reads offset value) = ⊤
+LeavesRest (Writes offset value) = IsElsewhere (register_at offset)
+LeavesRest (Loads address size) = ⊤
+LeavesRest (Stores address bytes) = ⊤
+
+-- Such an access, within memory, leaves it at rest.
+abbrev pub AccessesKeepRest : Type 0
+AccessesKeepRest =
+    (access : Access) (world : World) → LeavesRest access → length (world_after_access access world).memory ≡ length world.memory
+    → IsAtRest world → IsAtRest (world_after_access access world)

@@ -1,0 +1,47 @@
+-- A driver's store to memory of its own leaves what the law speaks of.
+use Rattle.std.specs.Prelude.{◌≡◌, ◌≤◌, ℕ, List, All, length}
+use Rattle.dma_memory.specs.Areas.{AreApart, Area, descriptor_area}
+use Rattle.dma_memory.specs.HostMemory.{LiesIn}
+use Rattle.adapter.specs.Slots.{finished, outstanding, written_back}
+use Rattle.adapter.specs.HostAreas.{buffer_size, frame_areas, IsForeign}
+use Rattle.adapter.specs.HostFrames.{frames_held, frames_to_send}
+use Rattle.adapter.specs.Conditions.{AreWhole, FitBuffers, Sound}
+use Rattle.adapter.specs.Running.{GoOn}
+use Rattle.adapter.specs.World.{receive_ring, transmit_ring, World, world_after_store}
+
+-- An area is apart from all outstanding descriptors, and from all frames and buffers that the conditions name.
+pub record IsDriversArea (oldest_receive oldest_transmit : ℕ) (world : World) (area : Area) : Type 0 where
+  pub received : All (λ slot. AreApart area (descriptor_area slot)) (outstanding (receive_ring world) oldest_receive)
+  pub sent : All (λ slot. AreApart area (descriptor_area slot)) (outstanding (transmit_ring world) oldest_transmit)
+  pub frames : All (AreApart area) (frame_areas oldest_receive world)
+
+-- The conditions hold in the second world as in the first, slots and frames are the same, and finished slots that are whole stay whole.
+pub record SameFrames (oldest_receive oldest_transmit : ℕ) (a b : World) : Type 0 where
+  pub sound : Sound oldest_receive oldest_transmit b
+  pub held : frames_held oldest_receive b ≡ frames_held oldest_receive a
+  pub to_send : frames_to_send b ≡ frames_to_send a
+  pub finished_same : finished oldest_receive b ≡ finished oldest_receive a
+  pub written_same : written_back oldest_transmit b ≡ written_back oldest_transmit a
+  pub whole : AreWhole a.memory (finished oldest_receive a) → AreWhole b.memory (finished oldest_receive b)
+  -- and frames that fit into their buffers still do, where these are no smaller
+  pub fits : buffer_size a ≤ buffer_size b → FitBuffers oldest_receive a → FitBuffers oldest_receive b
+
+-- And engines that could run still can.
+pub record LeavesFrames (oldest_receive oldest_transmit : ℕ) (a b : World) : Type 0 where
+  pub same : SameFrames oldest_receive oldest_transmit a b
+  pub runs : GoOn a b
+
+abbrev pub DriversStoresLeaveFrames : Type 0
+DriversStoresLeaveFrames =
+    (oldest_receive oldest_transmit : ℕ) (world : World) (address : ℕ) (bytes : List ℕ)
+    → Sound oldest_receive oldest_transmit world → LiesIn world.memory address (length bytes)
+    → IsDriversArea oldest_receive oldest_transmit world (record { address = address; size = length bytes })
+    → LeavesFrames oldest_receive oldest_transmit world (world_after_store address bytes world)
+
+-- What isn't the adapter's to write stays so behind such a store.
+abbrev pub DriversStoresLeaveForeign : Type 0
+DriversStoresLeaveForeign =
+    (oldest_receive oldest_transmit : ℕ) (world : World) (address : ℕ) (bytes : List ℕ)
+    → Sound oldest_receive oldest_transmit world → LiesIn world.memory address (length bytes)
+    → IsDriversArea oldest_receive oldest_transmit world (record { address = address; size = length bytes })
+    → (area : Area) → IsForeign world area → IsForeign (world_after_store address bytes world) area

@@ -1,0 +1,71 @@
+-- Rings that offer nothing, of an adapter that has no slot of the host's (own): as after power-on, after a reset, and in each state of
+-- initialisation up to the first slot that is offered ("14.4 Receive Initialization", "14.5 Transmit Initialization").
+use Rattle.std.specs.Prelude.{⊤, ◌≡◌, ℕ, List, [], ◌∷◌, None, length}
+use Rattle.dma_memory.specs.Areas.{AreSeparate}
+use Rattle.mdic_phy.specs.declared.phy.Link.{Link}
+use Rattle.adapter.specs.Registers.{after_reset, new_adapter, write_of}
+use Rattle.adapter.specs.declared.register.Register.{Register}
+use Rattle.adapter.specs.declared.register.Register.TheVariants.{Receive, Transmit}
+use Rattle.adapter.specs.HostAreas.{ring_area}
+use Rattle.adapter.specs.Conditions.{Sound}
+use Rattle.bus.specs.Law.{Happens}
+use Rattle.bus.specs.PastOfStretch.{Past}
+use Rattle.adapter.specs.World.{receive_ring, transmit_ring, World, world_after_read, world_after_store, world_after_write}
+
+-- Head equals tail in both rings, and their descriptors lie in memory and apart from each other. A ring without descriptors is an empty
+-- area.
+pub record HasIdleRings (world : World) : Type 0 where
+  pub receive : world.adapter.receive_ring.head ≡ world.adapter.receive_ring.tail
+  pub transmit : world.adapter.transmit_ring.head ≡ world.adapter.transmit_ring.tail
+  pub separate : AreSeparate world.memory (ring_area (receive_ring world) ∷ ring_area (transmit_ring world) ∷ [])
+
+-- And no slot is taken: no frame is in work and none in the transmit packet buffer. In the receive packet buffer frames may wait.
+pub record IsIdle (world : World) : Type 0 where
+  pub work : world.adapter.receiver.work ≡ None
+  pub buffer : world.adapter.transmitter.buffer ≡ []
+  pub rings : HasIdleRings world
+
+-- Then the conditions of the law hold, with the tails as the driver's oldest slots.
+abbrev pub IdleRingsAreSound : Type 0
+IdleRingsAreSound = (world : World) → IsIdle world → Sound world.adapter.receive_ring.tail world.adapter.transmit_ring.tail world
+
+-- So it is after power-on,
+abbrev pub IdleAfterPowerOn : Type 0
+IdleAfterPowerOn = (memory words : List ℕ) (link : Link) → IsIdle (record { memory = memory; adapter = new_adapter words link })
+
+-- and after a reset.
+abbrev pub IdleAfterReset : Type 0
+IdleAfterReset = (world : World) → IsIdle (record world { adapter = after_reset world.adapter })
+
+-- Whatever happens between two accesses leaves it so,
+abbrev pub HappeningsKeepIdle : Type 0
+HappeningsKeepIdle = (a b : World) (past : Past) → Happens a b past → IsIdle a → IsIdle b
+
+-- a read of any register,
+abbrev pub ReadsKeepIdle : Type 0
+ReadsKeepIdle = (offset : ℕ) (world : World) → IsIdle world → IsIdle (world_after_read offset world)
+
+-- a store that leaves the size of memory,
+abbrev pub StoresKeepIdle : Type 0
+StoresKeepIdle =
+    (address : ℕ) (bytes : List ℕ) (world : World)
+    → length (world_after_store address bytes world).memory ≡ length world.memory → IsIdle world
+    → IsIdle (world_after_store address bytes world)
+
+-- a register of a ring
+abbrev pub IsOfRing : Register → Type 0
+IsOfRing (Receive part) = ⊤
+IsOfRing (Transmit part) = ⊤
+IsOfRing register = ⊥
+
+-- a write of any register that isn't one of a ring, CTRL.RST among them,
+abbrev pub OtherWritesKeepIdle : Type 0
+OtherWritesKeepIdle =
+    (register : Register) (value : ℕ) (world : World)
+    → ¬ (IsOfRing register) → IsIdle world → IsIdle (record world { adapter = write_of register value world.adapter })
+
+-- and a write of any register behind which the rings are so.
+abbrev pub WritesKeepIdle : Type 0
+WritesKeepIdle =
+    (offset value : ℕ) (world : World) → IsIdle world → HasIdleRings (world_after_write offset value world)
+    → IsIdle (world_after_write offset value world)

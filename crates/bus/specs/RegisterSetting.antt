@@ -1,0 +1,156 @@
+-- What a driver does while the conditions of the law hold, besides offering slots one by one and storing to memory of its own: it writes
+-- and reads registers, as in initialisation behind the first slot offered (own).
+use Rattle.std.specs.Prelude.{⊤, ◌≡◌, ◌<◌, ◌+◌, ◌%◌, ◌++◌, ℕ, zero, suc, [], false, All, None, map}
+use Rattle.dma_memory.specs.Areas.{AreSeparate}
+use Rattle.registers.specs.Bits.{HasBit}
+use Rattle.descriptors.specs.Ring.{address_of, count_of, slots_from}
+use Rattle.registers.specs.Places.{rctl_bsex, rctl_en, tctl_psp}
+use Rattle.rx_engine.specs.Descriptors.{named_address}
+use Rattle.adapter.specs.Registers.{is_reset, write_of}
+use Rattle.adapter.specs.declared.register.Register.{Register}
+use Rattle.adapter.specs.declared.register.Register.TheVariants.{Rctl, Receive, Tctl, Transmit}
+use Rattle.adapter.specs.declared.ring.RingRegisters.{RingRegisters}
+use Rattle.adapter.specs.HostAreas.{areas, buffer_size}
+use Rattle.adapter.specs.Slots.{finished, offered, outstanding}
+use Rattle.adapter.specs.HostFrames.{AreWithin, frames_held, frames_to_send}
+use Rattle.adapter.specs.Conditions.{FitBuffers, Sound}
+use Rattle.bus.specs.Law.{Happens}
+use Rattle.bus.specs.SlotOffers.{CanOffer, offering}
+use Rattle.bus.specs.DriversStores.{LeavesFrames, SameFrames}
+use Rattle.bus.specs.PastOfStretch.{Past}
+use Rattle.adapter.specs.Running.{GoOn}
+use Rattle.adapter.specs.World.{receive_ring, transmit_ring, World, world_after_read}
+
+-- Many slots are offered at once.
+
+-- so many slots can be offered, one behind the other
+abbrev pub CanOfferMany : ℕ → ℕ → World → Type 0
+CanOfferMany oldest zero world = ⊤
+CanOfferMany oldest (suc k) world = CanOffer oldest world × CanOfferMany oldest k (offering world)
+
+-- the world with RDT at this index
+abbrev pub with_tail : ℕ → World → World
+with_tail index world = record world
+    { adapter = record world.adapter { receive_ring = record world.adapter.receive_ring { tail = index } } }
+
+-- RDT moved on by so many, in one write: the conditions hold again, these slots are the last that are outstanding, and frames are the same.
+pub record OfferedMany (oldest_receive oldest_transmit k : ℕ) (a b : World) : Type 0 where
+  pub same : SameFrames oldest_receive oldest_transmit a b
+  pub runs : GoOn a b
+  pub last :
+      outstanding (receive_ring b) oldest_receive
+      ≡ outstanding (receive_ring a) oldest_receive ++ map (address_of (receive_ring a))
+      (slots_from (count_of (receive_ring a)) a.adapter.receive_ring.tail k)
+
+abbrev pub ManySlotsCanBeOffered : Type 0
+ManySlotsCanBeOffered =
+    (oldest_receive oldest_transmit k : ℕ) (world : World) → Sound oldest_receive oldest_transmit world
+    → world.adapter.receive_ring.tail < count_of (receive_ring world)
+    → CanOfferMany oldest_receive k world
+    → OfferedMany oldest_receive oldest_transmit k world
+    (with_tail ((world.adapter.receive_ring.tail + k) % count_of (receive_ring world)) world)
+
+-- Controls.
+
+-- the world with this word in RCTL
+abbrev pub with_receive_control : ℕ → World → World
+with_receive_control control world = record world
+    { adapter = record world.adapter { filter = record world.adapter.filter { rctl = control } } }
+
+-- The conditions hold, and frames are the same; where BSEX is 0 and BSIZE names room for each frame in the receive packet buffer, engines
+-- that could run still can.
+pub record ReceiverSet (oldest_receive oldest_transmit : ℕ) (a b : World) : Type 0 where
+  pub same : SameFrames oldest_receive oldest_transmit a b
+  pub runs : ¬ (HasBit b.adapter.filter.rctl rctl_bsex) → AreWithin (buffer_size b) b.adapter.receiver.buffer → GoOn a b
+
+-- RCTL may be written where the rings, the frames and the buffers that then count are apart, in memory.
+abbrev pub ReceiverCanBeSet : Type 0
+ReceiverCanBeSet =
+    (oldest_receive oldest_transmit control : ℕ) (world : World) → Sound oldest_receive oldest_transmit world
+    → AreSeparate world.memory (areas oldest_receive (with_receive_control control world))
+    → ReceiverSet oldest_receive oldest_transmit world (with_receive_control control world)
+
+-- the world with this word in TCTL
+abbrev pub with_transmit_control : ℕ → World → World
+with_transmit_control control world = record world { adapter = record world.adapter { transmit_control = control } }
+
+-- TCTL may be written where PSP is set, or TDH is TDT.
+abbrev pub TransmitterCanBeSet : Type 0
+TransmitterCanBeSet =
+    (oldest_receive oldest_transmit control : ℕ) (world : World) → Sound oldest_receive oldest_transmit world
+    → (¬ (world.adapter.transmit_ring.head ≡ world.adapter.transmit_ring.tail) → HasBit control tctl_psp)
+    → LeavesFrames oldest_receive oldest_transmit world (with_transmit_control control world)
+
+-- The transmit ring.
+
+-- the world with these registers of the transmit ring
+abbrev pub with_transmit_ring : RingRegisters → World → World
+with_transmit_ring ring world = record world { adapter = record world.adapter { transmit_ring = ring } }
+
+-- The conditions hold with TDT as the oldest slot, nothing is outstanding or to be sent, and what was received stays.
+pub record TransmitRingSet (oldest_receive : ℕ) (a b : World) : Type 0 where
+  pub sound : Sound oldest_receive b.adapter.transmit_ring.tail b
+  pub none_outstanding : outstanding (transmit_ring b) b.adapter.transmit_ring.tail ≡ []
+  pub none_to_send : frames_to_send b ≡ []
+  pub held : frames_held oldest_receive b ≡ frames_held oldest_receive a
+  pub finished_same : finished oldest_receive b ≡ finished oldest_receive a
+  pub fits : FitBuffers oldest_receive a → FitBuffers oldest_receive b
+  pub runs : GoOn a b
+
+-- While no frame is in the transmit packet buffer the transmit ring may be set up, with TDH equal to TDT, where it is apart from all else.
+abbrev pub TransmitRingCanBeSet : Type 0
+TransmitRingCanBeSet =
+    (oldest_receive oldest_transmit : ℕ) (ring : RingRegisters) (world : World) → Sound oldest_receive oldest_transmit world
+    → world.adapter.transmitter.buffer ≡ [] → ring.head ≡ ring.tail
+    → AreSeparate world.memory (areas oldest_receive (with_transmit_ring ring world))
+    → TransmitRingSet oldest_receive world (with_transmit_ring ring world)
+
+-- Other accesses.
+
+-- a register that the conditions read
+abbrev pub IsOfConditions : Register → Type 0
+IsOfConditions Rctl = ⊤
+IsOfConditions Tctl = ⊤
+IsOfConditions (Receive part) = ⊤
+IsOfConditions (Transmit part) = ⊤
+IsOfConditions register = ⊥
+
+-- A write of any other register leaves the conditions, slots and frames, a reset apart,
+abbrev pub OtherWritesLeaveFrames : Type 0
+OtherWritesLeaveFrames =
+    (oldest_receive oldest_transmit : ℕ) (register : Register) (value : ℕ) (world : World)
+    → Sound oldest_receive oldest_transmit world → ¬ (IsOfConditions register) → is_reset register value ≡ false
+    → LeavesFrames oldest_receive oldest_transmit world (record world { adapter = write_of register value world.adapter })
+
+-- and so does a read of any register.
+abbrev pub ReadsLeaveFrames : Type 0
+ReadsLeaveFrames =
+    (oldest_receive oldest_transmit offset : ℕ) (world : World)
+    → Sound oldest_receive oldest_transmit world → LeavesFrames oldest_receive oldest_transmit world (world_after_read offset world)
+
+-- What happens meanwhile.
+
+-- no frame is in the transmit packet buffer, and TDH is TDT
+pub record IsTransmitIdle (world : World) : Type 0 where
+  pub buffer : world.adapter.transmitter.buffer ≡ []
+  pub ring : world.adapter.transmit_ring.head ≡ world.adapter.transmit_ring.tail
+
+-- A transmit ring of which nothing is outstanding stays so, with all that is received going on.
+abbrev pub TransmitStaysIdle : Type 0
+TransmitStaysIdle =
+    (oldest_receive : ℕ) (a b : World) (past : Past) → Sound oldest_receive a.adapter.transmit_ring.tail a
+    → a.adapter.transmit_ring.head ≡ a.adapter.transmit_ring.tail → Happens a b past → IsTransmitIdle b
+
+-- No receive slot is finished or in work, and those offered, with the addresses of their buffers, are as they were.
+pub record OffersStay (oldest_receive : ℕ) (a b : World) : Type 0 where
+  pub none_finished : finished oldest_receive b ≡ []
+  pub no_work : b.adapter.receiver.work ≡ None
+  pub slots : offered (receive_ring b) ≡ offered (receive_ring a)
+  pub addresses : All (λ slot. named_address b.memory slot ≡ named_address a.memory slot) (offered (receive_ring a))
+
+-- While RCTL.EN is 0 and no frame is held, the receive slots that are offered wait.
+abbrev pub OffersWait : Type 0
+OffersWait =
+    (oldest_receive oldest_transmit : ℕ) (a b : World) (past : Past) → Sound oldest_receive oldest_transmit a
+    → oldest_receive < count_of (receive_ring a)
+    → ¬ (HasBit a.adapter.filter.rctl rctl_en) → frames_held oldest_receive a ≡ [] → Happens a b past → OffersStay oldest_receive a b

@@ -1,0 +1,103 @@
+-- A driver offers its next slot of a ring.
+use Rattle.std.specs.Prelude.{◌≡◌, ◌≢◌, ◌<◌, ◌∷◌, [], ◌++◌, ℕ, false, true, All}
+use Rattle.dma_memory.specs.Areas.{AreApart, Area}
+use Rattle.dma_memory.specs.HostMemory.{LiesIn}
+use Rattle.registers.specs.Bits.{HasBit}
+use Rattle.descriptors.specs.Ring.{address_of, count_of, next_of}
+use Rattle.registers.specs.Places.{tctl_psp}
+use Rattle.tx_engine.specs.Fetching.{fetched, frame_at}
+use Rattle.adapter.specs.HostAreas.{areas, buffer_of, data_of, IsForeign, reported_half, status_byte}
+use Rattle.adapter.specs.Slots.{finished, is_done, outstanding, written_back}
+use Rattle.adapter.specs.HostFrames.{frames_held, frames_to_send}
+use Rattle.adapter.specs.Conditions.{AreWhole, FitBuffers, Reports, Sound}
+use Rattle.bus.specs.DriversStores.{SameFrames}
+use Rattle.adapter.specs.Running.{CanTransmit, GoOn}
+use Rattle.adapter.specs.World.{receive_ring, transmit_ring, World}
+
+-- A driver offers its next receive slot: it moves RDT on by one ("3.2.6 Receive Descriptor Queue Structure").
+
+-- the world with RDT moved on by one
+abbrev pub offering : World → World
+offering world = record world {
+  adapter = record world.adapter {
+    receive_ring = record world.adapter.receive_ring { tail = next_of (receive_ring world) world.adapter.receive_ring.tail };
+  };
+}
+
+-- The slot at RDT can be offered: it isn't the last one before the oldest, its descriptor isn't done, and its buffer lies in memory, apart
+-- from all that the conditions name.
+pub record CanOffer (oldest : ℕ) (world : World) : Type 0 where
+  pub oldest_slot : oldest < count_of (receive_ring world)
+  pub head_slot : world.adapter.receive_ring.head < count_of (receive_ring world)
+  pub tail_slot : world.adapter.receive_ring.tail < count_of (receive_ring world)
+  pub room : next_of (receive_ring world) world.adapter.receive_ring.tail ≢ oldest
+  pub fresh : is_done world.memory (address_of (receive_ring world) world.adapter.receive_ring.tail) ≡ false
+  pub lies : LiesIn world.memory (buffer_of world (address_of (receive_ring world) world.adapter.receive_ring.tail)).address
+      (buffer_of world 0).size
+  pub apart : All (λ area. AreApart area (buffer_of world (address_of (receive_ring world) world.adapter.receive_ring.tail)))
+      (areas oldest world)
+
+-- Then the conditions hold again, the slot is the last that is outstanding, frames are the same, and engines that could run still can. What
+-- isn't the adapter's stays so, apart from where it may report the slot and from the slot's buffer.
+pub record Offered (oldest_receive oldest_transmit : ℕ) (a b : World) : Type 0 where
+  pub same : SameFrames oldest_receive oldest_transmit a b
+  pub runs : GoOn a b
+  pub last : outstanding (receive_ring b) oldest_receive
+      ≡ outstanding (receive_ring a) oldest_receive ++ address_of (receive_ring a) a.adapter.receive_ring.tail ∷ []
+  pub foreign :
+      (area : Area) → IsForeign a area → AreApart area (reported_half (address_of (receive_ring a) a.adapter.receive_ring.tail))
+      → AreApart area (buffer_of a (address_of (receive_ring a) a.adapter.receive_ring.tail)) → IsForeign b area
+
+abbrev pub SlotsCanBeOffered : Type 0
+SlotsCanBeOffered =
+    (oldest_receive oldest_transmit : ℕ) (world : World) → Sound oldest_receive oldest_transmit world → CanOffer oldest_receive world
+    → Offered oldest_receive oldest_transmit world (offering world)
+
+-- A driver offers its next transmit slot: it moves TDT on by one ("3.4 Transmit Descriptor Ring Structure").
+
+-- the world with TDT moved on by one
+abbrev pub offering_frame : World → World
+offering_frame world = record world {
+  adapter = record world.adapter {
+    transmit_ring = record world.adapter.transmit_ring { tail = next_of (transmit_ring world) world.adapter.transmit_ring.tail };
+  };
+}
+
+-- The slot at TDT can be offered: it isn't the last one before the oldest, its descriptor isn't done and asks for a report, its data lies
+-- in memory, apart from all that the conditions name, and TCTL.PSP is set.
+pub record CanSend (oldest_receive oldest_transmit : ℕ) (world : World) : Type 0 where
+  pub oldest_slot : oldest_transmit < count_of (transmit_ring world)
+  pub head_slot : world.adapter.transmit_ring.head < count_of (transmit_ring world)
+  pub tail_slot : world.adapter.transmit_ring.tail < count_of (transmit_ring world)
+  pub room : next_of (transmit_ring world) world.adapter.transmit_ring.tail ≢ oldest_transmit
+  pub fresh : is_done world.memory (address_of (transmit_ring world) world.adapter.transmit_ring.tail) ≡ false
+  pub reports : Reports (fetched true world.memory (address_of (transmit_ring world) world.adapter.transmit_ring.tail))
+  pub pads : HasBit world.adapter.transmit_control tctl_psp
+  pub lies :
+      LiesIn world.memory (data_of world.memory (address_of (transmit_ring world) world.adapter.transmit_ring.tail)).address
+      (data_of world.memory (address_of (transmit_ring world) world.adapter.transmit_ring.tail)).size
+  pub apart : All (λ area. AreApart area (data_of world.memory (address_of (transmit_ring world) world.adapter.transmit_ring.tail)))
+      (areas oldest_receive world)
+
+-- Then the conditions hold again, the slot is the last that is outstanding, and its frame, padded, is the last that is to be sent. Engines
+-- that could run still can, where the descriptor can be transmitted. What isn't the adapter's stays so, apart from the slot's status.
+pub record OfferedFrame (oldest_receive oldest_transmit : ℕ) (a b : World) : Type 0 where
+  pub sound : Sound oldest_receive oldest_transmit b
+  pub to_send : frames_to_send b ≡ frames_to_send a ++ frame_at true a.memory (address_of (transmit_ring a) a.adapter.transmit_ring.tail)
+      ∷ []
+  pub held : frames_held oldest_receive b ≡ frames_held oldest_receive a
+  pub finished_same : finished oldest_receive b ≡ finished oldest_receive a
+  pub written_same : written_back oldest_transmit b ≡ written_back oldest_transmit a
+  pub whole : AreWhole a.memory (finished oldest_receive a) → AreWhole b.memory (finished oldest_receive b)
+  pub fits : FitBuffers oldest_receive a → FitBuffers oldest_receive b
+  pub last : outstanding (transmit_ring b) oldest_transmit ≡ outstanding (transmit_ring a) oldest_transmit
+      ++ address_of (transmit_ring a) a.adapter.transmit_ring.tail ∷ []
+  pub runs : CanTransmit a.memory (address_of (transmit_ring a) a.adapter.transmit_ring.tail) → GoOn a b
+  pub foreign : (area : Area) → IsForeign a area → AreApart area (status_byte (address_of (transmit_ring a) a.adapter.transmit_ring.tail))
+      → IsForeign b area
+
+abbrev pub FramesCanBeOffered : Type 0
+FramesCanBeOffered =
+    (oldest_receive oldest_transmit : ℕ) (world : World) → Sound oldest_receive oldest_transmit world
+    → CanSend oldest_receive oldest_transmit world
+    → OfferedFrame oldest_receive oldest_transmit world (offering_frame world)

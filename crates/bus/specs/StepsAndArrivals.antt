@@ -1,0 +1,58 @@
+-- Adapter steps and deliveries as what may happen between two accesses.
+use Rattle.std.specs.Prelude.{ℕ, Bool, List}
+use Rattle.rx_engine.specs.Arriving.{kept}
+use Rattle.rx_engine.specs.declared.arrival.Fate.{Fate}
+use Rattle.rx_engine.specs.declared.arrival.Fate.TheVariants.{Off, Illegal, Filtered, Missed, Stored}
+use Rattle.adapter.specs.Outcomes.{put_by}
+use Rattle.adapter.specs.Receiving.{IsFate, after_arrive}
+use Rattle.adapter.specs.State.{IsAdapter}
+use Rattle.adapter.specs.Steps.{Answers, after_step, memory_after_step}
+use Rattle.adapter.specs.declared.step.StepKind.{StepKind}
+use Rattle.adapter.specs.declared.step.StepKind.TheVariants.{TxTake, TxPut, RxData, RxDone, EepromTick, PhyTick}
+use Rattle.adapter.specs.declared.step.Stepped.{Stepped}
+use Rattle.bus.specs.Law.{Happens}
+use Rattle.bus.specs.PastOfStretch.{Past, nothing}
+use Rattle.adapter.specs.World.{World}
+
+-- what happens in a step with this answer
+abbrev pub past_of_step : StepKind → Stepped → Past
+past_of_step TxTake answer = nothing
+past_of_step TxPut answer = record nothing { put = put_by answer }
+past_of_step RxData answer = nothing
+past_of_step RxDone answer = nothing
+past_of_step EepromTick answer = record nothing { eeprom_ticks = 1 }
+past_of_step PhyTick answer = record nothing { phy_ticks = 1 }
+
+abbrev pub world_after_step : StepKind → Stepped → World → World
+world_after_step kind answer world = record {
+  memory = memory_after_step kind answer world.memory world.adapter;
+  adapter = after_step kind answer world.memory world.adapter;
+}
+
+abbrev pub missed_by : Fate → ℕ
+missed_by Off = 0
+missed_by Illegal = 0
+missed_by Filtered = 0
+missed_by Missed = 1
+missed_by Stored = 0
+
+-- what happens where a frame with this fate arrives
+abbrev pub past_of_arrival : Fate → List ℕ → Past
+past_of_arrival fate frame = record nothing { stored = kept fate frame; missed = missed_by fate }
+
+abbrev pub world_after_arrival : Fate → List ℕ → World → World
+world_after_arrival fate frame world = record world { adapter = after_arrive fate frame world.adapter }
+
+-- Each step is one of the things that may happen.
+abbrev pub StepsHappen : Type 0
+StepsHappen =
+    (world : World) (kind : StepKind) (wire_free : Bool) (answer : Stepped)
+    → IsAdapter world.adapter → Answers kind wire_free world.memory world.adapter answer
+    → Happens world (world_after_step kind answer world) (past_of_step kind answer)
+
+-- Each delivery is.
+abbrev pub ArrivalsHappen : Type 0
+ArrivalsHappen =
+    (world : World) (fate : Fate) (frame : List ℕ)
+    → IsAdapter world.adapter → IsFate world.adapter frame fate
+    → Happens world (world_after_arrival fate frame world) (past_of_arrival fate frame)

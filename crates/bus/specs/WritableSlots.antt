@@ -1,0 +1,42 @@
+-- The driver's own slots, the one at the tail among them, can be written (own).
+use Rattle.std.specs.Prelude.{◌≤◌, ◌<◌, ℕ}
+use Rattle.dma_memory.specs.Areas.{descriptor_area}
+use Rattle.dma_memory.specs.HostMemory.{LiesIn}
+use Rattle.descriptors.specs.declared.ring.Ring.{Ring}
+use Rattle.descriptors.specs.Ring.{address_of, count_of, distance_of}
+use Rattle.adapter.specs.HostAreas.{IsForeign}
+use Rattle.adapter.specs.Conditions.{Sound}
+use Rattle.adapter.specs.World.{receive_ring, transmit_ring, World}
+use Rattle.bus.specs.DriversSlots.{IsDriversSlot}
+use Rattle.bus.specs.DriversStores.{IsDriversArea}
+
+-- A descriptor that a driver can write: it lies in memory, a store to it leaves what the law speaks of, and it isn't the adapter's.
+pub record CanBeWritten (oldest_receive oldest_transmit : ℕ) (world : World) (descriptor : ℕ) : Type 0 where
+  pub lies : LiesIn world.memory descriptor 16
+  pub own : IsDriversArea oldest_receive oldest_transmit world (descriptor_area descriptor)
+  pub foreign : IsForeign world (descriptor_area descriptor)
+
+-- Each slot of the receive ring that is the driver's own can be written,
+abbrev pub DriversReceiveSlotsCanBeWritten : Type 0
+DriversReceiveSlotsCanBeWritten =
+    (oldest_receive oldest_transmit slot : ℕ) (world : World)
+    → Sound oldest_receive oldest_transmit world → IsDriversSlot (receive_ring world) oldest_receive slot
+    → CanBeWritten oldest_receive oldest_transmit world (address_of (receive_ring world) slot)
+
+-- and each of the transmit ring.
+abbrev pub DriversTransmitSlotsCanBeWritten : Type 0
+DriversTransmitSlotsCanBeWritten =
+    (oldest_receive oldest_transmit slot : ℕ) (world : World)
+    → Sound oldest_receive oldest_transmit world → IsDriversSlot (transmit_ring world) oldest_transmit slot
+    → CanBeWritten oldest_receive oldest_transmit world (address_of (transmit_ring world) slot)
+
+-- The slots from the tail on up to the driver's oldest are its own: those that stand no nearer behind the oldest than the tail does.
+abbrev pub SlotsFromTailBelongToDriver : Type 0
+SlotsFromTailBelongToDriver =
+    (ring : Ring) (oldest slot : ℕ) → oldest < count_of ring → slot < count_of ring
+    → distance_of ring oldest ring.tail ≤ distance_of ring oldest slot → IsDriversSlot ring oldest slot
+
+-- So is the one at the tail.
+abbrev pub TailSlotsBelongToDriver : Type 0
+TailSlotsBelongToDriver =
+    (ring : Ring) (oldest : ℕ) → oldest < count_of ring → ring.tail < count_of ring → IsDriversSlot ring oldest ring.tail

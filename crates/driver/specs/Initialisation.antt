@@ -1,0 +1,135 @@
+-- What a driver does to bring its adapter up ("14.3 General Initialization", "14.4 Receive Initialization", "14.5 Transmit
+-- Initialization"; the order is own).
+use Rattle.std.specs.Prelude.{◌≡◌, ◌≤◌, ◌<◌, ◌+◌, ◌-◌, ◌*◌, ◌++◌, ℕ, false, List, [], ◌∷◌, Result, IfErr, IfOk, length}
+use Rattle.adapter.specs.declared.offsets.TheConstants.{RDBAL, RDT, TDBAL}
+use Rattle.registers.specs.Counting.{greatest_count}
+use Rattle.dma_memory.specs.Layout.{Counts}
+use Rattle.dma_memory.specs.Owners.{HaveSameNumbers}
+use Rattle.eeprom.specs.Image.{HasRightSum, address_bytes}
+use Rattle.rx_filter.specs.Addresses.{IsAddress}
+use Rattle.adapter.specs.HostFrames.{frames_held, frames_to_send}
+use Rattle.adapter.specs.Slots.{finished}
+use Rattle.adapter.specs.World.{World}
+use Rattle.bus.specs.Link.{HasLink}
+use Rattle.bus.specs.PastOfStretch.{Past}
+use Rattle.bus.specs.Settings.{settings_after_all, settings_of}
+use Rattle.bus.specs.declared.event.Access.{Access}
+use Rattle.bus.specs.declared.event.Access.TheVariants.{Writes}
+use Rattle.bring_up.specs.ClearedDescriptors.{clears, clears_from}
+use Rattle.bring_up.specs.Configuration.{vlans_of}
+use Rattle.bring_up.specs.ConfiguredAdapters.{AreWords, IsConfigured, names_vlans, writes_before_rings}
+use Rattle.bring_up.specs.Device.{IsErrorOf, IsErrorOfLively}
+use Rattle.bring_up.specs.DriverSteps.{accesses_of}
+use Rattle.bring_up.specs.FilterTables.{HasNumbers, numbers_of_groups}
+use Rattle.bring_up.specs.RestingRings.{HasReceiveRing}
+use Rattle.bring_up.specs.RingRegisters.{receive_writes, ring_writes, transmit_writes}
+use Rattle.bring_up.specs.WrittenRegisters.{mask_writes}
+use Rattle.bring_up.specs.declared.config.Config.{Config}
+use Rattle.bring_up.specs.declared.init_error.InitError.{InitError}
+use Rattle.bring_up.specs.declared.init_error.InitError.TheVariants.{Memory}
+use Rattle.bring_up.specs.declared.init_error.InitError.TheVariants as errors
+use Rattle.driver_law.specs.Accesses.{stores_from}
+use Rattle.driver_law.specs.DriverState.{DriverState, receive_slot, with_owners}
+use Rattle.driver_law.specs.Stretches.{HasNoForgottenWork, RanBy}
+use Rattle.driver_law.specs.ReadyDrivers.{Ready, ReadyWith}
+
+-- Its refusals.
+
+-- Want of memory, and a configuration that can't be had, come without an access; the others as of a device that isn't found.
+abbrev pub IsErrorOfInit : InitError → (image : List ℕ) (accesses : ℕ) → Type 0
+IsErrorOfInit Memory image accesses = accesses ≡ 0
+IsErrorOfInit errors.Config image accesses = accesses ≡ 0
+IsErrorOfInit error image accesses = IsErrorOf error image accesses
+
+-- An adapter isn't brought up.
+pub record Refuses {B : Type 0} (world : B → World) (happened : B → B → Past → Type 0) (lively : B → Type 0) (old new : B)
+    (error : InitError) : Type 0 where
+  pub past : Past
+  pub told : happened old new past
+  pub why : IsErrorOfInit error (world old).adapter.image (length past.accesses)
+  pub why_lively : lively old → IsErrorOfLively error (world old)
+
+-- Its steps.
+
+-- The device is found, its filter set up, and its receive ring with no slot offered.
+pub record HasFoundRing {B : Type 0} (world : B → World) (old new : B) (config : Config) : Type 0 where
+  pub sum : HasRightSum (world old).adapter.image
+  pub address : IsAddress (address_bytes (world old).adapter.image)
+  pub ring : HasReceiveRing config.rx (world new)
+  pub up : HasLink (world new)
+  -- the tables of the filter
+  pub groups : List ℕ
+  pub vlans : List ℕ
+  pub has_groups : HasNumbers groups (numbers_of_groups config.groups.items)
+  pub has_vlans : HasNumbers vlans (vlans_of config.vlans)
+  pub groups_are : AreWords groups
+  pub vlans_are : AreWords vlans
+  pub settings : settings_of (world new).adapter ≡ settings_after_all
+      (writes_before_rings config (address_bytes (world old).adapter.image) groups vlans ++ ring_writes RDBAL 0 (16 * config.rx))
+      (settings_of (world old).adapter)
+
+pub record FindsRing {B : Type 0} (world : B → World) (happened : B → B → Past → Type 0) (lively : B → Type 0) (old new : B)
+    (config : Config) (result : Result (Unit {0}) InitError) : Type 0 where
+  pub past : Past
+  pub told : happened old new past
+  pub found : IfOk result (λ done. HasFoundRing world old new config)
+  pub why : IfErr result (λ error. IsErrorOf error (world old).adapter.image (length past.accesses))
+  pub why_lively : lively old → IfErr result (λ error. IsErrorOfLively error (world old))
+
+-- The receive slots are stored, the last one cleared, and then all but that one offered.
+abbrev pub first_accesses : Counts → List ℕ → List Access
+first_accesses counts numbers =
+    stores_from counts 0 numbers ++ (clears (receive_slot (counts.rx - 1)) ∷ Writes RDT (counts.rx - 1) ∷ [])
+
+pub record OffersFirst {B : Type 0} (honest : B → Type 0) (world : B → World) (happened : B → B → Past → Type 0) (old new : B)
+    (d d' : DriverState) : Type 0 where
+  pub numbers : List ℕ
+  pub count : length numbers + 1 ≡ d.counts.rx
+  pub others : d' ≡ with_owners d numbers [] d'.pool []
+  pub pool : HaveSameNumbers d.pool (numbers ++ d'.pool)
+  pub ran : honest old → ReadyWith false d (world old) → RanBy false world happened (first_accesses d.counts numbers) old new d d' [] []
+
+-- The transmit descriptors are cleared, the ring set up, and TCTL written.
+abbrev pub transmit_accesses : Counts → List Access
+transmit_accesses counts =
+    clears_from (16 * counts.rx) counts.tx
+    ++ accesses_of (ring_writes TDBAL (16 * counts.rx) (16 * counts.tx) ++ transmit_writes)
+
+-- The whole.
+
+-- Some accesses, and then these.
+pub record EndsWith (accesses last : List Access) : Type 0 where
+  pub earlier : List Access
+  pub whole : accesses ≡ earlier ++ last
+
+-- An adapter is brought up. Frames count from the write of RCTL on.
+pub record Initialises {B : Type 0} (world : B → World) (happened : B → B → Past → Type 0) (old new : B) (config : Config)
+    (d : DriverState) : Type 0 where
+  -- up to the write of RCTL, and behind it
+  pub middle : B
+  pub first : Past
+  pub later : Past
+  pub told_first : happened old middle first
+  pub told_later : happened middle new later
+  -- The receive slots are stored and offered, RCTL is written; then the transmit side is set up, and the mask written.
+  pub ends : EndsWith first.accesses
+      (first_accesses d.counts d.buffers ++ accesses_of (receive_writes config.promiscuous (names_vlans config.vlans)))
+  pub accesses : later.accesses ≡ transmit_accesses d.counts ++ accesses_of mask_writes
+  -- The driver is ready, and no work is forgotten.
+  pub ready : Ready d (world new)
+  pub work : HasNoForgottenWork d (world new)
+  -- The frames held are those stored since RCTL was written; nothing was put since then, and nothing is to be sent.
+  pub held : frames_held d.oldest_receive (world new) ≡ later.stored
+  pub none_put : later.put ≡ []
+  pub none_to_send : frames_to_send (world new) ≡ []
+  -- MPC counts those missed since then, exactly while it doesn't stick.
+  pub missed_most : (world new).adapter.missed_packets ≤ later.missed
+  pub missed : (world new).adapter.missed_packets < greatest_count → (world new).adapter.missed_packets ≡ later.missed
+  -- The EEPROM's words have the right sum, and their first three are the address; the link is up.
+  pub sum : HasRightSum (world old).adapter.image
+  pub image : (world new).adapter.image ≡ (world old).adapter.image
+  pub configured : IsConfigured config (address_bytes (world old).adapter.image) (settings_of (world new).adapter)
+  pub up : HasLink (world new)
+  -- Where no frame was stored, no slot is finished, and RDH is 0.
+  pub none_finished : later.stored ≡ [] → finished d.oldest_receive (world new) ≡ []
+  pub head : later.stored ≡ [] → (world new).adapter.receive_ring.head ≡ 0

@@ -1,0 +1,53 @@
+-- How a driver keeps its state (own): the buffers of outstanding and staged receive slots stand in one queue, and the places behind the
+-- last slots are kept beside it.
+use Rattle.std.specs.Prelude.{◌≡◌, ◌≤◌, ◌<◌, ◌-◌, ◌++◌, ℕ, IsTrue, [], length, take, drop}
+use Rattle.registers.specs.Counting.{greatest_count}
+use Rattle.dma_memory.specs.Layout.{Counts}
+use Rattle.dma_memory.specs.Numbers.{Numbers}
+use Rattle.dma_memory.specs.Owners.{HasNoSecondOwner}
+use Rattle.circular_buffer.specs.Buffer.{Buffer}
+use Rattle.descriptors.specs.RingLaws.{place}
+use Rattle.driver_law.specs.DriverState.{DriverState}
+use Rattle.driver.specs.declared.driver.Driver.TheInside.{Inside}
+
+-- how many of the queue are outstanding
+abbrev pub offered_count : Inside → ℕ
+offered_count driver = length driver.buffers.items - driver.staged
+
+abbrev pub state_of : Inside → DriverState
+state_of driver = record {
+  counts = driver.layout;
+  oldest_receive = driver.oldest_receive;
+  buffers = take (offered_count driver) driver.buffers.items;
+  staged = drop (offered_count driver) driver.buffers.items;
+  pool = driver.pool.free;
+  handed_out = [];
+  oldest_transmit = driver.oldest_transmit;
+  sending = driver.sending;
+  missed = driver.missed;
+  exact = driver.exact;
+  bad = driver.bad;
+}
+
+-- The receive side.
+pub record IsReceiving (counts : Counts) (oldest next staged : ℕ) (queue : Buffer ℕ) (pool : Numbers) : Type 0 where
+  pub oldest_slot : oldest < counts.rx
+  pub room : length queue.items < counts.rx
+  pub next_slot : next ≡ place counts.rx oldest (length queue.items)
+  pub capacity : queue.capacity ≡ counts.rx
+  pub some_staged : staged ≤ length queue.items
+  pub buffers : pool.buffers ≡ counts.buffers
+  -- no buffer has two owners
+  pub owners : HasNoSecondOwner counts.buffers (pool.free ++ queue.items)
+
+-- The transmit side.
+pub record IsSending (counts : Counts) (oldest next sending : ℕ) : Type 0 where
+  pub oldest_slot : oldest < counts.tx
+  pub room : sending < counts.tx
+  pub next_slot : next ≡ place counts.tx oldest sending
+
+pub record IsConsistent (driver : Inside) : Type 0 where
+  pub receives : IsReceiving driver.layout driver.oldest_receive driver.next_receive driver.staged driver.buffers driver.pool
+  pub sends : IsSending driver.layout driver.oldest_transmit driver.next_transmit driver.sending
+  -- the sum of misses is exact wherever it is below the greatest value of MPC
+  pub sums : driver.missed < greatest_count → IsTrue driver.exact

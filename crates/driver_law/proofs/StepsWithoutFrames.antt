@@ -1,0 +1,50 @@
+-- A step of a driver by which no frame comes or goes.
+use Rattle.std.proofs.Common.{Bool, IsTrue, ◌≡◌, ◌+◌, [], ℕ, length, inl, sym, ap, subst, ◌∙◌, arith}
+use Rattle.std.proofs.lemmas.List.{append-nil}
+use Rattle.registers.specs.Bits.{HasBit}
+use Rattle.adapter.specs.HostFrames.{frames_held, frames_to_send}
+use Rattle.adapter.specs.Slots.{finished, written_back}
+use Rattle.adapter.specs.World.{World}
+use Rattle.bus.specs.PastOfStretch.{nothing}
+use Rattle.driver_law.specs.DriverState.{DriverState}
+use Rattle.driver_law.specs.Stretches.{GoesTo}
+use Rattle.driver_law.specs.ReadyDrivers.{ReadyWith}
+
+-- Frames, finished slots, causes and counts are the same; slots are freed where they were written back.
+pub record Rests (driver : DriverState) (a : World) (driver' : DriverState) (b : World) : Type 0 where
+  pub counts : driver'.counts ≡ driver.counts
+  pub missed : driver'.missed ≡ driver.missed
+  pub exact : driver'.exact ≡ driver.exact
+  pub to_send : frames_to_send b ≡ frames_to_send a
+  pub held : frames_held driver'.oldest_receive b ≡ frames_held driver.oldest_receive a
+  pub finished_same : finished driver'.oldest_receive b ≡ finished driver.oldest_receive a
+  pub frees : length (written_back driver.oldest_transmit a) + driver'.sending ≡ driver.sending
+      + length (written_back driver'.oldest_transmit b)
+  pub mask : b.adapter.causes.mask ≡ a.adapter.causes.mask
+  pub recorded : b.adapter.causes.recorded ≡ a.adapter.causes.recorded
+  pub missed_packets : b.adapter.missed_packets ≡ a.adapter.missed_packets
+
+pub goes-rests : {up : Bool} (driver : DriverState) (a : World) (driver' : DriverState) (b : World) → ReadyWith up driver' b
+    → Rests driver a driver' b → GoesTo up driver a driver' b [] [] nothing
+goes-rests {up} driver a driver' b ready rests = record {
+  flows = record {
+    ready = ready;
+    counts = rests.counts;
+    sends = rests.to_send ∙ sym (append-nil (frames_to_send a));
+    holds = rests.held ∙ sym (append-nil (frames_held driver.oldest_receive a));
+    least = omega (arith, ap length rests.finished_same);
+    frees = omega (arith, rests.frees);
+    mask = rests.mask;
+    sum = omega (arith, rests.missed);
+    counted = λ fits low. omega (arith, rests.missed, rests.missed_packets);
+    at_most = omega (arith, rests.missed, rests.missed_packets);
+    exactly = λ exact below_greatest. record {
+      exact = subst IsTrue rests.exact exact;
+      below_greatest = omega (arith, below_greatest, rests.missed_packets);
+      sum = omega
+          (arith, rests.missed, rests.missed_packets);
+    };
+  };
+  causes = λ place has. subst (λ (causes : ℕ). HasBit causes place) (sym rests.recorded) has;
+  told = inl (omega (arith, ap length rests.finished_same));
+}

@@ -1,0 +1,95 @@
+-- What a driver knows of its adapter and its memory whenever it does nothing, and what it rests on (own).
+use Rattle.std.specs.Prelude.{⊤, ◌≡◌, ◌≤◌, ◌<◌, ◌+◌, ◌*◌, ◌%◌, ◌^◌, ℕ, Bool, true, false, List, [], ◌∷◌, All, map, length}
+use Rattle.descriptors.specs.Frames.{longest_frame}
+use Rattle.registers.specs.Bits.{HasBit}
+use Rattle.dma_memory.specs.Areas.{IsInside}
+use Rattle.dma_memory.specs.HostMemory.{bytes_at}
+use Rattle.dma_memory.specs.Layout.{Counts, TransmitBuffer, area_of, buffer_bytes, size_of}
+use Rattle.dma_memory.specs.Owners.{HasOneOwner}
+use Rattle.descriptors.specs.declared.ring.Ring.{Ring}
+use Rattle.descriptors.specs.Ring.{count_of, slots_from}
+use Rattle.descriptors.specs.RingLaws.{place}
+use Rattle.descriptors.specs.RxDesc.{rx_desc_bytes}
+use Rattle.descriptors.specs.RxStatus.{status_of}
+use Rattle.registers.specs.Places.{tctl_psp}
+use Rattle.rx_engine.specs.Descriptors.{named_address}
+use Rattle.tx_engine.specs.Transmitter.{Queued}
+use Rattle.adapter.specs.Conditions.{AreWhole, FitBuffers, Sound}
+use Rattle.adapter.specs.HostAreas.{buffer_size, data_of}
+use Rattle.adapter.specs.KnownRing.{KnowsRing}
+use Rattle.adapter.specs.Running.{CanRun}
+use Rattle.adapter.specs.Slots.{finished, outstanding}
+use Rattle.adapter.specs.World.{World, receive_ring, transmit_ring}
+use Rattle.driver_law.specs.DriverState.{DriverState, HandedOut, buffer_at, owners, receive_slot, receive_tail, transmit_slot}
+
+-- What the driver's own state always is: one slot at least isn't outstanding, and each buffer has one owner.
+pub record IsDriver (driver : DriverState) : Type 0 where
+  pub oldest_slot : driver.oldest_receive < driver.counts.rx
+  pub room : length driver.buffers + length driver.staged < driver.counts.rx
+  pub one_owner : HasOneOwner driver.counts.buffers (owners driver)
+  pub addresses : size_of driver.counts < 2 ^ 64
+
+-- The receive side.
+
+-- a receive descriptor that names a buffer, and is else 0
+abbrev pub empty_descriptor : ℕ → List ℕ
+empty_descriptor buffer = rx_desc_bytes
+    (record { address = buffer; length = 0; checksum = 0; status = status_of 0; errors = 0; special = 0 })
+
+-- The slots from a place on have such descriptors, of these buffers.
+abbrev pub AreStored : List ℕ → Counts → ℕ → List ℕ → Type 0
+AreStored memory counts slot [] = ⊤
+AreStored memory counts slot (number ∷ later) =
+    (bytes_at memory (receive_slot slot) 16 ≡ empty_descriptor (buffer_at counts number))
+    × AreStored memory counts ((slot + 1) % counts.rx) later
+
+-- A frame that was handed out stands in its buffer.
+pub record Stands (counts : Counts) (memory : List ℕ) (one : HandedOut) : Type 0 where
+  pub bytes : bytes_at memory (buffer_at counts one.number) (length one.frame) ≡ one.frame
+  pub short : length one.frame ≤ longest_frame
+
+-- The transmit side is set up: the driver knows its ring, and the data of each outstanding slot stands in that slot's own buffer.
+pub record TransmitIsUp (counts : Counts) (oldest sending : ℕ) (memory : List ℕ) (ring : Ring) (control : ℕ) : Type 0 where
+  pub oldest_slot : oldest < counts.tx
+  pub room : sending < counts.tx
+  -- TCTL.PSP
+  pub pads : HasBit control tctl_psp
+  pub knows : KnowsRing ring (16 * counts.rx) counts.tx (place counts.tx oldest sending)
+  pub sources : All (λ slot. IsInside (data_of memory (transmit_slot counts slot)) (area_of counts (TransmitBuffer slot)))
+      (slots_from counts.tx oldest sending)
+
+-- The transmit side isn't set up yet, as in initialisation: its ring ends before the buffers, nothing of it is outstanding, and no frame
+-- is in the packet buffer.
+pub record TransmitIsOff (counts : Counts) (oldest sending : ℕ) (ring : Ring) (buffer : List Queued) : Type 0 where
+  pub ends : ring.base + 16 * count_of ring ≤ 16 * counts.rx + 16 * counts.tx
+  pub idle : ring.head ≡ ring.tail
+  pub last : ring.tail ≡ oldest
+  pub nothing : sending ≡ 0
+  pub empty : buffer ≡ []
+
+-- the one or the other
+abbrev pub TransmitIs : Bool → Counts → ℕ → ℕ → List ℕ → Ring → ℕ → List Queued → Type 0
+TransmitIs true counts oldest sending memory ring control buffer = TransmitIsUp counts oldest sending memory ring control
+TransmitIs false counts oldest sending memory ring control buffer = TransmitIsOff counts oldest sending ring buffer
+
+-- The driver is ready, with its transmit side set up or off.
+pub record ReadyWith (up : Bool) (driver : DriverState) (world : World) : Type 0 where
+  pub driver_is : IsDriver driver
+  -- the conditions of the law, and engines that can run
+  pub sound : Sound driver.oldest_receive driver.oldest_transmit world
+  pub runs : CanRun world
+  pub fit : FitBuffers driver.oldest_receive world
+  pub whole : AreWhole world.memory (finished driver.oldest_receive world)
+  pub lies : size_of driver.counts ≤ length world.memory
+  pub size : buffer_size world ≡ buffer_bytes
+  pub receive : KnowsRing (receive_ring world) 0 driver.counts.rx (receive_tail driver)
+  pub transmit : TransmitIs up driver.counts driver.oldest_transmit driver.sending world.memory
+      (transmit_ring world) world.adapter.transmit_control world.adapter.transmitter.buffer
+  -- Each outstanding slot names the buffer that the driver has for it.
+  pub names : map (named_address world.memory) (outstanding (receive_ring world) driver.oldest_receive) ≡ map
+      (buffer_at driver.counts) driver.buffers
+  pub stored : AreStored world.memory driver.counts (receive_tail driver) driver.staged
+  pub stand : All (Stands driver.counts world.memory) driver.handed_out
+
+abbrev pub Ready : DriverState → World → Type 0
+Ready = ReadyWith true

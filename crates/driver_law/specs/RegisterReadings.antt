@@ -1,0 +1,60 @@
+-- What a driver's read of a register leaves of what it knows (own).
+use Rattle.std.specs.Prelude.{◌≡◌, ◌≢◌, ◌<◌, ◌+◌, ◌-◌, ◌^◌, ◌&&◌, ℕ, Bool, [], ◌∷◌, min, nat_lt}
+use Rattle.registers.specs.Bits.{HasBit}
+use Rattle.registers.specs.Counting.{greatest_count}
+use Rattle.adapter.specs.declared.offsets.TheConstants.{ICR, MPC}
+use Rattle.adapter.specs.Registers.{answer_at}
+use Rattle.adapter.specs.World.{World, world_after_read}
+use Rattle.bus.specs.Link.{KeepsLink}
+use Rattle.bus.specs.PastOfStretch.{Past, nothing}
+use Rattle.bus.specs.Settings.{AreSet, WhileOff}
+use Rattle.bus.specs.declared.event.Access.TheVariants.{Reads}
+use Rattle.driver_law.specs.DriverState.{DriverState}
+use Rattle.driver_law.specs.Stretches.{FlowsTo, GoesTo, HasNoForgottenWork}
+use Rattle.driver_law.specs.ReadyDrivers.{ReadyWith}
+use Rattle.registers.specs.Places.{rxt0}
+
+-- whether a value that was read of MPC can be added without a loss: MPC didn't stick at it, and the sum doesn't
+abbrev pub adds_exactly : (missed value : ℕ) → Bool
+adds_exactly missed value = nat_lt value greatest_count && nat_lt (missed + value) (2 ^ 64)
+
+-- the driver with what it read of MPC added to its sum, which stays at the greatest u64
+abbrev pub with_missed : ℕ → DriverState → DriverState
+with_missed value driver = record driver
+    { missed = min (driver.missed + value) (2 ^ 64 - 1); exact = driver.exact && adds_exactly driver.missed value }
+
+-- MPC is read, and what it held is added to the driver's sum.
+abbrev pub MissesAreRead : Type 0
+MissesAreRead =
+    (up : Bool) (driver : DriverState) (world : World) → driver.missed < 2 ^ 64 → ReadyWith up driver world
+    → GoesTo up driver world (with_missed (answer_at MPC world.adapter) driver) (world_after_read MPC world) [] [] nothing
+
+-- ICR was read: no cause is recorded behind it, and else nothing has changed.
+pub record CausesRead (up : Bool) (driver : DriverState) (a b : World) : Type 0 where
+  pub flows : FlowsTo up driver a driver b [] [] nothing
+  pub cleared : b.adapter.causes.recorded ≡ 0
+
+abbrev pub CausesAreRead : Type 0
+CausesAreRead =
+    (up : Bool) (driver : DriverState) (world : World) → ReadyWith up driver world
+    → CausesRead up driver world (world_after_read ICR world)
+
+-- ICR was read over a bus, by this access alone.
+pub record ReadsCauses (up : Bool) {B : Type 0} (world : B → World) (happened : B → B → Past → Type 0) (old new : B) (driver : DriverState)
+    (causes : ℕ) : Type 0 where
+  pub past : Past
+  pub told : happened old new past
+  pub only : past.accesses ≡ Reads ICR causes ∷ []
+  pub flows : FlowsTo up driver (world old) driver (world new) [] [] past
+  pub cleared : (world new).adapter.causes.recorded ≡ 0
+  -- No work is forgotten where RXT0, bit 7, wasn't read.
+  pub work : ¬ HasBit causes rxt0 → HasNoForgottenWork driver (world old) → HasNoForgottenWork driver (world new)
+  pub set : AreSet (world old) (world new) past
+  pub off : WhileOff (world old) past
+  pub link : KeepsLink (world old) (world new) past
+
+-- Any other register is read, and nothing changes that a driver knows.
+abbrev pub OthersAreRead : Type 0
+OthersAreRead =
+    (up : Bool) (driver : DriverState) (offset : ℕ) (world : World) → offset ≢ ICR → offset ≢ MPC → ReadyWith up driver world
+    → GoesTo up driver world driver (world_after_read offset world) [] [] nothing

@@ -1,0 +1,163 @@
+-- The steps of a driver's transmit side (own).
+use Rattle.std.specs.Prelude.{⊤, ◌≡◌, ◌≤◌, ◌<◌, ◌+◌, ◌-◌, ◌%◌, ◌⊎◌, ◌++◌, ℕ, true, false, List, [], ◌∷◌, All, length, map}
+use Rattle.adapter.specs.declared.offsets.TheConstants.{TDT}
+use Rattle.dma_memory.specs.Areas.{bytes_in}
+use Rattle.dma_memory.specs.HostMemory.{bytes_at}
+use Rattle.dma_memory.specs.Layout.{Counts, TransmitBuffer, area_of, buffer_bytes, descriptor_bytes, start_of}
+use Rattle.descriptors.specs.Frames.{longest_frame, padded, shortest_sent}
+use Rattle.descriptors.specs.Ring.{slots_from}
+use Rattle.descriptors.specs.TxDesc.{tx_desc_bytes}
+use Rattle.descriptors.specs.TxFields.{command_of, sent_of}
+use Rattle.adapter.specs.HostFrames.{frames_to_send}
+use Rattle.adapter.specs.Slots.{is_done, written_back}
+use Rattle.adapter.specs.World.{World, transmit_ring, world_after_store, world_after_write}
+use Rattle.bus.specs.Law.{Happens}
+use Rattle.bus.specs.SlotOffers.{offering_frame}
+use Rattle.bus.specs.DriversSlots.{IsDriversSlot}
+use Rattle.bus.specs.PastOfStretch.{Past, nothing}
+use Rattle.bus.specs.declared.event.Access.{Access}
+use Rattle.bus.specs.declared.event.Access.TheVariants.{Loads, Stores, Writes}
+use Rattle.driver_law.specs.DriverState.{DriverState, transmit_slot, transmit_tail}
+use Rattle.driver_law.specs.Stretches.{Goes}
+use Rattle.driver_law.specs.ReadyDrivers.{Ready}
+
+-- the buffer of a transmit slot
+abbrev pub transmit_buffer : Counts → ℕ → ℕ
+transmit_buffer counts slot = start_of counts (TransmitBuffer slot)
+
+-- the descriptor and the buffer of the slot at the tail
+abbrev pub tail_slot : DriverState → ℕ
+tail_slot driver = transmit_slot driver.counts (transmit_tail driver)
+
+abbrev pub tail_buffer : DriverState → ℕ
+tail_buffer driver = transmit_buffer driver.counts (transmit_tail driver)
+
+-- the descriptor of the oldest outstanding slot
+abbrev pub oldest_slot : DriverState → ℕ
+oldest_slot driver = transmit_slot driver.counts driver.oldest_transmit
+
+-- a transmit descriptor that names so many bytes at an address, as a whole packet (EOP) with a check sequence (IFCS), and asks for a report
+-- (RS)
+abbrev pub whole_descriptor : (address size : ℕ) → List ℕ
+whole_descriptor address size = tx_desc_bytes (record {
+  address = address;
+  length = size;
+  cso = 0;
+  command = command_of 0x0B;
+  status = sent_of 0;
+  css = 0;
+  special = 0;
+})
+
+-- A slot that isn't outstanding.
+
+abbrev pub IsDriversTransmitSlot : DriverState → ℕ → World → Type 0
+IsDriversTransmitSlot driver slot world = IsDriversSlot (transmit_ring world) driver.oldest_transmit slot
+
+-- Such is the one at the tail.
+abbrev pub NextSlotBelongsToDriver : Type 0
+NextSlotBelongsToDriver =
+    (driver : DriverState) (world : World) → Ready driver world → IsDriversTransmitSlot driver (transmit_tail driver) world
+
+-- Data is stored into its buffer,
+abbrev pub DataIsStored : Type 0
+DataIsStored =
+    (driver : DriverState) (slot : ℕ) (bytes : List ℕ) (world : World) → Ready driver world → IsDriversTransmitSlot driver slot world
+    → length bytes ≤ buffer_bytes
+    → Goes driver world driver (world_after_store (transmit_buffer driver.counts slot) bytes world) [] [] nothing
+
+-- or its descriptor is stored.
+abbrev pub DescriptorIsStored : Type 0
+DescriptorIsStored =
+    (driver : DriverState) (slot : ℕ) (bytes : List ℕ) (world : World) → Ready driver world → IsDriversTransmitSlot driver slot world
+    → length bytes ≡ descriptor_bytes
+    → Goes driver world driver (world_after_store (transmit_slot driver.counts slot) bytes world) [] [] nothing
+
+-- Its buffer and its descriptor have the same bytes in both worlds.
+pub record SameSlot (counts : Counts) (slot : ℕ) (a b : World) : Type 0 where
+  pub data_same : bytes_in b.memory (area_of counts (TransmitBuffer slot)) ≡ bytes_in a.memory (area_of counts (TransmitBuffer slot))
+  pub descriptor_same : bytes_at b.memory (transmit_slot counts slot) 16 ≡ bytes_at a.memory (transmit_slot counts slot) 16
+
+-- So it is whatever happens.
+abbrev pub SlotsKeepBytes : Type 0
+SlotsKeepBytes =
+    (driver : DriverState) (slot : ℕ) (a b : World) (past : Past) → Ready driver a → IsDriversTransmitSlot driver slot a → Happens a b past
+    → SameSlot driver.counts slot a b
+
+-- A frame is sent.
+
+-- The slot at the tail has it: the frame in its buffer, and a descriptor that names that.
+pub record FrameStands (driver : DriverState) (frame : List ℕ) (world : World) : Type 0 where
+  pub bytes : bytes_at world.memory (tail_buffer driver) (length frame) ≡ frame
+  pub descriptor : bytes_at world.memory (tail_slot driver) 16 ≡ whole_descriptor (tail_buffer driver) (length frame)
+
+-- A write of TDT with the place behind the tail moves it on by one:
+abbrev pub TailIsMoved : Type 0
+TailIsMoved =
+    (driver : DriverState) (world : World) → Ready driver world
+    → world_after_write TDT ((transmit_tail driver + 1) % driver.counts.tx) world ≡ offering_frame world
+
+-- the frame, padded, is the last that is to be sent.
+abbrev pub FrameIsOffered : Type 0
+FrameIsOffered =
+    (driver : DriverState) (frame : List ℕ) (world : World) → Ready driver world → driver.sending + 1 < driver.counts.tx
+    → shortest_sent ≤ length frame → length frame ≤ longest_frame → FrameStands driver frame world
+    → Goes driver world (record driver { sending = driver.sending + 1 }) (offering_frame world) [] (padded frame ∷ []) nothing
+
+-- A slot is freed.
+
+abbrev pub with_freed : DriverState → DriverState
+with_freed driver = record driver { oldest_transmit = (driver.oldest_transmit + 1) % driver.counts.tx; sending = driver.sending - 1 }
+
+-- The oldest one is, where it is done.
+abbrev pub SlotIsFreed : Type 0
+SlotIsFreed =
+    (driver : DriverState) (world : World) → Ready driver world → 0 < driver.sending → is_done world.memory (oldest_slot driver) ≡ true
+    → Goes driver world (with_freed driver) world [] [] nothing
+
+-- Where it isn't, or none is outstanding, none is written back.
+abbrev pub NoneIsWrittenBack : Type 0
+NoneIsWrittenBack =
+    (driver : DriverState) (world : World) → Ready driver world
+    → (driver.sending ≡ 0) ⊎ (is_done world.memory (oldest_slot driver) ≡ false) → written_back driver.oldest_transmit world ≡ []
+
+-- Each outstanding slot has a frame that is still to be sent, or is written back; and one slot at least isn't outstanding. So never more
+-- frames are to be sent than the ring has slots less one.
+pub record HasFrames (driver : DriverState) (world : World) : Type 0 where
+  pub count : length (frames_to_send world) + length (written_back driver.oldest_transmit world) ≡ driver.sending
+  pub most : length (frames_to_send world) + 1 ≤ driver.counts.tx
+
+abbrev pub SlotsHaveFrames : Type 0
+SlotsHaveFrames = (driver : DriverState) (world : World) → Ready driver world → HasFrames driver world
+
+-- Over a bus.
+
+-- The descriptors of so many slots are loaded, from a place on.
+abbrev pub transmit_loads : Counts → (oldest : ℕ) → ℕ → List Access
+transmit_loads counts oldest k = map (λ slot. Loads (transmit_slot counts slot) 16) (slots_from counts.tx oldest k)
+
+-- A frame is sent by the slot at the tail: its bytes are stored, then the descriptor, and then TDT written.
+abbrev pub send_accesses : DriverState → List ℕ → List Access
+send_accesses driver frame =
+    Stores (tail_buffer driver) frame
+    ∷ Stores (tail_slot driver) (whole_descriptor (tail_buffer driver) (length frame))
+    ∷ Writes TDT ((transmit_tail driver + 1) % driver.counts.tx) ∷ []
+
+-- loads and stores, by which no register changes
+abbrev pub IsLoadOrStore : Access → Type 0
+IsLoadOrStore (Loads address size) = ⊤
+IsLoadOrStore (Stores address bytes) = ⊤
+IsLoadOrStore access = ⊥
+
+-- Loads and stores, and then a write of TDT.
+pub record EndsWithTail (accesses : List Access) (slot : ℕ) : Type 0 where
+  pub quiet : List Access
+  pub all : All IsLoadOrStore quiet
+  pub whole : accesses ≡ quiet ++ Writes TDT slot ∷ []
+
+-- Such is the sending of a frame behind loads of descriptors.
+abbrev pub SendsEndWithTail : Type 0
+SendsEndWithTail =
+    (driver : DriverState) (frame : List ℕ) (k : ℕ)
+    → EndsWithTail (transmit_loads driver.counts driver.oldest_transmit k ++ send_accesses driver frame)
+    ((transmit_tail driver + 1) % driver.counts.tx)

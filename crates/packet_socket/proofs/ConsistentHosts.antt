@@ -1,0 +1,245 @@
+-- A host stays consistent in its calls, over any bus.
+use Rattle.std.proofs.Common.{◌≡◌, ◌+◌, ◌<◌, ◌≤◌, ◌++◌, ◌∷◌, [], ℕ, Bool, cond, List, length, map, replicate, refl, sym, ap, subst, ◌∙◌}
+use Rattle.std.proofs.Common.{length-append, arith}
+use Rattle.std.specs.List.{All, filter, slice_set}
+use Rattle.std.specs.List.Sorted.{IsPermutation}
+use Rattle.std.proofs.lemmas.List.{append-nil, length-map, length-replicate, length-set, map-append}
+use Rattle.std.proofs.lemmas.List.Elements.{All-append, All-filter}
+use Rattle.std.proofs.lemmas.List.Sorted.{All-permutation, IsPermutation-map, length_permutation, sum_by-IsPermutation}
+use Rattle.dma_memory.specs.Owners.{HasNoSecondOwner, HaveSameNumbers, copies}
+use Rattle.dma_memory.specs.OwnersLaws.{copies-append, copies-cons, copies-itself, if_same, known_from_no_second, length-no_second}
+use Rattle.dma_memory.specs.OwnersLaws.{once_from_no_second}
+use Rattle.dma_memory.specs.Layout.{Counts}
+use Rattle.adapter.specs.World.{World}
+use Rattle.bus.proofs.Lists.{all-head, all-none, all-right, all-without}
+use Rattle.driver_law.specs.DriverState.{DriverState, HandedOut, holding, owners}
+use Rattle.driver_law.specs.ReadyDrivers.{ReadyWith}
+use Rattle.driver.specs.HandlerSteps.{OnNotMine, OnTaken}
+use Rattle.driver.specs.TakenFrames.{AreFrames, IsFrameSize, ShowsAll, buffers_of}
+use Rattle.driver.specs.declared.interrupt.Handled.{Handled}
+use Rattle.driver.specs.declared.interrupt.Handled.TheVariants.{NotMine}
+use Rattle.driver.specs.declared.interrupt.Handled.TheVariants as answers
+use Rattle.driver.specs.declared.receiver.Received.{Received}
+use Rattle.packet_socket.specs.HostCalls.{SortsAll}
+use Rattle.packet_socket.specs.HeldFrames.{HostReadyWith, driver_of, waiting_entry}
+use Rattle.packet_socket.specs.InsideHost.{IsHost, host_with}
+use Rattle.packet_socket.specs.SocketKinds.{has_socket}
+use Rattle.packet_socket.specs.SocketsState.{Queues, SocketsState, Sorts, all_of, queue_at}
+use Rattle.packet_socket.specs.declared.socket_kind.SocketKind.{SocketKind}
+use Rattle.packet_socket.proofs.QueueParts.{Splits, none-wait, splits}
+
+-- The oldest entry of a queue that was there.
+pub entry-splits : (driver : DriverState) (before after : SocketsState) (socket count : ℕ) (received : Received) → IsHost driver before
+    → socket < count → count ≡ length before.kinds
+    → queue_at before.queues socket ≡ received ∷ queue_at after.queues socket
+    → Splits before.queues socket received (queue_at after.queues socket)
+entry-splits driver before after socket count received host below size is = splits before.queues socket received
+    (queue_at after.queues socket) (omega (arith, below, size, host.count)) is
+
+-- A buffer of a queue.
+
+pub record CanComeBack (driver : DriverState) (received : Received) : Type 0 where
+  pub known : received.buffer < driver.counts.buffers
+  pub out : copies received.buffer (owners driver) ≡ 0
+  pub size : IsFrameSize received.length
+
+-- What is in the middle of a list.
+middle-copies : (k : ℕ) (first last : List Received) (received : Received)
+    → copies k (buffers_of (first ++ received ∷ last)) ≡ copies k (received.buffer ∷ []) + copies k (buffers_of (first ++ last))
+middle-copies k first last received =
+    let of : Received → ℕ = λ r. r.buffer in
+    omega (
+      arith,
+      ap (copies k) (map-append of first (received ∷ last)),
+      copies-append k (buffers_of first) (received.buffer ∷ buffers_of last),
+      copies-cons k received.buffer (buffers_of last),
+      copies-cons k received.buffer [],
+      ap (copies k) (map-append of first last),
+      copies-append k (buffers_of first) (buffers_of last),
+    )
+
+pub can-come-back : (driver : DriverState) (sockets : SocketsState) (socket : ℕ) (received : Received) (later : List Received)
+    → IsHost driver sockets
+    → Splits sockets.queues socket received later → CanComeBack driver received
+can-come-back driver sockets socket received later host parts =
+    let k = received.buffer in
+    let all = owners driver ++ buffers_of (all_of sockets.queues) in
+    let n = driver.counts.buffers in
+    let sum : copies k all ≡ copies k (owners driver) + (1 + copies k (buffers_of (parts.first ++ parts.last))) =
+    omega (
+      arith,
+      copies-append k (owners driver) (buffers_of (all_of sockets.queues)),
+      ap (λ (list : List Received). copies k (buffers_of list)) parts.before,
+      middle-copies k parts.first parts.last received,
+      copies-itself k [],
+    ) in
+    let frames : AreFrames (received ∷ parts.last) =
+    all-right (λ (r : Received). IsFrameSize r.length) parts.first (received ∷ parts.last) (subst AreFrames parts.before host.sizes) in
+    record {
+      known = known_from_no_second n k all host.owners (omega (arith, sum));
+      out = omega (arith, sum, once_from_no_second n k all host.owners);
+      size = all-head (λ (r : Received). IsFrameSize r.length) received parts.last frames;
+    }
+
+-- It comes back.
+pub stays-host : (driver driver' : DriverState) (before after : SocketsState) (socket : ℕ) (received : Received) → IsHost driver before
+    → (parts : Splits before.queues socket received (queue_at after.queues socket))
+    → after ≡ record before { queues = slice_set before.queues socket (queue_at after.queues socket) }
+    → driver'.counts ≡ driver.counts → HaveSameNumbers (received.buffer ∷ owners driver) (owners driver') → IsHost driver' after
+stays-host driver driver' before after socket received host parts others counts numbers =
+    let left : all_of after.queues ≡ parts.first ++ parts.last = ap (λ (s : SocketsState). all_of s.queues) others ∙ parts.behind in
+    record {
+      room = ap (λ (s : SocketsState). s.room) others ∙ host.room ∙ ap (λ (c : Counts). c.buffers) (sym counts);
+      count =
+          ap (λ (s : SocketsState). length s.queues) others
+          ∙ length-set before.queues socket (queue_at after.queues socket)
+          ∙ host.count
+          ∙ ap (λ (s : SocketsState). length s.kinds) (sym others);
+      owners = subst (λ (c : Counts). HasNoSecondOwner c.buffers (owners driver' ++ buffers_of (all_of after.queues))) (sym counts) (λ k.
+          omega (
+            arith,
+            host.owners k,
+            numbers k,
+            copies-append k (owners driver) (buffers_of (all_of before.queues)),
+            copies-append k (owners driver') (buffers_of (all_of after.queues)),
+            copies-cons k received.buffer (owners driver),
+            copies-cons k received.buffer [],
+            ap (λ (list : List Received). copies k (buffers_of list)) parts.before,
+            ap (λ (list : List Received). copies k (buffers_of list)) left,
+            middle-copies k parts.first parts.last received,
+          ));
+      sizes = subst AreFrames (sym left)
+          (all-without (λ (r : Received). IsFrameSize r.length) parts.first received parts.last (subst AreFrames parts.before host.sizes));
+    }
+
+-- Frames were shown to the sockets.
+
+pub kept-are-frames : (before after : SocketsState) (shown kept : List Received) → Sorts before after shown kept → AreFrames shown
+    → AreFrames kept
+kept-are-frames before after shown kept sorts sizes =
+    subst AreFrames (sym sorts.claimed)
+    (All-filter (λ (r : Received). has_socket before.kinds r.ether_type) (λ (r : Received). IsFrameSize r.length) shown sizes)
+
+-- How often a number stands in the queues, with those that were kept.
+pub kept-copies : (k : ℕ) (kinds : List SocketKind) (before after : List (List Received)) (kept : List Received)
+    → Queues kinds before after kept
+    → copies k (buffers_of (all_of after)) ≡ copies k (buffers_of (all_of before)) + copies k (buffers_of kept)
+kept-copies k kinds before after kept queues =
+    let of : Received → ℕ = λ r. r.buffer in
+    sum_by-IsPermutation (if_same k) (buffers_of (all_of before ++ kept)) (buffers_of (all_of after))
+    (IsPermutation-map of (all_of before ++ kept) (all_of after) queues.all)
+    ∙ ap (copies k) (map-append of (all_of before) kept)
+    ∙ copies-append k (buffers_of (all_of before)) (buffers_of kept)
+
+-- There is room for all that was kept.
+pub has-room : (driver driver' : DriverState) (before : SocketsState) (kept : List Received) → IsHost driver before
+    → HaveSameNumbers (owners driver) (owners driver' ++ buffers_of kept) → length (all_of before.queues) + length kept ≤ before.room
+has-room driver driver' before kept host numbers =
+    let of : Received → ℕ = λ r. r.buffer in
+    let waiting = buffers_of (all_of before.queues) in
+    let once : HasNoSecondOwner driver.counts.buffers (waiting ++ buffers_of kept) = λ k.
+    omega (
+      arith,
+      host.owners k,
+      numbers k,
+      copies-append k (owners driver) waiting,
+      copies-append k (owners driver') (buffers_of kept),
+      copies-append k waiting (buffers_of kept),
+    ) in
+    omega (
+      arith,
+      length-no_second driver.counts.buffers (waiting ++ buffers_of kept) once,
+      length-append waiting (buffers_of kept),
+      length-map (all_of before.queues) of,
+      length-map kept of,
+      host.room,
+    )
+
+pub shown-queues : (driver driver' : DriverState) (before after : SocketsState) (n : ℕ) → IsHost driver before
+    → (shows : ShowsAll Sorts before after driver driver' n)
+    → Queues before.kinds before.queues after.queues shows.kept
+shown-queues driver driver' before after n host shows = shows.told.queues (has-room driver driver' before shows.kept host shows.buffers)
+
+pub shown-host : (driver driver' : DriverState) (before after : SocketsState) (n : ℕ) → IsHost driver before
+    → ShowsAll Sorts before after driver driver' n → driver'.counts ≡ driver.counts
+    → IsHost driver' after
+shown-host driver driver' before after n host shows counts =
+    let frame : Received → Type 0 = λ r. IsFrameSize r.length in
+    let queues = shown-queues driver driver' before after n host shows in
+    record {
+      room = shows.told.room ∙ host.room ∙ ap (λ (c : Counts). c.buffers) (sym counts);
+      count = shows.told.count ∙ host.count ∙ ap (λ (kinds : List SocketKind). length kinds) (sym shows.told.kinds);
+      owners = subst (λ (c : Counts). HasNoSecondOwner c.buffers (owners driver' ++ buffers_of (all_of after.queues))) (sym counts) (λ k.
+          omega (
+            arith,
+            host.owners k,
+            shows.buffers k,
+            copies-append k (owners driver) (buffers_of (all_of before.queues)),
+            copies-append k (owners driver') (buffers_of shows.kept),
+            copies-append k (owners driver') (buffers_of (all_of after.queues)),
+            kept-copies k before.kinds before.queues after.queues shows.kept queues,
+          ));
+      sizes =
+          All-permutation frame (all_of before.queues ++ shows.kept) (all_of after.queues) queues.all
+          (All-append frame (all_of before.queues) shows.kept host.sizes
+          (kept-are-frames before after shows.shown shows.kept shows.told shows.sizes));
+    }
+
+pub handled-host : (result : Handled) (driver driver' : DriverState) (before after : SocketsState) → IsHost driver before
+    → OnNotMine result (driver' ≡ driver) → OnNotMine result (after ≡ before)
+    → OnTaken result (ShowsAll Sorts before after driver driver') → driver'.counts ≡ driver.counts → IsHost driver' after
+handled-host NotMine driver driver' before after host stays unasked shows counts = subst (λ (s : SocketsState). IsHost driver' s)
+    (sym unasked) (subst (λ (d : DriverState). IsHost d before) (sym stays) host)
+handled-host (answers.Handled taken) driver driver' before after host stays unasked shows counts = shown-host driver driver' before after
+    taken host shows counts
+
+-- At first nothing waits.
+pub new-host : (driver : DriverState) (sockets : SocketsState) (kinds : List SocketKind) (room : ℕ)
+    → sockets ≡ record { kinds = kinds; queues = replicate (length kinds) []; room = room; unclaimed = 0 } → room ≡ driver.counts.buffers
+    → HasNoSecondOwner driver.counts.buffers (owners driver)
+    → IsHost driver sockets
+new-host driver sockets kinds room is size owns =
+    let none : all_of sockets.queues ≡ [] = ap (λ (s : SocketsState). all_of s.queues) is ∙ none-wait (length kinds) in
+    record {
+      room = ap (λ (s : SocketsState). s.room) is ∙ size;
+      count = ap (λ (s : SocketsState). length s.queues) is ∙ length-replicate (length kinds) []
+          ∙ ap (λ (s : SocketsState). length s.kinds) (sym is);
+      owners = λ k. omega (
+        arith,
+        owns k,
+        copies-append k (owners driver) (buffers_of (all_of sockets.queues)),
+        ap
+            (λ (list : List Received). copies k (buffers_of list)) none,
+      );
+      sizes = subst AreFrames (sym none) (all-none (λ (r : Received). IsFrameSize r.length));
+    }
+
+-- What the handler does to sockets.
+pub sorts-all : (result : Handled) (driver driver' : DriverState) (before after : SocketsState) → IsHost driver before
+    → OnTaken result (ShowsAll Sorts before after driver driver')
+    → OnTaken result (SortsAll (host_with driver before) (host_with driver' after))
+sorts-all NotMine driver driver' before after host shows = tt
+sorts-all (answers.Handled taken) driver driver' before after host shows = record {
+  shown = shows.shown;
+  count = shows.count;
+  sizes = shows.sizes;
+  kinds = shows.told.kinds;
+  queues = subst (Queues before.kinds before.queues after.queues) shows.told.claimed
+      (shown-queues driver driver' before after taken host shows);
+  unclaimed = shows.told.unclaimed;
+  bad = shows.bad;
+}
+
+pub new-ready : {up : Bool} (driver : DriverState) (sockets : SocketsState) (kinds : List SocketKind) (room : ℕ) (world : World)
+    → sockets ≡ record { kinds = kinds; queues = replicate (length kinds) []; room = room; unclaimed = 0 } → driver.handed_out ≡ []
+    → ReadyWith up driver world
+    → HostReadyWith up (host_with driver sockets) world
+new-ready {up} driver sockets kinds room world is out ready =
+    let none : all_of sockets.queues ≡ [] = ap (λ (s : SocketsState). all_of s.queues) is ∙ none-wait (length kinds) in
+    let same : driver_of (host_with driver sockets) world ≡ driver =
+    ap (λ (list : List Received). holding (map (waiting_entry driver.counts world.memory) list) driver) none
+    ∙ ap (λ (list : List HandedOut). holding list driver) (sym out) in
+    record {
+      sizes = subst AreFrames (sym none) (all-none (λ (r : Received). IsFrameSize r.length));
+      ready = subst (λ (d : DriverState). ReadyWith up d world) (sym same) ready;
+    }

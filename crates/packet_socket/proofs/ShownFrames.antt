@@ -1,0 +1,153 @@
+-- Frames that the driver takes, as its sockets see them.
+use Rattle.std.proofs.Common.{Bool, true, false, cond, ◌≡◌, ◌≤◌, ◌<◌, ◌+◌, ◌++◌, ◌∷◌, [], ℕ, Option, Some, None, suc, List, length, map}
+use Rattle.std.proofs.Common.{refl, sym, ap, subst, ◌∙◌, length-append, arith}
+use Rattle.std.specs.Prelude.{◌==◌}
+use Rattle.std.specs.List.{All, filter}
+use Rattle.std.specs.Option.{is_none, is_some}
+use Rattle.std.proofs.lemmas.List.{length-map}
+use Rattle.std.proofs.lemmas.List.Elements.{filter_passes}
+use Rattle.std.proofs.lemmas.List.Sums.{sum_by-cons}
+use Rattle.rx_filter.specs.Addresses.{ether_type}
+use Rattle.bus.proofs.Lists.{all-head, all-tail, all-unmapped}
+use Rattle.driver_law.specs.DriverState.{HandedOut, numbers_of}
+use Rattle.driver.specs.TakenFrames.{IsPart, buffers_of, part_none, part_with, part_without, received_of}
+use Rattle.driver.specs.declared.receiver.Received.{Received}
+use Rattle.packet_socket.specs.HostCalls.{frames_taken}
+use Rattle.packet_socket.specs.HeldFrames.{socket_frames, without_socket}
+use Rattle.packet_socket.specs.SocketKinds.{goes_to, has_none, has_socket, is_at, socket_of}
+use Rattle.packet_socket.specs.SocketsState.{claimed_of, frames_of, unclaimed_of}
+use Rattle.packet_socket.specs.declared.socket_kind.SocketKind.{SocketKind}
+
+-- whether a frame that was taken has a socket, and whether it is this one
+abbrev pub has : List SocketKind → HandedOut → Bool
+has kinds one = has_socket kinds (ether_type one.frame)
+
+abbrev pub goes : List SocketKind → ℕ → HandedOut → Bool
+goes kinds socket one = goes_to kinds socket (ether_type one.frame)
+
+-- Some of a list, all of which pass a test, are no more than those that do.
+part-count : {some all : List HandedOut} (p : HandedOut → Bool) → IsPart some all → All (λ one. p one ≡ true) some
+    → length some ≤ length (filter p all)
+part-count p part_none passes = omega arith
+part-count p (part_with {one = one} {some = some} {all = all} rest) passes =
+    let first : p one ≡ true = all-head (λ x. p x ≡ true) one some passes in
+    let later = part-count p rest (all-tail (λ x. p x ≡ true) one some passes) in
+    subst (λ (b : Bool). suc (length some) ≤ length (cond b (one ∷ filter p all) (filter p all))) (sym first) (omega (arith, later))
+part-count p (part_without {one = one} {some = some} {all = all} rest) passes =
+    let later = part-count p rest passes in
+    at (p one) later
+  where
+    at : (b : Bool) → length some ≤ length (filter p all) → length some ≤ length (cond b (one ∷ filter p all) (filter p all))
+    at true later = omega (arith, later)
+    at false later = later
+
+-- So they are those that do, where there are as many.
+part-is : {some all : List HandedOut} (p : HandedOut → Bool) → IsPart some all → All (λ one. p one ≡ true) some
+    → length some ≡ length (filter p all) → some ≡ filter p all
+part-is p part_none passes many = refl
+part-is p (part_with {one = one} {some = some} {all = all} rest) passes many =
+    let first : p one ≡ true = all-head (λ x. p x ≡ true) one some passes in
+    let taken : cond (p one) (one ∷ filter p all) (filter p all)
+    ≡ one ∷ filter p all = ap (λ (b : Bool). cond b (one ∷ filter p all) (filter p all)) first in
+    let later = part-is p rest (all-tail (λ x. p x ≡ true) one some passes) (omega (arith, many, ap length taken)) in
+    ap (λ (list : List HandedOut). one ∷ list) later ∙ sym taken
+part-is p (part_without {one = one} {some = some} {all = all} rest) passes many =
+    at (p one) (part-count p rest passes) (λ same. part-is p rest passes same) many
+  where
+    at : (b : Bool) → length some ≤ length (filter p all) → (length some ≡ length (filter p all) → some ≡ filter p all)
+        → length some ≡ length (cond b (one ∷ filter p all) (filter p all)) → some ≡ cond b (one ∷ filter p all) (filter p all)
+    at true most later more = absurd (omega (arith, more, most))
+    at false most later same = later same
+
+-- A test of what a list is mapped to.
+filter-mapped : {X Y : Type 0} (f : X → Y) (p : Y → Bool) (xs : List X) → filter p (map f xs) ≡ map f (filter (λ x. p (f x)) xs)
+filter-mapped f p [] = refl
+filter-mapped f p (x ∷ xs) = at (p (f x)) (filter-mapped f p xs)
+  where
+    at : (b : Bool) → filter p (map f xs) ≡ map f (filter (λ y. p (f y)) xs)
+        → cond b (f x ∷ filter p (map f xs)) (filter p (map f xs))
+        ≡ map f (cond b (x ∷ filter (λ y. p (f y)) xs) (filter (λ y. p (f y)) xs))
+    at true rest = ap (λ list. f x ∷ list) rest
+    at false rest = rest
+
+-- What passes one test passes another.
+filter-stronger : {X : Type 0} (p q : X → Bool) → ((x : X) → q x ≡ false → p x ≡ false) → (xs : List X)
+    → filter p (filter q xs) ≡ filter p xs
+filter-stronger p q so [] = refl
+filter-stronger p q so (x ∷ xs) = at (q x) refl (filter-stronger p q so xs)
+  where
+    at : (b : Bool) → q x ≡ b → filter p (filter q xs) ≡ filter p xs
+        → filter p (cond b (x ∷ filter q xs) (filter q xs)) ≡ cond (p x) (x ∷ filter p xs) (filter p xs)
+    at true is rest = ap (λ list. cond (p x) (x ∷ list) list) rest
+    at false is rest = rest ∙ ap (λ (b : Bool). cond b (x ∷ filter p xs) (filter p xs)) (sym (so x is))
+
+-- Those that the sockets keep are those of them that have one.
+pub handed-out-is : (kinds : List SocketKind) (handed_out taken : List HandedOut) → IsPart handed_out taken
+    → map received_of handed_out ≡ claimed_of kinds (map received_of taken)
+    → handed_out ≡ filter (has kinds) taken
+handed-out-is kinds handed_out taken part is =
+    let test : Received → Bool = λ r. has_socket kinds r.ether_type in
+    let passes : All (λ (one : HandedOut). has kinds one ≡ true) handed_out =
+    all-unmapped (λ (r : Received). test r ≡ true) received_of handed_out
+    (subst (All (λ (r : Received). test r ≡ true)) (sym is) (filter_passes test (map received_of taken))) in
+    part-is (has kinds) part passes
+    (omega (
+      arith,
+      length-map handed_out received_of,
+      ap length is,
+      ap length (filter-mapped received_of test taken),
+      length-map (filter (has kinds) taken) received_of,
+    ))
+
+-- Their frames, by sockets.
+kept-frames : (kinds : List SocketKind) (socket : ℕ) (frame : Received → List ℕ) (handed_out : List HandedOut)
+    → All (λ (one : HandedOut). frame (received_of one) ≡ one.frame) handed_out
+    → map frame (frames_of kinds socket (map received_of handed_out)) ≡ frames_taken (filter (goes kinds socket) handed_out)
+kept-frames kinds socket frame [] same = refl
+kept-frames kinds socket frame (one ∷ later) same =
+    at (goes kinds socket one) (all-head (λ (x : HandedOut). frame (received_of x) ≡ x.frame) one later same)
+    (kept-frames kinds socket frame later (all-tail (λ (x : HandedOut). frame (received_of x) ≡ x.frame) one later same))
+  where
+    at : (b : Bool) → frame (received_of one) ≡ one.frame
+        → map frame (frames_of kinds socket (map received_of later)) ≡ frames_taken (filter (goes kinds socket) later)
+        → map frame (cond b (received_of one ∷ frames_of kinds socket (map received_of later))
+        (frames_of kinds socket (map received_of later)))
+        ≡ frames_taken (cond b (one ∷ filter (goes kinds socket) later) (filter (goes kinds socket) later))
+    at true first rest =
+        ap (λ (bytes : List ℕ). bytes ∷ map frame (frames_of kinds socket (map received_of later))) first
+        ∙ ap (λ (list : List (List ℕ)). one.frame ∷ list) rest
+    at false first rest = rest
+
+no-socket : (socket : ℕ) (place : Option ℕ) → is_some place ≡ false → is_at socket place ≡ false
+no-socket socket None none = refl
+no-socket socket (Some place) none = absurd (cc (none))
+
+pub queue-frames : (kinds : List SocketKind) (socket : ℕ) (frame : Received → List ℕ) (handed_out taken : List HandedOut)
+    → IsPart handed_out taken
+    → map received_of handed_out ≡ claimed_of kinds (map received_of taken)
+    → All (λ (one : HandedOut). frame (received_of one) ≡ one.frame) handed_out
+    → map frame (frames_of kinds socket (map received_of handed_out)) ≡ socket_frames kinds socket (frames_taken taken)
+queue-frames kinds socket frame handed_out taken part is same =
+    let frame_of : HandedOut → List ℕ = λ one. one.frame in
+    kept-frames kinds socket frame handed_out same
+    ∙ ap (λ (list : List HandedOut). frames_taken (filter (goes kinds socket) list)) (handed-out-is kinds handed_out taken part is)
+    ∙ ap frames_taken (filter-stronger (goes kinds socket) (has kinds)
+    (λ one none. no-socket socket (socket_of kinds (ether_type one.frame)) none) taken)
+    ∙ sym (filter-mapped frame_of (λ (f : List ℕ). goes_to kinds socket (ether_type f)) taken)
+
+-- How many have no socket.
+pub unclaimed-frames : (kinds : List SocketKind) (taken : List HandedOut)
+    → unclaimed_of kinds (map received_of taken) ≡ without_socket kinds (frames_taken taken)
+unclaimed-frames kinds [] = refl
+unclaimed-frames kinds (one ∷ later) =
+    omega (
+      arith,
+      unclaimed-frames kinds later,
+      sum_by-cons (λ (r : Received). cond (has_none kinds r.ether_type) 1 0) (received_of one) (map received_of later),
+      sum_by-cons (λ (f : List ℕ). cond (has_none kinds (ether_type f)) 1 0) one.frame (frames_taken later),
+    )
+
+-- Their numbers.
+pub received-numbers : (list : List HandedOut) → buffers_of (map received_of list) ≡ numbers_of list
+received-numbers [] = refl
+received-numbers (one ∷ later) = ap (λ (numbers : List ℕ). one.number ∷ numbers) (received-numbers later)

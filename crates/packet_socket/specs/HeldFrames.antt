@@ -1,0 +1,52 @@
+-- What a host holds for its sockets, read from memory's bytes, and what it knows whenever it does nothing (own).
+use Rattle.std.specs.Prelude.{◌++◌, ℕ, Bool, true, List, count_by, filter, map}
+use Rattle.dma_memory.specs.HostMemory.{bytes_at}
+use Rattle.dma_memory.specs.Layout.{Counts}
+use Rattle.rx_filter.specs.Addresses.{ether_type}
+use Rattle.adapter.specs.HostFrames.{frames_held}
+use Rattle.adapter.specs.World.{World}
+use Rattle.driver_law.specs.DriverState.{DriverState, HandedOut, buffer_at, holding}
+use Rattle.driver_law.specs.ReadyDrivers.{ReadyWith}
+use Rattle.driver.specs.TakenFrames.{AreFrames}
+use Rattle.driver.specs.declared.receiver.Received.{Received}
+use Rattle.packet_socket.specs.HostState.{HostState}
+use Rattle.packet_socket.specs.SocketKinds.{goes_to, has_none}
+use Rattle.packet_socket.specs.SocketsState.{all_of, queue_at}
+use Rattle.packet_socket.specs.declared.socket_kind.SocketKind.{SocketKind}
+
+-- the frame of an entry of a queue: as many bytes as it says, of its buffer
+abbrev pub waiting_frame : Counts → List ℕ → Received → List ℕ
+waiting_frame counts memory received = bytes_at memory (buffer_at counts received.buffer) received.length
+
+-- that frame, as one that the driver handed out
+abbrev pub waiting_entry : Counts → List ℕ → Received → HandedOut
+waiting_entry counts memory received = record { number = received.buffer; frame = waiting_frame counts memory received }
+
+-- the host's driver, while the frames of its queues are handed out
+abbrev pub driver_of : HostState → World → DriverState
+driver_of host world = holding (map (waiting_entry host.driver.counts world.memory) (all_of host.queues)) host.driver
+
+-- The host is ready, with its transmit side set up or off: its driver is, and what waits are frames.
+pub record HostReadyWith (up : Bool) (host : HostState) (world : World) : Type 0 where
+  pub sizes : AreFrames (all_of host.queues)
+  pub ready : ReadyWith up (driver_of host world) world
+
+abbrev pub HostReady : HostState → World → Type 0
+HostReady = HostReadyWith true
+
+-- the frames that wait for a socket, the oldest first
+abbrev pub waiting_frames : HostState → (socket : ℕ) → World → List (List ℕ)
+waiting_frames host socket world = map (waiting_frame host.driver.counts world.memory) (queue_at host.queues socket)
+
+-- of frames, those that go to a socket
+abbrev pub socket_frames : List SocketKind → (socket : ℕ) → List (List ℕ) → List (List ℕ)
+socket_frames kinds socket frames = filter (λ (frame : List ℕ). goes_to kinds socket (ether_type frame)) frames
+
+-- and how many go to none
+abbrev pub without_socket : List SocketKind → List (List ℕ) → ℕ
+without_socket kinds frames = count_by (λ (frame : List ℕ). has_none kinds (ether_type frame)) frames
+
+-- the frames that a host holds for a socket: those that wait, then those of the socket that the driver hasn't taken yet
+abbrev pub held_for_socket : HostState → (socket : ℕ) → World → List (List ℕ)
+held_for_socket host socket world =
+    waiting_frames host socket world ++ socket_frames host.kinds socket (frames_held host.driver.oldest_receive world)

@@ -1,0 +1,109 @@
+//! What can go wrong on the way of a trace through the bench, and what the program says then.
+ghost use Rattle.std.specs.Prelude.{◌≡◌};
+ghost use Rattle.pcap_bench.specs.declared.program_error.BenchError.TheVariants as bench_errors;
+ghost use Rattle.pcap_bench.specs.declared.program_error.ProgramError.TheVariants as errors;
+ghost use Rattle.pcap_bench.specs.ProgramErrors.{bench_status, status_of};
+
+use pcap_trace::{ReadError, WriteError};
+use std::alloc::AllocError;
+use thiserror::Error;
+
+/// The program's exit status where a file failed.
+const FILE_FAILED: u8 = 3;
+
+/// The program's exit status where memory was refused.
+const NO_MEMORY: u8 = 4;
+
+/// Why frames did not go through.
+#[derive(Clone, Copy, Debug, PartialEq, Eq, Error)]
+pub enum BenchError {
+    /// Memory was refused; nothing was written.
+    #[error("E57 Memory")]
+    Memory,
+    /// The sink failed during the call; a beginning of the text went out.
+    #[error("E67 Write")]
+    Write,
+}
+
+impl BenchError {
+    /// The exit status of a program that ends for this fault: 3 for a sink that failed, 4 for want of memory.
+    pub fn status(&self) -> u8
+        ensures { result ≡ bench_status self.now }
+    {
+        match self {
+            BenchError::Write => FILE_FAILED,
+            BenchError::Memory => NO_MEMORY,
+        }
+    }
+}
+
+impl From<AllocError> for BenchError {
+    ghost from_gives = { λ _ e. e ≡ bench_errors.Memory };
+
+    fn from(_error: AllocError) -> BenchError {
+        BenchError::Memory
+    }
+}
+
+impl From<WriteError> for BenchError {
+    ghost from_gives = { λ _ e. e ≡ bench_errors.Write };
+
+    fn from(_error: WriteError) -> BenchError {
+        BenchError::Write
+    }
+}
+
+/// Why the program ended: its text is what stands behind `nicbench: ` on standard error.
+#[derive(Clone, Copy, Debug, PartialEq, Eq, Error)]
+pub enum ProgramError {
+    /// A trace was refused, or not read.
+    #[error("{0}")]
+    Read(ReadError),
+    /// A text was not written.
+    #[error("{0}")]
+    Write(WriteError),
+    /// Frames did not go through the bench.
+    #[error("{0}")]
+    Bench(BenchError),
+    /// A file could not be opened or made.
+    #[error("E68 Open")]
+    Open,
+}
+
+impl ProgramError {
+    /// The exit status of the program: 1 for a trace that is refused, 3 for a file that failed, 4 for want of memory.
+    pub fn status(&self) -> u8
+        ensures { result ≡ status_of self.now }
+    {
+        match self {
+            ProgramError::Read(error) => error.status(),
+            ProgramError::Write(error) => error.status(),
+            ProgramError::Bench(error) => error.status(),
+            ProgramError::Open => FILE_FAILED,
+        }
+    }
+}
+
+impl From<ReadError> for ProgramError {
+    ghost from_gives = { λ e f. f ≡ errors.Read e };
+
+    fn from(error: ReadError) -> ProgramError {
+        ProgramError::Read(error)
+    }
+}
+
+impl From<WriteError> for ProgramError {
+    ghost from_gives = { λ e f. f ≡ errors.Write e };
+
+    fn from(error: WriteError) -> ProgramError {
+        ProgramError::Write(error)
+    }
+}
+
+impl From<BenchError> for ProgramError {
+    ghost from_gives = { λ e f. f ≡ errors.Bench e };
+
+    fn from(error: BenchError) -> ProgramError {
+        ProgramError::Bench(error)
+    }
+}
