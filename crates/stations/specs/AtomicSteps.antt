@@ -1,0 +1,89 @@
+-- The atomic steps of a network: one access of a driver, one step of an adapter, one delivery; and ticks that find nothing to do.
+use Rattle.std.specs.Prelude.{⊤, ◌≡◌, ◌↔◌, IsTrue, ℕ, None, Some, List, [], slice_get}
+use Rattle.rx_engine.specs.declared.arrival.Fate.{Fate}
+use Rattle.adapter.specs.Receiving.{IsFate}
+use Rattle.adapter.specs.State.{IsAdapter}
+use Rattle.adapter.specs.declared.step.StepKind.TheVariants.{TxPut}
+use Rattle.bus.specs.Trails.{Occurs}
+use Rattle.bus.specs.declared.event.Event.{Event}
+use Rattle.bus.specs.declared.event.Event.TheVariants.{Accesses, Arrives, Steps}
+use Rattle.stations.specs.Outcomes.{IsNoted, OutcomeList, outcome_of_step}
+use Rattle.stations.specs.Stations.{StationState, WireHasRoom, backlog_at, station_after, stations_after, wire_at, world_at}
+use Rattle.stations.specs.declared.tick.Outcome.{Outcome}
+use Rattle.stations.specs.declared.tick.Outcome.TheVariants.{Delivered, Nothing}
+use Rattle.stations.specs.declared.tick.Tick.{Tick}
+use Rattle.stations.specs.declared.tick.Tick.TheVariants.{Deliver, Go, Step}
+
+pub data AtomicStep : Type 0 where
+  -- an event at a host
+  At : (host : ℕ) (event : Event) → AtomicStep
+  -- a tick that does nothing, for want of a host or of a frame that waits
+  Idles : (tick : Tick) → AtomicStep
+
+-- the tick that an event answers; an access stands where Go does
+abbrev pub tick_of_event : (host : ℕ) → Event → Tick
+tick_of_event host (Steps kind wire_free answer) = Step host kind
+tick_of_event host (Arrives frame fate) = Deliver host
+tick_of_event host (Accesses access) = Go
+
+abbrev pub outcome_of_event : Event → Outcome
+outcome_of_event (Steps kind wire_free answer) = outcome_of_step answer
+outcome_of_event (Arrives frame fate) = Delivered frame fate
+outcome_of_event (Accesses access) = Nothing
+
+abbrev pub tick_of : AtomicStep → Tick
+tick_of (At host event) = tick_of_event host event
+tick_of (Idles tick) = tick
+
+abbrev pub outcome_of : AtomicStep → Outcome
+outcome_of (At host event) = outcome_of_event event
+outcome_of (Idles tick) = Nothing
+
+-- what an event asks of the wire: TxPut finds it free exactly where each other end has room, and a delivery is of the oldest frame
+abbrev pub SuitsWire : (host wire : ℕ) → Event → List StationState → Type 0
+SuitsWire host wire (Steps kind wire_free answer) stations = kind ≡ TxPut → IsTrue wire_free ↔ WireHasRoom stations host wire
+SuitsWire host wire (Arrives frame fate) stations = slice_get (backlog_at stations host) 0 ≡ Some frame
+SuitsWire host wire (Accesses access) stations = ⊤
+
+-- The event can happen at this host.
+pub record OccursAt (host : ℕ) (event : Event) (stations : List StationState) : Type 0 where
+  pub wire : ℕ
+  pub on_wire : wire_at stations host ≡ Some wire
+  pub occurs : Occurs event (world_at stations host)
+  pub suits_wire : SuitsWire host wire event stations
+
+-- The oldest frame that waits at a station's end is delivered, and meets this fate.
+pub record IsDelivered (old : StationState) (frame : List ℕ) (fate : Fate) (new : StationState) : Type 0 where
+  pub oldest : slice_get old.backlog 0 ≡ Some frame
+  pub adapter : IsAdapter old.world.adapter
+  pub fated : IsFate old.world.adapter frame fate
+  pub leaves : new ≡ station_after (Arrives frame fate) old
+
+-- The tick finds nothing: Go, a host that isn't there, or no frame that waits.
+abbrev pub FindsNothing : Tick → List StationState → Type 0
+FindsNothing Go stations = ⊤
+FindsNothing (Step host kind) stations = slice_get stations host ≡ None
+FindsNothing (Deliver host) stations = backlog_at stations host ≡ []
+
+abbrev pub CanHappen : AtomicStep → List StationState → Type 0
+CanHappen (At host event) stations = OccursAt host event stations
+CanHappen (Idles tick) stations = FindsNothing tick stations
+
+abbrev pub after : AtomicStep → List StationState → List StationState
+after (At host event) stations = stations_after host event stations
+after (Idles tick) stations = stations
+
+-- A tick is played, and this comes of it.
+pub record Plays (old : List StationState) (tick : Tick) (outcome : Outcome) (new : List StationState) : Type 0 where
+  pub step : AtomicStep
+  pub tick_is : tick_of step ≡ tick
+  pub outcome_is : outcome_of step ≡ outcome
+  pub happens : CanHappen step old
+  pub leaves : new ≡ after step old
+
+-- And it is noted, behind so many accesses.
+pub record PlaysNoted (old : List StationState) (tick : Tick) (accesses : ℕ) (before behind : OutcomeList)
+    (new : List StationState) : Type 0 where
+  pub outcome : Outcome
+  pub plays : Plays old tick outcome new
+  pub noted : IsNoted accesses outcome before behind

@@ -1,0 +1,4 @@
+pub mod Stations
+pub mod StationView
+pub mod Outcomes
+pub mod AtomicSteps

@@ -1,0 +1,93 @@
+-- The hosts of a network as plain data, and what an event at one of them leaves of it and of the others.
+use Rattle.std.specs.Prelude.{◌≡◌, ◌≢◌, ◌<◌, ◌==◌, ◌&&◌, not, ℕ, suc, Option, Some, None, List, [], ◌∷◌, ◌++◌, drop, length, slice_get}
+use Rattle.std.specs.Prelude.{if◌then◌else◌}
+use Rattle.mdic_phy.specs.declared.phy.Link.TheVariants.{Never}
+use Rattle.adapter.specs.Registers.{new_adapter}
+use Rattle.adapter.specs.World.{World}
+use Rattle.bus.specs.Trails.{past_of_event, world_after}
+use Rattle.bus.specs.declared.event.Event.{Event}
+use Rattle.bus.specs.declared.event.Event.TheVariants.{Accesses, Arrives, Steps}
+
+-- a host's adapter and memory, and its end of a wire
+pub record StationState : Type 0 where
+  pub world : World
+  -- the wire that it is on
+  pub wire : ℕ
+  -- the frames that wait at its end of the wire to be delivered, the oldest first
+  pub backlog : List (List ℕ)
+
+-- at most so many frames wait at an end (own)
+abbrev pub end_frames : ℕ
+end_frames = 64
+
+-- What is known of a host, also of one that isn't there: that one is on no wire, and no frame waits at its end.
+
+abbrev pub world_of : Option StationState → World
+world_of None = record { memory = []; adapter = new_adapter [] Never }
+world_of (Some station) = station.world
+
+abbrev pub wire_of : Option StationState → Option ℕ
+wire_of None = None
+wire_of (Some station) = Some station.wire
+
+abbrev pub backlog_of : Option StationState → List (List ℕ)
+backlog_of None = []
+backlog_of (Some station) = station.backlog
+
+abbrev pub world_at : List StationState → (host : ℕ) → World
+world_at stations host = world_of (slice_get stations host)
+
+abbrev pub wire_at : List StationState → (host : ℕ) → Option ℕ
+wire_at stations host = wire_of (slice_get stations host)
+
+abbrev pub backlog_at : List StationState → (host : ℕ) → List (List ℕ)
+backlog_at stations host = backlog_of (slice_get stations host)
+
+-- Room.
+
+-- this station has room for a frame more at its end, unless it is the sender or on another wire
+abbrev pub HasRoomFrom : (sender wire host : ℕ) → StationState → Type 0
+HasRoomFrom sender wire host station = host ≢ sender → station.wire ≡ wire → length station.backlog < end_frames
+
+-- each other end of the wire has
+abbrev pub WireHasRoom : List StationState → (sender wire : ℕ) → Type 0
+WireHasRoom stations sender wire =
+    (host : ℕ) (station : StationState) → slice_get stations host ≡ Some station → HasRoomFrom sender wire host station
+
+-- What an event leaves.
+
+-- an arrival takes the oldest frame from those that wait
+abbrev pub backlog_after : Event → List (List ℕ) → List (List ℕ)
+backlog_after (Steps kind wire_free answer) backlog = backlog
+backlog_after (Arrives frame fate) backlog = drop 1 backlog
+backlog_after (Accesses access) backlog = backlog
+
+-- what it leaves of its own host
+abbrev pub station_after : Event → StationState → StationState
+station_after event station = record station {
+  world = world_after event station.world;
+  backlog = backlog_after event station.backlog;
+}
+
+-- frames that a sender put onto a wire wait at this host's end, where it is another end of that wire
+abbrev pub with_frames : (sender wire : ℕ) → List (List ℕ) → (host : ℕ) → StationState → StationState
+with_frames sender wire frames host station =
+    if not (host == sender) && (station.wire == wire) then record station { backlog = station.backlog ++ frames } else station
+
+-- what an event at one host leaves of each
+abbrev pub each_after : (host wire : ℕ) → Event → (k : ℕ) → StationState → StationState
+each_after host wire event k station =
+    if k == host then station_after event station else with_frames host wire (past_of_event event).put k station
+
+-- a function of place and station, at each place from one on
+abbrev pub at_each : (ℕ → StationState → StationState) → ℕ → List StationState → List StationState
+at_each change k [] = []
+at_each change k (station ∷ later) = change k station ∷ at_each change (suc k) later
+
+abbrev pub all_after : Option StationState → (host : ℕ) → Event → List StationState → List StationState
+all_after None host event stations = stations
+all_after (Some station) host event stations = at_each (each_after host station.wire event) 0 stations
+
+-- all stations behind an event at a host
+abbrev pub stations_after : (host : ℕ) → Event → List StationState → List StationState
+stations_after host event stations = all_after (slice_get stations host) host event stations

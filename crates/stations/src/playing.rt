@@ -1,0 +1,188 @@
+// What is played on all hosts.
+
+ghost use Rattle.std.specs.Prelude.{◌≡◌, ◌<◌, ◌↔◌, ◌≢◌, ℕ, [], length, option_map, slice_get, IsTrue};
+ghost use Rattle.adapter.specs.Outcomes.{put_by, stepped_of};
+ghost use Rattle.adapter.specs.Registers.{answer_at};
+ghost use Rattle.adapter.specs.declared.step.StepKind.TheVariants.{TxPut};
+ghost use Rattle.adapter.specs.declared.step.StepOutcome.TheVariants as small;
+ghost use Rattle.bus.specs.declared.event.Access.TheVariants.{Reads, Stores, Writes};
+ghost use Rattle.bus.specs.declared.event.Event.TheVariants.{Accesses};
+ghost use Rattle.dma_memory.specs.HostMemory.{bytes_at, LiesIn};
+ghost use Rattle.stations.specs.AtomicSteps.{PlaysNoted};
+ghost use Rattle.stations.specs.Outcomes.{IsNoted, answer_without_frame, outcome_of_step};
+ghost use Rattle.stations.specs.Stations.{WireHasRoom, stations_after, with_frames, world_at};
+ghost use Rattle.stations.specs.declared.tick.Tick.TheVariants as tick;
+
+use crate::outcomes::Outcomes;
+use crate::station::Station;
+use crate::tick::{Outcome, Tick};
+use adapter::{StepKind, StepOutcome, Stepped};
+
+/// Plays a tick, and notes what came of it behind so many accesses of the call.
+pub fn play(stations: &mut [Station], tick: Tick, accesses: u64, outcomes: &mut Outcomes)
+    requires room { 0 < outcomes.old.room }
+    ensures { PlaysNoted stations.old tick accesses outcomes.old outcomes.new stations.new }
+{
+    match tick {
+        Tick::Go => outcomes.note(accesses, Outcome::Nothing),
+        Tick::Step(host, kind) => step(stations, host, kind, accesses, outcomes),
+        Tick::Deliver(host) => deliver(stations, host, accesses, outcomes),
+    }
+}
+
+/// A host's adapter takes a step.
+fn step(
+    stations: &mut [Station],
+    host: usize,
+    kind: StepKind,
+    accesses: u64,
+    outcomes: &mut Outcomes,
+)
+    requires room { 0 < outcomes.old.room }
+    ensures { PlaysNoted stations.old (tick.Step host kind) accesses outcomes.old outcomes.new stations.new }
+{
+    if host >= stations.len() {
+        outcomes.note(accesses, Outcome::Nothing);
+        return;
+    }
+    match kind {
+        StepKind::TxPut => put(stations, host, accesses, outcomes),
+        _ => {
+            let stepped = stations[host].step(kind);
+            note_step(stepped, accesses, outcomes);
+        }
+    }
+}
+
+/// A host's adapter puts its oldest frame onto the wire, if each other end has room: it waits there then.
+fn put(stations: &mut [Station], host: usize, accesses: u64, outcomes: &mut Outcomes)
+    requires there { host < length stations.old }
+    requires room { 0 < outcomes.old.room }
+    ensures { PlaysNoted stations.old (tick.Step host TxPut) accesses outcomes.old outcomes.new stations.new }
+{
+    let wire = stations[host].wire();
+    let wire_free = has_room(stations, host, wire);
+    let stepped = stations[host].put(wire_free);
+    spread(stations, host, wire, &stepped);
+    outcomes.note(accesses, outcome_of(stepped));
+}
+
+/// Whether each other end of the wire has room for a frame more.
+fn has_room(stations: &[Station], sender: usize, wire: usize) -> bool
+    ensures { IsTrue result ↔ WireHasRoom stations.now sender wire }
+{
+    for (place, station) in stations.iter().enumerate() {
+        if place != sender && station.wire() == wire && !station.has_room() {
+            return false;
+        }
+    }
+    true
+}
+
+/// A frame that was put waits at each other end of the wire.
+fn spread(stations: &mut [Station], sender: usize, wire: usize, stepped: &Stepped)
+    requires { put_by stepped.now ≢ [] → WireHasRoom stations.old sender wire }
+    ensures { (k : ℕ) → slice_get stations.new k
+        ≡ option_map (with_frames sender wire (put_by stepped.now) k) (slice_get stations.old k) }
+{
+    if let Stepped::Put(frame) = stepped {
+        for place in 0..stations.len() {
+            stations[place].wait(place, sender, wire, frame.as_slice());
+        }
+    }
+}
+
+/// What came of a step of an adapter.
+fn outcome_of(stepped: Stepped) -> Outcome
+    ensures { result ≡ outcome_of_step stepped }
+{
+    match stepped {
+        Stepped::Took => Outcome::Took,
+        Stepped::Put(frame) => Outcome::Put(frame),
+        Stepped::WireFull => Outcome::WireFull,
+        Stepped::Moved => Outcome::Moved,
+        Stepped::Done => Outcome::Done,
+        Stepped::Ticked => Outcome::Ticked,
+        Stepped::Nothing => Outcome::Nothing,
+        Stepped::Fault => Outcome::Fault,
+    }
+}
+
+/// Notes what came of a step that put no frame.
+fn note_step(stepped: StepOutcome, accesses: u64, outcomes: &mut Outcomes)
+    requires none { stepped ≢ small.Put }
+    requires room { 0 < outcomes.old.room }
+    ensures { IsNoted accesses (outcome_of_step (answer_without_frame stepped)) outcomes.old outcomes.new }
+{
+    match stepped {
+        StepOutcome::Took => outcomes.note(accesses, Outcome::Took),
+        StepOutcome::WireFull => outcomes.note(accesses, Outcome::WireFull),
+        StepOutcome::Moved => outcomes.note(accesses, Outcome::Moved),
+        StepOutcome::Done => outcomes.note(accesses, Outcome::Done),
+        StepOutcome::Ticked => outcomes.note(accesses, Outcome::Ticked),
+        StepOutcome::Put | StepOutcome::Nothing => outcomes.note(accesses, Outcome::Nothing),
+        StepOutcome::Fault => outcomes.note(accesses, Outcome::Fault),
+    }
+}
+
+/// The oldest frame that waits at a host's end is delivered.
+fn deliver(stations: &mut [Station], host: usize, accesses: u64, outcomes: &mut Outcomes)
+    requires room { 0 < outcomes.old.room }
+    ensures { PlaysNoted stations.old (tick.Deliver host) accesses outcomes.old outcomes.new stations.new }
+{
+    if host >= stations.len() {
+        outcomes.note(accesses, Outcome::Nothing);
+        return;
+    }
+    match stations[host].deliver() {
+        Some((frame, fate)) => outcomes.note(accesses, Outcome::Delivered(frame, fate)),
+        None => outcomes.note(accesses, Outcome::Nothing),
+    }
+}
+
+/// Reads a register of a host.
+pub fn read_at(stations: &mut [Station], host: usize, offset: u32) -> u32
+    requires there { host < length stations.old }
+    ensures answer { result ≡ answer_at offset (world_at stations.old host).adapter }
+    ensures state { stations.new ≡ stations_after host (Accesses (Reads offset result)) stations.old }
+{
+    stations[host].read(offset)
+}
+
+/// Writes a register of a host.
+pub fn write_at(stations: &mut [Station], host: usize, offset: u32, value: u32)
+    requires there { host < length stations.old }
+    ensures { stations.new ≡ stations_after host (Accesses (Writes offset value)) stations.old }
+{
+    stations[host].write(offset, value);
+}
+
+/// Loads bytes of a host's memory.
+pub fn load_at(stations: &mut [Station], host: usize, address: u64, into: &mut [u8])
+    requires there { host < length stations.old }
+    requires lies { LiesIn (world_at stations.old host).memory address (length into.old) }
+    ensures loaded { into.new ≡ bytes_at (world_at stations.old host).memory address (length into.old) }
+    ensures same { stations.new ≡ stations.old }
+{
+    stations[host].load(address, into);
+}
+
+/// Stores bytes in a host's memory.
+pub fn store_at(stations: &mut [Station], host: usize, address: u64, bytes: &[u8])
+    requires there { host < length stations.old }
+    requires lies { LiesIn (world_at stations.old host).memory address (length bytes.now) }
+    ensures { stations.new ≡ stations_after host (Accesses (Stores address bytes.now)) stations.old }
+{
+    stations[host].store(address, bytes);
+}
+
+/// How many bytes a host's memory has.
+pub fn size_at(stations: &[Station], host: usize) -> u64
+    requires { host < length stations.now }
+    ensures { result ≡ length (world_at stations.now host).memory }
+{
+    match stations.get(host) {
+        Some(station) => station.size(),
+        None => 0,
+    }
+}

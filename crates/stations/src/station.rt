@@ -1,0 +1,170 @@
+// One host's adapter, memory and end of a wire.
+
+use adapter::{Adapter, Fate, StepKind, StepOutcome, Stepped};
+use descriptors::Frame;
+use dma_memory::HostMemory;
+use frame_queue::FrameQueue;
+use std::alloc::{AllocError, Global};
+use std::marker::Model;
+
+/// How many frames may wait at an end of a wire (own).
+pub const END_FRAMES: u8 = 64;
+
+/// A host's adapter, its memory, and its end of a wire.
+///
+/// In contracts it is a `StationState`, plain data that `specs/Stations.antt` lists.
+#[derive(Drop)]
+pub struct Station {
+    adapter: Adapter,
+    memory: HostMemory,
+    wire: usize,
+    backlog: FrameQueue,
+}
+
+impl Model for Station {
+    ghost use Rattle.stations.specs.Stations.{StationState};
+
+    ghost Value = { StationState };
+
+    ghost use Rattle.stations.specs.StationView.{station_of, HasEnd};
+
+    ghost view = { station_of };
+
+    ghost invariant = { HasEnd };
+}
+
+impl Station {
+    ghost use Rattle.std.specs.Prelude.{◌≡◌, ◌≢◌, ◌<◌, ◌≤◌, ◌↔◌, ◌∷◌, [], length, IfNone, IfOk, IfSome, IsNone, IsTrue, true};
+    ghost use Rattle.adapter.specs.Outcomes.{stepped_of};
+    ghost use Rattle.adapter.specs.Registers.{answer_at};
+    ghost use Rattle.adapter.specs.State.{IsAdapter};
+    ghost use Rattle.adapter.specs.Steps.{Answers};
+    ghost use Rattle.adapter.specs.World.{world_after_read, world_after_store, world_after_write};
+    ghost use Rattle.adapter.specs.declared.step.StepKind.TheVariants.{TxPut};
+    ghost use Rattle.bus.specs.declared.event.Event.TheVariants.{Steps};
+    ghost use Rattle.dma_memory.specs.HostMemory.{bytes_at, LiesIn};
+    ghost use Rattle.stations.specs.Stations.{HasRoomFrom, station_after, with_frames};
+    ghost use Rattle.stations.specs.AtomicSteps.{IsDelivered};
+
+    /// A host on a wire, at whose end no frame waits.
+    ///
+    /// # Errors
+    ///
+    /// Want of memory alone.
+    pub fn new(
+        alloc: Global,
+        adapter: Adapter,
+        memory: HostMemory,
+        wire: usize,
+    ) -> Result<Station, AllocError>
+        ensures { IfOk result (λ station. station ≡ record {
+          world = record { memory = memory; adapter = adapter };
+          wire = wire;
+          backlog = [];
+        }) }
+    {
+        Ok(Station {
+            adapter,
+            memory,
+            wire,
+            backlog: FrameQueue::new(alloc, END_FRAMES)?,
+        })
+    }
+
+    /// The wire that the host is on.
+    pub fn wire(&self) -> usize
+        ensures { result ≡ self.now.wire }
+    {
+        self.wire
+    }
+
+    /// A step of the adapter that puts nothing onto the wire.
+    pub(crate) fn step(&mut self, kind: StepKind) -> StepOutcome
+        requires stays { kind ≢ TxPut }
+        ensures answer { Answers kind true self.old.world.memory self.old.world.adapter
+            (stepped_of result self.old.world.adapter) }
+        ensures state { self.new ≡ station_after (Steps kind true (stepped_of result self.old.world.adapter)) self.old }
+        ensures adapter { IsAdapter self.old.world.adapter }
+    {
+        let unused = &mut self.backlog;
+        self.adapter.step_onto(kind, &mut self.memory, unused)
+    }
+
+    /// The adapter puts its oldest frame onto the wire, if that is free.
+    pub(crate) fn put(&mut self, wire_free: bool) -> Stepped
+        ensures answer { Answers TxPut wire_free self.old.world.memory self.old.world.adapter result }
+        ensures state { self.new ≡ station_after (Steps TxPut wire_free result) self.old }
+        ensures adapter { IsAdapter self.old.world.adapter }
+    {
+        self.adapter
+            .step(StepKind::TxPut, &mut self.memory, wire_free)
+    }
+
+    /// The oldest frame that waits is delivered, if there is one.
+    pub(crate) fn deliver(&mut self) -> Option<(Frame, Fate)>
+        ensures none { IsNone result ↔ (self.old.backlog ≡ []) }
+        ensures same { IfNone result (self.new ≡ self.old) }
+        ensures some { IfSome result (λ given. IsDelivered self.old given.0 given.1 self.new) }
+    {
+        let frame = Frame::from_slice(self.backlog.front()?);
+        let fate = self.adapter.arrive(frame.as_slice());
+        self.backlog.pop();
+        Some((frame, fate))
+    }
+
+    /// Whether a frame more may wait.
+    pub(crate) fn has_room(&self) -> bool
+        ensures { IsTrue result ↔ (length self.now.backlog < END_FRAMES) }
+    {
+        self.backlog.len() < END_FRAMES
+    }
+
+    /// A frame that a sender put onto a wire waits at this host's end, if that is another end of the wire.
+    pub(crate) fn wait(&mut self, place: usize, sender: usize, wire: usize, frame: &[u8])
+        requires room { HasRoomFrom sender wire place self.old }
+        requires fits { length frame.now ≤ 1518 }
+        ensures { self.new ≡ with_frames sender wire (frame.now ∷ []) place self.old }
+    {
+        if place != sender && self.wire == wire {
+            self.backlog.push(frame);
+        }
+    }
+
+    /// Reads a register.
+    pub(crate) fn read(&mut self, offset: u32) -> u32
+        ensures answer { result ≡ answer_at offset self.old.world.adapter }
+        ensures state { self.new ≡ record self.old { world = world_after_read offset self.old.world } }
+    {
+        self.adapter.read(offset)
+    }
+
+    /// Writes a register.
+    pub(crate) fn write(&mut self, offset: u32, value: u32)
+        ensures { self.new ≡ record self.old { world = world_after_write offset value self.old.world } }
+    {
+        self.adapter.write(offset, value);
+    }
+
+    /// Loads bytes of the memory.
+    pub(crate) fn load(&self, address: u64, into: &mut [u8])
+        requires lies { LiesIn self.now.world.memory address (length into.old) }
+        ensures { into.new ≡ bytes_at self.now.world.memory address (length into.old) }
+    {
+        let _ = self.memory.load(address, into);
+    }
+
+    /// Stores bytes in the memory.
+    pub(crate) fn store(&mut self, address: u64, bytes: &[u8])
+        requires lies { LiesIn self.old.world.memory address (length bytes.now) }
+        ensures { self.new ≡ record self.old { world = world_after_store address bytes.now self.old.world } }
+    {
+        let _ = self.memory.store(address, bytes);
+    }
+
+    /// How many bytes the memory has.
+    pub(crate) fn size(&self) -> u64
+        ensures { result ≡ length self.now.world.memory }
+    {
+        self.memory.size()
+    }
+}
