@@ -3,6 +3,7 @@
 ghost use Rattle.std.specs.Prelude.{◌≡◌, ◌<◌, ◌↔◌, ◌≢◌, ℕ, [], length, option_map, slice_get, IsTrue};
 ghost use Rattle.adapter.specs.Outcomes.{put_by, stepped_of};
 ghost use Rattle.adapter.specs.Registers.{answer_at};
+ghost use Rattle.adapter.specs.State.{IsAdapter};
 ghost use Rattle.adapter.specs.declared.step.StepKind.TheVariants.{TxPut};
 ghost use Rattle.adapter.specs.declared.step.StepOutcome.TheVariants as small;
 ghost use Rattle.bus.specs.declared.event.Access.TheVariants.{Reads, Stores, Writes};
@@ -145,6 +146,7 @@ pub fn read_at(stations: &mut [Station], host: usize, offset: u32) -> u32
     requires there { host < length stations.old }
     ensures answer { result ≡ answer_at offset (world_at stations.old host).adapter }
     ensures state { stations.new ≡ stations_after host (Accesses (Reads offset result)) stations.old }
+    ensures adapter { IsAdapter (world_at stations.old host).adapter }
 {
     stations[host].read(offset)
 }
@@ -152,7 +154,8 @@ pub fn read_at(stations: &mut [Station], host: usize, offset: u32) -> u32
 /// Writes a register of a host.
 pub fn write_at(stations: &mut [Station], host: usize, offset: u32, value: u32)
     requires there { host < length stations.old }
-    ensures { stations.new ≡ stations_after host (Accesses (Writes offset value)) stations.old }
+    ensures state { stations.new ≡ stations_after host (Accesses (Writes offset value)) stations.old }
+    ensures adapter { IsAdapter (world_at stations.old host).adapter }
 {
     stations[host].write(offset, value);
 }
@@ -163,6 +166,7 @@ pub fn load_at(stations: &mut [Station], host: usize, address: u64, into: &mut [
     requires lies { LiesIn (world_at stations.old host).memory address (length into.old) }
     ensures loaded { into.new ≡ bytes_at (world_at stations.old host).memory address (length into.old) }
     ensures same { stations.new ≡ stations.old }
+    ensures adapter { IsAdapter (world_at stations.old host).adapter }
 {
     stations[host].load(address, into);
 }
@@ -171,7 +175,8 @@ pub fn load_at(stations: &mut [Station], host: usize, address: u64, into: &mut [
 pub fn store_at(stations: &mut [Station], host: usize, address: u64, bytes: &[u8])
     requires there { host < length stations.old }
     requires lies { LiesIn (world_at stations.old host).memory address (length bytes.now) }
-    ensures { stations.new ≡ stations_after host (Accesses (Stores address bytes.now)) stations.old }
+    ensures state { stations.new ≡ stations_after host (Accesses (Stores address bytes.now)) stations.old }
+    ensures adapter { IsAdapter (world_at stations.old host).adapter }
 {
     stations[host].store(address, bytes);
 }

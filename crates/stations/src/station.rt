@@ -134,13 +134,15 @@ impl Station {
     pub(crate) fn read(&mut self, offset: u32) -> u32
         ensures answer { result ≡ answer_at offset self.old.world.adapter }
         ensures state { self.new ≡ record self.old { world = world_after_read offset self.old.world } }
+        ensures adapter { IsAdapter self.old.world.adapter }
     {
         self.adapter.read(offset)
     }
 
     /// Writes a register.
     pub(crate) fn write(&mut self, offset: u32, value: u32)
-        ensures { self.new ≡ record self.old { world = world_after_write offset value self.old.world } }
+        ensures state { self.new ≡ record self.old { world = world_after_write offset value self.old.world } }
+        ensures adapter { IsAdapter self.old.world.adapter }
     {
         self.adapter.write(offset, value);
     }
@@ -148,16 +150,22 @@ impl Station {
     /// Loads bytes of the memory.
     pub(crate) fn load(&self, address: u64, into: &mut [u8])
         requires lies { LiesIn self.now.world.memory address (length into.old) }
-        ensures { into.new ≡ bytes_at self.now.world.memory address (length into.old) }
+        ensures loaded { into.new ≡ bytes_at self.now.world.memory address (length into.old) }
+        ensures adapter { IsAdapter self.now.world.adapter }
     {
+        // A call of the adapter, so that the clause `adapter` may say what holds of every one.
+        let _line = self.adapter.line();
         let _ = self.memory.load(address, into);
     }
 
     /// Stores bytes in the memory.
     pub(crate) fn store(&mut self, address: u64, bytes: &[u8])
         requires lies { LiesIn self.old.world.memory address (length bytes.now) }
-        ensures { self.new ≡ record self.old { world = world_after_store address bytes.now self.old.world } }
+        ensures state { self.new ≡ record self.old { world = world_after_store address bytes.now self.old.world } }
+        ensures adapter { IsAdapter self.old.world.adapter }
     {
+        // A call of the adapter, so that the clause `adapter` may say what holds of every one.
+        let _line = self.adapter.line();
         let _ = self.memory.store(address, bytes);
     }
 

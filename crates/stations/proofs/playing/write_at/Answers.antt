@@ -4,7 +4,7 @@ use Rattle.bus.specs.declared.event.Event.TheVariants.{Accesses}
 use Rattle.stations.proofs.Places.{here-after}
 use Rattle.stations.proofs.playing.write_at.Goals as goal
 
-pub returns : goal.returns
-returns c =
+pub returns-clause-state : goal.returns-clause-state
+returns-clause-state c =
     here-after c.args.host (Accesses (Writes c.args.offset c.args.value)) c.args.stations.now c.index-stations-host.result c.write.new.self
-    c.requires.there c.write.ensures refl
+    c.requires.there c.write.ensures.state refl

@@ -1,0 +1,3 @@
+pub mod TickLoops
+pub mod HostTrails
+pub mod LentAccesses

@@ -1,0 +1,78 @@
+-- Atomic steps one after the other, in a call of one host or between calls (own).
+use Rattle.std.specs.Prelude.{⊤, ◌≡◌, ◌≢◌, ◌+◌, ◌==◌, ◌^◌, ◌-◌, ◌++◌, ℕ, Bool, false, true, List, [], ◌∷◌, min, if◌then◌else◌}
+use Rattle.std.specs.List.{flat_map}
+use Rattle.bus.specs.PastOfStretch.{Past}
+use Rattle.bus.specs.Trails.{past_of}
+use Rattle.bus.specs.declared.event.Event.{Event}
+use Rattle.bus.specs.declared.event.Event.TheVariants.{Accesses, Arrives, Steps}
+use Rattle.stations.specs.AtomicSteps.{At, AtomicStep, CanHappen, Idles, after, outcome_of}
+use Rattle.stations.specs.Stations.{StationState}
+use Rattle.stations.specs.declared.outcomes.Numbered.{Numbered}
+use Rattle.stations.specs.declared.tick.Tick.{Tick}
+use Rattle.stations.specs.declared.tick.Tick.TheVariants.{Deliver, Go, Step}
+
+abbrev pub is_go : Tick → Bool
+is_go Go = true
+is_go (Step host kind) = false
+is_go (Deliver host) = false
+
+-- it may stand in a call of this host: an access is that host's, and a Go isn't played by itself
+abbrev pub IsOfCall : (caller : ℕ) → AtomicStep → Type 0
+IsOfCall caller (At host (Steps kind wire_free answer)) = ⊤
+IsOfCall caller (At host (Arrives frame fate)) = ⊤
+IsOfCall caller (At host (Accesses access)) = host ≡ caller
+IsOfCall caller (Idles tick) = is_go tick ≡ false
+
+-- These atomic steps lead from one state of all stations to another.
+abbrev pub LeadsTo : (caller : ℕ) → List AtomicStep → (old new : List StationState) → Type 0
+LeadsTo caller [] old new = new ≡ old
+LeadsTo caller (step ∷ later) old new = CanHappen step old × IsOfCall caller step × LeadsTo caller later (after step old) new
+
+-- it is a tick, and no access
+abbrev pub IsTick : AtomicStep → Type 0
+IsTick (At host (Steps kind wire_free answer)) = ⊤
+IsTick (At host (Arrives frame fate)) = ⊤
+IsTick (At host (Accesses access)) = false ≡ true
+IsTick (Idles tick) = is_go tick ≡ false
+
+-- What happened at one host.
+
+abbrev pub events_by : (host : ℕ) → AtomicStep → List Event
+events_by k (At host event) = if k == host then event ∷ [] else []
+events_by k (Idles tick) = []
+
+abbrev pub events_at : (host : ℕ) → List AtomicStep → List Event
+events_at k steps = flat_map (events_by k) steps
+
+abbrev pub past_at : (host : ℕ) → List AtomicStep → Past
+past_at k steps = past_of (events_at k steps)
+
+-- Outcomes with the number of accesses before them.
+
+-- the greatest count of accesses
+abbrev pub most_accesses : ℕ
+most_accesses = 2 ^ 64 - 1
+
+abbrev pub numbered : ℕ → AtomicStep → List Numbered
+numbered n step = record { accesses = n; outcome = outcome_of step } ∷ []
+
+-- what is noted of an atomic step behind so many accesses, and how many there are then
+abbrev pub noted_by : ℕ → AtomicStep → List Numbered
+noted_by n (At host (Steps kind wire_free answer)) = numbered n (At host (Steps kind wire_free answer))
+noted_by n (At host (Arrives frame fate)) = numbered n (At host (Arrives frame fate))
+noted_by n (At host (Accesses access)) = []
+noted_by n (Idles tick) = numbered n (Idles tick)
+
+abbrev pub counted_by : ℕ → AtomicStep → ℕ
+counted_by n (At host (Steps kind wire_free answer)) = n
+counted_by n (At host (Arrives frame fate)) = n
+counted_by n (At host (Accesses access)) = min (n + 1) most_accesses
+counted_by n (Idles tick) = n
+
+abbrev pub noted_of : ℕ → List AtomicStep → List Numbered
+noted_of n [] = []
+noted_of n (step ∷ later) = noted_by n step ++ noted_of (counted_by n step) later
+
+abbrev pub counted_of : ℕ → List AtomicStep → ℕ
+counted_of n [] = n
+counted_of n (step ∷ later) = counted_of (counted_by n step) later
