@@ -1,0 +1,94 @@
+-- When a network can be made by a plan (own).
+use Rattle.std.specs.Prelude.{◌≡◌, ◌≢◌, ◌≤◌, ◌-◌, ◌^◌, ◌&&◌, ◌||◌, ◌==◌, ℕ, Bool, true, List, All, Err, Ok, Result, String, count_by, length, nat_le}
+use Rattle.std.specs.Prelude.{string_bytes, string_eq}
+use Rattle.std.specs.declared.alloc.Global.{Global}
+use Rattle.eeprom.specs.Image.{address_bytes}
+use Rattle.mdic_phy.specs.declared.phy.Link.TheVariants.{After}
+use Rattle.rx_filter.specs.Addresses.{IsIndividual}
+use Rattle.bring_up.specs.Configuration.{CanBeHad}
+use Rattle.network_plan.specs.declared.plan.HostPlan.{HostPlan}
+use Rattle.network_plan.specs.declared.plan_error.PlanError.{PlanError}
+use Rattle.network_plan.specs.declared.plan_error.PlanError.TheVariants as refused
+
+-- how many bytes a name has at most, how many ends a wire, and how many hosts a network
+abbrev pub most_name_bytes : ℕ
+most_name_bytes = 16
+
+abbrev pub most_ends : ℕ
+most_ends = 8
+
+abbrev pub most_hosts : ℕ
+most_hosts = 16
+
+-- a byte of a name: a to z, 0 to 9, _ and -, in ASCII
+abbrev pub is_of_name : ℕ → Bool
+is_of_name byte = (nat_le 0x61 byte && nat_le byte 0x7A) || (nat_le 0x30 byte && nat_le byte 0x39) || (byte == 0x5F) || (byte == 0x2D)
+
+pub record IsName (bytes : List ℕ) : Type 0 where
+  pub least : 1 ≤ length bytes
+  pub most : length bytes ≤ most_name_bytes
+  pub all : All (λ byte. is_of_name byte ≡ true) bytes
+
+-- how many hosts have this name, and are on the wire of this name
+abbrev pub hosts_named : List HostPlan → String Global → ℕ
+hosts_named hosts name = count_by (λ (host : HostPlan). string_eq host.name name) hosts
+
+abbrev pub hosts_on : List HostPlan → String Global → ℕ
+hosts_on hosts wire = count_by (λ (host : HostPlan). string_eq host.wire wire) hosts
+
+-- Both names are right, and no other host has its name.
+pub record HasName (hosts : List HostPlan) (host : HostPlan) : Type 0 where
+  pub name : IsName (string_bytes host.name)
+  pub wire : IsName (string_bytes host.wire)
+  pub once : hosts_named hosts host.name ≡ 1
+
+pub record HasNames (hosts : List HostPlan) : Type 0 where
+  pub all : All (HasName hosts) hosts
+
+-- a wire may have so many ends
+pub record IsEndCount (ends : ℕ) : Type 0 where
+  pub least : 2 ≤ ends
+  pub most : ends ≤ most_ends
+
+-- Its wire has 2 to 8 ends.
+pub record HasWire (hosts : List HostPlan) (host : HostPlan) : Type 0 where
+  pub ends : IsEndCount (hosts_on hosts host.wire)
+
+pub record HasEnds (hosts : List HostPlan) : Type 0 where
+  pub all : All (HasWire hosts) hosts
+
+pub record HasHosts (hosts : List HostPlan) : Type 0 where
+  pub least : 2 ≤ length hosts
+  pub most : length hosts ≤ most_hosts
+
+-- A host that has the address of another is that one, by its name.
+abbrev pub IsSameIfAddressed : (host other : HostPlan) → Type 0
+IsSameIfAddressed host other = address_bytes other.image ≡ address_bytes host.image → string_eq other.name host.name ≡ true
+
+-- Its address is an individual one, and no other host has it.
+pub record HasAddress (hosts : List HostPlan) (host : HostPlan) : Type 0 where
+  pub individual : IsIndividual (address_bytes host.image)
+  pub own : All (IsSameIfAddressed host) hosts
+
+pub record HasAddresses (hosts : List HostPlan) : Type 0 where
+  pub all : All (HasAddress hosts) hosts
+
+-- Its configuration can be had in a memory that is large enough, and its link comes up after a tick at least, or never.
+pub record HasConfig (host : HostPlan) : Type 0 where
+  pub config : CanBeHad host.config (2 ^ 64 - 1)
+  pub link : host.link ≢ After 0
+
+pub record HasConfigs (hosts : List HostPlan) : Type 0 where
+  pub all : All HasConfig hosts
+
+-- Which answer a plan gets: the first reason to refuse it, and Ok exactly where there is none.
+abbrev pub IsPlanAnswer : List HostPlan → Result (Unit {0}) PlanError → Type 0
+IsPlanAnswer hosts (Err refused.Name) = ¬ (HasNames hosts)
+IsPlanAnswer hosts (Err refused.Ends) = HasNames hosts × (¬ (HasEnds hosts))
+IsPlanAnswer hosts (Err refused.Hosts) = HasNames hosts × HasEnds hosts × (¬ (HasHosts hosts))
+IsPlanAnswer hosts (Err refused.Address) = HasNames hosts × HasEnds hosts × HasHosts hosts × (¬ (HasAddresses hosts))
+IsPlanAnswer hosts (Err refused.Config) =
+    HasNames hosts × HasEnds hosts × HasHosts hosts × HasAddresses hosts × (¬ (HasConfigs hosts))
+IsPlanAnswer hosts (Err refused.Memory) = ⊥
+IsPlanAnswer hosts (Err (refused.Init host error)) = ⊥
+IsPlanAnswer hosts (Ok u) = HasNames hosts × HasEnds hosts × HasHosts hosts × HasAddresses hosts × HasConfigs hosts

@@ -1,0 +1,173 @@
+// Hosts and their wires.
+
+ghost use Rattle.std.specs.Prelude.{◌≡◌, ◌↔◌, IsTrue};
+ghost use Rattle.network_plan.specs.Plans.{HasAddress, HasAddresses, HasConfigs, HasEnds, HasName, HasNames, HasWire, IsName};
+ghost use Rattle.network_plan.specs.Plans.{IsPlanAnswer, IsSameIfAddressed, hosts_named, hosts_on};
+
+use crate::plan_error::PlanError;
+use arrayvec::ArrayVec;
+use bring_up::Config;
+use eeprom::Image;
+use mdic_phy::Link;
+use packet_socket::SocketKind;
+
+/// How many bytes a name has at most (own).
+pub const MOST_NAME_BYTES: usize = 16;
+
+/// How many ends a wire has at most (own).
+pub const MOST_ENDS: usize = 8;
+
+/// How many hosts a network has at most (own).
+pub const MOST_HOSTS: usize = 16;
+
+/// How many sockets a host has at most (own).
+pub const MOST_SOCKETS: usize = 8;
+
+/// A host, as it is to be.
+#[derive(Debug, Drop, PartialEq, Eq)]
+pub struct HostPlan {
+    /// Its name: 1 to 16 bytes of `a-z 0-9 _ -`, and no other host's.
+    pub name: String,
+    /// The name of the wire that it is on, spelled the same way.
+    pub wire: String,
+    /// The EEPROM of its adapter; its address is an individual one, and no other host's.
+    pub image: Image,
+    /// When its link comes up.
+    pub link: Link,
+    /// What its adapter is brought up with.
+    pub config: Config,
+    /// Its sockets, in the order in which a frame asks them.
+    pub sockets: ArrayVec<SocketKind, MOST_SOCKETS>,
+}
+
+/// A network, as it is to be: its hosts, numbered from 0 in this order. Those that name one wire are on it.
+#[derive(Debug, Drop, PartialEq, Eq)]
+pub struct Plan {
+    /// The hosts.
+    pub hosts: Vec<HostPlan>,
+}
+
+impl Plan {
+    /// Looks whether a network can be made by this plan, as far as the plan alone says it.
+    ///
+    /// # Errors
+    ///
+    /// [`Name`](PlanError::Name), [`Ends`](PlanError::Ends), [`Hosts`](PlanError::Hosts),
+    /// [`Address`](PlanError::Address) and [`Config`](PlanError::Config), the first that applies to any host.
+    pub fn check(&self) -> Result<(), PlanError>
+        ensures { IsPlanAnswer self.now.hosts.items result }
+    {
+        let hosts = self.hosts.as_slice();
+        if !have_names(hosts) {
+            return Err(PlanError::Name);
+        }
+        if !have_ends(hosts) {
+            return Err(PlanError::Ends);
+        }
+        if hosts.len() < 2 || hosts.len() > MOST_HOSTS {
+            return Err(PlanError::Hosts);
+        }
+        if !have_addresses(hosts) {
+            return Err(PlanError::Address);
+        }
+        if !have_configs(hosts) {
+            return Err(PlanError::Config);
+        }
+        Ok(())
+    }
+}
+
+/// Whether a byte may stand in a name.
+fn is_of_name(byte: u8) -> bool
+    ensures { result ≡ Rattle.network_plan.specs.Plans.is_of_name byte }
+{
+    matches!(byte, b'a'..=b'z' | b'0'..=b'9' | b'_' | b'-')
+}
+
+/// Whether a text is a name.
+fn is_name(text: &str) -> bool
+    ensures { IsTrue result ↔ IsName text.now }
+{
+    let bytes = text.as_bytes();
+    !bytes.is_empty()
+        && bytes.len() <= MOST_NAME_BYTES
+        && bytes.iter().all(|byte| is_of_name(*byte))
+}
+
+/// How many hosts have this name.
+fn count_named(hosts: &[HostPlan], name: &String) -> usize
+    ensures { result ≡ hosts_named hosts.now name.now }
+{
+    hosts.iter().filter(|host| host.name == *name).count()
+}
+
+/// How many hosts are on the wire of this name: as many ends it has.
+fn count_ends(hosts: &[HostPlan], wire: &String) -> usize
+    ensures { result ≡ hosts_on hosts.now wire.now }
+{
+    hosts.iter().filter(|host| host.wire == *wire).count()
+}
+
+/// Whether a host's names are right, and its own name no other's.
+fn has_name(hosts: &[HostPlan], host: &HostPlan) -> bool
+    ensures { IsTrue result ↔ HasName hosts.now host.now }
+{
+    is_name(host.name.as_str())
+        && is_name(host.wire.as_str())
+        && count_named(hosts, &host.name) == 1
+}
+
+/// Whether all names are right, and each host's its own.
+fn have_names(hosts: &[HostPlan]) -> bool
+    ensures { IsTrue result ↔ HasNames hosts.now }
+{
+    hosts.iter().all(|host| has_name(hosts, host))
+}
+
+/// Whether a host's wire has 2 to 8 ends.
+fn has_wire(hosts: &[HostPlan], host: &HostPlan) -> bool
+    ensures { IsTrue result ↔ HasWire hosts.now host.now }
+{
+    let ends = count_ends(hosts, &host.wire);
+    2 <= ends && ends <= MOST_ENDS
+}
+
+/// Whether each wire has 2 to 8 ends.
+fn have_ends(hosts: &[HostPlan]) -> bool
+    ensures { IsTrue result ↔ HasEnds hosts.now }
+{
+    for host in hosts {
+        if !has_wire(hosts, host) {
+            return false;
+        }
+    }
+    true
+}
+
+/// Whether two hosts have different addresses, or are one.
+fn is_same_if_addressed(host: &HostPlan, other: &HostPlan) -> bool
+    ensures { IsTrue result ↔ IsSameIfAddressed host.now other.now }
+{
+    other.image.address() != host.image.address() || other.name == host.name
+}
+
+/// Whether a host's address is an individual one, and no other's.
+fn has_address(hosts: &[HostPlan], host: &HostPlan) -> bool
+    ensures { IsTrue result ↔ HasAddress hosts.now host.now }
+{
+    host.image.address()[0] % 2 == 0 && hosts.iter().all(|other| is_same_if_addressed(host, other))
+}
+
+/// Whether each address is an individual one, and no other host's.
+fn have_addresses(hosts: &[HostPlan]) -> bool
+    ensures { IsTrue result ↔ HasAddresses hosts.now }
+{
+    hosts.iter().all(|host| has_address(hosts, host))
+}
+
+/// Whether each host's configuration can be had, and its link comes up after a tick at least, or never.
+fn have_configs(hosts: &[HostPlan]) -> bool
+    ensures { IsTrue result ↔ HasConfigs hosts.now }
+{
+    hosts.iter().all(|host| host.link != Link::After(0) && host.config.layout(u64::MAX).is_ok())
+}

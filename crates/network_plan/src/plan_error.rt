@@ -1,0 +1,31 @@
+//! Why no network was made by a plan.
+
+use bring_up::InitError;
+use thiserror::Error;
+
+/// Why no network was made by a plan. Of several reasons the first in this order is told.
+#[derive(Clone, Copy, Debug, PartialEq, Eq, Error)]
+pub enum PlanError {
+    /// The name of a host or a wire is empty, has more than 16 bytes, or bytes other than those of `a-z 0-9 _ -`; or two
+    /// hosts have one name.
+    #[error("E40 Name")]
+    Name,
+    /// A wire has one end, or more than 8.
+    #[error("E41 Ends")]
+    Ends,
+    /// There are less than 2 hosts, or more than 16.
+    #[error("E42 Hosts")]
+    Hosts,
+    /// The address of a host's image is a group address, or another host's.
+    #[error("E43 Address")]
+    Address,
+    /// A host's configuration can't be had, or its link comes up after no tick.
+    #[error("E44 Config")]
+    Config,
+    /// Memory was refused.
+    #[error("E45 Memory")]
+    Memory,
+    /// This host's adapter could not be brought up.
+    #[error("E46 Init: {1}")]
+    Init(usize, InitError),
+}
