@@ -3,7 +3,14 @@ use crate::{
     SHORTEST_SENDABLE, TxCommand, TxDesc, TxStatus,
 };
 use bitflags::Flags;
+use std::fmt::Debug;
+use std::process::Abort;
 use std::test::Fail;
+
+/// Asserts that a value is as it has to be, and shows both where it isn't: one proof for all of its calls.
+fn same<T: PartialEq + Debug>(rt: &impl Abort, shown: &T, wanted: &T) {
+    assert_eq!(rt; shown, wanted);
+}
 
 /// The descriptor of the buffer at 0x4800, finished with a frame of 60 bytes: 00480000000000003c00000003000000.
 const FINISHED: [u8; 16] = [0x00, 0x48, 0, 0, 0, 0, 0, 0, 0x3C, 0, 0, 0, 0x03, 0, 0, 0];
@@ -21,8 +28,8 @@ fn finished() -> RxDesc {
 
 #[test]
 fn a_finished_descriptor(rt: HostRuntime) {
-    assert_eq!(rt; finished().to_bytes(), FINISHED);
-    assert_eq!(rt; RxDesc::from_bytes(&FINISHED), finished());
+    same(&rt, &finished().to_bytes(), &FINISHED);
+    same(&rt, &RxDesc::from_bytes(&FINISHED), &finished());
     assert!(rt; finished().status.contains(RxStatus::DD));
 }
 
@@ -31,15 +38,16 @@ fn a_finished_descriptor(rt: HostRuntime) {
 fn every_byte_has_its_place(rt: HostRuntime) {
     let bytes = [1, 2, 3, 4, 5, 6, 7, 8, 9, 10, 11, 12, 0xFC, 14, 15, 16];
     let desc = RxDesc::from_bytes(&bytes);
-    assert_eq!(rt; desc.address, 0x0807_0605_0403_0201);
-    assert_eq!(rt;
-        (desc.length, desc.checksum, desc.special),
-        (0x0A09, 0x0C0B, 0x100F)
+    same(&rt, &desc.address, &0x0807_0605_0403_0201);
+    same(
+        &rt,
+        &(desc.length, desc.checksum, desc.special),
+        &(0x0A09, 0x0C0B, 0x100F),
     );
-    assert_eq!(rt; (desc.status.bits(), desc.errors), (0xFC, 14));
+    same(&rt, &(desc.status.bits(), desc.errors), &(0xFC, 14));
     assert!(rt; !desc.status.contains(RxStatus::DD));
     assert!(rt; !desc.status.contains(RxStatus::EOP));
-    assert_eq!(rt; desc.to_bytes(), bytes);
+    same(&rt, &desc.to_bytes(), &bytes);
 }
 
 /// The descriptor of a frame of 14 bytes in the buffer at 0x800, to be reported: 00080000000000000e00000b00000000.
@@ -59,8 +67,8 @@ fn to_be_sent() -> TxDesc {
 
 #[test]
 fn a_descriptor_to_be_sent(rt: HostRuntime) {
-    assert_eq!(rt; to_be_sent().to_bytes(), TO_BE_SENT);
-    assert_eq!(rt; TxDesc::from_bytes(&TO_BE_SENT), to_be_sent());
+    same(&rt, &to_be_sent().to_bytes(), &TO_BE_SENT);
+    same(&rt, &TxDesc::from_bytes(&TO_BE_SENT), &to_be_sent());
     assert!(rt; !to_be_sent().command.contains(TxCommand::DEXT));
     assert!(rt; !to_be_sent().status.contains(TxStatus::DD));
 }
@@ -70,11 +78,15 @@ fn a_descriptor_to_be_sent(rt: HostRuntime) {
 fn every_byte_of_a_transmit_descriptor_has_its_place(rt: HostRuntime) {
     let bytes = [1, 2, 3, 4, 5, 6, 7, 8, 9, 10, 11, 0xD4, 0xFE, 14, 15, 16];
     let desc = TxDesc::from_bytes(&bytes);
-    assert_eq!(rt; desc.address, 0x0807_0605_0403_0201);
-    assert_eq!(rt; (desc.length, desc.special), (0x0A09, 0x100F));
-    assert_eq!(rt; (desc.cso, desc.css), (11, 14));
-    assert_eq!(rt; (desc.command.bits(), desc.status.bits()), (0xD4, 0xFE));
-    assert_eq!(rt; desc.to_bytes(), bytes);
+    same(&rt, &desc.address, &0x0807_0605_0403_0201);
+    same(&rt, &(desc.length, desc.special), &(0x0A09, 0x100F));
+    same(&rt, &(desc.cso, desc.css), &(11, 14));
+    same(
+        &rt,
+        &(desc.command.bits(), desc.status.bits()),
+        &(0xD4, 0xFE),
+    );
+    same(&rt, &desc.to_bytes(), &bytes);
 }
 
 fn ring_of_eight(head: u16, tail: u16) -> Ring {
@@ -89,11 +101,11 @@ fn ring_of_eight(head: u16, tail: u16) -> Ring {
 #[test]
 fn a_ring_of_eight(rt: HostRuntime) {
     let ring = ring_of_eight(6, 1);
-    assert_eq!(rt; ring.count(), 8);
+    same(&rt, &ring.count(), &8);
     assert!(rt; ring.has_valid_indices());
     assert!(rt; !ring_of_eight(8, 1).has_valid_indices());
     assert!(rt; !ring_of_eight(1, 8).has_valid_indices());
-    assert_eq!(rt; ring.descriptor(2), Some(0xA0));
+    same(&rt, &ring.descriptor(2), &Some(0xA0));
 }
 
 /// Indices wrap behind the last slot; addresses don't wrap.
@@ -105,17 +117,18 @@ fn indices_wrap_and_addresses_do_not(rt: HostRuntime) {
         head: 0,
         tail: 7,
     };
-    assert_eq!(rt; (ring.next(6), ring.next(7)), (7, 0));
-    assert_eq!(rt;
-        (
+    same(&rt, &(ring.next(6), ring.next(7)), &(7, 0));
+    same(
+        &rt,
+        &(
             ring.distance(6, 1),
             ring.distance(1, 6),
-            ring.distance(3, 3)
+            ring.distance(3, 3),
         ),
-        (3, 5, 0)
+        &(3, 5, 0),
     );
-    assert_eq!(rt; ring.descriptor(1), Some(u64::MAX - 15));
-    assert_eq!(rt; ring.descriptor(2), None);
+    same(&rt, &ring.descriptor(1), &Some(u64::MAX - 15));
+    same(&rt, &ring.descriptor(2), &None);
 }
 
 /// A length below sixteen bytes is a ring without a slot.
@@ -127,7 +140,7 @@ fn a_ring_of_no_descriptors(rt: HostRuntime) {
         head: 0,
         tail: 0,
     };
-    assert_eq!(rt; ring.count(), 0);
+    same(&rt, &ring.count(), &0);
     assert!(rt; !ring.has_valid_indices());
 }
 
@@ -135,14 +148,15 @@ fn a_ring_of_no_descriptors(rt: HostRuntime) {
 fn frames_of_at_most_1518_bytes(rt: HostRuntime) -> Result<(), Fail> {
     let bytes = [7; 1519];
     let longest = Frame::try_from_slice(&bytes[..1518]).ok_or("1518 bytes fit")?;
-    assert_eq!(rt; longest.len(), 1518);
-    assert_eq!(rt; longest.as_slice(), &bytes[..1518]);
+    same(&rt, &longest.len(), &1518);
+    same(&rt, &longest.as_slice(), &&bytes[..1518]);
     assert!(rt; Frame::try_from_slice(&bytes).is_none());
-    assert_eq!(rt;
-        (SHORTEST_SENDABLE, SHORTEST_LEGAL, LONGEST_LEGAL),
-        (14, 60, 1518)
+    same(
+        &rt,
+        &(SHORTEST_SENDABLE, SHORTEST_LEGAL, LONGEST_LEGAL),
+        &(14, 60, 1518),
     );
-    assert_eq!(rt; (LONGEST_SENDABLE, Frame::MAX_LEN), (1518, 1518));
+    same(&rt, &(LONGEST_SENDABLE, Frame::MAX_LEN), &(1518, 1518));
     Ok(())
 }
 
@@ -151,7 +165,7 @@ fn frames_are_compared_by_their_bytes(rt: HostRuntime) -> Result<(), Fail> {
     let frame = Frame::from_slice(&[1, 2, 3]);
     assert!(rt; !frame.is_empty());
     assert!(rt; Frame::new().is_empty());
-    assert_eq!(rt; frame.clone()?, frame);
+    same(&rt, &frame.clone()?, &frame);
     assert_ne!(rt; frame, Frame::from_slice(&[1, 2, 4]));
     Ok(())
 }

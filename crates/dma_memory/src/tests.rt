@@ -1,5 +1,17 @@
 use crate::{HostMemory, Layout, LayoutError, OutOfRange, Pool};
+use std::fmt::Debug;
+use std::process::Abort;
 use std::test::Fail;
+
+/// Asserts that a value is as it has to be, and shows both where it isn't: one proof for all of its calls.
+fn same<T: PartialEq + Debug>(rt: &impl Abort, shown: &T, wanted: &T) {
+    assert_eq!(rt; shown, wanted);
+}
+
+/// Asserts that a value is as it has to be, and shows both and the place where it isn't.
+fn same_at<T: PartialEq + Debug, P: Debug>(rt: &impl Abort, shown: &T, wanted: &T, place: &P) {
+    assert_eq!(rt; shown, wanted, "at {place:?}");
+}
 
 /// A memory of 16 bytes, of which those from 4 to 7 are 1 to 4.
 const FILLED: [u8; 16] = [0, 0, 0, 0, 1, 2, 3, 4, 0, 0, 0, 0, 0, 0, 0, 0];
@@ -8,22 +20,22 @@ const FILLED: [u8; 16] = [0, 0, 0, 0, 1, 2, 3, 4, 0, 0, 0, 0, 0, 0, 0, 0];
 #[test]
 fn a_new_memory_is_zeros(rt: HostRuntime) {
     if let Ok(memory) = HostMemory::new(rt.alloc(), 51_200) {
-        assert_eq!(rt; memory.size(), 51_200);
+        same(&rt, &memory.size(), &51_200);
         let mut last = [7; 4];
-        assert_eq!(rt; memory.load(51_196, &mut last), Ok(()));
-        assert_eq!(rt; last, [0; 4]);
+        same(&rt, &memory.load(51_196, &mut last), &Ok(()));
+        same(&rt, &last, &[0; 4]);
     }
 }
 
 #[test]
 fn stored_bytes_are_loaded(rt: HostRuntime) -> Result<(), Fail> {
     let mut memory = HostMemory::new(rt.alloc(), 16)?;
-    assert_eq!(rt; memory.store(4, &[1, 2, 3, 4]), Ok(()));
+    same(&rt, &memory.store(4, &[1, 2, 3, 4]), &Ok(()));
     let mut all = [9; 16];
-    assert_eq!(rt; memory.load(0, &mut all), Ok(()));
-    assert_eq!(rt; all, FILLED);
+    same(&rt, &memory.load(0, &mut all), &Ok(()));
+    same(&rt, &all, &FILLED);
     let middle = memory.view(5, 3)?;
-    assert_eq!(rt; middle, [2, 3, 4].as_slice());
+    same(&rt, &middle, &[2, 3, 4].as_slice());
     Ok(())
 }
 
@@ -31,30 +43,34 @@ fn stored_bytes_are_loaded(rt: HostRuntime) -> Result<(), Fail> {
 #[test]
 fn out_of_range_changes_nothing(rt: HostRuntime) -> Result<(), Fail> {
     let mut memory = HostMemory::new(rt.alloc(), 16)?;
-    assert_eq!(rt; memory.store(4, &[1, 2, 3, 4]), Ok(()));
+    same(&rt, &memory.store(4, &[1, 2, 3, 4]), &Ok(()));
     for address in [13, 16, 17, u64::MAX - 3, u64::MAX] {
-        assert_eq!(rt;
-            memory.store(address, &[8; 4]),
-            Err(OutOfRange),
-            "store at {address}"
+        same_at(
+            &rt,
+            &memory.store(address, &[8; 4]),
+            &Err(OutOfRange),
+            &("store at", address),
         );
         let mut into = [9; 4];
-        assert_eq!(rt;
-            memory.load(address, &mut into),
-            Err(OutOfRange),
-            "load at {address}"
+        same_at(
+            &rt,
+            &memory.load(address, &mut into),
+            &Err(OutOfRange),
+            &("load at", address),
         );
-        assert_eq!(rt; into, [9; 4]);
+        same(&rt, &into, &[9; 4]);
         assert!(rt; memory.view(address, 4).is_err(), "view at {address}");
-        assert_eq!(rt;
-            memory.store(address, &[]),
-            Ok(()),
-            "nothing stored at {address}"
+        same_at(
+            &rt,
+            &memory.store(address, &[]),
+            &Ok(()),
+            &("nothing stored at", address),
         );
-        assert_eq!(rt;
-            memory.load(address, &mut []),
-            Ok(()),
-            "nothing loaded at {address}"
+        same_at(
+            &rt,
+            &memory.load(address, &mut []),
+            &Ok(()),
+            &("nothing loaded at", address),
         );
         assert!(rt;
             memory.view(address, 0).is_ok(),
@@ -62,31 +78,35 @@ fn out_of_range_changes_nothing(rt: HostRuntime) -> Result<(), Fail> {
         );
     }
     let mut all = [9; 16];
-    assert_eq!(rt; memory.load(0, &mut all), Ok(()));
-    assert_eq!(rt; all, FILLED);
+    same(&rt, &memory.load(0, &mut all), &Ok(()));
+    same(&rt, &all, &FILLED);
     Ok(())
 }
 
 #[test]
 fn places_of_the_least_layout(rt: HostRuntime) -> Result<(), Fail> {
     let layout = Layout::of(8, 8, 16)?;
-    assert_eq!(rt; (layout.rx(), layout.tx(), layout.buffers()), (8, 8, 16));
-    assert_eq!(rt; layout.receive_ring(), 0);
-    assert_eq!(rt; layout.transmit_ring(), 0x80);
-    assert_eq!(rt; layout.size(), 51_200);
-    assert_eq!(rt; layout.transmit_buffer(0), 0x800);
-    assert_eq!(rt; layout.transmit_buffer(7), 0x4000);
-    assert_eq!(rt; layout.receive_buffer(0), 0x4800);
-    assert_eq!(rt; layout.receive_buffer(15), 0xC000);
+    same(
+        &rt,
+        &(layout.rx(), layout.tx(), layout.buffers()),
+        &(8, 8, 16),
+    );
+    same(&rt, &layout.receive_ring(), &0);
+    same(&rt, &layout.transmit_ring(), &0x80);
+    same(&rt, &layout.size(), &51_200);
+    same(&rt, &layout.transmit_buffer(0), &0x800);
+    same(&rt, &layout.transmit_buffer(7), &0x4000);
+    same(&rt, &layout.receive_buffer(0), &0x4800);
+    same(&rt, &layout.receive_buffer(15), &0xC000);
     Ok(())
 }
 
 /// Rings that end at a multiple of 2,048 are followed by the buffers at once.
 #[test]
 fn buffers_begin_at_the_next_multiple(rt: HostRuntime) -> Result<(), Fail> {
-    assert_eq!(rt; Layout::of(64, 64, 64)?.transmit_buffer(0), 2048);
-    assert_eq!(rt; Layout::of(64, 72, 64)?.transmit_buffer(0), 4096);
-    assert_eq!(rt; Layout::of(256, 256, 4096)?.size(), 8_921_088);
+    same(&rt, &Layout::of(64, 64, 64)?.transmit_buffer(0), &2048);
+    same(&rt, &Layout::of(64, 72, 64)?.transmit_buffer(0), &4096);
+    same(&rt, &Layout::of(256, 256, 4096)?.size(), &8_921_088);
     Ok(())
 }
 
@@ -101,17 +121,19 @@ fn refused_layouts(rt: HostRuntime) {
         (8, 264, 16),
         (0, 8, 5000),
     ] {
-        assert_eq!(rt;
-            Layout::of(rx, tx, buffers),
-            Err(LayoutError::RingSize),
-            "{rx} {tx} {buffers}"
+        same_at(
+            &rt,
+            &Layout::of(rx, tx, buffers),
+            &Err(LayoutError::RingSize),
+            &(rx, tx, buffers),
         );
     }
     for (rx, tx, buffers) in [(8, 8, 7), (16, 8, 8), (8, 8, 4097), (256, 256, 255)] {
-        assert_eq!(rt;
-            Layout::of(rx, tx, buffers),
-            Err(LayoutError::BufferCount),
-            "{rx} {tx} {buffers}"
+        same_at(
+            &rt,
+            &Layout::of(rx, tx, buffers),
+            &Err(LayoutError::BufferCount),
+            &(rx, tx, buffers),
         );
     }
     assert!(rt; Layout::of(8, 256, 8).is_ok());
@@ -121,7 +143,7 @@ fn refused_layouts(rt: HostRuntime) {
 #[test]
 fn a_new_pool_has_all_numbers(rt: HostRuntime) {
     if let Ok(pool) = Pool::new(rt.alloc(), u16::MAX) {
-        assert_eq!(rt; pool.len(), u16::MAX);
+        same(&rt, &pool.len(), &u16::MAX);
         assert!(rt; !pool.is_empty());
     }
 }
@@ -134,7 +156,7 @@ fn each_number_is_given_once(rt: HostRuntime) -> Result<(), Fail> {
     let third = pool.take().expect(&rt, "of one number");
     let mut numbers = [first.number(), second.number(), third.number()];
     numbers.sort_unstable();
-    assert_eq!(rt; numbers, [0, 1, 2]);
+    same(&rt, &numbers, &[0, 1, 2]);
     assert!(rt; pool.take().is_none());
     assert!(rt; pool.is_empty());
     Ok(())
@@ -148,10 +170,10 @@ fn a_number_that_is_given_back_is_taken_again(rt: HostRuntime) -> Result<(), Fai
     let third = pool.take().expect(&rt, "of one number");
     let number = third.number();
     pool.give(third);
-    assert_eq!(rt; pool.len(), 1);
+    same(&rt, &pool.len(), &1);
     let again = pool.take().expect(&rt, "of one number");
-    assert_eq!(rt; again.number(), number);
-    assert_eq!(rt; pool.len(), 0);
+    same(&rt, &again.number(), &number);
+    same(&rt, &pool.len(), &0);
     Ok(())
 }
 
@@ -165,17 +187,20 @@ fn a_pool_without_numbers(rt: HostRuntime) -> Result<(), Fail> {
 
 #[test]
 fn texts_of_refusals(rt: HostRuntime) -> Result<(), Fail> {
-    assert_eq!(rt;
-        format!(in rt.alloc(); "{OutOfRange}")?.as_str(),
-        "E1 OutOfRange"
+    same(
+        &rt,
+        &format!(in rt.alloc(); "{OutOfRange}")?.as_str(),
+        &"E1 OutOfRange",
     );
-    assert_eq!(rt;
-        format!(in rt.alloc(); "{}", LayoutError::RingSize)?.as_str(),
-        "E2 RingSize"
+    same(
+        &rt,
+        &format!(in rt.alloc(); "{}", LayoutError::RingSize)?.as_str(),
+        &"E2 RingSize",
     );
-    assert_eq!(rt;
-        format!(in rt.alloc(); "{}", LayoutError::BufferCount)?.as_str(),
-        "E3 BufferCount"
+    same(
+        &rt,
+        &format!(in rt.alloc(); "{}", LayoutError::BufferCount)?.as_str(),
+        &"E3 BufferCount",
     );
     Ok(())
 }

@@ -1,6 +1,18 @@
 //! Worked examples.
 
 use crate::{Link, Mdic, Phy, Ticked};
+use std::fmt::Debug;
+use std::process::Abort;
+
+/// Asserts that a value is as it has to be, and shows both where it isn't: one proof for all of its calls.
+fn same<T: PartialEq + Debug>(rt: &impl Abort, shown: &T, wanted: &T) {
+    assert_eq!(rt; shown, wanted);
+}
+
+/// Asserts that a value is as it has to be, and shows both and the place where it isn't.
+fn same_at<T: PartialEq + Debug, P: Debug>(rt: &impl Abort, shown: &T, wanted: &T, place: &P) {
+    assert_eq!(rt; shown, wanted, "at {place:?}");
+}
 
 /// A tick that ended a command, or counted, with nothing to record.
 const QUIET: Option<Ticked> = Some(Ticked {
@@ -22,22 +34,22 @@ const ACCESS_COMPLETE: Option<Ticked> = Some(Ticked {
 fn the_link_comes_up(rt: HostRuntime) {
     let mut phy = Phy::new(Link::After(1));
     let mut mdic = Mdic::new();
-    assert_eq!(rt; mdic.tick(&mut phy), None);
+    same(&rt, &mdic.tick(&mut phy), &None);
 
     mdic.write(0x0420_1200);
-    assert_eq!(rt; mdic.tick(&mut phy), QUIET);
-    assert_eq!(rt; mdic.read(), 0x1420_1200);
+    same(&rt, &mdic.tick(&mut phy), &QUIET);
+    same(&rt, &mdic.read(), &0x1420_1200);
     assert!(rt; !phy.link_is_up());
-    assert_eq!(rt; mdic.tick(&mut phy), LINK_CAME_UP);
+    same(&rt, &mdic.tick(&mut phy), &LINK_CAME_UP);
     assert!(rt; phy.link_is_up());
 
     mdic.write(0x0821_0000);
-    assert_eq!(rt; mdic.tick(&mut phy), QUIET);
-    assert_eq!(rt; mdic.read(), 0x1821_0020);
+    same(&rt, &mdic.tick(&mut phy), &QUIET);
+    same(&rt, &mdic.read(), &0x1821_0020);
     mdic.write(0x0821_0000);
-    assert_eq!(rt; mdic.tick(&mut phy), QUIET);
-    assert_eq!(rt; mdic.read(), 0x1821_0024);
-    assert_eq!(rt; mdic.tick(&mut phy), None);
+    same(&rt, &mdic.tick(&mut phy), &QUIET);
+    same(&rt, &mdic.read(), &0x1821_0024);
+    same(&rt, &mdic.tick(&mut phy), &None);
 }
 
 #[test]
@@ -53,9 +65,9 @@ fn single_commands(rt: HostRuntime) {
         let mut phy = Phy::new(Link::After(1));
         let mut mdic = Mdic::default();
         mdic.write(command);
-        assert_eq!(rt; mdic.read(), command);
-        assert_eq!(rt; mdic.tick(&mut phy), told, "at {command:#010X}");
-        assert_eq!(rt; mdic.read(), want, "at {command:#010X}");
+        same(&rt, &mdic.read(), &command);
+        same_at(&rt, &mdic.tick(&mut phy), &told, &("at", command));
+        same_at(&rt, &mdic.read(), &want, &("at", command));
     }
 }
 
@@ -65,9 +77,9 @@ fn a_write_without_a_command(rt: HostRuntime) {
     let mut mdic = Mdic::new();
     mdic.write(0x0420_1200);
     mdic.write(0xF221_1234);
-    assert_eq!(rt; mdic.read(), 0x2221_1234);
-    assert_eq!(rt; mdic.tick(&mut phy), None);
-    assert_eq!(rt; mdic.read(), 0x2221_1234);
+    same(&rt, &mdic.read(), &0x2221_1234);
+    same(&rt, &mdic.tick(&mut phy), &None);
+    same(&rt, &mdic.read(), &0x2221_1234);
     assert!(rt; !phy.is_counting());
 }
 
@@ -76,16 +88,16 @@ fn the_registers_of_a_phy(rt: HostRuntime) {
     let mut phy = Phy::new(Link::After(2));
     phy.write(0, 0x1200);
     assert!(rt; phy.is_counting());
-    assert_eq!(rt; phy.read(1), 0);
+    same(&rt, &phy.read(1), &0);
     assert!(rt; !phy.tick());
     assert!(rt; phy.tick());
     assert!(rt; !phy.tick());
-    assert_eq!(rt; phy.read(1), 0x24);
+    same(&rt, &phy.read(1), &0x24);
 
     phy.write(0, 0x0200);
-    assert_eq!(rt; (phy.read(0), phy.read(1)), (0, 0x24));
+    same(&rt, &(phy.read(0), phy.read(1)), &(0, 0x24));
     phy.write(0, 0x9200);
-    assert_eq!(rt; (phy.read(0), phy.read(1)), (0x1000, 0));
+    same(&rt, &(phy.read(0), phy.read(1)), &(0x1000, 0));
     assert!(rt; !phy.is_counting());
 }
 

@@ -3,6 +3,8 @@ use descriptors::Ring;
 use dma_memory::{HostMemory, Layout};
 use registers::Rctl;
 use rx_filter::Filter;
+use std::fmt::Debug;
+use std::process::Abort;
 use std::test::Fail;
 
 /// RCTL with EN and BAM: broadcast frames are received, into buffers of 2,048 bytes.
@@ -18,6 +20,16 @@ const OFFERED: Ring = Ring {
     head: 0,
     tail: 7,
 };
+
+/// Asserts that a value is as it has to be, and shows both where it isn't: one proof for all of its calls.
+fn same<T: PartialEq + Debug>(rt: &impl Abort, shown: &T, wanted: &T) {
+    assert_eq!(rt; shown, wanted);
+}
+
+/// Asserts that a value is as it has to be, and shows both and the place where it isn't.
+fn same_at<T: PartialEq + Debug, P: Debug>(rt: &impl Abort, shown: &T, wanted: &T, place: &P) {
+    assert_eq!(rt; shown, wanted, "at {place:?}");
+}
 
 /// A filter with this word in RCTL, and else as new.
 fn filter_with(control: Rctl) -> Filter {
@@ -43,9 +55,9 @@ fn frames_without_room_are_missed(rt: HostRuntime) -> Result<(), Fail> {
     let mut engine = RxEngine::new(rt.alloc())?;
     let filter = filter_with(CONTROL);
     for fate in [Fate::Stored, Fate::Missed, Fate::Missed] {
-        assert_eq!(rt; arrive(&mut engine, &filter, 1, &[0xFF; 60]), fate);
+        same(&rt, &arrive(&mut engine, &filter, 1, &[0xFF; 60]), &fate);
     }
-    assert_eq!(rt; engine.buffered(), 1);
+    same(&rt, &engine.buffered(), &1);
     Ok(())
 }
 
@@ -60,17 +72,19 @@ fn the_first_fate_that_applies(rt: HostRuntime) -> Result<(), Fail> {
         (CONTROL, 1518, Fate::Stored),
         (CONTROL, 1519, Fate::Illegal),
     ] {
-        assert_eq!(rt;
-            arrive(&mut engine, &filter_with(control), 24, &bytes[..length]),
-            fate,
-            "{length} bytes"
+        same_at(
+            &rt,
+            &arrive(&mut engine, &filter_with(control), 24, &bytes[..length]),
+            &fate,
+            &("bytes", length),
         );
     }
-    assert_eq!(rt;
-        arrive(&mut engine, &filter_with(CONTROL), 24, &[2; 60]),
-        Fate::Filtered
+    same(
+        &rt,
+        &arrive(&mut engine, &filter_with(CONTROL), 24, &[2; 60]),
+        &Fate::Filtered,
     );
-    assert_eq!(rt; engine.buffered(), 2);
+    same(&rt, &engine.buffered(), &2);
     Ok(())
 }
 
@@ -81,14 +95,14 @@ fn a_frame_reaches_memory(rt: HostRuntime) -> Result<(), Fail> {
     let mut memory = offered_memory(&rt)?;
     let mut ring = OFFERED;
     let fate = arrive(&mut engine, &filter_with(CONTROL), 24, &[0xFF; 60]);
-    assert_eq!(rt; fate, Fate::Stored);
+    same(&rt, &fate, &Fate::Stored);
     let moved = rx_data(&mut engine, &mut ring, CONTROL, &mut memory);
-    assert_eq!(rt; (moved, ring.head), (Data::Moved { low: false }, 1));
-    assert_eq!(rt; rx_done(&mut engine, &mut memory), Done::Done);
+    same(&rt, &(moved, ring.head), &(Data::Moved { low: false }, 1));
+    same(&rt, &rx_done(&mut engine, &mut memory), &Done::Done);
     let mut descriptor = [0; 16];
     memory.load(0, &mut descriptor)?;
-    assert_eq!(rt; descriptor, FINISHED);
-    assert_eq!(rt; memory.view(0x4800, 60)?, [0xFF; 60].as_slice());
+    same(&rt, &descriptor, &FINISHED);
+    same(&rt, &memory.view(0x4800, 60)?, &[0xFF; 60].as_slice());
     Ok(())
 }
 
@@ -101,13 +115,13 @@ fn one_frame_is_in_work(rt: HostRuntime) -> Result<(), Fail> {
     let mut ring = OFFERED;
     for _ in 0..2 {
         let fate = arrive(&mut engine, &filter, 24, &[0xFF; 60]);
-        assert_eq!(rt; fate, Fate::Stored);
+        same(&rt, &fate, &Fate::Stored);
     }
     for data in [Data::Moved { low: false }, Data::Nothing] {
         let went = rx_data(&mut engine, &mut ring, CONTROL, &mut memory);
-        assert_eq!(rt; went, data);
+        same(&rt, &went, &data);
     }
-    assert_eq!(rt; engine.buffered(), 1);
+    same(&rt, &engine.buffered(), &1);
     Ok(())
 }
 
@@ -118,7 +132,7 @@ fn half_of_the_descriptors_are_free(rt: HostRuntime) -> Result<(), Fail> {
     for (tail, low) in [(6, false), (5, true), (4, false)] {
         let ring = Ring { tail, ..OFFERED };
         let went = data_step(&rt, &mut memory, ring, CONTROL, &[0xFF; 60])?;
-        assert_eq!(rt; went, (Fate::Stored, Data::Moved { low }));
+        same(&rt, &went, &(Fate::Stored, Data::Moved { low }));
     }
     Ok(())
 }
@@ -135,19 +149,32 @@ fn a_fault_stops_the_engine(rt: HostRuntime) -> Result<(), Fail> {
         tail: 1,
     };
     let filter = filter_with(CONTROL);
-    assert_eq!(rt; arrive(&mut engine, &filter, 24, &[0xFF; 60]), Fate::Stored);
+    same(
+        &rt,
+        &arrive(&mut engine, &filter, 24, &[0xFF; 60]),
+        &Fate::Stored,
+    );
     for data in [Data::Fault, Data::Nothing] {
-        assert_eq!(rt; rx_data(&mut engine, &mut ring, CONTROL, &mut memory), data);
-        assert_eq!(rt; (ring.head, ring.tail, engine.buffered()), (0, 1, 1));
+        same(
+            &rt,
+            &rx_data(&mut engine, &mut ring, CONTROL, &mut memory),
+            &data,
+        );
+        same(&rt, &(ring.head, ring.tail, engine.buffered()), &(0, 1, 1));
     }
     assert!(rt; engine.work().is_none());
     engine.reset();
-    assert_eq!(rt; engine.buffered(), 0);
-    assert_eq!(rt; arrive(&mut engine, &filter, 24, &[0xFF; 60]), Fate::Stored);
+    same(&rt, &engine.buffered(), &0);
+    same(
+        &rt,
+        &arrive(&mut engine, &filter, 24, &[0xFF; 60]),
+        &Fate::Stored,
+    );
     ring = OFFERED;
-    assert_eq!(rt;
-        rx_data(&mut engine, &mut ring, CONTROL, &mut memory),
-        Data::Moved { low: false }
+    same(
+        &rt,
+        &rx_data(&mut engine, &mut ring, CONTROL, &mut memory),
+        &Data::Moved { low: false },
     );
     Ok(())
 }
@@ -183,15 +210,16 @@ fn no_place_for_a_frame(rt: HostRuntime) -> Result<(), Fail> {
         (Ring { head: 8, ..OFFERED }, CONTROL, Data::Fault),
         (OFFERED, Rctl(0x0200_8002), Data::Fault),
     ] {
-        assert_eq!(rt;
-            data_step(&rt, &mut memory, ring, control, &[0xFF; 60])?,
-            (Fate::Stored, data)
+        same(
+            &rt,
+            &data_step(&rt, &mut memory, ring, control, &[0xFF; 60])?,
+            &(Fate::Stored, data),
         );
     }
     let small_buffers = Rctl(0x0003_8002);
     let went = data_step(&rt, &mut memory, OFFERED, small_buffers, &[0xFF; 256])?;
-    assert_eq!(rt; went, (Fate::Stored, Data::Moved { low: false }));
+    same(&rt, &went, &(Fate::Stored, Data::Moved { low: false }));
     let went = data_step(&rt, &mut memory, OFFERED, small_buffers, &[0xFF; 257])?;
-    assert_eq!(rt; went, (Fate::Stored, Data::Fault));
+    same(&rt, &went, &(Fate::Stored, Data::Fault));
     Ok(())
 }

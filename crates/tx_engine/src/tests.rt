@@ -3,7 +3,14 @@ use bitflags::Flags;
 use descriptors::{Ring, TxCommand, TxDesc, TxStatus};
 use dma_memory::{HostMemory, OutOfRange};
 use registers::Tctl;
+use std::fmt::Debug;
+use std::process::Abort;
 use std::test::Fail;
+
+/// Asserts that a value is as it has to be, and shows both where it isn't: one proof for all of its calls.
+fn same<T: PartialEq + Debug>(rt: &impl Abort, shown: &T, wanted: &T) {
+    assert_eq!(rt; shown, wanted);
+}
 
 /// Where the transmit ring of eight stands, behind a receive ring of eight.
 const RING: u64 = 0x80;
@@ -92,12 +99,12 @@ fn takes_up_to_the_tail(rt: HostRuntime) -> Result<(), Fail> {
     let mut engine = TxEngine::new(rt.alloc())?;
     let mut ring = ring_up_to(2);
     let went = take(&mut engine, &mut ring, padding(), &memory);
-    assert_eq!(rt; went, Take::Took { emptied: false });
+    same(&rt, &went, &Take::Took { emptied: false });
     let went = take(&mut engine, &mut ring, padding(), &memory);
-    assert_eq!(rt; went, Take::Took { emptied: true });
+    same(&rt, &went, &Take::Took { emptied: true });
     let went = take(&mut engine, &mut ring, padding(), &memory);
-    assert_eq!(rt; went, Take::Nothing);
-    assert_eq!(rt; (ring.head, engine.len()), (2, 2));
+    same(&rt, &went, &Take::Nothing);
+    same(&rt, &(ring.head, engine.len()), &(2, 2));
     Ok(())
 }
 
@@ -114,10 +121,10 @@ fn both_taken(rt: &HostRuntime, memory: &HostMemory) -> Result<TxEngine, Fail> {
 fn waits_for_a_free_wire(rt: HostRuntime) -> Result<(), Fail> {
     let mut memory = two_frames(&rt)?;
     let mut engine = both_taken(&rt, &memory)?;
-    assert_eq!(rt; put(&mut engine, &mut memory, false), Put::WireFull);
-    assert_eq!(rt; status_of(&memory, 0)?, 0);
+    same(&rt, &put(&mut engine, &mut memory, false), &Put::WireFull);
+    same(&rt, &status_of(&memory, 0)?, &0);
     let frame = engine.front().ok_or("a frame waits")?;
-    assert_eq!(rt; frame, PADDED.as_slice());
+    same(&rt, &frame, &PADDED.as_slice());
     Ok(())
 }
 
@@ -126,12 +133,16 @@ fn reports_where_it_is_asked(rt: HostRuntime) -> Result<(), Fail> {
     let mut memory = two_frames(&rt)?;
     let mut engine = both_taken(&rt, &memory)?;
     let went = put(&mut engine, &mut memory, true);
-    assert_eq!(rt; went, Put::Put { reported: true });
+    same(&rt, &went, &Put::Put { reported: true });
     let went = put(&mut engine, &mut memory, true);
-    assert_eq!(rt; went, Put::Put { reported: false });
-    assert_eq!(rt; (status_of(&memory, 0)?, status_of(&memory, 1)?), (1, 0));
+    same(&rt, &went, &Put::Put { reported: false });
+    same(
+        &rt,
+        &(status_of(&memory, 0)?, status_of(&memory, 1)?),
+        &(1, 0),
+    );
     assert!(rt; engine.is_empty());
-    assert_eq!(rt; put(&mut engine, &mut memory, true), Put::Nothing);
+    same(&rt, &put(&mut engine, &mut memory, true), &Put::Nothing);
     Ok(())
 }
 
@@ -142,13 +153,13 @@ fn four_frames_at_most(rt: HostRuntime) -> Result<(), Fail> {
     let mut ring = ring_up_to(7);
     for _ in 0..4 {
         let went = take(&mut engine, &mut ring, padding(), &memory);
-        assert_eq!(rt; went, Take::Took { emptied: false });
+        same(&rt, &went, &Take::Took { emptied: false });
     }
     assert!(rt; engine.is_full());
     let went = take(&mut engine, &mut ring, padding(), &memory);
-    assert_eq!(rt; (went, ring.head), (Take::Nothing, 4));
+    same(&rt, &(went, ring.head), &(Take::Nothing, 4));
     let frame = engine.front().ok_or("a frame waits")?;
-    assert_eq!(rt; frame, [7; 1_518].as_slice());
+    same(&rt, &frame, &[7; 1_518].as_slice());
     Ok(())
 }
 
@@ -159,9 +170,9 @@ fn a_short_frame_without_padding(rt: HostRuntime) -> Result<(), Fail> {
     let mut engine = TxEngine::new(rt.alloc())?;
     let mut ring = ring_up_to(1);
     let went = take(&mut engine, &mut ring, enabled(), &memory);
-    assert_eq!(rt; went, Take::Took { emptied: true });
+    same(&rt, &went, &Take::Took { emptied: true });
     let frame = engine.front().ok_or("a frame waits")?;
-    assert_eq!(rt; frame, [7; 14].as_slice());
+    same(&rt, &frame, &[7; 14].as_slice());
     Ok(())
 }
 
@@ -175,14 +186,14 @@ fn a_fault_stops_the_engine(rt: HostRuntime) -> Result<(), Fail> {
         ..ring_up_to(1)
     };
     let went = take(&mut engine, &mut none, padding(), &memory);
-    assert_eq!(rt; (went, none.head), (Take::Fault, 0));
+    same(&rt, &(went, none.head), &(Take::Fault, 0));
     assert!(rt; engine.is_stopped());
     let mut ring = ring_up_to(1);
     let went = take(&mut engine, &mut ring, padding(), &memory);
-    assert_eq!(rt; went, Take::Nothing);
+    same(&rt, &went, &Take::Nothing);
     engine.reset();
     let went = take(&mut engine, &mut ring, padding(), &memory);
-    assert_eq!(rt; went, Take::Took { emptied: true });
+    same(&rt, &went, &Take::Took { emptied: true });
     Ok(())
 }
 

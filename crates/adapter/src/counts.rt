@@ -1,0 +1,35 @@
+// What an adapter counted.
+
+use crate::Adapter;
+
+/// What the statistics registers of an adapter hold (13.7 "Statistics Registers").
+#[derive(Clone, Copy, Debug, PartialEq, Eq)]
+pub struct FrameCounts {
+    /// MPC: frames that were missed for want of room in the receive packet buffer.
+    pub missed: u32,
+    /// RNBC: frames that came while no descriptor was free.
+    pub without_descriptor: u32,
+    /// GPRC: frames that were received, each counted as its descriptor is written back.
+    pub received: u32,
+    /// GPTC: frames that were transmitted, each counted as it is put onto the wire.
+    pub transmitted: u32,
+}
+
+impl Adapter {
+    ghost use Rattle.std.specs.Prelude.{◌≡◌};
+
+    /// What the statistics registers hold. Unlike a driver's read this clears none of them.
+    pub fn counts(&self) -> FrameCounts
+        ensures missed { result.missed ≡ self.now.missed_packets }
+        ensures without_descriptor { result.without_descriptor ≡ self.now.no_receive_buffers }
+        ensures received { result.received ≡ self.now.received_packets }
+        ensures transmitted { result.transmitted ≡ self.now.transmitted_packets }
+    {
+        FrameCounts {
+            missed: self.file.mpc.value(),
+            without_descriptor: self.file.rnbc.value(),
+            received: self.file.gprc.value(),
+            transmitted: self.file.gptc.value(),
+        }
+    }
+}
