@@ -1,17 +1,14 @@
-//! What tests of a driver stand on: a lively bus, receivers, and a driver that has brought its adapter up.
+//! What tests of a driver stand on: a lively bus, frames, and a receiver.
 
-use crate::{Driver, Handled, Received, Receiver, SendError};
-use adapter::{Adapter, Fate, StepKind, StepOutcome};
+use crate::{Handled, Received, Receiver};
+use adapter::Adapter;
 use arrayvec::ArrayVec;
 use bring_up::Config;
-use bus::{Bus, HonestBus};
 use dma_memory::{BufId, HostMemory};
 use eeprom::Image;
 use mdic_phy::Link;
-use solo_bus::{MOST_TICKS, SoloBus, SoloTick};
+use solo_bus::SoloBus;
 use std::alloc::{AllocError, Global};
-use std::process::Abort;
-use std::test::Fail;
 
 /// The bytes that rings of 8 slots and 16 receive buffers need.
 pub(crate) const NEEDED: u64 = 51_200;
@@ -55,6 +52,14 @@ pub(crate) fn broadcast(number: u8) -> [u8; 70] {
     frame[12] = 0x08;
     frame[13] = 0x00;
     frame[14] = number;
+    frame
+}
+
+/// A frame of 60 bytes to this address, with these bytes behind both addresses.
+pub(crate) fn frame_to(destination: [u8; 6], behind: [u8; 4]) -> [u8; 60] {
+    let mut frame = [0; 60];
+    frame[..6].copy_from_slice(&destination);
+    frame[12..16].copy_from_slice(&behind);
     frame
 }
 
@@ -103,120 +108,4 @@ impl Receiver for Keeper {
     ghost stays = { λ receiver. tt };
 
     ghost joins = { λ a b c shown kept later more one two. tt };
-}
-
-/// A driver that has brought its adapter up, with its bus, and with who is shown its frames.
-#[derive(Drop)]
-pub(crate) struct Rig {
-    pub(crate) bus: SoloBus,
-    pub(crate) driver: Driver,
-    pub(crate) keeper: Keeper,
-}
-
-impl Rig {
-    /// Brings an adapter up, for a receiver that keeps the first frame or none.
-    pub(crate) fn new(alloc: Global, config: &Config, keeps: bool) -> Result<Rig, Fail> {
-        let mut bus = good_bus(alloc)?;
-        let driver = Driver::init(alloc, &mut bus, config)?;
-        let keeper = Keeper::new(keeps);
-        Ok(Rig {
-            bus,
-            driver,
-            keeper,
-        })
-    }
-
-    /// What a register reads.
-    pub(crate) fn register(&mut self, offset: u32) -> u32 {
-        self.bus.read(offset)
-    }
-
-    /// Writes a register.
-    pub(crate) fn set_register(&mut self, offset: u32, value: u32) {
-        self.bus.write(offset, value);
-    }
-
-    /// How many accesses there were.
-    pub(crate) fn accesses(&self) -> u64 {
-        self.bus.accesses()
-    }
-
-    /// A step of the adapter.
-    pub(crate) fn step(&mut self, kind: StepKind) -> StepOutcome {
-        self.bus.step(kind)
-    }
-
-    /// A frame comes.
-    pub(crate) fn arrive(&mut self, number: u8) -> Fate {
-        self.bus.arrive(&broadcast(number))
-    }
-
-    /// Lets ticks be played before the accesses that come.
-    pub(crate) fn play(&mut self, rt: &impl Abort, ticks: &[SoloTick]) {
-        let waiting = self.bus.waiting();
-        assert!(rt; ticks.len() <= MOST_TICKS - waiting);
-        self.bus.play(ticks);
-    }
-
-    /// Lets so many accesses come with nothing before them.
-    pub(crate) fn play_accesses(&mut self, rt: &impl Abort, count: u8) {
-        for _ in 0..count {
-            self.play(rt, &[SoloTick::Go]);
-        }
-    }
-
-    /// Handles an interrupt.
-    pub(crate) fn handle(&mut self, rt: &impl Abort) -> Handled {
-        assert!(rt; self.driver.layout().size() <= self.bus.size());
-        self.driver.interrupt(&mut self.bus, &mut self.keeper)
-    }
-
-    /// Sends a frame.
-    pub(crate) fn send(&mut self, rt: &impl Abort, number: u8) -> Result<(), SendError> {
-        assert!(rt; self.driver.layout().size() <= self.bus.size());
-        self.driver.transmit(&mut self.bus, &broadcast(number))
-    }
-
-    /// A frame comes, and is moved into its buffer; its descriptor isn't written back yet.
-    pub(crate) fn move_frame(&mut self, rt: &impl Abort, number: u8) {
-        assert_eq!(rt; self.arrive(number), Fate::Stored);
-        assert_eq!(rt; self.step(StepKind::RxData), StepOutcome::Moved);
-    }
-
-    /// A frame comes, and is finished.
-    pub(crate) fn receive(&mut self, rt: &impl Abort, number: u8) {
-        self.move_frame(rt, number);
-        assert_eq!(rt; self.step(StepKind::RxDone), StepOutcome::Done);
-    }
-
-    /// Seven frames come, and are finished: as many as a ring of eight has slots for.
-    pub(crate) fn receive_seven(&mut self, rt: &impl Abort) {
-        for number in 1..8 {
-            self.receive(rt, number);
-        }
-    }
-
-    /// Reads the frame that is kept, and asserts that it is the one of this number.
-    pub(crate) fn check_kept(&mut self, rt: &impl Abort, number: u8) {
-        assert!(rt; self.driver.layout().size() <= self.bus.size());
-        let mut bytes = [0; 1518];
-        let mut size = 0;
-        if let Some(received) = &self.keeper.first {
-            assert!(rt; received.buffer.number() < self.driver.layout().buffers());
-            assert!(rt; received.length <= 1518);
-            size = self.driver.read(&mut self.bus, received, &mut bytes);
-        }
-        assert_eq!(rt; size, 70);
-        assert!(rt; bytes.starts_with(&broadcast(number)));
-    }
-
-    /// How many frames and bytes were handed out, how many receive slots are outstanding, and how many were bad.
-    pub(crate) fn received(&self) -> (u32, u32, usize, u64) {
-        (
-            self.keeper.frames,
-            self.keeper.bytes,
-            self.driver.receiving(),
-            self.driver.bad(),
-        )
-    }
 }

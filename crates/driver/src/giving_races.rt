@@ -94,28 +94,53 @@ impl Holding {
         self.driver.give(&mut self.bus, received.buffer);
     }
 
-    /// Gives the oldest frame that was kept back, and tells how many accesses that makes.
-    fn accesses_of_giving(&mut self, rt: &impl Abort) -> u64 {
+    /// Handles an interrupt, and asserts what it answers, how many frames are kept, and how many slots are outstanding.
+    fn check_handling(&mut self, rt: &impl Abort, want: Handled, counts: (usize, usize)) {
+        assert_eq!(rt; self.handle(rt), want);
+        self.check_counts(rt, counts);
+    }
+
+    /// Gives the oldest frame that was kept back, and asserts how many accesses that makes, how many frames are kept,
+    /// and how many slots are outstanding.
+    fn check_giving(&mut self, rt: &impl Abort, accesses: u64, counts: (usize, usize)) {
         let before = self.bus.accesses();
         self.give_oldest(rt);
-        self.bus.accesses().wrapping_sub(before)
+        assert_eq!(rt; self.bus.accesses().wrapping_sub(before), accesses);
+        self.check_counts(rt, counts);
+    }
+
+    /// Asserts how many frames are kept, and how many slots are outstanding.
+    fn check_counts(&self, rt: &impl Abort, want: (usize, usize)) {
+        assert_eq!(rt; (self.keeper.kept.len(), self.driver.receiving()), want);
+    }
+
+    /// A frame comes.
+    fn arrive(&mut self, rt: &impl Abort, number: u8) {
+        assert_eq!(rt; self.bus.arrive(&broadcast(number)), Fate::Stored);
     }
 
     /// A step of the adapter.
-    fn step(&mut self, kind: StepKind) -> StepOutcome {
-        self.bus.step(kind)
+    fn step(&mut self, rt: &impl Abort, kind: StepKind, want: StepOutcome) {
+        assert_eq!(rt; self.bus.step(kind), want);
+    }
+
+    /// The oldest frame that came is finished.
+    fn finish(&mut self, rt: &impl Abort) {
+        self.step(rt, StepKind::RxData, StepOutcome::Moved);
+        self.step(rt, StepKind::RxDone, StepOutcome::Done);
     }
 
     /// A frame comes, and is finished.
     fn receive(&mut self, rt: &impl Abort, number: u8) {
-        assert_eq!(rt; self.bus.arrive(&broadcast(number)), Fate::Stored);
-        assert_eq!(rt; self.step(StepKind::RxData), StepOutcome::Moved);
-        assert_eq!(rt; self.step(StepKind::RxDone), StepOutcome::Done);
+        self.arrive(rt, number);
+        self.finish(rt);
     }
 
-    /// How many frames are kept, and how many slots are outstanding.
-    fn counts(&self) -> (usize, usize) {
-        (self.keeper.kept.len(), self.driver.receiving())
+    /// Seven frames come, and are finished.
+    fn receive_seven(&mut self, rt: &impl Abort) {
+        for number in 0..7 {
+            self.receive(rt, number);
+        }
     }
 }
 
@@ -133,13 +158,11 @@ fn new_holding(alloc: Global) -> Result<Holding, Fail> {
 /// A driver of which all eight buffers are held.
 fn all_held(rt: &impl Abort, alloc: Global) -> Result<Holding, Fail> {
     let mut holding = new_holding(alloc)?;
-    for number in 0..7 {
-        holding.receive(rt, number);
-    }
+    holding.receive_seven(rt);
     // One buffer was free, and is offered.
-    assert_eq!(rt; (holding.handle(rt), holding.counts()), (took(7), (7, 1)));
+    holding.check_handling(rt, took(7), (7, 1));
     holding.receive(rt, 7);
-    assert_eq!(rt; (holding.handle(rt), holding.counts()), (took(1), (8, 0)));
+    holding.check_handling(rt, took(1), (8, 0));
     Ok(holding)
 }
 
@@ -148,16 +171,12 @@ fn all_held(rt: &impl Abort, alloc: Global) -> Result<Holding, Fail> {
 #[test]
 fn a_buffer_comes_back_where_all_are_held(rt: HostRuntime) -> Result<(), Fail> {
     let mut holding = all_held(&rt, rt.alloc())?;
-    assert_eq!(rt; holding.bus.arrive(&broadcast(8)), Fate::Stored);
-    assert_eq!(rt; holding.step(StepKind::RxData), StepOutcome::Nothing);
-    assert_eq!(rt; holding.handle(&rt), Handled::NotMine);
-    assert_eq!(rt;
-        (holding.accesses_of_giving(&rt), holding.counts()),
-        (2, (7, 1))
-    );
-    assert_eq!(rt; holding.step(StepKind::RxData), StepOutcome::Moved);
-    assert_eq!(rt; holding.step(StepKind::RxDone), StepOutcome::Done);
-    assert_eq!(rt; (holding.handle(&rt), holding.counts()), (took(1), (8, 0)));
+    holding.arrive(&rt, 8);
+    holding.step(&rt, StepKind::RxData, StepOutcome::Nothing);
+    holding.check_handling(&rt, Handled::NotMine, (8, 0));
+    holding.check_giving(&rt, 2, (7, 1));
+    holding.finish(&rt);
+    holding.check_handling(&rt, took(1), (8, 0));
     Ok(())
 }
 
@@ -166,10 +185,7 @@ fn a_buffer_comes_back_where_all_are_held(rt: HostRuntime) -> Result<(), Fail> {
 fn a_buffer_comes_back_where_the_ring_is_full(rt: HostRuntime) -> Result<(), Fail> {
     let mut holding = new_holding(rt.alloc())?;
     holding.receive(&rt, 0);
-    assert_eq!(rt; (holding.handle(&rt), holding.counts()), (took(1), (1, 7)));
-    assert_eq!(rt;
-        (holding.accesses_of_giving(&rt), holding.counts()),
-        (0, (0, 7))
-    );
+    holding.check_handling(&rt, took(1), (1, 7));
+    holding.check_giving(&rt, 0, (0, 7));
     Ok(())
 }

@@ -80,6 +80,7 @@ impl Driver {
         ensures counts { self.new.counts ≡ self.old.counts }
         ensures sends { (self.new.oldest_transmit ≡ self.old.oldest_transmit) × (self.new.sending ≡ self.old.sending) }
         ensures refilled { OnTaken result (λ taken. IsRefilled self.new) }
+        ensures offered { OnTaken result (λ taken. self.new.staged ≡ []) }
         ensures shows { OnTaken result (λ taken. ShowsAll R.took receiver.old receiver.new self.old self.new taken) }
         ensures one_owner { OnTaken result (λ taken. HasNoSecondOwner self.new.counts.buffers (owners self.new)) }
 

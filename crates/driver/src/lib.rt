@@ -29,6 +29,8 @@ mod lying_bus_tests;
 #[cfg(test)]
 mod receive_races;
 #[cfg(test)]
+mod schedule;
+#[cfg(test)]
 mod tests;
 #[cfg(test)]
 mod transmit_races;

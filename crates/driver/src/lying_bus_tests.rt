@@ -1,8 +1,10 @@
 //! A driver over a bus that lies: each call ends, no buffer is lost, and what can't be a frame is handed to nobody.
 
-use crate::fixtures::{Rig, broadcast, config, took};
-use crate::{Handled, SendError};
+use crate::SendError;
+use crate::fixtures::{broadcast, config, good_bus, took};
+use crate::schedule::{Act, Rig};
 use bus::Bus;
+use std::alloc::Global;
 use std::process::Abort;
 use std::test::Fail;
 
@@ -63,88 +65,131 @@ impl Bus for LyingBus {
     fn store(&mut self, _address: u64, _bytes: &[u8]) {}
 }
 
-/// A receive descriptor with DD and EOP, and a length.
-fn finished(length: u8) -> [u8; 16] {
-    let mut descriptor = [0; 16];
-    descriptor[8] = length;
-    descriptor[12] = 0x03;
-    descriptor
-}
+/// A descriptor of ones: done, with errors, and with a length that no frame has.
+const ONES: [u8; 16] = [0xFF; 16];
 
-/// Handles an interrupt over a bus whose registers read ones and whose descriptors are all this one.
-fn handle(rt: &impl Abort, rig: &mut Rig, descriptor: [u8; 16]) -> Handled {
+/// A descriptor that isn't done.
+const ZEROS: [u8; 16] = [0; 16];
+
+/// Receive descriptors with DD and EOP, and a length of 0, of 59 and of 60 bytes.
+const FINISHED_0: [u8; 16] = [0, 0, 0, 0, 0, 0, 0, 0, 0, 0, 0, 0, 0x03, 0, 0, 0];
+
+const FINISHED_59: [u8; 16] = [0, 0, 0, 0, 0, 0, 0, 0, 59, 0, 0, 0, 0x03, 0, 0, 0];
+
+const FINISHED_60: [u8; 16] = [0, 0, 0, 0, 0, 0, 0, 0, 60, 0, 0, 0, 0x03, 0, 0, 0];
+
+/// Handles an interrupt over a bus whose registers read ones and whose descriptors are all this one: seven slots are
+/// taken.
+fn take_seven(rt: &impl Abort, rig: &mut Rig, descriptor: [u8; 16]) {
     let mut lying = LyingBus {
         descriptor,
         register: u32::MAX,
     };
     assert!(rt; rig.driver.layout().size() <= lying.size());
-    rig.driver.interrupt(&mut lying, &mut rig.keeper)
+    let handled = rig.driver.interrupt(&mut lying, &mut rig.keeper);
+    assert_eq!(rt; handled, took(7));
 }
 
 /// Sends a frame over a bus whose descriptors are all this one.
-fn send(rt: &impl Abort, rig: &mut Rig, descriptor: [u8; 16]) -> Result<(), SendError> {
+fn send(rt: &impl Abort, rig: &mut Rig, descriptor: [u8; 16], want: Result<(), SendError>) {
     let mut lying = LyingBus {
         descriptor,
         register: 0,
     };
     assert!(rt; rig.driver.layout().size() <= lying.size());
-    rig.driver.transmit(&mut lying, &broadcast(0))
+    let sent = rig.driver.transmit(&mut lying, &broadcast(0));
+    assert_eq!(rt; sent, want);
+}
+
+/// Handles an interrupt for each of these descriptors, and plays what is beside it.
+fn take_all(
+    rt: &impl Abort,
+    alloc: Global,
+    keeps: bool,
+    rows: &[([u8; 16], &[Act])],
+) -> Result<(), Fail> {
+    let mut rig = Rig::init(alloc, good_bus(alloc)?, &config(), keeps)?;
+    for (descriptor, acts) in rows {
+        take_seven(rt, &mut rig, *descriptor);
+        rig.play(rt, acts);
+    }
+    Ok(())
+}
+
+/// Sends frames with these answers over a bus whose descriptors are all this one. So many are outstanding then.
+fn send_all(
+    rt: &impl Abort,
+    alloc: Global,
+    descriptor: [u8; 16],
+    answers: &[Result<(), SendError>],
+    sending: u16,
+) -> Result<(), Fail> {
+    let mut rig = Rig::init(alloc, good_bus(alloc)?, &config(), false)?;
+    for answer in answers {
+        send(rt, &mut rig, descriptor, *answer);
+    }
+    rig.play(rt, &[Act::Sending(sending)]);
+    Ok(())
 }
 
 /// Every descriptor is all ones: done, with errors, and with a length that no frame has. MPC is at its greatest.
 #[test]
 fn descriptors_of_ones_are_bad(rt: HostRuntime) -> Result<(), Fail> {
-    let mut rig = Rig::new(rt.alloc(), &config(), false)?;
-    assert_eq!(rt; handle(&rt, &mut rig, [0xFF; 16]), took(7));
-    assert_eq!(rt; rig.received(), (0, 0, 7, 7));
-    assert_eq!(rt; handle(&rt, &mut rig, [0xFF; 16]), took(7));
-    assert_eq!(rt; rig.received(), (0, 0, 7, 14));
-    assert_eq!(rt; rig.driver.missed(), (0x1_FFFF_FFFE, false));
-    Ok(())
+    take_all(
+        &rt,
+        rt.alloc(),
+        false,
+        &[
+            (ONES, &[Act::Received(0, 0, 7, 7)]),
+            (
+                ONES,
+                &[
+                    Act::Received(0, 0, 7, 14),
+                    Act::Missed(0x1_FFFF_FFFE, false),
+                ],
+            ),
+        ],
+    )
 }
 
 /// Every descriptor is done for ever, with a length that no frame has: none at all, and one byte too few.
 #[test]
 fn lengths_that_no_frame_has_are_bad(rt: HostRuntime) -> Result<(), Fail> {
-    let mut rig = Rig::new(rt.alloc(), &config(), false)?;
-    assert_eq!(rt; handle(&rt, &mut rig, finished(0)), took(7));
-    assert_eq!(rt; rig.received(), (0, 0, 7, 7));
-    assert_eq!(rt; handle(&rt, &mut rig, finished(59)), took(7));
-    assert_eq!(rt; rig.received(), (0, 0, 7, 14));
-    Ok(())
+    take_all(
+        &rt,
+        rt.alloc(),
+        false,
+        &[
+            (FINISHED_0, &[Act::Received(0, 0, 7, 7)]),
+            (FINISHED_59, &[Act::Received(0, 0, 7, 14)]),
+        ],
+    )
 }
 
 /// Every descriptor is done for ever, with the shortest length of a frame: each slot is taken once, and the call ends.
 #[test]
 fn slots_that_are_done_for_ever_are_taken_once(rt: HostRuntime) -> Result<(), Fail> {
-    let mut rig = Rig::new(rt.alloc(), &config(), true)?;
-    assert_eq!(rt; handle(&rt, &mut rig, finished(60)), took(7));
-    assert_eq!(rt; rig.received(), (7, 420, 7, 0));
-    assert_eq!(rt; handle(&rt, &mut rig, finished(60)), took(7));
-    assert_eq!(rt; rig.received(), (14, 840, 7, 0));
-    Ok(())
+    take_all(
+        &rt,
+        rt.alloc(),
+        true,
+        &[
+            (FINISHED_60, &[Act::Received(7, 420, 7, 0)]),
+            (FINISHED_60, &[Act::Received(14, 840, 7, 0)]),
+        ],
+    )
 }
 
 /// Every transmit slot is done for ever: a call frees each once, and the ring never runs full.
 #[test]
 fn sending_ends_where_all_is_done(rt: HostRuntime) -> Result<(), Fail> {
-    let mut rig = Rig::new(rt.alloc(), &config(), false)?;
-    for _ in 0..9 {
-        assert_eq!(rt; send(&rt, &mut rig, [0xFF; 16]), Ok(()));
-    }
-    assert_eq!(rt; rig.driver.sending(), 1);
-    Ok(())
+    send_all(&rt, rt.alloc(), ONES, &[Ok(()); 9], 1)
 }
 
 /// No transmit slot is ever done: the ring runs full, and each call ends.
 #[test]
 fn sending_ends_where_nothing_is_done(rt: HostRuntime) -> Result<(), Fail> {
-    let mut rig = Rig::new(rt.alloc(), &config(), false)?;
-    for _ in 0..7 {
-        assert_eq!(rt; send(&rt, &mut rig, [0; 16]), Ok(()));
-    }
-    let full = Err(SendError::RingFull);
-    assert_eq!(rt; send(&rt, &mut rig, [0; 16]), full);
-    assert_eq!(rt; rig.driver.sending(), 7);
-    Ok(())
+    let mut answers = [Ok(()); 8];
+    answers[7] = Err(SendError::RingFull);
+    send_all(&rt, rt.alloc(), ZEROS, &answers, 7)
 }

@@ -1,17 +1,17 @@
-//! A worked example over a solo bus: frames come round the receive ring.
+//! Worked examples over a solo bus that isn't lively: frames come round the receive ring, and are sent.
 
-ghost use Rattle.std.specs.Prelude.{⊤};
-
-use crate::{Driver, Received, Receiver, SendError};
+use crate::schedule::{Act, Rig};
+use crate::{Driver, SendError};
 use adapter::offsets::{RCTL, RDLEN, RDT, TCTL, TDBAL, TDLEN, TDT};
-use adapter::{Adapter, Fate, StepKind, StepOutcome};
-use bus::{Bus, HonestBus};
+use adapter::{Adapter, StepKind, StepOutcome};
+use bus::Bus;
 use circular_buffer::HeapCircularBuffer;
-use dma_memory::{BufId, HostMemory, Layout, Pool};
+use dma_memory::{HostMemory, Layout, Pool};
 use eeprom::Image;
 use mdic_phy::Link;
 use solo_bus::SoloBus;
 use std::alloc::{AllocError, Global};
+use std::process::Abort;
 use std::test::Fail;
 
 /// RCTL with EN and BAM, and buffers of 2,048 bytes.
@@ -22,33 +22,6 @@ const TRANSMIT: u32 = 0x0000_000A;
 
 /// The bytes of a ring of eight slots.
 const RING_BYTES: u32 = 128;
-
-/// A frame that every receiver with BAM accepts.
-const BROADCAST: [u8; 70] = [0xFF; 70];
-
-/// Keeps the first frame that it is shown, and gives the buffers of all others back.
-#[derive(Drop)]
-struct Keeper {
-    first: Option<Received>,
-    bytes: u64,
-}
-
-impl Receiver for Keeper {
-    ghost took = { λ old new shown kept. ⊤ };
-
-    fn take(&mut self, received: Received) -> Option<BufId> {
-        self.bytes = self.bytes.saturating_add(u64::from(received.length));
-        if self.first.is_some() {
-            return Some(received.buffer);
-        }
-        self.first = Some(received);
-        None
-    }
-
-    ghost stays = { λ receiver. tt };
-
-    ghost joins = { λ a b c shown kept later more one two. tt };
-}
 
 /// A driver with all of nine buffers in its pool.
 fn new_driver(alloc: Global, layout: Layout) -> Result<Driver, AllocError> {
@@ -68,6 +41,9 @@ fn new_driver(alloc: Global, layout: Layout) -> Result<Driver, AllocError> {
     })
 }
 
+/// How many accesses set a new bus up.
+const SET_UP: u64 = 4;
+
 /// A solo bus with a new adapter that receives, and a receive ring at 0.
 fn new_bus(alloc: Global, layout: &Layout) -> Result<SoloBus, AllocError> {
     let image = Image::with_address([0x02, 0, 0, 0, 0, 0x01]);
@@ -81,84 +57,85 @@ fn new_bus(alloc: Global, layout: &Layout) -> Result<SoloBus, AllocError> {
     Ok(bus)
 }
 
+/// Plays a schedule, with a driver of nine buffers, and a receiver that keeps the first frame.
+fn play(rt: &impl Abort, alloc: Global, acts: &[Act]) -> Result<(), Fail> {
+    let layout = Layout::of(8, 8, 9)?;
+    let driver = new_driver(alloc, layout)?;
+    let mut rig = Rig::new(new_bus(alloc, &layout)?, driver, true);
+    rig.play(rt, acts);
+    Ok(())
+}
+
 #[test]
 fn frames_come_round_the_ring(rt: HostRuntime) -> Result<(), Fail> {
-    let layout = Layout::of(8, 8, 9)?;
-    let mut bus = new_bus(rt.alloc(), &layout)?;
-    let mut driver = new_driver(rt.alloc(), layout)?;
-    let mut keeper = Keeper {
-        first: None,
-        bytes: 0,
-    };
-    assert!(rt; driver.layout().size() <= bus.size());
-    driver.refill(&mut bus);
-    // Seven descriptors, and RDT.
-    assert_eq!(rt; driver.receiving(), 7);
-    assert_eq!(rt; bus.accesses(), 4 + 8);
-    driver.refill(&mut bus);
-    assert_eq!(rt; bus.accesses(), 4 + 8);
-    assert_eq!(rt; bus.read(RDT), 7);
-    for _ in 0..2 {
-        assert_eq!(rt; bus.arrive(&BROADCAST), Fate::Stored);
-        assert_eq!(rt; bus.step(StepKind::RxData), StepOutcome::Moved);
-        assert_eq!(rt; bus.step(StepKind::RxDone), StepOutcome::Done);
-    }
-    assert!(rt; driver.layout().size() <= bus.size());
-    assert_eq!(rt; driver.take_finished(&mut bus, &mut keeper), 2);
-    assert_eq!(rt; keeper.bytes, 140);
-    assert!(rt; keeper.first.is_some());
-    assert_eq!(rt; driver.receiving(), 5);
-    assert!(rt; driver.layout().size() <= bus.size());
-    driver.refill(&mut bus);
-    assert_eq!(rt; driver.receiving(), 7);
-    assert_eq!(rt; bus.read(RDT), 1);
-    Ok(())
+    play(
+        &rt,
+        rt.alloc(),
+        &[
+            Act::Refill,
+            Act::Received(0, 0, 7, 0),
+            // Seven descriptors, and RDT.
+            Act::Counted(SET_UP + 8),
+            Act::Refill,
+            Act::Counted(SET_UP + 8),
+            Act::Read(RDT, 7),
+            Act::Finish(0),
+            Act::Finish(1),
+            Act::TakeFinished(2),
+            Act::Received(2, 140, 5, 0),
+            Act::Kept(0),
+            Act::Refill,
+            Act::Received(2, 140, 7, 0),
+            Act::Read(RDT, 1),
+        ],
+    )
 }
 
 #[test]
 fn frames_are_sent(rt: HostRuntime) -> Result<(), Fail> {
-    let layout = Layout::of(8, 8, 9)?;
-    let mut bus = new_bus(rt.alloc(), &layout)?;
-    bus.write(TCTL, TRANSMIT);
-    let mut driver = new_driver(rt.alloc(), layout)?;
-    let long = [0xFF; 1519];
-    assert!(rt; driver.layout().size() <= bus.size());
-    assert_eq!(rt;
-        driver.transmit(&mut bus, &BROADCAST[..13]),
-        Err(SendError::TooShort)
-    );
-    assert!(rt; driver.layout().size() <= bus.size());
-    assert_eq!(rt; driver.transmit(&mut bus, &long), Err(SendError::TooLong));
-    assert_eq!(rt; bus.accesses(), 5);
-    for sent in 0..7 {
-        assert_eq!(rt; driver.sending(), sent);
-        assert!(rt; driver.layout().size() <= bus.size());
-        assert_eq!(rt; driver.transmit(&mut bus, &BROADCAST[..14]), Ok(()));
-    }
-    // The first of them found nothing outstanding; each other one loaded a descriptor that wasn't done.
-    assert_eq!(rt; bus.accesses(), 5 + 7 * 3 + 6);
-    assert!(rt; driver.layout().size() <= bus.size());
-    assert_eq!(rt;
-        driver.transmit(&mut bus, &BROADCAST),
-        Err(SendError::RingFull)
-    );
-    assert_eq!(rt; bus.read(TDT), 7);
-    // One of them goes out, and its slot serves again.
-    assert_eq!(rt; bus.step(StepKind::TxTake), StepOutcome::Took);
-    assert!(rt; matches!(bus.step(StepKind::TxPut), StepOutcome::Put));
-    assert!(rt; driver.layout().size() <= bus.size());
-    assert_eq!(rt; driver.transmit(&mut bus, &BROADCAST), Ok(()));
-    assert_eq!(rt; bus.read(TDT), 0);
-    Ok(())
+    play(
+        &rt,
+        rt.alloc(),
+        &[
+            Act::Write(TCTL, TRANSMIT),
+            Act::SendOnes(13, Err(SendError::TooShort)),
+            Act::SendOnes(1519, Err(SendError::TooLong)),
+            Act::Counted(SET_UP + 1),
+            Act::Sending(0),
+            Act::SendOnes(14, Ok(())),
+            Act::Sending(1),
+            Act::SendOnes(14, Ok(())),
+            Act::Sending(2),
+            Act::SendOnes(14, Ok(())),
+            Act::Sending(3),
+            Act::SendOnes(14, Ok(())),
+            Act::Sending(4),
+            Act::SendOnes(14, Ok(())),
+            Act::Sending(5),
+            Act::SendOnes(14, Ok(())),
+            Act::Sending(6),
+            Act::SendOnes(14, Ok(())),
+            // The first of them found nothing outstanding; each other one loaded a descriptor that wasn't done.
+            Act::Counted(SET_UP + 1 + 7 * 3 + 6),
+            Act::SendOnes(70, Err(SendError::RingFull)),
+            Act::Read(TDT, 7),
+            // One of them goes out, and its slot serves again.
+            Act::Step(StepKind::TxTake, StepOutcome::Took),
+            Act::Step(StepKind::TxPut, StepOutcome::Put),
+            Act::SendOnes(70, Ok(())),
+            Act::Read(TDT, 0),
+        ],
+    )
 }
 
 #[test]
 fn refusals_have_texts(rt: HostRuntime) -> Result<(), Fail> {
-    let short = format!(in rt.alloc(); "{}", SendError::TooShort)?;
-    let long = format!(in rt.alloc(); "{}", SendError::TooLong)?;
-    let full = format!(in rt.alloc(); "{}", SendError::RingFull)?;
-    assert_eq!(rt; short.as_str(), "E20 TooShort");
-    assert_eq!(rt; long.as_str(), "E21 TooLong");
-    assert_eq!(rt; full.as_str(), "E22 RingFull");
+    for (error, text) in [
+        (SendError::TooShort, "E20 TooShort"),
+        (SendError::TooLong, "E21 TooLong"),
+        (SendError::RingFull, "E22 RingFull"),
+    ] {
+        assert_eq!(rt; format!(in rt.alloc(); "{error}")?.as_str(), text);
+    }
     Ok(())
 }

@@ -1,12 +1,14 @@
 // A host: a driver with sockets above it.
 
-ghost use Rattle.std.specs.Prelude.{◌≡◌, ◌↔◌, ◌≤◌, ◌<◌, ◌++◌, Err, IfErr, IfOk, length};
+ghost use Rattle.std.specs.Prelude.{◌≡◌, ◌↔◌, ◌≤◌, ◌<◌, ◌++◌, [], Err, IfErr, IfOk, IsTrue, length};
 ghost use Rattle.dma_memory.specs.Layout.{size_of};
 ghost use Rattle.dma_memory.specs.Owners.{HasNoSecondOwner};
 ghost use Rattle.bring_up.specs.Configuration.{CanBeHad, counts_of};
 ghost use Rattle.bring_up.specs.Device.{IsBeforeAccess};
 ghost use Rattle.bring_up.specs.declared.init_error.InitError.TheVariants as InitError;
-ghost use Rattle.driver_law.specs.DriverState.{owners};
+ghost use Rattle.registers.specs.Counting.{greatest_count};
+ghost use Rattle.driver_law.specs.Beginnings.{new_driver};
+ghost use Rattle.driver_law.specs.DriverState.{owners, with_owners};
 ghost use Rattle.driver_law.specs.Stretches.{IsRefilled};
 ghost use Rattle.driver.specs.Initialisation.{Initialises, Refuses};
 ghost use Rattle.driver.specs.SendSteps.{IsRefused, with_sending};
@@ -70,6 +72,8 @@ impl Host {
         ensures unasked { IfErr result (λ error. IsBeforeAccess error → bus.new ≡ bus.old) }
         ensures new { IfOk result (λ host. host ≡ new_host host.driver kinds.items) }
         ensures counts { IfOk result (λ host. host.driver.counts ≡ counts_of config.now) }
+        ensures fresh { IfOk result (λ host. host.driver
+            ≡ with_owners (new_driver (counts_of config.now) []) host.driver.buffers [] host.driver.pool []) }
         ensures had { IfOk result (λ host. CanBeHad config.now (B.extent bus.old)) }
         ensures refilled { IfOk result (λ host. IsRefilled host.driver) }
 
@@ -92,6 +96,14 @@ impl Host {
         self.driver.layout()
     }
 
+    /// How many sockets it has.
+    pub fn socket_count(&self) -> usize
+        ensures count { result ≡ length self.now.kinds }
+        ensures queues { length self.now.queues ≡ length self.now.kinds }
+    {
+        self.sockets.len()
+    }
+
     /// How many frames wait for a socket: none for one that isn't there. No buffer has two owners, at any
     /// time, the queues among them.
     pub fn waiting(&self, socket: usize) -> usize
@@ -109,6 +121,15 @@ impl Host {
         ensures { result ≡ self.now.unclaimed }
     {
         self.sockets.unclaimed()
+    }
+
+    /// How many frames the adapter missed, as the driver has it, and whether that is exact: else there were more.
+    pub fn missed(&self) -> (u64, bool)
+        ensures sum { result.0 ≡ self.now.driver.missed }
+        ensures exact { result.1 ≡ self.now.driver.exact }
+        ensures small { result.0 < greatest_count → IsTrue result.1 }
+    {
+        self.driver.missed()
     }
 
     /// Sends a frame of 14 to 1,518 bytes, as the driver does.

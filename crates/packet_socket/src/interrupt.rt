@@ -1,6 +1,6 @@
 // A host handles an interrupt.
 
-ghost use Rattle.std.specs.Prelude.{◌≡◌, ◌≤◌, Bool};
+ghost use Rattle.std.specs.Prelude.{◌≡◌, ◌≤◌, [], Bool};
 ghost use Rattle.dma_memory.specs.Layout.{size_of};
 ghost use Rattle.driver_law.specs.Stretches.{IsRefilled};
 ghost use Rattle.driver.specs.HandlerSteps.{OnNotMine, OnTaken};
@@ -26,6 +26,7 @@ impl Host {
         ensures counts { self.new.driver.counts ≡ self.old.driver.counts }
         ensures sorts { OnTaken result (SortsAll self.old self.new) }
         ensures refilled { OnTaken result (λ taken. IsRefilled self.new.driver) }
+        ensures offered { OnTaken result (λ taken. self.new.driver.staged ≡ []) }
 
         // And over one that obeys the law.
         ensures handles { (up : Bool) → B.honest bus.old → HostReadyWith up self.old (B.world bus.old)

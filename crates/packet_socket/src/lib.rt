@@ -19,4 +19,6 @@ mod fixtures;
 #[cfg(test)]
 mod readme;
 #[cfg(test)]
+mod schedule;
+#[cfg(test)]
 mod tests;

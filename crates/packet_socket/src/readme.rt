@@ -32,16 +32,15 @@ fn the_code_of_the_readme(rt: HostRuntime) -> Result<(), Fail> {
     let mut host = Host::new(rt.alloc(), &mut bus, &config, table)?;
     let frame = [0xFF; 60]; // to all
     assert!(rt; host.layout().size() <= bus.size());
-    host.send(&mut bus, &frame)?;
+    assert!(rt; host.send(&mut bus, &frame).is_ok());
     bus.arrive(&frame);
     bus.step(StepKind::RxData);
     bus.step(StepKind::RxDone);
     assert!(rt; host.layout().size() <= bus.size());
-    let handled = host.interrupt(&mut bus);
-    assert_eq!(rt; handled, Handled::Handled { taken: 1 });
+    assert!(rt; host.interrupt(&mut bus) == Handled::Handled { taken: 1 });
     let mut bytes = [0; 1518];
     assert!(rt; host.layout().size() <= bus.size());
-    let size = host.recv(&mut bus, 0, &mut bytes)?;
-    assert_eq!(rt; &bytes[..size], frame.as_slice());
+    assert!(rt; host.recv(&mut bus, 0, &mut bytes) == Ok(60));
+    assert!(rt; bytes.starts_with(&frame));
     Ok(())
 }

@@ -53,6 +53,7 @@ impl Host {
         ensures counts { self.new.driver.counts ≡ self.old.driver.counts }
         ensures leaves { IfOk result (LeavesSome self.old self.new socket) }
         ensures refilled { IfOk result (λ size. IsRefilled self.new.driver) }
+        ensures offered { IfOk result (λ size. self.new.driver.staged ≡ []) }
         ensures size { IfOk result IsFrameSize }
         ensures rest { IfOk result (λ size. drop size into.new ≡ drop size into.old) }
 

@@ -16,6 +16,8 @@ pub use solo_bus::{MOST_TICKS, SoloBus, SoloTick, WIRE_FRAMES};
 #[cfg(test)]
 mod readme;
 #[cfg(test)]
+mod schedule;
+#[cfg(test)]
 mod sound_bus_tests;
 #[cfg(test)]
 mod tests;

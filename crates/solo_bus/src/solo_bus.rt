@@ -1,7 +1,8 @@
 // The solo bus: one adapter and its memory.
 
 ghost use Rattle.std.specs.Prelude.{◌≡◌, ◌≤◌, ◌+◌, ◌++◌, ◌↔◌, [], drop, length, min, slice_get, IfOk, IfSome, IsNone};
-ghost use Rattle.std.specs.Prelude.{Some};
+ghost use Rattle.std.specs.Prelude.{Some, IsTrue};
+ghost use Rattle.registers.specs.Bits.{Meet};
 
 use adapter::{Adapter, Fate, StepKind, StepOutcome};
 use circular_buffer::HeapCircularBuffer;
@@ -212,6 +213,21 @@ impl SoloBus {
         ensures { result ≡ self.now.lively }
     {
         self.lively
+    }
+
+    /// Whether the adapter's interrupt line is asserted: exactly while a recorded cause is in the mask.
+    pub fn line(&self) -> bool
+        ensures { IsTrue result ↔ Meet self.now.world.adapter.causes.recorded self.now.world.adapter.causes.mask }
+    {
+        self.adapter.line()
+    }
+
+    /// The adapter and its memory, without the ticks that wait and the frames on the wire.
+    pub fn into_parts(self) -> (Adapter, HostMemory)
+        ensures adapter { result.0 ≡ self.world.adapter }
+        ensures memory { result.1 ≡ self.world.memory }
+    {
+        (self.adapter, self.memory)
     }
 
     /// How many bytes the memory has.
