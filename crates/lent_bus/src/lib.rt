@@ -7,6 +7,7 @@ mod lent_bus;
 mod playing;
 
 pub use lent_bus::LentBus;
+pub use playing::play_rest;
 
 #[cfg(test)]
 mod readme;

@@ -30,13 +30,8 @@ pub(crate) fn play_group<'t>(
     rest
 }
 
-/// Plays all ticks, with each `Go` skipped.
-pub(crate) fn play_rest(
-    stations: &mut [Station],
-    ticks: &[Tick],
-    accesses: u64,
-    outcomes: &mut Outcomes,
-)
+/// Plays all ticks, with each `Go` skipped, and notes what came of each behind so many accesses.
+pub fn play_rest(stations: &mut [Station], ticks: &[Tick], accesses: u64, outcomes: &mut Outcomes)
     requires room { length ticks.now ≤ outcomes.old.room }
     ensures { PlaysTicks stations.old (without_go is_go ticks.now) accesses outcomes.old outcomes.new stations.new }
 {

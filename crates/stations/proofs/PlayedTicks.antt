@@ -94,7 +94,7 @@ occurs-at ss host s event there occurs suits = record {
 }
 
 pub plays-nothing : (ss : List StationState) (tick : Tick) → FindsNothing tick ss → Plays ss tick Nothing ss
-plays-nothing ss tick idle = record { step = Idles tick; tick_is = refl; outcome_is = refl; happens = idle; leaves = refl }
+plays-nothing ss tick idle = record { step = Idles tick; tick_is = refl; outcome_is = refl; no_access = tt; happens = idle; leaves = refl }
 
 pub plays-delivery : (ss : List StationState) (host : ℕ) (s new : StationState) (frame : List ℕ) (fate : Fate) → host < length ss
     → slice_get ss host ≡ Some s → IsDelivered s frame fate new → Plays ss (Deliver host) (Delivered frame fate) (slice_set ss host new)
@@ -102,6 +102,7 @@ plays-delivery ss host s new frame fate below there is = record {
   step = At host (Arrives frame fate);
   tick_is = refl;
   outcome_is = refl;
+  no_access = tt;
   happens =
       occurs-at ss host s (Arrives frame fate) there (is.adapter, is.fated)
       (subst (λ (o : Option StationState). slice_get (backlog_of o) 0 ≡ Some frame) (sym there) is.oldest);
@@ -112,7 +113,7 @@ pub plays-no_delivery : (ss : List StationState) (host : ℕ) (s new : StationSt
     → s.backlog ≡ [] → Plays ss (Deliver host) Nothing (slice_set ss host new)
 plays-no_delivery ss host s new below there same none =
     let stays : slice_set ss host new ≡ ss = ap (slice_set ss host) same ∙ set-same ss host s below there in
-    record { step = Idles (Deliver host); tick_is = refl; outcome_is = refl; happens = ap backlog_of there ∙ none; leaves = stays }
+    record { step = Idles (Deliver host); tick_is = refl; outcome_is = refl; no_access = tt; happens = ap backlog_of there ∙ none; leaves = stays }
 
 -- a step whose frame, if it put one, then waits at each other end
 pub plays-step : (ss final : List StationState) (host wire : ℕ) (s new : StationState) (kind : StepKind) (free : Bool) (answer : Stepped)
@@ -128,6 +129,7 @@ plays-step ss final host wire s new kind free answer below there on finds adapte
       step = At host event;
       tick_is = refl;
       outcome_is = refl;
+      no_access = tt;
       happens =
           occurs-at ss host s event there (adapter, answers)
           (subst (λ (w : ℕ). kind ≡ TxPut → IsTrue free ↔ WireHasRoom ss host w) on finds);

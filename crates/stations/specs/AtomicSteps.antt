@@ -69,6 +69,13 @@ abbrev pub CanHappen : AtomicStep → List StationState → Type 0
 CanHappen (At host event) stations = OccursAt host event stations
 CanHappen (Idles tick) stations = FindsNothing tick stations
 
+-- it is no access: none is played by itself
+abbrev pub IsNoAccess : AtomicStep → Type 0
+IsNoAccess (At host (Steps kind wire_free answer)) = ⊤
+IsNoAccess (At host (Arrives frame fate)) = ⊤
+IsNoAccess (At host (Accesses access)) = ⊥
+IsNoAccess (Idles tick) = ⊤
+
 abbrev pub after : AtomicStep → List StationState → List StationState
 after (At host event) stations = stations_after host event stations
 after (Idles tick) stations = stations
@@ -78,6 +85,7 @@ pub record Plays (old : List StationState) (tick : Tick) (outcome : Outcome) (ne
   pub step : AtomicStep
   pub tick_is : tick_of step ≡ tick
   pub outcome_is : outcome_of step ≡ outcome
+  pub no_access : IsNoAccess step
   pub happens : CanHappen step old
   pub leaves : new ≡ after step old
 

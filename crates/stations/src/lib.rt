@@ -10,7 +10,7 @@ mod station;
 mod tick;
 
 pub use outcomes::{Numbered, Outcomes};
-pub use playing::{load_at, play, read_at, size_at, store_at, write_at};
+pub use playing::{line_at, load_at, play, read_at, size_at, step_at, store_at, write_at};
 pub use station::{END_FRAMES, Station};
 pub use tick::{Outcome, Tick};
 

@@ -35,6 +35,15 @@ impl Outcomes {
     ghost use Rattle.std.specs.Prelude.{◌≡◌, ◌≤◌, ◌<◌, [], IfOk};
     ghost use Rattle.stations.specs.Outcomes.{IsNoted};
 
+    /// No outcome, and no room for any. It takes no memory.
+    pub fn new(alloc: Global) -> Outcomes
+        ensures none { result.list ≡ [] }
+    {
+        Outcomes {
+            list: Vec::new(alloc),
+        }
+    }
+
     /// No outcome, with room for so many.
     ///
     /// # Errors

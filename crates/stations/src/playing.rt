@@ -1,14 +1,16 @@
 // What is played on all hosts.
 
-ghost use Rattle.std.specs.Prelude.{◌≡◌, ◌<◌, ◌↔◌, ◌≢◌, ℕ, [], length, option_map, slice_get, IsTrue};
+ghost use Rattle.std.specs.Prelude.{◌≡◌, ◌<◌, ◌↔◌, ◌≢◌, ℕ, [], length, option_map, slice_get, IsTrue, true};
 ghost use Rattle.adapter.specs.Outcomes.{put_by, stepped_of};
 ghost use Rattle.adapter.specs.Registers.{answer_at};
 ghost use Rattle.adapter.specs.State.{IsAdapter};
+ghost use Rattle.adapter.specs.Steps.{Answers};
 ghost use Rattle.adapter.specs.declared.step.StepKind.TheVariants.{TxPut};
 ghost use Rattle.adapter.specs.declared.step.StepOutcome.TheVariants as small;
 ghost use Rattle.bus.specs.declared.event.Access.TheVariants.{Reads, Stores, Writes};
-ghost use Rattle.bus.specs.declared.event.Event.TheVariants.{Accesses};
+ghost use Rattle.bus.specs.declared.event.Event.TheVariants.{Accesses, Steps};
 ghost use Rattle.dma_memory.specs.HostMemory.{bytes_at, LiesIn};
+ghost use Rattle.registers.specs.Bits.{Meet};
 ghost use Rattle.stations.specs.AtomicSteps.{PlaysNoted};
 ghost use Rattle.stations.specs.Outcomes.{IsNoted, answer_without_frame, outcome_of_step};
 ghost use Rattle.stations.specs.Stations.{WireHasRoom, stations_after, with_frames, world_at};
@@ -139,6 +141,29 @@ fn deliver(stations: &mut [Station], host: usize, accesses: u64, outcomes: &mut 
         Some((frame, fate)) => outcomes.note(accesses, Outcome::Delivered(frame, fate)),
         None => outcomes.note(accesses, Outcome::Nothing),
     }
+}
+
+/// A host's adapter takes a step that puts nothing onto a wire, by itself.
+pub fn step_at(stations: &mut [Station], host: usize, kind: StepKind) -> StepOutcome
+    requires there { host < length stations.old }
+    requires stays { kind ≢ TxPut }
+    ensures answer { Answers kind true (world_at stations.old host).memory (world_at stations.old host).adapter
+        (stepped_of result (world_at stations.old host).adapter) }
+    ensures state { stations.new
+        ≡ stations_after host (Steps kind true (stepped_of result (world_at stations.old host).adapter)) stations.old }
+    ensures adapter { IsAdapter (world_at stations.old host).adapter }
+{
+    stations[host].step(kind)
+}
+
+/// Whether a host's interrupt line is asserted.
+pub fn line_at(stations: &[Station], host: usize) -> bool
+    requires there { host < length stations.now }
+    ensures line { IsTrue result ↔ Meet (world_at stations.now host).adapter.causes.recorded
+        (world_at stations.now host).adapter.causes.mask }
+    ensures adapter { IsAdapter (world_at stations.now host).adapter }
+{
+    stations[host].line()
 }
 
 /// Reads a register of a host.

@@ -1,6 +1,6 @@
 // One host's adapter, memory and end of a wire.
 
-use adapter::{Adapter, Fate, StepKind, StepOutcome, Stepped};
+use adapter::{Adapter, Fate, FrameCounts, StepKind, StepOutcome, Stepped};
 use descriptors::Frame;
 use dma_memory::HostMemory;
 use frame_queue::FrameQueue;
@@ -43,6 +43,7 @@ impl Station {
     ghost use Rattle.adapter.specs.declared.step.StepKind.TheVariants.{TxPut};
     ghost use Rattle.bus.specs.declared.event.Event.TheVariants.{Steps};
     ghost use Rattle.dma_memory.specs.HostMemory.{bytes_at, LiesIn};
+    ghost use Rattle.registers.specs.Bits.{Meet};
     ghost use Rattle.stations.specs.Stations.{HasRoomFrom, station_after, with_frames};
     ghost use Rattle.stations.specs.AtomicSteps.{IsDelivered};
 
@@ -76,6 +77,16 @@ impl Station {
         ensures { result ≡ self.now.wire }
     {
         self.wire
+    }
+
+    /// What the statistics registers of its adapter hold; none is cleared.
+    pub fn counts(&self) -> FrameCounts
+        ensures missed { result.missed ≡ self.now.world.adapter.missed_packets }
+        ensures without_descriptor { result.without_descriptor ≡ self.now.world.adapter.no_receive_buffers }
+        ensures received { result.received ≡ self.now.world.adapter.received_packets }
+        ensures transmitted { result.transmitted ≡ self.now.world.adapter.transmitted_packets }
+    {
+        self.adapter.counts()
     }
 
     /// A step of the adapter that puts nothing onto the wire.
@@ -128,6 +139,15 @@ impl Station {
         if place != sender && self.wire == wire {
             self.backlog.push(frame);
         }
+    }
+
+    /// Whether the adapter's interrupt line is asserted.
+    pub(crate) fn line(&self) -> bool
+        ensures line { IsTrue result
+            ↔ Meet self.now.world.adapter.causes.recorded self.now.world.adapter.causes.mask }
+        ensures adapter { IsAdapter self.now.world.adapter }
+    {
+        self.adapter.line()
     }
 
     /// Reads a register.
