@@ -1,0 +1,256 @@
+-- What atomic steps do to frames, host by host, is what the events of each host say.
+use Rattle.std.proofs.Common.{◌≡◌, ◌+◌, ◌++◌, ◌∷◌, [], ◌==◌, ℕ, Bool, true, false, List, if◌then◌else◌, refl, sym, ap, ◌∙◌}
+use Rattle.std.proofs.Common.{arith, sum_by}
+use Rattle.std.proofs.lemmas.Grind.{flat_map-append}
+use Rattle.std.proofs.lemmas.List.{append-nil}
+use Rattle.std.proofs.lemmas.List.Sums.{sum_by-append, sum_by-cons}
+use Rattle.std.specs.List.{flat_map}
+use Rattle.adapter.specs.Outcomes.{put_by as frames_put}
+use Rattle.adapter.specs.World.{World}
+use Rattle.adapter.specs.declared.step.StepKind.{StepKind}
+use Rattle.adapter.specs.declared.step.StepKind.TheVariants.{EepromTick, PhyTick, RxData, RxDone, TxPut, TxTake}
+use Rattle.adapter.specs.declared.step.Stepped.{Stepped}
+use Rattle.adapter.specs.declared.step.Stepped.TheVariants as stepped
+use Rattle.rx_engine.specs.Arriving.{kept}
+use Rattle.bus.specs.StepsAndArrivals.{past_of_step}
+use Rattle.bus.specs.Trails.{Occurs, Trail, past_of, past_of_event, world_after}
+use Rattle.bus.specs.declared.event.Event.{Event}
+use Rattle.bus.specs.declared.event.Event.TheVariants.{Accesses, Arrives, Steps}
+use Rattle.stations.proofs.PlayedTicks.{put-is}
+use Rattle.stations.specs.AtomicSteps.{At, AtomicStep, Idles, outcome_of_event}
+use Rattle.stations.specs.Outcomes.{outcome_of_step}
+use Rattle.stations.specs.Stations.{StationState, world_at}
+use Rattle.stations.specs.declared.tick.Outcome.{Outcome}
+use Rattle.stations.specs.declared.tick.Outcome.TheVariants as outcome
+use Rattle.lent_bus.proofs.HostTrails.{trail-of}
+use Rattle.lent_bus.specs.AtomicRuns.{LeadsTo, events_at, past_at}
+use Rattle.delivery.specs.Fates.{Came, Left, Mark, mark_by, marks}
+use Rattle.delivery.specs.Happenings.{Happening, Moved, Put, Reached, accepted, accepted_by, given, given_by, happened_in}
+use Rattle.delivery.specs.Happenings.{missed, missed_of, of_host, put, put_by, reached, reached_by, stored, stored_by, told_of}
+
+-- What a step tells: the frame that it put, or that it moved one.
+
+abbrev pub by_answer : {X : Type 0} → (List ℕ → List X) → List X → Stepped → List X
+by_answer puts moves (stepped.Put frame) = puts frame
+by_answer puts moves stepped.Moved = moves
+by_answer puts moves _ = []
+
+pub step-told :
+    {X : Type 0} (f : Happening → List X) (host : ℕ) (puts : List ℕ → List X) (moves : List X) (answer : Stepped)
+    → ((frame : List ℕ) → f (Put host frame) ≡ puts frame) → f (Moved host) ≡ moves
+    → flat_map f (told_of host (outcome_of_step answer)) ≡ by_answer puts moves answer
+step-told f host puts moves (stepped.Put frame) put moved = append-nil (f (Put host frame)) ∙ put frame
+step-told f host puts moves stepped.Moved put moved = append-nil (f (Moved host)) ∙ moved
+step-told f host puts moves _ put moved = refl
+
+pub none-told : {X : Type 0} (answer : Stepped) → by_answer {X = X} (λ frame. []) [] answer ≡ []
+none-told (stepped.Put frame) = refl
+none-told stepped.Moved = refl
+none-told _ = refl
+
+pub none-chosen : {X : Type 0} (here : Bool) → (let none : List X = [] in none) ≡ (if here then [] else [])
+none-chosen true = refl
+none-chosen false = refl
+
+pub put-chosen : (here : Bool) (answer : Stepped)
+    → by_answer (λ frame. if here then frame ∷ [] else []) [] answer ≡ (if here then frames_put answer else [])
+put-chosen here (stepped.Put frame) = refl
+put-chosen here stepped.Moved = none-chosen here
+put-chosen here _ = none-chosen here
+
+-- A list of one host is that of its events.
+
+chosen-more : {X : Type 0} (g : Event → List X) (here : Bool) (event : Event) (later : List Event)
+    → flat_map g ((if here then event ∷ [] else []) ++ later) ≡ (if here then g event else []) ++ flat_map g later
+chosen-more g true event later = refl
+chosen-more g false event later = refl
+
+pub by-events :
+    {X : Type 0} (f : Happening → List X) (g : Event → List X) (k : ℕ) (steps : List AtomicStep)
+    → ((host : ℕ) (event : Event) → flat_map f (told_of host (outcome_of_event event)) ≡ of_host k host (g event))
+    → flat_map f (happened_in steps) ≡ flat_map g (events_at k steps)
+by-events f g k [] each = refl
+by-events {X} f g k (At host event ∷ later) each =
+    flat_map-append f (told_of host (outcome_of_event event)) (happened_in later)
+    ∙ ap (λ (front : List X). front ++ flat_map f (happened_in later)) (each host event)
+    ∙ ap (λ (behind : List X). of_host k host (g event) ++ behind) (by-events f g k later each)
+    ∙ sym (chosen-more g (k == host) event (events_at k later))
+by-events f g k (Idles tick ∷ later) each = by-events f g k later each
+
+-- What was put.
+
+abbrev pub frames_in : Event → List (List ℕ)
+frames_in (Steps kind wire_free answer) = frames_put answer
+frames_in (Arrives frame fate) = []
+frames_in (Accesses access) = []
+
+put-event : (k host : ℕ) (event : Event) → flat_map (put_by k) (told_of host (outcome_of_event event)) ≡ of_host k host (frames_in event)
+put-event k host (Steps kind wire_free answer) =
+    step-told (put_by k) host (λ frame. of_host k host (frame ∷ [])) [] answer (λ frame. refl) refl ∙ put-chosen (k == host) answer
+put-event k host (Arrives frame fate) = none-chosen (k == host)
+put-event k host (Accesses access) = none-chosen (k == host)
+
+pub put-occurs : (event : Event) (world : World) → Occurs event world → frames_in event ≡ (past_of_event event).put
+put-occurs (Steps kind wire_free answer) world occurs = put-is kind wire_free world.memory world.adapter answer occurs.1
+put-occurs (Arrives frame fate) world occurs = refl
+put-occurs (Accesses access) world occurs = refl
+
+put-trail : (events : List Event) (a b : World) → Trail events a b → flat_map frames_in events ≡ (past_of events).put
+put-trail [] a b trail = refl
+put-trail (event ∷ later) a b trail =
+    ap (λ (front : List (List ℕ)). front ++ flat_map frames_in later) (put-occurs event a trail.0)
+    ∙ ap (λ (behind : List (List ℕ)). (past_of_event event).put ++ behind) (put-trail later (world_after event a) b trail.1)
+
+pub put-told : (caller k : ℕ) (steps : List AtomicStep) (a b : List StationState) → LeadsTo caller steps a b
+    → put k (happened_in steps) ≡ (past_at k steps).put
+put-told caller k steps a b leads =
+    by-events (put_by k) frames_in k steps (put-event k)
+    ∙ put-trail (events_at k steps) (world_at a k) (world_at b k) (trail-of caller k steps a b leads)
+
+-- What was stored.
+
+abbrev pub kept_in : Event → List (List ℕ)
+kept_in (Steps kind wire_free answer) = []
+kept_in (Arrives frame fate) = kept fate frame
+kept_in (Accesses access) = []
+
+stored-event : (k host : ℕ) (event : Event)
+    → flat_map (stored_by k) (told_of host (outcome_of_event event)) ≡ of_host k host (kept_in event)
+stored-event k host (Steps kind wire_free answer) =
+    step-told (stored_by k) host (λ frame. []) [] answer (λ frame. refl) refl ∙ none-told answer ∙ none-chosen (k == host)
+stored-event k host (Arrives frame fate) = append-nil (stored_by k (Reached host frame fate))
+stored-event k host (Accesses access) = none-chosen (k == host)
+
+none-stored : (kind : StepKind) (answer : Stepped) → [] ≡ (past_of_step kind answer).stored
+none-stored TxTake answer = refl
+none-stored TxPut answer = refl
+none-stored RxData answer = refl
+none-stored RxDone answer = refl
+none-stored EepromTick answer = refl
+none-stored PhyTick answer = refl
+
+stored-is : (event : Event) → kept_in event ≡ (past_of_event event).stored
+stored-is (Steps kind wire_free answer) = none-stored kind answer
+stored-is (Arrives frame fate) = refl
+stored-is (Accesses access) = refl
+
+stored-events : (events : List Event) → flat_map kept_in events ≡ (past_of events).stored
+stored-events [] = refl
+stored-events (event ∷ later) =
+    ap (λ (front : List (List ℕ)). front ++ flat_map kept_in later) (stored-is event)
+    ∙ ap (λ (behind : List (List ℕ)). (past_of_event event).stored ++ behind) (stored-events later)
+
+pub stored-told : (k : ℕ) (steps : List AtomicStep) → stored k (happened_in steps) ≡ (past_at k steps).stored
+stored-told k steps = by-events (stored_by k) kept_in k steps (stored-event k) ∙ stored-events (events_at k steps)
+
+-- How many were missed.
+
+none-missed : (kind : StepKind) (answer : Stepped) → (let none : ℕ = 0 in none) ≡ (past_of_step kind answer).missed
+none-missed TxTake answer = refl
+none-missed TxPut answer = refl
+none-missed RxData answer = refl
+none-missed RxDone answer = refl
+none-missed EepromTick answer = refl
+none-missed PhyTick answer = refl
+
+no-number : (here : Bool) → (let none : ℕ = 0 in none) ≡ (if here then 0 else 0)
+no-number true = refl
+no-number false = refl
+
+step-missed : (k host : ℕ) (answer : Stepped) → sum_by (missed_of k) (told_of host (outcome_of_step answer)) ≡ 0
+step-missed k host (stepped.Put frame) = omega (arith, sum_by-cons (missed_of k) (Put host frame) [])
+step-missed k host stepped.Moved = omega (arith, sum_by-cons (missed_of k) (Moved host) [])
+step-missed k host _ = refl
+
+event-missed : (k host : ℕ) (event : Event)
+    → sum_by (missed_of k) (told_of host (outcome_of_event event)) ≡ (if k == host then (past_of_event event).missed else 0)
+event-missed k host (Steps kind wire_free answer) =
+    step-missed k host answer ∙ no-number (k == host) ∙ ap (λ (n : ℕ). if k == host then n else 0) (none-missed kind answer)
+event-missed k host (Arrives frame fate) = omega (arith, sum_by-cons (missed_of k) (Reached host frame fate) [])
+event-missed k host (Accesses access) = no-number (k == host)
+
+chosen-missed : (here : Bool) (event : Event) (later : List Event)
+    → (past_of ((if here then event ∷ [] else []) ++ later)).missed
+    ≡ (if here then (past_of_event event).missed else 0) + (past_of later).missed
+chosen-missed true event later = refl
+chosen-missed false event later = omega arith
+
+pub missed-told : (k : ℕ) (steps : List AtomicStep) → missed k (happened_in steps) ≡ (past_at k steps).missed
+missed-told k [] = refl
+missed-told k (At host event ∷ later) =
+    sum_by-append (missed_of k) (told_of host (outcome_of_event event)) (happened_in later)
+    ∙ ap (λ (n : ℕ). n + missed k (happened_in later)) (event-missed k host event)
+    ∙ ap (λ (n : ℕ). (if k == host then (past_of_event event).missed else 0) + n) (missed-told k later)
+    ∙ sym (chosen-missed (k == host) event (events_at k later))
+missed-told k (Idles tick ∷ later) = missed-told k later
+
+-- What reached it.
+
+abbrev pub arrived_in : Event → List (List ℕ)
+arrived_in (Steps kind wire_free answer) = []
+arrived_in (Arrives frame fate) = frame ∷ []
+arrived_in (Accesses access) = []
+
+reached-event : (k host : ℕ) (event : Event)
+    → flat_map (reached_by k) (told_of host (outcome_of_event event)) ≡ of_host k host (arrived_in event)
+reached-event k host (Steps kind wire_free answer) =
+    step-told (reached_by k) host (λ frame. []) [] answer (λ frame. refl) refl ∙ none-told answer ∙ none-chosen (k == host)
+reached-event k host (Arrives frame fate) = append-nil (reached_by k (Reached host frame fate))
+reached-event k host (Accesses access) = none-chosen (k == host)
+
+pub reached-told : (k : ℕ) (steps : List AtomicStep) → reached k (happened_in steps) ≡ flat_map arrived_in (events_at k steps)
+reached-told k steps = by-events (reached_by k) arrived_in k steps (reached-event k)
+
+-- What came to its packet buffer and left it.
+
+abbrev pub marks_of_answer : Stepped → List Mark
+marks_of_answer answer = by_answer (λ frame. []) (Left ∷ []) answer
+
+abbrev pub marks_in : Event → List Mark
+marks_in (Steps kind wire_free answer) = marks_of_answer answer
+marks_in (Arrives frame fate) = Came frame fate ∷ []
+marks_in (Accesses access) = []
+
+marks-chosen : (here : Bool) (answer : Stepped)
+    → by_answer (λ frame. []) (if here then Left ∷ [] else []) answer ≡ (if here then marks_of_answer answer else [])
+marks-chosen here (stepped.Put frame) = none-chosen here
+marks-chosen here stepped.Moved = refl
+marks-chosen here _ = none-chosen here
+
+marks-event : (k host : ℕ) (event : Event) → flat_map (mark_by k) (told_of host (outcome_of_event event)) ≡ of_host k host (marks_in event)
+marks-event k host (Steps kind wire_free answer) =
+    step-told (mark_by k) host (λ frame. []) (of_host k host (Left ∷ [])) answer (λ frame. refl) refl ∙ marks-chosen (k == host) answer
+marks-event k host (Arrives frame fate) = append-nil (mark_by k (Reached host frame fate))
+marks-event k host (Accesses access) = none-chosen (k == host)
+
+pub marks-told : (k : ℕ) (steps : List AtomicStep) → marks k (happened_in steps) ≡ flat_map marks_in (events_at k steps)
+marks-told k steps = by-events (mark_by k) marks_in k steps (marks-event k)
+
+-- Nothing was accepted or given.
+
+none-happens : {X : Type 0} (f : Happening → List X) (steps : List AtomicStep)
+    → ((host : ℕ) (outcome : Outcome) → flat_map f (told_of host outcome) ≡ []) → flat_map f (happened_in steps) ≡ []
+none-happens f [] none = refl
+none-happens {X} f (At host event ∷ later) none =
+    flat_map-append f (told_of host (outcome_of_event event)) (happened_in later)
+    ∙ ap (λ (front : List X). front ++ flat_map f (happened_in later)) (none host (outcome_of_event event))
+    ∙ none-happens f later none
+none-happens f (Idles tick ∷ later) none = none-happens f later none
+
+accepts-none : (k host : ℕ) (outcome : Outcome) → flat_map (accepted_by k) (told_of host outcome) ≡ []
+accepts-none k host (outcome.Put frame) = refl
+accepts-none k host (outcome.Delivered frame fate) = refl
+accepts-none k host outcome.Moved = refl
+accepts-none k host _ = refl
+
+gives-none : (k socket host : ℕ) (outcome : Outcome) → flat_map (given_by k socket) (told_of host outcome) ≡ []
+gives-none k socket host (outcome.Put frame) = refl
+gives-none k socket host (outcome.Delivered frame fate) = refl
+gives-none k socket host outcome.Moved = refl
+gives-none k socket host _ = refl
+
+pub accepted-none : (k : ℕ) (steps : List AtomicStep) → accepted k (happened_in steps) ≡ []
+accepted-none k steps = none-happens (accepted_by k) steps (accepts-none k)
+
+pub given-none : (k socket : ℕ) (steps : List AtomicStep) → given k socket (happened_in steps) ≡ []
+given-none k socket steps = none-happens (given_by k socket) steps (gives-none k socket)

@@ -1,0 +1,108 @@
+-- What happens first and then, host by host.
+use Rattle.std.proofs.Common.{◌≡◌, ◌+◌, ◌++◌, ◌∷◌, [], ◌==◌, ◌&&◌, not, ℕ, Option, List, length, if◌then◌else◌, refl, ap, subst, ◌∙◌}
+use Rattle.std.proofs.Common.{append_assoc, arith, sym}
+use Rattle.std.proofs.lemmas.Grind.{flat_map-append}
+use Rattle.std.proofs.lemmas.List.Sums.{sum_by-append}
+use Rattle.rx_engine.specs.Arriving.{kept}
+use Rattle.rx_filter.specs.Registers.{FilterRegisters}
+use Rattle.delivery.specs.Fates.{AreRightByCounting, AreRightFates, Came, Left, Mark, left_in, mark_by, marks, stored_in}
+use Rattle.delivery.specs.Happenings.{Accepted, Given, Happening, Moved, Put, Reached, accepted, accepted_by, given, given_by, missed}
+use Rattle.delivery.specs.Happenings.{missed_of, put, put_by, reached, reached_by, share_wire, stored, stored_by, toward, toward_by}
+
+pub accepted-append : (k : ℕ) (first later : List Happening) → accepted k (first ++ later) ≡ accepted k first ++ accepted k later
+accepted-append k first later = flat_map-append (accepted_by k) first later
+
+pub put-append : (k : ℕ) (first later : List Happening) → put k (first ++ later) ≡ put k first ++ put k later
+put-append k first later = flat_map-append (put_by k) first later
+
+pub reached-append : (k : ℕ) (first later : List Happening) → reached k (first ++ later) ≡ reached k first ++ reached k later
+reached-append k first later = flat_map-append (reached_by k) first later
+
+pub stored-append : (k : ℕ) (first later : List Happening) → stored k (first ++ later) ≡ stored k first ++ stored k later
+stored-append k first later = flat_map-append (stored_by k) first later
+
+pub given-append : (k socket : ℕ) (first later : List Happening)
+    → given k socket (first ++ later) ≡ given k socket first ++ given k socket later
+given-append k socket first later = flat_map-append (given_by k socket) first later
+
+pub toward-append : (wires : ℕ → Option ℕ) (k : ℕ) (first later : List Happening)
+    → toward wires k (first ++ later) ≡ toward wires k first ++ toward wires k later
+toward-append wires k first later = flat_map-append (toward_by wires k) first later
+
+pub missed-append : (k : ℕ) (first later : List Happening) → missed k (first ++ later) ≡ missed k first + missed k later
+missed-append k first later = sum_by-append (missed_of k) first later
+
+pub marks-append : (k : ℕ) (first later : List Happening) → marks k (first ++ later) ≡ marks k first ++ marks k later
+marks-append k first later = flat_map-append (mark_by k) first later
+
+-- The same wires.
+
+by-same : (wires others : ℕ → Option ℕ) (k : ℕ) (one : Happening) → ((host : ℕ) → wires host ≡ others host)
+    → toward_by wires k one ≡ toward_by others k one
+by-same wires others k (Accepted host frame) same = refl
+by-same wires others k (Put host frame) same =
+    ap (λ (wire : Option ℕ). if not (k == host) && share_wire wire (wires host) then frame ∷ [] else []) (same k)
+    ∙ ap (λ (wire : Option ℕ). if not (k == host) && share_wire (others k) wire then frame ∷ [] else []) (same host)
+by-same wires others k (Reached host frame fate) same = refl
+by-same wires others k (Moved host) same = refl
+by-same wires others k (Given host socket frame) same = refl
+
+pub toward-same : (wires others : ℕ → Option ℕ) (k : ℕ) (happened : List Happening) → ((host : ℕ) → wires host ≡ others host)
+    → toward wires k happened ≡ toward others k happened
+toward-same wires others k [] same = refl
+toward-same wires others k (one ∷ later) same =
+    ap (λ (front : List (List ℕ)). front ++ toward wires k later) (by-same wires others k one same)
+    ∙ ap (λ (behind : List (List ℕ)). toward_by others k one ++ behind) (toward-same wires others k later same)
+
+-- Frames that wait.
+
+pub waits-append :
+    (k : ℕ) (wires others : ℕ → Option ℕ) (first later : List Happening) (old mid new : List (List ℕ))
+    → ((host : ℕ) → others host ≡ wires host) → reached k first ++ mid ≡ old ++ toward wires k first
+    → reached k later ++ new ≡ mid ++ toward others k later
+    → reached k (first ++ later) ++ new ≡ old ++ toward wires k (first ++ later)
+waits-append k wires others first later old mid new same one two =
+    ap (λ (front : List (List ℕ)). front ++ new) (reached-append k first later)
+    ∙ append_assoc (reached k first) (reached k later) new
+    ∙ ap (λ (behind : List (List ℕ)). reached k first ++ behind)
+    (two ∙ ap (λ (behind : List (List ℕ)). mid ++ behind) (toward-same others wires k later same))
+    ∙ sym (append_assoc (reached k first) mid (toward wires k later))
+    ∙ ap (λ (front : List (List ℕ)). front ++ toward wires k later) one
+    ∙ append_assoc old (toward wires k first) (toward wires k later)
+    ∙ ap (λ (behind : List (List ℕ)). old ++ behind) (sym (toward-append wires k first later))
+
+-- Fates.
+
+pub fates-append : (filter : FilterRegisters) (most n m l : ℕ) (first later : List Mark) → AreRightFates filter most n first m
+    → AreRightFates filter most m later l → AreRightFates filter most n (first ++ later) l
+fates-append filter most n m l [] later one two = subst (λ (count : ℕ). AreRightFates filter most count later l) one two
+fates-append filter most n m l (Came frame fate ∷ first) later one two =
+    (one.0, fates-append filter most (n + length (kept fate frame)) m l first later one.1 two)
+fates-append filter most n m l (Left ∷ first) later one two =
+    (one.0, one.1, fates-append filter most one.0 m l first later one.2 two)
+
+-- Up to each mark frames are counted.
+pub record Counted (filter : FilterRegisters) (most n : ℕ) (first later : List Mark) (final : ℕ) : Type 0 where
+  pub count : ℕ
+  pub counted : count + left_in first ≡ n + stored_in first
+  pub behind : AreRightFates filter most count later final
+
+pub counted-first : (filter : FilterRegisters) (most n m : ℕ) (first later : List Mark) → AreRightFates filter most n (first ++ later) m
+    → Counted filter most n first later m
+counted-first filter most n m [] later are = record { count = n; counted = refl; behind = are }
+counted-first filter most n m (Came frame fate ∷ first) later are =
+    let rest = counted-first filter most (n + length (kept fate frame)) m first later are.1 in
+    record { count = rest.count; counted = omega (arith, rest.counted); behind = rest.behind }
+counted-first filter most n m (Left ∷ first) later are =
+    let rest = counted-first filter most are.0 m first later are.2 in
+    let one = are.1 in
+    record { count = rest.count; counted = omega (arith, rest.counted, one); behind = rest.behind }
+
+pub fates-by_counting : (filter : FilterRegisters) (most n m : ℕ) (all : List Mark) → AreRightFates filter most n all m
+    → AreRightByCounting filter most n all
+fates-by_counting filter most n m all are = λ before later frame fate is.
+    let parts =
+    counted-first filter most n m before (Came frame fate ∷ later)
+    (subst (λ (list : List Mark). AreRightFates filter most n list m) is are)
+    in
+    record { count = parts.count; counted = parts.counted; right = parts.behind.0 }

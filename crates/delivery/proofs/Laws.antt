@@ -1,0 +1,80 @@
+-- The laws of delivery, put together.
+use Rattle.std.proofs.Common.{◌≡◌, ◌++◌, ℕ, List, append_assoc, sym, ap, ◌∙◌}
+use Rattle.bus.specs.PastOfStretch.{Past}
+use Rattle.bus.specs.TickGroups.{without_go}
+use Rattle.bus.specs.declared.event.Access.{Access}
+use Rattle.stations.specs.AtomicSteps.{AtomicStep}
+use Rattle.stations.specs.Stations.{StationState}
+use Rattle.stations.specs.declared.tick.Tick.{Tick}
+use Rattle.stations.specs.declared.outcomes.Numbered.{Numbered}
+use Rattle.lent_bus.specs.AtomicRunLaws.{noted_join}
+use Rattle.lent_bus.specs.AtomicRuns.{LeadsTo, counted_of, is_go, noted_of}
+use Rattle.lent_bus.specs.Retelling.{Finished, Retells}
+use Rattle.lent_bus.specs.declared.lent_bus.LentBus.{LentBus}
+use Rattle.delivery.proofs.HostLists.{accepted-none, given-none, missed-told, put-told, stored-told}
+use Rattle.delivery.proofs.Joining.{accepted-append, given-append, marks-append, missed-append, put-append, reached-append, stored-append}
+use Rattle.delivery.proofs.Joining.{toward-append}
+use Rattle.delivery.proofs.Numbering.{counted-all, numbered-all}
+use Rattle.delivery.proofs.Telling.{said-all, same-ticks}
+use Rattle.delivery.proofs.Waiting.{length-stays, waits-on, wires-stay}
+use Rattle.delivery.specs.DeliveryLaws.{IsToldByOutcomes, IsToldCall, ListsJoin, MovesFrames, PlaysCall}
+use Rattle.delivery.specs.Happenings.{Happening}
+
+pub outcomes-tell : (caller : ℕ) (ticks : List Tick) (accesses : List Access) (first last : List AtomicStep) (a m b : List StationState)
+    → PlaysCall caller ticks accesses first last a m b → IsToldByOutcomes ticks first last
+outcomes-tell caller ticks accesses first last a m b plays = record {
+  played = same-ticks ticks accesses first last plays.played plays.waited;
+  said = said-all caller ticks accesses first last a m b plays.leads plays.ends plays.played plays.waited;
+  numbered = numbered-all caller ticks accesses first last a m b plays.leads plays.are_ticks plays.ends plays.played plays.waited;
+  counted = counted-all first last plays.are_ticks;
+}
+
+-- A call over a lent bus.
+pub lent-calls : (a m b : LentBus) (past : Past) (told : Retells a m past) (finished : Finished m b) → a.accesses ≡ 0
+    → IsToldCall a m b past told.steps finished.plays.steps
+lent-calls a m b past told finished zero =
+    let first = told.steps in
+    let last = finished.plays.steps in
+    let number : m.accesses ≡ counted_of 0 first = told.number ∙ ap (λ (n : ℕ). counted_of n first) zero in
+    record {
+      plays = record {
+        leads = told.leads;
+        are_ticks = finished.plays.are;
+        ends = finished.plays.leads a.host;
+        played = told.played;
+        waited = finished.plays.played ∙ ap (without_go is_go) told.waiting;
+      };
+      noted =
+          finished.plays.noted
+          ∙ ap (λ (list : List Numbered). list ++ noted_of m.accesses last) told.noted
+          ∙ append_assoc a.outcomes.now.list (noted_of a.accesses first) (noted_of m.accesses last)
+          ∙ ap (λ (list : List Numbered). a.outcomes.now.list ++ list)
+          (ap (λ (n : ℕ). noted_of n first ++ noted_of m.accesses last) zero
+          ∙ ap (λ (n : ℕ). noted_of 0 first ++ noted_of n last) number
+          ∙ sym (noted_join 0 first last));
+      count = finished.count ∙ number;
+    }
+
+pub frames-move : (caller k : ℕ) (steps : List AtomicStep) (a b : List StationState) → LeadsTo caller steps a b → MovesFrames k steps a b
+frames-move caller k steps a b leads = record {
+  put = put-told caller k steps a b leads;
+  stored = stored-told k steps;
+  missed = missed-told k steps;
+  waits = waits-on caller k steps a b leads;
+  wires = wires-stay caller k steps a b leads;
+  hosts = length-stays caller steps a b leads;
+  none_accepted = accepted-none k steps;
+  none_given = λ socket. given-none k socket steps;
+}
+
+pub lists-append : (k : ℕ) (first later : List Happening) → ListsJoin k first later
+lists-append k first later = record {
+  accepted = accepted-append k first later;
+  put = put-append k first later;
+  reached = reached-append k first later;
+  stored = stored-append k first later;
+  given = λ socket. given-append k socket first later;
+  missed = missed-append k first later;
+  toward = λ wires. toward-append wires k first later;
+  marks = marks-append k first later;
+}

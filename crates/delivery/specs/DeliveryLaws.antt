@@ -1,0 +1,152 @@
+-- What outcomes tell, what atomic steps do to frames, and how happenings join.
+use Rattle.std.specs.Prelude.{◌≡◌, ◌⊎◌, ◌+◌, ◌++◌, ◌∷◌, [], ℕ, false, Option, List, All, length, map}
+use Rattle.registers.specs.Bits.{HasBit}
+use Rattle.registers.specs.Places.{rctl_en}
+use Rattle.rx_filter.specs.Registers.{FilterRegisters}
+use Rattle.adapter.specs.State.{AdapterState}
+use Rattle.adapter.specs.declared.offsets.TheConstants.{RDT, TDT}
+use Rattle.bus.specs.TickGroups.{played_in, waiting_after, without_go}
+use Rattle.bus.specs.PastOfStretch.{Past}
+use Rattle.bus.specs.declared.event.Access.{Access}
+use Rattle.bus.specs.declared.event.Access.TheVariants.{Writes}
+use Rattle.stations.specs.AtomicSteps.{AtomicStep, Plays, tick_of}
+use Rattle.stations.specs.Stations.{StationState, backlog_at, wire_at, world_at}
+use Rattle.stations.specs.declared.tick.Outcome.{Outcome}
+use Rattle.stations.specs.declared.tick.Tick.{Tick}
+use Rattle.stations.specs.declared.tick.Tick.TheVariants.{Go}
+use Rattle.lent_bus.specs.AtomicRuns.{IsTick, LeadsTo, counted_of, is_go, noted_of, past_at}
+use Rattle.lent_bus.specs.Retelling.{Finished, Retells}
+use Rattle.lent_bus.specs.declared.lent_bus.LentBus.{LentBus}
+use Rattle.delivery.specs.Fates.{AreRightByCounting, AreRightFates, Mark, marks}
+use Rattle.delivery.specs.Happenings.{Happening, accepted, given, happened_in, missed, put, reached, stored, told, told_alone, toward}
+use Rattle.delivery.specs.Reception.{LeavesReception, ReceivesRightly}
+use Rattle.delivery.specs.TickNumbers.{numbers, numbers_of}
+
+-- Outcomes.
+
+-- A call has played these ticks: with its accesses the first steps, and behind the last access all that waited.
+pub record PlaysCall (caller : ℕ) (ticks : List Tick) (accesses : List Access) (first last : List AtomicStep)
+    (a m b : List StationState) : Type 0 where
+  pub leads : LeadsTo caller first a m
+  pub are_ticks : All IsTick last
+  pub ends : LeadsTo caller last m b
+  pub played : map tick_of first ≡ played_in is_go Go [] accesses ticks
+  pub waited : map tick_of last ≡ without_go is_go (waiting_after is_go accesses ticks)
+
+-- What is noted of it tells what its steps did, and bears the numbers of its ticks; its count is that of its accesses.
+pub record IsToldByOutcomes (ticks : List Tick) (first last : List AtomicStep) : Type 0 where
+  -- the steps that aren't accesses are the ticks that aren't Go, in order
+  pub played : without_go is_go (map tick_of (first ++ last)) ≡ without_go is_go ticks
+  pub said : told ticks (noted_of 0 (first ++ last)) ≡ happened_in (first ++ last)
+  pub numbered : numbers ticks 0 (counted_of 0 first) ≡ numbers_of (noted_of 0 (first ++ last))
+  pub counted : counted_of 0 (first ++ last) ≡ counted_of 0 first
+
+abbrev pub OutcomesTellSteps : Type 0
+OutcomesTellSteps =
+    (caller : ℕ) (ticks : List Tick) (accesses : List Access) (first last : List AtomicStep) (a m b : List StationState)
+    → PlaysCall caller ticks accesses first last a m b → IsToldByOutcomes ticks first last
+
+-- A call over a lent bus whose ticks are played to the end is such a call, and what is noted of it stands behind the outcomes before.
+pub record IsToldCall (a m b : LentBus) (past : Past) (first last : List AtomicStep) : Type 0 where
+  pub plays : PlaysCall a.host a.ticks.now past.accesses first last a.stations.now m.stations.now b.stations.now
+  pub noted : b.outcomes.now.list ≡ a.outcomes.now.list ++ noted_of 0 (first ++ last)
+  pub count : b.accesses ≡ counted_of 0 first
+
+abbrev pub LentCallsAreTold : Type 0
+LentCallsAreTold =
+    (a m b : LentBus) (past : Past) (told : Retells a m past) (finished : Finished m b) → a.accesses ≡ 0
+    → IsToldCall a m b past told.steps finished.plays.steps
+
+-- The outcome of a tick by itself tells what its step did, too.
+abbrev pub OneOutcomeTellsItsStep : Type 0
+OneOutcomeTellsItsStep =
+    (old new : List StationState) (tick : Tick) (outcome : Outcome) (plays : Plays old tick outcome new)
+    → told_alone tick (record { accesses = 0; outcome = outcome } ∷ []) ≡ happened_in (plays.step ∷ [])
+
+-- Where it isn't Go, this step is a tick, and leads from the one state to the other.
+pub record LeadsAlone (step : AtomicStep) (old new : List StationState) : Type 0 where
+  pub is_tick : IsTick step
+  pub leads : (caller : ℕ) → LeadsTo caller (step ∷ []) old new
+
+abbrev pub OneTickLeads : Type 0
+OneTickLeads =
+    (old new : List StationState) (tick : Tick) (outcome : Outcome) (plays : Plays old tick outcome new) → is_go tick ≡ false
+    → LeadsAlone plays.step old new
+
+-- Frames.
+
+-- What these happenings say of the frames of a host, where these atomic steps led from one state to another.
+pub record MovesFrames (k : ℕ) (steps : List AtomicStep) (a b : List StationState) : Type 0 where
+  pub put : put k (happened_in steps) ≡ (past_at k steps).put
+  pub stored : stored k (happened_in steps) ≡ (past_at k steps).stored
+  pub missed : missed k (happened_in steps) ≡ (past_at k steps).missed
+  -- the frames that waited at its end, and then those that others put toward it, have reached it in this order or wait there
+  pub waits : reached k (happened_in steps) ++ backlog_at b k ≡ backlog_at a k ++ toward (wire_at a) k (happened_in steps)
+  pub wires : wire_at b k ≡ wire_at a k
+  pub hosts : length b ≡ length a
+  -- only a call of its host accepts or gives a frame
+  pub none_accepted : accepted k (happened_in steps) ≡ []
+  pub none_given : (socket : ℕ) → given k socket (happened_in steps) ≡ []
+
+abbrev pub StepsMoveFrames : Type 0
+StepsMoveFrames =
+    (caller k : ℕ) (steps : List AtomicStep) (a b : List StationState) → LeadsTo caller steps a b → MovesFrames k steps a b
+
+-- While RCTL.EN is 1 and each access of a host leaves reception alone, the fates of what reaches it are right.
+abbrev pub FatesAreRight : Type 0
+FatesAreRight =
+    (caller k : ℕ) (steps : List AtomicStep) (a b : List StationState) → LeadsTo caller steps a b
+    → All LeavesReception (past_at k steps).accesses → HasBit (world_at a k).adapter.filter.rctl rctl_en
+    → ReceivesRightly (world_at a k).adapter (marks k (happened_in steps)) (world_at b k).adapter
+
+-- A write of RDT or TDT leaves reception alone.
+abbrev pub TailWritesLeaveReception : Type 0
+TailWritesLeaveReception = (offset value : ℕ) → (offset ≡ RDT) ⊎ (offset ≡ TDT) → LeavesReception (Writes offset value)
+
+-- Happenings join.
+
+-- Of some happenings and later ones each host's lists are those of the first, and then those of the later.
+pub record ListsJoin (k : ℕ) (first later : List Happening) : Type 0 where
+  pub accepted : accepted k (first ++ later) ≡ accepted k first ++ accepted k later
+  pub put : put k (first ++ later) ≡ put k first ++ put k later
+  pub reached : reached k (first ++ later) ≡ reached k first ++ reached k later
+  pub stored : stored k (first ++ later) ≡ stored k first ++ stored k later
+  pub given : (socket : ℕ) → given k socket (first ++ later) ≡ given k socket first ++ given k socket later
+  pub missed : missed k (first ++ later) ≡ missed k first + missed k later
+  pub toward : (wires : ℕ → Option ℕ) → toward wires k (first ++ later) ≡ toward wires k first ++ toward wires k later
+  pub marks : marks k (first ++ later) ≡ marks k first ++ marks k later
+
+abbrev pub DeliveriesJoin : Type 0
+DeliveriesJoin = (k : ℕ) (first later : List Happening) → ListsJoin k first later
+
+-- What is put toward a host depends on each host's wire alone.
+abbrev pub WiresDecideToward : Type 0
+WiresDecideToward =
+    (wires others : ℕ → Option ℕ) (k : ℕ) (happened : List Happening) → ((host : ℕ) → wires host ≡ others host)
+    → toward wires k happened ≡ toward others k happened
+
+-- What waits at a host's end at first, in between and at last, over two stretches in which wires stay.
+abbrev pub WaitsJoin : Type 0
+WaitsJoin =
+    (k : ℕ) (wires others : ℕ → Option ℕ) (first later : List Happening) (old mid new : List (List ℕ))
+    → ((host : ℕ) → others host ≡ wires host) → reached k first ++ mid ≡ old ++ toward wires k first
+    → reached k later ++ new ≡ mid ++ toward others k later
+    → reached k (first ++ later) ++ new ≡ old ++ toward wires k (first ++ later)
+
+-- Right fates join.
+abbrev pub RightFatesJoin : Type 0
+RightFatesJoin =
+    (filter : FilterRegisters) (most n m l : ℕ) (first later : List Mark) → AreRightFates filter most n first m
+    → AreRightFates filter most m later l → AreRightFates filter most n (first ++ later) l
+
+-- So does what an adapter receives.
+abbrev pub ReceptionsJoin : Type 0
+ReceptionsJoin =
+    (a b c : AdapterState) (first later : List Mark) → ReceivesRightly a first b → ReceivesRightly b later c
+    → ReceivesRightly a (first ++ later) c
+
+-- Right fates are right one by one, by counting.
+abbrev pub RightFatesAreCounted : Type 0
+RightFatesAreCounted =
+    (filter : FilterRegisters) (most buffered final : ℕ) (all : List Mark) → AreRightFates filter most buffered all final
+    → AreRightByCounting filter most buffered all

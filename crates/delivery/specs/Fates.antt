@@ -1,0 +1,71 @@
+-- Which fate a frame meets, judged by counting the frames of the receive packet buffer (own; the filter: "3.2.1 Packet Address Filtering").
+use Rattle.std.specs.Prelude.{◌≡◌, ◌≤◌, ◌<◌, ◌+◌, ◌++◌, ℕ, List, [], ◌∷◌, length}
+use Rattle.std.specs.List.{flat_map}
+use Rattle.descriptors.specs.Frames.{IsLegal}
+use Rattle.rx_engine.specs.Arriving.{kept}
+use Rattle.rx_engine.specs.declared.arrival.Fate.{Fate}
+use Rattle.rx_engine.specs.declared.arrival.Fate.TheVariants.{Off, Illegal, Filtered, Missed, Stored}
+use Rattle.rx_filter.specs.Passing.{Passes}
+use Rattle.rx_filter.specs.Registers.{FilterRegisters, filter_of}
+use Rattle.delivery.specs.Happenings.{Accepted, Given, Happening, Moved, Put, Reached, of_host}
+
+-- What comes to a receive packet buffer and leaves it.
+pub data Mark : Type 0 where
+  -- a frame came, and met this fate
+  Came : (frame : List ℕ) (fate : Fate) → Mark
+  -- the oldest frame left
+  Left : Mark
+
+abbrev pub mark_by : ℕ → Happening → List Mark
+mark_by k (Accepted host frame) = []
+mark_by k (Put host frame) = []
+mark_by k (Reached host frame fate) = of_host k host (Came frame fate ∷ [])
+mark_by k (Moved host) = of_host k host (Left ∷ [])
+mark_by k (Given host socket frame) = []
+
+-- those of a host, in order
+abbrev pub marks : ℕ → List Happening → List Mark
+marks k happened = flat_map (mark_by k) happened
+
+-- The first that applies, where so many frames are in the packet buffer, which has room for `most`. Off is never right.
+abbrev pub IsRightFate : FilterRegisters → (most count : ℕ) → List ℕ → Fate → Type 0
+IsRightFate filter most count frame Off = ⊥
+IsRightFate filter most count frame Illegal = ¬ (IsLegal frame)
+IsRightFate filter most count frame Filtered = IsLegal frame × (¬ (Passes (filter_of filter) frame))
+IsRightFate filter most count frame Missed = IsLegal frame × Passes (filter_of filter) frame × (most ≤ count)
+IsRightFate filter most count frame Stored = IsLegal frame × Passes (filter_of filter) frame × (count < most)
+
+-- Each fate is right by counting, from so many frames in the packet buffer to so many.
+abbrev pub AreRightFates : FilterRegisters → (most count : ℕ) → List Mark → (final : ℕ) → Type 0
+AreRightFates filter most count [] final = final ≡ count
+AreRightFates filter most count (Came frame fate ∷ later) final =
+    IsRightFate filter most count frame fate × AreRightFates filter most (count + length (kept fate frame)) later final
+AreRightFates filter most count (Left ∷ later) final =
+    (fewer : ℕ) × (count ≡ fewer + 1) × AreRightFates filter most fewer later final
+
+-- The same, fate by fate.
+
+-- how many frames left
+abbrev pub left_in : List Mark → ℕ
+left_in [] = 0
+left_in (Came frame fate ∷ later) = left_in later
+left_in (Left ∷ later) = left_in later + 1
+
+-- how many were stored
+abbrev pub stored_in : List Mark → ℕ
+stored_in [] = 0
+stored_in (Came frame fate ∷ later) = length (kept fate frame) + stored_in later
+stored_in (Left ∷ later) = stored_in later
+
+-- A frame's fate is right where the packet buffer has the frames of the start and those stored since, but for those that left.
+pub record IsRightByCounting (filter : FilterRegisters) (most buffered : ℕ) (before : List Mark) (frame : List ℕ) (fate : Fate)
+    : Type 0 where
+  pub count : ℕ
+  pub counted : count + left_in before ≡ buffered + stored_in before
+  pub right : IsRightFate filter most count frame fate
+
+-- So is each.
+abbrev pub AreRightByCounting : FilterRegisters → (most buffered : ℕ) → List Mark → Type 0
+AreRightByCounting filter most buffered all =
+    (before later : List Mark) (frame : List ℕ) (fate : Fate) → all ≡ before ++ Came frame fate ∷ later
+    → IsRightByCounting filter most buffered before frame fate

@@ -1,0 +1,147 @@
+-- What happens to frames in a run: happenings, in order, as events and their replies tell them (own).
+use Rattle.std.specs.Prelude.{◌==◌, ◌&&◌, not, ◌++◌, ℕ, Bool, false, Option, Some, None, List, [], ◌∷◌, sum_by, if◌then◌else◌}
+use Rattle.std.specs.List.{flat_map}
+use Rattle.rx_engine.specs.Arriving.{kept}
+use Rattle.rx_engine.specs.declared.arrival.Fate.{Fate}
+use Rattle.bus.specs.StepsAndArrivals.{missed_by}
+use Rattle.stations.specs.AtomicSteps.{At, AtomicStep, Idles, outcome_of_event}
+use Rattle.stations.specs.declared.outcomes.Numbered.{Numbered}
+use Rattle.stations.specs.declared.tick.Outcome.{Outcome}
+use Rattle.stations.specs.declared.tick.Outcome.TheVariants as outcome
+use Rattle.stations.specs.declared.tick.Tick.{Tick}
+use Rattle.stations.specs.declared.tick.Tick.TheVariants.{Deliver, Go, Step}
+
+pub data Happening : Type 0 where
+  -- a host was given a frame to send, and accepted it
+  Accepted : (host : ℕ) (frame : List ℕ) → Happening
+  -- its adapter put a frame onto the wire
+  Put : (host : ℕ) (frame : List ℕ) → Happening
+  -- a frame reached its adapter, and met this fate
+  Reached : (host : ℕ) (frame : List ℕ) (fate : Fate) → Happening
+  -- the oldest frame left its adapter's receive packet buffer for memory
+  Moved : (host : ℕ) → Happening
+  -- a socket of it gave a frame to who asked
+  Given : (host socket : ℕ) (frame : List ℕ) → Happening
+
+-- What ticks and their outcomes tell.
+
+-- the host that a tick names
+abbrev pub host_of : Tick → ℕ
+host_of Go = 0
+host_of (Step host kind) = host
+host_of (Deliver host) = host
+
+-- the outcome of a tick at a host, as a happening
+abbrev pub told_of : (host : ℕ) → Outcome → List Happening
+told_of host (outcome.Put frame) = Put host frame ∷ []
+told_of host (outcome.Delivered frame fate) = Reached host frame fate ∷ []
+told_of host outcome.Moved = Moved host ∷ []
+told_of host _ = []
+
+-- The i-th outcome of a call belongs to the i-th of its ticks that isn't a Go.
+abbrev pub told : List Tick → List Numbered → List Happening
+told [] outcomes = []
+told (Go ∷ ticks) outcomes = told ticks outcomes
+told (Step host kind ∷ ticks) [] = []
+told (Step host kind ∷ ticks) (one ∷ outcomes) = told_of host one.outcome ++ told ticks outcomes
+told (Deliver host ∷ ticks) [] = []
+told (Deliver host ∷ ticks) (one ∷ outcomes) = told_of host one.outcome ++ told ticks outcomes
+
+-- a tick by itself has one outcome
+abbrev pub told_alone : Tick → List Numbered → List Happening
+told_alone tick [] = []
+told_alone tick (one ∷ outcomes) = told_of (host_of tick) one.outcome
+
+-- What atomic steps do.
+
+abbrev pub happened_by : AtomicStep → List Happening
+happened_by (At host event) = told_of host (outcome_of_event event)
+happened_by (Idles tick) = []
+
+abbrev pub happened_in : List AtomicStep → List Happening
+happened_in steps = flat_map happened_by steps
+
+-- The lists of one host, in order.
+
+-- one, where it is this host's
+abbrev pub of_host : {T : Type 0} → (k host : ℕ) → List T → List T
+of_host k host some = if k == host then some else []
+
+abbrev pub accepted_by : ℕ → Happening → List (List ℕ)
+accepted_by k (Accepted host frame) = of_host k host (frame ∷ [])
+accepted_by k (Put host frame) = []
+accepted_by k (Reached host frame fate) = []
+accepted_by k (Moved host) = []
+accepted_by k (Given host socket frame) = []
+
+abbrev pub put_by : ℕ → Happening → List (List ℕ)
+put_by k (Accepted host frame) = []
+put_by k (Put host frame) = of_host k host (frame ∷ [])
+put_by k (Reached host frame fate) = []
+put_by k (Moved host) = []
+put_by k (Given host socket frame) = []
+
+abbrev pub reached_by : ℕ → Happening → List (List ℕ)
+reached_by k (Accepted host frame) = []
+reached_by k (Put host frame) = []
+reached_by k (Reached host frame fate) = of_host k host (frame ∷ [])
+reached_by k (Moved host) = []
+reached_by k (Given host socket frame) = []
+
+-- the frame, where it was stored
+abbrev pub stored_by : ℕ → Happening → List (List ℕ)
+stored_by k (Accepted host frame) = []
+stored_by k (Put host frame) = []
+stored_by k (Reached host frame fate) = of_host k host (kept fate frame)
+stored_by k (Moved host) = []
+stored_by k (Given host socket frame) = []
+
+abbrev pub given_by : (k socket : ℕ) → Happening → List (List ℕ)
+given_by k s (Accepted host frame) = []
+given_by k s (Put host frame) = []
+given_by k s (Reached host frame fate) = []
+given_by k s (Moved host) = []
+given_by k s (Given host socket frame) = if (k == host) && (s == socket) then frame ∷ [] else []
+
+-- 1 where a frame was missed
+abbrev pub missed_of : ℕ → Happening → ℕ
+missed_of k (Accepted host frame) = 0
+missed_of k (Put host frame) = 0
+missed_of k (Reached host frame fate) = if k == host then missed_by fate else 0
+missed_of k (Moved host) = 0
+missed_of k (Given host socket frame) = 0
+
+-- both are there, and on one wire
+abbrev pub share_wire : Option ℕ → Option ℕ → Bool
+share_wire None other = false
+share_wire (Some wire) None = false
+share_wire (Some wire) (Some other) = wire == other
+
+-- a frame that another host put on this host's wire
+abbrev pub toward_by : (wires : ℕ → Option ℕ) → (k : ℕ) → Happening → List (List ℕ)
+toward_by wires k (Accepted host frame) = []
+toward_by wires k (Put host frame) = if not (k == host) && share_wire (wires k) (wires host) then frame ∷ [] else []
+toward_by wires k (Reached host frame fate) = []
+toward_by wires k (Moved host) = []
+toward_by wires k (Given host socket frame) = []
+
+abbrev pub accepted : ℕ → List Happening → List (List ℕ)
+accepted k happened = flat_map (accepted_by k) happened
+
+abbrev pub put : ℕ → List Happening → List (List ℕ)
+put k happened = flat_map (put_by k) happened
+
+abbrev pub reached : ℕ → List Happening → List (List ℕ)
+reached k happened = flat_map (reached_by k) happened
+
+abbrev pub stored : ℕ → List Happening → List (List ℕ)
+stored k happened = flat_map (stored_by k) happened
+
+abbrev pub given : (k socket : ℕ) → List Happening → List (List ℕ)
+given k socket happened = flat_map (given_by k socket) happened
+
+abbrev pub missed : ℕ → List Happening → ℕ
+missed k happened = sum_by (missed_of k) happened
+
+abbrev pub toward : (wires : ℕ → Option ℕ) → (k : ℕ) → List Happening → List (List ℕ)
+toward wires k happened = flat_map (toward_by wires k) happened

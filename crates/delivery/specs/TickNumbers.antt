@@ -1,0 +1,16 @@
+-- The numbers that outcomes bear: how many accesses the call had made before (own).
+use Rattle.std.specs.Prelude.{◌+◌, ℕ, List, [], ◌∷◌, map, min}
+use Rattle.stations.specs.declared.outcomes.Numbered.{Numbered}
+use Rattle.stations.specs.declared.tick.Tick.{Tick}
+use Rattle.stations.specs.declared.tick.Tick.TheVariants.{Deliver, Go, Step}
+
+-- Ticks are cut at each Go into groups, numbered from i on. In a call of n accesses each outcome of a group bears the lesser of its number
+-- and n.
+abbrev pub numbers : List Tick → (i n : ℕ) → List ℕ
+numbers [] i n = []
+numbers (Go ∷ ticks) i n = numbers ticks (i + 1) n
+numbers (Step host kind ∷ ticks) i n = min i n ∷ numbers ticks i n
+numbers (Deliver host ∷ ticks) i n = min i n ∷ numbers ticks i n
+
+abbrev pub numbers_of : List Numbered → List ℕ
+numbers_of outcomes = map (λ (one : Numbered). one.accesses) outcomes

@@ -1,0 +1,58 @@
+// Laws of what happens to frames.
+
+ghost use Rattle.delivery.specs.DeliveryLaws.{DeliveriesJoin, FatesAreRight, LentCallsAreTold, OneOutcomeTellsItsStep};
+ghost use Rattle.delivery.specs.DeliveryLaws.{OneTickLeads, OutcomesTellSteps, ReceptionsJoin, RightFatesAreCounted};
+ghost use Rattle.delivery.specs.DeliveryLaws.{RightFatesJoin, StepsMoveFrames, TailWritesLeaveReception, WaitsJoin};
+ghost use Rattle.delivery.specs.DeliveryLaws.{WiresDecideToward};
+
+/// What is noted of ticks tells what their atomic steps did.
+/// - `call`: of a call, in order and exactly; and each outcome bears the number of accesses before it,
+///   which is that of its tick's group, or of the whole call where that is less.
+/// - `lent`: a call over a lent bus, with its ticks played to the end, is one that `call` speaks of.
+/// - `alone`: of one tick that is played by itself, too, also of a Go.
+/// - `leads`: where that tick isn't a Go, its step leads from the one state of all stations to the other.
+pub fn outcomes_tell_steps()
+    ensures call { OutcomesTellSteps }
+    ensures lent { LentCallsAreTold }
+    ensures alone { OneOutcomeTellsItsStep }
+    ensures leads { OneTickLeads }
+{}
+
+/// What atomic steps do to the frames of each host. Those that it put, stored and missed are those of
+/// its past. The frames that waited at its end, and then those that other hosts on its wire put, in
+/// order, have reached it in this order or wait there. Hosts and wires stay, and no frame is accepted or
+/// given.
+pub fn steps_move_frames()
+    ensures { StepsMoveFrames }
+{}
+
+/// Fates are right while RCTL.EN is 1 and a host loads, stores, reads registers, and writes none but RDT
+/// and TDT.
+/// - `fates`: each frame that reaches it meets the first fate that applies, by the filter, which stays, and
+///   by how many frames are in the packet buffer, whose room stays.
+/// - `tails`: writes of RDT and TDT are among these accesses.
+pub fn fates_are_right()
+    ensures fates { FatesAreRight }
+    ensures tails { TailWritesLeaveReception }
+{}
+
+/// What happens first and what happens then are one.
+/// - `lists`: each host's lists are those of the first happenings, and then those of the later.
+/// - `toward`: what is put toward a host depends on each host's wire alone.
+/// - `waits`: what waited at a host's end and was put toward it has reached it or waits, over both, where it
+///   is so over each and wires stay.
+/// - `fates`: right fates, and then right fates from where the first ended, are right.
+/// - `receptions`: so is what an adapter receives, with its filter and its room.
+pub fn deliveries_join()
+    ensures lists { DeliveriesJoin }
+    ensures toward { WiresDecideToward }
+    ensures waits { WaitsJoin }
+    ensures fates { RightFatesJoin }
+    ensures receptions { ReceptionsJoin }
+{}
+
+/// Fates that are right are right one by one: of a frame that came the packet buffer had the frames of
+/// the start and those stored since, but for those that left since.
+pub fn fates_are_judged_by_counting()
+    ensures { RightFatesAreCounted }
+{}

@@ -1,0 +1,2 @@
+pub mod InterruptCauses
+pub mod CausesLaws

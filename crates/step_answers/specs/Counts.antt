@@ -1,0 +1,146 @@
+-- What is counted of a host's adapter, and what outcomes and accesses leave of it (own).
+use Rattle.std.specs.Prelude.{◌+◌, ◌-◌, ◌%◌, ℕ, suc, Bool, true, false, Option, Some, List, [], ◌∷◌, bit_and, is_some, length, max}
+use Rattle.std.specs.Prelude.{if◌then◌else◌}
+use Rattle.descriptors.specs.declared.ring.Ring.{Ring}
+use Rattle.descriptors.specs.Ring.{count_of, distance_of}
+use Rattle.eeprom.specs.Eerd.{is_pending}
+use Rattle.mdic_phy.specs.declared.phy.Negotiation.{Negotiation}
+use Rattle.mdic_phy.specs.declared.phy.Negotiation.TheVariants.{NotStarted, Running, Complete}
+use Rattle.mdic_phy.specs.Mdic.{MdicState, phy_after_tick}
+use Rattle.mdic_phy.specs.Phy.{PhyState}
+use Rattle.rx_engine.specs.Arriving.{kept}
+use Rattle.adapter.specs.declared.register.Register.{Register}
+use Rattle.adapter.specs.declared.register.Register.TheVariants.{Receive, Transmit}
+use Rattle.adapter.specs.declared.register.RingRegister.TheVariants.{Tail}
+use Rattle.adapter.specs.declared.step.StepKind.{StepKind}
+use Rattle.adapter.specs.declared.step.StepKind.TheVariants.{EepromTick, PhyTick}
+use Rattle.adapter.specs.Rings.{ring_kept, ring_of}
+use Rattle.adapter.specs.State.{AdapterState}
+use Rattle.adapter.specs.Table.{register_at}
+use Rattle.bus.specs.declared.event.Access.{Access}
+use Rattle.bus.specs.declared.event.Access.TheVariants.{Loads, Reads, Stores, Writes}
+use Rattle.bus.specs.declared.event.Event.{Event}
+use Rattle.bus.specs.declared.event.Event.TheVariants.{Accesses, Arrives, Steps}
+use Rattle.stations.specs.Outcomes.{outcome_of_step}
+use Rattle.stations.specs.declared.tick.Outcome.{Outcome}
+use Rattle.stations.specs.declared.tick.Outcome.TheVariants.{Done, Moved, Put, Ticked, Took}
+
+-- The numbers.
+
+-- of a ring
+pub record RingCounts : Type 0 where
+  -- how many descriptors it has
+  pub slots : ℕ
+  -- which of them stands at its tail, RDT or TDT
+  pub tail : ℕ
+  -- how many are the adapter's: those from its head, RDH or TDH, up to its tail
+  pub offered : ℕ
+
+-- of the side that receives
+pub record ReceiveCounts : Type 0 where
+  pub ring : RingCounts
+  -- the frames in the packet buffer
+  pub buffered : ℕ
+  -- whether a frame is in work
+  pub is_working : Bool
+
+-- of the side that transmits
+pub record TransmitCounts : Type 0 where
+  pub ring : RingCounts
+  -- the frames in the packet buffer
+  pub buffered : ℕ
+
+pub record HostCounts : Type 0 where
+  pub receive : ReceiveCounts
+  pub transmit : TransmitCounts
+  -- whether a read of EERD is pending
+  pub is_reading : Bool
+  -- for how many ticks on MDIC and the PHY have something to do
+  pub phy_ticks : ℕ
+
+abbrev pub ring_counts : Ring → RingCounts
+ring_counts ring = record { slots = count_of ring; tail = ring.tail; offered = distance_of ring ring.head ring.tail }
+
+-- the ticks that a negotiation takes
+abbrev pub negotiation_ticks : Negotiation → ℕ
+negotiation_ticks NotStarted = 0
+negotiation_ticks (Running left) = max left 1
+negotiation_ticks Complete = 0
+
+-- a pending command takes one, and may start a negotiation
+abbrev pub ticks_left : MdicState → PhyState → ℕ
+ticks_left mdic phy = if is_some mdic.pending then suc (negotiation_ticks (phy_after_tick mdic phy).negotiation)
+    else negotiation_ticks phy.negotiation
+
+abbrev pub counts_of : AdapterState → HostCounts
+counts_of state = record {
+  receive = record {
+    ring = ring_counts (ring_of state.receive_ring);
+    buffered = length state.receiver.buffer;
+    is_working = is_some state.receiver.work;
+  };
+  transmit = record { ring = ring_counts (ring_of state.transmit_ring); buffered = length state.transmitter.buffer };
+  is_reading = is_pending state.eerd;
+  phy_ticks = ticks_left state.mdic state.phy;
+}
+
+-- What an event leaves of them.
+
+-- the adapter took a slot
+abbrev pub one_fewer : RingCounts → RingCounts
+one_fewer ring = record ring { offered = ring.offered - 1 }
+
+-- by how many places a tail moves on to a slot, round the ring
+abbrev pub moved_on_by : RingCounts → ℕ → ℕ
+moved_on_by ring tail = (tail + ring.slots - ring.tail) % ring.slots
+
+-- the driver moved the tail on to a slot: so many more are offered, round the ring
+abbrev pub with_tail : ℕ → RingCounts → RingCounts
+with_tail tail ring = record ring { tail = tail; offered = (ring.offered + moved_on_by ring tail) % ring.slots }
+
+abbrev pub after_tick : StepKind → HostCounts → HostCounts
+after_tick EepromTick counts = record counts { is_reading = false }
+after_tick PhyTick counts = record counts { phy_ticks = counts.phy_ticks - 1 }
+after_tick _ counts = counts
+
+-- what the outcome of a step of this kind leaves
+abbrev pub after_outcome : StepKind → Outcome → HostCounts → HostCounts
+after_outcome kind Took counts =
+    record counts { transmit = record { ring = one_fewer counts.transmit.ring; buffered = counts.transmit.buffered + 1 } }
+after_outcome kind (Put frame) counts =
+    record counts { transmit = record counts.transmit { buffered = counts.transmit.buffered - 1 } }
+after_outcome kind Moved counts =
+    record counts { receive = record { ring = one_fewer counts.receive.ring; buffered = counts.receive.buffered - 1; is_working = true } }
+after_outcome kind Done counts = record counts { receive = record counts.receive { is_working = false } }
+after_outcome kind Ticked counts = after_tick kind counts
+after_outcome kind _ counts = counts
+
+-- the slot that a word names, written to RDT or TDT
+abbrev pub tail_of : ℕ → ℕ
+tail_of value = bit_and value (ring_kept Tail)
+
+-- what a write leaves: RDT and TDT move their tails
+abbrev pub after_write : Option Register → ℕ → HostCounts → HostCounts
+after_write (Some (Receive Tail)) value counts =
+    record counts { receive = record counts.receive { ring = with_tail (tail_of value) counts.receive.ring } }
+after_write (Some (Transmit Tail)) value counts =
+    record counts { transmit = record counts.transmit { ring = with_tail (tail_of value) counts.transmit.ring } }
+after_write _ value counts = counts
+
+abbrev pub after_access : Access → HostCounts → HostCounts
+after_access (Reads offset value) counts = counts
+after_access (Writes offset value) counts = after_write (register_at offset) value counts
+after_access (Loads address size) counts = counts
+after_access (Stores address bytes) counts = counts
+
+-- what an event leaves; a frame that is stored is one more in the receive packet buffer
+abbrev pub counts_after : Event → HostCounts → HostCounts
+counts_after (Steps kind wire_free answer) counts = after_outcome kind (outcome_of_step answer) counts
+counts_after (Arrives frame fate) counts =
+    record counts { receive = record counts.receive { buffered = counts.receive.buffered + length (kept fate frame) } }
+counts_after (Accesses access) counts = after_access access counts
+
+-- what events leave, one after the other
+abbrev pub counts_behind : List Event → HostCounts → HostCounts
+counts_behind [] counts = counts
+counts_behind (event ∷ later) counts = counts_behind later (counts_after event counts)

@@ -1,0 +1,39 @@
+-- The frames that wait at the ends of wires, and what atomic steps leave of them (own).
+use Rattle.std.specs.Prelude.{◌≡◌, ◌≢◌, ◌≤◌, ◌==◌, ◌++◌, ℕ, Bool, true, false, Option, Some, None, List, [], ◌∷◌, length}
+use Rattle.std.specs.Prelude.{if◌then◌else◌}
+use Rattle.bus.specs.Trails.{past_of_event}
+use Rattle.stations.specs.AtomicSteps.{At, AtomicStep, Idles}
+use Rattle.stations.specs.Stations.{StationState, backlog_after, backlog_at, end_frames, wire_at}
+
+-- two hosts that are there are on one wire
+abbrev pub is_same_wire : Option ℕ → Option ℕ → Bool
+is_same_wire None other = false
+is_same_wire (Some wire) None = false
+is_same_wire (Some wire) (Some other) = wire == other
+
+-- the frames that come to an end of a wire, where a host puts these
+abbrev pub come_to : (is_same : Bool) → List (List ℕ) → List (List ℕ)
+come_to is_same frames = if is_same then frames else []
+
+-- What a step leaves of the frames that wait at a host's end: a delivery takes the oldest, and a frame that another host puts onto the
+-- wire is behind the others.
+abbrev pub waiting_after : (start : List StationState) (host : ℕ) → AtomicStep → List (List ℕ) → List (List ℕ)
+waiting_after start host (At other event) waiting =
+    if host == other then backlog_after event waiting
+    else waiting ++ come_to (is_same_wire (wire_at start host) (wire_at start other)) (past_of_event event).put
+waiting_after start host (Idles tick) waiting = waiting
+
+abbrev pub waiting_behind : (start : List StationState) (host : ℕ) → List AtomicStep → List (List ℕ) → List (List ℕ)
+waiting_behind start host [] waiting = waiting
+waiting_behind start host (step ∷ later) waiting = waiting_behind start host later (waiting_after start host step waiting)
+
+-- the frames that wait at a host's end behind these steps
+abbrev pub waiting_at : (start : List StationState) → List AtomicStep → (host : ℕ) → List (List ℕ)
+waiting_at start steps host = waiting_behind start host steps (backlog_at start host)
+
+-- At another end of the host's wire as many frames wait as may.
+pub record WireIsFull (start : List StationState) (steps : List AtomicStep) (host : ℕ) : Type 0 where
+  pub other : ℕ
+  pub is_another : other ≢ host
+  pub on_wire : is_same_wire (wire_at start other) (wire_at start host) ≡ true
+  pub full : end_frames ≤ length (waiting_at start steps other)
