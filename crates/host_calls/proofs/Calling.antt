@@ -1,0 +1,173 @@
+-- A call over a lent bus, and the ticks that are left.
+use Rattle.std.proofs.Common.{◌≡◌, ◌≢◌, ◌++◌, [], ℕ, true, List, refl, sym, ap, subst, ◌∙◌}
+use Rattle.std.specs.List.{All}
+use Rattle.std.proofs.lemmas.List.{append-nil}
+use Rattle.std.proofs.lemmas.List.Elements.{All-append}
+use Rattle.adapter.specs.World.{World}
+use Rattle.dma_memory.specs.Layout.{Counts}
+use Rattle.bus.proofs.Lists.{all-none}
+use Rattle.bus.specs.Law.{Happens}
+use Rattle.bus.specs.PastOfStretch.{Past}
+use Rattle.bus.specs.declared.event.Access.{Access}
+use Rattle.stations.specs.AtomicSteps.{AtomicStep}
+use Rattle.stations.specs.Outcomes.{OutcomeList}
+use Rattle.stations.specs.Stations.{StationState, world_at}
+use Rattle.stations.specs.declared.tick.Tick.{Tick}
+use Rattle.lent_bus.specs.AtomicRunLaws.{leads_join, past_join}
+use Rattle.lent_bus.specs.AtomicRuns.{LeadsTo, past_at}
+use Rattle.lent_bus.specs.Retelling.{Finished, Retells, world_here}
+use Rattle.lent_bus.specs.declared.lent_bus.LentBus.{LentBus}
+use Rattle.driver_law.proofs.Stretches.{work_kept}
+use Rattle.driver_law.specs.Stretches.{HasNoForgottenWork, IsRefilled}
+use Rattle.packet_socket.proofs.Stretches.{host-flows-join, host-happens}
+use Rattle.packet_socket.specs.HeldFrames.{HostReady, driver_of}
+use Rattle.packet_socket.specs.HostState.{HostState}
+use Rattle.packet_socket.specs.HostStretches.{Given, HostFlowsTo, HostGoesTo}
+use Rattle.delivery.proofs.Laws.{lent-calls, outcomes-tell}
+use Rattle.delivery.specs.TickNumbers.{numbers}
+use Rattle.host_calls.specs.CallsOfHosts.{CallRuns, HostRuns, IsOfDriver}
+use Rattle.host_calls.proofs.HostTrails.{happens-alone, happens-elsewhere, none-alone, none-elsewhere}
+
+-- What a host knows of its driver's work doesn't depend on who holds frames.
+pub work-held : (h : HostState) (a world : World) → HasNoForgottenWork h.driver world → HasNoForgottenWork (driver_of h a) world
+work-held h a world work = record { enabled = work.enabled; asked = work.asked }
+
+pub work-unheld : (h : HostState) (a world : World) → HasNoForgottenWork (driver_of h a) world → HasNoForgottenWork h.driver world
+work-unheld h a world work = record { enabled = work.enabled; asked = work.asked }
+
+pub flows-of : (h : HostState) (a : World) (h' : HostState) (b : World) (taken : List (List ℕ)) (given : List Given)
+    (accepted : List (List ℕ)) (past : Past)
+    → HostGoesTo true h a h' b taken given accepted past → HostFlowsTo true h a h' b taken given accepted past
+flows-of h a h' b taken given accepted past goes = record { sizes = goes.sizes; flows = goes.goes.flows; accounts = goes.accounts }
+
+pub ready-behind : (h : HostState) (a : World) (h' : HostState) (b : World) (taken : List (List ℕ)) (given : List Given)
+    (accepted : List (List ℕ)) (past : Past)
+    → HostFlowsTo true h a h' b taken given accepted past → HostReady h' b
+ready-behind h a h' b taken given accepted past flows = record { sizes = flows.sizes; ready = flows.flows.ready }
+
+-- No work is forgotten over a stretch in which ICR isn't read.
+pub work-goes : (h : HostState) (a : World) (h' : HostState) (b : World) (taken : List (List ℕ)) (given : List Given)
+    (accepted : List (List ℕ)) (past : Past)
+    → HostGoesTo true h a h' b taken given accepted past → HasNoForgottenWork h.driver a → HasNoForgottenWork h'.driver b
+work-goes h a h' b taken given accepted past goes work =
+    work-unheld h' b b (work_kept (driver_of h a) (driver_of h' b) a b taken accepted past goes.goes (work-held h a a work))
+
+-- A host over which the law holds alone.
+pub runs-alone : (k : ℕ) (steps : List AtomicStep) (a b : List StationState) (h : HostState) → HostReady h (world_at a k)
+    → Happens (world_at a k) (world_at b k) (past_at k steps) → (past_at k steps).accesses ≡ [] → HostRuns k steps a b h h [] [] []
+runs-alone k steps a b h ready happens none =
+    let goes = host-happens h (world_at a k) (world_at b k) (past_at k steps) ready happens in
+    record {
+      flows = flows-of h (world_at a k) h (world_at b k) [] [] [] (past_at k steps) goes;
+      accesses = subst (λ (accesses : List Access). All (IsOfDriver h.driver.counts) accesses) (sym none)
+          (all-none (IsOfDriver h.driver.counts));
+      work = work-goes h (world_at a k) h (world_at b k) [] [] [] (past_at k steps) goes;
+      refilled = λ refilled. refilled;
+      offered = λ offered. offered;
+    }
+
+-- Two stretches of a host's run.
+pub runs-join : (k : ℕ) (first later : List AtomicStep) (a b c : List StationState) (h1 h2 h3 : HostState) (t1 t2 : List (List ℕ))
+    (given more : List Given) (s1 s2 : List (List ℕ))
+    → h2.driver.counts ≡ h1.driver.counts
+    → HostRuns k first a b h1 h2 t1 given s1 → HostRuns k later b c h2 h3 t2 more s2
+    → HostRuns k (first ++ later) a c h1 h3 (t1 ++ t2) (given ++ more) (s1 ++ s2)
+runs-join k first later a b c h1 h2 h3 t1 t2 given more s1 s2 counts one two = record {
+  flows =
+      subst (HostFlowsTo true h1 (world_at a k) h3 (world_at c k) (t1 ++ t2) (given ++ more) (s1 ++ s2))
+      (sym (past_join k first later))
+      (host-flows-join h1 h2 h3 (world_at a k) (world_at b k) (world_at c k) t1 t2 given more s1 s2 (past_at k first)
+      (past_at k later) one.flows two.flows);
+  accesses =
+      subst (λ (past : Past). All (IsOfDriver h1.driver.counts) past.accesses) (sym (past_join k first later))
+      (All-append (IsOfDriver h1.driver.counts) (past_at k first).accesses (past_at k later).accesses one.accesses
+      (subst (λ (own : Counts). All (IsOfDriver own) (past_at k later).accesses) counts two.accesses));
+  work = λ work. two.work (one.work work);
+  refilled = λ refilled. two.refilled (one.refilled refilled);
+  offered = λ offered. two.offered (one.offered offered);
+}
+
+-- A call of which the lent bus tells, and the ticks that are left.
+pub call-runs_by : (a m b : LentBus) (past : Past) (h h' : HostState) (taken : List (List ℕ)) (given : List Given)
+    (accepted : List (List ℕ))
+    → a.accesses ≡ 0 → (told : Retells a m past) → HostFlowsTo true h (world_here a) h' (world_here m) taken given accepted past
+    → All (IsOfDriver h.driver.counts) past.accesses
+    → (HasNoForgottenWork h.driver (world_here a) → HasNoForgottenWork h'.driver (world_here m))
+    → (IsRefilled h.driver → IsRefilled h'.driver)
+    → (h.driver.staged ≡ [] → h'.driver.staged ≡ [])
+    → (finished : Finished m b)
+    → ((runs : CallRuns a.host a.ticks.now a.stations.now b.stations.now a.outcomes.now b.outcomes.now b.accesses h h' taken given accepted)
+    × (runs.steps ≡ told.steps ++ finished.plays.steps))
+call-runs_by a m b past h h' taken given accepted zero told flows accesses work refilled offered finished =
+    let first = told.steps in
+    let last = finished.plays.steps in
+    let leads = leads_join a.host first last a.stations.now m.stations.now b.stations.now told.leads (finished.plays.leads a.host) in
+    let host = told.lent.host in
+    let call = lent-calls a m b past told finished zero in
+    let tells = outcomes-tell a.host a.ticks.now past.accesses first last a.stations.now m.stations.now b.stations.now call.plays in
+    let here : HostRuns a.host first a.stations.now m.stations.now h h' taken given accepted =
+    subst (λ (w : World). (HostFlowsTo true h (world_here a) h' w taken given accepted past)
+    → (HasNoForgottenWork h.driver (world_here a) → HasNoForgottenWork h'.driver w)
+    → HostRuns a.host first a.stations.now m.stations.now h h' taken given accepted)
+    (ap (λ (k : ℕ). world_at m.stations.now k) (sym host))
+    (λ f w. record {
+      flows = subst (HostFlowsTo true h (world_here a) h' (world_at m.stations.now a.host) taken given accepted) told.past_is f;
+      accesses = subst (λ (p : Past). All (IsOfDriver h.driver.counts) p.accesses) told.past_is accesses;
+      work = w;
+      refilled = refilled;
+      offered = offered;
+    }) flows work in
+    let counts : h'.driver.counts ≡ h.driver.counts = flows.flows.counts in
+    let ready = ready-behind h (world_at a.stations.now a.host) h' (world_at m.stations.now a.host) taken given accepted
+    (past_at a.host first) here.flows in
+    let behind = runs-alone a.host last m.stations.now b.stations.now h' ready
+    (happens-alone a.host a.host last m.stations.now b.stations.now finished.plays.are (finished.plays.leads a.host))
+    (none-alone a.host last finished.plays.are) in
+    let whole = runs-join a.host first last a.stations.now m.stations.now b.stations.now h h' h' taken [] given [] accepted
+    [] counts here behind in (
+      record {
+        steps = first ++ last;
+        are_told = record {
+          leads = leads;
+          played = tells.played;
+          noted = call.noted;
+          said = tells.said;
+          numbered = sym tells.numbered ∙ ap (numbers a.ticks.now 0) (sym call.count);
+          counted = call.count ∙ sym tells.counted;
+        };
+        runs =
+            subst (λ (list : List (List ℕ)). HostRuns a.host (first ++ last) a.stations.now b.stations.now h h' list given accepted)
+            (append-nil taken)
+            (subst (λ (list : List Given). HostRuns a.host (first ++ last) a.stations.now b.stations.now h h' (taken ++ []) list accepted)
+            (append-nil given)
+            (subst (λ (list : List (List ℕ)). HostRuns a.host (first ++ last) a.stations.now b.stations.now h h' (taken ++ []) (given ++ [])
+            list) (append-nil accepted) whole));
+      },
+      refl,
+    )
+
+pub call-runs : (a m b : LentBus) (past : Past) (h h' : HostState) (taken : List (List ℕ)) (given : List Given) (accepted : List (List ℕ))
+    → a.accesses ≡ 0 → Retells a m past → HostFlowsTo true h (world_here a) h' (world_here m) taken given accepted past
+    → All (IsOfDriver h.driver.counts) past.accesses
+    → (HasNoForgottenWork h.driver (world_here a) → HasNoForgottenWork h'.driver (world_here m))
+    → (IsRefilled h.driver → IsRefilled h'.driver)
+    → (h.driver.staged ≡ [] → h'.driver.staged ≡ [])
+    → Finished m b
+    → CallRuns a.host a.ticks.now a.stations.now b.stations.now a.outcomes.now b.outcomes.now b.accesses h h' taken given accepted
+call-runs a m b past h h' taken given accepted zero told flows accesses work refilled offered finished =
+    (call-runs_by a m b past h h' taken given accepted zero told flows accesses work refilled offered finished).0
+
+-- Every other host.
+pub others-run : (caller k : ℕ) (steps : List AtomicStep) (a b : List StationState) (h : HostState) → k ≢ caller
+    → LeadsTo caller steps a b → HostReady h (world_at a k) → HostRuns k steps a b h h [] [] []
+others-run caller k steps a b h other leads ready =
+    runs-alone k steps a b h ready (happens-elsewhere caller k steps a b other leads) (none-elsewhere caller k steps a b other leads)
+
+-- What was lent comes back.
+pub call-back : (place : ℕ) (ticks : List Tick) (old new new' : List StationState) (before behind behind' : OutcomeList) (accesses : ℕ)
+    (h h' : HostState) (taken : List (List ℕ)) (given : List Given) (accepted : List (List ℕ)) → new' ≡ new → behind' ≡ behind
+    → CallRuns place ticks old new before behind accesses h h' taken given accepted
+    → CallRuns place ticks old new' before behind' accesses h h' taken given accepted
+call-back place ticks old new new' before behind behind' accesses h h' taken given accepted same noted runs =
+    subst (λ (stations : List StationState). CallRuns place ticks old stations before behind' accesses h h' taken given accepted) (sym same)
+    (subst (λ (list : OutcomeList). CallRuns place ticks old new before list accesses h h' taken given accepted) (sym noted) runs)

@@ -1,0 +1,93 @@
+-- The accesses of a driver's calls are those of a driver that is up.
+use Rattle.std.proofs.Common.{◌≡◌, ◌<◌, ◌+◌, ◌-◌, ◌%◌, ◌++◌, ◌∷◌, [], ℕ, List, length, inl, inr, map, refl, sym, subst}
+use Rattle.std.specs.List.{All}
+use Rattle.std.proofs.lemmas.List.Elements.{All-append, All-cons}
+use Rattle.std.proofs.lemmas.Nat.{mod_below}
+use Rattle.adapter.specs.declared.offsets.TheConstants.{ICR, MPC, RDT, TDT}
+use Rattle.dma_memory.specs.Layout.{Counts}
+use Rattle.descriptors.specs.Ring.{slots_from}
+use Rattle.bus.proofs.Lists.{all-none}
+use Rattle.bus.specs.declared.event.Access.TheVariants.{Loads, Reads, Stores, Writes}
+use Rattle.driver_law.specs.Accesses.{last_load, stores_from, tail_write, takes_from}
+use Rattle.driver_law.specs.DriverState.{DriverState, buffer_at, next_receive, receive_slot, transmit_slot, transmit_tail}
+use Rattle.driver_law.specs.TransmitSteps.{send_accesses, tail_buffer, tail_slot, transmit_loads, whole_descriptor}
+use Rattle.driver.specs.HandlerSteps.{handled_accesses}
+use Rattle.driver.specs.SendSteps.{Answer, accesses_by, slots_looked_at}
+use Rattle.driver.specs.declared.transmit.SendError.TheVariants.{TooShort, TooLong, RingFull}
+use Rattle.packet_socket.specs.HostCalls.{receive_accesses}
+use Rattle.std.specs.Prelude.{Ok, Err}
+use Rattle.host_calls.specs.CallsOfHosts.{IsOfDriver}
+
+-- Sending.
+
+all-loads : (counts own : Counts) (slots : List ℕ) → All (IsOfDriver own) (map (λ slot. Loads (transmit_slot counts slot) 16) slots)
+all-loads counts own [] = all-none (IsOfDriver own)
+all-loads counts own (slot ∷ later) = All-cons (IsOfDriver own) (Loads (transmit_slot counts slot) 16)
+    (map (λ slot. Loads (transmit_slot counts slot) 16) later) tt (all-loads counts own later)
+
+all-sent : (own : Counts) (d : DriverState) (frame : List ℕ) → d.counts ≡ own → 0 < own.tx → All (IsOfDriver own) (send_accesses d frame)
+all-sent own d frame same some =
+    let slot = (transmit_tail d + 1) % d.counts.tx in
+    let below : slot < own.tx = subst (λ (c : Counts). (transmit_tail d + 1) % c.tx < own.tx) (sym same)
+    (mod_below (transmit_tail d + 1) own.tx some) in
+    let tail = Writes TDT slot ∷ [] in
+    let descriptor = Stores (tail_slot d) (whole_descriptor (tail_buffer d) (length frame)) in
+    All-cons (IsOfDriver own) (Stores (tail_buffer d) frame) (descriptor ∷ tail) tt
+    (All-cons (IsOfDriver own) descriptor tail tt
+    (All-cons (IsOfDriver own) (Writes TDT slot) [] (inr (refl, below)) (all-none (IsOfDriver own))))
+
+pub sends-of_driver : (own : Counts) (result : Answer) (d d' : DriverState) (frame : List ℕ) → d.counts ≡ own → 0 < own.tx
+    → All (IsOfDriver own) (accesses_by result d d' frame)
+sends-of_driver own (Ok u) d d' frame same some =
+    let k = slots_looked_at d.sending (d'.sending - 1) in
+    All-append (IsOfDriver own) (transmit_loads d.counts d.oldest_transmit k) (send_accesses d frame)
+    (all-loads d.counts own (slots_from d.counts.tx d.oldest_transmit k)) (all-sent own d frame same some)
+sends-of_driver own (Err TooShort) d d' frame same some = all-none (IsOfDriver own)
+sends-of_driver own (Err TooLong) d d' frame same some = all-none (IsOfDriver own)
+sends-of_driver own (Err RingFull) d d' frame same some =
+    all-loads d.counts own (slots_from d.counts.tx d.oldest_transmit (slots_looked_at d.sending d'.sending))
+
+-- Offering slots.
+
+all-stores : (counts own : Counts) (slot : ℕ) (numbers : List ℕ) → All (IsOfDriver own) (stores_from counts slot numbers)
+all-stores counts own slot [] = all-none (IsOfDriver own)
+all-stores counts own slot (number ∷ later) = All-cons (IsOfDriver own) _ _ tt (all-stores counts own ((slot + 1) % counts.rx) later)
+
+all-tail : (own : Counts) (slot : ℕ) (staged : List ℕ) → slot < own.rx → All (IsOfDriver own) (tail_write slot staged)
+all-tail own slot [] below = all-none (IsOfDriver own)
+all-tail own slot (number ∷ later) below = All-cons (IsOfDriver own) (Writes RDT slot) [] (inl (refl, below)) (all-none (IsOfDriver own))
+
+-- Receiving.
+
+pub receives-of_driver : (own : Counts) (d d' : DriverState) (buffer size : ℕ) (offered : List ℕ) → next_receive d' < own.rx
+    → All (IsOfDriver own) (receive_accesses d d' buffer size offered)
+receives-of_driver own d d' buffer size offered below =
+    All-cons (IsOfDriver own) _ _ tt
+    (All-append (IsOfDriver own) _ _ (all-stores d.counts own (next_receive d) offered)
+    (all-tail own (next_receive d') (d.staged ++ offered) below))
+
+-- Handling an interrupt.
+
+all-takes : (counts own : Counts) (slot : ℕ) (numbers : List ℕ) → All (IsOfDriver own) (takes_from counts slot numbers)
+all-takes counts own slot [] = all-none (IsOfDriver own)
+all-takes counts own slot (number ∷ later) =
+    let behind = takes_from counts ((slot + 1) % counts.rx) later in
+    let load = Loads (buffer_at counts number + 12) 2 in
+    All-cons (IsOfDriver own) (Loads (receive_slot slot) 16) (load ∷ behind) tt
+    (All-cons (IsOfDriver own) load behind tt (all-takes counts own ((slot + 1) % counts.rx) later))
+
+all-last : (own : Counts) (slot : ℕ) (outstanding : List ℕ) → All (IsOfDriver own) (last_load slot outstanding)
+all-last own slot [] = all-none (IsOfDriver own)
+all-last own slot (number ∷ later) = All-cons (IsOfDriver own) (Loads (receive_slot slot) 16) [] tt (all-none (IsOfDriver own))
+
+pub handles-of_driver : (own : Counts) (d : DriverState) (misses : ℕ) (taken rest offered : List ℕ) (last : ℕ) → last < own.rx
+    → All (IsOfDriver own) (handled_accesses d misses taken rest offered last)
+handles-of_driver own d misses taken rest offered last below =
+    All-cons (IsOfDriver own) (Reads MPC misses) _ (inr refl)
+    (All-append (IsOfDriver own) _ _
+    (All-append (IsOfDriver own) _ _ (all-takes d.counts own d.oldest_receive taken) (all-last own _ rest))
+    (All-append (IsOfDriver own) _ _ (all-stores d.counts own (next_receive d) offered)
+    (all-tail own last (d.staged ++ offered) below)))
+
+pub causes-of_driver : (own : Counts) (causes : ℕ) → All (IsOfDriver own) (Reads ICR causes ∷ [])
+causes-of_driver own causes = All-cons (IsOfDriver own) (Reads ICR causes) [] (inl refl) (all-none (IsOfDriver own))

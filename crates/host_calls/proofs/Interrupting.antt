@@ -1,0 +1,136 @@
+-- A host handles an interrupt over a lent bus.
+use Rattle.std.proofs.Common.{◌≡◌, ◌<◌, ◌+◌, ◌++◌, ◌∷◌, [], ℕ, true, cond, List, length, map, refl, sym, ap, subst, ◌∙◌, arith}
+use Rattle.std.specs.List.{All}
+use Rattle.std.proofs.lemmas.List.{length-map}
+use Rattle.std.proofs.lemmas.List.Elements.{All-append}
+use Rattle.std.proofs.lemmas.List.Sums.{sum_by-cons}
+use Rattle.rx_filter.specs.Addresses.{ether_type}
+use Rattle.bus.specs.PastOfStretch.{joined}
+use Rattle.bus.specs.declared.event.Access.{Access}
+use Rattle.lent_bus.specs.Retelling.{Finished, Retells, world_here}
+use Rattle.lent_bus.specs.RetellingLaws.{retells_join}
+use Rattle.lent_bus.specs.declared.lent_bus.LentBus.{LentBus}
+use Rattle.driver_law.proofs.Places.{place-below}
+use Rattle.driver_law.specs.DriverState.{HandedOut, next_receive, numbers_of}
+use Rattle.driver_law.specs.Stretches.{IsRefilled}
+use Rattle.driver.specs.HandlerSteps.{OnTaken}
+use Rattle.driver.specs.TakenFrames.{GrowsBy, received_of}
+use Rattle.driver.specs.declared.receiver.Received.{Received}
+use Rattle.driver.specs.declared.interrupt.Handled.{Handled}
+use Rattle.driver.specs.declared.interrupt.Handled.TheVariants.{NotMine}
+use Rattle.driver.specs.declared.interrupt.Handled.TheVariants as answers
+use Rattle.packet_socket.specs.HeldFrames.{HostReady, without_socket}
+use Rattle.packet_socket.specs.HostCalls.{HostHandles, frames_taken}
+use Rattle.packet_socket.specs.HostState.{HostState}
+use Rattle.packet_socket.specs.SocketKinds.{has_none}
+use Rattle.packet_socket.specs.SocketsState.{unclaimed_of}
+use Rattle.packet_socket.specs.declared.socket_kind.SocketKind.{SocketKind}
+use Rattle.host_calls.specs.CallAnswers.{InterruptRuns}
+use Rattle.host_calls.specs.CallsOfHosts.{IsOfDriver}
+use Rattle.dma_memory.specs.Layout.{Counts}
+use Rattle.interrupt_causes.proofs.Answering.{calls-tell_causes, first-reads_stay}
+use Rattle.interrupt_causes.specs.InterruptCauses.{TellsCauses}
+use Rattle.stations.specs.AtomicSteps.{AtomicStep}
+use Rattle.stations.specs.Outcomes.{OutcomeList}
+use Rattle.stations.specs.Stations.{StationState}
+use Rattle.stations.specs.declared.tick.Tick.{Tick}
+use Rattle.host_calls.proofs.Calling.{call-runs_by}
+use Rattle.host_calls.proofs.DriversAccesses.{causes-of_driver, handles-of_driver}
+
+-- Frames without a socket are counted as they are taken.
+same-count : (kinds : List SocketKind) (taken : List HandedOut) → unclaimed_of kinds (map received_of taken)
+    ≡ without_socket kinds (frames_taken taken)
+same-count kinds [] = refl
+same-count kinds (one ∷ later) =
+    let shown = sum_by-cons (λ (r : Received). cond (has_none kinds r.ether_type) 1 0) (received_of one) (map received_of later) in
+    let frames = sum_by-cons (λ (frame : List ℕ). cond (has_none kinds (ether_type frame)) 1 0) one.frame (frames_taken later) in
+    let rest = same-count kinds later in
+    omega (arith, shown, frames, rest)
+
+taken-unclaimed : (kinds : List SocketKind) (taken : List HandedOut) (before behind : ℕ)
+    → GrowsBy before behind (unclaimed_of kinds (map received_of taken)) → GrowsBy before behind (without_socket kinds (frames_taken taken))
+taken-unclaimed kinds taken before behind grows = subst (GrowsBy before behind) (same-count kinds taken) grows
+
+-- What the whole call tells of causes, where its first part does.
+tells-on : (caller : ℕ) (first last steps : List AtomicStep) (causes recorded : ℕ) (result : Handled)
+    → TellsCauses caller first causes recorded result → steps ≡ first ++ last → TellsCauses caller steps causes recorded result
+tells-on caller first last steps causes recorded result tells is =
+    subst (λ (list : List AtomicStep). TellsCauses caller list causes recorded result) (sym is)
+    (record { early = tells.early; first = first-reads_stay caller first tells.early last causes tells.first; answer = tells.answer })
+
+leaves-runs : (a m b : LentBus) (h h' : HostState) → a.accesses ≡ 0 → HostReady h (world_here a)
+    → HostHandles true world_here Retells a m h h' NotMine → Finished m b
+    → InterruptRuns NotMine a.host a.ticks.now a.stations.now b.stations.now a.outcomes.now b.outcomes.now b.accesses h h'
+leaves-runs a m b h h' zero ready handles finished =
+    let leaves = handles.behind in
+    let past = handles.reads.past in
+    let only = handles.reads.only in
+    let told = subst (λ (bus : LentBus). Retells a bus past) (sym leaves.leaves.still) handles.reads.told in
+    let made = call-runs_by a m b past h h' [] [] [] zero told leaves.flows
+    (subst (λ (accesses : List Access). All (IsOfDriver h.driver.counts) accesses) (sym only)
+    (causes-of_driver h.driver.counts handles.causes))
+    leaves.leaves.work
+    (subst (λ (host : HostState). IsRefilled h.driver → IsRefilled host.driver) (sym leaves.stays) (λ refilled. refilled))
+    (subst (λ (host : HostState). h.driver.staged ≡ [] → host.driver.staged ≡ []) (sym leaves.stays) (λ offered. offered))
+    finished in
+    record {
+      taken = [];
+      runs = made.0;
+      causes = handles.causes;
+      tells = tells-on a.host told.steps finished.plays.steps made.0.steps handles.causes (world_here a).adapter.causes.recorded NotMine
+          (calls-tell_causes a m m h h' NotMine past [] ready handles told only) made.1;
+      answer = leaves.stays;
+    }
+
+works-runs : (a m b : LentBus) (h h' : HostState) (n : ℕ) → a.accesses ≡ 0 → HostReady h (world_here a) → IsRefilled h'.driver
+    → h'.driver.staged ≡ [] → HostHandles true world_here Retells a m h h' (answers.Handled n) → Finished m b
+    → InterruptRuns (answers.Handled n) a.host a.ticks.now a.stations.now b.stations.now a.outcomes.now b.outcomes.now b.accesses h h'
+works-runs a m b h h' n zero ready refilled offered handles finished =
+    let works = handles.behind in
+    let past = handles.reads.past in
+    let only = handles.reads.only in
+    let own = h.driver.counts in
+    let counts = works.flows.flows.counts in
+    let driver = works.flows.flows.ready.driver_is in
+    let below : next_receive h'.driver < h'.driver.counts.rx =
+    place-below h'.driver.counts.rx h'.driver.oldest_receive (length h'.driver.buffers + length h'.driver.staged) driver.oldest_slot in
+    let driver_accesses = handles-of_driver own h.driver works.misses (numbers_of works.taken) works.rest works.offered
+    (next_receive h'.driver) (subst (λ (c : Counts). next_receive h'.driver < c.rx) counts below) in
+    let told = retells_join a handles.middle m past works.ran.past handles.reads.told works.ran.told in
+    let made = call-runs_by a m b (joined past works.ran.past) h h' (frames_taken works.taken) [] [] zero told works.flows
+    (All-append (IsOfDriver own) past.accesses works.ran.past.accesses
+    (subst (λ (accesses : List Access). All (IsOfDriver own) accesses) (sym only) (causes-of_driver own handles.causes))
+    (subst (λ (accesses : List Access). All (IsOfDriver own) accesses) (sym works.ran.only) driver_accesses))
+    (λ work. works.work work.enabled)
+    (λ before. refilled) (λ before. offered) finished in
+    record {
+      taken = frames_taken works.taken;
+      runs = made.0;
+      causes = handles.causes;
+      tells = tells-on a.host told.steps finished.plays.steps made.0.steps handles.causes (world_here a).adapter.causes.recorded
+          (answers.Handled n)
+          (calls-tell_causes a m m h h' (answers.Handled n) (joined past works.ran.past) works.ran.past.accesses ready handles told
+          (ap (λ (accesses : List Access). accesses ++ works.ran.past.accesses) only)) made.1;
+      answer = record {
+        count = length-map works.taken (λ (one : HandedOut). one.frame) ∙ works.count;
+        least = works.least;
+        unclaimed = taken-unclaimed h.kinds works.taken h.unclaimed h'.unclaimed works.unclaimed;
+      };
+    }
+
+pub interrupt-runs : (a m b : LentBus) (h h' : HostState) (result : Handled) → a.accesses ≡ 0 → HostReady h (world_here a)
+    → OnTaken result (λ taken. IsRefilled h'.driver) → OnTaken result (λ taken. h'.driver.staged ≡ [])
+    → HostHandles true world_here Retells a m h h' result → Finished m b
+    → InterruptRuns result a.host a.ticks.now a.stations.now b.stations.now a.outcomes.now b.outcomes.now b.accesses h h'
+interrupt-runs a m b h h' NotMine zero ready refilled offered handles finished = leaves-runs a m b h h' zero ready handles finished
+interrupt-runs a m b h h' (answers.Handled n) zero ready refilled offered handles finished =
+    works-runs a m b h h' n zero ready refilled offered handles finished
+
+-- What was lent comes back.
+pub interrupt-back : (result : Handled) (place : ℕ) (ticks : List Tick) (old new new' : List StationState)
+    (before behind behind' : OutcomeList) (accesses : ℕ) (h h' : HostState) → new' ≡ new → behind' ≡ behind
+    → InterruptRuns result place ticks old new before behind accesses h h'
+    → InterruptRuns result place ticks old new' before behind' accesses h h'
+interrupt-back result place ticks old new new' before behind behind' accesses h h' same noted runs =
+    subst (λ (stations : List StationState). InterruptRuns result place ticks old stations before behind' accesses h h') (sym same)
+    (subst (λ (list : OutcomeList). InterruptRuns result place ticks old new before list accesses h h') (sym noted) runs)

@@ -1,0 +1,115 @@
+-- A host receives over a lent bus.
+use Rattle.std.proofs.Common.{◌≡◌, ◌≤◌, ◌<◌, ◌+◌, ◌++◌, ◌∷◌, [], ℕ, Bool, true, List, length, take, inl, inr, refl, sym, ap, subst, ◌∙◌}
+use Rattle.std.proofs.Common.{arith}
+use Rattle.std.specs.List.{All}
+use Rattle.std.specs.Prelude.{Err, Ok, Result, ◌↔◌}
+use Rattle.adapter.specs.World.{World}
+use Rattle.bus.proofs.Composition.{happens_none}
+use Rattle.bus.proofs.Lists.{all-none}
+use Rattle.bus.specs.PastOfStretch.{nothing}
+use Rattle.bus.specs.declared.event.Access.{Access}
+use Rattle.lent_bus.specs.Retelling.{Finished, Retells, world_here}
+use Rattle.lent_bus.specs.RetellingLaws.{retells_none}
+use Rattle.lent_bus.specs.declared.lent_bus.LentBus.{LentBus}
+use Rattle.driver_law.proofs.Places.{place-below}
+use Rattle.driver_law.specs.DriverState.{next_receive}
+use Rattle.driver_law.specs.Stretches.{IsRefilled}
+use Rattle.packet_socket.proofs.Stretches.{host-happens}
+use Rattle.packet_socket.specs.HeldFrames.{HostReady, waiting_frames}
+use Rattle.packet_socket.specs.HostCalls.{Receives}
+use Rattle.packet_socket.specs.HostState.{HostState}
+use Rattle.packet_socket.specs.HostStretches.{HostGoesTo}
+use Rattle.packet_socket.specs.SocketsState.{queue_at}
+use Rattle.packet_socket.specs.declared.receive.RecvError.{RecvError}
+use Rattle.packet_socket.specs.declared.receive.RecvError.TheVariants.{Empty, NoSocket}
+use Rattle.driver.specs.declared.receiver.Received.{Received}
+use Rattle.host_calls.specs.CallAnswers.{AnswersRecv, given_by}
+use Rattle.host_calls.specs.CallsOfHosts.{CallRuns, IsOfDriver}
+use Rattle.host_calls.proofs.Calling.{call-runs, flows-of, work-goes}
+use Rattle.host_calls.proofs.DriversAccesses.{receives-of_driver}
+
+pub recv-runs : (a m b : LentBus) (h h' : HostState) (socket size : ℕ) (bytes : List ℕ) → a.accesses ≡ 0 → HostReady h (world_here a)
+    → Receives true world_here Retells a m h h' socket size bytes → IsRefilled h'.driver → h'.driver.staged ≡ [] → Finished m b
+    → CallRuns a.host a.ticks.now a.stations.now b.stations.now a.outcomes.now b.outcomes.now b.accesses h h' []
+    (given_by socket (Ok bytes)) []
+recv-runs a m b h h' socket size bytes zero ready receives refilled offered finished =
+    let ran = receives.ran.ran in
+    let given = given_by socket (Ok bytes) in
+    let goes : HostGoesTo true h (world_here a) h' (world_here m) [] given [] ran.past =
+    record { sizes = receives.ran.sizes; goes = ran.goes; accounts = receives.ran.accounts } in
+    let counts = ran.goes.flows.counts in
+    let driver = ran.goes.flows.ready.driver_is in
+    let below : next_receive h'.driver < h'.driver.counts.rx =
+    place-below h'.driver.counts.rx h'.driver.oldest_receive (length h'.driver.buffers + length h'.driver.staged) driver.oldest_slot in
+    call-runs a m b ran.past h h' [] given [] zero ran.told (flows-of h (world_here a) h' (world_here m) [] given [] ran.past goes)
+    (subst (λ (accesses : List Access). All (IsOfDriver h.driver.counts) accesses) (sym ran.only)
+    (receives-of_driver h.driver.counts h.driver h'.driver receives.received.buffer size receives.offered
+    (subst (λ (c : Rattle.dma_memory.specs.Layout.Counts). next_receive h'.driver < c.rx) counts below)))
+    (work-goes h (world_here a) h' (world_here m) [] given [] ran.past goes)
+    (λ before. refilled) (λ before. offered) finished
+
+-- Where none is given nothing moves but ticks.
+pub none-runs : (a m b : LentBus) (h h' : HostState) (socket : ℕ) (error : RecvError) → a.accesses ≡ 0 → HostReady h (world_here a)
+    → m ≡ a → h' ≡ h → Finished m b
+    → CallRuns a.host a.ticks.now a.stations.now b.stations.now a.outcomes.now b.outcomes.now b.accesses h h' []
+    (given_by socket (Err error)) []
+none-runs a m b h h' socket error zero ready same stays finished =
+    let goes = host-happens h (world_here a) (world_here a) nothing ready (happens_none (world_here a)) in
+    subst (λ (host : HostState). CallRuns a.host a.ticks.now a.stations.now b.stations.now a.outcomes.now b.outcomes.now b.accesses
+    h host [] [] [])
+    (sym stays)
+    (call-runs a a b nothing h h [] [] [] zero (retells_none a) (flows-of h (world_here a) h (world_here a) [] [] [] nothing goes)
+    (all-none (IsOfDriver h.driver.counts)) (λ work. work) (λ refilled. refilled) (λ offered. offered)
+    (subst (λ (bus : LentBus). Finished bus b) same finished))
+
+-- The answers.
+
+queue-empty : (h : HostState) (socket : ℕ) (world : World) (queue : List Received) → queue_at h.queues socket ≡ queue
+    → ((queue ≡ []) ↔ (waiting_frames h socket world ≡ []))
+queue-empty h socket world queue is = (
+  λ (none : queue ≡ []). ap (λ (list : List Received). Rattle.std.proofs.Common.map
+      (Rattle.packet_socket.specs.HeldFrames.waiting_frame h.driver.counts world.memory) list) (is ∙ none),
+  λ (none : waiting_frames h socket world ≡ []). sym is ∙ Rattle.bus.proofs.Lists.map-empty
+      (Rattle.packet_socket.specs.HeldFrames.waiting_frame h.driver.counts world.memory) (queue_at h.queues socket) none,
+)
+
+pub ok-answers : (a m : LentBus) (h h' : HostState) (socket size : ℕ) (bytes : List ℕ)
+    → Receives true world_here Retells a m h h' socket size bytes
+    → socket < length h.kinds
+    → AnswersRecv (Ok bytes) socket h (world_here a)
+ok-answers a m h h' socket size bytes receives there = record {
+  no_socket = (λ is. absurd (cc), λ below. absurd (omega (arith, below, there)));
+  empty = (
+    λ is. absurd (cc),
+    λ both. absurd
+        (let e : bytes ∷ waiting_frames h' socket (world_here m) ≡ [] = sym receives.front ∙ both.1 in cc),
+  );
+  oldest = (waiting_frames h' socket (world_here m), receives.front);
+}
+
+pub there-given : (result : Result ℕ RecvError) (size socket kinds : ℕ) → result ≡ Ok size → ((result ≡ Err NoSocket) ↔ (kinds ≤ socket))
+    → socket < kinds
+there-given result size socket kinds is none =
+    let not : kinds ≤ socket → ⊥ = λ low. let e : Ok size ≡ Err NoSocket = sym is ∙ none.1 low in cc in
+    omega (arith, not)
+
+pub err-answers : (result : Result ℕ RecvError) (error : RecvError) (socket : ℕ) (h : HostState) (world : World) → result ≡ Err error
+    → ((result ≡ Err NoSocket) ↔ (length h.kinds ≤ socket))
+    → ((result ≡ Err Empty) ↔ ((socket < length h.kinds) × (queue_at h.queues socket ≡ [])))
+    → AnswersRecv (Err error) socket h world
+err-answers result Empty socket h world is none empty =
+    let queue = queue-empty h socket world (queue_at h.queues socket) refl in
+    record {
+      no_socket = (λ other. absurd (cc), λ low. absurd (let e : Err Empty ≡ Err NoSocket = sym is ∙ none.1 low in cc));
+      empty =
+          (λ same. ((empty.0 is).0, queue.0 (empty.0 is).1), λ both. refl);
+      oldest = tt;
+    }
+err-answers result NoSocket socket h world is none empty =
+    let queue = queue-empty h socket world (queue_at h.queues socket) refl in
+    record {
+      no_socket = (λ same. none.0 is, λ low. refl);
+      empty =
+          (λ other. absurd (cc), λ both. absurd (let e : Err NoSocket ≡ Err Empty = sym is ∙ empty.1 (both.0, queue.1 both.1) in cc));
+      oldest = tt;
+    }

@@ -1,0 +1,57 @@
+-- A host sends over a lent bus.
+use Rattle.std.proofs.Common.{◌≡◌, ◌<◌, ◌+◌, [], ℕ, true, List, length, refl, sym, ap, subst, arith}
+use Rattle.std.specs.List.{All}
+use Rattle.std.specs.Prelude.{Err, ◌↔◌}
+use Rattle.adapter.specs.HostFrames.{frames_to_send}
+use Rattle.adapter.specs.World.{World}
+use Rattle.bus.specs.declared.event.Access.{Access}
+use Rattle.lent_bus.specs.Retelling.{Finished, Retells, world_here}
+use Rattle.lent_bus.specs.declared.lent_bus.LentBus.{LentBus}
+use Rattle.driver_law.proofs.FramesCounted.{slots_have_frames}
+use Rattle.driver_law.specs.DriverState.{DriverState}
+use Rattle.driver_law.specs.Stretches.{IsRefilled}
+use Rattle.driver.specs.SendSteps.{Answer, IsAnswer, accepted_by, with_sending}
+use Rattle.driver.specs.declared.transmit.SendError.TheVariants.{RingFull, TooLong, TooShort}
+use Rattle.packet_socket.specs.HeldFrames.{HostReady, driver_of}
+use Rattle.packet_socket.specs.HostCalls.{HostTransmits}
+use Rattle.packet_socket.specs.HostState.{HostState}
+use Rattle.packet_socket.specs.HostStretches.{HostGoesTo}
+use Rattle.host_calls.specs.CallAnswers.{AnswersSend}
+use Rattle.host_calls.specs.CallsOfHosts.{CallRuns, IsOfDriver}
+use Rattle.host_calls.proofs.Calling.{call-runs, work-goes}
+use Rattle.host_calls.proofs.DriversAccesses.{sends-of_driver}
+
+pub send-runs : (a m b : LentBus) (h h' : HostState) (frame : List ℕ) (result : Answer) → a.accesses ≡ 0 → HostReady h (world_here a)
+    → h' ≡ record h { driver = with_sending h.driver h'.driver.oldest_transmit h'.driver.sending }
+    → HostTransmits world_here Retells a m h h' frame result → Finished m b
+    → CallRuns a.host a.ticks.now a.stations.now b.stations.now a.outcomes.now b.outcomes.now b.accesses h h' [] []
+    (accepted_by result frame)
+send-runs a m b h h' frame result zero ready others sent finished =
+    let ran = sent.ran.ran in
+    let goes : HostGoesTo true h (world_here a) h' (world_here m) [] [] (accepted_by result frame) ran.past =
+    record { sizes = sent.ran.sizes; goes = ran.goes; accounts = sent.ran.accounts } in
+    let some : 0 < h.driver.counts.tx = omega (arith, ready.ready.transmit.oldest_slot) in
+    call-runs a m b ran.past h h' [] [] (accepted_by result frame) zero ran.told
+    (record { sizes = sent.ran.sizes; flows = ran.goes.flows; accounts = sent.ran.accounts })
+    (subst (λ (accesses : List Access). All (IsOfDriver h.driver.counts) accesses) (sym ran.only)
+    (sends-of_driver h.driver.counts result (driver_of h (world_here a)) (driver_of h' (world_here m)) frame refl some))
+    (work-goes h (world_here a) h' (world_here m) [] [] (accepted_by result frame) ran.past goes)
+    (λ refilled. subst (λ (host : HostState). IsRefilled host.driver) (sym others) refilled)
+    (λ offered. subst (λ (host : HostState). host.driver.staged ≡ []) (sym others) offered)
+    finished
+
+full-count : (result : Answer) (d : DriverState) (world : World) → result ≡ Err RingFull → IsAnswer result d world
+    → length (frames_to_send world) + length (Rattle.adapter.specs.Slots.written_back d.oldest_transmit world) ≡ d.sending
+    → length (frames_to_send world) + 1 ≡ d.counts.tx
+full-count result d world is answer count =
+    let full : IsAnswer (Err RingFull) d world = subst (λ (r : Answer). IsAnswer r d world) is answer in
+    omega (arith, full.0, ap length full.1, count)
+
+pub send-answers : (h : HostState) (world : World) (frame : List ℕ) (result : Answer) → HostReady h world
+    → ((result ≡ Err TooShort) ↔ (length frame < 14)) → ((result ≡ Err TooLong) ↔ (1518 < length frame))
+    → IsAnswer result (driver_of h world) world → AnswersSend result frame h.driver.counts world
+send-answers h world frame result ready short long answer = record {
+  too_short = short;
+  too_long = long;
+  full = λ is. full-count result (driver_of h world) world is answer (slots_have_frames (driver_of h world) world ready.ready).count;
+}

@@ -1,0 +1,69 @@
+-- What a call of a host answers (own).
+use Rattle.std.specs.Prelude.{⊤, ◌≡◌, ◌↔◌, ◌≤◌, ◌<◌, ◌+◌, ◌∷◌, [], ℕ, List, Result, Ok, Err, length}
+use Rattle.dma_memory.specs.Layout.{Counts}
+use Rattle.descriptors.specs.Frames.{longest_frame, shortest_sent}
+use Rattle.adapter.specs.HostFrames.{frames_to_send}
+use Rattle.adapter.specs.Slots.{finished}
+use Rattle.adapter.specs.World.{World}
+use Rattle.driver.specs.SendSteps.{Answer}
+use Rattle.driver.specs.declared.transmit.SendError.TheVariants.{TooShort, TooLong, RingFull}
+use Rattle.driver.specs.TakenFrames.{GrowsBy}
+use Rattle.driver.specs.declared.interrupt.Handled.{Handled}
+use Rattle.driver.specs.declared.interrupt.Handled.TheVariants.{NotMine}
+use Rattle.driver.specs.declared.interrupt.Handled.TheVariants as answers
+use Rattle.packet_socket.specs.HostState.{HostState}
+use Rattle.packet_socket.specs.HostStretches.{Given}
+use Rattle.packet_socket.specs.HeldFrames.{waiting_frames, without_socket}
+use Rattle.packet_socket.specs.declared.receive.RecvError.{RecvError}
+use Rattle.packet_socket.specs.declared.receive.RecvError.TheVariants.{Empty, NoSocket}
+use Rattle.stations.specs.Outcomes.{OutcomeList}
+use Rattle.stations.specs.Stations.{StationState, world_at}
+use Rattle.stations.specs.declared.tick.Tick.{Tick}
+use Rattle.interrupt_causes.specs.InterruptCauses.{TellsCauses}
+use Rattle.host_calls.specs.CallsOfHosts.{CallRuns}
+
+-- Sending: too short exactly below 14 bytes, too long exactly above 1,518; the ring is full only where it had as many frames to send as it
+-- has slots less one when it was asked.
+pub record AnswersSend (result : Answer) (frame : List ℕ) (counts : Counts) (world : World) : Type 0 where
+  pub too_short : (result ≡ Err TooShort) ↔ (length frame < shortest_sent)
+  pub too_long : (result ≡ Err TooLong) ↔ (longest_frame < length frame)
+  pub full : result ≡ Err RingFull → length (frames_to_send world) + 1 ≡ counts.tx
+
+-- what is given, by the answer
+abbrev pub given_by : (socket : ℕ) → Result (List ℕ) RecvError → List Given
+given_by socket (Ok frame) = record { socket = socket; frame = frame } ∷ []
+given_by socket (Err error) = []
+
+-- the oldest frame that waited, where one is given
+abbrev pub IsOldest : Result (List ℕ) RecvError → List (List ℕ) → Type 0
+IsOldest (Ok frame) waiting = (later : List (List ℕ)) × (waiting ≡ frame ∷ later)
+IsOldest (Err error) waiting = ⊤
+
+-- Receiving: no socket exactly where it isn't in the table, empty exactly where no frame waits for it; else its oldest frame.
+pub record AnswersRecv (result : Result (List ℕ) RecvError) (socket : ℕ) (h : HostState) (world : World) : Type 0 where
+  pub no_socket : (result ≡ Err NoSocket) ↔ (length h.kinds ≤ socket)
+  pub empty : (result ≡ Err Empty) ↔ ((socket < length h.kinds) × (waiting_frames h socket world ≡ []))
+  pub oldest : IsOldest result (waiting_frames h socket world)
+
+-- Handling an interrupt: so many frames were taken, at least those that were finished when the call came; those without a socket were
+-- counted, up to the greatest u64.
+pub record HandlesFrames (h h' : HostState) (world : World) (taken : List (List ℕ)) (n : ℕ) : Type 0 where
+  pub count : length taken ≡ n
+  pub least : length (finished h.driver.oldest_receive world) ≤ n
+  pub unclaimed : GrowsBy h.unclaimed h'.unclaimed (without_socket h.kinds taken)
+
+-- where none was this host's, nothing of it moved
+abbrev pub AnswersInterrupt : Handled → (h h' : HostState) → World → (taken : List (List ℕ)) → Type 0
+AnswersInterrupt NotMine h h' world taken = h' ≡ h
+AnswersInterrupt (answers.Handled n) h h' world taken = HandlesFrames h h' world taken n
+
+pub record InterruptRuns (result : Handled) (caller : ℕ) (ticks : List Tick) (old new : List StationState) (before behind : OutcomeList)
+    (accesses : ℕ) (h h' : HostState) : Type 0 where
+  -- the frames that were taken off the receive ring
+  pub taken : List (List ℕ)
+  pub runs : CallRuns caller ticks old new before behind accesses h h' taken [] []
+  -- ICR was read first, and showed these causes: the answer is by those that were recorded when the call came, and by what was played
+  -- before the read
+  pub causes : ℕ
+  pub tells : TellsCauses caller runs.steps causes (world_at old caller).adapter.causes.recorded result
+  pub answer : AnswersInterrupt result h h' (world_at old caller) taken

@@ -1,0 +1,2 @@
+pub mod CallsOfHosts
+pub mod CallAnswers

@@ -1,0 +1,126 @@
+// Calls of one host, with the ticks inside them.
+
+ghost use Rattle.std.specs.Prelude.{◌≡◌, ◌≤◌, ◌<◌, [], length};
+ghost use Rattle.driver.specs.SendSteps.{accepted_by};
+ghost use Rattle.stations.specs.Stations.{world_at};
+ghost use Rattle.packet_socket.specs.HeldFrames.{HostReady};
+ghost use Rattle.host_calls.specs.CallsOfHosts.{CallRuns};
+ghost use Rattle.host_calls.specs.CallAnswers.{AnswersRecv, AnswersSend, InterruptRuns, given_by};
+
+use descriptors::Frame;
+use driver::{Handled, SendError};
+use lent_bus::LentBus;
+use packet_socket::{Host, RecvError};
+use stations::{Outcomes, Station, Tick};
+
+/// What a call answered, and how many accesses it made.
+#[derive(Debug, Drop)]
+pub struct Called<T> {
+    /// The answer.
+    pub answer: T,
+    /// How many accesses it made, up to the greatest `u64`.
+    pub accesses: u64,
+}
+
+/// A host sends a frame, while ticks are played on all stations. `place` is the host's number.
+///
+/// # Errors
+///
+/// The answer is that of [`Host::send`].
+pub fn send(
+    host: &mut Host,
+    stations: &mut [Station],
+    place: usize,
+    frame: &[u8],
+    ticks: &[Tick],
+    outcomes: &mut Outcomes,
+) -> Called<Result<(), SendError>>
+    requires there { place < length stations.old }
+    requires ready { HostReady host.old (world_at stations.old place) }
+    requires room { length ticks.now ≤ outcomes.old.room }
+    ensures runs { CallRuns place ticks.now stations.old stations.new outcomes.old outcomes.new result.accesses
+        host.old host.new [] [] (accepted_by result.answer frame.now) }
+    ensures answers { AnswersSend result.answer frame.now host.old.driver.counts (world_at stations.old place) }
+{
+    let mut bus = LentBus {
+        stations,
+        ticks,
+        host: place,
+        accesses: 0,
+        outcomes,
+    };
+    let answer = host.send(&mut bus, frame);
+    bus.finish();
+    Called {
+        answer,
+        accesses: bus.accesses,
+    }
+}
+
+/// A host asks for the oldest frame of a socket, while ticks are played on all stations.
+///
+/// # Errors
+///
+/// The answer is that of [`Host::recv`].
+pub fn recv(
+    host: &mut Host,
+    stations: &mut [Station],
+    place: usize,
+    socket: usize,
+    ticks: &[Tick],
+    outcomes: &mut Outcomes,
+) -> Called<Result<Frame, RecvError>>
+    requires there { place < length stations.old }
+    requires ready { HostReady host.old (world_at stations.old place) }
+    requires room { length ticks.now ≤ outcomes.old.room }
+    ensures runs { CallRuns place ticks.now stations.old stations.new outcomes.old outcomes.new result.accesses
+        host.old host.new [] (given_by socket result.answer) [] }
+    ensures answers { AnswersRecv result.answer socket host.old (world_at stations.old place) }
+{
+    let mut bus = LentBus {
+        stations,
+        ticks,
+        host: place,
+        accesses: 0,
+        outcomes,
+    };
+    let mut bytes = [0; 1518];
+    let answer = match host.recv(&mut bus, socket, &mut bytes) {
+        Ok(size) => Ok(Frame::from_slice(&bytes[..size])),
+        Err(error) => Err(error),
+    };
+    bus.finish();
+    Called {
+        answer,
+        accesses: bus.accesses,
+    }
+}
+
+/// A host handles an interrupt, while ticks are played on all stations.
+pub fn interrupt(
+    host: &mut Host,
+    stations: &mut [Station],
+    place: usize,
+    ticks: &[Tick],
+    outcomes: &mut Outcomes,
+) -> Called<Handled>
+    requires there { place < length stations.old }
+    requires ready { HostReady host.old (world_at stations.old place) }
+    requires room { length ticks.now ≤ outcomes.old.room }
+    ensures { InterruptRuns result.answer place ticks.now stations.old stations.new outcomes.old outcomes.new
+        result.accesses host.old host.new }
+{
+    let mut bus = LentBus {
+        stations,
+        ticks,
+        host: place,
+        accesses: 0,
+        outcomes,
+    };
+    let answer = host.interrupt(&mut bus);
+    bus.finish();
+    Called {
+        answer,
+        accesses: bus.accesses,
+    }
+}

@@ -1,0 +1,2 @@
+pub mod DrainedHosts
+pub mod DrainSteps

@@ -1,0 +1,26 @@
+// Who takes the frames of a host that is drained.
+
+ghost use Rattle.std.specs.Prelude.{◌≡◌, ◌≤◌, ◌<◌, ◌+◌, ◌++◌, ◌∷◌, [], ℕ, List};
+ghost use Rattle.packet_socket.specs.HostStretches.{Given};
+
+use descriptors::Frame;
+
+/// Takes the frames of a host that is drained, each with the number of the socket that it waited for.
+pub trait Outlet {
+    /// What it has, in order.
+    ghost frames: { Self → List Given };
+
+    /// How many frames more it has room for.
+    ghost places: { Self → ℕ };
+
+    /// How many frames more it has room for.
+    fn room(&self) -> usize
+        ensures { result ≡ places self.now };
+
+    /// Takes a frame of a socket, behind the others. There is room for one less, at least.
+    fn take(&mut self, socket: usize, frame: &Frame)
+        requires room { 0 < places self.old }
+        ensures room { places self.old ≤ places self.new + 1 }
+        ensures last { frames self.new
+            ≡ frames self.old ++ record { socket = socket; frame = frame.now } ∷ [] };
+}
