@@ -1,0 +1,37 @@
+// What a network is to do.
+
+use stations::Tick;
+
+/// An event of a run. The ticks of a call up to the next [`Go`](Tick::Go) are played just before the call's next
+/// access; what is left behind its last access is played then, with each `Go` skipped. Hosts are numbered from 0 in the
+/// order of the plan.
+#[derive(Debug, Drop)]
+pub enum Event {
+    /// A host sends a frame, of 14 to 1,518 bytes.
+    Send {
+        /// The host.
+        host: usize,
+        /// The frame's bytes.
+        frame: Vec<u8>,
+        /// What is played inside the call.
+        ticks: Vec<Tick>,
+    },
+    /// A host asks for the oldest frame of a socket.
+    Recv {
+        /// The host.
+        host: usize,
+        /// The socket, numbered from 0 in the host's table.
+        socket: usize,
+        /// What is played inside the call.
+        ticks: Vec<Tick>,
+    },
+    /// A host handles an interrupt.
+    Interrupt {
+        /// The host.
+        host: usize,
+        /// What is played inside the call.
+        ticks: Vec<Tick>,
+    },
+    /// A tick by itself, between calls. `Go` does nothing here.
+    Tick(Tick),
+}

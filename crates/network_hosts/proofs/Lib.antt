@@ -1,0 +1,4 @@
+pub mod ArrivalsAlone
+pub mod PlansFilters
+pub mod HostsUp
+pub mod AllHosts

@@ -1,0 +1,31 @@
+-- The receive filter that a plan asks for (3.2.1 "Packet Address Filtering" and chapter 9, "802.1q VLAN Support").
+use Rattle.std.specs.Prelude.{⊤, ◌≡◌, false, true}
+use Rattle.std.specs.List.{Contains}
+use Rattle.eeprom.specs.Image.{address_bytes}
+use Rattle.rx_filter.specs.Laws.{SameSets}
+use Rattle.rx_filter.specs.Passing.{ReceiveFilter}
+use Rattle.rx_filter.specs.Registers.{FilterRegisters, filter_of}
+use Rattle.rx_filter.specs.declared.filter.TheConstants.{VLAN_TYPE}
+use Rattle.bring_up.specs.Configuration.{vlans_of}
+use Rattle.bring_up.specs.ConfiguredAdapters.{names_vlans}
+use Rattle.bring_up.specs.FilterTables.{numbers_of_groups}
+use Rattle.network_plan.specs.declared.plan.HostPlan.{HostPlan}
+
+-- The address of the image alone, the configured groups by RCTL.MO 00, the configured VLANs if any are named, all of them else; every
+-- address where the host is promiscuous, and broadcasts in any case.
+abbrev pub plans_filter : HostPlan → ReceiveFilter
+plans_filter plan = record {
+  addresses = λ address. address ≡ address_bytes plan.image;
+  groups = λ number. Contains (numbers_of_groups plan.config.groups.items) number;
+  shift = 4;
+  every_vlan = names_vlans plan.config.vlans ≡ false;
+  vlans = λ number. Contains (vlans_of plan.config.vlans) number;
+  vlan_type = VLAN_TYPE;
+  all_individuals = plan.config.promiscuous ≡ true;
+  all_groups = plan.config.promiscuous ≡ true;
+  broadcasts = ⊤;
+}
+
+-- The registers stand for these sets.
+abbrev pub HasPlansFilter : HostPlan → FilterRegisters → Type 0
+HasPlansFilter plan registers = SameSets (filter_of registers) (plans_filter plan)
