@@ -1,0 +1,26 @@
+-- A network that was brought up stands.
+use Rattle.std.proofs.Common.{List, length, sym, ap, subst, ◌∙◌, arith}
+use Rattle.std.proofs.lemmas.Option.{slice_get_within}
+use Rattle.circular_buffer.proofs.Places.{slice_get-some}
+use Rattle.adapter.specs.World.{World}
+use Rattle.network_hosts.specs.HostsUp.{AreUp}
+use Rattle.network_plan.specs.declared.plan.HostPlan.{HostPlan}
+use Rattle.packet_socket.specs.HostState.{HostState}
+use Rattle.stations.specs.Stations.{StationState, world_of}
+use Rattle.wire.specs.Networks.{HostStands, NetworkStands, NetworkState}
+
+pub made-stands : (plans : List HostPlan) (hosts : List HostState) (stations : List StationState)
+    → AreUp plans (length plans) hosts stations
+    → (let network : NetworkState = record { hosts = hosts; stations = stations } in NetworkStands network)
+made-stands plans hosts stations up = record {
+  same = up.station_count ∙ sym up.host_count;
+  each = λ k host is.
+      let below = slice_get_within hosts k host is in
+      let count = up.host_count in
+      let places = up.station_count in
+      let plan = slice_get-some plans k (omega (arith, below, count)) in
+      let station = slice_get-some stations k (omega (arith, below, count, places)) in
+      let up_is = up.each k plan.0 host station.0 plan.1 is station.1 in
+      subst (λ (world : World). HostStands host world) (ap world_of (sym station.1))
+      (record { ready = up_is.ready; work = up_is.work; refilled = up_is.refilled; offered = up_is.offered; can = up_is.can });
+}

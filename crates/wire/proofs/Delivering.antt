@@ -1,0 +1,232 @@
+-- The equations of one host, over one event and over several.
+use Rattle.std.proofs.Common.{◌≡◌, ◌≤◌, ◌<◌, ◌+◌, ◌++◌, [], ℕ, IsTrue, List, Option, cond, inl, inr, ⊎_elim}
+use Rattle.std.proofs.Common.{map, refl, sym, ap, subst, ◌∙◌}
+use Rattle.std.proofs.Common.{append_assoc, arith}
+use Rattle.std.specs.List.{All}
+use Rattle.std.proofs.lemmas.List.{append-nil, map-append}
+use Rattle.std.proofs.lemmas.List.Elements.{filter-append}
+use Rattle.std.proofs.lemmas.List.Sums.{sum_by-append}
+use Rattle.registers.specs.Bits.{HasBit}
+use Rattle.registers.specs.Places.{rctl_en}
+use Rattle.rx_filter.specs.Addresses.{ether_type}
+use Rattle.descriptors.specs.Frames.{padded}
+use Rattle.adapter.specs.HostFrames.{frames_to_send}
+use Rattle.adapter.specs.World.{World}
+use Rattle.bus.proofs.Lists.{all-weaker}
+use Rattle.bus.specs.declared.event.Access.{Access}
+use Rattle.bus.specs.declared.event.Access.TheVariants.{Loads, Reads, Stores, Writes}
+use Rattle.dma_memory.specs.Layout.{Counts}
+use Rattle.stations.specs.AtomicSteps.{AtomicStep}
+use Rattle.stations.specs.Stations.{StationState, backlog_at, wire_at, world_at}
+use Rattle.lent_bus.specs.AtomicRuns.{LeadsTo, past_at}
+use Rattle.packet_socket.specs.HeldFrames.{held_for_socket, socket_frames, without_socket}
+use Rattle.packet_socket.specs.HostState.{HostState}
+use Rattle.packet_socket.specs.HostStretches.{Given, given_for}
+use Rattle.packet_socket.specs.SocketKinds.{goes_to, has_none}
+use Rattle.packet_socket.specs.declared.socket_kind.SocketKind.{SocketKind}
+use Rattle.delivery.proofs.Joining.{accepted-append, given-append, marks-append, missed-append, put-append, stored-append, waits-append}
+use Rattle.delivery.proofs.Laws.{frames-move}
+use Rattle.delivery.proofs.RightFates.{fates-right, receives-append, receives-none, tails-leave_reception}
+use Rattle.delivery.specs.Fates.{Mark, marks}
+use Rattle.delivery.specs.Happenings.{Happening, accepted, given, happened_in, missed, put, reached, stored, toward}
+use Rattle.delivery.specs.Reception.{LeavesReception, ReceivesRightly}
+use Rattle.host_calls.specs.CallsOfHosts.{HostRuns, IsOfDriver, IsTailWrite}
+use Rattle.wire.specs.Equations.{CountsMisses, CountsUnclaimed, Delivers, kept, sum_of}
+
+-- An access of a driver that is up leaves reception alone.
+tail-leaves : (counts : Counts) (offset value : ℕ) → IsTailWrite counts offset value → LeavesReception (Writes offset value)
+tail-leaves counts offset value is = tails-leave_reception offset value
+    (⊎_elim (λ (receive : (offset ≡ Rattle.adapter.specs.declared.offsets.TheConstants.RDT) × (value < counts.rx)). inl receive.0)
+    (λ (transmit : (offset ≡ Rattle.adapter.specs.declared.offsets.TheConstants.TDT) × (value < counts.tx)). inr transmit.0) is)
+
+leaves : (counts : Counts) (access : Access) → IsOfDriver counts access → LeavesReception access
+leaves counts (Reads offset value) is = tt
+leaves counts (Writes offset value) is = tail-leaves counts offset value is
+leaves counts (Loads address size) is = tt
+leaves counts (Stores address bytes) is = tt
+
+pub all-leave : (counts : Counts) (accesses : List Access) → All (IsOfDriver counts) accesses → All LeavesReception accesses
+all-leave counts accesses are = all-weaker (IsOfDriver counts) LeavesReception accesses (leaves counts) are
+
+-- Counts of misses.
+misses-of : (h : HostState) (a : World) (h' : HostState) (b : World) (misses : ℕ)
+    → sum_of h' b ≤ sum_of h a + misses
+    → (IsTrue h'.driver.exact → b.adapter.missed_packets < Rattle.registers.specs.Counting.greatest_count
+    → IsTrue h.driver.exact × (a.adapter.missed_packets < Rattle.registers.specs.Counting.greatest_count)
+    × (sum_of h' b ≡ sum_of h a + misses))
+    → CountsMisses h a misses h' b
+misses-of h a h' b misses most exactly = record {
+  at_most = omega (arith, most);
+  exactly = λ is.
+      let before = exactly is.exact is.below_greatest in
+      let fits = is.fits in
+      let sum = before.2 in (
+        record { exact = before.0; below_greatest = before.1; fits = omega (arith, fits, sum) },
+        omega (arith, fits, sum),
+      );
+}
+
+misses-join : (h1 h2 h3 : HostState) (a b c : World) (m n all : ℕ) → all ≡ m + n → CountsMisses h1 a m h2 b → CountsMisses h2 b n h3 c
+    → CountsMisses h1 a all h3 c
+misses-join h1 h2 h3 a b c m n all is one two = record {
+  at_most = omega (arith, is, one.at_most, two.at_most);
+  exactly = λ exact.
+      let later = two.exactly exact in
+      let first = one.exactly later.0 in
+      (first.0, omega (arith, is, first.1, later.1));
+}
+
+-- Counts of frames without a socket.
+unclaimed-join : (h1 h2 h3 : HostState) (a b c : World) (m n all : ℕ) → all ≡ m + n → CountsUnclaimed h1 a m h2 b
+    → CountsUnclaimed h2 b n h3 c → CountsUnclaimed h1 a all h3 c
+unclaimed-join h1 h2 h3 a b c m n all is one two = record {
+  least = omega (arith, one.least, two.least);
+  most = omega (arith, is, one.most, two.most);
+  exactly = λ below.
+      let later = two.exactly below in
+      let least = two.least in
+      let first = one.exactly (omega (arith, below, least)) in
+      omega (arith, is, first, later);
+}
+
+without-append : (kinds : List SocketKind) (xs ys : List (List ℕ))
+    → without_socket kinds (xs ++ ys) ≡ without_socket kinds xs + without_socket kinds ys
+without-append kinds xs ys = sum_by-append (λ (frame : List ℕ). cond (has_none kinds (ether_type frame)) 1 0) xs ys
+
+kept-append : (kinds : List SocketKind) (k socket : ℕ) (first later : List Happening)
+    → kept kinds k socket (first ++ later) ≡ kept kinds k socket first ++ kept kinds k socket later
+kept-append kinds k socket first later =
+    ap (socket_frames kinds socket) (stored-append k first later)
+    ∙ filter-append (λ (frame : List ℕ). goes_to kinds socket (ether_type frame)) (stored k first) (stored k later)
+
+-- p ++ m = o ++ g and q ++ n = m ++ h give (p ++ q) ++ n = o ++ (g ++ h).
+pub in-turn : (p q m n o g h : List (List ℕ)) → p ++ m ≡ o ++ g → q ++ n ≡ m ++ h → (p ++ q) ++ n ≡ o ++ (g ++ h)
+in-turn p q m n o g h one two =
+    append_assoc p q n
+    ∙ ap (λ (list : List (List ℕ)). p ++ list) two
+    ∙ sym (append_assoc p m h)
+    ∙ ap (λ (list : List (List ℕ)). list ++ h) one
+    ∙ append_assoc o g h
+
+-- Over two stretches.
+pub delivers-join : (k : ℕ) (first later : List Happening) (a b c : List StationState) (h1 h2 h3 : HostState)
+    → ((host : ℕ) → wire_at b host ≡ wire_at a host)
+    → Delivers k first a b h1 h2 → Delivers k later b c h2 h3 → Delivers k (first ++ later) a c h1 h3
+delivers-join k first later a b c h1 h2 h3 wires one two =
+    let plan = one.plan_is_kept in
+    let next = two.plan_is_kept in
+    let stored_is = stored-append k first later in
+    record {
+      plan_is_kept = record {
+        wire = next.wire ∙ plan.wire;
+        kinds = next.kinds ∙ plan.kinds;
+        counts = next.counts ∙ plan.counts;
+        filter = next.filter ∙ plan.filter;
+        kilobytes = next.kilobytes ∙ plan.kilobytes;
+      };
+      sent_is_accepted =
+          ap (λ (frames : List (List ℕ)). frames ++ frames_to_send (world_at c k)) (put-append k first later)
+          ∙ in-turn (put k first) (put k later) (frames_to_send (world_at b k)) (frames_to_send (world_at c k))
+          (frames_to_send (world_at a k)) (map padded (accepted k first)) (map padded (accepted k later)) one.sent_is_accepted
+          two.sent_is_accepted
+          ∙ ap (λ (frames : List (List ℕ)). frames_to_send (world_at a k) ++ frames)
+          (sym (map-append padded (accepted k first) (accepted k later)) ∙ ap (map padded) (sym (accepted-append k first later)));
+      reached_is_put = waits-append k (wire_at a) (wire_at b) first later (backlog_at a k) (backlog_at b k) (backlog_at c k) wires
+          one.reached_is_put two.reached_is_put;
+      given_is_kept = λ socket.
+          ap (λ (frames : List (List ℕ)). frames ++ held_for_socket h3 socket (world_at c k)) (given-append k socket first later)
+          ∙ in-turn (given k socket first) (given k socket later) (held_for_socket h2 socket (world_at b k))
+          (held_for_socket h3 socket (world_at c k)) (held_for_socket h1 socket (world_at a k)) (kept h1.kinds k socket first)
+          (kept h1.kinds k socket later) (one.given_is_kept socket)
+          (two.given_is_kept socket
+          ∙ ap (λ (kinds : List SocketKind). held_for_socket h2 socket (world_at b k) ++ kept kinds k socket later) plan.kinds)
+          ∙ ap (λ (frames : List (List ℕ)). held_for_socket h1 socket (world_at a k) ++ frames)
+          (sym (kept-append h1.kinds k socket first later));
+      fates_are_right =
+          subst (λ (all : List Mark). ReceivesRightly (world_at a k).adapter all (world_at c k).adapter) (sym (marks-append k first later))
+          (receives-append (world_at a k).adapter (world_at b k).adapter (world_at c k).adapter (marks k first) (marks k later)
+          one.fates_are_right two.fates_are_right);
+      misses_are_counted =
+          misses-join h1 h2 h3 (world_at a k) (world_at b k) (world_at c k) (missed k first) (missed k later) (missed k (first ++ later))
+          (missed-append k first later) one.misses_are_counted two.misses_are_counted;
+      unclaimed_is_counted =
+          unclaimed-join h1 h2 h3 (world_at a k) (world_at b k) (world_at c k) (without_socket h1.kinds (stored k first))
+          (without_socket h1.kinds (stored k later)) (without_socket h1.kinds (stored k (first ++ later)))
+          (ap (without_socket h1.kinds) stored_is ∙ without-append h1.kinds (stored k first) (stored k later))
+          one.unclaimed_is_counted
+          (subst (λ (kinds : List SocketKind). CountsUnclaimed h2 (world_at b k) (without_socket kinds (stored k later)) h3 (world_at c k))
+          plan.kinds two.unclaimed_is_counted);
+    }
+
+-- What happenings say of a host, where these atomic steps were taken, and it gave and was given these frames.
+pub record Tells (k : ℕ) (happened : List Happening) (steps : List AtomicStep) (wires : ℕ → Option ℕ) (given_are : List Given)
+    (accepted_are : List (List ℕ)) : Type 0 where
+  pub put : put k happened ≡ put k (happened_in steps)
+  pub reached : reached k happened ≡ reached k (happened_in steps)
+  pub toward : toward wires k happened ≡ toward wires k (happened_in steps)
+  pub stored : stored k happened ≡ stored k (happened_in steps)
+  pub missed : missed k happened ≡ missed k (happened_in steps)
+  pub marks : marks k happened ≡ marks k (happened_in steps)
+  pub accepted : map padded (accepted k happened) ≡ accepted_are
+  pub given : (socket : ℕ) → given k socket happened ≡ given_for socket given_are
+
+-- Over one event.
+pub delivers-runs : (caller k : ℕ) (steps : List AtomicStep) (happened : List Happening) (a b : List StationState) (h h' : HostState)
+    (taken : List (List ℕ)) (given_are : List Given) (accepted_are : List (List ℕ))
+    → LeadsTo caller steps a b → HasBit (world_at a k).adapter.filter.rctl rctl_en
+    → HostRuns k steps a b h h' taken given_are accepted_are → Tells k happened steps (wire_at a) given_are accepted_are
+    → Delivers k happened a b h h'
+delivers-runs caller k steps happened a b h h' taken given_are accepted_are leads enabled runs tells =
+    let moves = frames-move caller k steps a b leads in
+    let flows = runs.flows.flows in
+    let accounts = runs.flows.accounts in
+    let past = past_at k steps in
+    let right = fates-right caller k steps a b leads (all-leave h.driver.counts past.accesses runs.accesses) enabled in
+    let stored_are : stored k happened ≡ past.stored = tells.stored ∙ moves.stored in
+    let missed_are : missed k happened ≡ past.missed = tells.missed ∙ moves.missed in
+    record {
+      plan_is_kept = record {
+        wire = moves.wires;
+        kinds = accounts.kinds;
+        counts = flows.counts;
+        filter = right.filter;
+        kilobytes = right.kilobytes;
+      };
+      sent_is_accepted =
+          ap (λ (frames : List (List ℕ)). frames ++ frames_to_send (world_at b k)) (tells.put ∙ moves.put)
+          ∙ flows.sends
+          ∙ ap (λ (frames : List (List ℕ)). frames_to_send (world_at a k) ++ frames) (sym tells.accepted);
+      reached_is_put =
+          ap (λ (frames : List (List ℕ)). frames ++ backlog_at b k) tells.reached
+          ∙ moves.waits
+          ∙ ap (λ (frames : List (List ℕ)). backlog_at a k ++ frames) (sym tells.toward);
+      given_is_kept = λ socket.
+          ap (λ (frames : List (List ℕ)). frames ++ held_for_socket h' socket (world_at b k)) (tells.given socket)
+          ∙ accounts.sockets socket
+          ∙ ap (λ (frames : List (List ℕ)). held_for_socket h socket (world_at a k) ++ socket_frames h.kinds socket frames)
+          (sym stored_are);
+      fates_are_right =
+          subst (λ (all : List Mark). ReceivesRightly (world_at a k).adapter all (world_at b k).adapter) (sym tells.marks) right;
+      misses_are_counted =
+          misses-of h (world_at a k) h' (world_at b k) (missed k happened)
+          (let most = flows.at_most in omega (arith, most, missed_are))
+          (λ exact below.
+          let exactly = flows.exactly exact below in
+          let sum = exactly.sum in
+          (exactly.exact, exactly.below_greatest, omega (arith, sum, missed_are)));
+      unclaimed_is_counted =
+          subst (λ (frames : List (List ℕ)). CountsUnclaimed h (world_at a k) (without_socket h.kinds frames) h' (world_at b k))
+          (sym stored_are) (record { least = accounts.least; most = accounts.most; exactly = accounts.exactly });
+    }
+
+-- Over nothing.
+pub delivers-none : (k : ℕ) (a : List StationState) (h : HostState) → Delivers k [] a a h h
+delivers-none k a h = record {
+  plan_is_kept = record { wire = refl; kinds = refl; counts = refl; filter = refl; kilobytes = refl };
+  sent_is_accepted = sym (append-nil (frames_to_send (world_at a k)));
+  reached_is_put = sym (append-nil (backlog_at a k));
+  given_is_kept = λ socket. sym (append-nil (held_for_socket h socket (world_at a k)));
+  fates_are_right = receives-none (world_at a k).adapter;
+  misses_are_counted = record { at_most = omega arith; exactly = λ exact. (exact, omega arith) };
+  unclaimed_is_counted = record { least = omega arith; most = omega arith; exactly = λ below. omega arith };
+}

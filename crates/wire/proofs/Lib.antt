@@ -1,0 +1,10 @@
+pub mod Delivering
+pub mod Tellings
+pub mod Standing
+pub mod Playing
+pub mod Ticking
+pub mod Running
+pub mod Telling
+pub mod Taking
+pub mod Bringing
+pub mod Draining

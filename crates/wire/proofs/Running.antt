@@ -1,0 +1,216 @@
+-- Events as they are told, and runs of them.
+use Rattle.std.proofs.Common.{◌≡◌, ◌++◌, ◌∷◌, [], ℕ, List, Some, Vec, Global, refl, sym, ap}
+use Rattle.std.proofs.Common.{subst, ◌∙◌, append_assoc, arith}
+use Rattle.std.proofs.lemmas.List.{append-nil}
+use Rattle.std.proofs.lemmas.Option.{slice_get_within}
+use Rattle.circular_buffer.proofs.Places.{slice_get-some}
+use Rattle.packet_socket.specs.HostState.{HostState}
+use Rattle.stations.specs.Stations.{StationState, wire_at}
+use Rattle.stations.specs.declared.tick.Tick.{Tick}
+use Rattle.delivery.proofs.Waiting.{wires-stay}
+use Rattle.delivery.specs.Happenings.{Happening, told, told_alone}
+use Rattle.host_calls.proofs.HostTrails.{none-alone}
+use Rattle.network_events.specs.declared.event.Event.{Event}
+use Rattle.network_events.specs.declared.event.Event.TheVariants.{Interrupt, Recv, Send, Tick as Alone}
+use Rattle.network_events.specs.declared.reply.Reply.{Reply}
+use Rattle.wire.specs.EventParts.{CallPlayed, IsInterruptAnswer, IsRecvAnswer, IsSendAnswer, TickPlayed}
+use Rattle.wire.specs.Equations.{Delivers}
+use Rattle.wire.specs.Networks.{NetworkStands, NetworkState}
+use Rattle.wire.specs.Runs.{EventRuns, RunsTo, StatesRun, accepted_of, caller_of, given_of, happenings, said}
+use Rattle.wire.proofs.Delivering.{delivers-join, delivers-none}
+use Rattle.wire.proofs.Playing.{ticks-go}
+use Rattle.wire.proofs.Tellings.{tells-steps}
+
+-- Events.
+
+pub send-event : (old new : NetworkState) (host : ℕ) (frame : Vec ℕ Global) (ticks : Vec Tick Global) (reply : Reply)
+    → CallPlayed host ticks.items (accepted_of host frame.items reply.answer ++ told ticks.items reply.outcomes.list) reply
+    (IsSendAnswer host frame.items) old new
+    → EventRuns old (Send host frame ticks) reply new
+send-event old new host frame ticks reply played = record {
+  steps = played.steps;
+  leads = played.go.leads;
+  played = played.played;
+  accesses = played.accesses;
+  counted = played.counted;
+  outcomes = played.outcomes;
+  numbered = played.numbered;
+  no_host = played.no_host;
+  answer = played.answer;
+  hosts = played.go.hosts;
+  delivers = played.go.delivers;
+  ticks = played.go.ticks;
+  absent = played.go.absent;
+  stands = played.go.stands;
+}
+
+pub recv-event : (old new : NetworkState) (host socket : ℕ) (ticks : Vec Tick Global) (reply : Reply)
+    → CallPlayed host ticks.items (told ticks.items reply.outcomes.list ++ given_of host socket reply.answer) reply
+    (IsRecvAnswer host socket) old new
+    → EventRuns old (Recv host socket ticks) reply new
+recv-event old new host socket ticks reply played = record {
+  steps = played.steps;
+  leads = played.go.leads;
+  played = played.played;
+  accesses = played.accesses;
+  counted = played.counted;
+  outcomes = played.outcomes;
+  numbered = played.numbered;
+  no_host = played.no_host;
+  answer = played.answer;
+  hosts = played.go.hosts;
+  delivers = played.go.delivers;
+  ticks = played.go.ticks;
+  absent = played.go.absent;
+  stands = played.go.stands;
+}
+
+pub interrupt-event : (old new : NetworkState) (host : ℕ) (ticks : Vec Tick Global) (reply : Reply)
+    → CallPlayed host ticks.items (told ticks.items reply.outcomes.list) reply (IsInterruptAnswer host) old new
+    → EventRuns old (Interrupt host ticks) reply new
+interrupt-event old new host ticks reply played = record {
+  steps = played.steps;
+  leads = played.go.leads;
+  played = played.played;
+  accesses = played.accesses;
+  counted = played.counted;
+  outcomes = played.outcomes;
+  numbered = played.numbered;
+  no_host = played.no_host;
+  answer = played.answer;
+  hosts = played.go.hosts;
+  delivers = played.go.delivers;
+  ticks = played.go.ticks;
+  absent = played.go.absent;
+  stands = played.go.stands;
+}
+
+pub tick-event : (old : NetworkState) (stations : List StationState) (tick : Tick) (reply : Reply) → NetworkStands old
+    → TickPlayed tick reply old.stations stations
+    → EventRuns old (Alone tick) reply (record { hosts = old.hosts; stations = stations })
+tick-event old stations tick reply stands played =
+    let go = ticks-go 0 (told_alone tick reply.outcomes.list) played.steps old stations stands played.are played.leads
+    (λ k. subst (λ (list : List Happening). Rattle.wire.proofs.Delivering.Tells k list played.steps (wire_at old.stations) [] [])
+    (sym played.said) (tells-steps k played.steps (wire_at old.stations))) in
+    record {
+      steps = played.steps;
+      leads = go.leads;
+      played = played.played;
+      accesses = λ was then. none-alone 0 played.steps played.are;
+      counted = played.counted;
+      outcomes = played.outcomes;
+      numbered = played.numbered;
+      no_host = played.answer;
+      answer = λ was is then now. played.answer;
+      hosts = go.hosts;
+      delivers = go.delivers;
+      ticks = go.ticks;
+      absent = go.absent;
+      stands = go.stands;
+    }
+
+-- Runs.
+
+states-more : (old : NetworkState) (events : List Event) (replies : List Reply) (middle : NetworkState) (event : Event) (reply : Reply)
+    (new : NetworkState)
+    → StatesRun old events replies middle → EventRuns middle event reply new → StatesRun old (events ++ event ∷ [])
+    (replies ++ reply ∷ []) new
+states-more old [] [] middle event reply new states runs =
+    (new, subst (λ (network : NetworkState). EventRuns network event reply new) states runs, refl)
+states-more old [] (first ∷ replies) middle event reply new states runs = absurd states
+states-more old (first ∷ events) [] middle event reply new states runs = absurd states
+states-more old (first ∷ events) (one ∷ replies) middle event reply new states runs =
+    (states.0, states.1, states-more states.0 events replies middle event reply new states.2 runs)
+
+happenings-more : (old : NetworkState) (events : List Event) (replies : List Reply) (middle : NetworkState) (event : Event) (reply : Reply)
+    → StatesRun old events replies middle
+    → happenings (events ++ event ∷ []) (replies ++ reply ∷ []) ≡ happenings events replies ++ said event reply
+happenings-more old [] [] middle event reply states = append-nil (said event reply)
+happenings-more old [] (first ∷ replies) middle event reply states = absurd states
+happenings-more old (first ∷ events) [] middle event reply states = absurd states
+happenings-more old (first ∷ events) (one ∷ replies) middle event reply states =
+    ap (λ (list : List Happening). said first one ++ list) (happenings-more states.0 events replies middle event reply states.2)
+    ∙ sym (append_assoc (said first one) (happenings events replies) (said event reply))
+
+-- the wires of all stations stay
+wires-of : (old : NetworkState) (events : List Event) (replies : List Reply) (new : NetworkState) → StatesRun old events replies new
+    → (host : ℕ) → wire_at new.stations host ≡ wire_at old.stations host
+wires-of old [] [] new states host = ap (λ (network : NetworkState). wire_at network.stations host) states
+wires-of old [] (first ∷ replies) new states host = absurd states
+wires-of old (first ∷ events) [] new states host = absurd states
+wires-of old (first ∷ events) (one ∷ replies) new states host =
+    wires-of states.0 events replies new states.2 host
+    ∙ wires-stay (caller_of first) host states.1.steps old.stations states.0.stations states.1.leads
+
+pub runs-none : (old : NetworkState) (before : List Reply) → RunsTo old [] before before old
+runs-none old before = record {
+  replies = [];
+  appended = sym (append-nil before);
+  states = refl;
+  hosts = refl;
+  delivers = λ k was is then now.
+      let same : is ≡ was = let e : Some was ≡ Some is = sym then ∙ now in cc in
+      subst (λ (host : HostState). Delivers k [] old.stations old.stations was host) (sym same)
+      (delivers-none k old.stations was);
+}
+
+pub runs-more : (old : NetworkState) (events : List Event) (before behind : List Reply) (middle : NetworkState) (event : Event)
+    (reply : Reply) (last : List Reply) (new : NetworkState)
+    → RunsTo old events before behind middle → EventRuns middle event reply new → last ≡ behind ++ reply ∷ []
+    → RunsTo old (events ++ event ∷ []) before last new
+runs-more old events before behind middle event reply last new runs one is = record {
+  replies = runs.replies ++ reply ∷ [];
+  appended =
+      is ∙ ap (λ (list : List Reply). list ++ reply ∷ []) runs.appended ∙ append_assoc before runs.replies (reply ∷ []);
+  states = states-more old events runs.replies middle event reply new runs.states one;
+  hosts = one.hosts ∙ runs.hosts;
+  delivers = λ k was now then here.
+      let some = slice_get-some middle.hosts k
+      (let below = slice_get_within old.hosts k was then in
+      let same = runs.hosts in omega (arith, below, same)) in
+      subst (λ (happened : List Happening). Delivers k happened old.stations new.stations was now)
+      (sym (happenings-more old events runs.replies middle event reply runs.states))
+      (delivers-join k (happenings events runs.replies) (said event reply) old.stations middle.stations new.stations was some.0 now
+      (wires-of old events runs.replies middle runs.states) (runs.delivers k was some.0 then some.1)
+      (one.delivers k some.0 now some.1 here));
+}
+
+-- Runs join.
+
+states-join : (old : NetworkState) (events : List Event) (replies : List Reply) (middle : NetworkState) (later : List Event)
+    (more : List Reply) (new : NetworkState)
+    → StatesRun old events replies middle → StatesRun middle later more new → StatesRun old (events ++ later) (replies ++ more) new
+states-join old [] [] middle later more new one two = subst (λ (network : NetworkState). StatesRun network later more new) one two
+states-join old [] (first ∷ replies) middle later more new one two = absurd one
+states-join old (first ∷ events) [] middle later more new one two = absurd one
+states-join old (first ∷ events) (reply ∷ replies) middle later more new one two =
+    (one.0, one.1, states-join one.0 events replies middle later more new one.2 two)
+
+happenings-join : (old : NetworkState) (events : List Event) (replies : List Reply) (middle : NetworkState) (later : List Event)
+    (more : List Reply)
+    → StatesRun old events replies middle
+    → happenings (events ++ later) (replies ++ more) ≡ happenings events replies ++ happenings later more
+happenings-join old [] [] middle later more states = refl
+happenings-join old [] (first ∷ replies) middle later more states = absurd states
+happenings-join old (first ∷ events) [] middle later more states = absurd states
+happenings-join old (first ∷ events) (reply ∷ replies) middle later more states =
+    ap (λ (list : List Happening). said first reply ++ list) (happenings-join states.0 events replies middle later more states.2)
+    ∙ sym (append_assoc (said first reply) (happenings events replies) (happenings later more))
+
+pub runs-join : (a b c : NetworkState) (events later : List Event) (before between behind : List Reply)
+    → RunsTo a events before between b → RunsTo b later between behind c → RunsTo a (events ++ later) before behind c
+runs-join a b c events later before between behind one two = record {
+  replies = one.replies ++ two.replies;
+  appended =
+      two.appended ∙ ap (λ (list : List Reply). list ++ two.replies) one.appended ∙ append_assoc before one.replies two.replies;
+  states = states-join a events one.replies b later two.replies c one.states two.states;
+  hosts = two.hosts ∙ one.hosts;
+  delivers = λ k was now then here.
+      let some = slice_get-some b.hosts k
+      (let below = slice_get_within a.hosts k was then in
+      let same = one.hosts in omega (arith, below, same)) in
+      subst (λ (happened : List Happening). Delivers k happened a.stations c.stations was now)
+      (sym (happenings-join a events one.replies b later two.replies one.states))
+      (delivers-join k (happenings events one.replies) (happenings later two.replies) a.stations b.stations c.stations was some.0 now
+      (wires-of a events one.replies b one.states) (one.delivers k was some.0 then some.1) (two.delivers k some.0 now some.1 here));
+}

@@ -1,0 +1,177 @@
+-- Hosts stand behind each event.
+use Rattle.std.proofs.Common.{◌≡◌, ◌≢◌, ◌<◌, [], ℕ, Bool, List, Some, inl, inr, ⊎_elim}
+use Rattle.std.proofs.Common.{length, slice_get}
+use Rattle.std.proofs.Common.{refl, sym, subst, ◌∙◌, arith, if◌then◌else◌, slice_set}
+use Rattle.std.specs.List.{All}
+use Rattle.std.specs.Prelude.{IfSome}
+use Rattle.std.proofs.lemmas.Bool.Decides.{eqb_tells}
+use Rattle.std.proofs.lemmas.Nat.{and_le_l}
+use Rattle.std.proofs.lemmas.Option.{slice_get_past, slice_get_within}
+use Rattle.circular_buffer.proofs.Places.{slice_get-set_other, slice_get-set_same, slice_get-some}
+use Rattle.dma_memory.specs.Layout.{Counts}
+use Rattle.descriptors.specs.Ring.{count_of}
+use Rattle.adapter.specs.Table.{register_at}
+use Rattle.adapter.specs.World.{World, receive_ring, transmit_ring}
+use Rattle.adapter.specs.declared.offsets.TheConstants.{RDT, TDT}
+use Rattle.adapter.specs.declared.register.RingRegister.TheVariants.{Tail}
+use Rattle.bus.proofs.Lists.{all-weaker}
+use Rattle.bus.specs.declared.event.Access.{Access}
+use Rattle.bus.specs.declared.event.Access.TheVariants.{Loads, Reads, Stores, Writes}
+use Rattle.stations.specs.AtomicSteps.{AtomicStep}
+use Rattle.stations.specs.Stations.{StationState, wire_at, world_at}
+use Rattle.lent_bus.proofs.HostTrails.{trail-of}
+use Rattle.lent_bus.specs.AtomicRuns.{LeadsTo, events_at, past_at}
+use Rattle.driver_law.proofs.FramesCounted.{slots_have_frames}
+use Rattle.packet_socket.specs.HeldFrames.{HostReady, driver_of}
+use Rattle.packet_socket.specs.HostState.{HostState}
+use Rattle.packet_socket.specs.HostStretches.{Given}
+use Rattle.delivery.proofs.Waiting.{length-stays}
+use Rattle.delivery.specs.Happenings.{Happening, of_host}
+use Rattle.step_answers.proofs.HostSteps.{trail-goes}
+use Rattle.step_answers.proofs.Ticks.{absent-nothing, ticks-answered}
+use Rattle.step_answers.specs.Counts.{tail_of}
+use Rattle.step_answers.specs.CountedHosts.{IsCounted, IsCountedWrite}
+use Rattle.host_calls.proofs.Calling.{others-run, ready-behind}
+use Rattle.host_calls.specs.CallsOfHosts.{HostRuns, IsOfDriver, IsTailWrite}
+use Rattle.wire.specs.EventParts.{HostsGo}
+use Rattle.wire.specs.Networks.{HostIsOrderly, HostStands, IsHost, NetworkStands, NetworkState}
+use Rattle.wire.proofs.Delivering.{Tells, delivers-runs}
+
+-- Accesses of a driver that is up can be counted.
+
+tail-below : (value slots : ℕ) → value < slots → tail_of value < slots
+tail-below value slots below =
+    let low = and_le_l value (Rattle.adapter.specs.Rings.ring_kept Tail) in
+    omega (arith, low, below)
+
+tail-counted : (counts : Counts) (offset value : ℕ) → IsTailWrite counts offset value
+    → IfSome (register_at offset) (IsCountedWrite counts.rx counts.tx value)
+unfolding register_at
+tail-counted counts offset value is =
+    ⊎_elim
+    (λ (receive : (offset ≡ RDT) × (value < counts.rx)).
+    subst (λ (o : ℕ). IfSome (register_at o) (IsCountedWrite counts.rx counts.tx value)) (sym receive.0)
+    (tail-below value counts.rx receive.1))
+    (λ (transmit : (offset ≡ TDT) × (value < counts.tx)).
+    subst (λ (o : ℕ). IfSome (register_at o) (IsCountedWrite counts.rx counts.tx value)) (sym transmit.0)
+    (tail-below value counts.tx transmit.1)) is
+
+counts-one : (counts : Counts) (access : Access) → IsOfDriver counts access → IsCounted counts.rx counts.tx access
+counts-one counts (Reads offset value) is = tt
+counts-one counts (Writes offset value) is = tail-counted counts offset value is
+counts-one counts (Loads address size) is = tt
+counts-one counts (Stores address bytes) is = tt
+
+-- of an adapter whose rings the driver knows
+pub all-counted : (h : HostState) (world : World) (accesses : List Access) → HostReady h world → All (IsOfDriver h.driver.counts) accesses
+    → All (IsCounted (count_of (receive_ring world)) (count_of (transmit_ring world))) accesses
+all-counted h world accesses ready are =
+    let own = h.driver.counts in
+    subst (λ (n : ℕ). All (IsCounted n (count_of (transmit_ring world))) accesses) (sym ready.ready.receive.slots)
+    (subst (λ (n : ℕ). All (IsCounted own.rx n) accesses) (sym ready.ready.transmit.knows.slots)
+    (all-weaker (IsOfDriver own) (IsCounted own.rx own.tx) accesses (counts-one own) are))
+
+-- A host that stood stands.
+pub stands-behind : (caller k : ℕ) (steps : List AtomicStep) (a b : List StationState) (h h' : HostState) (taken : List (List ℕ))
+    (given : List Given) (accepted : List (List ℕ))
+    → LeadsTo caller steps a b → HostStands h (world_at a k) → HostRuns k steps a b h h' taken given accepted
+    → HostStands h' (world_at b k)
+stands-behind caller k steps a b h h' taken given accepted leads stands runs = record {
+  ready = ready-behind h (world_at a k) h' (world_at b k) taken given accepted (past_at k steps) runs.flows;
+  work = runs.work stands.work;
+  refilled = runs.refilled stands.refilled;
+  offered = runs.offered stands.offered;
+  can =
+      (trail-goes (events_at k steps) (world_at a k) (world_at b k) (count_of (receive_ring (world_at a k)))
+      (count_of (transmit_ring (world_at a k))) refl refl
+      (all-counted h (world_at a k) (past_at k steps).accesses stands.ready runs.accesses) (trail-of caller k steps a b leads)
+      stands.can).can;
+}
+
+pub orderly-of : (h : HostState) (world : World) → HostStands h world → HostIsOrderly h world
+orderly-of h world stands = record {
+  one_owner = stands.ready.ready.driver_is.one_owner;
+  sends_at_most = (slots_have_frames (driver_of h world) world stands.ready.ready).most;
+}
+
+-- Which host is which.
+
+same-host : (hosts : List HostState) (k : ℕ) (h h' : HostState) → slice_get hosts k ≡ Some h → slice_get hosts k ≡ Some h' → h' ≡ h
+same-host hosts k h h' one two = let e : Some h ≡ Some h' = sym one ∙ two in cc
+
+pub caller-behind : (hosts : List HostState) (caller : ℕ) (h h' h'' : HostState) → slice_get hosts caller ≡ Some h
+    → slice_get (slice_set hosts caller h') caller ≡ Some h'' → h'' ≡ h'
+caller-behind hosts caller h h' h'' is new =
+    let set = slice_get-set_same hosts caller h' (slice_get_within hosts caller h is) in
+    let e : Some h' ≡ Some h'' = sym set ∙ new in cc
+
+pub other-behind : (hosts : List HostState) (caller k : ℕ) (h h' h'' : HostState) → k ≢ caller → slice_get hosts k ≡ Some h
+    → slice_get (slice_set hosts caller h') k ≡ Some h'' → h'' ≡ h
+other-behind hosts caller k h h' h'' other is new =
+    let set = slice_get-set_other hosts caller k h' other in
+    let e : Some h ≡ Some h'' = sym is ∙ (sym set ∙ new) in cc
+
+-- A call of one host, as all hosts find it.
+
+-- what each host does
+pub each-runs : (caller k : ℕ) (steps : List AtomicStep) (a b : List StationState) (hosts : List HostState) (h h' was is : HostState)
+    (taken : List (List ℕ)) (given : List Given) (accepted : List (List ℕ))
+    → LeadsTo caller steps a b → slice_get hosts caller ≡ Some h → HostRuns caller steps a b h h' taken given accepted
+    → slice_get hosts k ≡ Some was → slice_get (slice_set hosts caller h') k ≡ Some is → HostReady was (world_at a k)
+    → HostRuns k steps a b was is (of_host k caller taken) (of_host k caller given) (of_host k caller accepted)
+each-runs caller k steps a b hosts h h' was is taken given accepted leads there runs old new ready =
+    elim (eqb_tells k caller) [
+      | inl same ↦
+          let before : was ≡ h = same-host hosts caller h was there (subst (λ (n : ℕ). slice_get hosts n ≡ Some was) same.1 old) in
+          let behind : is ≡ h' = caller-behind hosts caller h h' is there
+          (subst (λ (n : ℕ). slice_get (slice_set hosts caller h') n ≡ Some is) same.1 new) in
+          subst (λ (here : Bool). HostRuns k steps a b was is (if here then taken else []) (if here then given else [])
+          (if here then accepted else [])) (sym same.0)
+          (subst (λ (n : ℕ). HostRuns n steps a b was is taken given accepted) (sym same.1)
+          (subst (λ (w : HostState). HostRuns caller steps a b w is taken given accepted) (sym before)
+          (subst (λ (w : HostState). HostRuns caller steps a b h w taken given accepted) (sym behind) runs)))
+      | inr differ ↦
+          let stays : is ≡ was = other-behind hosts caller k was h' is differ.1 old new in
+          subst (λ (here : Bool). HostRuns k steps a b was is (if here then taken else []) (if here then given else [])
+          (if here then accepted else [])) (sym differ.0)
+          (subst (λ (w : HostState). HostRuns k steps a b was w [] [] []) (sym stays)
+          (others-run caller k steps a b was differ.1 leads ready))
+    ]
+
+-- So all hosts go by the equations, and stand.
+pub hosts-go : (caller : ℕ) (happened : List Happening) (steps : List AtomicStep) (old new : NetworkState)
+    (taken : ℕ → List (List ℕ)) (given : ℕ → List Given) (accepted : ℕ → List (List ℕ))
+    → NetworkStands old → LeadsTo caller steps old.stations new.stations → length new.hosts ≡ length old.hosts
+    → ((k : ℕ) (was is : HostState) → IsHost old k was → IsHost new k is
+    → HostRuns k steps old.stations new.stations was is (taken k) (given k) (accepted k))
+    → ((k : ℕ) → Tells k happened steps (wire_at old.stations) (given k) (accepted k))
+    → HostsGo caller happened steps old new
+hosts-go caller happened steps old new taken given accepted stands leads same runs tells = record {
+  leads = leads;
+  hosts = same;
+  delivers = λ k was is there here.
+      delivers-runs caller k steps happened old.stations new.stations was is (taken k) (given k) (accepted k) leads
+      (stands.each k was there).can.receives (runs k was is there here) (tells k);
+  ticks = λ k was there.
+      let some = slice_get-some new.hosts k (let below = slice_get_within old.hosts k was there in omega (arith, below, same)) in
+      let run = runs k was some.0 there some.1 in
+      let stood = stands.each k was there in
+      let behind = ready-behind was (world_at old.stations k) some.0 (world_at new.stations k) (taken k) (given k) (accepted k)
+      (past_at k steps) run.flows in
+      ticks-answered caller k steps old.stations new.stations leads
+      (record {
+        can = stood.can;
+        accesses = all-counted was (world_at old.stations k) (past_at k steps).accesses stood.ready run.accesses;
+      })
+      (record { receiver = behind.ready.runs.receiver_runs; transmitter = behind.ready.runs.transmitter_runs });
+  absent = λ k past.
+      absent-nothing caller k steps old.stations new.stations leads
+      (slice_get_past old.stations k (let length_same = stands.same in omega (arith, past, length_same)));
+  stands = record {
+    same = length-stays caller steps old.stations new.stations leads ∙ stands.same ∙ sym same;
+    each = λ k is here.
+        let some = slice_get-some old.hosts k (let below = slice_get_within new.hosts k is here in omega (arith, below, same)) in
+        stands-behind caller k steps old.stations new.stations some.0 is (taken k) (given k) (accepted k) leads
+        (stands.each k some.0 some.1) (runs k some.0 is some.1 here);
+  };
+}

@@ -1,0 +1,49 @@
+use Rattle.std.proofs.Common.{[], List, refl, sym, subst, slice_index_or}
+use Rattle.std.proofs.lemmas.Option.{slice_get-get_or}
+use Rattle.delivery.specs.Happenings.{Happening, of_host, told}
+use Rattle.stations.specs.Stations.{wire_at}
+use Rattle.wire.specs.EventParts.{IsInterruptAnswer}
+use Rattle.wire.proofs.Delivering.{Tells}
+use Rattle.wire.proofs.Playing.{absent-played, call-played}
+use Rattle.wire.proofs.Taking.{takes-frames}
+use Rattle.wire.proofs.Tellings.{tells-call}
+use Rattle.wire.proofs.events.interrupt.Goals as goal
+
+pub returns-then-host-hosts : goal.returns-then-host-hosts
+returns-then-host-hosts c =
+    absent-played c.args.host c.args.ticks.now (record { hosts = c.args.hosts.now; stations = c.args.stations.now })
+    c.no_host.new.stations c.args.outcomes c.no_host.result
+    (told c.args.ticks.now c.no_host.result.outcomes.list)
+    (IsInterruptAnswer c.args.host) c.requires.stands c.if-host-hosts.true c.requires.empty c.no_host.ensures.answer
+    c.no_host.ensures.none c.no_host.ensures.plays refl
+
+pub interrupt-called-requires-clause-ready : goal.interrupt-called-requires-clause-ready
+interrupt-called-requires-clause-ready c =
+    let host = slice_index_or c.args.hosts.now c.args.host c.index-hosts-host.result in
+    (c.requires.stands.each c.args.host host
+    (slice_get-get_or c.args.hosts.now c.args.host c.index-hosts-host.result c.if-host-hosts.false)).ready
+
+pub returns : goal.returns
+returns c =
+    let host = slice_index_or c.args.hosts.now c.args.host c.index-hosts-host.result in
+    let runs = c.interrupt-called.ensures.runs in
+    call-played c.args.host c.args.ticks.now (record { hosts = c.args.hosts.now; stations = c.args.stations.now })
+    c.interrupt-called.new.stations c.args.outcomes c.interrupt-called.new.outcomes host c.interrupt-called.new.host
+    c.interrupt-called.ensures.taken [] []
+    (told c.args.ticks.now c.interrupt-called.new.outcomes.list) _ (IsInterruptAnswer c.args.host) c.requires.stands
+    (slice_get-get_or c.args.hosts.now c.args.host c.index-hosts-host.result c.if-host-hosts.false) c.if-host-hosts.false
+    c.requires.empty refl (λ none. absurd (cc)) runs
+    (λ k said.
+    subst (λ (list : List Happening). Tells k list runs.steps (wire_at c.args.stations.now)
+    (of_host k c.args.host []) (of_host k c.args.host [])) (sym said)
+    (tells-call k c.args.host runs.steps (wire_at c.args.stations.now))) (
+      c.interrupt-called.result.answer,
+      refl,
+      (c.interrupt-called.ensures.causes, c.interrupt-called.ensures.tells),
+      (
+        c.interrupt-called.ensures.taken,
+        c.interrupt-called.ensures.answer,
+        takes-frames c.args.host runs.steps c.args.stations.now c.interrupt-called.new.stations host c.interrupt-called.new.host
+            c.interrupt-called.ensures.taken runs.runs,
+      ),
+    )

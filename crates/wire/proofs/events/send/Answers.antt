@@ -1,0 +1,47 @@
+use Rattle.std.proofs.Common.{◌++◌, [], List, refl, sym, ap, subst, slice_index_or}
+use Rattle.std.proofs.lemmas.Option.{slice_get-get_or}
+use Rattle.delivery.specs.Happenings.{Happening, of_host, told}
+use Rattle.stations.specs.Stations.{wire_at}
+use Rattle.driver.specs.SendSteps.{accepted_by}
+use Rattle.network_events.specs.declared.reply.Answer.TheVariants.{Sent}
+use Rattle.wire.specs.Runs.{accepted_of}
+use Rattle.network_events.specs.declared.reply.Answer.{Answer}
+use Rattle.wire.specs.EventParts.{IsSendAnswer}
+use Rattle.wire.proofs.Delivering.{Tells}
+use Rattle.wire.proofs.Playing.{absent-played, call-played}
+use Rattle.wire.proofs.Tellings.{tells-send}
+use Rattle.wire.proofs.events.send.Goals as goal
+
+pub returns-then-host-hosts : goal.returns-then-host-hosts
+returns-then-host-hosts c =
+    absent-played c.args.host c.args.ticks.now (record { hosts = c.args.hosts.now; stations = c.args.stations.now })
+    c.no_host.new.stations c.args.outcomes c.no_host.result
+    (accepted_of c.args.host c.args.frame.now c.no_host.result.answer ++ told c.args.ticks.now c.no_host.result.outcomes.list)
+    (IsSendAnswer c.args.host c.args.frame.now) c.requires.stands c.if-host-hosts.true c.requires.empty c.no_host.ensures.answer
+    c.no_host.ensures.none c.no_host.ensures.plays (ap (λ (answer : Answer). accepted_of c.args.host c.args.frame.now answer
+    ++ told c.args.ticks.now c.no_host.result.outcomes.list) c.no_host.ensures.answer)
+
+pub send-called-requires-clause-ready : goal.send-called-requires-clause-ready
+send-called-requires-clause-ready c =
+    let host = slice_index_or c.args.hosts.now c.args.host c.index-hosts-host.result in
+    (c.requires.stands.each c.args.host host
+    (slice_get-get_or c.args.hosts.now c.args.host c.index-hosts-host.result c.if-host-hosts.false)).ready
+
+pub returns : goal.returns
+returns c =
+    let host = slice_index_or c.args.hosts.now c.args.host c.index-hosts-host.result in
+    let runs = c.send-called.ensures.runs in
+    call-played c.args.host c.args.ticks.now (record { hosts = c.args.hosts.now; stations = c.args.stations.now })
+    c.send-called.new.stations c.args.outcomes c.send-called.new.outcomes host c.send-called.new.host [] []
+    (accepted_by c.send-called.result.answer c.args.frame.now)
+    (accepted_of c.args.host c.args.frame.now
+    (Sent c.send-called.result.answer) ++ told c.args.ticks.now c.send-called.new.outcomes.list) _
+    (IsSendAnswer c.args.host c.args.frame.now) c.requires.stands
+    (slice_get-get_or c.args.hosts.now c.args.host c.index-hosts-host.result c.if-host-hosts.false) c.if-host-hosts.false
+    c.requires.empty refl (λ none. absurd (cc)) runs
+    (λ k said.
+    subst (λ (list : List Happening). Tells k
+    (accepted_of c.args.host c.args.frame.now (Sent c.send-called.result.answer) ++ list) runs.steps (wire_at c.args.stations.now)
+    (of_host k c.args.host []) (of_host k c.args.host (accepted_by c.send-called.result.answer c.args.frame.now))) (sym said)
+    (tells-send k c.args.host c.args.frame.now c.send-called.result.answer runs.steps (wire_at c.args.stations.now)))
+    (c.send-called.result.answer, refl, c.send-called.ensures.answers)

@@ -1,0 +1,97 @@
+-- What an event does to all hosts, before it is told as an event with its reply (own).
+use Rattle.std.specs.Prelude.{◌≡◌, ◌≤◌, ◌↔◌, ◌++◌, ◌∷◌, [], ℕ, All, List, Result, length, map}
+use Rattle.driver.specs.SendSteps.{Answer as SendAnswer}
+use Rattle.driver.specs.declared.interrupt.Handled.{Handled}
+use Rattle.packet_socket.specs.HostState.{HostState}
+use Rattle.packet_socket.specs.declared.receive.RecvError.{RecvError}
+use Rattle.adapter.specs.HostFrames.{frames_held}
+use Rattle.bus.specs.TickGroups.{without_go}
+use Rattle.stations.specs.AtomicSteps.{AtomicStep, tick_of}
+use Rattle.stations.specs.Stations.{StationState, world_at}
+use Rattle.stations.specs.declared.outcomes.Numbered.{Numbered}
+use Rattle.stations.specs.declared.tick.Outcome.TheVariants.{Nothing}
+use Rattle.stations.specs.declared.tick.Tick.{Tick}
+use Rattle.stations.specs.declared.tick.Tick.TheVariants.{Deliver, Go, Step}
+use Rattle.lent_bus.specs.AtomicRuns.{IsTick, LeadsTo, counted_of, is_go, noted_of, past_at}
+use Rattle.delivery.specs.Happenings.{Happening, happened_in, told_alone}
+use Rattle.delivery.specs.TickNumbers.{numbers, numbers_of}
+use Rattle.network_events.specs.declared.reply.Answer.{Answer}
+use Rattle.network_events.specs.declared.reply.Answer.TheVariants.{Interrupted, NoHost, Received, Sent, Ticked}
+use Rattle.network_events.specs.declared.reply.Reply.{Reply}
+use Rattle.packet_socket.specs.HeldFrames.{socket_frames, waiting_frames}
+use Rattle.interrupt_causes.specs.InterruptCauses.{TellsCauses}
+use Rattle.host_calls.specs.CallsOfHosts.{IsOfDriver}
+use Rattle.host_calls.specs.CallAnswers.{AnswersInterrupt, AnswersRecv, AnswersSend}
+use Rattle.step_answers.specs.StepAnswers.{AreAnswered, OfEachTick}
+use Rattle.wire.specs.Equations.{Delivers}
+use Rattle.wire.specs.Networks.{IsHost, NetworkStands, NetworkState}
+
+-- By these atomic steps each host goes from one state to the other as the equations say, and stands.
+pub record HostsGo (caller : ℕ) (happened : List Happening) (steps : List AtomicStep) (old new : NetworkState) : Type 0 where
+  pub leads : LeadsTo caller steps old.stations new.stations
+  pub hosts : length new.hosts ≡ length old.hosts
+  pub delivers : (k : ℕ) (h h' : HostState) → IsHost old k h → IsHost new k h' → Delivers k happened old.stations new.stations h h'
+  -- each tick is answered by what is counted at the start, with the outcomes before it applied; a host that isn't there has nothing to do
+  pub ticks : (k : ℕ) (h : HostState) → IsHost old k h → AreAnswered k old.stations steps
+  pub absent : (k : ℕ) → length old.hosts ≤ k → OfEachTick k steps (λ before tick outcome. outcome ≡ Nothing)
+  pub stands : NetworkStands new
+
+-- What is answered where the host is there.
+
+abbrev pub IsSendAnswer : (host : ℕ) (frame : List ℕ) → Answer → (h h' : HostState) → List AtomicStep → (old new : List StationState)
+    → Type 0
+IsSendAnswer host frame answer h h' steps old new =
+    (result : SendAnswer) × (answer ≡ Sent result) × AnswersSend result frame h.driver.counts (world_at old host)
+
+abbrev pub IsRecvAnswer : (host socket : ℕ) → Answer → (h h' : HostState) → List AtomicStep → (old new : List StationState) → Type 0
+IsRecvAnswer host socket answer h h' steps old new =
+    (result : Result (List ℕ) RecvError) × (answer ≡ Received result) × AnswersRecv result socket h (world_at old host)
+
+-- The frames taken are those that left the front of what the host held, and each socket's queue grew at its end by its part of them.
+pub record TakesFrames (host : ℕ) (steps : List AtomicStep) (h h' : HostState) (old new : List StationState) (taken : List (List ℕ))
+    : Type 0 where
+  pub left : taken ++ frames_held h'.driver.oldest_receive (world_at new host)
+      ≡ frames_held h.driver.oldest_receive (world_at old host) ++ (past_at host steps).stored
+  pub queues : (socket : ℕ) → waiting_frames h' socket (world_at new host)
+      ≡ waiting_frames h socket (world_at old host) ++ socket_frames h.kinds socket taken
+
+abbrev pub IsInterruptAnswer : (host : ℕ) → Answer → (h h' : HostState) → List AtomicStep → (old new : List StationState) → Type 0
+IsInterruptAnswer host answer h h' steps old new =
+    (result : Handled) × (answer ≡ Interrupted result)
+    × ((causes : ℕ) × TellsCauses host steps causes (world_at old host).adapter.causes.recorded result)
+    × ((taken : List (List ℕ)) × AnswersInterrupt result h h' (world_at old host) taken × TakesFrames host steps h h' old new taken)
+
+-- A call was made, with its ticks: this is said of it, and so it answers.
+pub record CallPlayed (host : ℕ) (ticks : List Tick) (happened : List Happening) (reply : Reply)
+    (answers : Answer → (h h' : HostState) → List AtomicStep → (old new : List StationState) → Type 0)
+    (old new : NetworkState) : Type 0 where
+  pub steps : List AtomicStep
+  pub go : HostsGo host happened steps old new
+  -- the steps that aren't accesses are the ticks that aren't Go, in order
+  pub played : without_go is_go (map tick_of steps) ≡ without_go is_go ticks
+  pub counted : reply.accesses ≡ counted_of 0 steps
+  pub accesses : (h : HostState) → IsHost old host h → All (IsOfDriver h.driver.counts) (past_at host steps).accesses
+  pub outcomes : reply.outcomes.list ≡ noted_of 0 steps
+  pub numbered : numbers_of reply.outcomes.list ≡ numbers ticks 0 reply.accesses
+  pub no_host : reply.answer ≡ NoHost ↔ (length old.hosts ≤ host)
+  pub answer : (h h' : HostState) → IsHost old host h → IsHost new host h' → answers reply.answer h h' steps old.stations new.stations
+
+-- A tick by itself.
+
+-- Its outcome is that of its atomic step; a Go does nothing.
+abbrev pub AreOutcomesAlone : Tick → List AtomicStep → List Numbered → Type 0
+AreOutcomesAlone Go steps outcomes = (steps ≡ []) × (outcomes ≡ record { accesses = 0; outcome = Nothing } ∷ [])
+AreOutcomesAlone (Step host kind) steps outcomes = outcomes ≡ noted_of 0 steps
+AreOutcomesAlone (Deliver host) steps outcomes = outcomes ≡ noted_of 0 steps
+
+-- A tick was played by itself.
+pub record TickPlayed (tick : Tick) (reply : Reply) (old new : List StationState) : Type 0 where
+  pub steps : List AtomicStep
+  pub are : All IsTick steps
+  pub leads : (caller : ℕ) → LeadsTo caller steps old new
+  pub played : without_go is_go (map tick_of steps) ≡ without_go is_go (tick ∷ [])
+  pub counted : reply.accesses ≡ counted_of 0 steps
+  pub said : told_alone tick reply.outcomes.list ≡ happened_in steps
+  pub outcomes : AreOutcomesAlone tick steps reply.outcomes.list
+  pub numbered : numbers_of reply.outcomes.list ≡ 0 ∷ []
+  pub answer : reply.answer ≡ Ticked

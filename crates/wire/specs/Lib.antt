@@ -1,0 +1,9 @@
+pub mod Networks
+pub mod Equations
+pub mod EventParts
+pub mod Runs
+pub mod DrainedNetworks
+pub mod LanView
+pub mod Counting
+pub mod NewNetworks
+pub mod Laws

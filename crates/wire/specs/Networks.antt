@@ -1,0 +1,44 @@
+-- A network as plain data: its hosts, and their adapters, memories and ends of wires (own).
+use Rattle.std.specs.Prelude.{◌≡◌, ◌≤◌, ◌+◌, [], ℕ, List, Some, length, slice_get}
+use Rattle.adapter.specs.HostFrames.{frames_to_send}
+use Rattle.adapter.specs.World.{World}
+use Rattle.dma_memory.specs.Owners.{HasOneOwner}
+use Rattle.driver_law.specs.DriverState.{owners}
+use Rattle.driver_law.specs.Stretches.{HasNoForgottenWork, IsRefilled}
+use Rattle.packet_socket.specs.HeldFrames.{HostReady, driver_of}
+use Rattle.packet_socket.specs.HostState.{HostState}
+use Rattle.stations.specs.Stations.{StationState, world_at}
+use Rattle.step_answers.specs.CountedHosts.{CanAnswer}
+
+-- Hosts are numbered from 0; the k-th station is the k-th host's.
+pub record NetworkState : Type 0 where
+  pub hosts : List HostState
+  pub stations : List StationState
+
+-- This host is the k-th.
+abbrev pub IsHost : NetworkState → (k : ℕ) → HostState → Type 0
+IsHost network k host = slice_get network.hosts k ≡ Some host
+
+-- What holds of a host whenever no call of it is made.
+pub record HostStands (host : HostState) (world : World) : Type 0 where
+  -- its driver knows its rings and buffers, and what waits for its sockets stands in them
+  pub ready : HostReady host world
+  -- No work is forgotten: where its oldest receive slot is finished, RXT0 is recorded, and in the mask.
+  pub work : HasNoForgottenWork host.driver world
+  -- No buffer is free, or all receive slots but one are outstanding.
+  pub refilled : IsRefilled host.driver
+  -- no slot's descriptor is stored that isn't offered
+  pub offered : host.driver.staged ≡ []
+  -- both sides of its adapter are enabled
+  pub can : CanAnswer world.adapter
+
+-- Each host has its station, and stands.
+pub record NetworkStands (network : NetworkState) : Type 0 where
+  pub same : length network.stations ≡ length network.hosts
+  pub each : (k : ℕ) (host : HostState) → IsHost network k host → HostStands host (world_at network.stations k)
+
+-- What a host shows of this: no buffer has two owners, sockets' queues among them; and fewer frames are to be sent than the transmit ring
+-- has slots.
+pub record HostIsOrderly (host : HostState) (world : World) : Type 0 where
+  pub one_owner : HasOneOwner host.driver.counts.buffers (owners (driver_of host world))
+  pub sends_at_most : length (frames_to_send world) + 1 ≤ host.driver.counts.tx

@@ -1,0 +1,65 @@
+// A host of a network is drained.
+
+ghost use Rattle.std.specs.Prelude.{◌≡◌, ◌≤◌, ◌+◌};
+ghost use Rattle.packet_socket.specs.HostState.{HostState};
+ghost use Rattle.wire.specs.DrainedNetworks.{NetworkDrains};
+ghost use Rattle.wire.specs.Networks.{IsHost, NetworkStands};
+
+use crate::Lan;
+use host_drain::Outlet;
+use packet_socket::Host;
+use stations::{Outcomes, Station};
+
+/// How many frames a receive packet buffer has room for, at most.
+const MOST_BUFFERED: usize = 24;
+
+impl Lan {
+    /// For how many frames a [`drain`](Lan::drain) of a host needs room: its receive buffers and what its packet buffer
+    /// may hold, 24; none where the host isn't there.
+    pub fn drain_room(&self, host: usize) -> usize
+        ensures { (state : HostState) → IsHost self.now host state → result ≡ state.driver.counts.buffers + 24 }
+    {
+        match self.hosts.get(host) {
+            Some(one) => usize::from(one.layout().buffers()) + MOST_BUFFERED,
+            None => 0,
+        }
+    }
+
+    /// Drains a host: gives all that it holds for its sockets to `sink`, each frame with its socket's number, and
+    /// tells in how many steps. A host that isn't there takes none. It takes no memory; `sink` must have the room that
+    /// [`drain_room`](Lan::drain_room) tells.
+    ///
+    /// Each step is the first of these that applies: the host's adapter ends the frame in work, where there is one;
+    /// the host handles an interrupt, where the line is asserted; it gives the oldest frame of its first socket for
+    /// which one waits; its adapter moves a frame out of the receive packet buffer, where there is one.
+    pub fn drain<S: Outlet>(&mut self, host: usize, sink: &mut S) -> u64
+        requires room { (state : HostState) → IsHost self.old host state
+            → state.driver.counts.buffers + 24 ≤ S.places sink.old }
+        ensures { NetworkDrains self.old host result (S.frames sink.old) (S.frames sink.new) self.new }
+    {
+        let outcomes = Outcomes::new(*self.stations.allocator());
+        let hosts = self.hosts.as_mut_slice();
+        drain(hosts, self.stations.as_mut_slice(), host, outcomes, sink)
+    }
+}
+
+/// The same, over the parts of a network. No outcome is noted.
+fn drain<S: Outlet>(
+    hosts: &mut [Host],
+    stations: &mut [Station],
+    host: usize,
+    outcomes: Outcomes,
+    sink: &mut S,
+) -> u64
+    requires stands { NetworkStands (record { hosts = hosts.old; stations = stations.old }) }
+    requires room { (state : HostState) → IsHost (record { hosts = hosts.old; stations = stations.old }) host state
+        → state.driver.counts.buffers + 24 ≤ S.places sink.old }
+    ensures { NetworkDrains (record { hosts = hosts.old; stations = stations.old }) host result (S.frames sink.old)
+        (S.frames sink.new) (record { hosts = hosts.new; stations = stations.new }) }
+{
+    if host >= hosts.len() {
+        return 0;
+    }
+    let mut outcomes = outcomes;
+    host_drain::drain(&mut hosts[host], stations, host, &mut outcomes, sink)
+}

@@ -1,0 +1,152 @@
+// One event, over all hosts and their stations.
+
+ghost use Rattle.std.specs.Prelude.{◌≡◌, ◌≢◌, ◌≤◌, ◌<◌, ◌++◌, [], length};
+ghost use Rattle.bus.specs.TickGroups.{without_go};
+ghost use Rattle.delivery.specs.Happenings.{told};
+ghost use Rattle.lent_bus.specs.AtomicRuns.{is_go};
+ghost use Rattle.lent_bus.specs.PlayedTicks.{PlaysTicks};
+ghost use Rattle.network_events.specs.declared.reply.Answer.TheVariants.{NoHost};
+ghost use Rattle.wire.specs.EventParts.{CallPlayed, IsInterruptAnswer, IsRecvAnswer, IsSendAnswer, TickPlayed};
+ghost use Rattle.wire.specs.Networks.{NetworkStands};
+ghost use Rattle.wire.specs.Runs.{accepted_of, given_of};
+
+use lent_bus::play_rest;
+use network_events::{Answer, Reply};
+use packet_socket::Host;
+use stations::{Outcome, Outcomes, Station, Tick, play};
+
+/// A call for a host that isn't there: its ticks are played.
+fn no_host(stations: &mut [Station], ticks: &[Tick], outcomes: Outcomes) -> Reply
+    requires room { length ticks.now ≤ outcomes.room }
+    ensures answer { result.answer ≡ NoHost }
+    ensures none { result.accesses ≡ 0 }
+    ensures plays { PlaysTicks stations.old (without_go is_go ticks.now) 0 outcomes result.outcomes stations.new }
+{
+    let mut outcomes = outcomes;
+    play_rest(stations, ticks, 0, &mut outcomes);
+    Reply {
+        answer: Answer::NoHost,
+        accesses: 0,
+        outcomes,
+    }
+}
+
+/// A host sends a frame, while ticks are played.
+#[inline(never)]
+pub(crate) fn send(
+    hosts: &mut [Host],
+    stations: &mut [Station],
+    host: usize,
+    frame: &[u8],
+    ticks: &[Tick],
+    outcomes: Outcomes,
+) -> Reply
+    requires stands { NetworkStands (record { hosts = hosts.old; stations = stations.old }) }
+    requires empty { outcomes.list ≡ [] }
+    requires room { length ticks.now ≤ outcomes.room }
+    ensures { CallPlayed host ticks.now
+        (accepted_of host frame.now result.answer ++ told ticks.now result.outcomes.list) result
+        (IsSendAnswer host frame.now) (record { hosts = hosts.old; stations = stations.old })
+        (record { hosts = hosts.new; stations = stations.new }) }
+{
+    if host >= hosts.len() {
+        return no_host(stations, ticks, outcomes);
+    }
+    let mut outcomes = outcomes;
+    let called = host_calls::send(
+        &mut hosts[host],
+        stations,
+        host,
+        frame,
+        ticks,
+        &mut outcomes,
+    );
+    Reply {
+        answer: Answer::Sent(called.answer),
+        accesses: called.accesses,
+        outcomes,
+    }
+}
+
+/// A host asks for the oldest frame of a socket, while ticks are played.
+#[inline(never)]
+pub(crate) fn recv(
+    hosts: &mut [Host],
+    stations: &mut [Station],
+    host: usize,
+    socket: usize,
+    ticks: &[Tick],
+    outcomes: Outcomes,
+) -> Reply
+    requires stands { NetworkStands (record { hosts = hosts.old; stations = stations.old }) }
+    requires empty { outcomes.list ≡ [] }
+    requires room { length ticks.now ≤ outcomes.room }
+    ensures { CallPlayed host ticks.now
+        (told ticks.now result.outcomes.list ++ given_of host socket result.answer) result
+        (IsRecvAnswer host socket) (record { hosts = hosts.old; stations = stations.old })
+        (record { hosts = hosts.new; stations = stations.new }) }
+{
+    if host >= hosts.len() {
+        return no_host(stations, ticks, outcomes);
+    }
+    let mut outcomes = outcomes;
+    let called = host_calls::recv(
+        &mut hosts[host],
+        stations,
+        host,
+        socket,
+        ticks,
+        &mut outcomes,
+    );
+    Reply {
+        answer: Answer::Received(called.answer),
+        accesses: called.accesses,
+        outcomes,
+    }
+}
+
+/// A host handles an interrupt, while ticks are played.
+#[inline(never)]
+pub(crate) fn interrupt(
+    hosts: &mut [Host],
+    stations: &mut [Station],
+    host: usize,
+    ticks: &[Tick],
+    outcomes: Outcomes,
+) -> Reply
+    requires stands { NetworkStands (record { hosts = hosts.old; stations = stations.old }) }
+    requires empty { outcomes.list ≡ [] }
+    requires room { length ticks.now ≤ outcomes.room }
+    ensures { CallPlayed host ticks.now (told ticks.now result.outcomes.list) result (IsInterruptAnswer host)
+        (record { hosts = hosts.old; stations = stations.old })
+        (record { hosts = hosts.new; stations = stations.new }) }
+{
+    if host >= hosts.len() {
+        return no_host(stations, ticks, outcomes);
+    }
+    let mut outcomes = outcomes;
+    let called = host_calls::interrupt(&mut hosts[host], stations, host, ticks, &mut outcomes);
+    Reply {
+        answer: Answer::Interrupted(called.answer),
+        accesses: called.accesses,
+        outcomes,
+    }
+}
+
+/// A tick by itself. `Go` does nothing.
+pub(crate) fn tick(stations: &mut [Station], tick: Tick, outcomes: Outcomes) -> Reply
+    requires empty { outcomes.list ≡ [] }
+    requires room { 1 ≤ outcomes.room }
+    ensures { TickPlayed tick result stations.old stations.new }
+{
+    let mut outcomes = outcomes;
+    match tick {
+        Tick::Go => outcomes.note(0, Outcome::Nothing),
+        _ => play(stations, tick, 0, &mut outcomes),
+    }
+    Reply {
+        answer: Answer::Ticked,
+        accesses: 0,
+        outcomes,
+    }
+}

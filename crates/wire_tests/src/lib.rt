@@ -1,0 +1,17 @@
+//! Tests of hosts on wires, over the public calls of `wire` alone.
+#![tactic(auto)]
+
+#[cfg(test)]
+mod drain_tests;
+#[cfg(test)]
+mod memory_tests;
+#[cfg(test)]
+mod outlet;
+#[cfg(test)]
+mod plans;
+#[cfg(test)]
+mod samples;
+#[cfg(test)]
+mod schedule;
+#[cfg(test)]
+mod tests;
