@@ -1,0 +1,77 @@
+-- The host that is found by its name, and changed.
+use Rattle.std.proofs.Common.{◌≡◌, ◌∙◌, ◌+◌, ◌<◌, ◌≤◌, ℕ, Bool, true, false, cond, suc, zero, List, [], ◌∷◌, Option, Some, None, Result, Ok, Err, length, get_or, set, not, nat_lt, ap, sym, subst, refl, arith}
+use Rattle.std.proofs.lemmas.Bool.Decides.{nat_tests}
+use Rattle.std.proofs.lemmas.List.{get_or-map, length-map, map-set}
+use Rattle.std.proofs.lemmas.List.Quantifiers.{position-Some}
+use Rattle.std.specs.List.{find, position_or_len}
+use Rattle.std.specs.Option.{IsSomeAnd}
+use Rattle.network_plan.specs.declared.plan.HostPlan.{HostPlan}
+use Rattle.scenario.specs.Answers.{IsChange, IsGrowth}
+use Rattle.scenario.specs.Meanings.{IsRoomAt, changed_first}
+use Rattle.scenario.specs.SoFar.{Host, has_name, host_of, hosts_of, place_of}
+use Rattle.scenario.specs.Words.{Text}
+use Rattle.scenario.specs.declared.refusal.Fault.{Fault}
+
+found-find : (p : Host → Bool) (xs : List Host) (k : ℕ) (d : Host) → k < length xs → p (get_or xs k d) ≡ true
+    → ((j : ℕ) → j < k → p (get_or xs j d) ≡ false) → find p xs ≡ Some (get_or xs k d)
+found-find p [] k d below passes none = absurd (omega arith)
+found-find p (a ∷ xs) zero d below passes none = ap (λ b. cond b (Some a) (find p xs)) passes
+found-find p (a ∷ xs) (suc k) d below passes none =
+    ap (λ b. cond b (Some a) (find p xs)) (none 0 (omega arith)) ∙ found-find p xs k d (omega arith) passes (λ j h. none (suc j) (omega arith))
+
+found-set : (p : Host → Bool) (f : Host → Host) (xs : List Host) (k : ℕ) (d : Host) → k < length xs → p (get_or xs k d) ≡ true
+    → ((j : ℕ) → j < k → p (get_or xs j d) ≡ false) → set xs k (f (get_or xs k d)) ≡ changed_first p f xs
+found-set p f [] k d below passes none = absurd (omega arith)
+found-set p f (a ∷ xs) zero d below passes none = sym (ap (λ b. cond b (f a ∷ xs) (a ∷ changed_first p f xs)) passes)
+found-set p f (a ∷ xs) (suc k) d below passes none =
+    ap (λ (hosts : List Host). a ∷ hosts) (found-set p f xs k d (omega arith) passes (λ j h. none (suc j) (omega arith)))
+    ∙ sym (ap (λ b. cond b (f a ∷ xs) (a ∷ changed_first p f xs)) (none 0 (omega arith)))
+
+pub change-host : (name : Text) (held : Host → ℕ) (most : ℕ) (change : Host → Host) (plans : List HostPlan) (place : ℕ) (plan new : HostPlan)
+    (result : Result (Unit {0}) Fault) → place_of name (hosts_of plans) ≡ Some place
+    → IsGrowth held most change (host_of (get_or plans place plan)) result (host_of new)
+    → IsChange name held most change (hosts_of plans) result (hosts_of (set plans place new))
+change-host name held most change plans place plan new (Ok u) found growth =
+    let hosts = hosts_of plans in
+    let first = position-Some (has_name name) hosts place (host_of plan) found in
+    let count = length-map plans host_of in
+    let below : place < length plans = omega (arith, first.0) in
+    let here : get_or hosts place (host_of plan) ≡ host_of (get_or plans place plan) = get_or-map host_of plans place plan (host_of plan) below in
+    let one : find (has_name name) hosts ≡ Some (host_of (get_or plans place plan)) =
+    found-find (has_name name) hosts place (host_of plan) first.0 first.1 first.2 ∙ ap Some here in (
+      subst (λ (o : Option Host). IsSomeAnd o (λ host. held host < most)) (sym one) growth.0,
+      map-set host_of plans place new ∙ ap (λ (h : Host). set hosts place h) (growth.1 ∙ ap change (sym here))
+          ∙ found-set (has_name name) change hosts place (host_of plan) first.0 first.1 first.2,
+    )
+change-host name held most change plans place plan new (Err stopped) found growth =
+    let hosts = hosts_of plans in
+    let first = position-Some (has_name name) hosts place (host_of plan) found in
+    let count = length-map plans host_of in
+    let below : place < length plans = omega (arith, first.0) in
+    let here : get_or hosts place (host_of plan) ≡ host_of (get_or plans place plan) = get_or-map host_of plans place plan (host_of plan) below in
+    let one : find (has_name name) hosts ≡ Some (host_of (get_or plans place plan)) =
+    found-find (has_name name) hosts place (host_of plan) first.0 first.1 first.2 ∙ ap Some here in
+    (growth.0, λ room. growth.1 (subst (λ (o : Option Host). IsSomeAnd o (λ host. held host < most)) one room))
+
+find-none : (p : Host → Bool) (xs : List Host) → length xs ≤ position_or_len p xs → find p xs ≡ None
+find-none p [] long = refl
+find-none p (x ∷ xs) long =
+    let step : (b : Bool) → p x ≡ b → length (x ∷ xs) ≤ cond (not b) (1 + position_or_len p xs) 0 → find p (x ∷ xs) ≡ None =
+    λ b. elim b as (λ (b : Bool). p x ≡ b → length (x ∷ xs) ≤ cond (not b) (1 + position_or_len p xs) 0 → find p (x ∷ xs) ≡ None) [
+      | true ↦ λ e far. absurd (omega (arith, far))
+      | false ↦ λ e far. ap (λ b. cond b (Some x) (find p xs)) e ∙ find-none p xs (omega (arith, far))
+    ] in
+    step (p x) refl long
+
+past : (b : Bool) (n : ℕ) → cond b (Some n) None ≡ None → b ≡ false
+past true n e = cc
+past false n e = refl
+
+longer : (m n : ℕ) → nat_lt m n ≡ false → n ≤ m
+longer m n e = grind (arith, nat_tests)
+
+pub no_room : (name : Text) (held : Host → ℕ) (most : ℕ) (hosts : List Host) → None ≡ place_of name hosts → ¬ IsRoomAt name held most hosts
+no_room name held most hosts none room =
+    let p = has_name name in
+    let far = longer _ _ (past (nat_lt (position_or_len p hosts) (length hosts)) (position_or_len p hosts) (sym none)) in
+    subst (λ (o : Option Host). IsSomeAnd o (λ host. held host < most)) (find-none p hosts far) room

@@ -1,0 +1,9 @@
+pub mod Addresses
+pub mod Changes
+pub mod FirstFaults
+pub mod LineAnswers
+pub mod Numbers
+pub mod Places
+pub mod ReadLines
+pub mod Slices
+pub mod TextLines

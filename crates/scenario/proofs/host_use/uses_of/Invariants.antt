@@ -1,0 +1,14 @@
+use Rattle.std.proofs.Common.{◌≡◌, ◌≤◌, ◌++◌, ◌-◌, drop, length}
+use Rattle.scenario.specs.HostOptions.{uses_in}
+use Rattle.scenario.specs.Words.{texts}
+use Rattle.scenario.proofs.host_use.uses_of.Given as goal
+
+-- what is used so far, and what the words that are left use
+abbrev pub invariant-loop-place : goal.invariant-loop-place
+invariant-loop-place l = record {
+  within : l.place ≤ length l.words;
+  used : l.uses.items ++ uses_in (texts (drop l.place l.words)) ≡ uses_in (texts l.words);
+}
+
+abbrev pub decreases-loop-place : goal.decreases-loop-place
+decreases-loop-place l = length l.words - l.place

@@ -1,0 +1,10 @@
+pub mod Answers
+pub mod HostOptions
+pub mod Kinds
+pub mod Laws
+pub mod Meanings
+pub mod SoFar
+pub mod Spellings
+pub mod Stops
+pub mod TickWords
+pub mod Words

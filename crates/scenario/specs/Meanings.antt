@@ -1,0 +1,223 @@
+-- What lines mean, by their kinds (own). The words of a line are counted from 0, the one that tells its kind.
+use Rattle.std.specs.Prelude.{◌≡◌, ◌<◌, ◌≤◌, ◌+◌, ◌&&◌, ℕ, Bool, true, List, [], ◌∷◌, ◌++◌, Some, None, find, if◌then◌else◌}
+use Rattle.std.specs.Prelude.{IsSome, IsSomeAnd, codes, drop, false, is_some, length, map, nat_le, take, unwrap_or}
+use Rattle.std.specs.List.{list_all, position_or_len}
+use Rattle.std.specs.Str.{bytes_eq}
+use Rattle.std.specs.Str.Parse.{digits_value}
+use Rattle.eeprom.specs.Image.{image_with}
+use Rattle.bring_up.specs.Configuration.{vlans_of}
+use Rattle.packet_socket.specs.declared.socket_kind.SocketKind.{SocketKind}
+use Rattle.packet_socket.specs.declared.socket_kind.SocketKind.TheVariants as socket
+use Rattle.stations.specs.declared.tick.Tick.{Tick}
+use Rattle.stations.specs.declared.tick.Tick.TheVariants as tick
+use Rattle.scenario.specs.HostOptions.{AreCounted, AreRead, options_asked, uses_in}
+use Rattle.scenario.specs.SoFar.{Host, Said, SoFar, Sends, Receives, Interrupts, Ticks, Feeds, Draws, has_name, place_of}
+use Rattle.scenario.specs.Spellings.{IsAddress, IsFrame, address_in, frame_in, is_number, socket_in}
+use Rattle.scenario.specs.TickWords.{is_tick, tick_of}
+use Rattle.scenario.specs.Words.{Text, word}
+use Rattle.scenario.specs.declared.host_use.HostOptions.{HostOptions}
+use Rattle.scenario.specs.declared.line_kind.LineKind.{LineKind}
+use Rattle.scenario.specs.declared.line_kind.LineKind.TheVariants as line
+
+-- how many groups, VLANs and sockets a host has at most, and how many events one line draws at most
+abbrev pub most_groups : ℕ
+most_groups = 32
+
+abbrev pub most_vlans : ℕ
+most_vlans = 32
+
+abbrev pub most_sockets : ℕ
+most_sockets = 8
+
+abbrev pub most_events : ℕ
+most_events = 1000000
+
+abbrev pub is_slash : Text → Bool
+is_slash part = bytes_eq part (codes "/")
+
+-- where the first lone slash stands
+abbrev pub slash_place : List Text → ℕ
+slash_place words = position_or_len is_slash words
+
+-- the words of a call, which end there, and behind it the words of its ticks
+abbrev pub call_words : List Text → List Text
+call_words words = take (slash_place words) words
+
+abbrev pub tick_words : List Text → List Text
+tick_words words = drop (slash_place words + 1) words
+
+-- the words of the options of a host
+abbrev pub option_words : List Text → List Text
+option_words words = drop 4 words
+
+-- how many events are to be drawn
+abbrev pub is_count : Text → Bool
+is_count text = is_number 10 32 text && nat_le (digits_value 10 text) most_events
+
+-- each word spells a tick
+abbrev pub are_ticks : List Text → Bool
+are_ticks words = list_all is_tick words
+
+-- each word spells a tick of a host that is known
+abbrev pub are_ticks_of : List Host → List Text → Bool
+are_ticks_of hosts words = list_all (λ one. is_some (tick_of hosts one)) words
+
+-- these ticks
+abbrev pub ticks_in : List Host → List Text → List Tick
+ticks_in hosts words = map (λ one. unwrap_or (tick_of hosts one) tick.Go) words
+
+-- The words of a line are as many as they are to be, and no option stands twice.
+pub record HasHostWords (words : List Text) : Type 0 where
+  pub least : 4 ≤ length words
+  pub options : AreCounted (uses_in (option_words words))
+
+abbrev pub HasCount : LineKind → List Text → Type 0
+HasCount line.Host words = HasHostWords words
+HasCount line.Group words = length words ≡ 3
+HasCount line.Vlan words = length words ≡ 3
+HasCount line.Socket words = length words ≡ 3
+HasCount line.Send words = length (call_words words) ≡ 3
+HasCount line.Recv words = length (call_words words) ≡ 3
+HasCount line.Interrupt words = length (call_words words) ≡ 2
+HasCount line.Tick words = length words ≡ 2
+HasCount line.Feed words = length words ≡ 3
+HasCount line.Auto words = length words ≡ 3
+
+-- Each word reads as what stands there.
+abbrev pub HasValues : LineKind → List Text → Type 0
+HasValues line.Host words = IsAddress (word 2 words) × AreRead (uses_in (option_words words))
+HasValues line.Group words = IsAddress (word 2 words)
+HasValues line.Vlan words = is_number 10 16 (word 2 words) ≡ true
+HasValues line.Socket words = IsSome (socket_in (word 2 words))
+HasValues line.Send words = IsFrame (word 2 (call_words words)) × (are_ticks (tick_words words) ≡ true)
+HasValues line.Recv words = (is_number 10 64 (word 2 (call_words words)) ≡ true) × (are_ticks (tick_words words) ≡ true)
+HasValues line.Interrupt words = are_ticks (tick_words words) ≡ true
+HasValues line.Tick words = is_tick (word 1 words) ≡ true
+HasValues line.Feed words = Unit {0}
+HasValues line.Auto words = (is_count (word 1 words) ≡ true) × (is_number 10 64 (word 2 words) ≡ true)
+
+-- a host of this name is there, and has room
+abbrev pub IsRoomAt : Text → (Host → ℕ) → ℕ → List Host → Type 0
+IsRoomAt name held most hosts = IsSomeAnd (find (has_name name) hosts) (λ host. held host < most)
+
+abbrev pub groups_held : Host → ℕ
+groups_held host = length host.config.groups.items
+
+abbrev pub vlans_held : Host → ℕ
+vlans_held host = length (vlans_of host.config.vlans)
+
+abbrev pub sockets_held : Host → ℕ
+sockets_held host = length host.sockets
+
+abbrev pub IsHost : Text → List Host → Type 0
+IsHost name hosts = IsSome (place_of name hosts)
+
+-- a host of this name is there, and the host of each tick
+pub record AreKnown (hosts : List Host) (name : Text) (ticks : List Text) : Type 0 where
+  pub host : IsHost name hosts
+  pub inside : are_ticks_of hosts ticks ≡ true
+
+-- Its names are known, the name of a new host is not, and a host has room for what it gets.
+abbrev pub HasNames : LineKind → List Host → List Text → Type 0
+HasNames line.Host hosts words = place_of (word 1 words) hosts ≡ None
+HasNames line.Group hosts words = IsRoomAt (word 1 words) groups_held most_groups hosts
+HasNames line.Vlan hosts words = IsRoomAt (word 1 words) vlans_held most_vlans hosts
+HasNames line.Socket hosts words = IsRoomAt (word 1 words) sockets_held most_sockets hosts
+HasNames line.Send hosts words = AreKnown hosts (word 1 (call_words words)) (tick_words words)
+HasNames line.Recv hosts words = AreKnown hosts (word 1 (call_words words)) (tick_words words)
+HasNames line.Interrupt hosts words = AreKnown hosts (word 1 (call_words words)) (tick_words words)
+HasNames line.Tick hosts words = IsSome (tick_of hosts (word 1 words))
+HasNames line.Feed hosts words = IsHost (word 1 words) hosts
+HasNames line.Auto hosts words = Unit {0}
+
+-- What sets up comes before the first event.
+abbrev pub sets_up : LineKind → Bool
+sets_up line.Host = true
+sets_up line.Group = true
+sets_up line.Vlan = true
+sets_up line.Socket = true
+sets_up _ = false
+
+abbrev pub HasOrder : LineKind → List Said → Type 0
+HasOrder kind commands = sets_up kind ≡ true → length commands ≡ 0
+
+-- a host with these options, no groups, all VLANs and no sockets
+abbrev pub host_with : (name : Text) (address : List ℕ) (wire : Text) (options : HostOptions) → Host
+host_with name address wire options = record {
+  name = name;
+  wire = wire;
+  image = image_with address;
+  link = options.link;
+  config = record {
+    rx = options.rx;
+    tx = options.tx;
+    buffers = options.buffers;
+    rxa = options.rxa;
+    promiscuous = options.promiscuous;
+    groups = record { items = [] };
+    vlans = None;
+  };
+  sockets = [];
+}
+
+-- the host that a line makes
+abbrev pub new_host : List Text → Host
+new_host words = host_with (word 1 words) (address_in (word 2 words)) (word 3 words) (options_asked (uses_in (option_words words)))
+
+abbrev pub with_group : List ℕ → Host → Host
+with_group group host = record host { config = record host.config { groups = record { items = host.config.groups.items ++ group ∷ [] } } }
+
+abbrev pub with_vlan : ℕ → Host → Host
+with_vlan vlan host =
+    record host { config = record host.config { vlans = Some (record { items = vlans_of host.config.vlans ++ vlan ∷ [] }) } }
+
+abbrev pub with_socket : SocketKind → Host → Host
+with_socket kind host = record host { sockets = host.sockets ++ kind ∷ [] }
+
+-- the first host that passes, changed
+abbrev pub changed_first : (Host → Bool) → (Host → Host) → List Host → List Host
+changed_first test change [] = []
+changed_first test change (host ∷ hosts) = if test host then change host ∷ hosts else host ∷ changed_first test change hosts
+
+abbrev pub with_hosts : List Host → SoFar → SoFar
+with_hosts hosts before = record before { hosts = hosts }
+
+-- the host of this name is changed
+abbrev pub changing : Text → (Host → Host) → SoFar → SoFar
+changing name change before = with_hosts (changed_first (has_name name) change before.hosts) before
+
+-- one command more
+abbrev pub saying : Said → SoFar → SoFar
+saying said before = record before { commands = before.commands ++ said ∷ [] }
+
+-- the number of the host of this name
+abbrev pub number_of : Text → List Host → ℕ
+number_of name hosts = unwrap_or (place_of name hosts) 0
+
+abbrev pub number_read : Text → ℕ
+number_read text = digits_value 10 text
+
+-- what a good line changes
+abbrev pub after_line : LineKind → SoFar → List Text → SoFar
+after_line line.Host before words = with_hosts (before.hosts ++ new_host words ∷ []) before
+after_line line.Group before words = changing (word 1 words) (with_group (address_in (word 2 words))) before
+after_line line.Vlan before words = changing (word 1 words) (with_vlan (number_read (word 2 words))) before
+after_line line.Socket before words =
+    changing (word 1 words) (with_socket (unwrap_or (socket_in (word 2 words)) socket.All)) before
+after_line line.Send before words =
+    saying
+    (Sends (number_of (word 1 (call_words words)) before.hosts) (frame_in (word 2 (call_words words)))
+    (ticks_in before.hosts (tick_words words)))
+    before
+after_line line.Recv before words =
+    saying
+    (Receives (number_of (word 1 (call_words words)) before.hosts) (number_read (word 2 (call_words words)))
+    (ticks_in before.hosts (tick_words words)))
+    before
+after_line line.Interrupt before words =
+    saying (Interrupts (number_of (word 1 (call_words words)) before.hosts) (ticks_in before.hosts (tick_words words))) before
+after_line line.Tick before words = saying (Ticks (unwrap_or (tick_of before.hosts (word 1 words)) tick.Go)) before
+after_line line.Feed before words =
+    let fed = saying (Feeds (number_of (word 1 words) before.hosts) (length before.traces)) before in
+    record fed { traces = before.traces ++ word 2 words ∷ [] }
+after_line line.Auto before words = saying (Draws (number_read (word 1 words)) (number_read (word 2 words))) before

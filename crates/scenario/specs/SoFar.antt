@@ -1,0 +1,81 @@
+-- What a text has said so far (own).
+use Rattle.std.specs.Prelude.{ℕ, Bool, List, [], Option, String, map, position, string_bytes}
+use Rattle.std.specs.Str.{bytes_eq}
+use Rattle.std.specs.declared.alloc.Global.{Global}
+use Rattle.bring_up.specs.declared.config.Config.{Config}
+use Rattle.mdic_phy.specs.declared.phy.Link.{Link}
+use Rattle.network_events.specs.declared.event.Event.{Event}
+use Rattle.network_events.specs.declared.event.Event.TheVariants as event
+use Rattle.network_plan.specs.declared.plan.HostPlan.{HostPlan}
+use Rattle.packet_socket.specs.declared.socket_kind.SocketKind.{SocketKind}
+use Rattle.stations.specs.declared.tick.Tick.{Tick}
+use Rattle.scenario.specs.Words.{Text}
+use Rattle.scenario.specs.declared.command.Command.{Command}
+use Rattle.scenario.specs.declared.command.Command.TheVariants as command
+use Rattle.scenario.specs.declared.command.Scenario.{Scenario}
+
+-- a host of the plan, without where its names lie in memory
+pub record Host : Type 0 where
+  pub name : Text
+  pub wire : Text
+  pub image : List ℕ
+  pub link : Link
+  pub config : Config
+  pub sockets : List SocketKind
+
+abbrev pub host_of : HostPlan → Host
+host_of plan = record {
+  name = string_bytes plan.name;
+  wire = string_bytes plan.wire;
+  image = plan.image;
+  link = plan.link;
+  config = plan.config;
+  sockets = plan.sockets.items;
+}
+
+-- a command, without where its frame and its ticks lie in memory
+pub data Said : Type 0 where
+  Sends : (host : ℕ) (frame : List ℕ) (ticks : List Tick) → Said
+  Receives : (host socket : ℕ) (ticks : List Tick) → Said
+  Interrupts : (host : ℕ) (ticks : List Tick) → Said
+  Ticks : (tick : Tick) → Said
+  Feeds : (host trace : ℕ) → Said
+  Draws : (count start : ℕ) → Said
+
+abbrev pub event_of : Event → Said
+event_of (event.Send host frame ticks) = Sends host frame.items ticks.items
+event_of (event.Recv host socket ticks) = Receives host socket ticks.items
+event_of (event.Interrupt host ticks) = Interrupts host ticks.items
+event_of (event.Tick tick) = Ticks tick
+
+abbrev pub said_of : Command → Said
+said_of (command.Event one) = event_of one
+said_of (command.Feed host trace) = Feeds host trace
+said_of (command.Auto count start) = Draws count start
+
+-- hosts, commands and names of traces so far
+pub record SoFar : Type 0 where
+  pub hosts : List Host
+  pub commands : List Said
+  pub traces : List Text
+
+abbrev pub hosts_of : List HostPlan → List Host
+hosts_of plans = map host_of plans
+
+abbrev pub so_far : Scenario → SoFar
+so_far scenario = record {
+  hosts = hosts_of scenario.plan.hosts.items;
+  commands = map said_of scenario.commands.items;
+  traces = map (λ (name : String Global). string_bytes name) scenario.traces.items;
+}
+
+-- Before the first line there is nothing.
+abbrev pub nothing : SoFar
+nothing = record { hosts = []; commands = []; traces = [] }
+
+abbrev pub has_name : Text → Host → Bool
+has_name name host = bytes_eq host.name name
+
+-- the number of the host of this name, if there is one
+abbrev pub place_of : Text → List Host → Option ℕ
+place_of name hosts = position (has_name name) hosts

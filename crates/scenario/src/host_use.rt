@@ -1,0 +1,275 @@
+// The options of a `host` line.
+
+ghost use Rattle.std.specs.Prelude.{◌≡◌, ◌∷◌, ◌≤◌, ◌↔◌, All, IfOk, IsTrue, count_by, drop, length};
+ghost use Rattle.scenario.specs.HostOptions as options;
+ghost use Rattle.scenario.specs.Words.{texts};
+
+use crate::spelling::{number8_of, number16_of};
+use mdic_phy::Link;
+use std::alloc::{AllocError, Global};
+
+/// The options of a `host` line.
+#[derive(Clone, Copy, Debug, PartialEq, Eq)]
+pub(crate) enum OptionKind {
+    /// `rx N`: how many receive descriptors there are.
+    Rx,
+    /// `tx N`: how many transmit descriptors there are.
+    Tx,
+    /// `buffers N`: how many receive buffers there are.
+    Buffers,
+    /// `rxa N`: how many kilobytes of the packet buffer frames from the wire have.
+    Rxa,
+    /// `link N` or `link never`: when the link comes up.
+    Link,
+    /// `promiscuous`: every frame passes the filter.
+    Promiscuous,
+}
+
+/// A word of a `host` line behind the wire, with the value that follows it.
+#[derive(Clone, Copy, Debug, PartialEq, Eq)]
+pub(crate) enum HostUse {
+    /// No option.
+    Unknown,
+    /// An option that lacks its value.
+    Lone(OptionKind),
+    /// An option whose value doesn't read as its kind.
+    Unread(OptionKind),
+    /// `rx` with its value.
+    Rx(u16),
+    /// `tx` with its value.
+    Tx(u16),
+    /// `buffers` with its value.
+    Buffers(u16),
+    /// `rxa` with its value.
+    Rxa(u8),
+    /// `link` with its value.
+    Link(Link),
+    /// `promiscuous`.
+    Promiscuous,
+}
+
+/// What the options of a `host` line ask for.
+#[derive(Clone, Copy, Debug, PartialEq, Eq)]
+pub(crate) struct HostOptions {
+    pub(crate) rx: u16,
+    pub(crate) tx: u16,
+    pub(crate) buffers: u16,
+    pub(crate) rxa: u8,
+    pub(crate) link: Link,
+    pub(crate) promiscuous: bool,
+}
+
+/// What stands where no option says otherwise.
+const DEFAULTS: HostOptions = HostOptions {
+    rx: 8,
+    tx: 8,
+    buffers: 16,
+    rxa: 48,
+    link: Link::After(1),
+    promiscuous: false,
+};
+
+impl OptionKind {
+    /// This option with a value.
+    fn with_value(self, value: &str) -> HostUse
+        ensures { result ≡ options.use_of self value.now }
+    {
+        let read = match self {
+            OptionKind::Rx => number16_of(value).map(HostUse::Rx),
+            OptionKind::Tx => number16_of(value).map(HostUse::Tx),
+            OptionKind::Buffers => number16_of(value).map(HostUse::Buffers),
+            OptionKind::Rxa => number8_of(value).map(HostUse::Rxa),
+            OptionKind::Link => link_of(value).map(HostUse::Link),
+            OptionKind::Promiscuous => Some(HostUse::Promiscuous),
+        };
+        read.unwrap_or(HostUse::Unread(self))
+    }
+
+    /// This option without a value.
+    fn without_value(self) -> HostUse
+        ensures { result ≡ options.lone_use self }
+    {
+        match self {
+            OptionKind::Promiscuous => HostUse::Promiscuous,
+            kind => HostUse::Lone(kind),
+        }
+    }
+
+    /// Whether a value follows it.
+    fn takes_value(self) -> bool
+        ensures { result ≡ options.takes_value self }
+    {
+        match self {
+            OptionKind::Promiscuous => false,
+            _ => true,
+        }
+    }
+
+    /// Whether it is the other.
+    fn is(self, other: OptionKind) -> bool
+        ensures { result ≡ options.is_same self other }
+    {
+        self == other
+    }
+}
+
+impl HostUse {
+    /// The option that is used.
+    fn kind(&self) -> Option<OptionKind>
+        ensures { result ≡ options.kind_of_use self.now }
+    {
+        match *self {
+            HostUse::Unknown => None,
+            HostUse::Lone(kind) => Some(kind),
+            HostUse::Unread(kind) => Some(kind),
+            HostUse::Rx(_) => Some(OptionKind::Rx),
+            HostUse::Tx(_) => Some(OptionKind::Tx),
+            HostUse::Buffers(_) => Some(OptionKind::Buffers),
+            HostUse::Rxa(_) => Some(OptionKind::Rxa),
+            HostUse::Link(_) => Some(OptionKind::Link),
+            HostUse::Promiscuous => Some(OptionKind::Promiscuous),
+        }
+    }
+
+    /// Whether this option is used.
+    fn is_of(&self, kind: OptionKind) -> bool
+        ensures { result ≡ options.is_of kind self.now }
+    {
+        match self.kind() {
+            Some(own) => own.is(kind),
+            None => false,
+        }
+    }
+
+    /// Whether it has its value, where it takes one.
+    fn is_whole(&self) -> bool
+        ensures { result ≡ options.is_whole self.now }
+    {
+        !matches!(self, HostUse::Lone(_))
+    }
+
+    /// Whether it is an option, and its value reads as its kind.
+    fn is_read(&self) -> bool
+        ensures { result ≡ options.is_read self.now }
+    {
+        !matches!(self, HostUse::Unknown | HostUse::Unread(_))
+    }
+}
+
+impl HostOptions {
+    /// The same, with one more option used.
+    fn with_use(self, one: HostUse) -> HostOptions
+        ensures { result ≡ options.with_use self one }
+    {
+        match one {
+            HostUse::Rx(rx) => HostOptions { rx, ..self },
+            HostUse::Tx(tx) => HostOptions { tx, ..self },
+            HostUse::Buffers(buffers) => HostOptions { buffers, ..self },
+            HostUse::Rxa(rxa) => HostOptions { rxa, ..self },
+            HostUse::Link(link) => HostOptions { link, ..self },
+            HostUse::Promiscuous => HostOptions {
+                promiscuous: true,
+                ..self
+            },
+            _ => self,
+        }
+    }
+}
+
+/// When a link comes up.
+fn link_of(value: &str) -> Option<Link>
+    ensures { result ≡ options.link_in value.now }
+{
+    if value == "never" {
+        return Some(Link::Never);
+    }
+    Some(Link::After(number16_of(value)?))
+}
+
+/// The option of this name.
+fn option_of(word: &str) -> Option<OptionKind>
+    ensures { result ≡ options.option_named word.now }
+{
+    match word {
+        "rx" => Some(OptionKind::Rx),
+        "tx" => Some(OptionKind::Tx),
+        "buffers" => Some(OptionKind::Buffers),
+        "rxa" => Some(OptionKind::Rxa),
+        "link" => Some(OptionKind::Link),
+        "promiscuous" => Some(OptionKind::Promiscuous),
+        _ => None,
+    }
+}
+
+/// What a word uses, and how many of the words behind it that takes.
+fn first_use(word: &str, behind: &[&str]) -> (HostUse, usize)
+    ensures first { options.uses_in (word.now ∷ texts behind.now)
+        ≡ result.0 ∷ options.uses_in (texts (drop result.1 behind.now)) }
+    ensures taken { result.1 ≤ length behind.now }
+{
+    let Some(kind) = option_of(word) else {
+        return (HostUse::Unknown, 0);
+    };
+    if !kind.takes_value() {
+        return (kind.without_value(), 0);
+    }
+    match behind.first() {
+        Some(value) => (kind.with_value(value), 1),
+        None => (kind.without_value(), 0),
+    }
+}
+
+/// What the words behind the wire use.
+pub(crate) fn uses_of(alloc: Global, words: &[&str]) -> Result<Vec<HostUse>, AllocError>
+    ensures { IfOk result (λ uses. uses.items ≡ options.uses_in (texts words.now)) }
+{
+    let mut uses = Vec::new(alloc);
+    let mut place = 0;
+    while place < words.len() {
+        let (one, taken) = first_use(words[place], &words[place + 1..]);
+        uses.push(one)?;
+        place += 1 + taken;
+    }
+    Ok(uses)
+}
+
+/// Whether an option is used at most once.
+fn is_once(uses: &[HostUse], kind: OptionKind) -> bool
+    ensures { IsTrue result ↔ (count_by (options.is_of kind) uses.now ≤ 1) }
+{
+    uses.iter().filter(|one| one.is_of(kind)).count() <= 1
+}
+
+/// Whether each option is used at most once.
+fn are_once(uses: &[HostUse]) -> bool
+    ensures { IsTrue result ↔ options.AreOnce uses.now }
+{
+    is_once(uses, OptionKind::Rx)
+        && is_once(uses, OptionKind::Tx)
+        && is_once(uses, OptionKind::Buffers)
+        && is_once(uses, OptionKind::Rxa)
+        && is_once(uses, OptionKind::Link)
+        && is_once(uses, OptionKind::Promiscuous)
+}
+
+/// Whether each option has its value, and is used at most once.
+pub(crate) fn are_counted(uses: &[HostUse]) -> bool
+    ensures { IsTrue result ↔ options.AreCounted uses.now }
+{
+    uses.iter().all(|one| one.is_whole()) && are_once(uses)
+}
+
+/// Whether each word is an option, and its value reads as its kind.
+pub(crate) fn are_read(uses: &[HostUse]) -> bool
+    ensures { IsTrue result ↔ options.AreRead uses.now }
+{
+    uses.iter().all(|one| one.is_read())
+}
+
+/// What options ask for.
+pub(crate) fn options_of(uses: &[HostUse]) -> HostOptions
+    ensures { result ≡ options.options_asked uses.now }
+{
+    uses.iter()
+        .fold(DEFAULTS, |options, one| options.with_use(*one))
+}

@@ -1,0 +1,64 @@
+// The reading of one line.
+
+ghost use Rattle.std.specs.Prelude.{◌≡◌};
+ghost use Rattle.scenario.specs.Answers.{IsAnswer, IsLineAnswer};
+ghost use Rattle.scenario.specs.SoFar.{so_far};
+ghost use Rattle.scenario.specs.Words.{texts};
+
+use crate::command::Scenario;
+use crate::event_line::{read_auto, read_feed, read_interrupt, read_recv, read_send, read_tick};
+use crate::line_kind::{LineKind, kind_of};
+use crate::refusal::{Fault, Stop};
+use crate::setup_line::{read_group, read_host, read_socket, read_vlan};
+use crate::text::words_in;
+use std::alloc::Global;
+use std::str;
+
+/// How many bytes a line has at most (own).
+const MOST_LINE_BYTES: usize = 8192;
+
+/// Reads the words of a line of this kind.
+fn read_kind(
+    alloc: Global,
+    scenario: &mut Scenario,
+    kind: LineKind,
+    words: &[&str],
+) -> Result<(), Stop>
+    ensures { IsAnswer kind (so_far scenario.old) (texts words.now) result (so_far scenario.new) }
+{
+    match kind {
+        LineKind::Host => read_host(alloc, scenario, words),
+        LineKind::Group => read_group(scenario, words),
+        LineKind::Vlan => read_vlan(scenario, words),
+        LineKind::Socket => read_socket(scenario, words),
+        LineKind::Send => read_send(alloc, scenario, words),
+        LineKind::Recv => read_recv(alloc, scenario, words),
+        LineKind::Interrupt => read_interrupt(alloc, scenario, words),
+        LineKind::Tick => read_tick(scenario, words),
+        LineKind::Feed => read_feed(alloc, scenario, words),
+        LineKind::Auto => read_auto(scenario, words),
+    }
+}
+
+/// Reads a line.
+pub(crate) fn read_line(alloc: Global, scenario: &mut Scenario, line: &[u8]) -> Result<(), Stop>
+    ensures { IsLineAnswer (so_far scenario.old) line.now result (so_far scenario.new) }
+{
+    if line.len() > MOST_LINE_BYTES {
+        return Err(Stop::Fault(Fault::Long));
+    }
+    let Ok(line) = str::from_utf8(line) else {
+        return Err(Stop::Fault(Fault::Text));
+    };
+    let words = words_in(alloc, line)?;
+    let Some(first) = words.first() else {
+        return Ok(());
+    };
+    if first.starts_with('#') {
+        return Ok(());
+    }
+    let Some(kind) = kind_of(first) else {
+        return Err(Stop::Fault(Fault::Word));
+    };
+    read_kind(alloc, scenario, kind, words.as_slice())
+}

@@ -1,0 +1,98 @@
+//! Why a text was refused.
+
+ghost use Rattle.std.specs.Prelude.{◌≡◌};
+ghost use Rattle.scenario.specs.declared.refusal.Stop.TheVariants as stop;
+
+use std::alloc::{AllocError, AllocFailed};
+use thiserror::Error;
+
+/// What is wrong with a line. Of several faults the first in this order is told, but that [`Long`](Fault::Long) and
+/// then [`Text`](Fault::Text) come before all others.
+#[derive(Clone, Copy, Debug, PartialEq, Eq, Error)]
+pub enum Fault {
+    /// Its first word isn't known.
+    #[error("E50 Word")]
+    Word,
+    /// It has too few words, or too many, or an option twice.
+    #[error("E51 Count")]
+    Count,
+    /// A word doesn't read as what stands there.
+    #[error("E52 Value")]
+    Value,
+    /// A host that it names isn't known, a host's name is taken, or a host has no room for another socket, group or
+    /// VLAN.
+    #[error("E53 Name")]
+    Name,
+    /// It sets something up, and an event stands before it.
+    #[error("E54 Order")]
+    Order,
+    /// It has more than 8,192 bytes.
+    #[error("E55 Long")]
+    Long,
+    /// It isn't UTF-8.
+    #[error("E56 Text")]
+    Text,
+}
+
+/// Why a text was refused.
+#[derive(Clone, Copy, Debug, PartialEq, Eq, Error)]
+pub enum Refusal {
+    /// This line, numbered from 1, is the first that is faulty.
+    #[error("line {line}: {fault}")]
+    Line {
+        /// The number of the line.
+        line: usize,
+        /// What is wrong with it.
+        fault: Fault,
+    },
+    /// Memory was refused.
+    #[error("E57 Memory")]
+    Memory,
+}
+
+/// Why a line wasn't read.
+#[derive(Clone, Copy, Debug, PartialEq, Eq)]
+pub(crate) enum Stop {
+    /// It is faulty.
+    Fault(Fault),
+    /// Memory was refused.
+    Memory,
+}
+
+impl Stop {
+    ghost use Rattle.scenario.specs.Stops.{refusal_at};
+
+    /// Why a text was refused, of which this line wasn't read.
+    pub(crate) fn at(self, line: usize) -> Refusal
+        ensures { result ≡ refusal_at line self }
+    {
+        match self {
+            Stop::Fault(fault) => Refusal::Line { line, fault },
+            Stop::Memory => Refusal::Memory,
+        }
+    }
+}
+
+impl From<Fault> for Stop {
+    ghost from_gives = { λ fault stopped. stopped ≡ stop.Fault fault };
+
+    fn from(fault: Fault) -> Stop {
+        Stop::Fault(fault)
+    }
+}
+
+impl From<AllocError> for Stop {
+    ghost from_gives = { λ _ stopped. stopped ≡ stop.Memory };
+
+    fn from(_error: AllocError) -> Stop {
+        Stop::Memory
+    }
+}
+
+impl<T: Drop> From<AllocFailed<T>> for Stop {
+    ghost from_gives = { λ _ stopped. stopped ≡ stop.Memory };
+
+    fn from(_error: AllocFailed<T>) -> Stop {
+        Stop::Memory
+    }
+}

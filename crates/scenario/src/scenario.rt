@@ -1,0 +1,101 @@
+// The reading of a text.
+
+ghost use Rattle.std.specs.Prelude.{◌≡◌, ◌∷◌, ◌<◌, ◌≤◌, IfErr, IfOk, IfSome, drop, length, position};
+ghost use Rattle.std.specs.List.{position_or_len};
+ghost use Rattle.std.specs.Str.Lines.{lines, strip_carriage_return};
+ghost use Rattle.scenario.specs.Answers.{IsRead, IsRefused};
+ghost use Rattle.scenario.specs.SoFar.{nothing, so_far};
+ghost use Rattle.scenario.specs.Words.{is_feed};
+
+use crate::command::Scenario;
+use crate::line::read_line;
+use crate::refusal::Refusal;
+use network_plan::Plan;
+use std::alloc::Global;
+
+/// The first line feed, if there is one.
+fn first_feed(text: &[u8]) -> Option<usize>
+    ensures place { result ≡ position is_feed text.now }
+    ensures within { IfSome result (λ place. place < length text.now) }
+{
+    text.iter().position(|byte| *byte == b'\n')
+}
+
+/// How many bytes stand before the first line feed.
+#[tactic(auto, using(crate::proofs::TextLines::feed_found, crate::proofs::TextLines::feed_missing))]
+fn line_end(text: &[u8]) -> usize
+    ensures end { result ≡ position_or_len is_feed text.now }
+    ensures within { result ≤ length text.now }
+{
+    match first_feed(text) {
+        Some(end) => end,
+        None => text.len(),
+    }
+}
+
+/// A line without the carriage return at its end, if it has one.
+fn without_return(line: &[u8]) -> &[u8]
+    ensures { result.now ≡ strip_carriage_return line.now }
+{
+    let end = match line.last() {
+        Some(b'\r') => line.len() - 1,
+        _ => line.len(),
+    };
+    let (kept, _) = line.split_at(end);
+    kept
+}
+
+/// The first line of a text, and how many bytes it takes with its end.
+fn first_line(text: &[u8]) -> (&[u8], usize)
+    requires { 0 < length text.now }
+    ensures first { lines text.now ≡ result.0.now ∷ lines (drop result.1 text.now) }
+    ensures taken { 0 < result.1 }
+    ensures within { result.1 ≤ length text.now }
+{
+    let end = line_end(text);
+    if end == text.len() {
+        return (text, end);
+    }
+    let (line, _) = text.split_at(end);
+    (without_return(line), end + 1)
+}
+
+/// A scenario that says nothing.
+fn empty_scenario(alloc: Global) -> Scenario
+    ensures { so_far result ≡ nothing }
+{
+    Scenario {
+        plan: Plan {
+            hosts: Vec::new(alloc),
+        },
+        commands: Vec::new(alloc),
+        traces: Vec::new(alloc),
+    }
+}
+
+impl Scenario {
+    /// Reads a text.
+    ///
+    /// # Errors
+    ///
+    /// [`Line`](Refusal::Line) for the first line that is faulty, with the first of its [faults](crate::Fault), and
+    /// [`Memory`](Refusal::Memory) where memory was refused.
+    pub fn read(alloc: Global, text: &[u8]) -> Result<Scenario, Refusal>
+        ensures read { IfOk result (λ scenario. IsRead text.now (so_far scenario)) }
+        ensures refused { IfErr result (IsRefused text.now) }
+    {
+        let mut scenario = empty_scenario(alloc);
+        let mut start = 0;
+        let mut line = 0;
+        while start < text.len() {
+            let (_, rest) = text.split_at(start);
+            let (bytes, taken) = first_line(rest);
+            line += 1;
+            match read_line(alloc, &mut scenario, bytes) {
+                Ok(()) => start += taken,
+                Err(stop) => return Err(stop.at(line)),
+            }
+        }
+        Ok(scenario)
+    }
+}

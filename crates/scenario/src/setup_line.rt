@@ -1,0 +1,123 @@
+// The lines that set up: hosts, and what they get.
+
+ghost use Rattle.std.specs.Prelude.{◌≡◌, IfErr, IfOk, OnOk, length};
+ghost use Rattle.scenario.specs.Answers.{IsAnswer, IsFaulty, IsGood};
+ghost use Rattle.scenario.specs.Meanings.{new_host};
+ghost use Rattle.scenario.specs.SoFar.{host_of, so_far};
+ghost use Rattle.scenario.specs.Stops.{IfFault};
+ghost use Rattle.scenario.specs.Words.{texts};
+ghost use Rattle.scenario.specs.declared.line_kind.LineKind.TheVariants as line;
+ghost use Rattle.scenario.specs.declared.refusal.Fault.TheVariants as fault;
+
+use crate::command::Scenario;
+use crate::host_change::{add_group, add_socket, add_vlan, new_host};
+use crate::host_use::{are_counted, are_read, options_of, uses_of};
+use crate::refusal::{Fault, Stop};
+use crate::spelling::{address_of, number16_of, socket_of};
+use crate::text::{HOST_WORDS, option_words, word_at};
+use crate::tick_word::host_named;
+use network_plan::HostPlan;
+use std::alloc::Global;
+
+/// How many words a line has that gives a host something.
+const GIFT_WORDS: usize = 3;
+
+/// Looks whether something may still be set up.
+fn check_order(scenario: &Scenario) -> Result<(), Fault>
+    ensures ok { OnOk result (length (so_far scenario.now).commands ≡ 0) }
+    ensures err { IfErr result (λ stopped. (stopped ≡ fault.Order) × (¬ (length (so_far scenario.now).commands ≡ 0))) }
+{
+    if scenario.commands.is_empty() {
+        Ok(())
+    } else {
+        Err(Fault::Order)
+    }
+}
+
+/// The host of a line `host NAME ADDRESS WIRE`, and options.
+fn host_in(alloc: Global, scenario: &Scenario, words: &[&str]) -> Result<HostPlan, Stop>
+    ensures good { OnOk result (IsGood line.Host (so_far scenario.now) (texts words.now)) }
+    ensures host { IfOk result (λ host. host_of host ≡ new_host (texts words.now)) }
+    ensures err { IfErr result (λ stop. IfFault stop (IsFaulty line.Host (so_far scenario.now) (texts words.now))) }
+{
+    if words.len() < HOST_WORDS {
+        return Err(Stop::Fault(Fault::Count));
+    }
+    let uses = uses_of(alloc, option_words(words))?;
+    if !are_counted(uses.as_slice()) {
+        return Err(Stop::Fault(Fault::Count));
+    }
+    let Some(address) = address_of(word_at(words, 2)) else {
+        return Err(Stop::Fault(Fault::Value));
+    };
+    if !are_read(uses.as_slice()) {
+        return Err(Stop::Fault(Fault::Value));
+    }
+    if host_named(scenario.plan.hosts.as_slice(), word_at(words, 1)).is_some() {
+        return Err(Stop::Fault(Fault::Name));
+    }
+    check_order(scenario)?;
+    let options = options_of(uses.as_slice());
+    let host = new_host(
+        alloc,
+        word_at(words, 1),
+        address,
+        word_at(words, 3),
+        options,
+    )?;
+    Ok(host)
+}
+
+/// `host NAME ADDRESS WIRE`, and options.
+pub(crate) fn read_host(alloc: Global, scenario: &mut Scenario, words: &[&str]) -> Result<(), Stop>
+    ensures { IsAnswer line.Host (so_far scenario.old) (texts words.now) result (so_far scenario.new) }
+{
+    let host = host_in(alloc, scenario, words)?;
+    scenario.plan.hosts.push(host)?;
+    Ok(())
+}
+
+/// `group HOST ADDRESS`.
+pub(crate) fn read_group(scenario: &mut Scenario, words: &[&str]) -> Result<(), Stop>
+    ensures { IsAnswer line.Group (so_far scenario.old) (texts words.now) result (so_far scenario.new) }
+{
+    if words.len() != GIFT_WORDS {
+        return Err(Stop::Fault(Fault::Count));
+    }
+    let Some(group) = address_of(word_at(words, 2)) else {
+        return Err(Stop::Fault(Fault::Value));
+    };
+    add_group(scenario.plan.hosts.as_mut_slice(), word_at(words, 1), group)?;
+    check_order(scenario)?;
+    Ok(())
+}
+
+/// `vlan HOST N`.
+pub(crate) fn read_vlan(scenario: &mut Scenario, words: &[&str]) -> Result<(), Stop>
+    ensures { IsAnswer line.Vlan (so_far scenario.old) (texts words.now) result (so_far scenario.new) }
+{
+    if words.len() != GIFT_WORDS {
+        return Err(Stop::Fault(Fault::Count));
+    }
+    let Some(vlan) = number16_of(word_at(words, 2)) else {
+        return Err(Stop::Fault(Fault::Value));
+    };
+    add_vlan(scenario.plan.hosts.as_mut_slice(), word_at(words, 1), vlan)?;
+    check_order(scenario)?;
+    Ok(())
+}
+
+/// `socket HOST N` and `socket HOST all`.
+pub(crate) fn read_socket(scenario: &mut Scenario, words: &[&str]) -> Result<(), Stop>
+    ensures { IsAnswer line.Socket (so_far scenario.old) (texts words.now) result (so_far scenario.new) }
+{
+    if words.len() != GIFT_WORDS {
+        return Err(Stop::Fault(Fault::Count));
+    }
+    let Some(kind) = socket_of(word_at(words, 2)) else {
+        return Err(Stop::Fault(Fault::Value));
+    };
+    add_socket(scenario.plan.hosts.as_mut_slice(), word_at(words, 1), kind)?;
+    check_order(scenario)?;
+    Ok(())
+}

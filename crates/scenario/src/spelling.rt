@@ -1,0 +1,109 @@
+// What words spell: numbers, addresses, frames and EtherTypes.
+
+ghost use Rattle.std.specs.Prelude.{◌≡◌, IfErr, IfOk};
+ghost use Rattle.std.specs.Option.{SomeIff};
+ghost use Rattle.scenario.specs.Spellings.{IsAddress, IsFrame, address_in, ether_type_in, frame_in};
+ghost use Rattle.scenario.specs.Spellings.{number_in, socket_in};
+ghost use Rattle.scenario.specs.Stops.{IfFault};
+ghost use Rattle.scenario.specs.declared.refusal.Fault.TheVariants as faults;
+
+use crate::refusal::{Fault, Stop};
+use hex::FromHexError;
+use packet_socket::SocketKind;
+use std::alloc::Global;
+
+/// How many digits a frame has at most (own).
+const MOST_FRAME_DIGITS: usize = 8000;
+
+/// How many digits the number of a socket has (own).
+const ETHER_TYPE_DIGITS: usize = 4;
+
+const HEXADECIMAL: u32 = 16;
+
+/// The number that decimal digits alone spell, of 64 bits.
+
+pub(crate) fn number_of(text: &str) -> Option<u64>
+    ensures { result ≡ number_in 10 64 text.now }
+{
+    if text.starts_with('+') {
+        return None;
+    }
+    text.parse::<u64>().ok()
+}
+
+/// The same of 32 bits.
+pub(crate) fn number32_of(text: &str) -> Option<u32>
+    ensures { result ≡ number_in 10 32 text.now }
+{
+    u32::try_from(number_of(text)?).ok()
+}
+
+/// The same of 16 bits.
+pub(crate) fn number16_of(text: &str) -> Option<u16>
+    ensures { result ≡ number_in 10 16 text.now }
+{
+    u16::try_from(number_of(text)?).ok()
+}
+
+/// The same of 8 bits.
+pub(crate) fn number8_of(text: &str) -> Option<u8>
+    ensures { result ≡ number_in 10 8 text.now }
+{
+    u8::try_from(number_of(text)?).ok()
+}
+
+/// The number of 16 bits that hexadecimal digits alone spell.
+fn hexadecimal_of(text: &str) -> Option<u16>
+    ensures { result ≡ number_in 16 16 text.now }
+{
+    if text.starts_with('+') {
+        return None;
+    }
+    u16::from_str_radix(text, HEXADECIMAL).ok()
+}
+
+/// The number that four hexadecimal digits spell.
+fn ether_type_of(text: &str) -> Option<u16>
+    ensures { result ≡ ether_type_in text.now }
+{
+    if text.len() != ETHER_TYPE_DIGITS {
+        return None;
+    }
+    hexadecimal_of(text)
+}
+
+/// Which frames a socket takes: `all`, or those of the number that four hexadecimal digits spell.
+pub(crate) fn socket_of(text: &str) -> Option<SocketKind>
+    ensures { result ≡ socket_in text.now }
+{
+    if text == "all" {
+        return Some(SocketKind::All);
+    }
+    Some(SocketKind::Ether(ether_type_of(text)?))
+}
+
+/// The address that six pairs of hexadecimal digits spell, joined by colons.
+pub(crate) fn address_of(text: &str) -> Option<[u8; 6]>
+    ensures { SomeIff result (IsAddress text.now) (address_in text.now) }
+{
+    command_line::spelling::address_of(text)
+}
+
+/// The bytes that pairs of hexadecimal digits spell.
+///
+/// # Errors
+///
+/// [`Value`](Fault::Value) where there are other digits, an odd number of them, or more than 8,000.
+pub(crate) fn frame_of(alloc: Global, text: &str) -> Result<Vec<u8>, Stop>
+    ensures ok { IfOk result (λ frame. IsFrame text.now × (frame.items ≡ frame_in text.now)) }
+    ensures err { IfErr result (λ stop. IfFault stop (λ fault. (fault ≡ faults.Value) × (¬ IsFrame text.now))) }
+{
+    if text.len() > MOST_FRAME_DIGITS {
+        return Err(Stop::Fault(Fault::Value));
+    }
+    match hex::decode(alloc, text) {
+        Ok(bytes) => Ok(bytes),
+        Err(FromHexError::OutOfMemory) => Err(Stop::Memory),
+        Err(_) => Err(Stop::Fault(Fault::Value)),
+    }
+}

@@ -1,0 +1,87 @@
+// The words that spell ticks.
+
+ghost use Rattle.std.specs.Prelude.{◌≡◌, ◌<◌, IfSome, length};
+ghost use Rattle.scenario.specs.SoFar.{has_name, host_of, hosts_of, place_of};
+ghost use Rattle.scenario.specs.TickWords as words;
+
+use adapter::StepKind;
+use network_plan::HostPlan;
+use stations::Tick;
+
+/// The kinds of a host's ticks.
+#[derive(Clone, Copy, Debug, PartialEq, Eq)]
+pub(crate) enum TickKind {
+    /// Its adapter takes this step.
+    Step(StepKind),
+    /// The oldest frame that waits at its end of the wire is delivered.
+    Deliver,
+}
+
+impl TickKind {
+    /// The tick of a host.
+    fn at(self, host: usize) -> Tick
+        ensures { result ≡ words.tick_at self host }
+    {
+        match self {
+            TickKind::Step(kind) => Tick::Step(host, kind),
+            TickKind::Deliver => Tick::Deliver(host),
+        }
+    }
+}
+
+/// The kind of ticks that has this name.
+fn tick_kind_of(word: &str) -> Option<TickKind>
+    ensures { result ≡ words.tick_kind_named word.now }
+{
+    match word {
+        "txtake" => Some(TickKind::Step(StepKind::TxTake)),
+        "txput" => Some(TickKind::Step(StepKind::TxPut)),
+        "rxdata" => Some(TickKind::Step(StepKind::RxData)),
+        "rxdone" => Some(TickKind::Step(StepKind::RxDone)),
+        "eeprom" => Some(TickKind::Step(StepKind::EepromTick)),
+        "phy" => Some(TickKind::Step(StepKind::PhyTick)),
+        "deliver" => Some(TickKind::Deliver),
+        _ => None,
+    }
+}
+
+/// Whether a host has this name.
+fn is_named(host: &HostPlan, name: &str) -> bool
+    ensures { result ≡ has_name name.now (host_of host.now) }
+{
+    host.name.as_str() == name
+}
+
+/// The number of the host of this name.
+pub(crate) fn host_named(hosts: &[HostPlan], name: &str) -> Option<usize>
+    ensures place { result ≡ place_of name.now (hosts_of hosts.now) }
+    ensures there { IfSome result (λ host. host < length hosts.now) }
+{
+    hosts.iter().position(|host| is_named(host, name))
+}
+
+/// Whether a word spells a tick, of any host.
+pub(crate) fn is_tick(word: &str) -> bool
+    ensures { result ≡ words.is_tick word.now }
+{
+    if word == "go" {
+        return true;
+    }
+    match word.split_once(':') {
+        Some((kind, _)) => tick_kind_of(kind).is_some(),
+        None => false,
+    }
+}
+
+/// The tick that a word spells, where its kind and its host are known.
+pub(crate) fn tick_of(hosts: &[HostPlan], word: &str) -> Option<Tick>
+    ensures { result ≡ words.tick_of (hosts_of hosts.now) word.now }
+{
+    if word == "go" {
+        return Some(Tick::Go);
+    }
+    let (kind, name) = word.split_once(':')?;
+    let kind = tick_kind_of(kind)?;
+    let host = host_named(hosts, name)?;
+    Some(kind.at(host))
+}
