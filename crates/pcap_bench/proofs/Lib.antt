@@ -1,5 +1,6 @@
 mod Choices
 mod Lanes
 mod Passes
+mod Shown
 mod Steps
 mod Writes

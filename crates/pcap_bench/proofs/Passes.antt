@@ -9,7 +9,7 @@ use Rattle.std.proofs.lemmas.List.Sums.{sum_by_push}
 use Rattle.descriptors.specs.Frames.{padded, is_sendable}
 use Rattle.pcap_trace.specs.Devices.{AppendsFront, Grows}
 use Rattle.pcap_trace.specs.Format.{Timed, packet_of, written, file_header}
-use Rattle.pcap_trace.proofs.Sent.{take-past}
+use Rattle.pcap_trace.proofs.Flushed.{flushed, flushed_front}
 use Rattle.pcap_trace.proofs.Packets.{written-push}
 use Rattle.pcap_bench.specs.Passing.{Filter, Fate, illegal, filtered, kept, IsFate, HaveFates, is_illegal, is_filtered, is_kept, kept_from}
 use Rattle.pcap_bench.specs.Passing.{StopsAmong}
@@ -42,44 +42,6 @@ kept_from-push keeps n (g ∷ gs) (kept ∷ us) f t right =
 
 count_by-push : (p : Fate → Bool) (ts : List Fate) (t : Fate) → count_by p (ts ++ t ∷ []) ≡ count_by p ts + cond (p t) 1 0
 count_by-push p ts t = sum_by_push (λ x. cond (p x) 1 0) ts t
-
--- ---- what waits goes out
-
-flushed : (before mid after : Option (List ℕ)) (waiting all : List ℕ) → Appends before (append_known mid waiting) all
-    → Appends mid after waiting → Appends before after all
-flushed None mid after waiting all h k = tt
-flushed (Some xs) None after waiting all h k = absurd h
-flushed (Some xs) (Some ys) None waiting all h k = absurd k
-flushed (Some xs) (Some ys) (Some zs) waiting all h k = k ∙ h
-
--- a front of what waits, behind what went before it, is a front of all
-front_of : (n : ℕ) (xs ys waiting all : List ℕ) → ys ++ waiting ≡ xs ++ all → length xs ≤ length ys → (m : ℕ)
-    × (ys ++ take n waiting ≡ xs ++ take m all)
-front_of n xs ys waiting all is longer =
-    let w = take n waiting in
-    let m = length (ys ++ w) - length xs in
-    let split : waiting ≡ w ++ drop n waiting = sym (take-append-drop n waiting) in
-    let whole : xs ++ all ≡ (ys ++ w) ++ drop n waiting = sym is ∙ ap (λ (t : List ℕ). ys ++ t) split
-    ∙ sym (append_assoc ys w (drop n waiting)) in
-    let len : length (ys ++ w) ≡ length xs + m = omega (arith, length-append ys w) in
-    let left : take (length (ys ++ w)) (xs ++ all) ≡ ys ++ w = ap (take (length (ys ++ w))) whole
-    ∙ take_at (ys ++ w) (drop n waiting) (length (ys ++ w)) refl in
-    let right : take (length xs + m) (xs ++ all) ≡ xs ++ take m all = take-past m xs all in
-    (m, sym left ∙ ap (λ (k : ℕ). take k (xs ++ all)) len ∙ right)
-
-flushed_front : (before mid after : Option (List ℕ)) (waiting all : List ℕ) → Grows before mid
-    → Appends before (append_known mid waiting) all → AppendsFront mid after waiting → AppendsFront before after all
-flushed_front None mid after waiting all grown h k = (0, tt)
-flushed_front (Some xs) None after waiting all grown h k = absurd h
-flushed_front (Some xs) (Some ys) None waiting all grown h k = absurd k.1
-flushed_front (Some xs) (Some ys) (Some zs) waiting all grown h k =
-    let longer : length xs ≤ length ys = omega (arith, ap length grown.1, length-append xs grown.0) in
-    let f = front_of k.0 xs ys waiting all h longer in
-    (f.0, k.1 ∙ f.1)
-
-waits : (a : Option (List ℕ)) (more : List ℕ) → Appends a (append_known a more) (more ++ [])
-waits None more = tt
-waits (Some xs) more = ap (λ (t : List ℕ). xs ++ t) (sym (append-nil more))
 
 -- ---- the loop of a call
 
@@ -198,13 +160,3 @@ SoFar-stops keeps frames rest next dropped turned_away out before mid after wait
 -- nothing was written
 pub StopsAmong-start : (keeps : Filter) (frames : List (List ℕ)) (before : Option (List ℕ)) → StopsAmong keeps frames before before
 StopsAmong-start keeps frames before = record { count = 0; fates = []; right = tt; went = (0, Appends-nil before) }
-
-pub Grows-none : (a : Option (List ℕ)) → Grows a a
-Grows-none a = ([], Appends-nil a)
-
-pub Grows-more : (a b c : Option (List ℕ)) → Grows a b → Grows b c → Grows a c
-Grows-more a b c g h = (g.0 ++ h.0, Appends-trans a b c g.0 h.0 g.1 h.1)
-
--- the file header waits
-pub header_waits : (a : Option (List ℕ)) (waiting : List ℕ) → waiting ≡ file_header → Appends a (append_known a waiting) (written [])
-header_waits a waiting is = subst (λ (w : List ℕ). Appends a (append_known a w) (written [])) (sym is) (waits a file_header)

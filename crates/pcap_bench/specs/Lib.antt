@@ -4,3 +4,4 @@ pub mod Lane
 pub mod Options
 pub mod Passing
 pub mod Printing
+pub mod Showing

@@ -5,8 +5,8 @@ use Rattle.descriptors.specs.Frames.{padded, is_sendable}
 use Rattle.pcap_trace.specs.Devices.{AppendsFront}
 use Rattle.pcap_trace.specs.Format.{Timed, written}
 use Rattle.pcap_bench.specs.declared.counts.PassCounts.{PassCounts}
-use Rattle.pcap_bench.specs.declared.program_error.BenchError.{BenchError}
-use Rattle.pcap_bench.specs.declared.program_error.BenchError.TheVariants.{Memory, Write}
+use Rattle.pcap_bench.specs.declared.program_error.PassError.{PassError}
+use Rattle.pcap_bench.specs.declared.program_error.PassError.TheVariants.{Memory, Write}
 
 -- which padded frames a filter keeps
 abbrev pub Filter : Type 1
@@ -75,6 +75,6 @@ pub record StopsAmong (keeps : Filter) (frames : List (List ℕ)) (before after 
   pub went : AppendsFront before after (written (kept_from 0 (take count frames) fates))
 
 -- Want of memory comes before anything is written; a failed write is counted by the sink.
-abbrev pub StopsBy : BenchError → Option (List ℕ) → Option (List ℕ) → ℕ → ℕ → Type 0
+abbrev pub StopsBy : PassError → Option (List ℕ) → Option (List ℕ) → ℕ → ℕ → Type 0
 StopsBy Memory before after old new = (after ≡ before) × (new ≡ old)
 StopsBy Write before after old new = new ≡ old + 1

@@ -9,6 +9,7 @@ mod printing;
 mod program_error;
 #[cfg(test)]
 mod readme;
+mod showing;
 mod slots;
 #[cfg(test)]
 mod tests;
@@ -21,4 +22,5 @@ pub use pcap_trace::{
     WriteError, WriterSink,
 };
 pub use printing::print_pass;
-pub use program_error::{BenchError, ProgramError};
+pub use program_error::{PassError, ProgramError};
+pub use showing::show;

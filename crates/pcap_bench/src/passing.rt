@@ -10,7 +10,7 @@ ghost use Rattle.pcap_bench.specs.Lane.{slot_bytes, HasFrame, IsWaiting};
 
 use crate::counts::PassCounts;
 use crate::lane::ReceiveLane;
-use crate::program_error::BenchError;
+use crate::program_error::PassError;
 use command_line::PassFilter;
 use descriptors::{LONGEST_SENDABLE, SHORTEST_SENDABLE};
 use pcap_trace::{RecordWriter, Sink, Trace, WriteError};
@@ -71,7 +71,7 @@ pub fn pass_watched<W: Sink, L: Watch>(
     trace: &Trace,
     filter: &PassFilter,
     sink: &mut W,
-) -> Result<PassCounts, BenchError>
+) -> Result<PassCounts, PassError>
     requires sound { W.failures sink.old < u64.MAX }
     requires vlan { HasVlanNumber filter.now }
     ensures ok { IfOk result
@@ -119,14 +119,14 @@ pub fn pass_watched<W: Sink, L: Watch>(
 ///
 /// # Errors
 ///
-/// E57 [`Memory`](BenchError::Memory) where memory is refused, before anything is written; E67
-/// [`Write`](BenchError::Write) where the sink fails during the call, and then a beginning of the text went out.
+/// E57 [`Memory`](PassError::Memory) where memory is refused, before anything is written; E67
+/// [`Write`](PassError::Write) where the sink fails during the call, and then a beginning of the text went out.
 pub fn pass<W: Sink>(
     alloc: Global,
     trace: &Trace,
     filter: &PassFilter,
     sink: &mut W,
-) -> Result<PassCounts, BenchError>
+) -> Result<PassCounts, PassError>
     requires sound { W.failures sink.old < u64.MAX }
     requires vlan { HasVlanNumber filter.now }
     ensures ok { IfOk result

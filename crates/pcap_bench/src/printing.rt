@@ -2,7 +2,7 @@
 ghost use Rattle.std.specs.Prelude.{◌≡◌, ◌<◌, ◌≤◌, ◌+◌, ◌++◌, length, OnOk, OnErr};
 ghost use Rattle.std.specs.Io.KnownBytes.{Appends};
 ghost use Rattle.pcap_trace.specs.Devices.{AppendsFront, CountsFailures};
-ghost use Rattle.pcap_bench.specs.Printing.{field, pass_line};
+ghost use Rattle.pcap_bench.specs.Printing.{cut_word, field, pass_line};
 
 use crate::counts::PassCounts;
 use arrayvec::ArrayVec;
@@ -12,10 +12,11 @@ use pcap_trace::{Sink, Trace, WriteError, write_all};
 /// Room for the longest line: five labels and numbers, of at most 60 bytes each, and the word of the cut.
 const LONGEST_LINE: usize = 320;
 
-type Line = ArrayVec<u8, LONGEST_LINE>;
+/// A line that is put together.
+pub(crate) type Line = ArrayVec<u8, LONGEST_LINE>;
 
 /// Appends a label and a number.
-fn push_field(line: &mut Line, label: &[u8], number: u64)
+pub(crate) fn push_field(line: &mut Line, label: &[u8], number: u64)
     requires label { length label.now ≤ 20 }
     requires room { length line.old.items + 60 ≤ 320 }
     ensures text { line.new.items ≡ line.old.items ++ field label.now number }
@@ -25,6 +26,15 @@ fn push_field(line: &mut Line, label: &[u8], number: u64)
     let digits = buffer.format(number).as_bytes();
     line.try_extend_from_slice(label).unwrap();
     line.try_extend_from_slice(digits).unwrap();
+}
+
+/// Appends the word of the cut, and ends the line.
+pub(crate) fn push_cut(line: &mut Line, cut: bool)
+    requires room { length line.old.items + 9 ≤ 320 }
+    ensures text { line.new.items ≡ line.old.items ++ cut_word cut }
+{
+    let word: &[u8] = if cut { b" cut yes\n" } else { b" cut no\n" };
+    line.try_extend_from_slice(word).unwrap();
 }
 
 /// Writes the program's line of a pass to a sink: `read R skipped K illegal I filtered F written W cut no` (or `cut
@@ -45,11 +55,6 @@ pub fn print_pass<W: Sink>(
     push_field(&mut line, b" illegal ", counts.illegal);
     push_field(&mut line, b" filtered ", counts.filtered);
     push_field(&mut line, b" written ", counts.written);
-    let cut: &[u8] = if trace.cut {
-        b" cut yes\n"
-    } else {
-        b" cut no\n"
-    };
-    line.try_extend_from_slice(cut).unwrap();
+    push_cut(&mut line, trace.cut);
     write_all(sink, line.as_slice())
 }

@@ -1,8 +1,8 @@
 //! What can go wrong on the way of a trace through the bench, and what the program says then.
 ghost use Rattle.std.specs.Prelude.{◌≡◌};
-ghost use Rattle.pcap_bench.specs.declared.program_error.BenchError.TheVariants as bench_errors;
+ghost use Rattle.pcap_bench.specs.declared.program_error.PassError.TheVariants as pass_errors;
 ghost use Rattle.pcap_bench.specs.declared.program_error.ProgramError.TheVariants as errors;
-ghost use Rattle.pcap_bench.specs.ProgramErrors.{bench_status, status_of};
+ghost use Rattle.pcap_bench.specs.ProgramErrors.{pass_status, status_of};
 
 use pcap_trace::{ReadError, WriteError};
 use std::alloc::AllocError;
@@ -16,7 +16,7 @@ const NO_MEMORY: u8 = 4;
 
 /// Why frames did not go through.
 #[derive(Clone, Copy, Debug, PartialEq, Eq, Error)]
-pub enum BenchError {
+pub enum PassError {
     /// Memory was refused; nothing was written.
     #[error("E57 Memory")]
     Memory,
@@ -25,31 +25,31 @@ pub enum BenchError {
     Write,
 }
 
-impl BenchError {
+impl PassError {
     /// The exit status of a program that ends for this fault: 3 for a sink that failed, 4 for want of memory.
     pub fn status(&self) -> u8
-        ensures { result ≡ bench_status self.now }
+        ensures { result ≡ pass_status self.now }
     {
         match self {
-            BenchError::Write => FILE_FAILED,
-            BenchError::Memory => NO_MEMORY,
+            PassError::Write => FILE_FAILED,
+            PassError::Memory => NO_MEMORY,
         }
     }
 }
 
-impl From<AllocError> for BenchError {
-    ghost from_gives = { λ _ e. e ≡ bench_errors.Memory };
+impl From<AllocError> for PassError {
+    ghost from_gives = { λ _ e. e ≡ pass_errors.Memory };
 
-    fn from(_error: AllocError) -> BenchError {
-        BenchError::Memory
+    fn from(_error: AllocError) -> PassError {
+        PassError::Memory
     }
 }
 
-impl From<WriteError> for BenchError {
-    ghost from_gives = { λ _ e. e ≡ bench_errors.Write };
+impl From<WriteError> for PassError {
+    ghost from_gives = { λ _ e. e ≡ pass_errors.Write };
 
-    fn from(_error: WriteError) -> BenchError {
-        BenchError::Write
+    fn from(_error: WriteError) -> PassError {
+        PassError::Write
     }
 }
 
@@ -64,7 +64,7 @@ pub enum ProgramError {
     Write(WriteError),
     /// Frames did not go through the bench.
     #[error("{0}")]
-    Bench(BenchError),
+    Pass(PassError),
     /// A file could not be opened or made.
     #[error("E68 Open")]
     Open,
@@ -78,7 +78,7 @@ impl ProgramError {
         match self {
             ProgramError::Read(error) => error.status(),
             ProgramError::Write(error) => error.status(),
-            ProgramError::Bench(error) => error.status(),
+            ProgramError::Pass(error) => error.status(),
             ProgramError::Open => FILE_FAILED,
         }
     }
@@ -100,10 +100,10 @@ impl From<WriteError> for ProgramError {
     }
 }
 
-impl From<BenchError> for ProgramError {
-    ghost from_gives = { λ e f. f ≡ errors.Bench e };
+impl From<PassError> for ProgramError {
+    ghost from_gives = { λ e f. f ≡ errors.Pass e };
 
-    fn from(error: BenchError) -> ProgramError {
-        ProgramError::Bench(error)
+    fn from(error: PassError) -> ProgramError {
+        ProgramError::Pass(error)
     }
 }

@@ -5,8 +5,8 @@ ghost use Rattle.pcap_bench.specs.Options.{HasVlanNumber};
 use crate::lane::ReceiveLane;
 use crate::passing::{Watch, pass_watched};
 use crate::{
-    BenchError, DeviceError, Frames, PassCounts, PassFilter, ProgramError, ReadError, Sink,
-    SliceSource, Trace, VecSink, WriteError, pass, print_pass,
+    DeviceError, Frames, PassCounts, PassError, PassFilter, ProgramError, ReadError, Sink,
+    SliceSource, Trace, VecSink, WriteError, pass, print_pass, show,
 };
 use bitflags::Flags;
 use descriptors::{RxDesc, RxStatus};
@@ -257,6 +257,49 @@ fn a_skipped_and_a_cut_packet_are_told(rt: HostRuntime) -> Result<(), Fail> {
     check_line(&rt, &trace, &counts, want.as_slice())
 }
 
+/// Asserts what is shown of a trace.
+fn check_shown<R: Abort + AllocGlobal>(rt: &R, trace: &Trace, want: &[u8]) -> Result<(), Fail> {
+    let mut text = VecSink::new(rt.alloc());
+    show(trace, &mut text)?;
+    assert_eq!(rt; text.bytes(), want);
+    Ok(())
+}
+
+#[test]
+fn a_frame_is_shown(rt: HostRuntime) -> Result<(), Fail> {
+    let trace = trace_of_beginnings(
+        rt.alloc(),
+        &[[2, 0, 0, 0, 0, 2, 2, 0, 0, 0, 0, 1, 8, 0, 0, 0]],
+    )?;
+    let want = b"0 60 02:00:00:00:00:02 02:00:00:00:00:01 0800\nframes 1 skipped 0 cut no\n";
+    check_shown(&rt, &trace, want.as_slice())
+}
+
+#[test]
+fn a_frame_without_a_whole_header_is_shown_as_short(rt: HostRuntime) -> Result<(), Fail> {
+    let header = [
+        0x01, 0x23, 0x45, 0x67, 0x89, 0xab, 0xcd, 0xef, 0xfe, 0xdc, 0xba, 0x98, 0x76, 0x54,
+    ];
+    let mut frames = Frames::new(rt.alloc());
+    frames.push(&header[..13])?;
+    frames.push(&header)?;
+    frames.push(&[])?;
+    let want =
+        b"0 13 short\n1 14 01:23:45:67:89:ab cd:ef:fe:dc:ba:98 7654\n2 0 short\nframes 3 skipped 0 cut no\n";
+    check_shown(&rt, &whole_trace(frames), want.as_slice())
+}
+
+#[test]
+fn skipped_and_cut_packets_are_shown(rt: HostRuntime) -> Result<(), Fail> {
+    let trace = Trace {
+        frames: Frames::new(rt.alloc()),
+        skipped: 18_446_744_073_709_551_615,
+        cut: true,
+    };
+    let want = b"frames 0 skipped 18446744073709551615 cut yes\n";
+    check_shown(&rt, &trace, want.as_slice())
+}
+
 /// A sink that takes so many writes, and fails at each further one.
 #[derive(Drop)]
 struct FailingSink {
@@ -308,10 +351,35 @@ fn each_write_fails_in_turn(rt: HostRuntime) -> Result<(), Fail> {
         let went = sink.taken.bytes();
         assert_eq!(rt; Some(went), whole.bytes().get(..went.len()));
         if writes_left < 3 {
-            assert_eq!(rt; answer, Err(BenchError::Write));
+            assert_eq!(rt; answer, Err(PassError::Write));
             assert_eq!(rt; sink.failures, 1);
         } else {
             assert!(rt; answer.is_ok());
+            assert_eq!(rt; went.len(), whole.bytes().len());
+        }
+    }
+    Ok(())
+}
+
+#[test]
+fn each_line_fails_in_turn(rt: HostRuntime) -> Result<(), Fail> {
+    let trace = trace_of(rt.alloc(), &[13, 14, 1518])?;
+    let mut whole = VecSink::new(rt.alloc());
+    show(&trace, &mut whole)?;
+    for writes_left in 0..5 {
+        let mut sink = FailingSink {
+            taken: VecSink::new(rt.alloc()),
+            writes_left,
+            failures: 0,
+        };
+        let answer = show(&trace, &mut sink);
+        let went = sink.taken.bytes();
+        assert_eq!(rt; Some(went), whole.bytes().get(..went.len()));
+        if writes_left < 4 {
+            assert_eq!(rt; answer, Err(WriteError::Write));
+            assert!(rt; went.len() < whole.bytes().len());
+        } else {
+            assert_eq!(rt; answer, Ok(()));
             assert_eq!(rt; went.len(), whole.bytes().len());
         }
     }
@@ -325,8 +393,8 @@ fn memory_may_be_refused(rt: HostRuntime) -> Result<(), Fail> {
     let mut sink = VecSink::new(rt.alloc());
     match pass(rt.alloc(), &trace, &PassFilter::default(), &mut sink) {
         Ok(counts) => assert_eq!(rt; counts.written, 2),
-        Err(BenchError::Memory) => assert_eq!(rt; sink.bytes().len(), 0),
-        Err(BenchError::Write) => assert!(rt; sink.failures() == 1),
+        Err(PassError::Memory) => assert_eq!(rt; sink.bytes().len(), 0),
+        Err(PassError::Write) => assert!(rt; sink.failures() == 1),
     }
     Ok(())
 }
@@ -338,8 +406,8 @@ fn faults_have_texts_and_statuses(rt: HostRuntime) -> Result<(), Fail> {
         (ProgramError::Read(ReadError::Memory), "E65 Memory", 4),
         (ProgramError::Read(ReadError::Read), "E66 Read", 3),
         (ProgramError::Write(WriteError::Write), "E67 Write", 3),
-        (ProgramError::Bench(BenchError::Memory), "E57 Memory", 4),
-        (ProgramError::Bench(BenchError::Write), "E67 Write", 3),
+        (ProgramError::Pass(PassError::Memory), "E57 Memory", 4),
+        (ProgramError::Pass(PassError::Write), "E67 Write", 3),
         (ProgramError::Open, "E68 Open", 3),
     ];
     for (fault, text, status) in &faults {

@@ -4,6 +4,7 @@ mod Bodies
 mod Cuts
 mod FileHeaders
 mod FirstOf
+pub mod Flushed
 mod Going
 mod Orders
 pub mod Packets

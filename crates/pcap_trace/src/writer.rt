@@ -44,6 +44,14 @@ impl RecordWriter {
         Ok(RecordWriter { block })
     }
 
+    /// Begins another trace: the file header waits, and nothing else. What waited before is gone.
+    pub fn begin(&mut self)
+        ensures { self.new ≡ file_header }
+    {
+        self.block.clear();
+        self.block.extend_from_slice(&file_header()).unwrap();
+    }
+
     /// Appends the packet of a frame of at most 1,518 bytes, at a time in microseconds. Where the block has no room
     /// for it, what waits goes to the sink first.
     ///

@@ -2,8 +2,8 @@
 ghost use Rattle.std.specs.Prelude.{◌≡◌, ◌<◌};
 
 use super::fixtures::{
-    FIRST, SECOND, SlowSink, SlowSource, TIMES, counts, long_packets, record, two_frames,
-    two_packets,
+    FIRST, SECOND, SlowSink, SlowSource, TIMES, counts, long_packets, record, same, same_at,
+    two_frames, two_packets,
 };
 use crate::{
     ReadError, ReaderSource, RecordWriter, Sink, Source, Trace, VecSink, WriteError, WriterSink,
@@ -33,16 +33,17 @@ fn each_read_fails(rt: HostRuntime) -> Result<(), Fail> {
         for failing in 1..=reads {
             let mut source = slow(&bytes, 1_000, most, failing);
             let answer = counts(rt.alloc(), &mut source);
-            assert_eq!(rt;
-                answer,
-                Err(ReadError::Read),
-                "read {failing} of {most} bytes"
+            same_at(
+                &rt,
+                &answer,
+                &Err(ReadError::Read),
+                &("read  of  bytes", failing, most),
             );
-            assert_eq!(rt; source.failures(), 1);
+            same(&rt, &source.failures(), &1);
         }
         let mut source = slow(&bytes, 1_000, most, reads + 1);
-        assert_eq!(rt; counts(rt.alloc(), &mut source), Ok((2, 0, false)));
-        assert_eq!(rt; source.failures(), 0);
+        same(&rt, &counts(rt.alloc(), &mut source), &Ok((2, 0, false)));
+        same(&rt, &source.failures(), &0);
     }
     Ok(())
 }
@@ -51,7 +52,7 @@ fn each_read_fails(rt: HostRuntime) -> Result<(), Fail> {
 #[test]
 fn limits_are_kept(rt: HostRuntime) -> Result<(), Fail> {
     let bytes = two_frames(rt.alloc())?;
-    assert_eq!(rt; bytes.len(), 176);
+    same(&rt, &bytes.len(), &176);
     for (limit, want, left) in [
         (23, Err(ReadError::Header), 0),
         (24, Ok((0, 0, false)), 0),
@@ -62,12 +63,22 @@ fn limits_are_kept(rt: HostRuntime) -> Result<(), Fail> {
         (200, Ok((2, 0, false)), 24),
     ] {
         let mut source = slow(&bytes, limit, 50, 0);
-        assert_eq!(rt; counts(rt.alloc(), &mut source), want, "limit {limit}");
+        same_at(
+            &rt,
+            &counts(rt.alloc(), &mut source),
+            &want,
+            &("limit", limit),
+        );
         let mut source = ReaderSource::new(bytes.as_slice(), limit);
-        assert_eq!(rt; source.limit(), limit);
-        assert_eq!(rt; counts(rt.alloc(), &mut source), want, "limit {limit}");
-        assert_eq!(rt; source.limit(), left);
-        assert_eq!(rt; source.failures(), 0);
+        same(&rt, &source.limit(), &limit);
+        same_at(
+            &rt,
+            &counts(rt.alloc(), &mut source),
+            &want,
+            &("limit", limit),
+        );
+        same(&rt, &source.limit(), &left);
+        same(&rt, &source.failures(), &0);
     }
     Ok(())
 }
@@ -80,15 +91,19 @@ fn each_write_of_a_trace_fails(rt: HostRuntime) -> Result<(), Fail> {
     let packets = two_packets(rt.alloc())?;
     for failing in 1..=176 {
         let mut sink = SlowSink::new(rt.alloc(), 1, failing);
-        assert_eq!(rt; Trace::write(&mut sink, &packets), Err(WriteError::Write));
-        assert_eq!(rt; sink.failures(), 1);
-        assert_eq!(rt; sink.text.len() as u64 + 1, failing);
+        same(
+            &rt,
+            &Trace::write(&mut sink, &packets),
+            &Err(WriteError::Write),
+        );
+        same(&rt, &sink.failures(), &1);
+        same(&rt, &(sink.text.len() as u64 + 1), &failing);
         assert!(rt; whole.starts_with(&sink.text), "write {failing}");
     }
     let mut sink = SlowSink::new(rt.alloc(), 1, 177);
-    assert_eq!(rt; Trace::write(&mut sink, &packets), Ok(()));
-    assert_eq!(rt; sink.failures(), 0);
-    assert_eq!(rt; sink.text.as_slice(), whole.as_slice());
+    same(&rt, &Trace::write(&mut sink, &packets), &Ok(()));
+    same(&rt, &sink.failures(), &0);
+    same(&rt, &sink.text.as_slice(), &whole.as_slice());
     Ok(())
 }
 
@@ -103,9 +118,9 @@ fn each_write_of_a_flush_fails(rt: HostRuntime) -> Result<(), Fail> {
         writer.write(&mut sink, TIMES[1], &SECOND)?;
         let answer = writer.flush(&mut sink);
         let fails = failing <= 176;
-        assert_eq!(rt; answer.is_err(), fails, "write {failing}");
-        assert_eq!(rt; sink.failures(), u64::from(fails));
-        assert_eq!(rt; sink.text.len() as u64 + 1, failing);
+        same_at(&rt, &answer.is_err(), &fails, &("write", failing));
+        same(&rt, &sink.failures(), &u64::from(fails));
+        same(&rt, &(sink.text.len() as u64 + 1), &failing);
         assert!(rt; whole.starts_with(&sink.text), "write {failing}");
     }
     Ok(())
@@ -123,10 +138,10 @@ fn each_write_of_a_long_trace_fails(rt: HostRuntime) -> Result<(), Fail> {
         let mut writer = RecordWriter::new(rt.alloc())?;
         let answer = record(&mut writer, &mut sink, &packets);
         let fails = failing <= 8;
-        assert_eq!(rt; answer.is_err(), fails, "write {failing}");
-        assert_eq!(rt; sink.failures(), u64::from(fails));
+        same_at(&rt, &answer.is_err(), &fails, &("write", failing));
+        same(&rt, &sink.failures(), &u64::from(fails));
         assert!(rt; whole.bytes().starts_with(&sink.text), "write {failing}");
-        assert_eq!(rt; sink.text.len() == 69_054, !fails);
+        same(&rt, &(sink.text.len() == 69_054), &!fails);
     }
     Ok(())
 }
@@ -144,23 +159,27 @@ impl io::Read for Broken {
 #[test]
 fn readers_and_writers_of_the_system(rt: HostRuntime) -> Result<(), Fail> {
     let mut source = ReaderSource::new(Broken, 1_000);
-    assert_eq!(rt; counts(rt.alloc(), &mut source), Err(ReadError::Read));
-    assert_eq!(rt; source.failures(), 1);
-    assert_eq!(rt; source.limit(), 1_000);
+    same(&rt, &counts(rt.alloc(), &mut source), &Err(ReadError::Read));
+    same(&rt, &source.failures(), &1);
+    same(&rt, &source.limit(), &1_000);
 
     let want = two_frames(rt.alloc())?;
     let packets = two_packets(rt.alloc())?;
     let mut text = Vec::new(rt.alloc());
     let mut sink = WriterSink::new(&mut text);
-    assert_eq!(rt; Trace::write(&mut sink, &packets), Ok(()));
-    assert_eq!(rt; sink.failures(), 0);
-    assert_eq!(rt; text.as_slice(), want.as_slice());
+    same(&rt, &Trace::write(&mut sink, &packets), &Ok(()));
+    same(&rt, &sink.failures(), &0);
+    same(&rt, &text.as_slice(), &want.as_slice());
 
     // A slice of 100 bytes takes no more.
     let mut room = [0; 100];
     let mut sink = WriterSink::new(&mut room[..]);
-    assert_eq!(rt; Trace::write(&mut sink, &packets), Err(WriteError::Write));
-    assert_eq!(rt; sink.failures(), 1);
+    same(
+        &rt,
+        &Trace::write(&mut sink, &packets),
+        &Err(WriteError::Write),
+    );
+    same(&rt, &sink.failures(), &1);
     assert!(rt; want.starts_with(&room));
     Ok(())
 }

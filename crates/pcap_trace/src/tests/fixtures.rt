@@ -7,6 +7,8 @@ use crate::trace::Trace;
 use crate::writer::RecordWriter;
 use descriptors::Frame;
 use std::alloc::{AllocError, Global};
+use std::fmt::Debug;
+use std::process::Abort;
 
 /// Little-endian, microseconds, version 2.4, snapshot length 65,535, Ethernet.
 pub const HEADER: [u8; 24] = [
@@ -207,4 +209,14 @@ impl Sink for SlowSink {
     fn failures(&self) -> u64 {
         self.failures
     }
+}
+
+/// Asserts that a value is as it has to be, and shows both where it isn't: one proof for all of its calls.
+pub fn same<T: PartialEq + Debug>(rt: &impl Abort, shown: &T, wanted: &T) {
+    assert_eq!(rt; shown, wanted);
+}
+
+/// Asserts that a value is as it has to be, and shows both and the place where it isn't.
+pub fn same_at<T: PartialEq + Debug, P: Debug>(rt: &impl Abort, shown: &T, wanted: &T, place: &P) {
+    assert_eq!(rt; shown, wanted, "at {place:?}");
 }

@@ -2,7 +2,7 @@
 
 use super::fixtures::{
     BIG_HEADER, BIG_NANOSECONDS, BIG_SMALL, FIRST, HEADER, NANOSECONDS, SECOND, SMALL, counts,
-    two_frames, with,
+    same, same_at, two_frames, with,
 };
 use crate::{DeviceError, Frames, ReadError, SliceSource, Source, Trace, WriteError};
 use std::alloc::Global;
@@ -27,18 +27,18 @@ fn a_skipped_packet_and_a_cut_one(rt: HostRuntime) {
         let mut source = SliceSource::new(&bytes);
         match Trace::read(rt.alloc(), &mut source) {
             Ok(trace) => {
-                assert_eq!(rt; trace.frames.len(), 1);
+                same(&rt, &trace.frames.len(), &1);
                 assert!(rt; !trace.frames.is_empty());
                 let mut frames = trace.frames.iter();
-                assert_eq!(rt; frames.next(), Some(&SMALL[40..54]));
+                same(&rt, &frames.next(), &Some(&SMALL[40..54]));
                 assert!(rt; frames.next().is_none());
-                assert_eq!(rt; trace.skipped, 1);
+                same(&rt, &trace.skipped, &1);
                 assert!(rt; trace.cut);
-                assert_eq!(rt; source.limit(), 0);
+                same(&rt, &source.limit(), &0);
             }
-            Err(error) => assert_eq!(rt; error, ReadError::Memory),
+            Err(error) => same(&rt, &error, &ReadError::Memory),
         }
-        assert_eq!(rt; source.failures(), 0);
+        same(&rt, &source.failures(), &0);
     }
 }
 
@@ -49,29 +49,29 @@ fn frames_are_kept_in_order(rt: HostRuntime) {
     assert!(rt; frames.is_empty());
     let given = [&FIRST[..], &[], &SECOND[..1]];
     for (count, frame) in given.iter().enumerate() {
-        assert_eq!(rt; frames.len(), count);
+        same(&rt, &frames.len(), &count);
         if frames.push(frame).is_err() {
-            assert_eq!(rt; frames.len(), count);
+            same(&rt, &frames.len(), &count);
             break;
         }
     }
     for (found, frame) in frames.iter().zip(given) {
-        assert_eq!(rt; found, frame);
+        same(&rt, &found, &frame);
     }
 }
 
 #[test]
 fn a_bare_header_and_an_empty_file(rt: HostRuntime) {
-    assert_eq!(rt; read(rt.alloc(), &HEADER), Ok((0, 0, false)));
-    assert_eq!(rt; read(rt.alloc(), &BIG_HEADER), Ok((0, 0, false)));
-    assert_eq!(rt; read(rt.alloc(), &[]), Err(ReadError::Header));
+    same(&rt, &read(rt.alloc(), &HEADER), &Ok((0, 0, false)));
+    same(&rt, &read(rt.alloc(), &BIG_HEADER), &Ok((0, 0, false)));
+    same(&rt, &read(rt.alloc(), &[]), &Err(ReadError::Header));
 }
 
 /// A trace of two frames that was cut behind each of its bytes.
 #[test]
 fn each_beginning_of_a_trace(rt: HostRuntime) -> Result<(), Fail> {
     let bytes = two_frames(rt.alloc())?;
-    assert_eq!(rt; bytes.len(), 176);
+    same(&rt, &bytes.len(), &176);
     for length in 0..=176 {
         let want = match length {
             0..24 => Err(ReadError::Header),
@@ -81,10 +81,11 @@ fn each_beginning_of_a_trace(rt: HostRuntime) -> Result<(), Fail> {
             101..176 => Ok((1, 0, true)),
             _ => Ok((2, 0, false)),
         };
-        assert_eq!(rt;
-            read(rt.alloc(), &bytes[..length]),
-            want,
-            "of {length} bytes"
+        same_at(
+            &rt,
+            &read(rt.alloc(), &bytes[..length]),
+            &want,
+            &("of  bytes", length),
         );
     }
     Ok(())
@@ -99,14 +100,16 @@ fn check_fault<R: Abort + AllocGlobal>(
     want: ReadError,
 ) -> Result<(), Fail> {
     let header = with(from, place, bytes);
-    assert_eq!(rt;
-        read(rt.alloc(), &header),
-        Err(want),
-        "{bytes:?} at {place}"
+    same_at(
+        rt,
+        &read(rt.alloc(), &header),
+        &Err(want),
+        &("at", bytes, place),
     );
-    assert_eq!(rt;
-        read(rt.alloc(), header.get(..23).ok_or("23 bytes")?),
-        Err(ReadError::Header)
+    same(
+        rt,
+        &read(rt.alloc(), header.get(..23).ok_or("23 bytes")?),
+        &Err(ReadError::Header),
     );
     Ok(())
 }
@@ -163,7 +166,7 @@ fn faults_of_the_big_endian_file_header(rt: HostRuntime) -> Result<(), Fail> {
 fn ignored_words_of_the_file_header(rt: HostRuntime) {
     for from in [HEADER, BIG_HEADER] {
         let ignored = with(&from, 8, &[9; 12]);
-        assert_eq!(rt; read(rt.alloc(), &ignored), Ok((0, 0, false)));
+        same(&rt, &read(rt.alloc(), &ignored), &Ok((0, 0, false)));
     }
 }
 
@@ -181,28 +184,33 @@ fn with_lengths(link_type: u8, captured: u32, original: u32) -> [u8; 40] {
 #[test]
 fn longest_packets(rt: HostRuntime) -> Result<(), Fail> {
     let oversized = with_lengths(1, 262_145, 262_145);
-    assert_eq!(rt; read(rt.alloc(), &oversized), Err(ReadError::Record));
-    assert_eq!(rt;
-        read(rt.alloc(), oversized.get(..39).ok_or("39 bytes")?),
-        Ok((0, 0, true))
+    same(&rt, &read(rt.alloc(), &oversized), &Err(ReadError::Record));
+    same(
+        &rt,
+        &read(rt.alloc(), oversized.get(..39).ok_or("39 bytes")?),
+        &Ok((0, 0, true)),
     );
     let in_part = with_lengths(1, u32::MAX, 0);
-    assert_eq!(rt; read(rt.alloc(), &in_part), Err(ReadError::Record));
+    same(&rt, &read(rt.alloc(), &in_part), &Err(ReadError::Record));
     let other_link = with_lengths(2, 262_145, 262_145);
-    assert_eq!(rt; read(rt.alloc(), &other_link), Err(ReadError::LinkType));
+    same(
+        &rt,
+        &read(rt.alloc(), &other_link),
+        &Err(ReadError::LinkType),
+    );
 
     let mut longest = with_lengths(1, 262_144, 262_144).to_vec(rt.alloc())?;
-    assert_eq!(rt; read(rt.alloc(), &longest), Ok((0, 0, true)));
+    same(&rt, &read(rt.alloc(), &longest), &Ok((0, 0, true)));
     longest.extend_from_slice(vec![in rt.alloc(); 7; 262_144]?.as_slice())?;
     let mut source = SliceSource::new(&longest);
     let trace = Trace::read(rt.alloc(), &mut source)?;
     let frame = trace.frames.iter().next().ok_or("a frame")?;
-    assert_eq!(rt; frame.len(), 262_144);
+    same(&rt, &frame.len(), &262_144);
     assert!(rt; frame.iter().all(|byte| *byte == 7));
 
     // The whole packet, and then an oversized one, gives nothing but the refusal.
     longest.extend_from_slice(oversized.get(24..).ok_or("a packet header")?)?;
-    assert_eq!(rt; read(rt.alloc(), &longest), Err(ReadError::Record));
+    same(&rt, &read(rt.alloc(), &longest), &Err(ReadError::Record));
     Ok(())
 }
 
@@ -212,13 +220,18 @@ fn captured_and_original_lengths(rt: HostRuntime) -> Result<(), Fail> {
     for (captured, want) in [(20, (1, 0, false)), (13, (0, 1, false))] {
         let mut bytes = with_lengths(1, captured, 14).to_vec(rt.alloc())?;
         bytes.extend_from_slice(vec![in rt.alloc(); 3; captured as usize]?.as_slice())?;
-        assert_eq!(rt; read(rt.alloc(), &bytes), Ok(want), "{captured} bytes");
+        same_at(
+            &rt,
+            &read(rt.alloc(), &bytes),
+            &Ok(want),
+            &("bytes", captured),
+        );
     }
     let mut bytes = with_lengths(1, 20, 14).to_vec(rt.alloc())?;
     bytes.extend_from_slice(&[3; 20])?;
     let mut source = SliceSource::new(&bytes);
     let trace = Trace::read(rt.alloc(), &mut source)?;
-    assert_eq!(rt; trace.frames.iter().next(), Some([3; 20].as_slice()));
+    same(&rt, &trace.frames.iter().next(), &Some([3; 20].as_slice()));
     Ok(())
 }
 
@@ -233,15 +246,20 @@ fn texts_and_statuses(rt: HostRuntime) -> Result<(), Fail> {
         (ReadError::Memory, "E65 Memory", 4),
         (ReadError::Read, "E66 Read", 3),
     ] {
-        assert_eq!(rt; format!(in rt.alloc(); "{error}")?.as_str(), text);
-        assert_eq!(rt; error.status(), status, "{text}");
+        same(&rt, &format!(in rt.alloc(); "{error}")?.as_str(), &text);
+        same_at(&rt, &error.status(), &status, &text);
     }
     let error = WriteError::Write;
-    assert_eq!(rt; format!(in rt.alloc(); "{error}")?.as_str(), "E67 Write");
-    assert_eq!(rt; error.status(), 3);
-    assert_eq!(rt;
-        format!(in rt.alloc(); "{DeviceError}")?.as_str(),
-        "the device failed"
+    same(
+        &rt,
+        &format!(in rt.alloc(); "{error}")?.as_str(),
+        &"E67 Write",
+    );
+    same(&rt, &error.status(), &3);
+    same(
+        &rt,
+        &format!(in rt.alloc(); "{DeviceError}")?.as_str(),
+        &"the device failed",
     );
     Ok(())
 }

@@ -1,6 +1,6 @@
 //! Traces that are written to memory.
 use super::fixtures::{
-    FIRST, HEADER, SECOND, TIMES, long_packets, record, two_frames, two_packets,
+    FIRST, HEADER, SECOND, TIMES, long_packets, record, same, two_frames, two_packets,
 };
 use crate::{RecordWriter, Sink, SliceSource, Trace, VecSink, written_is_trace};
 use descriptors::Frame;
@@ -10,14 +10,14 @@ use std::test::Fail;
 fn written_bytes(rt: HostRuntime) -> Result<(), Fail> {
     let mut sink = VecSink::new(rt.alloc());
     Trace::write(&mut sink, &[])?;
-    assert_eq!(rt; sink.bytes(), HEADER.as_slice());
+    same(&rt, &sink.bytes(), &HEADER.as_slice());
 
     let want = two_frames(rt.alloc())?;
     let packets = two_packets(rt.alloc())?;
     let mut sink = VecSink::new(rt.alloc());
     Trace::write(&mut sink, &packets)?;
-    assert_eq!(rt; sink.bytes(), want.as_slice());
-    assert_eq!(rt; sink.failures(), 0);
+    same(&rt, &sink.bytes(), &want.as_slice());
+    same(&rt, &sink.failures(), &0);
 
     let mut sink = VecSink::new(rt.alloc());
     let mut writer = RecordWriter::new(rt.alloc())?;
@@ -25,7 +25,7 @@ fn written_bytes(rt: HostRuntime) -> Result<(), Fail> {
     writer.write(&mut sink, TIMES[1], &SECOND)?;
     assert!(rt; sink.bytes().is_empty(), "all of it waits");
     writer.flush(&mut sink)?;
-    assert_eq!(rt; sink.bytes(), want.as_slice());
+    same(&rt, &sink.bytes(), &want.as_slice());
     Ok(())
 }
 
@@ -38,12 +38,13 @@ fn greatest_time(rt: HostRuntime) -> Result<(), Fail> {
     Trace::write(&mut sink, &packets)?;
     // 2^64 - 1 is 18,446,744,073,709 seconds, 4,294 times 2^32 and 0xF7A0_B5ED more, and 551,615 (0x86ABF)
     // microseconds.
-    assert_eq!(rt;
-        sink.bytes().get(24..),
-        Some([
-            0xED, 0xB5, 0xA0, 0xF7, 0xBF, 0x6A, 0x08, 0, 0, 0, 0, 0, 0, 0, 0, 0
+    same(
+        &rt,
+        &sink.bytes().get(24..),
+        &Some([
+            0xED, 0xB5, 0xA0, 0xF7, 0xBF, 0x6A, 0x08, 0, 0, 0, 0, 0, 0, 0, 0, 0,
         ]
-        .as_slice())
+        .as_slice()),
     );
     Ok(())
 }
@@ -55,14 +56,14 @@ fn written_traces_are_read(rt: HostRuntime) -> Result<(), Fail> {
     let packets = long_packets(rt.alloc())?;
     let mut sink = VecSink::new(rt.alloc());
     Trace::write(&mut sink, &packets)?;
-    assert_eq!(rt; sink.bytes().len(), 69_054);
+    same(&rt, &sink.bytes().len(), &69_054);
     let mut source = SliceSource::new(sink.bytes());
     let trace = Trace::read(rt.alloc(), &mut source)?;
-    assert_eq!(rt; trace.frames.len(), 45);
-    assert_eq!(rt; trace.skipped, 0);
+    same(&rt, &trace.frames.len(), &45);
+    same(&rt, &trace.skipped, &0);
     assert!(rt; !trace.cut);
     for ((_, frame), found) in packets.iter().zip(trace.frames.iter()) {
-        assert_eq!(rt; found, frame.as_slice());
+        same(&rt, &found, &frame.as_slice());
     }
     Ok(())
 }
@@ -76,7 +77,7 @@ fn a_long_trace_in_blocks(rt: HostRuntime) -> Result<(), Fail> {
     let mut sink = VecSink::new(rt.alloc());
     let mut writer = RecordWriter::new(rt.alloc())?;
     record(&mut writer, &mut sink, &packets)?;
-    assert_eq!(rt; sink.bytes().len(), 69_054);
-    assert_eq!(rt; sink.bytes(), whole.bytes());
+    same(&rt, &sink.bytes().len(), &69_054);
+    same(&rt, &sink.bytes(), &whole.bytes());
     Ok(())
 }

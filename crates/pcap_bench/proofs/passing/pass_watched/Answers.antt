@@ -9,7 +9,7 @@ use Rattle.pcap_bench.specs.Lane.{slot_bytes, IsWaiting, LaneState}
 use Rattle.pcap_bench.specs.Options.{filter_for, KeptBy}
 use Rattle.pcap_bench.proofs.Choices.{kept, turned_away}
 use Rattle.pcap_bench.proofs.Passes.{SoFar, SoFar-start, SoFar-illegal, SoFar-filtered, SoFar-kept, SoFar-stops, StopsAmong-start}
-use Rattle.pcap_bench.proofs.Passes.{Grows-none, Grows-more, header_waits}
+use Rattle.pcap_trace.proofs.Flushed.{Grows-none, Grows-more, header_waits}
 use Rattle.pcap_bench.proofs.passing.pass_watched.Goals as goal
 
 pub returns-in_err-lane-clause-err : goal.returns-in_err-lane-clause-err

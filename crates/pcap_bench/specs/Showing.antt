@@ -1,0 +1,50 @@
+-- What the program shows of a trace: a line for each frame, and one of what there was. (own; a frame's parts: IEEE 802.3 clause 3.2)
+use Rattle.std.specs.Prelude.{◌+◌, ◌++◌, ℕ, List, [], ◌∷◌, length, slice_index, slice_range, codes, decimal, nat_lt, if◌then◌else◌}
+use Rattle.std.specs.List.{flat_map}
+use Rattle.hex.specs.Hex.{encode_lower}
+use Rattle.pcap_trace.specs.declared.trace.Trace.{Trace}
+use Rattle.rx_filter.specs.Addresses.{destination}
+use Rattle.pcap_bench.specs.Printing.{field, cut_word}
+
+-- a byte, as two lower-case hexadecimal digits
+abbrev pub pair : ℕ → List ℕ
+pair byte = encode_lower (byte ∷ [])
+
+abbrev pub colon_pair : ℕ → List ℕ
+colon_pair byte = codes ":" ++ pair byte
+
+-- the pairs of an address, joined by colons
+abbrev pub address_text : List ℕ → List ℕ
+address_text [] = []
+address_text (first ∷ others) = pair first ++ flat_map colon_pair others
+
+-- the source address: bytes 6 to 11
+abbrev pub source : List ℕ → List ℕ
+source frame = slice_range frame 6 12
+
+-- the type: bytes 12 and 13, the higher one first
+abbrev pub type_text : List ℕ → List ℕ
+type_text frame = pair (slice_index frame 12) ++ pair (slice_index frame 13)
+
+-- destination, source and type, where the frame has all 14 bytes of them
+abbrev pub header_text : List ℕ → List ℕ
+header_text frame =
+    if nat_lt (length frame) 14 then codes " short"
+    else codes " " ++ address_text (destination frame) ++ codes " " ++ address_text (source frame) ++ codes " " ++ type_text frame
+
+-- `N LEN DST SRC TYPE` or `N LEN short`
+abbrev pub frame_line : ℕ → List ℕ → List ℕ
+frame_line number frame = decimal number ++ field (codes " ") (length frame) ++ header_text frame ++ codes "\n"
+
+-- a line a frame, numbered from n on
+abbrev pub lines_from : ℕ → List (List ℕ) → List ℕ
+lines_from n [] = []
+lines_from n (frame ∷ frames) = frame_line n frame ++ lines_from (n + 1) frames
+
+-- `frames F skipped K cut no` or `frames F skipped K cut yes`
+abbrev pub end_line : Trace → List ℕ
+end_line trace = field (codes "frames ") (length trace.frames) ++ field (codes " skipped ") trace.skipped ++ cut_word trace.cut
+
+-- all that is shown of a trace
+abbrev pub shown : Trace → List ℕ
+shown trace = lines_from 0 trace.frames ++ end_line trace
