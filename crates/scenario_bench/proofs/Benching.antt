@@ -1,0 +1,223 @@
+-- What the bench answers, by what was played and noted.
+use Rattle.std.proofs.Common.{◌≡◌, ◌<◌, ◌≤◌, ◌+◌, ◌++◌, ◌∷◌, ◌⊎◌, [], zero, suc, ℕ, List, Option, Some, None, length, map, replicate}
+use Rattle.std.proofs.Common.{slice_get}
+use Rattle.std.proofs.Common.{option_map, inl, inr, refl, sym, ap, subst, ◌∙◌, arith}
+use Rattle.std.proofs.lemmas.List.{length-append, length-map}
+use Rattle.std.proofs.lemmas.Option.{slice_get-map, slice_get_within}
+use Rattle.packet_socket.specs.HostState.{HostState}
+use Rattle.pcap_trace.specs.Format.{Timed}
+use Rattle.stations.specs.Stations.{world_at}
+use Rattle.network_plan.specs.declared.plan.HostPlan.{HostPlan}
+use Rattle.wire.specs.Networks.{IsHost}
+use Rattle.wire.specs.Runs.{happenings}
+use Rattle.scenario.specs.SoFar.{Host, Said, host_of, hosts_of, said_of}
+use Rattle.scenario.specs.declared.command.Scenario.{Scenario}
+use Rattle.scenario_bench.specs.Benches.{AreWritten, AreWrittenUpTo, Benches, Plays, SinkState, Stops, texts_of}
+use Rattle.scenario_bench.specs.EventLists.{all_events}
+use Rattle.scenario_bench.specs.Given.{given_from, sockets_from}
+use Rattle.scenario_bench.specs.PlayedEvents.{Begins, HasPlayed, TellTallies, TellsTally}
+use Rattle.scenario_bench.specs.SocketLists.{SocketFrames, frames_given}
+use Rattle.scenario_bench.specs.Summaries.{TellsHosts}
+use Rattle.scenario_bench.specs.Tallies.{empty_sockets, no_tally, socket_behind, tally_behind}
+use Rattle.scenario_bench.specs.declared.play.Play.{Play}
+use Rattle.scenario_bench.specs.declared.summary.HostSummary.{HostSummary}
+use Rattle.scenario_bench.specs.declared.summary.Summary.{Summary}
+use Rattle.scenario_bench.specs.declared.bench_error.BenchError.{BenchError}
+use Rattle.scenario_bench.specs.declared.bench_error.BenchError.TheVariants as errors
+use Rattle.scenario.specs.declared.command.Command.{Command}
+use Rattle.pcap_trace.specs.declared.fault.WriteError.{WriteError}
+use Rattle.network_events.specs.declared.event.Event.{Event}
+use Rattle.network_events.specs.declared.reply.Reply.{Reply}
+use Rattle.scenario_bench.specs.declared.tally.Tally.{Tally}
+use Rattle.scenario_bench.proofs.Told.{noted-lists, tally_of}
+use Rattle.stations.proofs.Places.{same-places}
+
+-- Summaries, one behind the other.
+
+pub none_told : (plans : List HostPlan) (play : Play) → TellTallies 0 plans play []
+none_told plans play = record { count = refl; each = λ k plan tally host one plan_is tally_is host_is is. cc }
+
+some-same : {X : Type 0} → (x y : X) → Some x ≡ Some y → x ≡ y
+some-same x y e = cc
+
+last-or-before : {X : Type 0} → (xs : List X) (x y : X) (k : ℕ) → slice_get (xs ++ x ∷ []) k ≡ Some y
+    → (slice_get xs k ≡ Some y) ⊎ ((k ≡ length xs) × (x ≡ y))
+last-or-before [] x y zero is = inr (refl, some-same x y is)
+last-or-before [] x y (suc k) is = cc
+last-or-before (z ∷ xs) x y zero is = inl is
+last-or-before (z ∷ xs) x y (suc k) is = elim (last-or-before xs x y k is) [
+  | inl before ↦ inl before
+  | inr last ↦ inr (ap (λ (n : ℕ). suc n) last.0, last.1)
+]
+
+pub one_told : (first : ℕ) (plans : List HostPlan) (play : Play) (told more : List HostSummary) (plan : HostPlan) (one : HostSummary)
+    → TellTallies first plans play told → slice_get plans first ≡ Some plan
+    → ((tally : Tally) (host : HostState) → slice_get play.record.hosts.items first ≡ Some tally → IsHost play.lan first host
+    → TellsTally plan tally host (world_at play.lan.stations first) one)
+    → more ≡ told ++ one ∷ [] → TellTallies (first + 1) plans play more
+one_told first plans play told more plan one has plan_there tells is = record {
+  count = ap length is ∙ length-append told (one ∷ []) ∙ ap (λ (n : ℕ). n + 1) has.count;
+  each = λ k other tally host this plan_is tally_is host_is told_is.
+      elim (last-or-before told one this k (sym (ap (λ (l : List HostSummary). slice_get l k) is) ∙ told_is)) [
+        | inl before ↦ has.each k other tally host this plan_is tally_is host_is before
+        | inr last ↦
+            let at : k ≡ first = last.0 ∙ has.count in
+            let same : plan ≡ other = some-same plan other (sym plan_there ∙ ap (slice_get plans) (sym at) ∙ plan_is) in
+            let here = tells tally host (ap (slice_get play.record.hosts.items) (sym at) ∙ tally_is)
+            (subst (λ (n : ℕ). IsHost play.lan n host) at host_is) in
+            subst (λ (n : ℕ). TellsTally other tally host (world_at play.lan.stations n) this) (sym at)
+            (subst (λ (p : HostPlan). TellsTally p tally host (world_at play.lan.stations first) this) same
+            (subst (λ (s : HostSummary). TellsTally plan tally host (world_at play.lan.stations first) s) last.1 here))
+      ];
+}
+
+-- What stands behind a run that began with nothing noted.
+
+at-replicate : {X : Type 0} → (n k : ℕ) (x : X) → k < n → slice_get (replicate n x) k ≡ Some x
+at-replicate zero k x below = absurd (omega (arith, below))
+at-replicate (suc n) zero x below = refl
+at-replicate (suc n) (suc k) x below = at-replicate n k x (omega (arith, below))
+
+-- each host has its numbers
+pub tally_at : (plans : List HostPlan) (said : List Said) (a b : Play) (begun : Begins plans a) (played : HasPlayed said a b) (k : ℕ)
+    → k < length plans → slice_get b.record.hosts.items k ≡ Some (tally_of k (happenings played.events played.replies))
+tally_at plans said a b begun played k below =
+    let happened = happenings played.events played.replies in
+    played.noted.hosts k
+    ∙ ap (option_map (tally_behind happened k)) (ap (λ (l : List Tally). slice_get l k) begun.hosts
+    ∙ at-replicate (length plans) k no_tally below)
+    ∙ ap (λ (t : Tally). Some t) (noted-lists k happened)
+
+enough : {X : Type 0} → (xs : List X) (n : ℕ) → ((k : ℕ) → k < n → (x : X) × (slice_get xs k ≡ Some x)) → n ≤ length xs
+enough xs zero each = omega arith
+enough xs (suc n) each =
+    let last = each n (omega arith) in
+    let within : n < length xs = slice_get_within xs n last.0 last.1 in
+    omega (arith, within)
+
+pub tallies_enough : (plans : List HostPlan) (said : List Said) (a b : Play) → Begins plans a → HasPlayed said a b
+    → length plans ≤ length b.record.hosts.items
+tallies_enough plans said a b begun played = enough b.record.hosts.items (length plans)
+    (λ k below. (tally_of k (happenings played.events played.replies), tally_at plans said a b begun played k below))
+
+-- the sockets have what they gave
+sockets-are : (plans : List HostPlan) (said : List Said) (a b : Play) (begun : Begins plans a) (played : HasPlayed said a b)
+    → b.record.sockets.items ≡ map (socket_behind 0 played.events played.replies) (empty_sockets (sockets_from 0 (hosts_of plans)))
+sockets-are plans said a b begun played =
+    let change = socket_behind 0 played.events played.replies in
+    let first = empty_sockets (sockets_from 0 (hosts_of plans)) in
+    same-places b.record.sockets.items (map change first) (λ k. played.noted.sockets k
+    ∙ ap (λ (n : ℕ). option_map (socket_behind n played.events played.replies) (slice_get a.record.sockets.items k)) begun.number
+    ∙ ap (λ (l : List SocketFrames). option_map change (slice_get l k)) begun.sockets ∙ sym (slice_get-map change first k))
+
+texts-of : (events : List Event) (replies : List Reply) (places : List (ℕ × ℕ))
+    → map frames_given (map (socket_behind 0 events replies) (empty_sockets places))
+    ≡ map (λ (place : ℕ × ℕ). given_from place.0 place.1 0 events replies) places
+texts-of events replies [] = refl
+texts-of events replies (place ∷ places) =
+    ap (λ (l : List (List Timed)). given_from place.0 place.1 0 events replies ∷ l) (texts-of events replies places)
+
+pub texts_are : (plans : List HostPlan) (said : List Said) (a b : Play) (begun : Begins plans a) (played : HasPlayed said a b)
+    → map frames_given b.record.sockets.items
+    ≡ map (λ (place : ℕ × ℕ). given_from place.0 place.1 0 played.events played.replies) (sockets_from 0 (hosts_of plans))
+texts_are plans said a b begun played =
+    ap (map frames_given) (sockets-are plans said a b begun played)
+    ∙ texts-of played.events played.replies (sockets_from 0 (hosts_of plans))
+
+pub sockets_count : (plans : List HostPlan) (said : List Said) (a b : Play) → Begins plans a → HasPlayed said a b
+    → length b.record.sockets.items ≡ length (sockets_from 0 (hosts_of plans))
+sockets_count plans said a b begun played =
+    sym (length-map b.record.sockets.items frames_given)
+    ∙ ap length (texts_are plans said a b begun played)
+    ∙ length-map (sockets_from 0 (hosts_of plans)) (λ (place : ℕ × ℕ). given_from place.0 place.1 0 played.events played.replies)
+
+-- The call.
+
+abbrev pub plays_of : (scenario : Scenario) (traces : List (List (List ℕ))) (a b : Play) → Begins scenario.plan.hosts.items a
+    → HasPlayed (all_events (hosts_of scenario.plan.hosts.items) traces (map said_of scenario.commands.items)) a b → Plays scenario traces
+plays_of scenario traces a b begun played = record {
+  made = a.lan;
+  by_plan = begun.made;
+  events = played.events;
+  of_commands = played.are;
+  replies = played.replies;
+  behind = b.lan;
+  runs = played.runs;
+}
+
+plan-at : (plans : List HostPlan) (k : ℕ) (plan : Host) (found : Option HostPlan) → slice_get plans k ≡ found
+    → slice_get (hosts_of plans) k ≡ Some plan → (one : HostPlan) × (slice_get plans k ≡ Some one) × (host_of one ≡ plan)
+plan-at plans k plan None is there = absurd (none (sym (ap (option_map host_of) is) ∙ sym (slice_get-map host_of plans k) ∙ there))
+  where
+    none : None ≡ Some plan → ⊥
+    none e = cc
+plan-at plans k plan (Some one) is there =
+    (one, is, some-same (host_of one) plan (sym (ap (option_map host_of) is) ∙ sym (slice_get-map host_of plans k) ∙ there))
+
+pub hosts_tell : (plans : List HostPlan) (said : List Said) (a b : Play) (told : List HostSummary) (begun : Begins plans a)
+    (played : HasPlayed said a b) → TellTallies (length plans) plans b told
+    → TellsHosts (hosts_of plans) (happenings played.events played.replies) b.lan told
+hosts_tell plans said a b told begun played tells = record {
+  count = tells.count ∙ sym (length-map plans host_of);
+  each = λ k plan host one plan_is host_is one_is.
+      let found = plan-at plans k plan (slice_get plans k) refl plan_is in
+      let below : k < length plans = slice_get_within plans k found.0 found.1 in
+      let happened = happenings played.events played.replies in
+      let this = tells.each k found.0 (tally_of k happened) host one found.1 (tally_at plans said a b begun played k below) host_is one_is in
+      record {
+        name = this.name ∙ ap (λ (h : Host). h.name) found.2;
+        accepted = this.accepted;
+        put = this.put;
+        reached = this.reached;
+        stored = this.stored;
+        given = this.given;
+        missed = this.counts.0;
+        exact = this.counts.1;
+        unclaimed = this.counts.2;
+      };
+}
+
+pub played_as : (hosts plans : List HostPlan) (said commands : List Command) (traces : List (List (List ℕ))) (a b : Play) → hosts ≡ plans
+    → said ≡ commands → HasPlayed (all_events (hosts_of hosts) traces (map said_of said)) a b
+    → HasPlayed (all_events (hosts_of plans) traces (map said_of commands)) a b
+played_as hosts plans said commands traces a b hosts_are said_is played =
+    subst (λ (s : List Said). HasPlayed s a b)
+    (ap (λ (hs : List HostPlan). all_events (hosts_of hs) traces (map said_of said)) hosts_are
+    ∙ ap (λ (cs : List Command). all_events (hosts_of plans) traces (map said_of cs)) said_is) played
+
+pub tells_as : (hosts plans : List HostPlan) (b : Play) (told : List HostSummary) → hosts ≡ plans → TellTallies (length hosts) hosts b told
+    → TellTallies (length plans) plans b told
+tells_as hosts plans b told is tells = subst (λ (hs : List HostPlan). TellTallies (length hs) hs b told) is tells
+
+pub benched : {old new : List SinkState}
+    → (scenario : Scenario) (traces : List (List (List ℕ))) (summary : Summary) (count : ℕ) (a b : Play)
+    → Begins scenario.plan.hosts.items a
+    → HasPlayed (all_events (hosts_of scenario.plan.hosts.items) traces (map said_of scenario.commands.items)) a b
+    → TellTallies (length scenario.plan.hosts.items) scenario.plan.hosts.items b summary.hosts.items
+    → count ≡ length (sockets_from 0 (hosts_of scenario.plan.hosts.items))
+    → AreWritten count (map frames_given b.record.sockets.items) old new → Benches scenario traces summary old new
+benched {old} {new} scenario traces summary count a b begun played tells counts wrote =
+    let plans = scenario.plan.hosts.items in
+    let said = all_events (hosts_of plans) traces (map said_of scenario.commands.items) in
+    let plays = plays_of scenario traces a b begun played in
+    let all : count ≡ length (texts_of plays) = counts
+    ∙ sym (length-map (sockets_from 0 (hosts_of plans)) (λ (place : ℕ × ℕ). given_from place.0 place.1 0 played.events played.replies)) in
+    record {
+      plays = plays;
+      texts = subst (λ (n : ℕ). AreWritten n (texts_of plays) old new) all
+          (subst (λ (texts : List (List Timed)). AreWritten count texts old new) (texts_are plans said a b begun played) wrote);
+      tells = hosts_tell plans said a b summary.hosts.items begun played tells;
+    }
+
+pub bench_failed : {old new : List SinkState} → (scenario : Scenario) (traces : List (List (List ℕ))) (error : BenchError)
+    (why : WriteError) (a b : Play) → error ≡ errors.Write why → Begins scenario.plan.hosts.items a
+    → HasPlayed (all_events (hosts_of scenario.plan.hosts.items) traces (map said_of scenario.commands.items)) a b
+    → (failed : ℕ) × AreWrittenUpTo failed (map frames_given b.record.sockets.items) old new
+    → Stops scenario traces error old new
+bench_failed {old} {new} scenario traces error why a b is begun played wrote =
+    let plans = scenario.plan.hosts.items in
+    let said = all_events (hosts_of plans) traces (map said_of scenario.commands.items) in
+    subst (λ (e : BenchError). Stops scenario traces e old new) (sym is) (
+      plays_of scenario traces a b begun played,
+      (wrote.0, subst (λ (texts : List (List Timed)). AreWrittenUpTo wrote.0 texts old new) (texts_are plans said a b begun played) wrote.1),
+    )

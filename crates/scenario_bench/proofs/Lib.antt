@@ -1,0 +1,10 @@
+pub mod Gives
+pub mod EventsOfCommands
+pub mod Printed
+pub mod Noting
+pub mod NotedEvents
+pub mod EmptySockets
+pub mod PlayedEvents
+pub mod Writing
+pub mod Told
+pub mod Benching

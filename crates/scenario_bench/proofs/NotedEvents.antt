@@ -1,0 +1,349 @@
+-- Events that are noted, one behind the other.
+use Rattle.std.proofs.Common.{◌≡◌, ◌+◌, ◌==◌, ◌&&◌, ◌++◌, ◌∷◌, [], ℕ, Bool, true, false, List, Option, Some, None, Vec, Global, Ok, Err}
+use Rattle.std.proofs.Common.{length, map}
+use Rattle.std.proofs.Common.{slice_get, option_map, if◌then◌else◌, refl, sym, ap, subst, ◌∙◌, arith, append_assoc, append-nil}
+use Rattle.std.proofs.lemmas.Grind.{flat_map-append}
+use Rattle.std.proofs.lemmas.List.{length-append}
+use Rattle.std.proofs.lemmas.List.Sums.{fold-append}
+use Rattle.pcap_trace.specs.Format.{Timed}
+use Rattle.delivery.specs.Happenings.{Given, Happening, given, given_by, told, told_alone, told_of}
+use Rattle.network_events.specs.declared.event.Event.{Event}
+use Rattle.network_events.specs.declared.event.Event.TheVariants as event
+use Rattle.network_events.specs.declared.reply.Answer.{Answer}
+use Rattle.network_events.specs.declared.reply.Answer.TheVariants as answer
+use Rattle.network_events.specs.declared.reply.Reply.{Reply}
+use Rattle.stations.specs.declared.outcomes.Numbered.{Numbered}
+use Rattle.stations.specs.declared.tick.Outcome.{Outcome}
+use Rattle.stations.specs.declared.tick.Outcome.TheVariants as outcome
+use Rattle.stations.specs.declared.tick.Tick.{Tick}
+use Rattle.stations.specs.declared.tick.Tick.TheVariants as tick
+use Rattle.wire.specs.Runs.{accepted_of, given_of, happenings, said}
+use Rattle.scenario_bench.specs.Given.{given_from, next_number, numbered}
+use Rattle.scenario_bench.specs.SocketLists.{SocketFrames, with_frames, with_given}
+use Rattle.scenario_bench.specs.Tallies.{AreNoted, GetsGiven, GetsSaid, TalliesGrow, host_named, number_behind, socket_behind}
+use Rattle.scenario_bench.specs.Tallies.{with_said}
+use Rattle.scenario_bench.specs.declared.record.Record.{Record}
+use Rattle.scenario_bench.specs.declared.tally.Tally.{Tally}
+use Rattle.scenario_bench.proofs.Noting.{grows_join, grows_not}
+
+-- The ticks of a call.
+
+-- The first ticks have told this; these are left, with these outcomes.
+pub record HasTold (ticks rest : List Tick) (outcomes left : List Numbered) (old new : List Tally) : Type 0 where
+  pub done : List Happening
+  pub parts : told ticks outcomes ≡ done ++ told rest left
+  pub grows : TalliesGrow done old new
+
+pub told_none : (ticks : List Tick) (outcomes : List Numbered) (hosts : List Tally) → HasTold ticks ticks outcomes outcomes hosts hosts
+told_none ticks outcomes hosts = record { done = []; parts = refl; grows = grows_not hosts }
+
+go-tells : (one : Tick) (later : List Tick) (left : List Numbered) → None ≡ host_named one → told (one ∷ later) left ≡ told later left
+go-tells tick.Go later left is = refl
+go-tells (tick.Step host kind) later left is = cc
+go-tells (tick.Deliver host) later left is = cc
+
+host-tells : (one : Tick) (host : ℕ) (later : List Tick) (first : Numbered) (left : List Numbered) → Some host ≡ host_named one
+    → told (one ∷ later) (first ∷ left) ≡ told_of host first.outcome ++ told later left
+host-tells tick.Go host later first left is = cc
+host-tells (tick.Step at kind) host later first left is = ap (λ (h : ℕ). told_of h first.outcome ++ told later left) (same at host is)
+  where
+    same : (a b : ℕ) → Some b ≡ Some a → a ≡ b
+    same a b e = cc
+host-tells (tick.Deliver at) host later first left is = ap (λ (h : ℕ). told_of h first.outcome ++ told later left) (same at host is)
+  where
+    same : (a b : ℕ) → Some b ≡ Some a → a ≡ b
+    same a b e = cc
+
+ends-tell : (one : Tick) (host : ℕ) (later : List Tick) → Some host ≡ host_named one → told (one ∷ later) [] ≡ []
+ends-tell tick.Go host later is = cc
+ends-tell (tick.Step at kind) host later is = refl
+ends-tell (tick.Deliver at) host later is = refl
+
+pub told_go : (ticks rest later : List Tick) (one : Tick) (outcomes left : List Numbered) (old new : List Tally)
+    → HasTold ticks rest outcomes left old new → rest ≡ one ∷ later → None ≡ host_named one → HasTold ticks later outcomes left old new
+told_go ticks rest later one outcomes left old new has is go = record {
+  done = has.done;
+  parts = has.parts ∙ ap (λ (r : List Tick). has.done ++ told r left) is
+      ∙ ap (λ (t : List Happening). has.done ++ t) (go-tells one later left go);
+  grows = has.grows;
+}
+
+pub told_more : (ticks rest later : List Tick) (one : Tick) (host : ℕ) (outcomes left others : List Numbered) (first : Numbered)
+    (old mid new : List Tally) → HasTold ticks rest outcomes left old mid → rest ≡ one ∷ later → Some host ≡ host_named one
+    → left ≡ first ∷ others → TalliesGrow (told_of host first.outcome) mid new → HasTold ticks later outcomes others old new
+told_more ticks rest later one host outcomes left others first old mid new has is named there grows = record {
+  done = has.done ++ told_of host first.outcome;
+  parts = has.parts ∙ ap (λ (r : List Tick). has.done ++ told r left) is
+      ∙ ap (λ (l : List Numbered). has.done ++ told (one ∷ later) l) there
+      ∙ ap (λ (t : List Happening). has.done ++ t) (host-tells one host later first others named)
+      ∙ sym (append_assoc has.done (told_of host first.outcome) (told later others));
+  grows = grows_join has.done (told_of host first.outcome) old mid new has.grows grows;
+}
+
+pub told_ends : (ticks rest later : List Tick) (one : Tick) (host : ℕ) (outcomes left : List Numbered) (old new : List Tally)
+    → HasTold ticks rest outcomes left old new → rest ≡ one ∷ later → Some host ≡ host_named one → left ≡ []
+    → TalliesGrow (told ticks outcomes) old new
+told_ends ticks rest later one host outcomes left old new has is named none =
+    subst (λ (t : List Happening). TalliesGrow t old new)
+    (sym (has.parts ∙ ap (λ (r : List Tick). has.done ++ told r left) is ∙ ap (λ (l : List Numbered). has.done ++ told (one ∷ later) l) none
+    ∙ ap (λ (t : List Happening). has.done ++ t) (ends-tell one host later named) ∙ append-nil has.done)) has.grows
+
+pub told_all : (ticks rest : List Tick) (outcomes left : List Numbered) (old new : List Tally) → HasTold ticks rest outcomes left old new
+    → rest ≡ [] → TalliesGrow (told ticks outcomes) old new
+told_all ticks rest outcomes left old new has is =
+    subst (λ (t : List Happening). TalliesGrow t old new)
+    (sym (has.parts ∙ ap (λ (r : List Tick). has.done ++ told r left) is ∙ append-nil has.done)) has.grows
+
+-- What an event gives.
+
+given-of : (k s host : ℕ) (one : Outcome) → given k s (told_of host one) ≡ []
+given-of k s host (outcome.Put frame) = refl
+given-of k s host (outcome.Delivered frame fate) = refl
+given-of k s host outcome.Took = refl
+given-of k s host outcome.WireFull = refl
+given-of k s host outcome.Moved = refl
+given-of k s host outcome.Done = refl
+given-of k s host outcome.Ticked = refl
+given-of k s host outcome.Nothing = refl
+given-of k s host outcome.Fault = refl
+
+both-none : (k s : ℕ) (xs ys : List Happening) → given k s xs ≡ [] → given k s ys ≡ [] → given k s (xs ++ ys) ≡ []
+both-none k s xs ys one two = flat_map-append (given_by k s) xs ys ∙ ap (λ (l : List (List ℕ)). l ++ given k s ys) one ∙ two
+
+given-told : (k s : ℕ) (ticks : List Tick) (outcomes : List Numbered) → given k s (told ticks outcomes) ≡ []
+given-told k s [] outcomes = refl
+given-told k s (tick.Go ∷ ticks) outcomes = given-told k s ticks outcomes
+given-told k s (tick.Step host kind ∷ ticks) [] = refl
+given-told k s (tick.Step host kind ∷ ticks) (one ∷ outcomes) =
+    both-none k s (told_of host one.outcome) (told ticks outcomes) (given-of k s host one.outcome) (given-told k s ticks outcomes)
+given-told k s (tick.Deliver host ∷ ticks) [] = refl
+given-told k s (tick.Deliver host ∷ ticks) (one ∷ outcomes) =
+    both-none k s (told_of host one.outcome) (told ticks outcomes) (given-of k s host one.outcome) (given-told k s ticks outcomes)
+
+given-alone : (k s : ℕ) (one : Tick) (outcomes : List Numbered) → given k s (told_alone one outcomes) ≡ []
+given-alone k s one [] = refl
+given-alone k s tick.Go (first ∷ outcomes) = given-of k s 0 first.outcome
+given-alone k s (tick.Step host kind) (first ∷ outcomes) = given-of k s host first.outcome
+given-alone k s (tick.Deliver host) (first ∷ outcomes) = given-of k s host first.outcome
+
+given-accepted : (k s host : ℕ) (frame : List ℕ) (one : Answer) → given k s (accepted_of host frame one) ≡ []
+given-accepted k s host frame (answer.Sent (Ok u)) = refl
+given-accepted k s host frame (answer.Sent (Err error)) = refl
+given-accepted k s host frame (answer.Received result) = refl
+given-accepted k s host frame (answer.Interrupted handled) = refl
+given-accepted k s host frame answer.Ticked = refl
+given-accepted k s host frame answer.NoHost = refl
+
+-- Only the answer of a socket gives a frame.
+abbrev pub answer_of : Event → Answer → List Happening
+answer_of (event.Send host frame ticks) one = []
+answer_of (event.Recv host socket ticks) one = given_of host socket one
+answer_of (event.Interrupt host ticks) one = []
+answer_of (event.Tick tick) one = []
+
+given-said : (k s : ℕ) (one : Event) (reply : Reply) → given k s (said one reply) ≡ given k s (answer_of one reply.answer)
+given-said k s (event.Send host frame ticks) reply =
+    both-none k s (accepted_of host frame.items reply.answer) (told ticks.items reply.outcomes.list)
+    (given-accepted k s host frame.items reply.answer) (given-told k s ticks.items reply.outcomes.list)
+given-said k s (event.Recv host socket ticks) reply =
+    flat_map-append (given_by k s) (told ticks.items reply.outcomes.list) (given_of host socket reply.answer)
+    ∙ ap (λ (l : List (List ℕ)). l ++ given k s (given_of host socket reply.answer)) (given-told k s ticks.items reply.outcomes.list)
+given-said k s (event.Interrupt host ticks) reply = given-told k s ticks.items reply.outcomes.list
+given-said k s (event.Tick one) reply = given-alone k s one reply.outcomes.list
+
+-- Sockets.
+
+said-as : (number : ℕ) (one : Event) (reply : Reply) (socket : SocketFrames)
+    → with_said number (said one reply) socket ≡ with_said number (answer_of one reply.answer) socket
+said-as number one reply socket =
+    ap (λ (frames : List (List ℕ)). with_frames (map (numbered number) frames) socket) (given-said socket.host socket.socket one reply)
+
+all-as : (number : ℕ) (one : Event) (reply : Reply) (found : Option SocketFrames)
+    → option_map (with_said number (said one reply)) found ≡ option_map (with_said number (answer_of one reply.answer)) found
+all-as number one reply None = refl
+all-as number one reply (Some socket) = ap (λ (s : SocketFrames). Some s) (said-as number one reply socket)
+
+-- what an answer gives, asked of the sockets
+pub said_answer : (number : ℕ) (one : Event) (reply : Reply) (old new : List SocketFrames)
+    → GetsSaid number (answer_of one reply.answer) old new → GetsSaid number (said one reply) old new
+said_answer number one reply old new gets k = gets k ∙ sym (all-as number one reply (slice_get old k))
+
+empty-more : (number : ℕ) (found : Option SocketFrames) → found ≡ option_map (with_said number []) found
+empty-more number None = refl
+empty-more number (Some socket) =
+    ap (λ (frames : List Timed). Some (record socket { frames = frames })) (sym (append-nil socket.frames))
+
+pub gets_none : (number : ℕ) (sockets : List SocketFrames) → GetsSaid number [] sockets sockets
+gets_none number sockets k = empty-more number (slice_get sockets k)
+
+chosen-as : (b : Bool) (number : ℕ) (frame : List ℕ) → (if b then numbered number frame ∷ [] else [])
+    ≡ map (numbered number) ((if b then frame ∷ [] else []) ++ [])
+chosen-as true number frame = refl
+chosen-as false number frame = refl
+
+given-as : (host socket number : ℕ) (frame : List ℕ) (found : Option SocketFrames)
+    → option_map (with_given host socket (numbered number frame ∷ [])) found
+    ≡ option_map (with_said number (Given host socket frame ∷ [])) found
+given-as host socket number frame None = refl
+given-as host socket number frame (Some one) =
+    ap (λ (frames : List Timed). Some (with_frames frames one)) (chosen-as ((one.host == host) && (one.socket == socket)) number frame)
+
+pub gets_given : (host socket number : ℕ) (frame : List ℕ) (old new : List SocketFrames)
+    → GetsGiven host socket (numbered number frame) old new → GetsSaid number (Given host socket frame ∷ []) old new
+gets_given host socket number frame old new gets k = gets k ∙ given-as host socket number frame (slice_get old k)
+
+-- One event.
+
+single : (number : ℕ) (one : Event) (reply : Reply) (found : Option SocketFrames)
+    → option_map (with_said number (said one reply)) found ≡ option_map (socket_behind number (one ∷ []) (reply ∷ [])) found
+single number one reply None = refl
+single number one reply (Some socket) = ap (λ (frames : List Timed). Some (with_frames frames socket))
+    (sym (append-nil (map (numbered number) (given socket.host socket.socket (said one reply)))))
+
+pub noted : (one : Event) (reply : Reply) (old new : Record) → new.number ≡ next_number old.number
+    → TalliesGrow (said one reply) old.hosts.items new.hosts.items
+    → GetsSaid old.number (said one reply) old.sockets.items new.sockets.items → AreNoted (one ∷ []) (reply ∷ []) old new
+noted one reply old new next hosts sockets = record {
+  number = next;
+  hosts = subst (λ (happened : List Happening). TalliesGrow happened old.hosts.items new.hosts.items) (sym (append-nil (said one reply))) hosts;
+  sockets = λ k. sockets k ∙ single old.number one reply (slice_get old.sockets.items k);
+}
+
+-- Several.
+
+happenings-join : (events later : List Event) (replies more : List Reply) → length events ≡ length replies
+    → happenings (events ++ later) (replies ++ more) ≡ happenings events replies ++ happenings later more
+happenings-join [] later [] more same = refl
+happenings-join [] later (reply ∷ replies) more same = cc
+happenings-join (one ∷ events) later [] more same = cc
+happenings-join (one ∷ events) later (reply ∷ replies) more same =
+    ap (λ (rest : List Happening). said one reply ++ rest) (happenings-join events later replies more (omega (arith, same)))
+    ∙ sym (append_assoc (said one reply) (happenings events replies) (happenings later more))
+
+given-join : (host socket number : ℕ) (events later : List Event) (replies more : List Reply) → length events ≡ length replies
+    → given_from host socket number (events ++ later) (replies ++ more)
+    ≡ given_from host socket number events replies ++ given_from host socket (number_behind number events) later more
+given-join host socket number [] later [] more same = refl
+given-join host socket number [] later (reply ∷ replies) more same = cc
+given-join host socket number (one ∷ events) later [] more same = cc
+given-join host socket number (one ∷ events) later (reply ∷ replies) more same =
+    let first = map (numbered number) (given host socket (said one reply)) in
+    let next = next_number number in
+    ap (λ (rest : List Timed). first ++ rest) (given-join host socket next events later replies more (omega (arith, same)))
+    ∙ sym (append_assoc first (given_from host socket next events replies)
+    (given_from host socket (number_behind next events) later more))
+
+behind-join : (number : ℕ) (events later : List Event) (replies more : List Reply) (found : Option SocketFrames)
+    → length events ≡ length replies
+    → option_map (socket_behind (number_behind number events) later more) (option_map (socket_behind number events replies) found)
+    ≡ option_map (socket_behind number (events ++ later) (replies ++ more)) found
+behind-join number events later replies more None same = refl
+behind-join number events later replies more (Some socket) same =
+    let first = given_from socket.host socket.socket number events replies in
+    let second = given_from socket.host socket.socket (number_behind number events) later more in
+    ap (λ (frames : List Timed). Some (record socket { frames = frames }))
+    (append_assoc socket.frames first second
+    ∙ ap (λ (frames : List Timed). socket.frames ++ frames)
+    (sym (given-join socket.host socket.socket number events later replies more same)))
+
+pub noted_join : (events later : List Event) (replies more : List Reply) (a b c : Record) → length events ≡ length replies
+    → AreNoted events replies a b → AreNoted later more b c → AreNoted (events ++ later) (replies ++ more) a c
+noted_join events later replies more a b c same one two = record {
+  number = two.number ∙ ap (λ (n : ℕ). number_behind n later) one.number
+      ∙ sym (fold-append (λ (n : ℕ) (e : Event). next_number n) a.number events later);
+  hosts = subst (λ (happened : List Happening). TalliesGrow happened a.hosts.items c.hosts.items)
+      (sym (happenings-join events later replies more same))
+      (grows_join (happenings events replies) (happenings later more) a.hosts.items b.hosts.items c.hosts.items one.hosts two.hosts);
+  sockets = λ k. two.sockets k
+      ∙ ap (λ (n : ℕ). option_map (socket_behind n later more) (slice_get b.sockets.items k)) one.number
+      ∙ ap (option_map (socket_behind (number_behind a.number events) later more)) (one.sockets k)
+      ∙ behind-join a.number events later replies more (slice_get a.sockets.items k) same;
+}
+
+nothing-more : (number : ℕ) (found : Option SocketFrames) → found ≡ option_map (socket_behind number [] []) found
+nothing-more number None = refl
+nothing-more number (Some socket) =
+    ap (λ (frames : List Timed). Some (record socket { frames = frames })) (sym (append-nil socket.frames))
+
+pub noted_none : (a : Record) → AreNoted [] [] a a
+noted_none a = record {
+  number = refl;
+  hosts = grows_not a.hosts.items;
+  sockets = λ k. nothing-more a.number (slice_get a.sockets.items k);
+}
+
+-- The first of these events are noted, and these are left.
+pub record HasNoted (events rest : List Event) (replies left : List Reply) (old new : Record) : Type 0 where
+  pub done : List Event
+  pub told : List Reply
+  pub parts : events ≡ done ++ rest
+  pub replied : replies ≡ told ++ left
+  pub same : length done ≡ length told
+  pub left_same : length rest ≡ length left
+  pub noted : AreNoted done told old new
+
+pub all_left : (events : List Event) (replies : List Reply) (record_before : Record) → length events ≡ length replies
+    → HasNoted events events replies replies record_before record_before
+all_left events replies before same = record {
+  done = [];
+  told = [];
+  parts = refl;
+  replied = refl;
+  same = refl;
+  left_same = same;
+  noted = noted_none before;
+}
+
+pub one_noted : (events rest later : List Event) (one : Event) (replies left others : List Reply) (reply : Reply) (old mid new : Record)
+    → HasNoted events rest replies left old mid → rest ≡ one ∷ later → left ≡ reply ∷ others
+    → AreNoted (one ∷ []) (reply ∷ []) mid new → HasNoted events later replies others old new
+one_noted events rest later one replies left others reply old mid new has is there more = record {
+  done = has.done ++ one ∷ [];
+  told = has.told ++ reply ∷ [];
+  parts = has.parts ∙ ap (λ (r : List Event). has.done ++ r) is ∙ sym (append_assoc has.done (one ∷ []) later);
+  replied = has.replied ∙ ap (λ (l : List Reply). has.told ++ l) there ∙ sym (append_assoc has.told (reply ∷ []) others);
+  same = length-append has.done (one ∷ []) ∙ ap (λ (n : ℕ). n + 1) has.same ∙ sym (length-append has.told (reply ∷ []));
+  left_same = let counts : length (one ∷ later) ≡ length (reply ∷ others) = sym (ap length is) ∙ has.left_same ∙ ap length there in
+      omega (arith, counts);
+  noted = noted_join has.done (one ∷ []) has.told (reply ∷ []) old mid new has.same has.noted more;
+}
+
+ended : {X : Type 0} → (xs : List X) → 0 ≡ length xs → xs ≡ []
+ended [] none = refl
+ended (x ∷ xs) none = cc
+
+pub all_noted : (events rest : List Event) (replies left : List Reply) (old new : Record) → HasNoted events rest replies left old new
+    → rest ≡ [] → AreNoted events replies old new
+all_noted events rest replies left old new has is =
+    let none : left ≡ [] = ended left (sym (ap length is) ∙ has.left_same) in
+    let all : events ≡ has.done = has.parts ∙ ap (λ (r : List Event). has.done ++ r) is ∙ append-nil has.done in
+    let replied : replies ≡ has.told = has.replied ∙ ap (λ (l : List Reply). has.told ++ l) none ∙ append-nil has.told in
+    subst (λ (es : List Event). AreNoted es replies old new) (sym all)
+    (subst (λ (rs : List Reply). AreNoted has.done rs old new) (sym replied) has.noted)
+
+pub none_left : (events rest : List Event) (replies left : List Reply) (old new : Record) → HasNoted events rest replies left old new
+    → left ≡ [] → AreNoted events replies old new
+none_left events rest replies left old new has is =
+    all_noted events rest replies left old new has (ended rest (sym (ap length is) ∙ sym has.left_same))
+
+-- An event at all hosts.
+
+pub send_grows : (host : ℕ) (frame : Vec ℕ Global) (ticks : Vec Tick Global) (one : Event) (reply : Reply) (ts : List Tick)
+    (os : List Numbered) (a b c : List Tally) → one ≡ event.Send host frame ticks → ts ≡ ticks.items → os ≡ reply.outcomes.list
+    → ((f : List ℕ) → TalliesGrow (accepted_of host f reply.answer) a b) → TalliesGrow (told ts os) b c → TalliesGrow (said one reply) a c
+send_grows host frame ticks one reply ts os a b c is ticks_are outcomes_are sent ticked =
+    let tells : told ts os ≡ told ticks.items reply.outcomes.list =
+    ap (λ (t : List Tick). told t os) ticks_are ∙ ap (λ (o : List Numbered). told ticks.items o) outcomes_are in
+    subst (λ (e : Event). TalliesGrow (said e reply) a c) (sym is)
+    (grows_join (accepted_of host frame.items reply.answer) (told ticks.items reply.outcomes.list) a b c (sent frame.items)
+    (subst (λ (t : List Happening). TalliesGrow t b c) tells ticked))
+
+pub recv_grows : (host socket : ℕ) (ticks : Vec Tick Global) (one : Event) (reply : Reply) (ts : List Tick)
+    (os : List Numbered) (a b c : List Tally) → one ≡ event.Recv host socket ticks → ts ≡ ticks.items → os ≡ reply.outcomes.list
+    → TalliesGrow (told ts os) a b → ((s : ℕ) → TalliesGrow (given_of host s reply.answer) b c) → TalliesGrow (said one reply) a c
+recv_grows host socket ticks one reply ts os a b c is ticks_are outcomes_are ticked received =
+    let tells : told ts os ≡ told ticks.items reply.outcomes.list =
+    ap (λ (t : List Tick). told t os) ticks_are ∙ ap (λ (o : List Numbered). told ticks.items o) outcomes_are in
+    subst (λ (e : Event). TalliesGrow (said e reply) a c) (sym is)
+    (grows_join (told ticks.items reply.outcomes.list) (given_of host socket reply.answer) a b c
+    (subst (λ (t : List Happening). TalliesGrow t a b) tells ticked) (received socket))

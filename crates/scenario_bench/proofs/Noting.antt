@@ -1,0 +1,119 @@
+-- What the parts of an event add to what is noted.
+use Rattle.std.proofs.Common.{◌≡◌, ◌<◌, ◌≤◌, ◌==◌, ◌++◌, ◌∷◌, [], ℕ, Bool, true, false, List, Option, Some, None, length}
+use Rattle.std.proofs.Common.{slice_get, slice_set, option_map, if◌then◌else◌, inl, inr, refl, sym, ap, subst, ◌∙◌, arith}
+use Rattle.std.proofs.lemmas.Bool.Decides.{eqb_tells}
+use Rattle.std.proofs.lemmas.List.Sums.{fold-append}
+use Rattle.std.proofs.lemmas.Option.{slice_get_within}
+use Rattle.circular_buffer.proofs.Places.{slice_get-set_other, slice_get-set_same}
+use Rattle.delivery.specs.Happenings.{Happening, Moved, told_of}
+use Rattle.stations.specs.declared.tick.Outcome.{Outcome}
+use Rattle.stations.specs.declared.tick.Outcome.TheVariants as outcome
+use Rattle.scenario_bench.specs.Tallies.{IsPassage, TalliesGrow, TallyCounts, counted_at, counted_by, counted_once, passage_by}
+use Rattle.scenario_bench.specs.Tallies.{tally_behind}
+use Rattle.scenario_bench.specs.declared.tally.Passage.{Passage}
+use Rattle.scenario_bench.specs.declared.tally.Passage.TheVariants as passage
+use Rattle.scenario_bench.specs.declared.tally.Tally.{Tally}
+
+-- Changes at one place.
+
+abbrev pub changed_at : {X : Type 0} → (k place : ℕ) → (X → X) → X → X
+changed_at k place change one = if k == place then change one else one
+
+is-self : (n : ℕ) → (n == n) ≡ true
+is-self n = elim (eqb_tells n n) [
+  | inl same ↦ same.0
+  | inr other ↦ absurd (other.1 refl)
+]
+
+chosen : {X : Type 0} → (b : Bool) (change : X → X) (one : X) → b ≡ true → (if b then change one else one) ≡ change one
+chosen true change one is = refl
+chosen false change one is = cc
+
+passed : {X : Type 0} → (b : Bool) (change : X → X) (found : Option X) → b ≡ false
+    → found ≡ option_map (λ one. if b then change one else one) found
+passed true change found is = cc
+passed false change None is = refl
+passed false change (Some one) is = refl
+
+pub set-there : {X : Type 0} → (xs : List X) (place : ℕ) (one new : X) (change : X → X) → slice_get xs place ≡ Some one → new ≡ change one
+    → (k : ℕ) → slice_get (slice_set xs place new) k ≡ option_map (changed_at k place change) (slice_get xs k)
+set-there {X} xs place one new change there is k = elim (eqb_tells k place) [
+  | inl same ↦
+      let here : slice_get (slice_set xs place new) place ≡ option_map (changed_at place place change) (slice_get xs place) =
+      slice_get-set_same xs place new (slice_get_within xs place one there) ∙ ap (λ (x : X). Some x) (is
+      ∙ sym (chosen (place == place) change one (is-self place)))
+      ∙ sym (ap (option_map (changed_at place place change)) there) in
+      subst (λ (n : ℕ). slice_get (slice_set xs place new) n ≡ option_map (changed_at n place change) (slice_get xs n)) (sym same.1) here
+  | inr other ↦ slice_get-set_other xs place k new other.1 ∙ passed (k == place) change (slice_get xs k) other.0
+]
+
+beyond : {X : Type 0} → (xs : List X) (place k : ℕ) (change : X → X) (found : Option X) → length xs ≤ place → slice_get xs k ≡ found
+    → found ≡ option_map (changed_at k place change) found
+beyond xs place k change None below is = refl
+beyond xs place k change (Some one) below is = elim (eqb_tells k place) [
+  | inl same ↦ let within : k < length xs = slice_get_within xs k one is in absurd (omega (arith, same.1, within, below))
+  | inr other ↦ passed (k == place) change (Some one) other.0
+]
+
+pub set-nowhere : {X : Type 0} → (xs : List X) (place : ℕ) (change : X → X) → length xs ≤ place
+    → (k : ℕ) → slice_get xs k ≡ option_map (changed_at k place change) (slice_get xs k)
+set-nowhere xs place change below k = beyond xs place k change (slice_get xs k) below refl
+
+-- Numbers of hosts.
+
+pub counts_there : (hosts : List Tally) (host : ℕ) (one : Passage) (tally new : Tally) → slice_get hosts host ≡ Some tally
+    → new ≡ counted_once one tally → TallyCounts host one hosts (slice_set hosts host new)
+counts_there hosts host one tally new there is = set-there hosts host tally new (counted_once one) there is
+
+pub counts_nowhere : (hosts : List Tally) (host : ℕ) (one : Passage) → length hosts ≤ host → TallyCounts host one hosts hosts
+counts_nowhere hosts host one below = set-nowhere hosts host (counted_once one) below
+
+stays : (k : ℕ) (found : Option Tally) → found ≡ option_map (tally_behind [] k) found
+stays k None = refl
+stays k (Some tally) = refl
+
+pub grows_not : (hosts : List Tally) → TalliesGrow [] hosts hosts
+grows_not hosts k = stays k (slice_get hosts k)
+
+further : (xs ys : List Happening) (k : ℕ) (found : Option Tally)
+    → option_map (tally_behind ys k) (option_map (tally_behind xs k) found) ≡ option_map (tally_behind (xs ++ ys) k) found
+further xs ys k None = refl
+further xs ys k (Some tally) = ap (λ (t : Tally). Some t) (sym (fold-append (counted_by k) tally xs ys))
+
+pub grows_join : (xs ys : List Happening) (a b c : List Tally) → TalliesGrow xs a b → TalliesGrow ys b c → TalliesGrow (xs ++ ys) a c
+grows_join xs ys a b c one two k =
+    two k ∙ ap (option_map (tally_behind ys k)) (one k) ∙ further xs ys k (slice_get a k)
+
+-- What outcomes tell.
+
+some-is : {X : Type 0} → (a b : X) → Some a ≡ Some b → a ≡ b
+some-is a b is = cc
+
+pub told_passage : (host : ℕ) (one : Outcome) (found : Passage) (old new : List Tally) → IsPassage one (Some found)
+    → TallyCounts host found old new → TalliesGrow (told_of host one) old new
+told_passage host (outcome.Put frame) found old new is counts k = counts k
+    ∙ ap (λ (p : Passage). option_map (counted_at k host p) (slice_get old k)) (some-is found passage.Put is)
+told_passage host (outcome.Delivered frame fate) found old new is counts k = counts k
+    ∙ ap (λ (p : Passage). option_map (counted_at k host p) (slice_get old k)) (some-is found (passage_by fate) is)
+told_passage host outcome.Took found old new is counts k = cc
+told_passage host outcome.WireFull found old new is counts k = cc
+told_passage host outcome.Moved found old new is counts k = cc
+told_passage host outcome.Done found old new is counts k = cc
+told_passage host outcome.Ticked found old new is counts k = cc
+told_passage host outcome.Nothing found old new is counts k = cc
+told_passage host outcome.Fault found old new is counts k = cc
+
+stays-moved : (host k : ℕ) (found : Option Tally) → found ≡ option_map (tally_behind (Moved host ∷ []) k) found
+stays-moved host k None = refl
+stays-moved host k (Some tally) = refl
+
+pub told_nothing : (host : ℕ) (one : Outcome) (old : List Tally) → IsPassage one None → TalliesGrow (told_of host one) old old
+told_nothing host (outcome.Put frame) old is k = cc
+told_nothing host (outcome.Delivered frame fate) old is k = cc
+told_nothing host outcome.Took old is k = stays k (slice_get old k)
+told_nothing host outcome.WireFull old is k = stays k (slice_get old k)
+told_nothing host outcome.Moved old is k = stays-moved host k (slice_get old k)
+told_nothing host outcome.Done old is k = stays k (slice_get old k)
+told_nothing host outcome.Ticked old is k = stays k (slice_get old k)
+told_nothing host outcome.Nothing old is k = stays k (slice_get old k)
+told_nothing host outcome.Fault old is k = stays k (slice_get old k)

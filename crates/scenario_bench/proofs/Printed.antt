@@ -1,0 +1,27 @@
+-- A text that goes out line by line.
+use Rattle.std.proofs.Common.{◌≡◌, ℕ, List, ◌∷◌, ◌++◌, Option, sym, ap, subst, ◌∙◌, append_assoc}
+use Rattle.std.specs.Io.KnownBytes.{Appends}
+use Rattle.std.specs.List.{flat_map}
+use Rattle.std.proofs.KnownBytes.{Appends-trans}
+use Rattle.pcap_trace.specs.Devices.{AppendsFront}
+use Rattle.pcap_trace.proofs.Sent.{AppendsFront-longer, AppendsFront-then, SentUpTo}
+use Rattle.scenario_bench.specs.Printing.{host_line}
+use Rattle.scenario_bench.specs.declared.summary.HostSummary.{HostSummary}
+
+module _ (a b c : Option (List ℕ)) (text : List ℕ) (host : HostSummary) (left rest : List HostSummary) (next : left ≡ host ∷ rest)
+    (sent : SentUpTo a b text (flat_map host_line left)) where
+  -- the next host's line is still to go
+  begun : text ≡ sent.0 ++ (host_line host ++ flat_map host_line rest)
+  begun = sent.1 ∙ ap (λ (hosts : List HostSummary). sent.0 ++ flat_map host_line hosts) next
+
+  pub SentUpTo-line : Appends b c (host_line host) → SentUpTo a c text (flat_map host_line rest)
+  SentUpTo-line line = (
+    sent.0 ++ host_line host,
+    begun ∙ sym (append_assoc sent.0 (host_line host) (flat_map host_line rest)),
+    Appends-trans a b c sent.0 (host_line host) sent.2 line,
+  )
+
+  pub SentUpTo-stops : AppendsFront b c (host_line host) → AppendsFront a c text
+  SentUpTo-stops part = subst (AppendsFront a c) (sym begun)
+      (AppendsFront-then a b c sent.0 (host_line host ++ flat_map host_line rest) sent.2
+      (AppendsFront-longer b c (host_line host) (flat_map host_line rest) part))

@@ -1,0 +1,13 @@
+use Rattle.std.proofs.Common.{◌≡◌, ◌∷◌, [], ℕ, slice_get, nat_lt, option_map, if◌then◌else◌}
+use Rattle.scenario_bench.specs.Given.{numbered}
+use Rattle.scenario_bench.specs.SocketLists.{with_given}
+use Rattle.scenario_bench.proofs.record.note_frame.Given as goal
+
+-- the sockets before this place have got the frame, if it is theirs
+abbrev pub invariant-loop-place : goal.invariant-loop-place
+invariant-loop-place l =
+    (k : ℕ)
+    → slice_get l.sockets k
+    ≡ (if nat_lt k l.place
+    then option_map (with_given l.host l.socket (numbered l.number l.frame ∷ [])) (slice_get l.fn.sockets k)
+    else slice_get l.fn.sockets k)

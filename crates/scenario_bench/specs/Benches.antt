@@ -1,0 +1,84 @@
+-- What the bench does with a scenario (own).
+use Rattle.std.specs.Prelude.{◌≡◌, ◌<◌, ◌≤◌, ◌+◌, ℕ, List, [], Option, Some, Ok, Err, length, map, slice_get}
+use Rattle.std.specs.Io.KnownBytes.{Appends}
+use Rattle.pcap_trace.specs.Devices.{AppendsFront}
+use Rattle.pcap_trace.specs.Format.{Timed, written}
+use Rattle.network_events.specs.declared.event.Event.{Event}
+use Rattle.network_events.specs.declared.reply.Reply.{Reply}
+use Rattle.wire.specs.Networks.{NetworkState}
+use Rattle.wire.specs.NewNetworks.{IsLanAnswer}
+use Rattle.wire.specs.Runs.{RunsTo, happenings}
+use Rattle.scenario.specs.SoFar.{event_of, hosts_of, said_of}
+use Rattle.scenario.specs.declared.command.Scenario.{Scenario}
+use Rattle.scenario_bench.specs.declared.bench_error.BenchError.{BenchError}
+use Rattle.scenario_bench.specs.declared.bench_error.BenchError.TheVariants as errors
+use Rattle.scenario_bench.specs.declared.summary.Summary.{Summary}
+use Rattle.scenario_bench.specs.EventLists.{all_events}
+use Rattle.scenario_bench.specs.Given.{given_from, sockets_from}
+use Rattle.scenario_bench.specs.Summaries.{TellsHosts}
+
+-- A network was made by the plan, and the events of the scenario's commands were run on it, in order: the delivery theorem holds of them.
+pub record Plays (scenario : Scenario) (traces : List (List (List ℕ))) : Type 0 where
+  pub made : NetworkState
+  pub by_plan : IsLanAnswer scenario.plan.hosts.items (Ok made)
+  pub events : List Event
+  pub of_commands : map event_of events ≡ all_events (hosts_of scenario.plan.hosts.items) traces (map said_of scenario.commands.items)
+  pub replies : List Reply
+  pub behind : NetworkState
+  pub runs : RunsTo made events [] replies behind
+
+-- what each socket gave, hosts in order and their sockets in order
+abbrev pub texts_of : {scenario : Scenario} → {traces : List (List (List ℕ))} → Plays scenario traces → List (List Timed)
+texts_of {scenario} played =
+    map (λ (place : ℕ × ℕ). given_from place.0 place.1 0 played.events played.replies)
+    (sockets_from 0 (hosts_of scenario.plan.hosts.items))
+
+-- What was written to sinks.
+
+-- the bytes that a sink has taken, where it tells them, and how often it has failed
+pub record SinkState : Type 0 where
+  pub taken : Option (List ℕ)
+  pub failures : ℕ
+
+-- It has taken this text more.
+pub record TakesText (text : List Timed) (old new : SinkState) : Type 0 where
+  pub taken : Appends old.taken new.taken (written text)
+  pub failures : new.failures ≡ old.failures
+
+-- It has taken a beginning of this text, and failed.
+pub record FailsAmong (text : List Timed) (old new : SinkState) : Type 0 where
+  pub taken : AppendsFront old.taken new.taken (written text)
+  pub failures : new.failures ≡ old.failures + 1
+
+-- The first so many sinks have their whole text; the others have nothing more.
+pub record AreWritten (count : ℕ) (texts : List (List Timed)) (old new : List SinkState) : Type 0 where
+  pub sinks : length new ≡ length old
+  pub whole : (k : ℕ) (text : List Timed) (before after : SinkState) → k < count → slice_get texts k ≡ Some text
+      → slice_get old k ≡ Some before
+      → slice_get new k ≡ Some after → TakesText text before after
+  pub others : (k : ℕ) → count ≤ k → slice_get new k ≡ slice_get old k
+
+-- The sinks before this one have their whole text, it has a beginning of its own, and those behind it have nothing more.
+pub record AreWrittenUpTo (failed : ℕ) (texts : List (List Timed)) (old new : List SinkState) : Type 0 where
+  pub sinks : length new ≡ length old
+  pub there : failed < length texts
+  pub whole : (k : ℕ) (text : List Timed) (before after : SinkState) → k < failed → slice_get texts k ≡ Some text
+      → slice_get old k ≡ Some before
+      → slice_get new k ≡ Some after → TakesText text before after
+  pub fails : (text : List Timed) (before after : SinkState) → slice_get texts failed ≡ Some text → slice_get old failed ≡ Some before
+      → slice_get new failed ≡ Some after → FailsAmong text before after
+  pub others : (k : ℕ) → failed < k → slice_get new k ≡ slice_get old k
+
+-- At Ok each sink got what its socket gave, and the summary tells of each host.
+pub record Benches (scenario : Scenario) (traces : List (List (List ℕ))) (summary : Summary) (old new : List SinkState) : Type 0 where
+  pub plays : Plays scenario traces
+  pub texts : AreWritten (length (texts_of plays)) (texts_of plays) old new
+  pub tells : TellsHosts (hosts_of scenario.plan.hosts.items) (happenings plays.events plays.replies) plays.behind summary.hosts.items
+
+-- At an error nothing was written, but where a sink failed.
+abbrev pub Stops : (scenario : Scenario) (traces : List (List (List ℕ))) → BenchError → (old new : List SinkState) → Type 0
+Stops scenario traces (errors.Plan error) old new = IsLanAnswer scenario.plan.hosts.items (Err error) × (new ≡ old)
+Stops scenario traces (errors.Run stopped) old new = new ≡ old
+Stops scenario traces errors.Memory old new = new ≡ old
+Stops scenario traces (errors.Write error) old new =
+    (plays : Plays scenario traces) × ((failed : ℕ) × AreWrittenUpTo failed (texts_of plays) old new)

@@ -1,0 +1,10 @@
+pub mod Errors
+pub mod EventLists
+pub mod Given
+pub mod SocketLists
+pub mod Tallies
+pub mod PlayedEvents
+pub mod GivenView
+pub mod Summaries
+pub mod Benches
+pub mod Printing

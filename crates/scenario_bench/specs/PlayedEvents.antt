@@ -1,0 +1,70 @@
+-- Events that were played, and noted (own).
+use Rattle.std.specs.Prelude.{◌≡◌, ◌↔◌, ℕ, List, [], Err, IsTrue, Ok, Some, length, map, replicate, slice_get, string_bytes}
+use Rattle.adapter.specs.World.{World}
+use Rattle.packet_socket.specs.HostState.{HostState}
+use Rattle.stations.specs.Stations.{world_at}
+use Rattle.wire.specs.Equations.{IsExact, counted}
+use Rattle.wire.specs.Networks.{IsHost}
+use Rattle.scenario_bench.specs.declared.summary.HostSummary.{HostSummary}
+use Rattle.scenario_bench.specs.declared.tally.Tally.{Tally}
+use Rattle.network_plan.specs.declared.plan.HostPlan.{HostPlan}
+use Rattle.pcap_trace.specs.declared.trace.Trace.{Trace}
+use Rattle.network_events.specs.declared.event.Event.{Event}
+use Rattle.network_events.specs.declared.reply.Reply.{Reply}
+use Rattle.wire.specs.Runs.{RunsTo}
+use Rattle.wire.specs.NewNetworks.{IsLanAnswer}
+use Rattle.scenario.specs.SoFar.{Said, event_of, hosts_of}
+use Rattle.scenario_bench.specs.Given.{sockets_from}
+use Rattle.scenario_bench.specs.Tallies.{AreNoted, empty_sockets, no_tally}
+use Rattle.scenario_bench.specs.declared.bench_error.BenchError.{BenchError}
+use Rattle.scenario_bench.specs.declared.bench_error.BenchError.TheVariants as errors
+use Rattle.scenario_bench.specs.declared.play.Play.{Play}
+
+-- These events were run on the network, and noted.
+pub record HasPlayed (said : List Said) (old new : Play) : Type 0 where
+  pub events : List Event
+  pub are : map event_of events ≡ said
+  pub replies : List Reply
+  pub runs : RunsTo old.lan events [] replies new.lan
+  pub noted : AreNoted events replies old.record new.record
+
+-- A network was made by a plan, and nothing is noted yet.
+pub record Begins (plans : List HostPlan) (play : Play) : Type 0 where
+  pub made : IsLanAnswer plans (Ok play.lan)
+  pub number : play.record.number ≡ 0
+  pub hosts : play.record.hosts.items ≡ replicate (length plans) no_tally
+  pub sockets : play.record.sockets.items ≡ empty_sockets (sockets_from 0 (hosts_of plans))
+
+-- No network was made, or memory was refused.
+abbrev pub StopsAtPlan : List HostPlan → BenchError → Type 0
+StopsAtPlan plans (errors.Plan error) = IsLanAnswer plans (Err error)
+StopsAtPlan plans (errors.Run stopped) = ⊥
+StopsAtPlan plans errors.Memory = Unit {0}
+StopsAtPlan plans (errors.Write error) = ⊥
+
+-- Memory was refused.
+abbrev pub IsWanting : BenchError → Type 0
+IsWanting (errors.Plan error) = ⊥
+IsWanting (errors.Run stopped) = Unit {0}
+IsWanting errors.Memory = Unit {0}
+IsWanting (errors.Write error) = ⊥
+
+abbrev pub frames_of : Trace → List (List ℕ)
+frames_of trace = trace.frames
+
+-- What is told of a host: its name, its numbers as they are noted, and what is counted of it.
+pub record TellsTally (plan : HostPlan) (tally : Tally) (host : HostState) (world : World) (told : HostSummary) : Type 0 where
+  pub name : string_bytes told.name ≡ string_bytes plan.name
+  pub accepted : told.accepted ≡ tally.accepted
+  pub put : told.put ≡ tally.put
+  pub reached : told.reached ≡ tally.reached
+  pub stored : told.stored ≡ tally.stored
+  pub given : told.given ≡ tally.given
+  pub counts : (told.missed ≡ counted host world) × (IsTrue told.exact ↔ IsExact host world) × (told.unclaimed ≡ host.unclaimed)
+
+-- Of the first so many hosts of a plan this is told.
+pub record TellTallies (first : ℕ) (plans : List HostPlan) (play : Play) (told : List HostSummary) : Type 0 where
+  pub count : length told ≡ first
+  pub each : (k : ℕ) (plan : HostPlan) (tally : Tally) (host : HostState) (one : HostSummary) → slice_get plans k ≡ Some plan
+      → slice_get play.record.hosts.items k ≡ Some tally → IsHost play.lan k host → slice_get told k ≡ Some one
+      → TellsTally plan tally host (world_at play.lan.stations k) one

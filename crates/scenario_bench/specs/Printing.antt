@@ -1,0 +1,28 @@
+-- The lines that the program prints of a run (own).
+use Rattle.std.specs.Prelude.{◌++◌, ℕ, Bool, true, false, List, codes, decimal, string_bytes}
+use Rattle.std.specs.List.{flat_map}
+use Rattle.scenario_bench.specs.declared.summary.HostSummary.{HostSummary}
+use Rattle.scenario_bench.specs.declared.summary.Summary.{Summary}
+
+-- a label and a number
+abbrev pub field : List ℕ → ℕ → List ℕ
+field label number = label ++ decimal number
+
+-- whether the misses are all, or there were more
+abbrev pub exact_word : Bool → List ℕ
+exact_word true = codes " exact"
+exact_word false = codes " atleast"
+
+-- what stands behind a host's name
+abbrev pub host_fields : HostSummary → List ℕ
+host_fields host =
+    field (codes " accepted ") host.accepted ++ field (codes " put ") host.put ++ field (codes " reached ") host.reached
+    ++ field (codes " stored ") host.stored ++ field (codes " missed ") host.missed ++ exact_word host.exact
+    ++ field (codes " given ") host.given ++ field (codes " unclaimed ") host.unclaimed ++ codes "\n"
+
+abbrev pub host_line : HostSummary → List ℕ
+host_line host = string_bytes host.name ++ host_fields host
+
+-- a line a host
+abbrev pub summary_text : Summary → List ℕ
+summary_text summary = flat_map host_line summary.hosts.items

@@ -1,0 +1,22 @@
+-- The frames that a socket gave, each with the number of its event (own).
+use Rattle.std.specs.Prelude.{◌==◌, ◌&&◌, ◌++◌, ℕ, List, [], if◌then◌else◌}
+use Rattle.pcap_trace.specs.Format.{Timed}
+
+pub record SocketFrames : Type 0 where
+  pub host : ℕ
+  pub socket : ℕ
+  pub frames : List Timed
+
+abbrev pub no_frames : (host socket : ℕ) → SocketFrames
+no_frames host socket = record { host = host; socket = socket; frames = [] }
+
+-- these frames more
+abbrev pub with_frames : List Timed → SocketFrames → SocketFrames
+with_frames frames socket = record socket { frames = socket.frames ++ frames }
+
+-- Frames that a socket gave stand behind the others, where it is this one.
+abbrev pub with_given : (host socket : ℕ) → List Timed → SocketFrames → SocketFrames
+with_given host socket frames one = with_frames (if (one.host == host) && (one.socket == socket) then frames else []) one
+
+abbrev pub frames_given : SocketFrames → List Timed
+frames_given socket = socket.frames

@@ -1,0 +1,46 @@
+-- What is told of each host behind a run (own).
+use Rattle.std.specs.Prelude.{◌≡◌, ◌↔◌, ℕ, IsTrue, List, Some, length, min, slice_get, string_bytes, sum_by}
+use Rattle.std.specs.Prelude.{◌==◌, if◌then◌else◌}
+use Rattle.delivery.specs.Happenings.{Happening, Accepted, Put, Reached, Moved, Given, accepted, put, reached, stored}
+use Rattle.packet_socket.specs.HostState.{HostState}
+use Rattle.adapter.specs.World.{World}
+use Rattle.stations.specs.Stations.{world_at}
+use Rattle.wire.specs.Equations.{IsExact, counted}
+use Rattle.wire.specs.Networks.{IsHost, NetworkState}
+use Rattle.scenario.specs.SoFar.{Host}
+use Rattle.scenario_bench.specs.Given.{greatest_number}
+use Rattle.scenario_bench.specs.declared.summary.HostSummary.{HostSummary}
+
+-- a number as it is told: up to the greatest
+abbrev pub as_told : ℕ → ℕ
+as_told number = min number greatest_number
+
+-- how many frames the sockets of a host gave
+abbrev pub given_of : ℕ → Happening → ℕ
+given_of k (Accepted host frame) = 0
+given_of k (Put host frame) = 0
+given_of k (Reached host frame fate) = 0
+given_of k (Moved host) = 0
+given_of k (Given host socket frame) = if k == host then 1 else 0
+
+abbrev pub all_given : ℕ → List Happening → ℕ
+all_given k happened = sum_by (given_of k) happened
+
+-- Of the k-th host: its name, how many frames it accepted, put, was reached by, stored and gave, and what was counted.
+pub record TellsHost (k : ℕ) (plan : Host) (happened : List Happening) (host : HostState) (world : World) (told : HostSummary)
+    : Type 0 where
+  pub name : string_bytes told.name ≡ plan.name
+  pub accepted : told.accepted ≡ as_told (length (accepted k happened))
+  pub put : told.put ≡ as_told (length (put k happened))
+  pub reached : told.reached ≡ as_told (length (reached k happened))
+  pub stored : told.stored ≡ as_told (length (stored k happened))
+  pub given : told.given ≡ as_told (all_given k happened)
+  pub missed : told.missed ≡ counted host world
+  pub exact : IsTrue told.exact ↔ IsExact host world
+  pub unclaimed : told.unclaimed ≡ host.unclaimed
+
+-- Of each host of the plan, in order.
+pub record TellsHosts (plans : List Host) (happened : List Happening) (network : NetworkState) (told : List HostSummary) : Type 0 where
+  pub count : length told ≡ length plans
+  pub each : (k : ℕ) (plan : Host) (host : HostState) (one : HostSummary) → slice_get plans k ≡ Some plan → IsHost network k host
+      → slice_get told k ≡ Some one → TellsHost k plan happened host (world_at network.stations k) one

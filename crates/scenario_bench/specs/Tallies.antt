@@ -1,0 +1,108 @@
+-- What is noted of a run while it goes on (own).
+use Rattle.std.specs.Prelude.{◌≡◌, ◌==◌, ℕ, List, [], ◌∷◌, Option, Some, None, if◌then◌else◌, map, option_map, slice_get}
+use Rattle.std.specs.List.{fold}
+use Rattle.rx_engine.specs.declared.arrival.Fate.{Fate}
+use Rattle.rx_engine.specs.declared.arrival.Fate.TheVariants as fate
+use Rattle.pcap_trace.specs.Format.{Timed}
+use Rattle.delivery.specs.Happenings.{Happening, Accepted, Put, Reached, Moved, Given, given}
+use Rattle.network_events.specs.declared.event.Event.{Event}
+use Rattle.network_events.specs.declared.reply.Reply.{Reply}
+use Rattle.stations.specs.declared.tick.Tick.{Tick}
+use Rattle.stations.specs.declared.tick.Tick.TheVariants.{Deliver, Go, Step}
+use Rattle.stations.specs.declared.tick.Outcome.{Outcome}
+use Rattle.stations.specs.declared.tick.Outcome.TheVariants as outcome
+use Rattle.wire.specs.Runs.{happenings}
+use Rattle.scenario_bench.specs.SocketLists.{SocketFrames, no_frames, with_frames, with_given}
+use Rattle.scenario_bench.specs.Given.{given_from, next_number, numbered}
+use Rattle.scenario_bench.specs.declared.record.Record.{Record}
+use Rattle.scenario_bench.specs.declared.tally.Passage.{Passage}
+use Rattle.scenario_bench.specs.declared.tally.Passage.TheVariants as passage
+use Rattle.scenario_bench.specs.declared.tally.Tally.{Tally}
+
+-- Of each host.
+
+abbrev pub counted_once : Passage → Tally → Tally
+counted_once passage.Accepted tally = record tally { accepted = next_number tally.accepted }
+counted_once passage.Put tally = record tally { put = next_number tally.put }
+counted_once passage.Reached tally = record tally { reached = next_number tally.reached }
+counted_once passage.Stored tally = record tally { reached = next_number tally.reached; stored = next_number tally.stored }
+counted_once passage.Given tally = record tally { given = next_number tally.given }
+
+-- a passage at a host, where it is this one
+abbrev pub counted_at : (k host : ℕ) → Passage → Tally → Tally
+counted_at k host one tally = if k == host then counted_once one tally else tally
+
+abbrev pub passage_by : Fate → Passage
+passage_by fate.Stored = passage.Stored
+passage_by _ = passage.Reached
+
+-- what a happening adds to the k-th host's numbers
+abbrev pub counted_by : ℕ → Tally → Happening → Tally
+counted_by k tally (Accepted host frame) = counted_at k host passage.Accepted tally
+counted_by k tally (Put host frame) = counted_at k host passage.Put tally
+counted_by k tally (Reached host frame one) = counted_at k host (passage_by one) tally
+counted_by k tally (Moved host) = tally
+counted_by k tally (Given host socket frame) = counted_at k host passage.Given tally
+
+abbrev pub no_tally : Tally
+no_tally = record { accepted = 0; put = 0; reached = 0; stored = 0; given = 0 }
+
+-- Of events and their replies.
+
+-- The host's numbers grow by what happened to its frames.
+abbrev pub tally_behind : List Happening → ℕ → Tally → Tally
+tally_behind happened k tally = fold (counted_by k) tally happened
+
+abbrev pub TalliesGrow : List Happening → (old new : List Tally) → Type 0
+TalliesGrow happened old new = (k : ℕ) → slice_get new k ≡ option_map (tally_behind happened k) (slice_get old k)
+
+-- A socket's frames grow by those that it gave in these events, the first of which has this number.
+abbrev pub socket_behind : (number : ℕ) → List Event → List Reply → SocketFrames → SocketFrames
+socket_behind number events replies socket = with_frames (given_from socket.host socket.socket number events replies) socket
+
+abbrev pub SocketsGrow : (number : ℕ) → List Event → List Reply → (old new : List SocketFrames) → Type 0
+SocketsGrow number events replies old new =
+    (k : ℕ) → slice_get new k ≡ option_map (socket_behind number events replies) (slice_get old k)
+
+-- the number of the event behind these
+abbrev pub number_behind : ℕ → List Event → ℕ
+number_behind number events = fold (λ n event. next_number n) number events
+
+-- These events with these replies are noted.
+pub record AreNoted (events : List Event) (replies : List Reply) (old new : Record) : Type 0 where
+  pub number : new.number ≡ number_behind old.number events
+  pub hosts : TalliesGrow (happenings events replies) old.hosts.items new.hosts.items
+  pub sockets : SocketsGrow old.number events replies old.sockets.items new.sockets.items
+
+-- What the parts of an event add.
+
+-- one passage at a host
+abbrev pub TallyCounts : (host : ℕ) → Passage → (old new : List Tally) → Type 0
+TallyCounts host one old new = (k : ℕ) → slice_get new k ≡ option_map (counted_at k host one) (slice_get old k)
+
+-- the passage that an outcome tells, if it tells one
+abbrev pub IsPassage : Outcome → Option Passage → Type 0
+IsPassage (outcome.Put frame) found = found ≡ Some passage.Put
+IsPassage (outcome.Delivered frame one) found = found ≡ Some (passage_by one)
+IsPassage one found = found ≡ None
+
+-- A frame was given by a socket of a host.
+abbrev pub GetsGiven : (host socket : ℕ) → Timed → (old new : List SocketFrames) → Type 0
+GetsGiven host socket frame old new = (k : ℕ) → slice_get new k ≡ option_map (with_given host socket (frame ∷ [])) (slice_get old k)
+
+-- Each socket's frames grow by those that it gave in an event of this number.
+abbrev pub with_said : (number : ℕ) → List Happening → SocketFrames → SocketFrames
+with_said number happened socket = with_frames (map (numbered number) (given socket.host socket.socket happened)) socket
+
+abbrev pub GetsSaid : (number : ℕ) → List Happening → (old new : List SocketFrames) → Type 0
+GetsSaid number happened old new = (k : ℕ) → slice_get new k ≡ option_map (with_said number happened) (slice_get old k)
+
+-- the host whose adapter a tick moves, if it isn't a Go
+abbrev pub host_named : Tick → Option ℕ
+host_named Go = None
+host_named (Step host kind) = Some host
+host_named (Deliver host) = Some host
+
+-- sockets at these places, which gave no frame
+abbrev pub empty_sockets : List (ℕ × ℕ) → List SocketFrames
+empty_sockets places = map (λ (place : ℕ × ℕ). no_frames place.0 place.1) places

@@ -1,0 +1,85 @@
+//! Why a scenario wasn't played to its end.
+ghost use Rattle.std.specs.Prelude.{◌≡◌};
+ghost use Rattle.scenario_bench.specs.Errors.{status_of};
+ghost use Rattle.scenario_bench.specs.declared.bench_error.BenchError.TheVariants as errors;
+
+use network_events::Stopped;
+use network_plan::PlanError;
+use pcap_trace::WriteError;
+use std::alloc::AllocError;
+use thiserror::Error;
+
+/// The program's exit status where its input was refused.
+const REFUSED: u8 = 1;
+
+/// The program's exit status where a file failed.
+const FILE_FAILED: u8 = 3;
+
+/// The program's exit status where memory was refused.
+const NO_MEMORY: u8 = 4;
+
+/// Why a scenario wasn't played to its end.
+#[derive(Clone, Copy, Debug, PartialEq, Eq, Error)]
+pub enum BenchError {
+    /// No network was made by its plan; nothing was written.
+    #[error("{0}")]
+    Plan(PlanError),
+    /// Memory was refused in a run; nothing was written.
+    #[error("{0}")]
+    Run(Stopped),
+    /// Memory was refused elsewhere; nothing was written.
+    #[error("E57 Memory")]
+    Memory,
+    /// A sink failed; those before it have their whole text, it has a beginning of its own, and those behind it have
+    /// none.
+    #[error("{0}")]
+    Write(WriteError),
+}
+
+impl BenchError {
+    /// The exit status of a program that ends for this: 1 for a plan that is refused, 3 for a sink that failed, 4 for
+    /// want of memory.
+    pub fn status(&self) -> u8
+        ensures { result ≡ status_of self.now }
+    {
+        match self {
+            BenchError::Plan(PlanError::Memory) => NO_MEMORY,
+            BenchError::Plan(_) => REFUSED,
+            BenchError::Run(_) => NO_MEMORY,
+            BenchError::Memory => NO_MEMORY,
+            BenchError::Write(_) => FILE_FAILED,
+        }
+    }
+}
+
+impl From<PlanError> for BenchError {
+    ghost from_gives = { λ e f. f ≡ errors.Plan e };
+
+    fn from(error: PlanError) -> BenchError {
+        BenchError::Plan(error)
+    }
+}
+
+impl From<Stopped> for BenchError {
+    ghost from_gives = { λ e f. f ≡ errors.Run e };
+
+    fn from(error: Stopped) -> BenchError {
+        BenchError::Run(error)
+    }
+}
+
+impl From<AllocError> for BenchError {
+    ghost from_gives = { λ _ f. f ≡ errors.Memory };
+
+    fn from(_error: AllocError) -> BenchError {
+        BenchError::Memory
+    }
+}
+
+impl From<WriteError> for BenchError {
+    ghost from_gives = { λ e f. f ≡ errors.Write e };
+
+    fn from(error: WriteError) -> BenchError {
+        BenchError::Write(error)
+    }
+}

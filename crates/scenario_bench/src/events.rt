@@ -1,0 +1,164 @@
+//! The events that a command of a scenario stands for.
+ghost use Rattle.std.specs.Prelude.{◌≡◌, ◌<◌, ◌++◌, [], IfOk, OnOk, length, map};
+ghost use Rattle.eeprom.specs.Image.{address_bytes};
+ghost use Rattle.scenario.specs.SoFar.{Receives, Sends, Ticks, event_of, hosts_of};
+ghost use Rattle.scenario_bench.specs.EventLists as lists;
+ghost use Rattle.stations.specs.declared.tick.Tick.TheVariants as ticks;
+
+use adapter::StepKind;
+use eeprom::Image;
+use network_events::Event;
+use network_plan::HostPlan;
+use stations::Tick;
+use std::alloc::{AllocError, Global};
+
+/// Bytes of a broadcast without data: two addresses and the type (IEEE 802.3, 3.1.1).
+const HEADER: usize = 14;
+
+/// A host sends these bytes, without ticks.
+pub(crate) fn send(alloc: Global, host: usize, bytes: &[u8]) -> Result<Event, AllocError>
+    ensures { IfOk result (λ event. event_of event ≡ Sends host bytes.now []) }
+{
+    let mut frame = Vec::with_capacity(alloc, bytes.len())?;
+    frame.extend_from_slice(bytes)?;
+    Ok(Event::Send {
+        host,
+        frame,
+        ticks: Vec::new(alloc),
+    })
+}
+
+/// A socket is asked, without ticks.
+fn recv(alloc: Global, host: usize, socket: usize) -> Event
+    ensures { event_of result ≡ Receives host socket [] }
+{
+    Event::Recv {
+        host,
+        socket,
+        ticks: Vec::new(alloc),
+    }
+}
+
+/// A step by itself.
+fn step(host: usize, kind: StepKind) -> Event
+    ensures { event_of result ≡ Ticks (ticks.Step host kind) }
+{
+    Event::Tick(Tick::Step(host, kind))
+}
+
+/// Appends the events by which a frame that waits at a host's end arrives at its sockets.
+fn push_arrival(
+    alloc: Global,
+    host: usize,
+    sockets: usize,
+    events: &mut Vec<Event>,
+) -> Result<(), AllocError>
+    ensures { OnOk result
+        (map event_of events.new.items ≡ map event_of events.old.items ++ lists.arrival_at host sockets) }
+{
+    events.push(Event::Tick(Tick::Deliver(host)))?;
+    events.push(step(host, StepKind::RxData))?;
+    events.push(step(host, StepKind::RxDone))?;
+    events.push(Event::Interrupt {
+        host,
+        ticks: Vec::new(alloc),
+    })?;
+    for socket in 0..sockets {
+        events.push(recv(alloc, host, socket))?;
+    }
+    Ok(())
+}
+
+/// The name of a host's wire, empty where the host isn't there.
+fn wire_of(plans: &[HostPlan], host: usize) -> &str
+    ensures { result.now ≡ lists.wire_of (hosts_of plans.now) host }
+{
+    match plans.get(host) {
+        Some(plan) => plan.wire.as_str(),
+        None => "",
+    }
+}
+
+/// Appends the arrivals at each other host on a host's wire, in order.
+fn push_arrivals(
+    alloc: Global,
+    plans: &[HostPlan],
+    sender: usize,
+    events: &mut Vec<Event>,
+) -> Result<(), AllocError>
+    ensures { OnOk result (map event_of events.new.items ≡ map event_of events.old.items
+        ++ lists.arrivals_from 0 sender (lists.wire_of (hosts_of plans.now) sender) (hosts_of plans.now)) }
+{
+    let wire = wire_of(plans, sender);
+    for (number, plan) in plans.iter().enumerate() {
+        if number != sender && plan.wire.as_str() == wire {
+            push_arrival(alloc, number, plan.sockets.len(), events)?;
+        }
+    }
+    Ok(())
+}
+
+/// What follows the send of a frame that is fed: it is put onto the wire, and arrives at each other host.
+pub(crate) fn behind_send(
+    alloc: Global,
+    plans: &[HostPlan],
+    sender: usize,
+) -> Result<Vec<Event>, AllocError>
+    ensures { IfOk result
+        (λ events. map event_of events.items ≡ lists.behind_send (hosts_of plans.now) sender) }
+{
+    let mut events = Vec::new(alloc);
+    events.push(step(sender, StepKind::TxTake))?;
+    events.push(step(sender, StepKind::TxPut))?;
+    push_arrivals(alloc, plans, sender, &mut events)?;
+    Ok(events)
+}
+
+/// A broadcast of this EEPROM's address, without data, of the type that is for experiments (IEEE 802).
+fn broadcast_of(image: &Image) -> [u8; HEADER]
+    ensures { result ≡ lists.broadcast_of (address_bytes image.now) }
+{
+    let [a0, a1, a2, a3, a4, a5] = image.address();
+    [
+        0xFF, 0xFF, 0xFF, 0xFF, 0xFF, 0xFF, a0, a1, a2, a3, a4, a5, 0x88, 0xB5,
+    ]
+}
+
+/// The ticks of an interrupt that is drawn: a frame finishes behind its first access.
+fn late_frame(alloc: Global, host: usize) -> Result<Vec<Tick>, AllocError>
+    ensures { IfOk result (λ ticks. ticks.items ≡ lists.late_frame host) }
+{
+    let mut ticks = Vec::with_capacity(alloc, 3)?;
+    ticks.push(Tick::Go)?;
+    ticks.push(Tick::Step(host, StepKind::RxData))?;
+    ticks.push(Tick::Step(host, StepKind::RxDone))?;
+    Ok(ticks)
+}
+
+/// The event that a word draws: its low three bits choose the kind, the others the host.
+pub(crate) fn drawn(alloc: Global, plans: &[HostPlan], word: u32) -> Result<Event, AllocError>
+    requires { 0 < length plans.now }
+    ensures { IfOk result (λ event. event_of event ≡ lists.event_drawn (hosts_of plans.now) word) }
+{
+    let host = (word / 8) as usize % plans.len();
+    event_of_kind(alloc, word % 8, host, &plans[host].image)
+}
+
+/// The event of a kind, of eight, at a host with this EEPROM.
+fn event_of_kind(alloc: Global, kind: u32, host: usize, image: &Image) -> Result<Event, AllocError>
+    ensures { IfOk result (λ event. event_of event ≡ lists.event_of_kind kind host (address_bytes image.now)) }
+{
+    Ok(match kind {
+        0 => step(host, StepKind::TxTake),
+        1 => step(host, StepKind::TxPut),
+        2 => step(host, StepKind::RxData),
+        3 => step(host, StepKind::RxDone),
+        4 => Event::Tick(Tick::Deliver(host)),
+        5 => Event::Interrupt {
+            host,
+            ticks: late_frame(alloc, host)?,
+        },
+        6 => recv(alloc, host, 0),
+        _ => send(alloc, host, &broadcast_of(image))?,
+    })
+}

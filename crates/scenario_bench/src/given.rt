@@ -1,0 +1,94 @@
+//! The frames that a socket gave.
+
+use pcap_trace::{Frames, RecordWriter, Sink, WriteError};
+use std::alloc::{AllocError, Global};
+use std::marker::Model;
+
+/// The frames that a socket gave, each with the number of its event.
+///
+/// In contracts it is its place, a host and a socket, and the list of these frames.
+#[derive(Drop)]
+pub(crate) struct GivenFrames {
+    host: usize,
+    socket: usize,
+    numbers: Vec<u64>,
+    frames: Frames,
+}
+
+impl Model for GivenFrames {
+    ghost use Rattle.scenario_bench.specs.SocketLists.{SocketFrames};
+
+    ghost Value = { SocketFrames };
+
+    ghost use Rattle.scenario_bench.specs.GivenView.{HasNumbers, socket_frames};
+
+    ghost view = { socket_frames };
+
+    ghost invariant = { HasNumbers };
+}
+
+impl GivenFrames {
+    ghost use Rattle.std.specs.Prelude.{◌≡◌, ◌<◌, ◌≤◌, ◌++◌, ◌∷◌, [], OnErr, OnOk, length};
+    ghost use Rattle.std.specs.Io.KnownBytes.{Appends};
+    ghost use Rattle.pcap_trace.specs.Devices.{AppendsFront, CountsFailures};
+    ghost use Rattle.pcap_trace.specs.Format.{written};
+    ghost use Rattle.scenario_bench.specs.Given.{numbered};
+    ghost use Rattle.scenario_bench.specs.SocketLists.{no_frames, with_given};
+
+    /// No frame of this socket.
+    pub(crate) fn new(alloc: Global, host: usize, socket: usize) -> Self
+        ensures { result ≡ no_frames host socket }
+    {
+        GivenFrames {
+            host,
+            socket,
+            numbers: Vec::new(alloc),
+            frames: Frames::new(alloc),
+        }
+    }
+
+    /// A socket gave a frame: it stands behind the others where the socket is this one.
+    #[tactic(auto, using(crate::proofs::Gives::gives))]
+    pub(crate) fn note(
+        &mut self,
+        host: usize,
+        socket: usize,
+        number: u64,
+        frame: &[u8],
+    ) -> Result<(), AllocError>
+        requires { length frame.now ≤ 1518 }
+        ensures { OnOk result
+            (self.new ≡ with_given host socket (numbered number frame.now ∷ []) self.old) }
+    {
+        if self.host != host || self.socket != socket {
+            return Ok(());
+        }
+        self.numbers.reserve(1)?;
+        self.frames.push(frame)?;
+        let _ = self.numbers.push(number);
+        Ok(())
+    }
+
+    /// Writes them as a trace; each one's number is its time in microseconds.
+    pub(crate) fn write<W: Sink>(
+        &self,
+        writer: &mut RecordWriter,
+        sink: &mut W,
+    ) -> Result<(), WriteError>
+        requires sound { W.failures sink.old < u64.MAX }
+        ensures ok { OnOk result (Appends (W.taken sink.old) (W.taken sink.new) (written self.now.frames)) }
+        ensures err { OnErr result (AppendsFront (W.taken sink.old) (W.taken sink.new) (written self.now.frames)) }
+        ensures failures { CountsFailures result (W.failures sink.old) (W.failures sink.new) }
+    {
+        writer.begin();
+        let mut numbers = self.numbers.as_slice();
+        for frame in self.frames.iter() {
+            let Some((number, others)) = numbers.split_first() else {
+                break;
+            };
+            writer.write(sink, *number, frame)?;
+            numbers = others;
+        }
+        writer.flush(sink)
+    }
+}

@@ -1,0 +1,23 @@
+//! Scenarios, played: the frames that each socket gave, as traces, and what was counted of each host.
+//!
+//! [`bench`] runs the commands of a [`Scenario`](scenario::Scenario) over hosts on wires.
+#![tactic(auto)]
+
+mod bench_error;
+mod events;
+mod given;
+mod places;
+mod play;
+mod printing;
+mod record;
+mod summary;
+mod tally;
+
+pub use bench_error::BenchError;
+pub use places::sockets;
+pub use play::bench;
+pub use printing::print_summary;
+pub use summary::{HostSummary, Summary};
+
+#[cfg(test)]
+mod tests;

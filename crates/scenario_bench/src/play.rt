@@ -1,0 +1,253 @@
+//! A scenario, played.
+ghost use Rattle.std.specs.Prelude.{◌≡◌, ◌<◌, ◌≤◌, ℕ, All, IfErr, IfOk, OnErr, OnOk, Some, length, map, slice_get};
+ghost use Rattle.std.specs.List.{flat_map};
+ghost use Rattle.packet_socket.specs.HostState.{HostState};
+ghost use Rattle.scenario.specs.SoFar.{event_of, hosts_of, said_of};
+ghost use Rattle.scenario_bench.specs.Benches.{AreWritten, AreWrittenUpTo, Benches, Stops};
+ghost use Rattle.scenario_bench.specs.EventLists as lists;
+ghost use Rattle.scenario_bench.specs.Given.{sockets_from};
+ghost use Rattle.scenario_bench.specs.PlayedEvents.{Begins, HasPlayed, IsWanting, StopsAtPlan, TellTallies, TellsTally};
+ghost use Rattle.scenario_bench.specs.PlayedEvents.{frames_of};
+ghost use Rattle.scenario_bench.specs.SocketLists.{frames_given};
+ghost use Rattle.scenario_bench.specs.declared.tally.Tally.{Tally};
+ghost use Rattle.stations.specs.Stations.{world_at};
+ghost use Rattle.wire.specs.Networks.{IsHost};
+
+use crate::bench_error::BenchError;
+use crate::events::{behind_send, drawn, send};
+use crate::record::Record;
+use crate::summary::{HostSummary, Summary};
+use network_events::{Event, Reply};
+use network_plan::{HostPlan, Plan};
+use pcap_trace::{RecordWriter, Sink, Trace, WriteError};
+use rand_core::SeedableRng;
+use rand_core::utils::NextWord;
+use rand_pcg::Lcg64Xsh32;
+use scenario::{Command, Scenario};
+use std::alloc::{AllocError, Global};
+use wire::Lan;
+
+/// Hosts on wires, and what was noted of their run.
+#[derive(Drop)]
+struct Play {
+    lan: Lan,
+    record: Record,
+    replies: Vec<Reply>,
+}
+
+impl Play {
+    /// The hosts of a plan have come up.
+    fn new(alloc: Global, plan: &Plan) -> Result<Play, BenchError>
+        ensures ok { IfOk result (Begins plan.now.hosts.items) }
+        ensures err { IfErr result (StopsAtPlan plan.now.hosts.items) }
+    {
+        let lan = Lan::new(alloc, plan)?;
+        let record = Record::new(alloc, plan.hosts.as_slice())?;
+        Ok(Play {
+            lan,
+            record,
+            replies: Vec::new(alloc),
+        })
+    }
+
+    /// Runs these events, and notes what came of them.
+    #[tactic(auto, using(crate::proofs::PlayedEvents::played, crate::proofs::PlayedEvents::answered))]
+    fn run(&mut self, alloc: Global, events: &[Event]) -> Result<(), BenchError>
+        ensures ok { OnOk result (HasPlayed (map event_of events.now) self.old self.new) }
+        ensures err { IfErr result IsWanting }
+    {
+        self.replies.clear();
+        self.lan.run(alloc, events, &mut self.replies)?;
+        self.record.note_all(events, self.replies.as_slice())?;
+        Ok(())
+    }
+
+    /// A host sends each frame of a trace, and it arrives at the others on its wire.
+    #[tactic(auto, using(crate::proofs::PlayedEvents::all_fed))]
+    fn feed(
+        &mut self,
+        alloc: Global,
+        plans: &[HostPlan],
+        host: usize,
+        trace: &Trace,
+    ) -> Result<(), BenchError>
+        ensures ok { OnOk result
+            (HasPlayed (flat_map (lists.fed (hosts_of plans.now) host) trace.now.frames) self.old self.new) }
+        ensures err { IfErr result IsWanting }
+    {
+        let behind = behind_send(alloc, plans, host)?;
+        for frame in trace.frames.iter() {
+            let events = [send(alloc, host, frame)?];
+            self.run(alloc, &events)?;
+            self.run(alloc, behind.as_slice())?;
+        }
+        Ok(())
+    }
+
+    /// Events that are drawn.
+    #[tactic(auto, using(crate::proofs::PlayedEvents::all_drawn, crate::proofs::PlayedEvents::none_drawn, crate::proofs::PlayedEvents::one_drawn))]
+    fn draw(
+        &mut self,
+        alloc: Global,
+        plans: &[HostPlan],
+        count: u32,
+        start: u64,
+    ) -> Result<(), BenchError>
+        requires { 0 < length plans.now }
+        ensures ok { OnOk result (HasPlayed
+            (map (lists.event_drawn (hosts_of plans.now)) (lists.words_drawn count start)) self.old self.new) }
+        ensures err { IfErr result IsWanting }
+    {
+        let mut generator = Lcg64Xsh32::seed_from_u64(start);
+        let mut left = count;
+        while left > 0 {
+            let events = [drawn(alloc, plans, generator.next_word())?];
+            self.run(alloc, &events)?;
+            left -= 1;
+        }
+        Ok(())
+    }
+
+    /// The events of a command.
+    #[tactic(auto, using(crate::proofs::PlayedEvents::of_event, crate::proofs::PlayedEvents::of_feed, crate::proofs::PlayedEvents::of_no_feed, crate::proofs::PlayedEvents::of_auto))]
+    fn command(
+        &mut self,
+        alloc: Global,
+        plans: &[HostPlan],
+        traces: &[Trace],
+        command: &Command,
+    ) -> Result<(), BenchError>
+        requires { 0 < length plans.now }
+        ensures ok { OnOk result (HasPlayed
+            (lists.events_of (hosts_of plans.now) (map frames_of traces.now) (said_of command.now)) self.old self.new) }
+        ensures err { IfErr result IsWanting }
+    {
+        match command {
+            Command::Event(event) => self.run(alloc, std::slice::from_ref(event))?,
+            Command::Feed { host, trace } => {
+                if let Some(trace) = traces.get(*trace) {
+                    self.feed(alloc, plans, *host, trace)?;
+                }
+            }
+            Command::Auto { count, start } => self.draw(alloc, plans, *count, *start)?,
+        }
+        Ok(())
+    }
+
+    /// The events of these commands, in order.
+    #[tactic(auto, using(crate::proofs::PlayedEvents::none_fed, crate::proofs::PlayedEvents::one_ran, crate::proofs::PlayedEvents::all_ran))]
+    fn commands(
+        &mut self,
+        alloc: Global,
+        plans: &[HostPlan],
+        traces: &[Trace],
+        commands: &[Command],
+    ) -> Result<(), BenchError>
+        requires { 0 < length plans.now }
+        ensures ok { OnOk result (HasPlayed (lists.all_events (hosts_of plans.now) (map frames_of traces.now)
+            (map said_of commands.now)) self.old self.new) }
+        ensures err { IfErr result IsWanting }
+    {
+        let mut left = commands;
+        while let Some((command, later)) = left.split_first() {
+            self.command(alloc, plans, traces, command)?;
+            left = later;
+        }
+        Ok(())
+    }
+
+    /// What is told of a host.
+    fn host_summary(
+        &self,
+        alloc: Global,
+        number: usize,
+        plan: &HostPlan,
+    ) -> Result<HostSummary, AllocError>
+        requires tally { number < length self.now.record.hosts.items }
+        requires there { number < length self.now.lan.hosts }
+        ensures { IfOk result (λ told. (tally : Tally) (host : HostState)
+            → slice_get self.now.record.hosts.items number ≡ Some tally → IsHost self.now.lan number host
+            → TellsTally plan.now tally host (world_at self.now.lan.stations number) told) }
+    {
+        let tally = self.record.hosts[number];
+        let counts = self.lan.counts(number).unwrap();
+        Ok(HostSummary {
+            name: String::from_str(alloc, plan.name.as_str())?,
+            accepted: tally.accepted,
+            put: tally.put,
+            reached: tally.reached,
+            stored: tally.stored,
+            missed: counts.missed,
+            exact: counts.exact,
+            given: tally.given,
+            unclaimed: counts.unclaimed,
+        })
+    }
+
+    /// What is told of all hosts.
+    #[tactic(auto, using(crate::proofs::Benching::none_told))]
+    fn summary(&self, alloc: Global, plans: &[HostPlan]) -> Result<Summary, AllocError>
+        requires tallies { length plans.now ≤ length self.now.record.hosts.items }
+        requires hosts { length plans.now ≤ length self.now.lan.hosts }
+        ensures { IfOk result (λ summary. TellTallies (length plans.now) plans.now self.now summary.hosts.items) }
+    {
+        let mut hosts = Vec::new(alloc);
+        for (number, plan) in plans.iter().enumerate() {
+            hosts.push(self.host_summary(alloc, number, plan)?)?;
+        }
+        Ok(Summary { hosts })
+    }
+
+    /// Writes to each sink the frames that its socket gave.
+    #[tactic(auto, using(crate::proofs::Writing::none_written))]
+    fn write<W: Sink>(&self, writer: &mut RecordWriter, sinks: &mut [W]) -> Result<(), WriteError>
+        requires sinks { length sinks.old ≡ length self.now.record.sockets.items }
+        requires sound { All (λ (sink : W). W.failures sink < u64.MAX) sinks.old }
+        ensures ok { OnOk result (AreWritten (length sinks.old) (map frames_given self.now.record.sockets.items)
+            (map (λ (s : W). record { taken = W.taken s; failures = W.failures s }) sinks.old)
+            (map (λ (s : W). record { taken = W.taken s; failures = W.failures s }) sinks.new)) }
+        ensures err { OnErr result ((failed : ℕ) × AreWrittenUpTo failed (map frames_given self.now.record.sockets.items)
+            (map (λ (s : W). record { taken = W.taken s; failures = W.failures s }) sinks.old)
+            (map (λ (s : W). record { taken = W.taken s; failures = W.failures s }) sinks.new)) }
+    {
+        for place in 0..sinks.len() {
+            self.record.sockets[place].write(writer, &mut sinks[place])?;
+        }
+        Ok(())
+    }
+}
+
+/// Plays a scenario: makes a network by its plan, runs the events of its commands in order, and writes to each sink the
+/// frames that its socket gave, as a trace (libpcap, "pcap-savefile"), each with the number of its event as its time in
+/// microseconds. There is a trace for each name of [`Scenario::trace_names`], and a sink for each socket: hosts in
+/// order, and the sockets of each in order. Events are numbered from 0, up to the greatest `u64`.
+///
+/// # Errors
+///
+/// [`Plan`](BenchError::Plan) where no network is made by the plan (E40 to E46), [`Run`](BenchError::Run) (E47) and
+/// [`Memory`](BenchError::Memory) (E57) where memory is refused: then nothing was written.
+/// [`Write`](BenchError::Write) (E67) where a sink failed: those before it have their whole text, it has a beginning of
+/// its own, and those behind it have nothing.
+pub fn bench<W: Sink>(
+    alloc: Global,
+    scenario: &Scenario,
+    traces: &[Trace],
+    sinks: &mut [W],
+) -> Result<Summary, BenchError>
+    requires sinks { length sinks.old ≡ length (sockets_from 0 (hosts_of scenario.now.plan.hosts.items)) }
+    requires sound { All (λ (sink : W). W.failures sink < u64.MAX) sinks.old }
+    ensures ok { IfOk result (λ summary. Benches scenario.now (map frames_of traces.now) summary
+        (map (λ (s : W). record { taken = W.taken s; failures = W.failures s }) sinks.old)
+        (map (λ (s : W). record { taken = W.taken s; failures = W.failures s }) sinks.new)) }
+    ensures err { IfErr result (λ error. Stops scenario.now (map frames_of traces.now) error
+        (map (λ (s : W). record { taken = W.taken s; failures = W.failures s }) sinks.old)
+        (map (λ (s : W). record { taken = W.taken s; failures = W.failures s }) sinks.new)) }
+{
+    let plans = scenario.plan.hosts.as_slice();
+    let mut play = Play::new(alloc, &scenario.plan)?;
+    play.commands(alloc, plans, traces, scenario.commands.as_slice())?;
+    let summary = play.summary(alloc, plans)?;
+    let mut writer = RecordWriter::new(alloc)?;
+    play.write(&mut writer, sinks)?;
+    Ok(summary)
+}

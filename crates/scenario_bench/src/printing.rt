@@ -1,0 +1,86 @@
+//! The lines that the program prints of a run.
+ghost use Rattle.std.specs.Prelude.{◌≡◌, ◌<◌, ◌≤◌, ◌+◌, ◌++◌, length, OnErr, OnOk};
+ghost use Rattle.std.specs.Io.KnownBytes.{Appends};
+ghost use Rattle.pcap_trace.specs.Devices.{AppendsFront, CountsFailures};
+ghost use Rattle.scenario_bench.specs.Printing.{exact_word, field, host_fields, host_line, summary_text};
+
+use crate::summary::{HostSummary, Summary};
+use arrayvec::ArrayVec;
+use itoa::Buffer;
+use pcap_trace::{Sink, WriteError, write_all};
+
+/// Room for what stands behind a name: seven labels and numbers, of at most 60 bytes each, and a word.
+const LONGEST_LINE: usize = 480;
+
+/// What stands behind a name, put together.
+type Line = ArrayVec<u8, LONGEST_LINE>;
+
+/// Appends a label and a number.
+fn push_field(line: &mut Line, label: &[u8], number: u64)
+    requires label { length label.now ≤ 20 }
+    requires room { length line.old.items + 60 ≤ 480 }
+    ensures text { line.new.items ≡ line.old.items ++ field label.now number }
+    ensures short { length line.new.items ≤ length line.old.items + 60 }
+{
+    let mut buffer = Buffer::new();
+    let digits = buffer.format(number).as_bytes();
+    line.try_extend_from_slice(label).unwrap();
+    line.try_extend_from_slice(digits).unwrap();
+}
+
+/// Appends whether the misses are all.
+fn push_exact(line: &mut Line, exact: bool)
+    requires room { length line.old.items + 8 ≤ 480 }
+    ensures text { line.new.items ≡ line.old.items ++ exact_word exact }
+    ensures short { length line.new.items ≤ length line.old.items + 8 }
+{
+    let word: &[u8] = if exact { b" exact" } else { b" atleast" };
+    line.try_extend_from_slice(word).unwrap();
+}
+
+/// What stands behind a host's name.
+fn fields_of(host: &HostSummary) -> Line
+    ensures { result.items ≡ host_fields host.now }
+{
+    let mut line = Line::new();
+    push_field(&mut line, b" accepted ", host.accepted);
+    push_field(&mut line, b" put ", host.put);
+    push_field(&mut line, b" reached ", host.reached);
+    push_field(&mut line, b" stored ", host.stored);
+    push_field(&mut line, b" missed ", host.missed);
+    push_exact(&mut line, host.exact);
+    push_field(&mut line, b" given ", host.given);
+    push_field(&mut line, b" unclaimed ", host.unclaimed);
+    line.push(b'\n');
+    line
+}
+
+/// Writes the line of a host.
+fn print_host<W: Sink>(host: &HostSummary, sink: &mut W) -> Result<(), WriteError>
+    requires { W.failures sink.old < u64.MAX }
+    ensures ok { OnOk result (Appends (W.taken sink.old) (W.taken sink.new) (host_line host.now)) }
+    ensures err { OnErr result (AppendsFront (W.taken sink.old) (W.taken sink.new) (host_line host.now)) }
+    ensures failures { CountsFailures result (W.failures sink.old) (W.failures sink.new) }
+{
+    write_all(sink, host.name.as_bytes())?;
+    write_all(sink, fields_of(host).as_slice())
+}
+
+/// Writes the program's lines of a run to a sink, one a host: `NAME accepted A put P reached R stored S missed M exact
+/// given G unclaimed U` (`atleast` in place of `exact` where more were missed), each ended by a line feed. It takes no
+/// memory.
+///
+/// # Errors
+///
+/// E67 [`Write`](WriteError::Write) where the sink fails; then a beginning of the text went out.
+pub fn print_summary<W: Sink>(summary: &Summary, sink: &mut W) -> Result<(), WriteError>
+    requires { W.failures sink.old < u64.MAX }
+    ensures ok { OnOk result (Appends (W.taken sink.old) (W.taken sink.new) (summary_text summary.now)) }
+    ensures err { OnErr result (AppendsFront (W.taken sink.old) (W.taken sink.new) (summary_text summary.now)) }
+    ensures failures { CountsFailures result (W.failures sink.old) (W.failures sink.new) }
+{
+    for host in summary.hosts.iter() {
+        print_host(host, sink)?;
+    }
+    Ok(())
+}

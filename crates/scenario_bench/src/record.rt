@@ -1,0 +1,248 @@
+//! What is noted of a run: numbers for each host, and the frames that each socket gave.
+ghost use Rattle.std.specs.Prelude.{◌≡◌, ◌≤◌, ◌++◌, ◌∷◌, [], ℕ, List, IfOk, OnOk, length, replicate};
+ghost use Rattle.delivery.specs.Happenings.{host_of, told, told_of};
+ghost use Rattle.scenario.specs.SoFar.{hosts_of};
+ghost use Rattle.scenario_bench.specs.Given.{numbered, sockets_from, sockets_of};
+ghost use Rattle.scenario_bench.specs.Tallies.{AreNoted, GetsGiven, GetsSaid, IsPassage, TalliesGrow, TallyCounts};
+ghost use Rattle.scenario_bench.specs.Tallies.{empty_sockets, no_tally};
+ghost use Rattle.wire.specs.Runs.{accepted_of, given_of, said};
+
+use crate::given::GivenFrames;
+use crate::tally::{Passage, Tally};
+use adapter::Fate;
+use network_events::{Answer, Event, Reply};
+use network_plan::HostPlan;
+use stations::{Numbered, Outcome, Tick};
+use std::alloc::{AllocError, Global};
+
+/// What is noted of a run.
+#[derive(Drop)]
+pub(crate) struct Record {
+    /// The number of the next event, up to the greatest.
+    pub(crate) number: u64,
+    /// What was counted of each host.
+    pub(crate) hosts: Vec<Tally>,
+    /// The frames of each socket, hosts in order and their sockets in order.
+    pub(crate) sockets: Vec<GivenFrames>,
+}
+
+/// The host that a tick names; 0 where it is a Go, which names none.
+fn host_of(tick: Tick) -> usize
+    ensures { result ≡ host_of tick }
+{
+    match tick {
+        Tick::Go => 0,
+        Tick::Step(host, _) => host,
+        Tick::Deliver(host) => host,
+    }
+}
+
+/// The host whose adapter a tick moves; none where it is a Go.
+fn host_named(tick: Tick) -> Option<usize>
+    ensures { result ≡ Rattle.scenario_bench.specs.Tallies.host_named tick }
+{
+    match tick {
+        Tick::Go => None,
+        Tick::Step(host, _) => Some(host),
+        Tick::Deliver(host) => Some(host),
+    }
+}
+
+/// What an outcome says of a frame.
+fn passage_of(outcome: &Outcome) -> Option<Passage>
+    ensures { IsPassage outcome.now result }
+{
+    match outcome {
+        Outcome::Put(_) => Some(Passage::Put),
+        Outcome::Delivered(_, Fate::Stored) => Some(Passage::Stored),
+        Outcome::Delivered(_, _) => Some(Passage::Reached),
+        _ => None,
+    }
+}
+
+/// Makes room for the sockets of a host.
+#[tactic(auto, using(crate::proofs::EmptySockets::socket_more, crate::proofs::EmptySockets::no_socket))]
+fn add_sockets(
+    alloc: Global,
+    host: usize,
+    count: usize,
+    sockets: &mut Vec<GivenFrames>,
+) -> Result<(), AllocError>
+    ensures { OnOk result (sockets.new.items ≡ sockets.old.items ++ empty_sockets (sockets_of host count)) }
+{
+    for socket in 0..count {
+        sockets.push(GivenFrames::new(alloc, host, socket))?;
+    }
+    Ok(())
+}
+
+/// A frame passed at a host.
+#[tactic(auto, using(crate::proofs::Noting::counts_there, crate::proofs::Noting::counts_nowhere))]
+fn count(hosts: &mut [Tally], host: usize, passage: Passage)
+    ensures { TallyCounts host passage hosts.old hosts.new }
+{
+    if host < hosts.len() {
+        hosts[host] = hosts[host].with(passage);
+    }
+}
+
+/// What came of a tick at a host.
+#[tactic(auto, using(crate::proofs::Noting::told_passage, crate::proofs::Noting::told_nothing))]
+fn note_outcome(hosts: &mut [Tally], host: usize, outcome: &Outcome)
+    ensures { TalliesGrow (told_of host outcome.now) hosts.old hosts.new }
+{
+    if let Some(passage) = passage_of(outcome) {
+        count(hosts, host, passage);
+    }
+}
+
+/// What came of the ticks of a call: each but a Go has its outcome.
+#[tactic(auto, using(crate::proofs::NotedEvents::told_none, crate::proofs::NotedEvents::told_go, crate::proofs::NotedEvents::told_more, crate::proofs::NotedEvents::told_ends, crate::proofs::NotedEvents::told_all))]
+fn note_ticks(hosts: &mut [Tally], ticks: &[Tick], outcomes: &[Numbered])
+    ensures { TalliesGrow (told ticks.now outcomes.now) hosts.old hosts.new }
+{
+    let mut rest = ticks;
+    let mut left = outcomes;
+    while let Some((tick, later)) = rest.split_first() {
+        rest = later;
+        let Some(host) = host_named(*tick) else {
+            continue;
+        };
+        let Some((first, others)) = left.split_first() else {
+            return;
+        };
+        note_outcome(hosts, host, &first.outcome);
+        left = others;
+    }
+}
+
+/// A socket gave a frame in the event of this number.
+fn note_frame(
+    sockets: &mut [GivenFrames],
+    host: usize,
+    socket: usize,
+    number: u64,
+    frame: &[u8],
+) -> Result<(), AllocError>
+    requires { length frame.now ≤ 1518 }
+    ensures { OnOk result (GetsGiven host socket (numbered number frame.now) sockets.old sockets.new) }
+{
+    for place in 0..sockets.len() {
+        sockets[place].note(host, socket, number, frame)?;
+    }
+    Ok(())
+}
+
+/// What a send answered.
+#[tactic(auto, using(crate::proofs::Noting::grows_not))]
+fn note_sent(hosts: &mut [Tally], host: usize, answer: &Answer)
+    ensures { (frame : List ℕ) → TalliesGrow (accepted_of host frame answer.now) hosts.old hosts.new }
+{
+    if let Answer::Sent(Ok(())) = answer {
+        count(hosts, host, Passage::Accepted);
+    }
+}
+
+/// What a socket answered.
+#[tactic(auto, using(crate::proofs::Noting::grows_not))]
+fn note_received(hosts: &mut [Tally], host: usize, answer: &Answer)
+    ensures { (socket : ℕ) → TalliesGrow (given_of host socket answer.now) hosts.old hosts.new }
+{
+    if let Answer::Received(Ok(_)) = answer {
+        count(hosts, host, Passage::Given);
+    }
+}
+
+/// What came of an event at all hosts.
+#[tactic(auto, using(crate::proofs::Noting::grows_not))]
+fn note_passages(hosts: &mut [Tally], event: &Event, reply: &Reply)
+    ensures { TalliesGrow (said event.now reply.now) hosts.old hosts.new }
+{
+    let outcomes = reply.outcomes.as_slice();
+    match event {
+        Event::Send { host, ticks, .. } => {
+            note_sent(hosts, *host, &reply.answer);
+            note_ticks(hosts, ticks.as_slice(), outcomes);
+        }
+        Event::Recv { host, ticks, .. } => {
+            note_ticks(hosts, ticks.as_slice(), outcomes);
+            note_received(hosts, *host, &reply.answer);
+        }
+        Event::Interrupt { ticks, .. } => note_ticks(hosts, ticks.as_slice(), outcomes),
+        Event::Tick(tick) => {
+            if let Some(first) = outcomes.first() {
+                note_outcome(hosts, host_of(*tick), &first.outcome);
+            }
+        }
+    }
+}
+
+/// The frame that an event of this number gave, if it gave one.
+#[tactic(auto, using(crate::proofs::NotedEvents::said_answer, crate::proofs::NotedEvents::gets_none, crate::proofs::NotedEvents::gets_given))]
+fn note_given(
+    sockets: &mut [GivenFrames],
+    number: u64,
+    event: &Event,
+    reply: &Reply,
+) -> Result<(), AllocError>
+    ensures { OnOk result (GetsSaid number (said event.now reply.now) sockets.old sockets.new) }
+{
+    if let Event::Recv { host, socket, .. } = event {
+        if let Answer::Received(Ok(frame)) = &reply.answer {
+            note_frame(sockets, *host, *socket, number, frame.as_slice())?;
+        }
+    }
+    Ok(())
+}
+
+impl Record {
+    /// Nothing was noted yet of these hosts.
+    pub(crate) fn new(alloc: Global, plans: &[HostPlan]) -> Result<Record, AllocError>
+        ensures number { IfOk result (λ noted. noted.number ≡ 0) }
+        ensures hosts { IfOk result (λ noted. noted.hosts.items ≡ replicate (length plans.now) no_tally) }
+        ensures sockets { IfOk result
+            (λ noted. noted.sockets.items ≡ empty_sockets (sockets_from 0 (hosts_of plans.now))) }
+    {
+        let mut hosts = Vec::new(alloc);
+        let mut sockets = Vec::new(alloc);
+        for (number, plan) in plans.iter().enumerate() {
+            hosts.push(Tally::default())?;
+            add_sockets(alloc, number, plan.sockets.len(), &mut sockets)?;
+        }
+        Ok(Record {
+            number: 0,
+            hosts,
+            sockets,
+        })
+    }
+
+    /// Notes what came of the next event.
+    #[tactic(auto, using(crate::proofs::NotedEvents::noted))]
+    fn note(&mut self, event: &Event, reply: &Reply) -> Result<(), AllocError>
+        ensures { OnOk result (AreNoted (event.now ∷ []) (reply.now ∷ []) self.old self.new) }
+    {
+        note_passages(self.hosts.as_mut_slice(), event, reply);
+        note_given(self.sockets.as_mut_slice(), self.number, event, reply)?;
+        self.number = self.number.saturating_add(1);
+        Ok(())
+    }
+
+    /// Notes what came of each of these events.
+    #[tactic(auto, using(crate::proofs::NotedEvents::all_left, crate::proofs::NotedEvents::one_noted, crate::proofs::NotedEvents::all_noted, crate::proofs::NotedEvents::none_left))]
+    pub(crate) fn note_all(&mut self, events: &[Event], replies: &[Reply]) -> Result<(), AllocError>
+        requires { length events.now ≡ length replies.now }
+        ensures { OnOk result (AreNoted events.now replies.now self.old self.new) }
+    {
+        let mut rest = events;
+        let mut left = replies;
+        while let (Some((event, later)), Some((reply, others))) = (
+            rest.split_first(),
+            left.split_first(),
+        ) {
+            self.note(event, reply)?;
+            rest = later;
+            left = others;
+        }
+        Ok(())
+    }
+}

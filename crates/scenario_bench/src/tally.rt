@@ -1,0 +1,48 @@
+//! What is counted of a host's frames.
+ghost use Rattle.std.specs.Prelude.{◌≡◌};
+ghost use Rattle.scenario_bench.specs.Tallies.{counted_once};
+
+/// How many frames of a host were accepted, put and so on, each up to the greatest `u64`.
+#[derive(Clone, Copy, Debug, Default, PartialEq, Eq)]
+pub(crate) struct Tally {
+    pub(crate) accepted: u64,
+    pub(crate) put: u64,
+    pub(crate) reached: u64,
+    pub(crate) stored: u64,
+    pub(crate) given: u64,
+}
+
+/// What happened to a frame at a host.
+#[derive(Clone, Copy, Debug, PartialEq, Eq)]
+pub(crate) enum Passage {
+    /// It was accepted.
+    Accepted,
+    /// It was put onto the wire.
+    Put,
+    /// It reached the adapter, which didn't store it.
+    Reached,
+    /// It reached the adapter, which stored it.
+    Stored,
+    /// A socket gave it.
+    Given,
+}
+
+impl Tally {
+    /// The same, with one frame more.
+    pub(crate) fn with(self, passage: Passage) -> Tally
+        ensures { result ≡ counted_once passage self }
+    {
+        let mut tally = self;
+        match passage {
+            Passage::Accepted => tally.accepted = tally.accepted.saturating_add(1),
+            Passage::Put => tally.put = tally.put.saturating_add(1),
+            Passage::Reached => tally.reached = tally.reached.saturating_add(1),
+            Passage::Stored => {
+                tally.reached = tally.reached.saturating_add(1);
+                tally.stored = tally.stored.saturating_add(1);
+            }
+            Passage::Given => tally.given = tally.given.saturating_add(1),
+        }
+        tally
+    }
+}
