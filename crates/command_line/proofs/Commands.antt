@@ -1,4 +1,4 @@
--- What holds of the program's command line where clap takes the words: the subcommand is `pass`, and has its files.
+-- What holds of the program's command line where clap takes the words: the subcommand is `pass`, `run` or `show`, and has its files.
 use Rattle.std.specs.List.{find, list_all, slice_index_or}
 use Rattle.std.specs.Option.{option_map, option_map_or}
 use Rattle.std.specs.Prelude.{Result, Ok, Err, IfErr, IsErrAnd, codes, is_some}
@@ -6,7 +6,7 @@ use Rattle.std.specs.Str.{bytes_eq}
 use Rattle.std.proofs.lemmas.Option.{same_Some}
 use Rattle.std.proofs.lemmas.Slice.Eq.{bytes_eq-Decides}
 use Rattle.std.proofs.Common.{◌≡◌, ◌∙◌, ◌||◌, Bool, cond, true, false, not, refl, sym, subst, ap, ap₂, List, [], ◌∷◌, Option, Some, None}
-use Rattle.std.proofs.Common.{inl, inr, true≢false}
+use Rattle.std.proofs.Common.{◌⊎◌, inl, inr, true≢false}
 use Rattle.clap.proofs.OnLiterals.{clap_on_literals}
 use Rattle.clap.specs.Faults.{check_fault, entered_fault, level_fault}
 use Rattle.clap.specs.Kinds.{HasKind, IsAmong, Kinds, check_kinds}
@@ -25,56 +25,88 @@ use Rattle.clap.specs.declared.parser.matches.ArgMatches.{ArgMatches}
 use Rattle.clap.specs.declared.parser.matches.ArgMatches.TheViews.{out-ArgMatches, out-SubCommand}
 use Rattle.std.specs.Borrow.{Bor}
 use Rattle.std.specs.Box.{box_value}
-use Rattle.command_line.specs.Jobs.{HasFiles}
-use Rattle.command_line.specs.Shape.{found_in, pass_app, program_app, refusals}
+use Rattle.command_line.specs.Jobs.{HasFiles, HasScenario, HasTrace, IsSubcommand}
+use Rattle.command_line.specs.Shape.{found_in, pass_app, program_app, refusals, run_app, show_app}
 use Rattle.command_line.proofs.Uses.{EachHasValue, gives, given_has_first, nothing_missing}
 use Rattle.command_line.proofs.Walks.{StopsAtOther, level_below, level_checks, level_rows, level_walk}
 
 pub simple : is_simple program_app ≡ true
-unfolding clap_on_literals program_app pass_app
+unfolding clap_on_literals program_app pass_app run_app show_app
 simple = refl
 
 pub simple_and_free : is_simple_and_free program_app ≡ true
-unfolding clap_on_literals program_app pass_app
+unfolding clap_on_literals program_app pass_app run_app show_app
 simple_and_free = refl
 
--- ---- the program as clap builds it, with its subcommands `pass` and `help`
+-- ---- the program as clap builds it, with its subcommands `pass`, `run`, `show` and `help`
 
 unfoldable built_pass : Shape
 built_pass = slice_index_or (built program_app).subs 0 (new_shape [])
 
+unfoldable built_run : Shape
+built_run = slice_index_or (built program_app).subs 1 (new_shape [])
+
+unfoldable built_show : Shape
+built_show = slice_index_or (built program_app).subs 2 (new_shape [])
+
 unfoldable built_help : Shape
-built_help = slice_index_or (built program_app).subs 1 (new_shape [])
+built_help = slice_index_or (built program_app).subs 3 (new_shape [])
 
 top_gives : list_all gives (built program_app).top.rules ≡ true
-unfolding clap_on_literals program_app pass_app
+unfolding clap_on_literals program_app pass_app run_app show_app
 top_gives = refl
 
 pass_gives : list_all gives built_pass.rules ≡ true
-unfolding clap_on_literals program_app pass_app built_pass
+unfolding clap_on_literals program_app pass_app run_app show_app built_pass
 pass_gives = refl
 
+run_gives : list_all gives built_run.rules ≡ true
+unfolding clap_on_literals program_app pass_app run_app show_app built_run
+run_gives = refl
+
+show_gives : list_all gives built_show.rules ≡ true
+unfolding clap_on_literals program_app pass_app run_app show_app built_show
+show_gives = refl
+
 has_help : (built program_app).top.disable_help_subcommand ≡ false
-unfolding clap_on_literals program_app pass_app
+unfolding clap_on_literals program_app pass_app run_app show_app
 has_help = refl
 
-two_subcommands : (built program_app).subs ≡ built_pass ∷ built_help ∷ []
-unfolding clap_on_literals program_app pass_app built_pass built_help
-two_subcommands = refl
+four_subcommands : (built program_app).subs ≡ built_pass ∷ built_run ∷ built_show ∷ built_help ∷ []
+unfolding clap_on_literals program_app pass_app run_app show_app built_pass built_run built_show built_help
+four_subcommands = refl
 
 help_answers : (word : Text) → answers_to word (label_of built_help) ≡ (bytes_eq (codes "help") word || false)
-unfolding clap_on_literals program_app pass_app built_help
+unfolding clap_on_literals program_app pass_app run_app show_app built_help
 help_answers word = refl
 
 pass_is_named : built_pass.name ≡ codes "pass"
-unfolding clap_on_literals program_app pass_app built_pass
+unfolding clap_on_literals program_app pass_app run_app show_app built_pass
 pass_is_named = refl
+
+run_is_named : built_run.name ≡ codes "run"
+unfolding clap_on_literals program_app pass_app run_app show_app built_run
+run_is_named = refl
+
+show_is_named : built_show.name ≡ codes "show"
+unfolding clap_on_literals program_app pass_app run_app show_app built_show
+show_is_named = refl
 
 pass_wants : (rows : List Row)
     → check_fault built_pass rows false
     ≡ check_kinds false false (not (is_given (codes "IN") rows) || (not (is_given (codes "OUT") rows) || false))
-unfolding clap_on_literals program_app pass_app built_pass
+unfolding clap_on_literals program_app pass_app run_app show_app built_pass
 pass_wants rows = refl
+
+run_wants : (rows : List Row)
+    → check_fault built_run rows false
+    ≡ check_kinds false false (not (is_given (codes "SCENARIO") rows) || (not (is_given (codes "OUTDIR") rows) || false))
+unfolding clap_on_literals program_app pass_app run_app show_app built_run
+run_wants rows = refl
+
+show_wants : (rows : List Row) → check_fault built_show rows false ≡ check_kinds false false (not (is_given (codes "TRACE") rows) || false)
+unfolding clap_on_literals program_app pass_app run_app show_app built_show
+show_wants rows = refl
 
 -- ---- the subcommand that was met
 
@@ -87,36 +119,69 @@ not_second text word e = go (bytes_eq text word) refl
         let back : bytes_eq word text ≡ true = (bytes_eq-Decides word text).1 (sym ((bytes_eq-Decides text word).0 same)) in
         absurd (true≢false (sym back ∙ e))
 
-first_of_two : (first second : Shape) (is_first is_second : Bool) (words : List Text) (name : Text) (rows : List Row) → is_second ≡ false
-    → option_map_or (λ s. level_fault s [] nothing_held words false []) (cond is_first (Some first) (cond is_second (Some second) None)) []
-    ≡ []
-    → option_map (λ s. rows_at s words) (cond is_first (Some first) (cond is_second (Some second) None)) ≡ Some (name, rows)
-    → (level_fault first [] nothing_held words false [] ≡ []) × (name ≡ first.name) × (rows ≡ rows_after first.rules [] words)
-first_of_two first second true is_second words name rows e f found =
-    let same : (name, rows) ≡ rows_at first words = sym (same_Some (rows_at first words) (name, rows) found) in
-    (f, ap (λ (p : Text × List Row). p.0) same, ap (λ (p : Text × List Row). p.1) same)
-first_of_two first second false true words name rows e f found = absurd (true≢false e)
-first_of_two first second false false words name rows e f found = absurd (cc)
+-- the shape was entered with these words, without a fault, and has this name and these rows
+record IsEntered (s : Shape) (words : List Text) (name : Text) (rows : List Row) : Type 0 where
+  faultless : level_fault s [] nothing_held words false [] ≡ []
+  named : name ≡ s.name
+  rows_are : rows ≡ rows_after s.rules [] words
 
-entered_pass : (a : App) (disabled : Bool) (stop : Option (Text × List Text)) (name : Text) (rows : List Row)
-    → a.subs ≡ built_pass ∷ built_help ∷ []
+entered_is : (s : Shape) (words : List Text) (name : Text) (rows : List Row) → level_fault s [] nothing_held words false [] ≡ []
+    → Some (rows_at s words) ≡ Some (name, rows) → IsEntered s words name rows
+entered_is s words name rows f found =
+    let same : (name, rows) ≡ rows_at s words = sym (same_Some (rows_at s words) (name, rows) found) in
+    record {
+      faultless = f;
+      named = ap (λ (p : Text × List Row). p.0) same;
+      rows_are = ap (λ (p : Text × List Row). p.1) same;
+    }
+
+-- one of the program's three subcommands was entered
+abbrev IsEnteredAmong : (first second third : Shape) (words : List Text) (name : Text) (rows : List Row) → Type 0
+IsEnteredAmong first second third words name rows =
+    IsEntered first words name rows ⊎ (IsEntered second words name rows ⊎ IsEntered third words name rows)
+
+first_of_four : (first second third fourth : Shape) (is_first is_second is_third is_fourth : Bool)
+    (words : List Text) (name : Text) (rows : List Row)
+    → is_fourth ≡ false
+    → option_map_or (λ s. level_fault s [] nothing_held words false [])
+    (cond is_first (Some first) (cond is_second (Some second) (cond is_third (Some third) (cond is_fourth (Some fourth) None)))) [] ≡ []
+    → option_map (λ s. rows_at s words)
+    (cond is_first (Some first) (cond is_second (Some second) (cond is_third (Some third) (cond is_fourth (Some fourth) None))))
+    ≡ Some (name, rows)
+    → IsEnteredAmong first second third words name rows
+first_of_four first second third fourth true is_second is_third is_fourth words name rows e f found =
+    inl (entered_is first words name rows f found)
+first_of_four first second third fourth false true is_third is_fourth words name rows e f found =
+    inr (inl (entered_is second words name rows f found))
+first_of_four first second third fourth false false true is_fourth words name rows e f found =
+    inr (inr (entered_is third words name rows f found))
+first_of_four first second third fourth false false false true words name rows e f found = absurd (true≢false e)
+first_of_four first second third fourth false false false false words name rows e f found = absurd (cc)
+
+entered_other : (a : App) (disabled : Bool) (stop : Option (Text × List Text)) (name : Text) (rows : List Row)
+    → a.subs ≡ built_pass ∷ built_run ∷ built_show ∷ built_help ∷ []
     → disabled ≡ false → StopsAtOther disabled stop → entered_fault a stop ≡ [] → entered a stop ≡ Some (name, rows)
-    → (words : List Text) × (level_fault built_pass [] nothing_held words false [] ≡ []) × (name ≡ built_pass.name)
-    × (rows ≡ rows_after built_pass.rules [] words)
-entered_pass a disabled None name rows subs enabled other f found = absurd (cc)
-entered_pass a disabled (Some p) name rows subs enabled other f found =
+    → (words : List Text) × IsEnteredAmong built_pass built_run built_show words name rows
+entered_other a disabled None name rows subs enabled other f found = absurd (cc)
+entered_other a disabled (Some p) name rows subs enabled other f found =
     let answers : Shape → Bool = λ s. answers_to p.0 (label_of s) in
     let fault = subst (λ (l : List Shape). option_map_or (λ s. level_fault s [] nothing_held p.1 false []) (find answers l) []
     ≡ []) subs f in
     let met = subst (λ (l : List Shape). option_map (λ s. rows_at s p.1) (find answers l) ≡ Some (name, rows)) subs found in
-    let is_second : answers built_help ≡ false = help_answers p.0 ∙ not_second (codes "help") p.0 (other enabled) in
-    let it = first_of_two built_pass built_help (answers built_pass) (answers built_help) p.1 name rows is_second fault met in
-    (p.1, it.0, it.1, it.2)
+    let is_fourth : answers built_help ≡ false = help_answers p.0 ∙ not_second (codes "help") p.0 (other enabled) in (
+      p.1,
+      first_of_four built_pass built_run built_show built_help
+          (answers built_pass) (answers built_run) (answers built_show) (answers built_help) p.1 name rows is_fourth fault met,
+    )
 
 both_given : (input output : Bool) → (not input || (not output || false)) ≡ false → (input ≡ true) × (output ≡ true)
 both_given true true e = (refl, refl)
 both_given true false e = absurd (true≢false e)
 both_given false output e = absurd (true≢false e)
+
+one_given : (trace : Bool) → (not trace || false) ≡ false → trace ≡ true
+one_given true e = refl
+one_given false e = absurd (true≢false e)
 
 files_there : (rows : List Row) → EachHasValue rows → check_fault built_pass rows false ≡ [] → HasFiles rows
 files_there rows has f =
@@ -124,9 +189,40 @@ files_there rows has f =
     (nothing_missing false false _ (sym (pass_wants rows) ∙ f)) in
     (given_has_first (codes "IN") rows has given.0, given_has_first (codes "OUT") rows has given.1)
 
--- where clap takes the words, the subcommand is `pass`, with both files
+scenario_there : (rows : List Row) → EachHasValue rows → check_fault built_run rows false ≡ [] → HasScenario rows
+scenario_there rows has f =
+    let given = both_given (is_given (codes "SCENARIO") rows) (is_given (codes "OUTDIR") rows)
+    (nothing_missing false false _ (sym (run_wants rows) ∙ f)) in
+    (given_has_first (codes "SCENARIO") rows has given.0, given_has_first (codes "OUTDIR") rows has given.1)
+
+trace_there : (rows : List Row) → EachHasValue rows → check_fault built_show rows false ≡ [] → HasTrace rows
+trace_there rows has f = given_has_first (codes "TRACE") rows has
+    (one_given (is_given (codes "TRACE") rows) (nothing_missing false false _ (sym (show_wants rows) ∙ f)))
+
+pass_taken : (words : List Text) (name : Text) (rows : List Row) → IsEntered built_pass words name rows → IsSubcommand name rows
+pass_taken words name rows it =
+    let each = level_rows built_pass pass_gives [] words false [] it.faultless in
+    let files = files_there (rows_after built_pass.rules [] words) each
+    (level_checks built_pass pass_gives [] words false [] it.faultless) in
+    inl (it.named ∙ pass_is_named, subst HasFiles (sym it.rows_are) files)
+
+run_taken : (words : List Text) (name : Text) (rows : List Row) → IsEntered built_run words name rows → IsSubcommand name rows
+run_taken words name rows it =
+    let each = level_rows built_run run_gives [] words false [] it.faultless in
+    let files = scenario_there (rows_after built_run.rules [] words) each
+    (level_checks built_run run_gives [] words false [] it.faultless) in
+    inr (inl (it.named ∙ run_is_named, subst HasScenario (sym it.rows_are) files))
+
+show_taken : (words : List Text) (name : Text) (rows : List Row) → IsEntered built_show words name rows → IsSubcommand name rows
+show_taken words name rows it =
+    let each = level_rows built_show show_gives [] words false [] it.faultless in
+    let trace = trace_there (rows_after built_show.rules [] words) each
+    (level_checks built_show show_gives [] words false [] it.faultless) in
+    inr (inr (it.named ∙ show_is_named, subst HasTrace (sym it.rows_are) trace))
+
+-- where clap takes the words, the subcommand is one of the program's, with its files
 pub taken : (words : List Text) (name : Text) (rows : List Row) → refusals words ≡ [] → found_in words ≡ Some (name, rows)
-    → (name ≡ codes "pass") × HasFiles rows
+    → IsSubcommand name rows
 unfolding refusals found_in
 taken words name rows f found =
     let a = built program_app in
@@ -134,10 +230,11 @@ taken words name rows f found =
     let stop = (walk a.top.rules (names_of a) nothing_held rest).stopped in
     let below = level_below a.top top_gives (names_of a) rest (is_some (entered a stop)) (entered_fault a stop) f in
     let good = level_walk a.top top_gives (names_of a) rest (is_some (entered a stop)) (entered_fault a stop) f in
-    let it = entered_pass a a.top.disable_help_subcommand stop name rows two_subcommands has_help good.1 below found in
-    let each = level_rows built_pass pass_gives [] it.0 false [] it.1 in
-    let files = files_there (rows_after built_pass.rules [] it.0) each (level_checks built_pass pass_gives [] it.0 false [] it.1) in
-    (it.2 ∙ pass_is_named, subst HasFiles (sym it.3) files)
+    let it = entered_other a a.top.disable_help_subcommand stop name rows four_subcommands has_help good.1 below found in
+    elim it.1 [
+      | inl pass ↦ pass_taken it.0 name rows pass
+      | inr other ↦ elim other [ inl run ↦ run_taken it.0 name rows run | inr show ↦ show_taken it.0 name rows show ]
+    ]
 
 -- ---- what clap's contracts say of the program
 

@@ -1,15 +1,17 @@
 -- What clap holds for the words, as a job or as the value that it is refused for (own).
-use Rattle.std.specs.Prelude.{◌≡◌, ◌≤◌, IfSome, ℕ, List, [], IsSomeAnd, Option, Some, None, ⊤, IsSome, codes}
+use Rattle.std.specs.Prelude.{◌≡◌, ◌≤◌, ◌⊎◌, IfSome, ℕ, List, [], IsSomeAnd, Option, Some, None, ⊤, IsSome, codes}
 use Rattle.clap.specs.Words.{Row, Text, first_of}
 use Rattle.command_line.specs.Shape.{found_in, refusals}
 use Rattle.command_line.specs.Spelling.{IsGroup, SpellsAddress, SpellsGroup, SpellsVlan}
 use Rattle.command_line.specs.declared.error.InvalidValue.{InvalidValue}
 use Rattle.command_line.specs.declared.job.Job.{Job}
-use Rattle.command_line.specs.declared.job.Job.TheVariants.{Pass}
+use Rattle.command_line.specs.declared.job.Job.TheVariants.{Pass, Run, Show}
 use Rattle.command_line.specs.declared.job.PassFilter.{PassFilter}
 use Rattle.command_line.specs.declared.job.PassJob.{PassJob}
 use Rattle.command_line.specs.declared.job.PassOption.{PassOption}
 use Rattle.command_line.specs.declared.job.PassOption.TheVariants.{Address, Group, Vlan}
+use Rattle.command_line.specs.declared.job.RunJob.{RunJob}
+use Rattle.command_line.specs.declared.job.ShowJob.{ShowJob}
 
 -- the value that an option's text spells, and none exactly where the option isn't there
 abbrev pub IsValueOf : {V : Type 0} → (Text → V → Type 0) → Option Text → Option V → Type 0
@@ -27,9 +29,18 @@ pub record IsPassJobOf (rows : List Row) (job : PassJob) : Type 0 where
   pub input : first_of (codes "IN") rows ≡ Some job.input.now
   pub output : first_of (codes "OUT") rows ≡ Some job.output.now
 
+pub record IsRunJobOf (rows : List Row) (job : RunJob) : Type 0 where
+  pub scenario : first_of (codes "SCENARIO") rows ≡ Some job.scenario.now
+  pub directory : first_of (codes "OUTDIR") rows ≡ Some job.directory.now
+
+abbrev pub IsShowJobOf : List Row → ShowJob → Type 0
+IsShowJobOf rows job = first_of (codes "TRACE") rows ≡ Some job.trace.now
+
 -- the job is that of the subcommand with these matches
 abbrev pub IsJobOf : Text × List Row → Job → Type 0
 IsJobOf found (Pass job) = (found.0 ≡ codes "pass") × IsPassJobOf found.1 job
+IsJobOf found (Run job) = (found.0 ≡ codes "run") × IsRunJobOf found.1 job
+IsJobOf found (Show job) = (found.0 ≡ codes "show") × IsShowJobOf found.1 job
 
 -- what a caller may count on without the words: a group has its group bit, and a VLAN identifier 12 bits
 abbrev pub IsWithinBounds : PassFilter → Type 0
@@ -37,10 +48,25 @@ IsWithinBounds filter = IfSome filter.group IsGroup × IfSome filter.vlan (λ n.
 
 abbrev pub HasBounds : Job → Type 0
 HasBounds (Pass job) = IsWithinBounds job.filter
+HasBounds (Run job) = ⊤
+HasBounds (Show job) = ⊤
 
 -- both files of a `pass` are there
 abbrev pub HasFiles : List Row → Type 0
 HasFiles rows = IsSome (first_of (codes "IN") rows) × IsSome (first_of (codes "OUT") rows)
+
+-- the file and the folder of a `run` are there
+abbrev pub HasScenario : List Row → Type 0
+HasScenario rows = IsSome (first_of (codes "SCENARIO") rows) × IsSome (first_of (codes "OUTDIR") rows)
+
+-- the file of a `show` is there
+abbrev pub HasTrace : List Row → Type 0
+HasTrace rows = IsSome (first_of (codes "TRACE") rows)
+
+-- the subcommand is one of the program's, with its files and its folder
+abbrev pub IsSubcommand : Text → List Row → Type 0
+IsSubcommand name rows =
+    ((name ≡ codes "pass") × HasFiles rows) ⊎ (((name ≡ codes "run") × HasScenario rows) ⊎ ((name ≡ codes "show") × HasTrace rows))
 
 abbrev pub name_of : PassOption → Text
 name_of Address = codes "address"

@@ -20,12 +20,20 @@ pass_app =
     (option_rule (codes "address"))) (option_rule (codes "group"))) (option_rule (codes "vlan")))
     (file_rule (codes "IN"))) (file_rule (codes "OUT"))
 
+-- `run SCENARIO OUTDIR`
+unfoldable pub run_app : App
+run_app = with_rule (with_rule (new_app (codes "run")) (file_rule (codes "SCENARIO"))) (file_rule (codes "OUTDIR"))
+
+-- `show TRACE`
+unfoldable pub show_app : App
+show_app = with_rule (new_app (codes "show")) (file_rule (codes "TRACE"))
+
 -- the program, which has to be told what to do
 unfoldable pub program_app : App
-unfolding pass_app
+unfolding pass_app run_app show_app
 program_app =
-    with_subcommand (on_top (λ s. record s { subcommand_required = true; arg_required_else_help = true })
-    (new_app (codes "nicbench"))) pass_app.top
+    with_subcommand (with_subcommand (with_subcommand (on_top (λ s. record s { subcommand_required = true; arg_required_else_help = true })
+    (new_app (codes "nicbench"))) pass_app.top) run_app.top) show_app.top
 
 -- the kinds of error that clap answers the words with, none where it takes them
 unfoldable pub refusals : List Text → Kinds

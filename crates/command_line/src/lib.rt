@@ -6,15 +6,20 @@
 
 mod command;
 mod error;
+mod help;
 mod job;
 mod pass;
 mod reader;
+mod run;
+mod show;
 pub mod spelling;
 
 pub use error::{InvalidValue, LineError};
-pub use job::{Job, PassFilter, PassJob, PassOption};
+pub use job::{Job, PassFilter, PassJob, PassOption, RunJob, ShowJob};
 pub use reader::line;
 
+#[cfg(test)]
+mod help_texts;
 #[cfg(test)]
 mod readme;
 #[cfg(test)]

@@ -1,29 +1,32 @@
 //! The reading of the program's words.
-ghost use Rattle.std.specs.Prelude.{◌≡◌, ◌≢◌, IfErr, IfOk, OnOk, [], codes, true};
+ghost use Rattle.std.specs.Prelude.{◌≡◌, ◌≢◌, IfErr, IfOk, OnOk, [], true};
 ghost use Rattle.clap.specs.Walk.{texts};
 ghost use Rattle.clap.specs.Words.{found_of, has_subcommand, rows_of, subcommand_rows_of};
 ghost use Rattle.command_line.specs.Errors.{IfValue, IfWords, IsRefusalOf, IsRefusedBy};
-ghost use Rattle.command_line.specs.Jobs.{HasBounds, HasFiles, IsAskedBy, IsInvalidIn, IsJobOf};
-ghost use Rattle.command_line.specs.Jobs.{IsRefusedIn};
+ghost use Rattle.command_line.specs.Jobs.{HasBounds, IsAskedBy, IsInvalidIn, IsJobOf};
+ghost use Rattle.command_line.specs.Jobs.{IsRefusedIn, IsSubcommand};
 ghost use Rattle.command_line.specs.Shape.{found_in, refusals};
 ghost use Rattle.command_line.specs.declared.error.LineError.TheVariants.{NotUnicode};
 
 use crate::command::program;
 use crate::pass::pass_job;
+use crate::run::run_job;
+use crate::show::show_job;
 use crate::{InvalidValue, Job, LineError};
 use clap::ArgMatches;
 use std::alloc::Global;
 
 /// The job of a command with these matches.
 fn job_of<'a>(name: &str, matches: &ArgMatches<'a>) -> Result<Job<'a>, InvalidValue<'a>>
-    requires named { name.now ≡ codes "pass" }
-    requires files { HasFiles (rows_of (found_of matches.now)) }
+    requires { IsSubcommand name.now (rows_of (found_of matches.now)) }
     ensures bounds { IfOk result HasBounds }
     ensures job { IfOk result (IsJobOf (name.now, rows_of (found_of matches.now))) }
     ensures refused { IfErr result (IsInvalidIn (rows_of (found_of matches.now))) }
 {
     match name {
         "pass" => Ok(Job::Pass(pass_job(matches)?)),
+        "run" => Ok(Job::Run(run_job(matches))),
+        "show" => Ok(Job::Show(show_job(matches))),
         _ => unreachable!(),
     }
 }

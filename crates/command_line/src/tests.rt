@@ -1,4 +1,5 @@
-use crate::{InvalidValue, Job, LineError, PassFilter, PassJob, PassOption, line};
+use crate::help_texts::{PASS_HELP, PROGRAM_HELP, RUN_HELP, SHOW_HELP};
+use crate::{InvalidValue, Job, LineError, PassFilter, PassJob, PassOption, RunJob, ShowJob, line};
 use std::alloc::{AllocError, Global};
 use std::test::Fail;
 
@@ -76,6 +77,27 @@ fn options_have_the_values_of_their_texts(rt: HostRuntime) -> Result<(), Fail> {
     ] {
         assert!(rt; is_pass(text, filter, rt.alloc())?, "{text}");
     }
+    Ok(())
+}
+
+#[test]
+fn a_run_has_its_scenario_and_its_folder(rt: HostRuntime) -> Result<(), Fail> {
+    let words = words_of(rt.alloc(), "nicbench run race.scenario out")?;
+    let job = line(rt.alloc(), words.as_slice());
+    let expected = RunJob {
+        scenario: "race.scenario",
+        directory: "out",
+    };
+    assert!(rt; matches!(&job, Ok(Job::Run(job)) if *job == expected));
+    Ok(())
+}
+
+#[test]
+fn a_show_has_its_trace(rt: HostRuntime) -> Result<(), Fail> {
+    let words = words_of(rt.alloc(), "nicbench show in.pcap")?;
+    let job = line(rt.alloc(), words.as_slice());
+    let expected = ShowJob { trace: "in.pcap" };
+    assert!(rt; matches!(&job, Ok(Job::Show(job)) if *job == expected));
     Ok(())
 }
 
@@ -171,52 +193,6 @@ fn an_invalid_value_is_explained(rt: HostRuntime) -> Result<(), Fail> {
     Ok(())
 }
 
-const PROGRAM_HELP: &str = "2 A bench for a driver of the Intel 82540EM and a model of that adapter
-
-Usage: nicbench <COMMAND>
-
-Commands:
-  pass  Send the frames of a trace through a receive filter and a ring
-  help  Print this message or the help of the given subcommand(s)
-
-Options:
-  -h, --help  Print help
-
-Exit status: 0 done, 1 IN was refused, 2 the words were refused or help was asked for,
-3 a file failed, 4 memory was refused. For 1, 3 and 4 standard error has 'nicbench: CODE NAME':
-
-  E57 Memory    Memory was refused before anything was written. Free some, or split IN
-  E60 Header    IN has fewer than 24 bytes, so it is no trace. A pipe or a device has no length
-                and reads as empty: copy what it gives to a file first
-  E61 Magic     IN isn't a pcap file. Of a pcapng file make one: editcap -F pcap IN OUT
-  E62 Version   IN isn't of version 2.4. Write it anew: editcap -F pcap IN OUT
-  E63 LinkType  IN isn't a trace of Ethernet frames. Take it anew, at an Ethernet interface
-  E64 Record    A packet of IN claims more than 262,144 bytes, so IN is damaged. Take it anew
-  E65 Memory    Memory was refused while IN was read. Free some, or split IN:
-                editcap -F pcap -c 100000 IN OUT
-  E66 Read      IN failed while it was read. Name a file and no folder, or copy it to another disk
-  E67 Write     OUT or standard output failed while it was written. Make room there
-  E68 Open      IN couldn't be opened, or OUT made. Look at paths and permissions
-";
-
-const PASS_HELP: &str = "2 Send the frames of a trace through a receive filter and a ring
-
-Usage: nicbench pass [OPTIONS] <IN> <OUT>
-
-Arguments:
-  <IN>   The trace to read, a pcap file
-  <OUT>  The trace to write, a pcap file
-
-Options:
-      --address <A>  Let frames for this address pass, as 02:00:00:00:00:01
-      --group <G>    Let frames for this group pass, as 01:00:5e:00:00:01
-      --vlan <N>     Of tagged frames, let those of this VLAN alone pass, 0 to 4095, as 5
-  -h, --help         Print help
-
-Frames for the broadcast address pass too. Without --address and --group, frames for every address do.
-OUT is made once IN has been read whole, so both may name one file: its frames are replaced.
-";
-
 #[test]
 fn help_is_claps_text(rt: HostRuntime) -> Result<(), Fail> {
     let table = [
@@ -228,6 +204,10 @@ fn help_is_claps_text(rt: HostRuntime) -> Result<(), Fail> {
         (["nicbench", "help", "pass"].as_slice(), PASS_HELP),
         (["nicbench", "pass", "-h"].as_slice(), PASS_HELP),
         (["nicbench", "pass", "a", "--help"].as_slice(), PASS_HELP),
+        (["nicbench", "help", "run"].as_slice(), RUN_HELP),
+        (["nicbench", "run", "-h"].as_slice(), RUN_HELP),
+        (["nicbench", "help", "show"].as_slice(), SHOW_HELP),
+        (["nicbench", "show", "--help"].as_slice(), SHOW_HELP),
     ];
     for (words, expected) in table {
         let text = refusal(rt.alloc(), words)?;
@@ -237,7 +217,7 @@ fn help_is_claps_text(rt: HostRuntime) -> Result<(), Fail> {
 }
 
 /// Lines that clap refuses, each with the first words of its text behind `error: `.
-const REFUSED_LINES: [(&str, &str); 11] = [
+const REFUSED_LINES: [(&str, &str); 17] = [
     ("nicbench fly", "unrecognized subcommand 'fly'"),
     ("nicbench --fly", "unexpected argument '--fly' found"),
     ("nicbench help fly", "unrecognized subcommand 'fly'"),
@@ -269,6 +249,24 @@ const REFUSED_LINES: [(&str, &str); 11] = [
     (
         "nicbench pass a b --address xx --address xx",
         "the argument '--address <A>' cannot be used multiple times",
+    ),
+    (
+        "nicbench run",
+        "the following required arguments were not provided:\n  <SCENARIO>\n  <OUTDIR>",
+    ),
+    (
+        "nicbench run a",
+        "the following required arguments were not provided:\n  <OUTDIR>",
+    ),
+    ("nicbench run a b c", "unexpected argument 'c' found"),
+    (
+        "nicbench show",
+        "the following required arguments were not provided:\n  <TRACE>",
+    ),
+    ("nicbench show a b", "unexpected argument 'b' found"),
+    (
+        "nicbench show a --vlan 5",
+        "unexpected argument '--vlan' found",
     ),
 ];
 

@@ -1,72 +1,23 @@
-//! `nicbench`: takes the frames of a trace file through the modelled adapter's receive filter and a receive ring.
+//! `nicbench`: takes the frames of a trace file through the modelled adapter's receive filter and a receive ring, runs
+//! a scenario of hosts on wires, or lists the frames of a trace.
 #![tactic(auto)]
 
-ghost use Rattle.std.specs.Prelude.{◌≡◌, IfOk};
-ghost use Rattle.pcap_bench.specs.Options.{HasVlanNumber};
+mod fault;
+mod files;
+mod pass;
+mod run;
+mod show;
 
-use command_line::{Job, LineError, PassFilter, line};
-use pcap_bench::{
-    PassCounts, ProgramError, ReaderSource, Sink, Source, Trace, WriterSink, pass, print_pass,
-};
+use crate::fault::Fault;
+use crate::pass::run_pass;
+use crate::run::run_scenario;
+use crate::show::run_show;
+use command_line::{Job, LineError, line};
 use std::alloc::Global;
 use std::env;
-use std::fs::{self, OpenFile};
-use std::io::{self, ErrorKind};
+use std::io::ErrorKind;
 use std::process::ExitCode;
-use std::rt::{Env, Files};
-
-/// A file as a source of the bytes that it has now.
-fn open<R: Files>(rt: &R, path: &str) -> Result<ReaderSource<R::File>, ProgramError>
-    ensures { IfOk result (λ source. ⟦<ReaderSource<R::File> as Source>⟧.failures source ≡ 0) }
-{
-    let Ok(file) = fs::open(rt, path) else {
-        return Err(ProgramError::Open);
-    };
-    let Ok(metadata) = file.metadata() else {
-        return Err(ProgramError::Open);
-    };
-    Ok(ReaderSource::new(file, metadata.len()))
-}
-
-/// A new file as a sink. One that is there already loses its bytes.
-fn create<R: Files>(rt: &R, path: &str) -> Result<WriterSink<R::File>, ProgramError>
-    ensures { IfOk result (λ sink. ⟦<WriterSink<R::File> as Sink>⟧.failures sink ≡ 0) }
-{
-    match fs::create(rt, path) {
-        Ok(file) => Ok(WriterSink::new(file)),
-        Err(_) => Err(ProgramError::Open),
-    }
-}
-
-/// Reads a trace file, and writes what passes to another.
-fn pass_file<R: Files + AllocGlobal>(
-    rt: &R,
-    filter: &PassFilter,
-    input: &str,
-    output: &str,
-) -> Result<(Trace, PassCounts), ProgramError>
-    requires { HasVlanNumber filter.now }
-{
-    let mut source = open(rt, input)?;
-    let trace = Trace::read(rt.alloc(), &mut source)?;
-    let mut sink = create(rt, output)?;
-    let counts = pass(rt.alloc(), &trace, filter, &mut sink)?;
-    Ok((trace, counts))
-}
-
-/// The command `pass`: its line goes to standard output.
-fn run_pass<R: Files + Print + AllocGlobal>(
-    rt: &R,
-    filter: &PassFilter,
-    input: &str,
-    output: &str,
-) -> Result<(), ProgramError>
-    requires { HasVlanNumber filter.now }
-{
-    let (trace, counts) = pass_file(rt, filter, input, output)?;
-    print_pass(&trace, &counts, &mut WriterSink::new(io::writer(rt)))?;
-    Ok(())
-}
+use std::rt::Env;
 
 /// The words that the program was called with, which are texts.
 fn words<R: Env + AllocGlobal>(rt: &R) -> Result<Vec<String>, LineError<'static>> {
@@ -92,7 +43,7 @@ fn borrowed<'a>(alloc: Global, words: &'a [String]) -> Result<Vec<&'a str>, Line
 }
 
 /// Tells a fault on standard error. The status is the fault's also where standard error takes nothing.
-fn tell<R: Eprint>(rt: &R, fault: &ProgramError) -> ExitCode {
+fn tell<R: Eprint>(rt: &R, fault: &Fault) -> ExitCode {
     let _ = eprintln!(rt; "nicbench: {fault}");
     ExitCode::from(fault.status())
 }
@@ -121,8 +72,12 @@ fn main(rt: HostRuntime) -> ExitCode {
         Ok(job) => job,
         Err(error) => return tell_line(&rt, &error),
     };
-    let Job::Pass(job) = job;
-    match run_pass(&rt, &job.filter, job.input, job.output) {
+    let outcome = match job {
+        Job::Pass(job) => run_pass(&rt, &job),
+        Job::Run(job) => run_scenario(&rt, &job),
+        Job::Show(job) => run_show(&rt, &job),
+    };
+    match outcome {
         Ok(()) => ExitCode::SUCCESS,
         Err(fault) => tell(&rt, &fault),
     }

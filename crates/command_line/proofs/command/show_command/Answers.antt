@@ -1,0 +1,12 @@
+use Rattle.std.proofs.Common.{ap, ap₂, ◌≡◌, ◌∙◌, codes}
+use Rattle.clap.specs.Simple.{app_of_fields}
+use Rattle.clap.specs.Words.{app_of, new_app, with_rule}
+use Rattle.command_line.specs.Shape.{show_app}
+use Rattle.command_line.proofs.command.show_command.Goals as goal
+
+pub returns-clause-app : goal.returns-clause-app
+unfolding show_app
+returns-clause-app c =
+    let named : app_of c.after_help-show.result ≡ new_app (codes "show") =
+    ap app_of_fields c.after_help-show.ensures ∙ ap app_of_fields c.about.ensures ∙ c.new.ensures.app in
+    c.in_ok-show.ensures.shape c.file.ensures.local ∙ ap₂ with_rule named c.file.ensures.rule

@@ -1,0 +1,18 @@
+use Rattle.std.proofs.Common.{codes}
+use Rattle.clap.specs.Words.{found_of}
+use Rattle.command_line.proofs.Values.{is_got, some_text}
+use Rattle.command_line.proofs.run.run_job.Goals as goal
+
+pub unwrap-scenario-requires : goal.unwrap-scenario-requires
+unwrap-scenario-requires c = is_got (found_of c.args.matches.now) (codes "SCENARIO") c.get_str.result c.get_str.ensures c.requires.0
+
+pub unwrap-directory-requires : goal.unwrap-directory-requires
+unwrap-directory-requires c = is_got (found_of c.args.matches.now) (codes "OUTDIR") c.get_str-2.result c.get_str-2.ensures c.requires.1
+
+pub returns : goal.returns
+returns c = record {
+  scenario = some_text (found_of c.args.matches.now) (codes "SCENARIO") c.get_str.result c.unwrap-scenario.result c.get_str.ensures
+      c.unwrap-scenario.ensures;
+  directory = some_text (found_of c.args.matches.now) (codes "OUTDIR") c.get_str-2.result c.unwrap-directory.result c.get_str-2.ensures
+      c.unwrap-directory.ensures;
+}

@@ -1,0 +1,94 @@
+//! Why the program ended.
+ghost use Rattle.std.specs.Prelude.{◌≡◌};
+ghost use Rattle.nicbench.specs.Faults.{status_of};
+ghost use Rattle.nicbench.specs.declared.fault.Fault.TheVariants as faults;
+
+use pcap_bench::{ProgramError, WriteError};
+use scenario::Refusal;
+use scenario_bench::BenchError;
+use std::alloc::{AllocError, AllocFailed};
+use thiserror::Error;
+
+/// The exit status where a scenario was refused.
+const REFUSED: u8 = 1;
+
+/// The exit status where memory was refused.
+const NO_MEMORY: u8 = 4;
+
+/// Why the program ended: its text is what stands behind `nicbench: ` on standard error.
+#[derive(Clone, Copy, Debug, PartialEq, Eq, Error)]
+pub(crate) enum Fault {
+    /// A trace was refused, or didn't pass, or a file failed.
+    #[error("{0}")]
+    Program(ProgramError),
+    /// A scenario was refused.
+    #[error("{0}")]
+    Scenario(Refusal),
+    /// A scenario wasn't run to its end.
+    #[error("{0}")]
+    Bench(BenchError),
+    /// Memory was refused elsewhere.
+    #[error("E57 Memory")]
+    Memory,
+}
+
+impl Fault {
+    /// The exit status of the program: 1 for what was refused, 3 for a file that failed, 4 for want of memory.
+    pub(crate) fn status(&self) -> u8
+        ensures { result ≡ status_of self.now }
+    {
+        match self {
+            Fault::Program(error) => error.status(),
+            Fault::Scenario(Refusal::Line { .. }) => REFUSED,
+            Fault::Scenario(Refusal::Memory) => NO_MEMORY,
+            Fault::Bench(error) => error.status(),
+            Fault::Memory => NO_MEMORY,
+        }
+    }
+}
+
+impl From<ProgramError> for Fault {
+    ghost from_gives = { λ e f. f ≡ faults.Program e };
+
+    fn from(error: ProgramError) -> Fault {
+        Fault::Program(error)
+    }
+}
+
+impl From<WriteError> for Fault {
+    fn from(error: WriteError) -> Fault {
+        Fault::Program(ProgramError::Write(error))
+    }
+}
+
+impl From<Refusal> for Fault {
+    ghost from_gives = { λ e f. f ≡ faults.Scenario e };
+
+    fn from(refusal: Refusal) -> Fault {
+        Fault::Scenario(refusal)
+    }
+}
+
+impl From<BenchError> for Fault {
+    ghost from_gives = { λ e f. f ≡ faults.Bench e };
+
+    fn from(error: BenchError) -> Fault {
+        Fault::Bench(error)
+    }
+}
+
+impl From<AllocError> for Fault {
+    ghost from_gives = { λ _ f. f ≡ faults.Memory };
+
+    fn from(_error: AllocError) -> Fault {
+        Fault::Memory
+    }
+}
+
+impl<T: Drop> From<AllocFailed<T>> for Fault {
+    ghost from_gives = { λ _ f. f ≡ faults.Memory };
+
+    fn from(_error: AllocFailed<T>) -> Fault {
+        Fault::Memory
+    }
+}

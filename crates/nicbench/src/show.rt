@@ -1,0 +1,18 @@
+//! The command `show`.
+
+use crate::fault::Fault;
+use crate::files::read_trace;
+use command_line::ShowJob;
+use pcap_bench::{WriterSink, show};
+use std::io;
+use std::rt::Files;
+
+/// Its lines go to standard output.
+pub(crate) fn run_show<R: Files + Print + AllocGlobal>(
+    rt: &R,
+    job: &ShowJob<'_>,
+) -> Result<(), Fault> {
+    let trace = read_trace(rt, job.trace)?;
+    show(&trace, &mut WriterSink::new(io::writer(rt)))?;
+    Ok(())
+}

@@ -1,0 +1,358 @@
+"""`nicbench run` from outside: scenarios, their outputs and their refusals."""
+
+import os
+import subprocess
+
+from bench import FILE_HEADER, packet, trace, trace_in, written
+
+EXAMPLE = b"""host a 02:00:00:00:00:01 w
+host b 02:00:00:00:00:02 w
+socket b all
+send a 0200000000020200000000010800
+tick txtake:a
+tick txput:a
+tick deliver:b
+tick rxdata:b
+tick rxdone:b
+interrupt b
+recv b 0
+"""
+EXAMPLE_FRAME = bytes.fromhex("0200000000020200000000010800")
+EXAMPLE_LINES = (b"a accepted 1 put 1 reached 0 stored 0 missed 0 exact given 0 unclaimed 0\n"
+                 b"b accepted 0 put 0 reached 1 stored 1 missed 0 exact given 1 unclaimed 0\n")
+TWO_HOSTS = b"host a 02:00:00:00:00:01 w\nhost b 02:00:00:00:00:02 w\n"
+TO_SOCKET = TWO_HOSTS + b"socket b all\n"
+# The steps by which a frame that b was sent comes to b's socket.
+ARRIVAL = b"tick deliver:b\ntick rxdata:b\ntick rxdone:b\ninterrupt b\nrecv b 0\n"
+NOTHING = {"accepted": 0, "put": 0, "reached": 0, "stored": 0, "missed": 0, "given": 0, "unclaimed": 0}
+
+
+def told(name, exact="exact", **numbers):
+    """The line of a host, with these numbers and 0 for the others."""
+    n = {**NOTHING, **numbers}
+    return (f"{name} accepted {n['accepted']} put {n['put']} reached {n['reached']} stored {n['stored']} missed {n['missed']} {exact} "
+            f"given {n['given']} unclaimed {n['unclaimed']}\n").encode()
+
+
+def folder(bench, name="outdir"):
+    """An empty folder of this name."""
+    path = bench.path(name)
+    os.makedirs(path, exist_ok=True)
+    for file in os.listdir(path):
+        os.remove(os.path.join(path, file))
+    return path
+
+
+def held(path):
+    """The files of a folder, each with its bytes."""
+    files = {}
+    for name in os.listdir(path):
+        with open(os.path.join(path, name), "rb") as file:
+            files[name] = file.read()
+    return files
+
+
+def plays(bench, name, text, lines, files):
+    """A scenario runs, with these lines, and these files in OUTDIR."""
+    path = folder(bench)
+    bench.put("s.scenario", text)
+    bench.ends(name, ["run", "s.scenario", "outdir"], 0, lines)
+    bench.check(f"{name}: what is written", held(path), files)
+
+
+def refused(bench, name, text, fault, status=1, files=None):
+    """A scenario is refused; OUTDIR has these files, all of them empty."""
+    path = folder(bench)
+    bench.put("s.scenario", text)
+    bench.ends(f"run: {name}", ["run", "s.scenario", "outdir"], status, b"", f"nicbench: {fault}\n".encode())
+    bench.check(f"run: {name}: what is written", held(path), {file: b"" for file in files or []})
+
+
+def played(bench):
+    """Scenarios with known outcomes."""
+    files = {"b.0.pcap": written([(7, EXAMPLE_FRAME)])}
+    plays(bench, "run: the example", EXAMPLE, EXAMPLE_LINES, files)
+    bench.check("run: the example: size", len(files["b.0.pcap"]), 100)
+    bench.check("run: the example: packet header", files["b.0.pcap"][24:40].hex(), "00000000070000003c0000003c000000")
+    bench.ends("run: the example, shown", ["show", "outdir/b.0.pcap"], 0,
+               b"0 60 02:00:00:00:00:02 02:00:00:00:00:01 0800\nframes 1 skipped 0 cut no\n")
+    plays(bench, "run: CR LF", EXAMPLE.replace(b"\n", b"\r\n"), EXAMPLE_LINES, files)
+    plays(bench, "run: no last line feed", EXAMPLE[:-1], EXAMPLE_LINES, files)
+    plays(bench, "run: tabs, empty lines and comments", b"\n \t \n# none\n\t#\n" + EXAMPLE.replace(b" ", b"\t \t").replace(b"\n", b" \n"),
+          EXAMPLE_LINES, files)
+    plays(bench, "run: a line of 8,192 bytes", EXAMPLE + b"#" + b"x" * 8191 + b"\n#" + b"x" * 8191 + b"\r\n", EXAMPLE_LINES, files)
+    plays(bench, "run: no event", TO_SOCKET, told("a") + told("b"), {"b.0.pcap": FILE_HEADER})
+    plays(bench, "run: no socket", TWO_HOSTS, told("a") + told("b"), {})
+    many = b"".join(b"socket a %04x\nsocket b %04x\n" % (n, n) for n in range(8))
+    plays(bench, "run: eight sockets", TWO_HOSTS + many, told("a") + told("b"), {f"{host}.{n}.pcap": FILE_HEADER for host in "ab" for n in range(8)})
+    lengths = b"".join(b"send a %s\n" % (b"ff" * length) for length in [13, 1519, 14, 1518])
+    plays(bench, "run: sends too short and too long", TO_SOCKET + lengths, told("a", accepted=2) + told("b"), {"b.0.pcap": FILE_HEADER})
+    full = b"send a %s\n" % EXAMPLE_FRAME.hex().encode()
+    plays(bench, "run: a full ring", TO_SOCKET + full * 8 + b"tick txtake:a\n" + full, told("a", accepted=7) + told("b"), {"b.0.pcap": FILE_HEADER})
+    plays(bench, "run: a full ring has room behind a put", TO_SOCKET + full * 8 + b"tick txtake:a\ntick txput:a\n" + full,
+          told("a", accepted=8, put=1) + told("b"), {"b.0.pcap": FILE_HEADER})
+    plays(bench, "run: the highest link", TWO_HOSTS.replace(b"02 w\n", b"02 w link 2000\n"), told("a") + told("b"), {})
+    late = b"interrupt b / go rxdata:b rxdone:b\n"
+    missed = TO_SOCKET.replace(b"02 w\n", b"02 w rxa 2\n") + full * 3 + b"tick txtake:a\ntick txput:a\n" * 3 + b"tick deliver:b\n" * 3
+    plays(bench, "run: misses", missed + late + b"interrupt b\nrecv b 0\n",
+          told("a", accepted=3, put=3) + told("b", reached=3, stored=1, missed=2, given=1), {"b.0.pcap": written([(14, EXAMPLE_FRAME)])})
+    plays(bench, "run: a frame without a socket", EXAMPLE.replace(b"socket b all", b"socket b 0806"),
+          told("a", accepted=1, put=1) + told("b", reached=1, stored=1, unclaimed=1), {"b.0.pcap": FILE_HEADER})
+
+
+def feeds(bench):
+    """Traces that are fed."""
+    frames = [EXAMPLE_FRAME + bytes([n]) * n for n in range(20)]
+    bench.put("twenty.pcap", trace(*map(packet, frames)))
+    lines = told("a", accepted=20, put=20) + told("b", reached=20, stored=20, given=20)
+    wanted = {"b.0.pcap": written([(8 * n + 7, frame) for n, frame in enumerate(frames)])}
+    plays(bench, "feed: twenty frames", TO_SOCKET + b"feed a twenty.pcap\n", lines, wanted)
+    plays(bench, "feed: by another path", TO_SOCKET + b"feed a " + bench.path("twenty.pcap").encode() + b"\n", lines, wanted)
+    bench.put("big.pcap", trace_in(">", 0xA1B23C4D, *((1, 5, len(frame), len(frame), frame) for frame in frames)))
+    plays(bench, "feed: big-endian, nanoseconds", TO_SOCKET + b"feed a big.pcap\n", lines, wanted)
+    bench.put("cut.pcap", trace(*map(packet, frames)) + packet(EXAMPLE_FRAME)[:-1])
+    plays(bench, "feed: a cut trace", TO_SOCKET + b"feed a cut.pcap\n", lines, wanted)
+    bench.put("skipped.pcap", trace(packet(EXAMPLE_FRAME, 100), *map(packet, frames)))
+    plays(bench, "feed: a packet that was captured in part", TO_SOCKET + b"feed a skipped.pcap\n", lines, wanted)
+    plays(bench, "feed: one trace twice", TO_SOCKET + b"feed a twenty.pcap\nfeed a twenty.pcap\n",
+          told("a", accepted=40, put=40) + told("b", reached=40, stored=40, given=40),
+          {"b.0.pcap": written([(8 * n + 7, frame) for n, frame in enumerate(frames * 2)])})
+    bench.put("none.pcap", FILE_HEADER)
+    plays(bench, "feed: no frame", TO_SOCKET + b"feed a none.pcap\n", told("a") + told("b"), {"b.0.pcap": FILE_HEADER})
+    bench.put("lengths.pcap", trace(packet(EXAMPLE_FRAME[:13]), packet(EXAMPLE_FRAME), packet(bytes(1519)), packet(EXAMPLE_FRAME.ljust(1518, b"\1"))))
+    plays(bench, "feed: frames that send refuses", TO_SOCKET + b"feed a lengths.pcap\n",
+          told("a", accepted=2, put=2) + told("b", reached=2, stored=2, given=2),
+          {"b.0.pcap": written([(15, EXAMPLE_FRAME), (31, EXAMPLE_FRAME.ljust(1518, b"\1"))])})
+    three = (b"host a 02:00:00:00:00:01 w\nhost c 02:00:00:00:00:03 other\nhost b 02:00:00:00:00:02 w\nhost d 02:00:00:00:00:04 other\n"
+             b"host e 02:00:00:00:00:05 w promiscuous\nsocket b 0806\nsocket b all\nsocket e 0800\nfeed a twenty.pcap\n")
+    # Each frame is 14 events: three of the sender, six for b's two sockets and five for e's one.
+    plays(bench, "feed: three hosts and another wire", three,
+          told("a", accepted=20, put=20) + told("c") + told("b", reached=20, stored=20, given=20) + told("d") + told("e", reached=20, stored=20, given=20),
+          {"b.0.pcap": FILE_HEADER, "b.1.pcap": written([(14 * n + 8, frame) for n, frame in enumerate(frames)]),
+           "e.0.pcap": written([(14 * n + 13, frame) for n, frame in enumerate(frames)])})
+    path = folder(bench)
+    bench.put("outdir/b.0.pcap", trace(*map(packet, frames)))
+    bench.put("s.scenario", TO_SOCKET + b"feed a outdir/b.0.pcap\n")
+    bench.ends("feed: a file of OUTDIR", ["run", "s.scenario", "outdir"], 0, lines)
+    bench.check("feed: a file of OUTDIR: what is written", held(path), wanted)
+    faults(bench)
+
+
+def faults(bench):
+    """Traces that can't be fed: nothing is made."""
+    feed = TO_SOCKET + b"feed a %s\n"
+    for name, data, fault in [
+        ("no header", b"", "E60 Header"),
+        ("another magic number", b"\x0a\x0d\x0d\x0a" + FILE_HEADER[4:], "E61 Magic"),
+        ("version 2.3", FILE_HEADER[:6] + b"\3\0" + FILE_HEADER[8:], "E62 Version"),
+        ("another link type", FILE_HEADER[:20] + b"\x65\0\0\0", "E63 LinkType"),
+        ("a packet that is too long", trace_in("<", 0xA1B2C3D4, (0, 0, 262145, 262145, b"")), "E64 Record"),
+    ]:
+        bench.put("bad.pcap", data)
+        refused(bench, f"feed: {name}", feed % b"bad.pcap", fault)
+    refused(bench, "feed: a missing trace", feed % b"missing.pcap", "E68 Open", 3)
+    refused(bench, "feed: a folder", feed % b"outdir", "E66 Read", 3)
+    refused(bench, "feed: the first fault of two", feed % b"bad.pcap" + b"feed a missing.pcap\n", "E64 Record")
+    refused(bench, "feed: the first fault of two, the other way", feed % b"missing.pcap" + b"feed a bad.pcap\n", "E68 Open", 3)
+    refused(bench, "feed: a trace before a plan", b"host a 01:00:00:00:00:01 w\nfeed a missing.pcap\n", "E68 Open", 3)
+    refused(bench, "feed: a line before a trace", feed % b"missing.pcap" + b"fly\n", "line 5: E50 Word")
+
+
+def lines(bench):
+    """Lines that are refused, by their number. Nothing is made."""
+    long = b"#" + b"x" * 8192
+    for name, text, fault in [
+        ("an unknown word", EXAMPLE + b"fly b\n", "line 12: E50 Word"),
+        ("drain", TO_SOCKET + b"drain b\n", "line 4: E50 Word"),
+        ("a byte order mark", b"\xef\xbb\xbf" + EXAMPLE, "line 1: E50 Word"),
+        ("an upper-case word", b"Host a 02:00:00:00:00:01 w\n", "line 1: E50 Word"),
+        ("too few words", b"host a 02:00:00:00:00:01\n", "line 1: E51 Count"),
+        ("too many words", TWO_HOSTS + b"group a 01:00:5e:00:00:01 b\n", "line 3: E51 Count"),
+        ("words behind a tick", TWO_HOSTS + b"tick go go\n", "line 3: E51 Count"),
+        ("a call without its words", TWO_HOSTS + b"send a / go\n", "line 3: E51 Count"),
+        ("an option twice", b"host a 02:00:00:00:00:01 w rx 8 rx 8\n", "line 1: E51 Count"),
+        ("an option without its value", b"host a 02:00:00:00:00:01 w rx\n", "line 1: E51 Count"),
+        ("an address", b"host a 02:00:00:00:00 w\n", "line 1: E52 Value"),
+        ("an option", b"host a 02:00:00:00:00:01 w fast\n", "line 1: E52 Value"),
+        ("a number", b"host a 02:00:00:00:00:01 w rx +8\n", "line 1: E52 Value"),
+        ("a number that is too great", b"host a 02:00:00:00:00:01 w rxa 256\n", "line 1: E52 Value"),
+        ("an EtherType", TWO_HOSTS + b"socket a 800\n", "line 3: E52 Value"),
+        ("an odd digit", TWO_HOSTS + b"send a 0\n", "line 3: E52 Value"),
+        ("no digit", TWO_HOSTS + b"send a xx\n", "line 3: E52 Value"),
+        ("8,002 digits", TWO_HOSTS + b"send a " + b"0" * 8002 + b"\n", "line 3: E52 Value"),
+        ("a tick", TWO_HOSTS + b"tick run:a\n", "line 3: E52 Value"),
+        ("a second slash", TWO_HOSTS + b"interrupt a / go / go\n", "line 3: E52 Value"),
+        ("too many events", TWO_HOSTS + b"auto 1000001 1\n", "line 3: E52 Value"),
+        ("a host", TWO_HOSTS + b"interrupt c\n", "line 3: E53 Name"),
+        ("a host in a tick", TWO_HOSTS + b"interrupt a / deliver:c\n", "line 3: E53 Name"),
+        ("a host that isn't there yet", b"socket b all\n" + TWO_HOSTS, "line 1: E53 Name"),
+        ("a host's name twice", TWO_HOSTS + b"host a 02:00:00:00:00:03 w\n", "line 3: E53 Name"),
+        ("a ninth socket", TWO_HOSTS + b"socket a all\n" * 9, "line 11: E53 Name"),
+        ("a 33rd group", TWO_HOSTS + b"group a 01:00:5e:00:00:01\n" * 33, "line 35: E53 Name"),
+        ("a 33rd VLAN", TWO_HOSTS + b"vlan a 5\n" * 33, "line 35: E53 Name"),
+        ("a host behind an event", TWO_HOSTS + b"tick go\n# one more\nhost c 02:00:00:00:00:03 w\n", "line 5: E54 Order"),
+        ("a socket behind an event", TWO_HOSTS + b"auto 0 1\nsocket a all\n", "line 4: E54 Order"),
+        ("a value before an order", TWO_HOSTS + b"tick go\nsocket a 800\n", "line 4: E52 Value"),
+        ("a long line", EXAMPLE + b"\n" + long + b"\n", "line 13: E55 Long"),
+        ("a long line, CR LF", EXAMPLE + long + b"\r\n", "line 12: E55 Long"),
+        ("a long line without a line feed", EXAMPLE + b"#" + b"x" * 8191 + b"\r", "line 12: E55 Long"),
+        ("a long line that isn't UTF-8", EXAMPLE + long + b"\xff\n", "line 12: E55 Long"),
+        ("no UTF-8", EXAMPLE.replace(b"recv b", b"recv \xff"), "line 11: E56 Text"),
+        ("no UTF-8 in a comment", b"# \xc3\n" + EXAMPLE, "line 1: E56 Text"),
+        ("no UTF-8 in a word that isn't known", b"fly \x80\n", "line 1: E56 Text"),
+        ("a CR that ends no line", EXAMPLE[:-1] + b"\r", "line 11: E52 Value"),
+        ("two faults", b"fly\nhost\n", "line 1: E50 Word"),
+    ]:
+        refused(bench, name, text, fault)
+
+
+def plans(bench):
+    """Plans that are refused: the files in OUTDIR are made, and stay empty."""
+    hosts = [b"host h%d 02:00:00:00:00:%02x w%d\n" % (n, n, n // 8) for n in range(17)]
+    socket = b"socket b all\n"
+    made = ["b.0.pcap"]
+    for name, text, fault, files in [
+        ("an empty scenario", b"", "E42 Hosts", []),
+        ("a name", TWO_HOSTS.replace(b" b ", b" B ") + b"socket B all\n", "E40 Name", ["B.0.pcap"]),
+        ("a long name", TWO_HOSTS.replace(b" b ", b" bbbbbbbbbbbbbbbbb "), "E40 Name", []),
+        ("a wire's name", TWO_HOSTS.replace(b"w\n", b"w.\n") + socket, "E40 Name", made),
+        ("one host", b"host b 02:00:00:00:00:02 w\n" + socket, "E41 Ends", made),
+        ("a wire with one end", TWO_HOSTS + b"host c 02:00:00:00:00:03 v\n" + socket, "E41 Ends", made),
+        ("a wire with nine ends", b"".join(hosts[:9]).replace(b"w1", b"w0"), "E41 Ends", []),
+        ("seventeen hosts", b"".join(hosts).replace(b"w0", b"w2", 1), "E42 Hosts", []),
+        ("one address twice", TWO_HOSTS.replace(b":02 ", b":01 ") + socket, "E43 Address", made),
+        ("a group's address", TWO_HOSTS.replace(b"02:00:00:00:00:02", b"03:00:00:00:00:02") + socket, "E43 Address", made),
+        ("a group that is none", TWO_HOSTS + b"group a 02:00:00:00:00:03\n" + socket, "E44 Config", made),
+        ("a VLAN", TWO_HOSTS + b"vlan a 4096\n" + socket, "E44 Config", made),
+        *((f"option {option}", TWO_HOSTS.replace(b"02 w", b"02 w " + option.encode()) + socket, "E44 Config", made)
+          for option in ["rx 12", "rx 0", "tx 264", "buffers 7", "buffers 4097", "rxa 3", "rxa 50", "rxa 0", "link 0"]),
+        ("a link that never comes", TWO_HOSTS.replace(b"02 w", b"02 w link never") + socket, "E46 Init: E14 NoLink", made),
+        ("a link that comes too late", TWO_HOSTS.replace(b"02 w", b"02 w link 2001") + socket, "E46 Init: E14 NoLink", made),
+    ]:
+        refused(bench, name, text, fault, 1, files)
+
+
+def places(bench):
+    """Files and folders that are missing, or that can't be made."""
+    folder(bench)
+    bench.put("s.scenario", EXAMPLE)
+    bench.put("none.scenario", TWO_HOSTS)
+    bench.put("bad.scenario", b"fly\n")
+    bench.put("feed.scenario", TO_SOCKET + b"feed a missing.pcap\n")
+    bench.put("plan.scenario", b"host b 02:00:00:00:00:02 w\nsocket b all\n")
+    for name, words, fault, status in [
+        ("no scenario", ["missing.scenario", "outdir"], "E68 Open", 3),
+        ("a folder as scenario", ["outdir", "outdir"], "E66 Read", 3),
+        ("a device as scenario has no length, and reads as empty", ["/dev/zero", "outdir"], "E42 Hosts", 1),
+        ("no OUTDIR", ["s.scenario", "missing"], "E68 Open", 3),
+        ("no OUTDIR, and no file to make", ["none.scenario", "missing"], "E68 Open", 3),
+        ("a file as OUTDIR", ["s.scenario", "s.scenario"], "E68 Open", 3),
+        ("a file as OUTDIR, and no file to make", ["none.scenario", "s.scenario"], "E68 Open", 3),
+        ("an empty word as OUTDIR", ["none.scenario", ""], "E68 Open", 3),
+        ("a line before OUTDIR", ["bad.scenario", "missing"], "line 1: E50 Word", 1),
+        ("a trace before OUTDIR", ["feed.scenario", "s.scenario"], "E68 Open", 3),
+        ("OUTDIR before a plan", ["plan.scenario", "missing"], "E68 Open", 3),
+    ]:
+        bench.ends(f"run: {name}", ["run", *words], status, b"", f"nicbench: {fault}\n".encode())
+    bench.check("run: OUTDIR stays empty", os.listdir(bench.path("outdir")), [])
+    bench.check("run: OUTDIR isn't made", os.path.exists(bench.path("missing")), False)
+    for name in ["x/y", "../b", "/b"]:
+        refused(bench, f"a file outside of OUTDIR: {name}", TO_SOCKET.replace(b" b ", b" %s " % name.encode()), "E68 Open", 3)
+    bench.check("run: no file is made outside of OUTDIR", os.path.exists(bench.path("b.0.pcap")), False)
+    replaced(bench)
+    full(bench)
+
+
+def replaced(bench):
+    """Files of OUTDIR are replaced, and others are left; OUTDIR may be a link, or end in a slash."""
+    path = folder(bench)
+    bench.put("s.scenario", EXAMPLE)
+    os.symlink(path, bench.path("link"))
+    for outdir in ["outdir", "outdir/", "link", path, "./outdir/../outdir"]:
+        bench.put("outdir/b.0.pcap", b"old" * 1000)
+        bench.put("outdir/other", b"old")
+        bench.ends(f"run: OUTDIR {outdir}", ["run", "s.scenario", outdir], 0, EXAMPLE_LINES)
+        bench.check(f"run: OUTDIR {outdir}: what is written", held(path), {"b.0.pcap": written([(7, EXAMPLE_FRAME)]), "other": b"old"})
+
+
+def full(bench):
+    """Files that can't be made or written, and outputs that take nothing."""
+    path = folder(bench)
+    os.mkdir(os.path.join(path, "b.0.pcap"))
+    bench.ends("run: a folder in the place of a file", ["run", "s.scenario", "outdir"], 3, b"", b"nicbench: E68 Open\n")
+    os.rmdir(os.path.join(path, "b.0.pcap"))
+    bench.put("two.scenario", EXAMPLE.replace(b"socket", b"socket a all\nsocket", 1))
+    os.symlink("/dev/full", os.path.join(path, "b.0.pcap"))
+    bench.ends("run: a full device in OUTDIR", ["run", "two.scenario", "outdir"], 3, b"", b"nicbench: E67 Write\n")
+    bench.check("run: a full device in OUTDIR: the file before it", bench.get("outdir/a.0.pcap"), FILE_HEADER)
+    os.remove(os.path.join(path, "b.0.pcap"))
+    for name, line, status, err in [("standard output is full", "run s.scenario outdir >/dev/full", 3, b"nicbench: E67 Write\n"),
+                                    ("standard error is full", "run bad.scenario outdir 2>/dev/full", 1, b"")]:
+        ran = subprocess.run(f"{bench.program} {line}", shell=True, cwd=bench.folder, capture_output=True, timeout=60)
+        bench.check(f"run: {name}", (ran.returncode, ran.stdout, ran.stderr), (status, b"", err))
+
+
+class Drawing:
+    """The words of `auto`: PCG XSH RR 64/32 (O'Neill, 2014), seeded from a number as the crate rand_core does it."""
+
+    MASK = 2**64 - 1
+    MULTIPLIER = 6364136223846793005
+
+    def __init__(self, start):
+        words = []
+        for _ in range(4):
+            start = (start * self.MULTIPLIER + 11634580027462260723) & self.MASK
+            words.append(self.output(start))
+        self.step = (words[3] << 32 | words[2]) | 1
+        self.state = (words[1] << 32 | words[0]) + self.step & self.MASK
+        self.next()
+
+    @staticmethod
+    def output(state):
+        word = ((state >> 18) ^ state) >> 27 & 0xFFFFFFFF
+        turn = state >> 59
+        return (word >> turn | word << (32 - turn)) & 0xFFFFFFFF
+
+    def next(self):
+        old = self.state
+        self.state = (old * self.MULTIPLIER + self.step) & self.MASK
+        return self.output(old)
+
+
+def words_from(start, count):
+    """The first words from a start."""
+    drawing = Drawing(start)
+    return [drawing.next() for _ in range(count)]
+
+
+def event_of(word, hosts):
+    """The line of the event that a word draws."""
+    name, address = hosts[word // 8 % len(hosts)]
+    kinds = [b"tick txtake:%s", b"tick txput:%s", b"tick rxdata:%s", b"tick rxdone:%s", b"tick deliver:%s",
+             b"interrupt %s / go rxdata:%s rxdone:%s", b"recv %s 0", b"send %s ffffffffffff" + address.replace(b":", b"") + b"88b5"]
+    kind = kinds[word % 8]
+    return kind.replace(b"%s", name) + b"\n"
+
+
+def drawn(bench):
+    """Events that are drawn: twice the same, and the same as their lines."""
+    bench.check("auto: the first words from 0", words_from(0, 4), [298703107, 4236525527, 336081875, 1056616254])
+    hosts = [(b"a", b"02:00:00:00:00:01"), (b"b", b"02:00:00:00:00:02"), (b"c", b"02:00:00:00:00:03")]
+    setup = b"".join(b"host %s %s w rxa 4\n" % host for host in hosts) + b"socket a all\nsocket b 88b5\nsocket c 0800\n"
+    lines_drawn = b"".join(event_of(word, hosts) for word in words_from(1, 10000))
+    runs = []
+    for name, text in [("auto 10000 1", setup + b"auto 10000 1\n"), ("auto 10000 1 once more", setup + b"auto 10000 1\n"),
+                       ("the lines of auto 10000 1", setup + lines_drawn)]:
+        path = folder(bench)
+        bench.put("s.scenario", text)
+        ran = bench.run("run", "s.scenario", "outdir")
+        runs.append((ran.returncode, ran.stdout, ran.stderr, held(path)))
+        bench.check(f"auto: {name}", (ran.returncode, ran.stderr), (0, b""))
+        bench.check(f"auto: {name}: as the first", runs[-1] == runs[0], True)
+    bench.check("auto: frames are given", len(runs[0][3]["a.0.pcap"]) > 10000, True)
+    plays(bench, "auto 0 1", TO_SOCKET + b"auto 0 1\n", told("a") + told("b"), {"b.0.pcap": FILE_HEADER})
+
+
+def all_cases(bench):
+    for part in [played, feeds, lines, plans, places, drawn]:
+        part(bench)
