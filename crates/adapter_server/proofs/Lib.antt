@@ -1,0 +1,11 @@
+pub mod AccessLemmas
+pub mod Alone
+pub mod Drawing
+pub mod Numbers
+pub mod Playing
+pub mod ReadRequests
+pub mod ReadingLines
+pub mod ServedLines
+pub mod Slices
+pub mod Told
+pub mod Writing

@@ -1,0 +1,20 @@
+use Rattle.bus.specs.declared.event.Access.TheVariants.{Stores}
+use Rattle.adapter_server.proofs.AccessLemmas.{access_quiet, access_told}
+use Rattle.adapter_server.proofs.Alone.{access_alone}
+use Rattle.adapter_server.proofs.device.Device.store.Goals as goal
+
+pub returns-clause-ok : goal.returns-clause-ok
+returns-clause-ok g c =
+    let acts = c.store.ensures.acts tt in
+    let access = Stores c.args.address c.args.bytes.now in
+    let alone = access_alone c.args.self.now.bus c.store.new.self acts.past access c.requires.quiet acts.told acts.only in
+    access_told c.args.self.now c.tell_access.new.self c.store.new.self access c.args.said.now (g.W.Write.contents c.args.out.now)
+    (g.W.Write.contents c.tell_access.new.out) alone c.in_ok-tell_access.ensures.state c.in_ok-tell_access.ensures.text
+
+pub returns-clause-quiet : goal.returns-clause-quiet
+returns-clause-quiet g c =
+    let acts = c.store.ensures.acts tt in
+    let access = Stores c.args.address c.args.bytes.now in
+    let alone = access_alone c.args.self.now.bus c.store.new.self acts.past access c.requires.quiet acts.told acts.only in
+    access_quiet c.args.self.now c.tell_access.new.self c.store.new.self access c.requires.quiet alone c.in_ok-tell_access.ensures.state
+    c.store.ensures.extent

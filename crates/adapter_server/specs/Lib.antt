@@ -1,0 +1,15 @@
+pub mod Statuses
+pub mod Texts
+pub mod Outcomes
+pub mod Kinds
+pub mod Devices
+pub mod Words
+pub mod Spellings
+pub mod Verbs
+pub mod Widths
+pub mod Reading
+pub mod Sessions
+pub mod Answers
+pub mod Lines
+pub mod LinesRead
+pub mod Serving

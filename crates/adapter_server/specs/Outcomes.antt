@@ -1,0 +1,9 @@
+-- Which steps did something (own).
+use Rattle.std.specs.Prelude.{ℕ}
+use Rattle.adapter.specs.declared.step.StepOutcome.{StepOutcome}
+use Rattle.adapter.specs.declared.step.StepOutcome.TheVariants.{Nothing}
+
+-- 1 where a step with this outcome did something
+abbrev pub moved_by : StepOutcome → ℕ
+moved_by Nothing = 0
+moved_by _ = 1

@@ -1,0 +1,113 @@
+-- What a line asks for (QEMU, docs/devel/testing/qtest; own).
+use Rattle.std.specs.Prelude.{◌==◌, ℕ, List, [], ◌∷◌, true, false, Option, Some, None, Result, Ok, Err, codes, if◌then◌else◌, length}
+use Rattle.std.specs.Prelude.{replicate, IsUtf8}
+use Rattle.std.specs.Str.{bytes_eq}
+use Rattle.adapter.specs.declared.step.StepKind.{StepKind}
+use Rattle.adapter_server.specs.Spellings.{Gives, bytes_in, greatest_number, number_below, payload_in, size_in, ◌>>=◌}
+use Rattle.adapter_server.specs.Texts.{Text}
+use Rattle.adapter_server.specs.Verbs.{kind_named, verb_named, word_count}
+use Rattle.adapter_server.specs.Words.{word, words_of}
+use Rattle.adapter_server.specs.declared.refusal.Refusal.{Refusal}
+use Rattle.adapter_server.specs.declared.refusal.Refusal.TheVariants as refusals
+use Rattle.adapter_server.specs.declared.refusal.Stop.{Stop}
+use Rattle.adapter_server.specs.declared.request.Request.{Request}
+use Rattle.adapter_server.specs.declared.request.Request.TheVariants as requests
+use Rattle.adapter_server.specs.declared.request.Width.{Width}
+use Rattle.adapter_server.specs.declared.request.Width.TheVariants as width
+use Rattle.adapter_server.specs.declared.verb.Verb.{Verb}
+use Rattle.adapter_server.specs.declared.verb.Verb.TheVariants.{ReadNumber, WriteNumber, Read, Write, Memset, Endianness, Step, Arrive}
+use Rattle.adapter_server.specs.declared.verb.Verb.TheVariants.{Settle, Line, Interleave, Log}
+
+-- the greatest number of so many bits
+abbrev pub greatest : Width → ℕ
+greatest width.Byte = 0xFF
+greatest width.Word = 0xFFFF
+greatest width.Long = 0xFFFFFFFF
+greatest width.Quad = greatest_number
+
+-- how many steps before an access may be asked for
+abbrev pub most_steps : ℕ
+most_steps = 65535
+
+-- exactly so many bytes
+abbrev pub sized : ℕ → ℕ → List ℕ → Result Request Refusal
+sized address size bytes = if length bytes == size then Ok (requests.WriteBytes address bytes) else Err refusals.Value
+
+abbrev pub write_in : List Text → Result Request Refusal
+write_in words = do
+  address ← number_below greatest_number (word 1 words)
+  size ← size_in (word 2 words)
+  bytes ← payload_in (word 3 words)
+  sized address size bytes
+
+abbrev pub memset_in : List Text → Result Request Refusal
+memset_in words = do
+  address ← number_below greatest_number (word 1 words)
+  size ← size_in (word 2 words)
+  value ← number_below 0xFF (word 3 words)
+  Ok (requests.WriteBytes address (replicate size value))
+
+abbrev pub log_in : Text → Result Request Refusal
+log_in word =
+    if bytes_eq word (codes "on") then Ok (requests.Log true)
+    else if bytes_eq word (codes "off") then Ok (requests.Log false)
+    else Err refusals.Value
+
+abbrev pub step_or_refusal : Option StepKind → Result Request Refusal
+step_or_refusal (Some kind) = Ok (requests.Step kind)
+step_or_refusal None = Err refusals.Value
+
+abbrev pub step_in : Text → Result Request Refusal
+step_in word = step_or_refusal (kind_named word)
+
+abbrev pub read_number_in : Width → List Text → Result Request Refusal
+read_number_in width words = do
+  address ← number_below greatest_number (word 1 words)
+  Ok (requests.ReadNumber width address)
+
+abbrev pub write_number_in : Width → List Text → Result Request Refusal
+write_number_in width words = do
+  address ← number_below greatest_number (word 1 words)
+  value ← number_below (greatest width) (word 2 words)
+  Ok (requests.WriteNumber width address value)
+
+abbrev pub read_in : List Text → Result Request Refusal
+read_in words = do
+  address ← number_below greatest_number (word 1 words)
+  size ← size_in (word 2 words)
+  Ok (requests.ReadBytes address size)
+
+abbrev pub arrive_in : Text → Result Request Refusal
+arrive_in word = bytes_in word >>= λ bytes. Ok (requests.Arrive bytes)
+
+abbrev pub interleave_in : Text → Result Request Refusal
+interleave_in word = number_below most_steps word >>= λ count. Ok (requests.Interleave count)
+
+-- a request of which all words are there
+abbrev pub request_with : Verb → List Text → Result Request Refusal
+request_with (ReadNumber width) words = read_number_in width words
+request_with (WriteNumber width) words = write_number_in width words
+request_with Read words = read_in words
+request_with Write words = write_in words
+request_with Memset words = memset_in words
+request_with Endianness words = Ok requests.Endianness
+request_with Step words = step_in (word 1 words)
+request_with Arrive words = arrive_in (word 1 words)
+request_with Settle words = Ok requests.Settle
+request_with Line words = Ok requests.Line
+request_with Interleave words = interleave_in (word 1 words)
+request_with Log words = log_in (word 1 words)
+
+abbrev pub request_if : Option Verb → List Text → Result Request Refusal
+request_if (Some verb) words = if length words == word_count verb then request_with verb words else Err refusals.Count
+request_if None words = Err refusals.Unknown
+
+-- what the words of a line ask for
+abbrev pub request_in : List Text → Result Request Refusal
+request_in [] = Err refusals.Unknown
+request_in (first ∷ rest) = request_if (verb_named first) (first ∷ rest)
+
+-- What a line asks for: it is a text, whose words ask for it, or it isn't.
+pub record IsRead (line : Text) (result : Result Request Stop) : Type 0 where
+  pub text : IsUtf8 line → Gives result (request_in (words_of line))
+  pub other : (¬ (IsUtf8 line)) → Gives {A = Request} result (Err refusals.Text)

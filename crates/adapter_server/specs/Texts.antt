@@ -1,0 +1,95 @@
+-- The lines that a server writes (QEMU, docs/devel/testing/qtest: OK, ERR, FAIL and IRQ; frame and # are own).
+use Rattle.std.specs.Prelude.{◌++◌, ℕ, List, [], Bool, true, false, Option, Some, None, codes}
+use Rattle.std.specs.Int.{to_be_bytes, w64}
+use Rattle.hex.specs.Hex.{encode_lower}
+use Rattle.adapter.specs.declared.step.StepKind.{StepKind}
+use Rattle.adapter.specs.declared.step.StepKind.TheVariants.{TxTake, TxPut, RxData, RxDone, EepromTick, PhyTick}
+use Rattle.adapter.specs.declared.step.StepOutcome.{StepOutcome}
+use Rattle.adapter.specs.declared.step.StepOutcome.TheVariants.{Took, Put, WireFull, Moved, Done, Ticked, Nothing, Fault}
+use Rattle.rx_engine.specs.declared.arrival.Fate.{Fate}
+use Rattle.rx_engine.specs.declared.arrival.Fate.TheVariants.{Off, Illegal, Filtered, Missed, Stored}
+use Rattle.adapter_server.specs.declared.refusal.Refusal.{Refusal}
+use Rattle.adapter_server.specs.declared.refusal.Refusal.TheVariants as refusals
+
+-- a text, as its bytes
+abbrev pub Text : Type 0
+Text = List ℕ
+
+abbrev pub kind_word : StepKind → Text
+kind_word TxTake = codes "txtake"
+kind_word TxPut = codes "txput"
+kind_word RxData = codes "rxdata"
+kind_word RxDone = codes "rxdone"
+kind_word EepromTick = codes "eeprom"
+kind_word PhyTick = codes "phy"
+
+abbrev pub outcome_word : StepOutcome → Text
+outcome_word Took = codes "took"
+outcome_word Put = codes "put"
+outcome_word WireFull = codes "wirefull"
+outcome_word Moved = codes "moved"
+outcome_word Done = codes "done"
+outcome_word Ticked = codes "ticked"
+outcome_word Nothing = codes "nothing"
+outcome_word Fault = codes "fault"
+
+abbrev pub fate_word : Fate → Text
+fate_word Off = codes "off"
+fate_word Illegal = codes "illegal"
+fate_word Filtered = codes "filtered"
+fate_word Missed = codes "missed"
+fate_word Stored = codes "stored"
+
+-- The log: lines that begin with #.
+
+-- the line of a step, where the log is on
+abbrev pub step_log : Bool → StepKind → StepOutcome → Text
+step_log true kind outcome = codes "# step " ++ kind_word kind ++ codes " -> " ++ outcome_word outcome ++ codes "\n"
+step_log false kind outcome = []
+
+-- the line of what was asked for, where the log is on
+abbrev pub said_log : Bool → Text → Text
+said_log true said = codes "# " ++ said ++ codes "\n"
+said_log false said = []
+
+-- What happened.
+
+-- a frame that was put
+abbrev pub frame_line : List ℕ → Text
+frame_line frame = codes "frame " ++ encode_lower frame ++ codes "\n"
+
+abbrev pub frame_told : Option (List ℕ) → Text
+frame_told (Some frame) = frame_line frame
+frame_told None = []
+
+-- the interrupt line was so, and is so
+abbrev pub line_moved : (was is : Bool) → Text
+line_moved false true = codes "IRQ raise 0\n"
+line_moved true false = codes "IRQ lower 0\n"
+line_moved true true = []
+line_moved false false = []
+
+-- Answers.
+
+abbrev pub ok_line : Text
+ok_line = codes "OK\n"
+
+-- bytes in hexadecimal digits
+unfoldable pub bytes_line : List ℕ → Text
+bytes_line bytes = codes "OK 0x" ++ encode_lower bytes ++ codes "\n"
+
+-- a number in 16 hexadecimal digits
+unfoldable pub number_line : ℕ → Text
+number_line number = bytes_line (to_be_bytes w64 number)
+
+unfoldable pub word_line : Text → Text
+word_line word = codes "OK " ++ word ++ codes "\n"
+
+abbrev pub refusal_line : Refusal → Text
+refusal_line refusals.Unknown = codes "FAIL unknown\n"
+refusal_line refusals.Count = codes "ERR count\n"
+refusal_line refusals.Value = codes "ERR value\n"
+refusal_line refusals.Size = codes "ERR size\n"
+refusal_line refusals.Address = codes "ERR address\n"
+refusal_line refusals.Text = codes "ERR text\n"
+refusal_line refusals.Long = codes "ERR long\n"

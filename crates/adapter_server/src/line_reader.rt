@@ -1,0 +1,87 @@
+// Lines, read from any reader.
+
+ghost use Rattle.std.specs.Prelude.{◌≡◌, ◌≤◌, ◌++◌, ◌∷◌, [], IfOk, OnOk, if◌then◌else◌, length, nat_lt, vec_capacity};
+ghost use Rattle.adapter_server.specs.LinesRead.{GivesByte, IsNextLine, kept_as};
+
+use crate::serve_error::ServeError;
+use std::io::Read;
+
+/// How many bytes a line has at most, its end not counted (own): room for a `write` of 65,536 bytes.
+pub(crate) const MOST_LINE_BYTES: usize = 131_200;
+
+/// The byte that ends a line.
+const LINE_FEED: u8 = 0x0A;
+
+/// What came of reading a line.
+#[derive(Clone, Copy, Debug, PartialEq, Eq)]
+pub(crate) enum NextLine {
+    /// The input is at its end.
+    End,
+    /// A line.
+    Whole,
+    /// A line that is too long, of which the front is kept.
+    Long,
+}
+
+/// What is kept is a line, or the front of one that is too long.
+fn kept_as(is_long: bool) -> NextLine
+    ensures { result ≡ kept_as is_long }
+{
+    if is_long {
+        NextLine::Long
+    } else {
+        NextLine::Whole
+    }
+}
+
+/// Appends a byte to a line where there is room; whether there was.
+fn push_byte(line: &mut Vec<u8>, byte: u8) -> bool
+    requires { MOST_LINE_BYTES ≤ vec_capacity line.old }
+    ensures pushed { result ≡ nat_lt (length line.old.items) MOST_LINE_BYTES }
+    ensures items { line.new.items ≡ (if result then line.old.items ++ byte ∷ [] else line.old.items) }
+    ensures room { MOST_LINE_BYTES ≤ vec_capacity line.new }
+{
+    if line.len() >= MOST_LINE_BYTES {
+        return false;
+    }
+    line.push(byte).unwrap();
+    true
+}
+
+/// The next byte of a reader; `None` at its end.
+fn next_byte<R: Read>(reader: &mut R) -> Result<Option<u8>, ServeError>
+    ensures { IfOk result (λ byte. GivesByte byte (R.remaining reader.old) (R.remaining reader.new)) }
+{
+    let mut byte = [0; 1];
+    match reader.read(&mut byte) {
+        Ok(0) => Ok(None),
+        Ok(_) => Ok(Some(byte[0])),
+        Err(_) => Err(ServeError::Read),
+    }
+}
+
+/// Reads the next line, without its end, in place of what stands in `line`. Of one that is too long the front is kept,
+/// and the rest is skipped. Bytes are read one by one: it is for readers with a buffer.
+pub(crate) fn next_line<R: Read>(reader: &mut R, line: &mut Vec<u8>) -> Result<NextLine, ServeError>
+    requires { MOST_LINE_BYTES ≤ vec_capacity line.old }
+    ensures next { IfOk result
+        (λ next. IsNextLine next line.new.items (R.remaining reader.old) (R.remaining reader.new)) }
+    ensures room { OnOk result (MOST_LINE_BYTES ≤ vec_capacity line.new) }
+{
+    line.clear();
+    let mut is_long = false;
+    for _count in 0..u64::MAX {
+        let Some(byte) = next_byte(reader)? else {
+            return Ok(if line.is_empty() {
+                NextLine::End
+            } else {
+                kept_as(is_long)
+            });
+        };
+        if byte == LINE_FEED {
+            return Ok(kept_as(is_long));
+        }
+        is_long = !push_byte(line, byte);
+    }
+    Err(ServeError::Read)
+}

@@ -1,0 +1,142 @@
+// Requests, read from the words of a line.
+
+ghost use Rattle.std.specs.Prelude.{◌≡◌, length};
+ghost use Rattle.adapter_server.specs.Reading as reading;
+ghost use Rattle.adapter_server.specs.Spellings.{Gives};
+ghost use Rattle.adapter_server.specs.Verbs.{word_count};
+ghost use Rattle.adapter_server.specs.Words.{texts};
+ghost use Rattle.adapter_server.specs.declared.verb.Verb.TheVariants as verbs;
+
+use crate::refusal::{Refusal, Stop};
+use crate::request::{Payload, Request, Width};
+use crate::spelling::{bytes_at, number_at, payload_at, size_at};
+use crate::verb::{Verb, kind_of, verb_of};
+use crate::words::{word_at, words_in};
+use std::alloc::Global;
+use std::str;
+
+/// The greatest number of steps before an access that may be asked for (own).
+const MOST_STEPS: u64 = 65_535;
+
+impl Width {
+    /// The greatest number of so many bits.
+    pub(crate) fn greatest(self) -> u64
+        ensures { result ≡ reading.greatest self }
+    {
+        match self {
+            Width::Byte => u64::from(u8::MAX),
+            Width::Word => u64::from(u16::MAX),
+            Width::Long => u64::from(u32::MAX),
+            Width::Quad => u64::MAX,
+        }
+    }
+}
+
+/// `write ADDR SIZE 0xHEX`.
+fn write_of(alloc: Global, words: &[&str]) -> Result<Request, Stop>
+    requires { length words.now ≡ 4 }
+    ensures { Gives result (reading.write_in (texts words.now)) }
+{
+    let address = number_at(word_at(words, 1), u64::MAX)?;
+    let size = size_at(word_at(words, 2))?;
+    let payload = payload_at(alloc, word_at(words, 3))?;
+    if payload.bytes.len() as u64 != size {
+        return Err(Stop::Refused(Refusal::Value));
+    }
+    Ok(Request::WriteBytes(address, payload))
+}
+
+/// `memset ADDR SIZE VALUE`.
+fn memset_of(alloc: Global, words: &[&str]) -> Result<Request, Stop>
+    requires { length words.now ≡ 4 }
+    ensures { Gives result (reading.memset_in (texts words.now)) }
+{
+    let address = number_at(word_at(words, 1), u64::MAX)?;
+    let size = size_at(word_at(words, 2))?;
+    let value = number_at(word_at(words, 3), u64::from(u8::MAX))?;
+    let bytes = vec![in alloc; value as u8; size as usize]?;
+    Ok(Request::WriteBytes(address, Payload { bytes }))
+}
+
+/// `log on`, `log off`.
+fn log_of(word: &str) -> Result<Request, Refusal>
+    ensures { result ≡ reading.log_in word.now }
+{
+    match word {
+        "on" => Ok(Request::Log(true)),
+        "off" => Ok(Request::Log(false)),
+        _ => Err(Refusal::Value),
+    }
+}
+
+/// `step KIND`.
+fn step_of(word: &str) -> Result<Request, Refusal>
+    ensures { result ≡ reading.step_in word.now }
+{
+    match kind_of(word) {
+        Some(kind) => Ok(Request::Step(kind)),
+        None => Err(Refusal::Value),
+    }
+}
+
+/// A request of which all words are there.
+fn request_with(alloc: Global, verb: Verb, words: &[&str]) -> Result<Request, Stop>
+    requires { length words.now ≡ word_count verb }
+    ensures { Gives result (reading.request_with verb (texts words.now)) }
+{
+    match verb {
+        Verb::ReadNumber(width) => {
+            let address = number_at(word_at(words, 1), u64::MAX)?;
+            Ok(Request::ReadNumber(width, address))
+        }
+        Verb::WriteNumber(width) => {
+            let address = number_at(word_at(words, 1), u64::MAX)?;
+            let value = number_at(word_at(words, 2), width.greatest())?;
+            Ok(Request::WriteNumber(width, address, value))
+        }
+        Verb::Read => {
+            let address = number_at(word_at(words, 1), u64::MAX)?;
+            let size = size_at(word_at(words, 2))?;
+            Ok(Request::ReadBytes(address, size))
+        }
+        Verb::Write => write_of(alloc, words),
+        Verb::Memset => memset_of(alloc, words),
+        Verb::Endianness => Ok(Request::Endianness),
+        Verb::Step => Ok(step_of(word_at(words, 1))?),
+        Verb::Arrive => Ok(Request::Arrive(bytes_at(alloc, word_at(words, 1))?)),
+        Verb::Settle => Ok(Request::Settle),
+        Verb::Line => Ok(Request::Line),
+        Verb::Interleave => {
+            let count = number_at(word_at(words, 1), MOST_STEPS)?;
+            Ok(Request::Interleave(count as u32))
+        }
+        Verb::Log => Ok(log_of(word_at(words, 1))?),
+    }
+}
+
+/// What the words of a line ask for.
+fn request_of(alloc: Global, words: &[&str]) -> Result<Request, Stop>
+    ensures { Gives result (reading.request_in (texts words.now)) }
+{
+    let Some(first) = words.first() else {
+        return Err(Stop::Refused(Refusal::Unknown));
+    };
+    let Some(verb) = verb_of(first) else {
+        return Err(Stop::Refused(Refusal::Unknown));
+    };
+    if words.len() != verb.word_count() {
+        return Err(Stop::Refused(Refusal::Count));
+    }
+    request_with(alloc, verb, words)
+}
+
+/// What a line asks for.
+pub(crate) fn read_line(alloc: Global, line: &[u8]) -> Result<Request, Stop>
+    ensures { reading.IsRead line.now result }
+{
+    let Ok(line) = str::from_utf8(line) else {
+        return Err(Stop::Refused(Refusal::Text));
+    };
+    let words = words_in(alloc, line)?;
+    request_of(alloc, words.as_slice())
+}

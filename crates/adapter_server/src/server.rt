@@ -1,0 +1,47 @@
+// The server.
+
+ghost use Rattle.std.specs.Prelude.{IfSome, OnOk};
+ghost use Rattle.adapter_server.specs.Serving.{ServesAll};
+
+use crate::line_reader::{MOST_LINE_BYTES, NextLine, next_line};
+use crate::options::ServeOptions;
+use crate::output::send;
+use crate::serve_error::ServeError;
+use crate::session::Session;
+use std::alloc::Global;
+use std::io::{Read, Write};
+
+/// Serves an adapter: reads requests from `input`, one a line, and answers each on `output`, which is flushed
+/// behind each answer, before more is read. It ends with the input.
+///
+/// Bytes of input are asked for one by one, so hand it a reader with a buffer; and a writer with one, as an answer goes
+/// out whole where it is flushed.
+///
+/// All bytes of input are answered: a line that is no request is refused, and so is one that has more than 131,200
+/// bytes, which is skipped to its end. Memory is bounded by the options' and by about half a MiB beside it.
+///
+/// # Errors
+///
+/// E57 where memory was refused, E66 where the input failed, or had 2^64 bytes, E67 where the output did.
+pub fn serve<R: Read + Drop, W: Write>(
+    alloc: Global,
+    options: &ServeOptions,
+    input: R,
+    output: &mut W,
+) -> Result<(), ServeError>
+    ensures { OnOk result (IfSome (R.remaining input)
+        (λ bytes. ServesAll options.now bytes (W.contents output.old) (W.contents output.new))) }
+{
+    let mut session = Session::new(alloc, options)?;
+    let mut input = input;
+    let mut line = Vec::with_capacity(alloc, MOST_LINE_BYTES)?;
+    for _count in 0..u64::MAX {
+        match next_line(&mut input, &mut line)? {
+            NextLine::End => return Ok(()),
+            NextLine::Whole => session.answer_line(alloc, output, line.as_slice())?,
+            NextLine::Long => session.refuse_long(output)?,
+        }
+        send(output)?;
+    }
+    Err(ServeError::Read)
+}

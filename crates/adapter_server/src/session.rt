@@ -1,0 +1,156 @@
+// What a server holds, and the steps before an access.
+
+ghost use Rattle.std.specs.Prelude.{◌≡◌, ◌%◌, ◌<◌, IfOk, OnOk};
+ghost use Rattle.adapter_server.specs.Kinds.{kind_numbered};
+
+use crate::device::Device;
+use crate::options::ServeOptions;
+use crate::serve_error::ServeError;
+use adapter::offsets::PBA;
+use adapter::{Adapter, StepKind};
+use bus::Bus;
+use dma_memory::HostMemory;
+use eeprom::Image;
+use rand_core::SeedableRng;
+use rand_core::utils::NextWord;
+use rand_pcg::Lcg64Xsh32;
+use solo_bus::SoloBus;
+use std::alloc::Global;
+use std::io::Write;
+
+/// How many kinds of steps there are.
+const KINDS: u32 = 6;
+
+/// How many bytes of registers there are (13.4 "Main Register Descriptions").
+const REGISTER_BYTES: u64 = 0x2_0000;
+
+/// How many bytes a register has.
+const WORD_BYTES: u64 = 4;
+
+/// What a server holds between two requests.
+#[derive(Drop)]
+pub struct Session {
+    /// The adapter and its memory.
+    pub device: Device,
+    /// The address of the first byte of registers.
+    pub registers: u64,
+    /// What interleaved steps are drawn from.
+    pub generator: Lcg64Xsh32,
+    /// How many steps are played before an access at most.
+    pub most_steps: u32,
+}
+
+/// What stands where an access goes.
+#[derive(Clone, Copy, Debug, PartialEq, Eq)]
+pub enum Place {
+    /// The register at this offset.
+    Register(u32),
+    /// Bytes of memory.
+    Memory,
+    /// Nothing that answers it.
+    Nowhere,
+}
+
+/// The kind of steps of this number, below 6.
+fn kind_numbered(number: u32) -> StepKind
+    ensures { result ≡ kind_numbered number }
+{
+    match number {
+        0 => StepKind::TxTake,
+        1 => StepKind::TxPut,
+        2 => StepKind::RxData,
+        3 => StepKind::RxDone,
+        4 => StepKind::EepromTick,
+        _ => StepKind::PhyTick,
+    }
+}
+
+impl Session {
+    ghost use Rattle.adapter_server.specs.Devices.{IsQuiet, StaysQuiet, Tells};
+    ghost use Rattle.adapter_server.specs.Sessions.{Begins, Interleaves, drawn_count, drawn_kind, is_memory, place_in};
+
+    /// A server before the first request: a new adapter, whose PBA is written once, and memory of zeros.
+    pub(crate) fn new(alloc: Global, options: &ServeOptions) -> Result<Session, ServeError>
+        ensures { IfOk result (λ session. Begins options.now session) }
+    {
+        let image = Image::with_address(options.address);
+        let mut adapter = Adapter::new(alloc, &image, options.link)?;
+        adapter.write(PBA, u32::from(options.receive_kilobytes));
+        let memory = HostMemory::new(alloc, options.memory)?;
+        let device = Device {
+            bus: SoloBus::new(alloc, adapter, memory, false)?,
+            log: false,
+            line: false,
+        };
+        Ok(Session {
+            device,
+            registers: options.registers,
+            generator: Lcg64Xsh32::seed_from_u64(options.seed),
+            most_steps: 0,
+        })
+    }
+
+    /// What stands at so many bytes from an address on: an aligned word of 32 bits is a register, where they are.
+    pub(crate) fn place_of(&self, address: u64, count: u64) -> Place
+        ensures { result ≡ place_in self.now address count }
+    {
+        if count == WORD_BYTES && address >= self.registers {
+            let offset = address - self.registers;
+            if offset < REGISTER_BYTES && offset % WORD_BYTES == 0 {
+                return Place::Register(offset as u32);
+            }
+        }
+        if self.is_memory(address, count) {
+            return Place::Memory;
+        }
+        Place::Nowhere
+    }
+
+    /// Whether so many bytes from an address on lie in memory.
+    pub(crate) fn is_memory(&self, address: u64, count: u64) -> bool
+        ensures { result ≡ is_memory self.now address count }
+    {
+        let size = self.device.bus.size();
+        count <= size && address <= size - count
+    }
+
+    /// The kind of steps that the generator's next word says.
+    fn draw_kind(&mut self) -> StepKind
+        ensures kind { result ≡ (drawn_kind self.old.generator).0 }
+        ensures state { self.new ≡ record self.old { generator = (drawn_kind self.old.generator).1 } }
+    {
+        let word: u32 = self.generator.next_word();
+        kind_numbered(word % KINDS)
+    }
+
+    /// How many steps the generator's next word says, where any are asked for.
+    fn draw_count(&mut self) -> u64
+        ensures count { result ≡ (drawn_count self.old.most_steps self.old.generator).0 }
+        ensures state { self.new ≡
+            record self.old { generator = (drawn_count self.old.most_steps self.old.generator).1 } }
+    {
+        if self.most_steps == 0 {
+            return 0;
+        }
+        let word: u32 = self.generator.next_word();
+        u64::from(word) % (u64::from(self.most_steps) + 1)
+    }
+
+    /// The steps before an access, as the generator says.
+    pub(crate) fn interleave<W: Write>(
+        &mut self,
+        alloc: Global,
+        out: &mut W,
+    ) -> Result<(), ServeError>
+        requires { IsQuiet self.old.device.bus }
+        ensures ok { OnOk result (Tells (W.contents out.old) (W.contents out.new) (Interleaves self.old self.new)) }
+        ensures quiet { OnOk result (StaysQuiet self.old.device.bus self.new.device.bus) }
+    {
+        let count = self.draw_count();
+        for _step in 0..count {
+            let kind = self.draw_kind();
+            self.device.step(alloc, out, kind)?;
+        }
+        Ok(())
+    }
+}
