@@ -1,5 +1,6 @@
 -- The host that is found by its name, and changed.
-use Rattle.std.proofs.Common.{◌≡◌, ◌∙◌, ◌+◌, ◌<◌, ◌≤◌, ℕ, Bool, true, false, cond, suc, zero, List, [], ◌∷◌, Option, Some, None, Result, Ok, Err, length, get_or, set, not, nat_lt, ap, sym, subst, refl, arith}
+use Rattle.std.proofs.Common.{◌≡◌, ◌∙◌, ◌+◌, ◌<◌, ◌≤◌, ℕ, Bool, true, false, cond, suc, zero, List, [], ◌∷◌}
+use Rattle.std.proofs.Common.{Option, Some, None, Result, Ok, Err, length, get_or, set, not, nat_lt, ap, sym, subst, refl, arith}
 use Rattle.std.proofs.lemmas.Bool.Decides.{nat_tests}
 use Rattle.std.proofs.lemmas.List.{get_or-map, length-map, map-set}
 use Rattle.std.proofs.lemmas.List.Quantifiers.{position-Some}
@@ -17,7 +18,8 @@ found-find : (p : Host → Bool) (xs : List Host) (k : ℕ) (d : Host) → k < l
 found-find p [] k d below passes none = absurd (omega arith)
 found-find p (a ∷ xs) zero d below passes none = ap (λ b. cond b (Some a) (find p xs)) passes
 found-find p (a ∷ xs) (suc k) d below passes none =
-    ap (λ b. cond b (Some a) (find p xs)) (none 0 (omega arith)) ∙ found-find p xs k d (omega arith) passes (λ j h. none (suc j) (omega arith))
+    ap (λ b. cond b (Some a) (find p xs)) (none 0 (omega arith))
+    ∙ found-find p xs k d (omega arith) passes (λ j h. none (suc j) (omega arith))
 
 found-set : (p : Host → Bool) (f : Host → Host) (xs : List Host) (k : ℕ) (d : Host) → k < length xs → p (get_or xs k d) ≡ true
     → ((j : ℕ) → j < k → p (get_or xs j d) ≡ false) → set xs k (f (get_or xs k d)) ≡ changed_first p f xs
@@ -27,8 +29,8 @@ found-set p f (a ∷ xs) (suc k) d below passes none =
     ap (λ (hosts : List Host). a ∷ hosts) (found-set p f xs k d (omega arith) passes (λ j h. none (suc j) (omega arith)))
     ∙ sym (ap (λ b. cond b (f a ∷ xs) (a ∷ changed_first p f xs)) (none 0 (omega arith)))
 
-pub change-host : (name : Text) (held : Host → ℕ) (most : ℕ) (change : Host → Host) (plans : List HostPlan) (place : ℕ) (plan new : HostPlan)
-    (result : Result (Unit {0}) Fault) → place_of name (hosts_of plans) ≡ Some place
+pub change-host : (name : Text) (held : Host → ℕ) (most : ℕ) (change : Host → Host) (plans : List HostPlan) (place : ℕ)
+    (plan new : HostPlan) (result : Result (Unit {0}) Fault) → place_of name (hosts_of plans) ≡ Some place
     → IsGrowth held most change (host_of (get_or plans place plan)) result (host_of new)
     → IsChange name held most change (hosts_of plans) result (hosts_of (set plans place new))
 change-host name held most change plans place plan new (Ok u) found growth =
@@ -36,7 +38,8 @@ change-host name held most change plans place plan new (Ok u) found growth =
     let first = position-Some (has_name name) hosts place (host_of plan) found in
     let count = length-map plans host_of in
     let below : place < length plans = omega (arith, first.0) in
-    let here : get_or hosts place (host_of plan) ≡ host_of (get_or plans place plan) = get_or-map host_of plans place plan (host_of plan) below in
+    let here : get_or hosts place (host_of plan) ≡ host_of (get_or plans place plan) =
+    get_or-map host_of plans place plan (host_of plan) below in
     let one : find (has_name name) hosts ≡ Some (host_of (get_or plans place plan)) =
     found-find (has_name name) hosts place (host_of plan) first.0 first.1 first.2 ∙ ap Some here in (
       subst (λ (o : Option Host). IsSomeAnd o (λ host. held host < most)) (sym one) growth.0,
@@ -48,7 +51,8 @@ change-host name held most change plans place plan new (Err stopped) found growt
     let first = position-Some (has_name name) hosts place (host_of plan) found in
     let count = length-map plans host_of in
     let below : place < length plans = omega (arith, first.0) in
-    let here : get_or hosts place (host_of plan) ≡ host_of (get_or plans place plan) = get_or-map host_of plans place plan (host_of plan) below in
+    let here : get_or hosts place (host_of plan) ≡ host_of (get_or plans place plan) =
+    get_or-map host_of plans place plan (host_of plan) below in
     let one : find (has_name name) hosts ≡ Some (host_of (get_or plans place plan)) =
     found-find (has_name name) hosts place (host_of plan) first.0 first.1 first.2 ∙ ap Some here in
     (growth.0, λ room. growth.1 (subst (λ (o : Option Host). IsSomeAnd o (λ host. held host < most)) one room))

@@ -11,7 +11,8 @@ use Rattle.scenario.specs.declared.line_kind.LineKind.{LineKind}
 use Rattle.scenario.specs.declared.refusal.Fault.{Fault}
 use Rattle.scenario.specs.declared.refusal.Fault.TheVariants as fault
 
-both : (found : Option LineKind) (P Q : LineKind → Type 0) → ((kind : LineKind) → P kind → Q kind → ⊥) → IsSomeAnd found P → IsSomeAnd found Q → ⊥
+both : (found : Option LineKind) (P Q : LineKind → Type 0) → ((kind : LineKind) → P kind → Q kind → ⊥)
+    → IsSomeAnd found P → IsSomeAnd found Q → ⊥
 both (Some kind) P Q never p q = never kind p q
 both None P Q never p q = p
 
@@ -24,17 +25,17 @@ good-or-faulty before line fault.Text good f = f.1 good.readable.text
 good-or-faulty before line fault.Word good f =
     no-kind (kind_named (word 0 (words_of line))) (λ kind. IsGood kind before (words_of line)) f.2 (good.said f.1)
 good-or-faulty before line fault.Count good f =
-    both (kind_named (word 0 (words_of line))) (λ kind. IsGood kind before (words_of line)) (λ kind. IsFaulty kind before (words_of line) fault.Count)
-    (λ kind good f. f good.count) (good.said f.1) f.2
+    both (kind_named (word 0 (words_of line))) (λ kind. IsGood kind before (words_of line))
+    (λ kind. IsFaulty kind before (words_of line) fault.Count) (λ kind good f. f good.count) (good.said f.1) f.2
 good-or-faulty before line fault.Value good f =
-    both (kind_named (word 0 (words_of line))) (λ kind. IsGood kind before (words_of line)) (λ kind. IsFaulty kind before (words_of line) fault.Value)
-    (λ kind good f. f.1 good.values) (good.said f.1) f.2
+    both (kind_named (word 0 (words_of line))) (λ kind. IsGood kind before (words_of line))
+    (λ kind. IsFaulty kind before (words_of line) fault.Value) (λ kind good f. f.1 good.values) (good.said f.1) f.2
 good-or-faulty before line fault.Name good f =
-    both (kind_named (word 0 (words_of line))) (λ kind. IsGood kind before (words_of line)) (λ kind. IsFaulty kind before (words_of line) fault.Name)
-    (λ kind good f. f.2 good.names) (good.said f.1) f.2
+    both (kind_named (word 0 (words_of line))) (λ kind. IsGood kind before (words_of line))
+    (λ kind. IsFaulty kind before (words_of line) fault.Name) (λ kind good f. f.2 good.names) (good.said f.1) f.2
 good-or-faulty before line fault.Order good f =
-    both (kind_named (word 0 (words_of line))) (λ kind. IsGood kind before (words_of line)) (λ kind. IsFaulty kind before (words_of line) fault.Order)
-    (λ kind good f. f.3 good.order) (good.said f.1) f.2
+    both (kind_named (word 0 (words_of line))) (λ kind. IsGood kind before (words_of line))
+    (λ kind. IsFaulty kind before (words_of line) fault.Order) (λ kind good f. f.3 good.order) (good.said f.1) f.2
 
 one-fault : (before : SoFar) (line : Text) (one two : Fault) → IsFaultyLine before line one → IsFaultyLine before line two → one ≡ two
 one-fault before line fault.Word fault.Word f g = refl
@@ -137,7 +138,8 @@ refused-once text line other one two first second =
             let same : line ≡ other = omega (arith, near, close) in (
               same,
               one-fault (said_by (take (other - 1) (lines text))) (word (other - 1) (lines text)) one two
-                  (subst (λ n. IsFaultyLine (said_by (take (n - 1) (lines text))) (word (n - 1) (lines text)) one) same first.faulty) second.faulty,
+                  (subst (λ n. IsFaultyLine (said_by (take (n - 1) (lines text))) (word (n - 1) (lines text)) one) same first.faulty)
+                  second.faulty,
             )
       ]
     ]

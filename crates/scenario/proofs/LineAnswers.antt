@@ -16,7 +16,8 @@ module _ (before after : SoFar) (line : Text) (kind : LineKind) (size : length l
   some-and : (P : LineKind → Type 0) → P kind → IsSomeAnd (kind_named (word 0 (words_of line))) P
   some-and P h = subst (λ (found : Option LineKind). IsSomeAnd found P) (sym named) h
 
-  pub line-said : (result : Result (Unit {0}) Stop) → IsAnswer kind before (words_of line) result after → IsLineAnswer before line result after
+  pub line-said : (result : Result (Unit {0}) Stop) → IsAnswer kind before (words_of line) result after
+      → IsLineAnswer before line result after
   line-said (Ok u) h = (
     record { readable = record { size = size; text = text }; said = λ same. some-and (λ one. IsGood one before (words_of line)) h.0 },
     h.1 ∙ sym (ap (λ b. cond b before (after_kind (kind_named (word 0 (words_of line))) before (words_of line))) says

@@ -1,5 +1,6 @@
 -- What std says of parsed numbers, by the test of a text.
-use Rattle.std.proofs.Common.{◌≡◌, ◌<◌, ◌^◌, ◌&&◌, ℕ, Bool, true, false, List, [], ◌∷◌, Option, Some, None, cond, length, refl, sym, arith, ap, ◌∙◌, nat_lt}
+use Rattle.std.proofs.Common.{◌≡◌, ◌<◌, ◌^◌, ◌&&◌, ℕ, Bool, true, false}
+use Rattle.std.proofs.Common.{List, [], ◌∷◌, Option, Some, None, cond, length, refl, sym, arith, ap, ◌∙◌, nat_lt}
 use Rattle.std.proofs.lemmas.Bool.{false≢true}
 use Rattle.std.specs.List.{list_all}
 use Rattle.std.specs.Option.{SomeIff}
@@ -33,7 +34,8 @@ digits-yes radix (c ∷ cs) h = and-yes _ _ (less-yes _ _ (h.0)) (digits-yes rad
 digits-back : (radix : ℕ) (text : List ℕ) → list_all (is_digit radix) text ≡ true → AllDigits radix text
 digits-back radix [] h = tt
 digits-back radix (c ∷ cs) h =
-    (less-back _ _ (and-first (is_digit radix c) (list_all (is_digit radix) cs) h), digits-back radix cs (and-second (is_digit radix c) _ h))
+    let first = and-first (is_digit radix c) (list_all (is_digit radix) cs) h in
+    (less-back _ _ first, digits-back radix cs (and-second (is_digit radix c) _ h))
 
 abbrev Holds : (radix bits : ℕ) (text : List ℕ) → Type 0
 Holds radix bits text = IsNumeral radix text × (digits_value radix text < 2 ^ bits)

@@ -1,6 +1,7 @@
 -- How a text is read, line by line.
 use borrow.Author.Count.{below_more}
-use Rattle.std.proofs.Common.{◌≡◌, ◌∙◌, ◌+◌, ◌-◌, ◌<◌, ◌≤◌, ℕ, List, [], ◌∷◌, length, get_or, take, drop, add-zero, ap, get_or-drop, length-drop, sym, subst, refl, arith}
+use Rattle.std.proofs.Common.{◌≡◌, ◌∙◌, ◌+◌, ◌-◌, ◌<◌, ◌≤◌, ℕ, List, [], ◌∷◌}
+use Rattle.std.proofs.Common.{length, get_or, take, drop, add-zero, ap, get_or-drop, length-drop, sym, subst, refl, arith}
 use Rattle.std.proofs.lemmas.List.{drop-drop, drop_all, take_all}
 use Rattle.std.proofs.lemmas.List.Sums.{fold_more}
 use Rattle.std.specs.Str.Lines.{lines}
@@ -31,7 +32,8 @@ module _ (all : List Text) (n : ℕ) (one : Text) (rest : List Text) (left : dro
   behind = sym (drop-drop 1 n all) ∙ ap (drop 1) left
 
 pub read_none : (text : Text) (said : SoFar) → said ≡ nothing → IsReadUpTo text 0 0 said
-read_none text said same = record { within = omega arith; number = omega arith; left = refl; good = λ k below. absurd (omega arith); same = same }
+read_none text said same =
+    record { within = omega arith; number = omega arith; left = refl; good = λ k below. absurd (omega arith); same = same }
 
 pub read_more : (text : Text) (start count taken : ℕ) (said after : SoFar) (bytes rest : Text) → IsReadUpTo text start count said
     → rest ≡ drop start text → lines rest ≡ bytes ∷ lines (drop taken rest) → 0 < taken → taken ≤ length rest

@@ -1,6 +1,7 @@
 -- Words of references, and the texts behind them.
 use native.Mathlib.Decide.{dec_le}
-use Rattle.std.proofs.Common.{◌≡◌, ◌∙◌, ◌+◌, ◌<◌, ◌≤◌, ℕ, Bool, true, false, cond, List, [], Some, None, Bor, length, get_or, take, drop, min, nat_lt, not, ap, sym, refl, arith}
+use Rattle.std.proofs.Common.{◌≡◌, ◌∙◌, ◌+◌, ◌<◌, ◌≤◌, ℕ, Bool, true, false, cond, List, [], Some, None, Bor}
+use Rattle.std.proofs.Common.{length, get_or, take, drop, min, nat_lt, not, ap, sym, refl, arith}
 use Rattle.std.proofs.lemmas.Bool.Decides.{nat_tests}
 use Rattle.std.proofs.lemmas.List.{drop-map, drop_all, get_or-map, length-map, take-map}
 use Rattle.std.proofs.lemmas.List.Sums.{prefix_len-le-length}

@@ -1,5 +1,6 @@
 -- The first line of a text.
-use Rattle.std.proofs.Common.{◌≡◌, ◌∙◌, ◌+◌, ◌<◌, ◌≤◌, ◌==◌, ℕ, Bool, true, false, cond, List, [], ◌∷◌, Some, None, length, take, drop, nat_lt, not, ap, sym, refl, arith}
+use Rattle.std.proofs.Common.{◌≡◌, ◌∙◌, ◌+◌, ◌<◌, ◌≤◌, ◌==◌, ℕ, Bool, true, false, cond, List, [], ◌∷◌, Some, None}
+use Rattle.std.proofs.Common.{length, take, drop, nat_lt, not, ap, sym, refl, arith}
 use Rattle.std.proofs.lemmas.Bool.Decides.{nat_tests}
 use Rattle.std.proofs.lemmas.List.{drop_all}
 use Rattle.std.proofs.lemmas.List.Splits.{length-slice_split, slice_split_first, slice_split_none}
@@ -38,7 +39,8 @@ lines-last text n end whole some =
     ap lines_of_parts none ∙ ap (λ b. cond b [] (text ∷ [])) (some-bytes (length text) some)
     ∙ sym (ap (λ (rest : List ℕ). text ∷ lines rest) (drop_all n text (omega arith)))
 
-parts-cons : (part : List ℕ) (parts : List (List ℕ)) → 0 < length parts → lines_of_parts (part ∷ parts) ≡ strip_carriage_return part ∷ lines_of_parts parts
+parts-cons : (part : List ℕ) (parts : List (List ℕ)) → 0 < length parts
+    → lines_of_parts (part ∷ parts) ≡ strip_carriage_return part ∷ lines_of_parts parts
 parts-cons part [] h = absurd (omega arith)
 parts-cons part (next ∷ parts) h = refl
 

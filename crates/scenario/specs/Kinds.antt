@@ -18,4 +18,5 @@ kind_named word =
     else if bytes_eq word (codes "tick") then Some line.Tick
     else if bytes_eq word (codes "feed") then Some line.Feed
     else if bytes_eq word (codes "auto") then Some line.Auto
+    else if bytes_eq word (codes "drain") then Some line.Drain
     else None

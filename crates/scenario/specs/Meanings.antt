@@ -11,7 +11,7 @@ use Rattle.packet_socket.specs.declared.socket_kind.SocketKind.TheVariants as so
 use Rattle.stations.specs.declared.tick.Tick.{Tick}
 use Rattle.stations.specs.declared.tick.Tick.TheVariants as tick
 use Rattle.scenario.specs.HostOptions.{AreCounted, AreRead, options_asked, uses_in}
-use Rattle.scenario.specs.SoFar.{Host, Said, SoFar, Sends, Receives, Interrupts, Ticks, Feeds, Draws, has_name, place_of}
+use Rattle.scenario.specs.SoFar.{Host, Said, SoFar, Sends, Receives, Interrupts, Ticks, Feeds, Draws, Drains, has_name, place_of}
 use Rattle.scenario.specs.Spellings.{IsAddress, IsFrame, address_in, frame_in, is_number, socket_in}
 use Rattle.scenario.specs.TickWords.{is_tick, tick_of}
 use Rattle.scenario.specs.Words.{Text, word}
@@ -82,6 +82,7 @@ HasCount line.Interrupt words = length (call_words words) ≡ 2
 HasCount line.Tick words = length words ≡ 2
 HasCount line.Feed words = length words ≡ 3
 HasCount line.Auto words = length words ≡ 3
+HasCount line.Drain words = length words ≡ 2
 
 -- Each word reads as what stands there.
 abbrev pub HasValues : LineKind → List Text → Type 0
@@ -95,6 +96,7 @@ HasValues line.Interrupt words = are_ticks (tick_words words) ≡ true
 HasValues line.Tick words = is_tick (word 1 words) ≡ true
 HasValues line.Feed words = Unit {0}
 HasValues line.Auto words = (is_count (word 1 words) ≡ true) × (is_number 10 64 (word 2 words) ≡ true)
+HasValues line.Drain words = Unit {0}
 
 -- a host of this name is there, and has room
 abbrev pub IsRoomAt : Text → (Host → ℕ) → ℕ → List Host → Type 0
@@ -129,6 +131,7 @@ HasNames line.Interrupt hosts words = AreKnown hosts (word 1 (call_words words))
 HasNames line.Tick hosts words = IsSome (tick_of hosts (word 1 words))
 HasNames line.Feed hosts words = IsHost (word 1 words) hosts
 HasNames line.Auto hosts words = Unit {0}
+HasNames line.Drain hosts words = IsHost (word 1 words) hosts
 
 -- What sets up comes before the first event.
 abbrev pub sets_up : LineKind → Bool
@@ -221,3 +224,4 @@ after_line line.Feed before words =
     let fed = saying (Feeds (number_of (word 1 words) before.hosts) (length before.traces)) before in
     record fed { traces = before.traces ++ word 2 words ∷ [] }
 after_line line.Auto before words = saying (Draws (number_read (word 1 words)) (number_read (word 2 words))) before
+after_line line.Drain before words = saying (Drains (number_of (word 1 words) before.hosts)) before

@@ -41,6 +41,7 @@ pub data Said : Type 0 where
   Ticks : (tick : Tick) → Said
   Feeds : (host trace : ℕ) → Said
   Draws : (count start : ℕ) → Said
+  Drains : (host : ℕ) → Said
 
 abbrev pub event_of : Event → Said
 event_of (event.Send host frame ticks) = Sends host frame.items ticks.items
@@ -52,6 +53,7 @@ abbrev pub said_of : Command → Said
 said_of (command.Event one) = event_of one
 said_of (command.Feed host trace) = Feeds host trace
 said_of (command.Auto count start) = Draws count start
+said_of (command.Drain host) = Drains host
 
 -- hosts, commands and names of traces so far
 pub record SoFar : Type 0 where

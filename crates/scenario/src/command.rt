@@ -22,6 +22,11 @@ pub enum Command {
         /// What the drawing starts with.
         start: u64,
     },
+    /// All that a host holds for its sockets is given.
+    Drain {
+        /// The host, numbered from 0 in the order of the plan.
+        host: usize,
+    },
 }
 
 /// A run, as its text has it.

@@ -213,3 +213,17 @@ pub(crate) fn read_auto(scenario: &mut Scenario, words: &[&str]) -> Result<(), S
     say(scenario, Command::Auto { count, start })?;
     Ok(())
 }
+
+/// `drain HOST`.
+pub(crate) fn read_drain(scenario: &mut Scenario, words: &[&str]) -> Result<(), Stop>
+    ensures { IsAnswer line.Drain (so_far scenario.old) (texts words.now) result (so_far scenario.new) }
+{
+    if words.len() != 2 {
+        return Err(Stop::Fault(Fault::Count));
+    }
+    let Some(host) = host_named(scenario.plan.hosts.as_slice(), word_at(words, 1)) else {
+        return Err(Stop::Fault(Fault::Name));
+    };
+    say(scenario, Command::Drain { host })?;
+    Ok(())
+}

@@ -6,7 +6,9 @@ ghost use Rattle.scenario.specs.SoFar.{so_far};
 ghost use Rattle.scenario.specs.Words.{texts};
 
 use crate::command::Scenario;
-use crate::event_line::{read_auto, read_feed, read_interrupt, read_recv, read_send, read_tick};
+use crate::event_line::{
+    read_auto, read_drain, read_feed, read_interrupt, read_recv, read_send, read_tick,
+};
 use crate::line_kind::{LineKind, kind_of};
 use crate::refusal::{Fault, Stop};
 use crate::setup_line::{read_group, read_host, read_socket, read_vlan};
@@ -37,6 +39,7 @@ fn read_kind(
         LineKind::Tick => read_tick(scenario, words),
         LineKind::Feed => read_feed(alloc, scenario, words),
         LineKind::Auto => read_auto(scenario, words),
+        LineKind::Drain => read_drain(scenario, words),
     }
 }
 

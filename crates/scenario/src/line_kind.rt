@@ -26,6 +26,8 @@ pub(crate) enum LineKind {
     Feed,
     /// `auto`: events that are drawn.
     Auto,
+    /// `drain`: a host gives all that it holds for its sockets.
+    Drain,
 }
 
 /// The kind of the lines that this word begins.
@@ -43,6 +45,7 @@ pub(crate) fn kind_of(word: &str) -> Option<LineKind>
         "tick" => Some(LineKind::Tick),
         "feed" => Some(LineKind::Feed),
         "auto" => Some(LineKind::Auto),
+        "drain" => Some(LineKind::Drain),
         _ => None,
     }
 }

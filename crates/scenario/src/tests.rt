@@ -27,7 +27,7 @@ recv b 0
 const HOSTS: &str = "host a 02:00:00:00:00:01 w\nhost b 02:00:00:00:00:02 w\n";
 
 /// Lines that stand behind the two hosts, each with what comes of it: `None` where it is good.
-const LINES: [(&str, Option<Fault>); 102] = [
+const LINES: [(&str, Option<Fault>); 109] = [
     // words
     ("", None),
     (" \t ", None),
@@ -36,7 +36,6 @@ const LINES: [(&str, Option<Fault>); 102] = [
     ("#\n\n#\n", None),
     ("hosts", Some(Fault::Word)),
     ("Host c 02:00:00:00:00:03 w", Some(Fault::Word)),
-    ("drain a", Some(Fault::Word)),
     ("/", Some(Fault::Word)),
     ("\u{feff}# no comment", Some(Fault::Word)),
     ("\x0ctick go", Some(Fault::Word)),
@@ -144,6 +143,15 @@ const LINES: [(&str, Option<Fault>); 102] = [
     ("auto 1000001 0", Some(Fault::Value)),
     ("auto 4294967296 0", Some(Fault::Value)),
     ("auto 0 18446744073709551616", Some(Fault::Value)),
+    // drains
+    ("drain a", None),
+    ("drain b\ndrain\tb\ntick go", None),
+    ("drain", Some(Fault::Count)),
+    ("drain b x", Some(Fault::Count)),
+    ("drain b / go", Some(Fault::Count)),
+    ("drain nobody", Some(Fault::Name)),
+    ("drain /", Some(Fault::Name)),
+    ("drain a\nhost c 02:00:00:00:00:03 w", Some(Fault::Order)),
 ];
 
 /// What comes of a text: `None` where it is read.
@@ -238,6 +246,16 @@ feed c one.pcap\nauto 7 9\nfeed c two.pcap\nsend c 00 / go deliver:c";
     let names = scenario.trace_names();
     assert_eq!(rt; names.len(), 2);
     assert_eq!(rt; names[1].as_str(), "two.pcap");
+    Ok(())
+}
+
+#[test]
+fn drains_name_their_hosts(rt: HostRuntime) -> Result<(), Fail> {
+    let text = format!(in rt.alloc(); "{HOSTS}drain b\ndrain a\n")?;
+    let scenario = Scenario::read(rt.alloc(), text.as_bytes())?;
+    assert!(rt; scenario.commands.len() == 2);
+    assert!(rt; matches!(scenario.commands.first(), Some(Command::Drain { host: 1 })));
+    assert!(rt; matches!(scenario.commands.get(1), Some(Command::Drain { host: 0 })));
     Ok(())
 }
 

@@ -14,4 +14,5 @@ returns c =
     let read = λ (one : Text). unwrap_or (tick_of hosts one) tick.Go in
     IfOk-weaker c.collect.result _ _ (λ ticks same. same ∙ sym (map-map read (λ (one : Bor Text). one.now) c.args.words.now))
     (items_from_collect _ c.collect.ensures.ran
-    (YieldsList-from_map _ (λ (one : Bor Text). read one.now) (YieldsList-from_slice c.args.words.now cc) c.map.ensures.closure (λ x r q k. search rules)))
+    (YieldsList-from_map _ (λ (one : Bor Text). read one.now) (YieldsList-from_slice c.args.words.now cc) c.map.ensures.closure
+    (λ x r q k. search rules)))

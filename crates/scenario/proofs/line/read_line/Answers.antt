@@ -16,4 +16,5 @@ returns c =
     let says : is_skipped (words_of line) ≡ false = first_of (search rules, grind (arith, common_steps)) in
     let named : kind_named (word 0 (words_of line)) ≡ Some c.in-Some-kind_of.kind = first_of (search rules, grind (arith, common_steps)) in
     line-said before after line c.in-Some-kind_of.kind (omega arith) c.in-Ok.ensures.cases.1 says named c.read_kind.result
-    (subst (λ (said : List Text). IsAnswer c.in-Some-kind_of.kind before said c.read_kind.result after) (ap texts c.as_slice.ensures.value ∙ words) c.read_kind.ensures)
+    (subst (λ (said : List Text). IsAnswer c.in-Some-kind_of.kind before said c.read_kind.result after)
+    (ap texts c.as_slice.ensures.value ∙ words) c.read_kind.ensures)

@@ -11,5 +11,6 @@ returns c =
     let pushed : c.push.new.self.items ≡ plans ++ c.in_ok-host.host ∷ [] = c.in_ok-push.ensures.items in (
       c.in_ok-host.ensures.good,
       ap (λ (hosts : List Host). with_hosts hosts before)
-          (ap hosts_of pushed ∙ map-append host_of plans (c.in_ok-host.host ∷ []) ∙ ap (λ (host : Host). hosts_of plans ++ host ∷ []) c.in_ok-host.ensures.host),
+          (ap hosts_of pushed ∙ map-append host_of plans (c.in_ok-host.host ∷ [])
+          ∙ ap (λ (host : Host). hosts_of plans ++ host ∷ []) c.in_ok-host.ensures.host),
     )
