@@ -9,8 +9,8 @@ use Rattle.pcap_trace.specs.Format.{Timed}
 use Rattle.stations.specs.Stations.{world_at}
 use Rattle.network_plan.specs.declared.plan.HostPlan.{HostPlan}
 use Rattle.wire.specs.Networks.{IsHost}
-use Rattle.wire.specs.Runs.{happenings}
 use Rattle.scenario.specs.SoFar.{Host, Said, host_of, hosts_of, said_of}
+use Rattle.scenario_bench.specs.Acts.{Act, history}
 use Rattle.scenario.specs.declared.command.Scenario.{Scenario}
 use Rattle.scenario_bench.specs.Benches.{AreWritten, AreWrittenUpTo, Benches, Plays, SinkState, Stops, texts_of}
 use Rattle.scenario_bench.specs.EventLists.{all_events}
@@ -26,8 +26,6 @@ use Rattle.scenario_bench.specs.declared.bench_error.BenchError.{BenchError}
 use Rattle.scenario_bench.specs.declared.bench_error.BenchError.TheVariants as errors
 use Rattle.scenario.specs.declared.command.Command.{Command}
 use Rattle.pcap_trace.specs.declared.fault.WriteError.{WriteError}
-use Rattle.network_events.specs.declared.event.Event.{Event}
-use Rattle.network_events.specs.declared.reply.Reply.{Reply}
 use Rattle.scenario_bench.specs.declared.tally.Tally.{Tally}
 use Rattle.scenario_bench.proofs.Told.{noted-lists, tally_of}
 use Rattle.stations.proofs.Places.{same-places}
@@ -80,9 +78,9 @@ at-replicate (suc n) (suc k) x below = at-replicate n k x (omega (arith, below))
 
 -- each host has its numbers
 pub tally_at : (plans : List HostPlan) (said : List Said) (a b : Play) (begun : Begins plans a) (played : HasPlayed said a b) (k : ℕ)
-    → k < length plans → slice_get b.record.hosts.items k ≡ Some (tally_of k (happenings played.events played.replies))
+    → k < length plans → slice_get b.record.hosts.items k ≡ Some (tally_of k (history played.acts))
 tally_at plans said a b begun played k below =
-    let happened = happenings played.events played.replies in
+    let happened = history played.acts in
     played.noted.hosts k
     ∙ ap (option_map (tally_behind happened k)) (ap (λ (l : List Tally). slice_get l k) begun.hosts
     ∙ at-replicate (length plans) k no_tally below)
@@ -98,38 +96,38 @@ enough xs (suc n) each =
 pub tallies_enough : (plans : List HostPlan) (said : List Said) (a b : Play) → Begins plans a → HasPlayed said a b
     → length plans ≤ length b.record.hosts.items
 tallies_enough plans said a b begun played = enough b.record.hosts.items (length plans)
-    (λ k below. (tally_of k (happenings played.events played.replies), tally_at plans said a b begun played k below))
+    (λ k below. (tally_of k (history played.acts), tally_at plans said a b begun played k below))
 
 -- the sockets have what they gave
 sockets-are : (plans : List HostPlan) (said : List Said) (a b : Play) (begun : Begins plans a) (played : HasPlayed said a b)
-    → b.record.sockets.items ≡ map (socket_behind 0 played.events played.replies) (empty_sockets (sockets_from 0 (hosts_of plans)))
+    → b.record.sockets.items ≡ map (socket_behind 0 played.acts) (empty_sockets (sockets_from 0 (hosts_of plans)))
 sockets-are plans said a b begun played =
-    let change = socket_behind 0 played.events played.replies in
+    let change = socket_behind 0 played.acts in
     let first = empty_sockets (sockets_from 0 (hosts_of plans)) in
     same-places b.record.sockets.items (map change first) (λ k. played.noted.sockets k
-    ∙ ap (λ (n : ℕ). option_map (socket_behind n played.events played.replies) (slice_get a.record.sockets.items k)) begun.number
+    ∙ ap (λ (n : ℕ). option_map (socket_behind n played.acts) (slice_get a.record.sockets.items k)) begun.number
     ∙ ap (λ (l : List SocketFrames). option_map change (slice_get l k)) begun.sockets ∙ sym (slice_get-map change first k))
 
-texts-of : (events : List Event) (replies : List Reply) (places : List (ℕ × ℕ))
-    → map frames_given (map (socket_behind 0 events replies) (empty_sockets places))
-    ≡ map (λ (place : ℕ × ℕ). given_from place.0 place.1 0 events replies) places
-texts-of events replies [] = refl
-texts-of events replies (place ∷ places) =
-    ap (λ (l : List (List Timed)). given_from place.0 place.1 0 events replies ∷ l) (texts-of events replies places)
+texts-of : (acts : List Act) (places : List (ℕ × ℕ))
+    → map frames_given (map (socket_behind 0 acts) (empty_sockets places))
+    ≡ map (λ (place : ℕ × ℕ). given_from place.0 place.1 0 acts) places
+texts-of acts [] = refl
+texts-of acts (place ∷ places) =
+    ap (λ (l : List (List Timed)). given_from place.0 place.1 0 acts ∷ l) (texts-of acts places)
 
 pub texts_are : (plans : List HostPlan) (said : List Said) (a b : Play) (begun : Begins plans a) (played : HasPlayed said a b)
     → map frames_given b.record.sockets.items
-    ≡ map (λ (place : ℕ × ℕ). given_from place.0 place.1 0 played.events played.replies) (sockets_from 0 (hosts_of plans))
+    ≡ map (λ (place : ℕ × ℕ). given_from place.0 place.1 0 played.acts) (sockets_from 0 (hosts_of plans))
 texts_are plans said a b begun played =
     ap (map frames_given) (sockets-are plans said a b begun played)
-    ∙ texts-of played.events played.replies (sockets_from 0 (hosts_of plans))
+    ∙ texts-of played.acts (sockets_from 0 (hosts_of plans))
 
 pub sockets_count : (plans : List HostPlan) (said : List Said) (a b : Play) → Begins plans a → HasPlayed said a b
     → length b.record.sockets.items ≡ length (sockets_from 0 (hosts_of plans))
 sockets_count plans said a b begun played =
     sym (length-map b.record.sockets.items frames_given)
     ∙ ap length (texts_are plans said a b begun played)
-    ∙ length-map (sockets_from 0 (hosts_of plans)) (λ (place : ℕ × ℕ). given_from place.0 place.1 0 played.events played.replies)
+    ∙ length-map (sockets_from 0 (hosts_of plans)) (λ (place : ℕ × ℕ). given_from place.0 place.1 0 played.acts)
 
 -- The call.
 
@@ -138,11 +136,10 @@ abbrev pub plays_of : (scenario : Scenario) (traces : List (List (List ℕ))) (a
 plays_of scenario traces a b begun played = record {
   made = a.lan;
   by_plan = begun.made;
-  events = played.events;
+  acts = played.acts;
   of_commands = played.are;
-  replies = played.replies;
   behind = b.lan;
-  runs = played.runs;
+  leads = played.leads;
 }
 
 plan-at : (plans : List HostPlan) (k : ℕ) (plan : Host) (found : Option HostPlan) → slice_get plans k ≡ found
@@ -156,13 +153,13 @@ plan-at plans k plan (Some one) is there =
 
 pub hosts_tell : (plans : List HostPlan) (said : List Said) (a b : Play) (told : List HostSummary) (begun : Begins plans a)
     (played : HasPlayed said a b) → TellTallies (length plans) plans b told
-    → TellsHosts (hosts_of plans) (happenings played.events played.replies) b.lan told
+    → TellsHosts (hosts_of plans) (history played.acts) b.lan told
 hosts_tell plans said a b told begun played tells = record {
   count = tells.count ∙ sym (length-map plans host_of);
   each = λ k plan host one plan_is host_is one_is.
       let found = plan-at plans k plan (slice_get plans k) refl plan_is in
       let below : k < length plans = slice_get_within plans k found.0 found.1 in
-      let happened = happenings played.events played.replies in
+      let happened = history played.acts in
       let this = tells.each k found.0 (tally_of k happened) host one found.1 (tally_at plans said a b begun played k below) host_is one_is in
       record {
         name = this.name ∙ ap (λ (h : Host). h.name) found.2;
@@ -201,7 +198,7 @@ benched {old} {new} scenario traces summary count a b begun played tells counts 
     let said = all_events (hosts_of plans) traces (map said_of scenario.commands.items) in
     let plays = plays_of scenario traces a b begun played in
     let all : count ≡ length (texts_of plays) = counts
-    ∙ sym (length-map (sockets_from 0 (hosts_of plans)) (λ (place : ℕ × ℕ). given_from place.0 place.1 0 played.events played.replies)) in
+    ∙ sym (length-map (sockets_from 0 (hosts_of plans)) (λ (place : ℕ × ℕ). given_from place.0 place.1 0 played.acts)) in
     record {
       plays = plays;
       texts = subst (λ (n : ℕ). AreWritten n (texts_of plays) old new) all

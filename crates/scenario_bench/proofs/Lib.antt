@@ -3,6 +3,8 @@ pub mod EventsOfCommands
 pub mod Printed
 pub mod Noting
 pub mod NotedEvents
+pub mod NotedDrains
+pub mod JoinedActs
 pub mod EmptySockets
 pub mod PlayedEvents
 pub mod Writing

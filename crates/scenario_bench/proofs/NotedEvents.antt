@@ -1,9 +1,8 @@
 -- Events that are noted, one behind the other.
-use Rattle.std.proofs.Common.{◌≡◌, ◌+◌, ◌==◌, ◌&&◌, ◌++◌, ◌∷◌, [], ℕ, Bool, true, false, List, Option, Some, None, Vec, Global, Ok, Err}
-use Rattle.std.proofs.Common.{length, map}
-use Rattle.std.proofs.Common.{slice_get, option_map, if◌then◌else◌, refl, sym, ap, subst, ◌∙◌, arith, append_assoc, append-nil}
+use Rattle.std.proofs.Common.{◌≡◌, ◌==◌, ◌&&◌, ◌++◌, ◌∷◌, [], ℕ, Bool, true, false, List, Option, Some, None, Vec, Global, Ok, Err}
+use Rattle.std.proofs.Common.{map}
+use Rattle.std.proofs.Common.{slice_get, option_map, if◌then◌else◌, refl, sym, ap, subst, ◌∙◌, append_assoc, append-nil}
 use Rattle.std.proofs.lemmas.Grind.{flat_map-append}
-use Rattle.std.proofs.lemmas.List.{length-append}
 use Rattle.std.proofs.lemmas.List.Sums.{fold-append}
 use Rattle.pcap_trace.specs.Format.{Timed}
 use Rattle.delivery.specs.Happenings.{Given, Happening, given, given_by, told, told_alone, told_of}
@@ -17,7 +16,10 @@ use Rattle.stations.specs.declared.tick.Outcome.{Outcome}
 use Rattle.stations.specs.declared.tick.Outcome.TheVariants as outcome
 use Rattle.stations.specs.declared.tick.Tick.{Tick}
 use Rattle.stations.specs.declared.tick.Tick.TheVariants as tick
-use Rattle.wire.specs.Runs.{accepted_of, given_of, happenings, said}
+use Rattle.packet_socket.specs.HostStretches.{Given as GivenFrame}
+use Rattle.wire.specs.DrainedNetworks.{said_of_drain}
+use Rattle.wire.specs.Runs.{accepted_of, given_of, said}
+use Rattle.scenario_bench.specs.Acts.{Act, Drained, Ran, history, ran, said_in}
 use Rattle.scenario_bench.specs.Given.{given_from, next_number, numbered}
 use Rattle.scenario_bench.specs.SocketLists.{SocketFrames, with_frames, with_given}
 use Rattle.scenario_bench.specs.Tallies.{AreNoted, GetsGiven, GetsSaid, TalliesGrow, host_named, number_behind, socket_behind}
@@ -192,80 +194,75 @@ pub gets_given : (host socket number : ℕ) (frame : List ℕ) (old new : List S
     → GetsGiven host socket (numbered number frame) old new → GetsSaid number (Given host socket frame ∷ []) old new
 gets_given host socket number frame old new gets k = gets k ∙ given-as host socket number frame (slice_get old k)
 
--- One event.
+-- One act.
 
-single : (number : ℕ) (one : Event) (reply : Reply) (found : Option SocketFrames)
-    → option_map (with_said number (said one reply)) found ≡ option_map (socket_behind number (one ∷ []) (reply ∷ [])) found
-single number one reply None = refl
-single number one reply (Some socket) = ap (λ (frames : List Timed). Some (with_frames frames socket))
-    (sym (append-nil (map (numbered number) (given socket.host socket.socket (said one reply)))))
+single : (number : ℕ) (act : Act) (found : Option SocketFrames)
+    → option_map (with_said number (said_in act)) found ≡ option_map (socket_behind number (act ∷ [])) found
+single number act None = refl
+single number act (Some socket) = ap (λ (frames : List Timed). Some (with_frames frames socket))
+    (sym (append-nil (map (numbered number) (given socket.host socket.socket (said_in act)))))
+
+act-noted : (act : Act) (old new : Record) → new.number ≡ next_number old.number
+    → TalliesGrow (said_in act) old.hosts.items new.hosts.items
+    → GetsSaid old.number (said_in act) old.sockets.items new.sockets.items → AreNoted (act ∷ []) old new
+act-noted act old new next hosts sockets = record {
+  number = next;
+  hosts = subst (λ (happened : List Happening). TalliesGrow happened old.hosts.items new.hosts.items) (sym (append-nil (said_in act))) hosts;
+  sockets = λ k. sockets k ∙ single old.number act (slice_get old.sockets.items k);
+}
 
 pub noted : (one : Event) (reply : Reply) (old new : Record) → new.number ≡ next_number old.number
     → TalliesGrow (said one reply) old.hosts.items new.hosts.items
-    → GetsSaid old.number (said one reply) old.sockets.items new.sockets.items → AreNoted (one ∷ []) (reply ∷ []) old new
-noted one reply old new next hosts sockets = record {
-  number = next;
-  hosts = subst (λ (happened : List Happening). TalliesGrow happened old.hosts.items new.hosts.items) (sym (append-nil (said one reply))) hosts;
-  sockets = λ k. sockets k ∙ single old.number one reply (slice_get old.sockets.items k);
-}
+    → GetsSaid old.number (said one reply) old.sockets.items new.sockets.items → AreNoted (Ran one reply ∷ []) old new
+noted one reply old new next hosts sockets = act-noted (Ran one reply) old new next hosts sockets
+
+pub drain_noted : (host : ℕ) (frames : List GivenFrame) (old new : Record) → new.number ≡ next_number old.number
+    → TalliesGrow (said_of_drain host 0 frames) old.hosts.items new.hosts.items
+    → GetsSaid old.number (said_of_drain host 0 frames) old.sockets.items new.sockets.items
+    → AreNoted (Drained host 0 frames ∷ []) old new
+drain_noted host frames old new next hosts sockets = act-noted (Drained host 0 frames) old new next hosts sockets
 
 -- Several.
 
-happenings-join : (events later : List Event) (replies more : List Reply) → length events ≡ length replies
-    → happenings (events ++ later) (replies ++ more) ≡ happenings events replies ++ happenings later more
-happenings-join [] later [] more same = refl
-happenings-join [] later (reply ∷ replies) more same = cc
-happenings-join (one ∷ events) later [] more same = cc
-happenings-join (one ∷ events) later (reply ∷ replies) more same =
-    ap (λ (rest : List Happening). said one reply ++ rest) (happenings-join events later replies more (omega (arith, same)))
-    ∙ sym (append_assoc (said one reply) (happenings events replies) (happenings later more))
-
-given-join : (host socket number : ℕ) (events later : List Event) (replies more : List Reply) → length events ≡ length replies
-    → given_from host socket number (events ++ later) (replies ++ more)
-    ≡ given_from host socket number events replies ++ given_from host socket (number_behind number events) later more
-given-join host socket number [] later [] more same = refl
-given-join host socket number [] later (reply ∷ replies) more same = cc
-given-join host socket number (one ∷ events) later [] more same = cc
-given-join host socket number (one ∷ events) later (reply ∷ replies) more same =
-    let first = map (numbered number) (given host socket (said one reply)) in
+given-join : (host socket number : ℕ) (acts later : List Act) → given_from host socket number (acts ++ later)
+    ≡ given_from host socket number acts ++ given_from host socket (number_behind number acts) later
+given-join host socket number [] later = refl
+given-join host socket number (act ∷ acts) later =
+    let first = map (numbered number) (given host socket (said_in act)) in
     let next = next_number number in
-    ap (λ (rest : List Timed). first ++ rest) (given-join host socket next events later replies more (omega (arith, same)))
-    ∙ sym (append_assoc first (given_from host socket next events replies)
-    (given_from host socket (number_behind next events) later more))
+    ap (λ (rest : List Timed). first ++ rest) (given-join host socket next acts later)
+    ∙ sym (append_assoc first (given_from host socket next acts) (given_from host socket (number_behind next acts) later))
 
-behind-join : (number : ℕ) (events later : List Event) (replies more : List Reply) (found : Option SocketFrames)
-    → length events ≡ length replies
-    → option_map (socket_behind (number_behind number events) later more) (option_map (socket_behind number events replies) found)
-    ≡ option_map (socket_behind number (events ++ later) (replies ++ more)) found
-behind-join number events later replies more None same = refl
-behind-join number events later replies more (Some socket) same =
-    let first = given_from socket.host socket.socket number events replies in
-    let second = given_from socket.host socket.socket (number_behind number events) later more in
+behind-join : (number : ℕ) (acts later : List Act) (found : Option SocketFrames)
+    → option_map (socket_behind (number_behind number acts) later) (option_map (socket_behind number acts) found)
+    ≡ option_map (socket_behind number (acts ++ later)) found
+behind-join number acts later None = refl
+behind-join number acts later (Some socket) =
+    let first = given_from socket.host socket.socket number acts in
+    let second = given_from socket.host socket.socket (number_behind number acts) later in
     ap (λ (frames : List Timed). Some (record socket { frames = frames }))
     (append_assoc socket.frames first second
-    ∙ ap (λ (frames : List Timed). socket.frames ++ frames)
-    (sym (given-join socket.host socket.socket number events later replies more same)))
+    ∙ ap (λ (frames : List Timed). socket.frames ++ frames) (sym (given-join socket.host socket.socket number acts later)))
 
-pub noted_join : (events later : List Event) (replies more : List Reply) (a b c : Record) → length events ≡ length replies
-    → AreNoted events replies a b → AreNoted later more b c → AreNoted (events ++ later) (replies ++ more) a c
-noted_join events later replies more a b c same one two = record {
+pub noted_join : (acts later : List Act) (a b c : Record) → AreNoted acts a b → AreNoted later b c → AreNoted (acts ++ later) a c
+noted_join acts later a b c one two = record {
   number = two.number ∙ ap (λ (n : ℕ). number_behind n later) one.number
-      ∙ sym (fold-append (λ (n : ℕ) (e : Event). next_number n) a.number events later);
+      ∙ sym (fold-append (λ (n : ℕ) (act : Act). next_number n) a.number acts later);
   hosts = subst (λ (happened : List Happening). TalliesGrow happened a.hosts.items c.hosts.items)
-      (sym (happenings-join events later replies more same))
-      (grows_join (happenings events replies) (happenings later more) a.hosts.items b.hosts.items c.hosts.items one.hosts two.hosts);
+      (sym (flat_map-append said_in acts later))
+      (grows_join (history acts) (history later) a.hosts.items b.hosts.items c.hosts.items one.hosts two.hosts);
   sockets = λ k. two.sockets k
-      ∙ ap (λ (n : ℕ). option_map (socket_behind n later more) (slice_get b.sockets.items k)) one.number
-      ∙ ap (option_map (socket_behind (number_behind a.number events) later more)) (one.sockets k)
-      ∙ behind-join a.number events later replies more (slice_get a.sockets.items k) same;
+      ∙ ap (λ (n : ℕ). option_map (socket_behind n later) (slice_get b.sockets.items k)) one.number
+      ∙ ap (option_map (socket_behind (number_behind a.number acts) later)) (one.sockets k)
+      ∙ behind-join a.number acts later (slice_get a.sockets.items k);
 }
 
-nothing-more : (number : ℕ) (found : Option SocketFrames) → found ≡ option_map (socket_behind number [] []) found
+nothing-more : (number : ℕ) (found : Option SocketFrames) → found ≡ option_map (socket_behind number []) found
 nothing-more number None = refl
 nothing-more number (Some socket) =
     ap (λ (frames : List Timed). Some (record socket { frames = frames })) (sym (append-nil socket.frames))
 
-pub noted_none : (a : Record) → AreNoted [] [] a a
+pub noted_none : (a : Record) → AreNoted [] a a
 noted_none a = record {
   number = refl;
   hosts = grows_not a.hosts.items;
@@ -274,57 +271,43 @@ noted_none a = record {
 
 -- The first of these events are noted, and these are left.
 pub record HasNoted (events rest : List Event) (replies left : List Reply) (old new : Record) : Type 0 where
-  pub done : List Event
-  pub told : List Reply
-  pub parts : events ≡ done ++ rest
-  pub replied : replies ≡ told ++ left
-  pub same : length done ≡ length told
-  pub left_same : length rest ≡ length left
-  pub noted : AreNoted done told old new
+  pub done : List Act
+  pub parts : ran events replies ≡ done ++ ran rest left
+  pub noted : AreNoted done old new
 
-pub all_left : (events : List Event) (replies : List Reply) (record_before : Record) → length events ≡ length replies
-    → HasNoted events events replies replies record_before record_before
-all_left events replies before same = record {
-  done = [];
-  told = [];
-  parts = refl;
-  replied = refl;
-  same = refl;
-  left_same = same;
-  noted = noted_none before;
-}
+pub all_left : (events : List Event) (replies : List Reply) (before : Record) → HasNoted events events replies replies before before
+all_left events replies before = record { done = []; parts = refl; noted = noted_none before }
 
 pub one_noted : (events rest later : List Event) (one : Event) (replies left others : List Reply) (reply : Reply) (old mid new : Record)
     → HasNoted events rest replies left old mid → rest ≡ one ∷ later → left ≡ reply ∷ others
-    → AreNoted (one ∷ []) (reply ∷ []) mid new → HasNoted events later replies others old new
+    → AreNoted (Ran one reply ∷ []) mid new → HasNoted events later replies others old new
 one_noted events rest later one replies left others reply old mid new has is there more = record {
-  done = has.done ++ one ∷ [];
-  told = has.told ++ reply ∷ [];
-  parts = has.parts ∙ ap (λ (r : List Event). has.done ++ r) is ∙ sym (append_assoc has.done (one ∷ []) later);
-  replied = has.replied ∙ ap (λ (l : List Reply). has.told ++ l) there ∙ sym (append_assoc has.told (reply ∷ []) others);
-  same = length-append has.done (one ∷ []) ∙ ap (λ (n : ℕ). n + 1) has.same ∙ sym (length-append has.told (reply ∷ []));
-  left_same = let counts : length (one ∷ later) ≡ length (reply ∷ others) = sym (ap length is) ∙ has.left_same ∙ ap length there in
-      omega (arith, counts);
-  noted = noted_join has.done (one ∷ []) has.told (reply ∷ []) old mid new has.same has.noted more;
+  done = has.done ++ Ran one reply ∷ [];
+  parts = has.parts ∙ ap (λ (r : List Event). has.done ++ ran r left) is
+      ∙ ap (λ (l : List Reply). has.done ++ ran (one ∷ later) l) there
+      ∙ sym (append_assoc has.done (Ran one reply ∷ []) (ran later others));
+  noted = noted_join has.done (Ran one reply ∷ []) old mid new has.noted more;
 }
 
-ended : {X : Type 0} → (xs : List X) → 0 ≡ length xs → xs ≡ []
-ended [] none = refl
-ended (x ∷ xs) none = cc
+ends : (events rest : List Event) (replies left : List Reply) (old new : Record) → HasNoted events rest replies left old new
+    → ran rest left ≡ [] → AreNoted (ran events replies) old new
+ends events rest replies left old new has none =
+    subst (λ (acts : List Act). AreNoted acts old new)
+    (sym (has.parts ∙ ap (λ (more : List Act). has.done ++ more) none ∙ append-nil has.done)) has.noted
 
 pub all_noted : (events rest : List Event) (replies left : List Reply) (old new : Record) → HasNoted events rest replies left old new
-    → rest ≡ [] → AreNoted events replies old new
+    → rest ≡ [] → AreNoted (ran events replies) old new
 all_noted events rest replies left old new has is =
-    let none : left ≡ [] = ended left (sym (ap length is) ∙ has.left_same) in
-    let all : events ≡ has.done = has.parts ∙ ap (λ (r : List Event). has.done ++ r) is ∙ append-nil has.done in
-    let replied : replies ≡ has.told = has.replied ∙ ap (λ (l : List Reply). has.told ++ l) none ∙ append-nil has.told in
-    subst (λ (es : List Event). AreNoted es replies old new) (sym all)
-    (subst (λ (rs : List Reply). AreNoted has.done rs old new) (sym replied) has.noted)
+    ends events rest replies left old new has (ap (λ (r : List Event). ran r left) is)
+
+ran-none : (events : List Event) → ran events [] ≡ []
+ran-none [] = refl
+ran-none (one ∷ events) = refl
 
 pub none_left : (events rest : List Event) (replies left : List Reply) (old new : Record) → HasNoted events rest replies left old new
-    → left ≡ [] → AreNoted events replies old new
+    → left ≡ [] → AreNoted (ran events replies) old new
 none_left events rest replies left old new has is =
-    all_noted events rest replies left old new has (ended rest (sym (ap length is) ∙ sym has.left_same))
+    ends events rest replies left old new has (ap (λ (l : List Reply). ran rest l) is ∙ ran-none rest)
 
 -- An event at all hosts.
 

@@ -6,7 +6,8 @@ use Rattle.std.specs.List.{flat_map}
 use Rattle.rand_pcg.specs.Lcg.{Lcg}
 use Rattle.rand_pcg.specs.Pcg.{pcg32}
 use Rattle.std.proofs.Common.{Option, Some, None, option_map, slice_get}
-use Rattle.std.proofs.lemmas.Option.{slice_get-map, slice_get_within}
+use Rattle.std.proofs.lemmas.List.{map-append}
+use Rattle.std.proofs.lemmas.Option.{slice_get-map, slice_get_past}
 use Rattle.std.specs.Prelude.{unwrap_or}
 use Rattle.pcap_trace.specs.declared.trace.Trace.{Trace}
 use Rattle.network_events.specs.declared.event.Event.TheVariants as event
@@ -15,73 +16,64 @@ use Rattle.scenario.specs.declared.command.Command.TheVariants as command
 use Rattle.scenario_bench.specs.EventLists.{all_events, behind_send, event_drawn, events_of, fed, words_drawn, words_from}
 use Rattle.network_events.specs.declared.event.Event.{Event}
 use Rattle.network_events.specs.declared.reply.Reply.{Reply}
-use Rattle.wire.specs.Networks.{NetworkState}
-use Rattle.wire.specs.Runs.{RunsTo, StatesRun}
-use Rattle.wire.proofs.Running.{runs-join, runs-none}
-use Rattle.scenario.specs.SoFar.{Host, Said, Sends, event_of, said_of}
+use Rattle.stations.specs.Stations.{world_at}
+use Rattle.wire.specs.DrainedNetworks.{NetworkDrains}
+use Rattle.wire.specs.Runs.{RunsTo}
+use Rattle.scenario.specs.SoFar.{Drains, Host, Said, Sends, event_of, said_of}
+use Rattle.scenario_bench.specs.Acts.{Drained, act_of, ran}
+use Rattle.scenario_bench.specs.DrainedView.{drained_frame}
+use Rattle.scenario_bench.specs.declared.drained.DrainedFrame.{DrainedFrame}
 use Rattle.scenario_bench.specs.PlayedEvents.{HasPlayed, frames_of}
 use Rattle.scenario_bench.specs.Tallies.{AreNoted}
 use Rattle.scenario_bench.specs.declared.play.Play.{Play}
-use Rattle.scenario_bench.proofs.EmptySockets.{map-append}
+use Rattle.scenario_bench.proofs.JoinedActs.{acts-ran, leads-drained, leads-join, leads-none, leads-ran}
+use Rattle.scenario_bench.proofs.NotedDrains.{noted_moves}
 use Rattle.scenario_bench.proofs.NotedEvents.{noted_join, noted_none}
-
--- Each event has its reply.
-pub as_many : (old : NetworkState) (events : List Event) (replies : List Reply) (new : NetworkState) → StatesRun old events replies new
-    → length events ≡ length replies
-as_many old [] [] new runs = refl
-as_many old [] (reply ∷ replies) new runs = absurd runs
-as_many old (event ∷ events) [] new runs = absurd runs
-as_many old (event ∷ events) (reply ∷ replies) new runs =
-    ap (λ (n : ℕ). suc n) (as_many runs.0 events replies new runs.2)
-
--- replies that stand behind others
-behind : (a : NetworkState) (events : List Event) (replies : List Reply) (b : NetworkState) (before : List Reply)
-    → RunsTo a events [] replies b → RunsTo a events before (before ++ replies) b
-behind a events replies b before runs = record {
-  replies = runs.replies;
-  appended = ap (λ (l : List Reply). before ++ l) runs.appended;
-  states = runs.states;
-  hosts = runs.hosts;
-  delivers = runs.delivers;
-}
 
 pub played_none : (a : Play) → HasPlayed [] a a
 played_none a = record {
-  events = [];
+  acts = [];
   are = refl;
-  replies = [];
-  runs = runs-none a.lan [];
+  leads = leads-none a.lan;
   noted = noted_none a.record;
 }
 
 pub played_join : (said later : List Said) (a b c : Play) → HasPlayed said a b → HasPlayed later b c → HasPlayed (said ++ later) a c
 played_join said later a b c one two = record {
-  events = one.events ++ two.events;
-  are = map-append event_of one.events two.events ∙ ap (λ (l : List Said). l ++ map event_of two.events) one.are
+  acts = one.acts ++ two.acts;
+  are = map-append act_of one.acts two.acts ∙ ap (λ (l : List Said). l ++ map act_of two.acts) one.are
       ∙ ap (λ (l : List Said). said ++ l) two.are;
-  replies = one.replies ++ two.replies;
-  runs = runs-join a.lan b.lan c.lan one.events two.events [] one.replies (one.replies ++ two.replies) one.runs
-      (behind b.lan two.events two.replies c.lan one.replies two.runs);
-  noted = noted_join one.events two.events one.replies two.replies a.record b.record c.record
-      (as_many a.lan one.events one.replies b.lan (subst (λ (rs : List Reply). StatesRun a.lan one.events rs b.lan) (sym one.runs.appended)
-      one.runs.states)) one.noted two.noted;
+  leads = leads-join a.lan b.lan c.lan one.acts two.acts one.leads two.leads;
+  noted = noted_join one.acts two.acts a.record b.record c.record one.noted two.noted;
 }
 
 -- what was run was noted
-pub played : (events : List Event) (before replies : List Reply) (a b : Play) → RunsTo a.lan events before replies b.lan → before ≡ []
-    → AreNoted events replies a.record b.record → HasPlayed (map event_of events) a b
-played events before replies a b runs none noted = record {
-  events = events;
-  are = refl;
-  replies = replies;
-  runs = subst (λ (rs : List Reply). RunsTo a.lan events rs replies b.lan) none runs;
-  noted = noted;
-}
+pub played : (events : List Event) (before replies slice : List Reply) (a b : Play) → RunsTo a.lan events before replies b.lan
+    → before ≡ [] → slice ≡ replies → AreNoted (ran events slice) a.record b.record → HasPlayed (map event_of events) a b
+played events before replies slice a b runs none same noted =
+    let first : RunsTo a.lan events [] replies b.lan = subst (λ (rs : List Reply). RunsTo a.lan events rs replies b.lan) none runs in
+    record {
+      acts = ran events first.replies;
+      are = acts-ran a.lan events first.replies b.lan first.states;
+      leads = leads-ran a.lan events replies b.lan first;
+      noted = subst (λ (rs : List Reply). AreNoted (ran events rs) a.record b.record) (same ∙ first.appended) noted;
+    }
 
-pub answered : (a b : NetworkState) (events : List Event) (before behind replies : List Reply) → RunsTo a events before behind b
-    → before ≡ [] → replies ≡ behind → length events ≡ length replies
-answered a b events before behind replies runs none are =
-    as_many a events runs.replies b runs.states ∙ sym (ap length (are ∙ runs.appended ∙ ap (λ (l : List Reply). l ++ runs.replies) none))
+-- what a drain gave was noted
+pub drained : (host steps : ℕ) (before frames slice : List DrainedFrame) (a b : Play)
+    → NetworkDrains a.lan host steps (map drained_frame before) (map drained_frame frames) b.lan → before ≡ [] → slice ≡ frames
+    → AreNoted (Drained host 0 (map drained_frame slice) ∷ []) a.record b.record → HasPlayed (Drains host ∷ []) a b
+drained host steps before frames slice a b drains none same noted =
+    let buffered = length (world_at a.lan.stations host).adapter.receiver.buffer in
+    let given = map drained_frame frames in
+    record {
+      acts = Drained host buffered given ∷ [];
+      are = refl;
+      leads = leads-drained a.lan host steps given b.lan
+          (subst (λ (ds : List DrainedFrame). NetworkDrains a.lan host steps (map drained_frame ds) given b.lan) none drains);
+      noted = noted_moves host buffered given a.record b.record
+          (subst (λ (ds : List DrainedFrame). AreNoted (Drained host 0 (map drained_frame ds) ∷ []) a.record b.record) same noted);
+    }
 
 -- What is played one by one.
 
@@ -187,25 +179,23 @@ of_feed hosts traces one host place trace a b is there played =
     (sym (ap (λ (c : Command). events_of hosts (map frames_of traces) (said_of c)) is
     ∙ ap (flat_map (fed hosts host)) (fed-frames hosts host traces place (Some trace) there))) played
 
-past-all : {X : Type 0} → (xs : List X) (place : ℕ) → length xs ≤ place → slice_get xs place ≡ None
-past-all xs place past = by_case (slice_get xs place) refl
-  where
-    by_case : (found : Option _) → slice_get xs place ≡ found → found ≡ None
-    by_case None is = refl
-    by_case (Some x) is = let within : place < length xs = slice_get_within xs place x is in absurd (omega (arith, within, past))
-
 pub of_no_feed : (hosts : List Host) (traces : List Trace) (one : Command) (host place : ℕ) (a : Play)
     → one ≡ command.Feed host place → length traces ≤ place
     → HasPlayed (events_of hosts (map frames_of traces) (said_of one)) a a
 of_no_feed hosts traces one host place a is past =
     subst (λ (s : List Said). HasPlayed s a a)
     (sym (ap (λ (c : Command). events_of hosts (map frames_of traces) (said_of c)) is
-    ∙ ap (flat_map (fed hosts host)) (fed-frames hosts host traces place None (past-all traces place past)))) (played_none a)
+    ∙ ap (flat_map (fed hosts host)) (fed-frames hosts host traces place None (slice_get_past traces place past)))) (played_none a)
 
 pub of_auto : (hosts : List Host) (traces : List (List (List ℕ))) (one : Command) (count start : ℕ) (a b : Play)
     → one ≡ command.Auto count start → HasPlayed (map (event_drawn hosts) (words_drawn count start)) a b
     → HasPlayed (events_of hosts traces (said_of one)) a b
 of_auto hosts traces one count start a b is played =
+    subst (λ (s : List Said). HasPlayed s a b) (sym (ap (λ (c : Command). events_of hosts traces (said_of c)) is)) played
+
+pub of_drain : (hosts : List Host) (traces : List (List (List ℕ))) (one : Command) (host : ℕ) (a b : Play)
+    → one ≡ command.Drain host → HasPlayed (Drains host ∷ []) a b → HasPlayed (events_of hosts traces (said_of one)) a b
+of_drain hosts traces one host a b is played =
     subst (λ (s : List Said). HasPlayed s a b) (sym (ap (λ (c : Command). events_of hosts traces (said_of c)) is)) played
 
 -- Several commands.

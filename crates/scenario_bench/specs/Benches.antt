@@ -1,36 +1,34 @@
 -- What the bench does with a scenario (own).
-use Rattle.std.specs.Prelude.{◌≡◌, ◌<◌, ◌≤◌, ◌+◌, ℕ, List, [], Option, Some, Ok, Err, length, map, slice_get}
+use Rattle.std.specs.Prelude.{◌≡◌, ◌<◌, ◌≤◌, ◌+◌, ℕ, List, Option, Some, Ok, Err, length, map, slice_get}
 use Rattle.std.specs.Io.KnownBytes.{Appends}
 use Rattle.pcap_trace.specs.Devices.{AppendsFront}
 use Rattle.pcap_trace.specs.Format.{Timed, written}
-use Rattle.network_events.specs.declared.event.Event.{Event}
-use Rattle.network_events.specs.declared.reply.Reply.{Reply}
 use Rattle.wire.specs.Networks.{NetworkState}
 use Rattle.wire.specs.NewNetworks.{IsLanAnswer}
-use Rattle.wire.specs.Runs.{RunsTo, happenings}
-use Rattle.scenario.specs.SoFar.{event_of, hosts_of, said_of}
+use Rattle.scenario.specs.SoFar.{hosts_of, said_of}
 use Rattle.scenario.specs.declared.command.Scenario.{Scenario}
 use Rattle.scenario_bench.specs.declared.bench_error.BenchError.{BenchError}
 use Rattle.scenario_bench.specs.declared.bench_error.BenchError.TheVariants as errors
 use Rattle.scenario_bench.specs.declared.summary.Summary.{Summary}
+use Rattle.scenario_bench.specs.Acts.{Act, ActsLead, act_of, history}
 use Rattle.scenario_bench.specs.EventLists.{all_events}
 use Rattle.scenario_bench.specs.Given.{given_from, sockets_from}
 use Rattle.scenario_bench.specs.Summaries.{TellsHosts}
 
--- A network was made by the plan, and the events of the scenario's commands were run on it, in order: the delivery theorem holds of them.
+-- A network was made by the plan, and the events and drains of the scenario's commands were done on it, in order: the delivery theorem
+-- holds of them.
 pub record Plays (scenario : Scenario) (traces : List (List (List ℕ))) : Type 0 where
   pub made : NetworkState
   pub by_plan : IsLanAnswer scenario.plan.hosts.items (Ok made)
-  pub events : List Event
-  pub of_commands : map event_of events ≡ all_events (hosts_of scenario.plan.hosts.items) traces (map said_of scenario.commands.items)
-  pub replies : List Reply
+  pub acts : List Act
+  pub of_commands : map act_of acts ≡ all_events (hosts_of scenario.plan.hosts.items) traces (map said_of scenario.commands.items)
   pub behind : NetworkState
-  pub runs : RunsTo made events [] replies behind
+  pub leads : ActsLead made acts behind
 
 -- what each socket gave, hosts in order and their sockets in order
 abbrev pub texts_of : {scenario : Scenario} → {traces : List (List (List ℕ))} → Plays scenario traces → List (List Timed)
 texts_of {scenario} played =
-    map (λ (place : ℕ × ℕ). given_from place.0 place.1 0 played.events played.replies)
+    map (λ (place : ℕ × ℕ). given_from place.0 place.1 0 played.acts)
     (sockets_from 0 (hosts_of scenario.plan.hosts.items))
 
 -- What was written to sinks.
@@ -73,7 +71,7 @@ pub record AreWrittenUpTo (failed : ℕ) (texts : List (List Timed)) (old new : 
 pub record Benches (scenario : Scenario) (traces : List (List (List ℕ))) (summary : Summary) (old new : List SinkState) : Type 0 where
   pub plays : Plays scenario traces
   pub texts : AreWritten (length (texts_of plays)) (texts_of plays) old new
-  pub tells : TellsHosts (hosts_of scenario.plan.hosts.items) (happenings plays.events plays.replies) plays.behind summary.hosts.items
+  pub tells : TellsHosts (hosts_of scenario.plan.hosts.items) (history plays.acts) plays.behind summary.hosts.items
 
 -- At an error nothing was written, but where a sink failed.
 abbrev pub Stops : (scenario : Scenario) (traces : List (List (List ℕ))) → BenchError → (old new : List SinkState) → Type 0

@@ -1,4 +1,4 @@
--- The events of a scenario's commands, in order (own). Hosts are numbered from 0, as in the plan.
+-- The events and drains of a scenario's commands, in order (own). Hosts are numbered from 0, as in the plan.
 use Rattle.std.specs.Prelude.{◌==◌, ◌&&◌, ◌%◌, ◌/◌, ◌+◌, ◌++◌, ℕ, zero, suc, not, List, [], ◌∷◌, if◌then◌else◌, length, map}
 use Rattle.std.specs.Prelude.{slice_get, option_map, unwrap_or}
 use Rattle.std.specs.List.{flat_map, range_with_len}
@@ -75,7 +75,7 @@ event_drawn hosts word =
     let host = word / 8 % length hosts in
     event_of_kind (word % 8) host (address_of hosts host)
 
--- the events of a command; traces are numbered as the scenario numbers them
+-- the events of a command, or its drain; traces are numbered as the scenario numbers them
 abbrev pub events_of : List Host → (traces : List (List (List ℕ))) → Said → List Said
 events_of hosts traces (Feeds sender trace) = flat_map (fed hosts sender) (unwrap_or (slice_get traces trace) [])
 events_of hosts traces (Draws count start) = map (event_drawn hosts) (words_drawn count start)

@@ -1,30 +1,27 @@
--- The frames that a socket gives in a run, each with the number of its event (own).
+-- The frames that a socket gives in a run, each with the number of its event or drain (own).
 use Rattle.std.specs.Prelude.{◌+◌, ◌^◌, ◌-◌, ◌++◌, ℕ, List, [], ◌∷◌, length, map, min}
 use Rattle.std.specs.List.{range_with_len}
 use Rattle.pcap_trace.specs.Format.{Timed}
 use Rattle.delivery.specs.Happenings.{given}
-use Rattle.network_events.specs.declared.event.Event.{Event}
-use Rattle.network_events.specs.declared.reply.Reply.{Reply}
 use Rattle.scenario.specs.SoFar.{Host}
-use Rattle.wire.specs.Runs.{said}
+use Rattle.scenario_bench.specs.Acts.{Act, said_in}
 
--- the greatest number of an event, and of what is counted: that of 64 bits
+-- the greatest number of an event or a drain, and of what is counted: that of 64 bits
 abbrev pub greatest_number : ℕ
 greatest_number = 2 ^ 64 - 1
 
--- The number of the event behind: one more, up to the greatest.
+-- The number of what is behind: one more, up to the greatest.
 abbrev pub next_number : ℕ → ℕ
 next_number number = min (number + 1) greatest_number
 
 abbrev pub numbered : (number : ℕ) → List ℕ → Timed
 numbered number frame = record { time = number; frame = frame }
 
--- The frames that a socket gives in these events, the first of which has this number.
-abbrev pub given_from : (host socket number : ℕ) → List Event → List Reply → List Timed
-given_from host socket number [] replies = []
-given_from host socket number (event ∷ events) [] = []
-given_from host socket number (event ∷ events) (reply ∷ replies) =
-    map (numbered number) (given host socket (said event reply)) ++ given_from host socket (next_number number) events replies
+-- The frames that a socket gives in these acts, the first of which has this number.
+abbrev pub given_from : (host socket number : ℕ) → List Act → List Timed
+given_from host socket number [] = []
+given_from host socket number (act ∷ acts) =
+    map (numbered number) (given host socket (said_in act)) ++ given_from host socket (next_number number) acts
 
 -- The sockets of a plan: hosts in order, and the sockets of each in order.
 abbrev pub sockets_of : (host sockets : ℕ) → List (ℕ × ℕ)

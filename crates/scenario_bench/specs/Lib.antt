@@ -1,10 +1,12 @@
 pub mod Errors
 pub mod EventLists
+pub mod Acts
 pub mod Given
 pub mod SocketLists
 pub mod Tallies
 pub mod PlayedEvents
 pub mod GivenView
+pub mod DrainedView
 pub mod Summaries
 pub mod Benches
 pub mod Printing

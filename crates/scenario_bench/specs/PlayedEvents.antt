@@ -1,5 +1,5 @@
--- Events that were played, and noted (own).
-use Rattle.std.specs.Prelude.{◌≡◌, ◌↔◌, ℕ, List, [], Err, IsTrue, Ok, Some, length, map, replicate, slice_get, string_bytes}
+-- Events and drains that were played, and noted (own).
+use Rattle.std.specs.Prelude.{◌≡◌, ◌↔◌, ℕ, List, Err, IsTrue, Ok, Some, length, map, replicate, slice_get, string_bytes}
 use Rattle.adapter.specs.World.{World}
 use Rattle.packet_socket.specs.HostState.{HostState}
 use Rattle.stations.specs.Stations.{world_at}
@@ -9,24 +9,21 @@ use Rattle.scenario_bench.specs.declared.summary.HostSummary.{HostSummary}
 use Rattle.scenario_bench.specs.declared.tally.Tally.{Tally}
 use Rattle.network_plan.specs.declared.plan.HostPlan.{HostPlan}
 use Rattle.pcap_trace.specs.declared.trace.Trace.{Trace}
-use Rattle.network_events.specs.declared.event.Event.{Event}
-use Rattle.network_events.specs.declared.reply.Reply.{Reply}
-use Rattle.wire.specs.Runs.{RunsTo}
 use Rattle.wire.specs.NewNetworks.{IsLanAnswer}
-use Rattle.scenario.specs.SoFar.{Said, event_of, hosts_of}
+use Rattle.scenario.specs.SoFar.{Said, hosts_of}
+use Rattle.scenario_bench.specs.Acts.{Act, ActsLead, act_of}
 use Rattle.scenario_bench.specs.Given.{sockets_from}
 use Rattle.scenario_bench.specs.Tallies.{AreNoted, empty_sockets, no_tally}
 use Rattle.scenario_bench.specs.declared.bench_error.BenchError.{BenchError}
 use Rattle.scenario_bench.specs.declared.bench_error.BenchError.TheVariants as errors
 use Rattle.scenario_bench.specs.declared.play.Play.{Play}
 
--- These events were run on the network, and noted.
+-- These events and drains were done on the network, and noted.
 pub record HasPlayed (said : List Said) (old new : Play) : Type 0 where
-  pub events : List Event
-  pub are : map event_of events ≡ said
-  pub replies : List Reply
-  pub runs : RunsTo old.lan events [] replies new.lan
-  pub noted : AreNoted events replies old.record new.record
+  pub acts : List Act
+  pub are : map act_of acts ≡ said
+  pub leads : ActsLead old.lan acts new.lan
+  pub noted : AreNoted acts old.record new.record
 
 -- A network was made by a plan, and nothing is noted yet.
 pub record Begins (plans : List HostPlan) (play : Play) : Type 0 where

@@ -5,13 +5,11 @@ use Rattle.rx_engine.specs.declared.arrival.Fate.{Fate}
 use Rattle.rx_engine.specs.declared.arrival.Fate.TheVariants as fate
 use Rattle.pcap_trace.specs.Format.{Timed}
 use Rattle.delivery.specs.Happenings.{Happening, Accepted, Put, Reached, Moved, Given, given}
-use Rattle.network_events.specs.declared.event.Event.{Event}
-use Rattle.network_events.specs.declared.reply.Reply.{Reply}
 use Rattle.stations.specs.declared.tick.Tick.{Tick}
 use Rattle.stations.specs.declared.tick.Tick.TheVariants.{Deliver, Go, Step}
 use Rattle.stations.specs.declared.tick.Outcome.{Outcome}
 use Rattle.stations.specs.declared.tick.Outcome.TheVariants as outcome
-use Rattle.wire.specs.Runs.{happenings}
+use Rattle.scenario_bench.specs.Acts.{Act, history}
 use Rattle.scenario_bench.specs.SocketLists.{SocketFrames, no_frames, with_frames, with_given}
 use Rattle.scenario_bench.specs.Given.{given_from, next_number, numbered}
 use Rattle.scenario_bench.specs.declared.record.Record.{Record}
@@ -47,7 +45,7 @@ counted_by k tally (Given host socket frame) = counted_at k host passage.Given t
 abbrev pub no_tally : Tally
 no_tally = record { accepted = 0; put = 0; reached = 0; stored = 0; given = 0 }
 
--- Of events and their replies.
+-- Of events and drains.
 
 -- The host's numbers grow by what happened to its frames.
 abbrev pub tally_behind : List Happening → ℕ → Tally → Tally
@@ -56,25 +54,24 @@ tally_behind happened k tally = fold (counted_by k) tally happened
 abbrev pub TalliesGrow : List Happening → (old new : List Tally) → Type 0
 TalliesGrow happened old new = (k : ℕ) → slice_get new k ≡ option_map (tally_behind happened k) (slice_get old k)
 
--- A socket's frames grow by those that it gave in these events, the first of which has this number.
-abbrev pub socket_behind : (number : ℕ) → List Event → List Reply → SocketFrames → SocketFrames
-socket_behind number events replies socket = with_frames (given_from socket.host socket.socket number events replies) socket
+-- A socket's frames grow by those that it gave in these acts, the first of which has this number.
+abbrev pub socket_behind : (number : ℕ) → List Act → SocketFrames → SocketFrames
+socket_behind number acts socket = with_frames (given_from socket.host socket.socket number acts) socket
 
-abbrev pub SocketsGrow : (number : ℕ) → List Event → List Reply → (old new : List SocketFrames) → Type 0
-SocketsGrow number events replies old new =
-    (k : ℕ) → slice_get new k ≡ option_map (socket_behind number events replies) (slice_get old k)
+abbrev pub SocketsGrow : (number : ℕ) → List Act → (old new : List SocketFrames) → Type 0
+SocketsGrow number acts old new = (k : ℕ) → slice_get new k ≡ option_map (socket_behind number acts) (slice_get old k)
 
--- the number of the event behind these
-abbrev pub number_behind : ℕ → List Event → ℕ
-number_behind number events = fold (λ n event. next_number n) number events
+-- the number behind these
+abbrev pub number_behind : ℕ → List Act → ℕ
+number_behind number acts = fold (λ n act. next_number n) number acts
 
--- These events with these replies are noted.
-pub record AreNoted (events : List Event) (replies : List Reply) (old new : Record) : Type 0 where
-  pub number : new.number ≡ number_behind old.number events
-  pub hosts : TalliesGrow (happenings events replies) old.hosts.items new.hosts.items
-  pub sockets : SocketsGrow old.number events replies old.sockets.items new.sockets.items
+-- These acts are noted.
+pub record AreNoted (acts : List Act) (old new : Record) : Type 0 where
+  pub number : new.number ≡ number_behind old.number acts
+  pub hosts : TalliesGrow (history acts) old.hosts.items new.hosts.items
+  pub sockets : SocketsGrow old.number acts old.sockets.items new.sockets.items
 
--- What the parts of an event add.
+-- What the parts of an act add.
 
 -- one passage at a host
 abbrev pub TallyCounts : (host : ℕ) → Passage → (old new : List Tally) → Type 0
@@ -90,7 +87,7 @@ IsPassage one found = found ≡ None
 abbrev pub GetsGiven : (host socket : ℕ) → Timed → (old new : List SocketFrames) → Type 0
 GetsGiven host socket frame old new = (k : ℕ) → slice_get new k ≡ option_map (with_given host socket (frame ∷ [])) (slice_get old k)
 
--- Each socket's frames grow by those that it gave in an event of this number.
+-- Each socket's frames grow by those that it gave in an act of this number.
 abbrev pub with_said : (number : ℕ) → List Happening → SocketFrames → SocketFrames
 with_said number happened socket = with_frames (map (numbered number) (given socket.host socket.socket happened)) socket
 

@@ -4,6 +4,7 @@
 #![tactic(auto)]
 
 mod bench_error;
+mod drained;
 mod events;
 mod given;
 mod places;

@@ -1,8 +1,8 @@
 //! A scenario, played.
-ghost use Rattle.std.specs.Prelude.{◌≡◌, ◌<◌, ◌≤◌, ℕ, All, IfErr, IfOk, OnErr, OnOk, Some, length, map, slice_get};
+ghost use Rattle.std.specs.Prelude.{◌≡◌, ◌<◌, ◌≤◌, ◌∷◌, [], ℕ, All, IfErr, IfOk, OnErr, OnOk, Some, length, map, slice_get};
 ghost use Rattle.std.specs.List.{flat_map};
 ghost use Rattle.packet_socket.specs.HostState.{HostState};
-ghost use Rattle.scenario.specs.SoFar.{event_of, hosts_of, said_of};
+ghost use Rattle.scenario.specs.SoFar.{Drains, event_of, hosts_of, said_of};
 ghost use Rattle.scenario_bench.specs.Benches.{AreWritten, AreWrittenUpTo, Benches, Stops};
 ghost use Rattle.scenario_bench.specs.EventLists as lists;
 ghost use Rattle.scenario_bench.specs.Given.{sockets_from};
@@ -14,6 +14,7 @@ ghost use Rattle.stations.specs.Stations.{world_at};
 ghost use Rattle.wire.specs.Networks.{IsHost};
 
 use crate::bench_error::BenchError;
+use crate::drained::DrainedFrames;
 use crate::events::{behind_send, drawn, send};
 use crate::record::Record;
 use crate::summary::{HostSummary, Summary};
@@ -51,7 +52,7 @@ impl Play {
     }
 
     /// Runs these events, and notes what came of them.
-    #[tactic(auto, using(crate::proofs::PlayedEvents::played, crate::proofs::PlayedEvents::answered))]
+    #[tactic(auto, using(crate::proofs::PlayedEvents::played))]
     fn run(&mut self, alloc: Global, events: &[Event]) -> Result<(), BenchError>
         ensures ok { OnOk result (HasPlayed (map event_of events.now) self.old self.new) }
         ensures err { IfErr result IsWanting }
@@ -59,6 +60,18 @@ impl Play {
         self.replies.clear();
         self.lan.run(alloc, events, &mut self.replies)?;
         self.record.note_all(events, self.replies.as_slice())?;
+        Ok(())
+    }
+
+    /// Drains a host, and notes what it gave. The room for that is asked for before.
+    #[tactic(auto, using(crate::proofs::PlayedEvents::drained))]
+    fn drain(&mut self, alloc: Global, host: usize) -> Result<(), BenchError>
+        ensures ok { OnOk result (HasPlayed (Drains host ∷ []) self.old self.new) }
+        ensures err { IfErr result IsWanting }
+    {
+        let mut drained = DrainedFrames::with_room(alloc, self.lan.drain_room(host))?;
+        self.lan.drain(host, &mut drained);
+        self.record.note_drain(host, drained.list.as_slice())?;
         Ok(())
     }
 
@@ -85,7 +98,7 @@ impl Play {
     }
 
     /// Events that are drawn.
-    #[tactic(auto, using(crate::proofs::PlayedEvents::all_drawn, crate::proofs::PlayedEvents::none_drawn, crate::proofs::PlayedEvents::one_drawn))]
+    #[tactic(auto, using(crate::proofs::PlayedEvents::all_drawn, crate::proofs::PlayedEvents::none_drawn))]
     fn draw(
         &mut self,
         alloc: Global,
@@ -108,8 +121,7 @@ impl Play {
         Ok(())
     }
 
-    /// The events of a command.
-    #[tactic(auto, using(crate::proofs::PlayedEvents::of_event, crate::proofs::PlayedEvents::of_feed, crate::proofs::PlayedEvents::of_no_feed, crate::proofs::PlayedEvents::of_auto))]
+    /// The events of a command, or its drain.
     fn command(
         &mut self,
         alloc: Global,
@@ -130,12 +142,13 @@ impl Play {
                 }
             }
             Command::Auto { count, start } => self.draw(alloc, plans, *count, *start)?,
+            Command::Drain { host } => self.drain(alloc, *host)?,
         }
         Ok(())
     }
 
-    /// The events of these commands, in order.
-    #[tactic(auto, using(crate::proofs::PlayedEvents::none_fed, crate::proofs::PlayedEvents::one_ran, crate::proofs::PlayedEvents::all_ran))]
+    /// The events and drains of these commands, in order.
+    #[tactic(auto, using(crate::proofs::PlayedEvents::none_fed, crate::proofs::PlayedEvents::all_ran))]
     fn commands(
         &mut self,
         alloc: Global,
@@ -217,10 +230,11 @@ impl Play {
     }
 }
 
-/// Plays a scenario: makes a network by its plan, runs the events of its commands in order, and writes to each sink the
-/// frames that its socket gave, as a trace (libpcap, "pcap-savefile"), each with the number of its event as its time in
-/// microseconds. There is a trace for each name of [`Scenario::trace_names`], and a sink for each socket: hosts in
-/// order, and the sockets of each in order. Events are numbered from 0, up to the greatest `u64`.
+/// Plays a scenario: makes a network by its plan, runs the events of its commands and drains its hosts in order, and
+/// writes to each sink the frames that its socket gave, as a trace (libpcap, "pcap-savefile"), each with the number of
+/// its event or drain as its time in microseconds. There is a trace for each name of [`Scenario::trace_names`], and a
+/// sink for each socket: hosts in order, and the sockets of each in order. Events and drains are numbered from 0, up to
+/// the greatest `u64`.
 ///
 /// # Errors
 ///

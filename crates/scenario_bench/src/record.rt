@@ -1,12 +1,16 @@
 //! What is noted of a run: numbers for each host, and the frames that each socket gave.
-ghost use Rattle.std.specs.Prelude.{◌≡◌, ◌≤◌, ◌++◌, ◌∷◌, [], ℕ, List, IfOk, OnOk, length, replicate};
+ghost use Rattle.std.specs.Prelude.{◌≡◌, ◌≤◌, ◌++◌, ◌∷◌, [], ℕ, List, IfOk, OnOk, length, map, replicate};
 ghost use Rattle.delivery.specs.Happenings.{host_of, told, told_of};
 ghost use Rattle.scenario.specs.SoFar.{hosts_of};
+ghost use Rattle.scenario_bench.specs.Acts.{Drained, Ran, ran};
+ghost use Rattle.scenario_bench.specs.DrainedView.{drained_frame};
 ghost use Rattle.scenario_bench.specs.Given.{numbered, sockets_from, sockets_of};
 ghost use Rattle.scenario_bench.specs.Tallies.{AreNoted, GetsGiven, GetsSaid, IsPassage, TalliesGrow, TallyCounts};
 ghost use Rattle.scenario_bench.specs.Tallies.{empty_sockets, no_tally};
+ghost use Rattle.wire.specs.DrainedNetworks.{said_of_drain};
 ghost use Rattle.wire.specs.Runs.{accepted_of, given_of, said};
 
+use crate::drained::DrainedFrame;
 use crate::given::GivenFrames;
 use crate::tally::{Passage, Tally};
 use adapter::Fate;
@@ -18,7 +22,7 @@ use std::alloc::{AllocError, Global};
 /// What is noted of a run.
 #[derive(Drop)]
 pub(crate) struct Record {
-    /// The number of the next event, up to the greatest.
+    /// The number of the next event or drain, up to the greatest.
     pub(crate) number: u64,
     /// What was counted of each host.
     pub(crate) hosts: Vec<Tally>,
@@ -97,7 +101,6 @@ fn note_outcome(hosts: &mut [Tally], host: usize, outcome: &Outcome)
 }
 
 /// What came of the ticks of a call: each but a Go has its outcome.
-#[tactic(auto, using(crate::proofs::NotedEvents::told_none, crate::proofs::NotedEvents::told_go, crate::proofs::NotedEvents::told_more, crate::proofs::NotedEvents::told_ends, crate::proofs::NotedEvents::told_all))]
 fn note_ticks(hosts: &mut [Tally], ticks: &[Tick], outcomes: &[Numbered])
     ensures { TalliesGrow (told ticks.now outcomes.now) hosts.old hosts.new }
 {
@@ -195,6 +198,29 @@ fn note_given(
     Ok(())
 }
 
+/// The frames that a drained host gave, each by its socket.
+#[tactic(auto, using(crate::proofs::NotedDrains::none_drained, crate::proofs::NotedDrains::all_counted, crate::proofs::NotedDrains::all_got))]
+fn note_drained(
+    hosts: &mut [Tally],
+    sockets: &mut [GivenFrames],
+    host: usize,
+    number: u64,
+    given: &[DrainedFrame],
+) -> Result<(), AllocError>
+    ensures hosts { OnOk result
+        (TalliesGrow (said_of_drain host 0 (map drained_frame given.now)) hosts.old hosts.new) }
+    ensures sockets { OnOk result
+        (GetsSaid number (said_of_drain host 0 (map drained_frame given.now)) sockets.old sockets.new) }
+{
+    let mut left = given;
+    while let Some((one, later)) = left.split_first() {
+        count(hosts, host, Passage::Given);
+        note_frame(sockets, host, one.socket, number, one.frame.as_slice())?;
+        left = later;
+    }
+    Ok(())
+}
+
 impl Record {
     /// Nothing was noted yet of these hosts.
     pub(crate) fn new(alloc: Global, plans: &[HostPlan]) -> Result<Record, AllocError>
@@ -219,7 +245,7 @@ impl Record {
     /// Notes what came of the next event.
     #[tactic(auto, using(crate::proofs::NotedEvents::noted))]
     fn note(&mut self, event: &Event, reply: &Reply) -> Result<(), AllocError>
-        ensures { OnOk result (AreNoted (event.now ∷ []) (reply.now ∷ []) self.old self.new) }
+        ensures { OnOk result (AreNoted (Ran event.now reply.now ∷ []) self.old self.new) }
     {
         note_passages(self.hosts.as_mut_slice(), event, reply);
         note_given(self.sockets.as_mut_slice(), self.number, event, reply)?;
@@ -227,11 +253,25 @@ impl Record {
         Ok(())
     }
 
+    /// Notes what a host gave that was drained next. How many frames its adapter moved for that isn't noted.
+    #[tactic(auto, using(crate::proofs::NotedEvents::drain_noted))]
+    pub(crate) fn note_drain(
+        &mut self,
+        host: usize,
+        given: &[DrainedFrame],
+    ) -> Result<(), AllocError>
+        ensures { OnOk result
+            (AreNoted (Drained host 0 (map drained_frame given.now) ∷ []) self.old self.new) }
+    {
+        let hosts = self.hosts.as_mut_slice();
+        note_drained(hosts, self.sockets.as_mut_slice(), host, self.number, given)?;
+        self.number = self.number.saturating_add(1);
+        Ok(())
+    }
+
     /// Notes what came of each of these events.
-    #[tactic(auto, using(crate::proofs::NotedEvents::all_left, crate::proofs::NotedEvents::one_noted, crate::proofs::NotedEvents::all_noted, crate::proofs::NotedEvents::none_left))]
     pub(crate) fn note_all(&mut self, events: &[Event], replies: &[Reply]) -> Result<(), AllocError>
-        requires { length events.now ≡ length replies.now }
-        ensures { OnOk result (AreNoted events.now replies.now self.old self.new) }
+        ensures { OnOk result (AreNoted (ran events.now replies.now) self.old self.new) }
     {
         let mut rest = events;
         let mut left = replies;

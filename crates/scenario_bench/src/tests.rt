@@ -1,5 +1,5 @@
 //! Scenarios, played over memory.
-ghost use Rattle.std.specs.Prelude.{Some};
+ghost use Rattle.std.specs.Prelude.{◌≡◌, IfOk, Some};
 
 use crate::{BenchError, bench, print_summary, sockets};
 use pcap_trace::{DeviceError, Frames, Sink, Trace};
@@ -50,7 +50,9 @@ impl Sink for TestSink {
 /// behind this, it isn't the sink that is refused.
 const ROOM: usize = 512;
 
-fn sink(alloc: Global, fails: bool) -> Result<TestSink, AllocError> {
+fn sink(alloc: Global, fails: bool) -> Result<TestSink, AllocError>
+    ensures { IfOk result (λ sink. sink.failures ≡ 0) }
+{
     let mut bytes = Vec::new(alloc);
     bytes.reserve(ROOM)?;
     Ok(TestSink {
@@ -165,6 +167,31 @@ fn a_first_frame_is_given(rt: HostRuntime) -> Result<(), Fail> {
 }
 
 #[test]
+fn a_drain_is_one_event(rt: HostRuntime) -> Result<(), Fail> {
+    let sent = "send a 0200000000020200000000010800\ntick txtake:a\ntick txput:a\ntick deliver:b\n";
+    let played = play(
+        &rt,
+        rt.alloc(),
+        &[sent, "drain b\ndrain b\ndrain a\nrecv b 0\n"],
+        &[],
+        9,
+    )?;
+    assert!(rt; tells(&played, TOLD));
+    let bytes = taken(&played, 0);
+    assert!(rt; bytes.len() == 100 && bytes[28] == 4);
+    let again = play(
+        &rt,
+        rt.alloc(),
+        &["drain b\n", sent, sent, "drain b\n"],
+        &[],
+        9,
+    )?;
+    let twice = taken(&again, 0);
+    assert!(rt; twice.len() == 176 && twice[28] == 9 && twice[104] == 9);
+    Ok(())
+}
+
+#[test]
 fn a_feed_is_given_in_order(rt: HostRuntime) -> Result<(), Fail> {
     let mut frames = Frames::new(rt.alloc());
     for mark in 0..20 {
@@ -212,7 +239,7 @@ fn a_plan_is_refused_before_anything(rt: HostRuntime) -> Result<(), Fail> {
 
 #[test]
 fn a_refused_allocation_is_memory(rt: HostRuntime) {
-    match play(&rt, rt.alloc(), &[FIRST], &[], 9) {
+    match play(&rt, rt.alloc(), &[FIRST, "drain b\n"], &[], 9) {
         Err(error) => assert!(rt; error.status() == 4),
         Ok(played) => {
             let is_memory = stops(&played, 4) && taken(&played, 0).is_empty();

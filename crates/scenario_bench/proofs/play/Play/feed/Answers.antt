@@ -1,6 +1,16 @@
+use Rattle.std.proofs.Common.{◌≡◌, ℕ, List, rules, subst, sym}
 use Rattle.scenario.specs.SoFar.{hosts_of}
-use Rattle.scenario_bench.proofs.PlayedEvents.{one_sent}
+use Rattle.scenario_bench.specs.EventLists.{fed}
+use Rattle.scenario_bench.proofs.PlayedEvents.{HasFed, none_fed, one_sent}
 use Rattle.scenario_bench.proofs.play.Play.feed.Goals as goal
+
+pub loop-frame-init : goal.loop-frame-init
+loop-frame-init c =
+    let events = fed (hosts_of c.args.plans.now) c.args.host in
+    let play = c.args.self.now in
+    let same : c.into_iter-frame-iterator.result ≡ c.args.trace.now.frames = search rules in
+    subst (λ (rest : List (List ℕ)). HasFed (List ℕ) events c.args.trace.now.frames rest play play) (sym same)
+    (none_fed (List ℕ) events c.args.trace.now.frames play)
 
 pub loop-frame-preserved : goal.loop-frame-preserved
 loop-frame-preserved c = one_sent (hosts_of c.args.plans.now) c.args.host c.in-Some.frame.now c.in_ok-send.field-0 c.in_ok-behind.behind.items

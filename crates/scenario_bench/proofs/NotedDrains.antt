@@ -1,0 +1,146 @@
+-- Drains that are noted.
+use Rattle.std.proofs.Common.{◌≡◌, ◌++◌, ◌∷◌, [], zero, suc, ℕ, List, Option, Some, None, map, option_map, slice_get}
+use Rattle.std.proofs.Common.{refl, sym, ap, subst, ◌∙◌, append_assoc, append-nil}
+use Rattle.std.specs.Prelude.{replicate}
+use Rattle.std.proofs.lemmas.Grind.{flat_map-append}
+use Rattle.std.proofs.lemmas.List.{map-append}
+use Rattle.std.proofs.lemmas.List.Sums.{fold-append}
+use Rattle.std.specs.List.{fold}
+use Rattle.packet_socket.specs.HostStretches.{Given as GivenFrame}
+use Rattle.pcap_trace.specs.Format.{Timed}
+use Rattle.delivery.specs.Happenings.{Given, Happening, Moved, given, given_by}
+use Rattle.wire.specs.DrainedNetworks.{said_of_drain}
+use Rattle.scenario_bench.specs.Acts.{Drained, history}
+use Rattle.scenario_bench.specs.Given.{numbered}
+use Rattle.scenario_bench.specs.DrainedView.{drained_frame}
+use Rattle.scenario_bench.specs.SocketLists.{SocketFrames, with_frames}
+use Rattle.scenario_bench.specs.Tallies.{AreNoted, GetsGiven, GetsSaid, TalliesGrow, TallyCounts, counted_by, socket_behind, tally_behind}
+use Rattle.scenario_bench.specs.Tallies.{with_said}
+use Rattle.scenario_bench.specs.declared.record.Record.{Record}
+use Rattle.scenario_bench.specs.declared.drained.DrainedFrame.{DrainedFrame}
+use Rattle.scenario_bench.specs.declared.tally.Passage.TheVariants as passage
+use Rattle.scenario_bench.specs.declared.tally.Tally.{Tally}
+use Rattle.scenario_bench.proofs.Noting.{grows_join, grows_not}
+use Rattle.scenario_bench.proofs.NotedEvents.{gets_given, gets_none}
+
+abbrev given-at : (host : ℕ) → GivenFrame → Happening
+given-at host one = Given host one.socket one.frame
+
+-- Frames that are moved aren't counted, and no socket gives them.
+
+moved-counts : (moves host k : ℕ) (tally : Tally) → fold (counted_by k) tally (replicate moves (Moved host)) ≡ tally
+moved-counts zero host k tally = refl
+moved-counts (suc moves) host k tally = moved-counts moves host k tally
+
+moved-gives : (moves host k s : ℕ) → given k s (replicate moves (Moved host)) ≡ []
+moved-gives zero host k s = refl
+moved-gives (suc moves) host k s = moved-gives moves host k s
+
+moves-count : (host buffered k : ℕ) (frames : List GivenFrame) (tally : Tally)
+    → tally_behind (history (Drained host 0 frames ∷ [])) k tally ≡ tally_behind (history (Drained host buffered frames ∷ [])) k tally
+moves-count host buffered k frames tally =
+    let moved = replicate buffered (Moved host) in
+    let said = map (given-at host) frames in
+    sym (ap (fold (counted_by k) tally) (append_assoc moved said []) ∙ fold-append (counted_by k) tally moved (said ++ [])
+    ∙ ap (λ (t : Tally). fold (counted_by k) t (said ++ [])) (moved-counts buffered host k tally))
+
+moves-give : (host buffered number : ℕ) (frames : List GivenFrame) (socket : SocketFrames)
+    → socket_behind number (Drained host 0 frames ∷ []) socket ≡ socket_behind number (Drained host buffered frames ∷ []) socket
+moves-give host buffered number frames socket =
+    let said = map (given-at host) frames in
+    ap (λ (gs : List (List ℕ)). with_frames (map (numbered number) gs ++ []) socket)
+    (sym (flat_map-append (given_by socket.host socket.socket) (replicate buffered (Moved host)) said
+    ∙ ap (λ (gs : List (List ℕ)). gs ++ given socket.host socket.socket said) (moved-gives buffered host socket.host socket.socket)))
+
+same-tally : (host buffered k : ℕ) (frames : List GivenFrame) (found : Option Tally)
+    → option_map (tally_behind (history (Drained host 0 frames ∷ [])) k) found
+    ≡ option_map (tally_behind (history (Drained host buffered frames ∷ [])) k) found
+same-tally host buffered k frames None = refl
+same-tally host buffered k frames (Some tally) = ap (λ (t : Tally). Some t) (moves-count host buffered k frames tally)
+
+same-socket : (host buffered number : ℕ) (frames : List GivenFrame) (found : Option SocketFrames)
+    → option_map (socket_behind number (Drained host 0 frames ∷ [])) found
+    ≡ option_map (socket_behind number (Drained host buffered frames ∷ [])) found
+same-socket host buffered number frames None = refl
+same-socket host buffered number frames (Some socket) =
+    ap (λ (s : SocketFrames). Some s) (moves-give host buffered number frames socket)
+
+-- So what is noted of a drain is the same, however many frames were moved.
+pub noted_moves : (host buffered : ℕ) (frames : List GivenFrame) (a b : Record) → AreNoted (Drained host 0 frames ∷ []) a b
+    → AreNoted (Drained host buffered frames ∷ []) a b
+noted_moves host buffered frames a b noted = record {
+  number = noted.number;
+  hosts = λ k. noted.hosts k ∙ same-tally host buffered k frames (slice_get a.hosts.items k);
+  sockets = λ k. noted.sockets k ∙ same-socket host buffered a.number frames (slice_get a.sockets.items k);
+}
+
+-- Frames that are given, one behind the other.
+
+gets-further : (number : ℕ) (xs ys : List Happening) (found : Option SocketFrames)
+    → option_map (with_said number ys) (option_map (with_said number xs) found) ≡ option_map (with_said number (xs ++ ys)) found
+gets-further number xs ys None = refl
+gets-further number xs ys (Some socket) =
+    let of : List Happening → List (List ℕ) = given socket.host socket.socket in
+    ap (λ (frames : List Timed). Some (record socket { frames = frames }))
+    (append_assoc socket.frames (map (numbered number) (of xs)) (map (numbered number) (of ys))
+    ∙ ap (λ (frames : List Timed). socket.frames ++ frames)
+    (sym (ap (map (numbered number)) (flat_map-append (given_by socket.host socket.socket) xs ys)
+    ∙ map-append (numbered number) (of xs) (of ys))))
+
+gets-join : (number : ℕ) (xs ys : List Happening) (a b c : List SocketFrames) → GetsSaid number xs a b → GetsSaid number ys b c
+    → GetsSaid number (xs ++ ys) a c
+gets-join number xs ys a b c one two k =
+    two k ∙ ap (option_map (with_said number ys)) (one k) ∙ gets-further number xs ys (slice_get a k)
+
+-- The first of these frames are noted, and these are left.
+pub record HasDrained (host number : ℕ) (all rest : List DrainedFrame) (hosts hosts' : List Tally) (sockets sockets' : List SocketFrames)
+    : Type 0 where
+  pub done : List GivenFrame
+  pub parts : map drained_frame all ≡ done ++ map drained_frame rest
+  pub grows : TalliesGrow (said_of_drain host 0 done) hosts hosts'
+  pub gets : GetsSaid number (said_of_drain host 0 done) sockets sockets'
+
+pub none_drained : (host number : ℕ) (all : List DrainedFrame) (hosts : List Tally) (sockets : List SocketFrames)
+    → HasDrained host number all all hosts hosts sockets sockets
+none_drained host number all hosts sockets = record {
+  done = [];
+  parts = refl;
+  grows = grows_not hosts;
+  gets = gets_none number sockets;
+}
+
+pub one_drained : (host number : ℕ) (all rest later : List DrainedFrame) (one : DrainedFrame) (frame : List ℕ) (a b c : List Tally)
+    (d e f : List SocketFrames) → HasDrained host number all rest a b d e → rest ≡ one ∷ later → frame ≡ one.frame
+    → TallyCounts host passage.Given b c → GetsGiven host one.socket (numbered number frame) e f
+    → HasDrained host number all later a c d f
+one_drained host number all rest later one frame a b c d e f has is frame_is counts gets =
+    let said : List GivenFrame → List Happening = map (given-at host) in
+    let this = drained_frame one in
+    let more : said has.done ++ given-at host this ∷ [] ≡ said (has.done ++ this ∷ []) =
+    sym (map-append (given-at host) has.done (this ∷ [])) in
+    record {
+      done = has.done ++ this ∷ [];
+      parts = has.parts ∙ ap (λ (l : List DrainedFrame). has.done ++ map drained_frame l) is
+          ∙ sym (append_assoc has.done (this ∷ []) (map drained_frame later));
+      grows = subst (λ (l : List Happening). TalliesGrow l a c) more
+          (grows_join (said has.done) (given-at host this ∷ []) a b c has.grows counts);
+      gets = subst (λ (l : List Happening). GetsSaid number l d f) more
+          (gets-join number (said has.done) (given-at host this ∷ []) d e f has.gets
+          (gets_given host one.socket number one.frame e f
+          (subst (λ (fr : List ℕ). GetsGiven host one.socket (numbered number fr) e f) frame_is gets)));
+    }
+
+all-done : (host number : ℕ) (all rest : List DrainedFrame) (a b : List Tally) (d e : List SocketFrames)
+    (has : HasDrained host number all rest a b d e) → rest ≡ [] → has.done ≡ map drained_frame all
+all-done host number all rest a b d e has is =
+    sym (has.parts ∙ ap (λ (l : List DrainedFrame). has.done ++ map drained_frame l) is ∙ append-nil has.done)
+
+pub all_counted : (host number : ℕ) (all rest : List DrainedFrame) (a b : List Tally) (d e : List SocketFrames)
+    → HasDrained host number all rest a b d e → rest ≡ [] → TalliesGrow (said_of_drain host 0 (map drained_frame all)) a b
+all_counted host number all rest a b d e has is =
+    subst (λ (l : List GivenFrame). TalliesGrow (said_of_drain host 0 l) a b) (all-done host number all rest a b d e has is) has.grows
+
+pub all_got : (host number : ℕ) (all rest : List DrainedFrame) (a b : List Tally) (d e : List SocketFrames)
+    → HasDrained host number all rest a b d e → rest ≡ [] → GetsSaid number (said_of_drain host 0 (map drained_frame all)) d e
+all_got host number all rest a b d e has is =
+    subst (λ (l : List GivenFrame). GetsSaid number (said_of_drain host 0 l) d e) (all-done host number all rest a b d e has is) has.gets

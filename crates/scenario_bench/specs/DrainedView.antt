@@ -1,0 +1,6 @@
+-- A frame of a drained host, without where it lies in memory.
+use Rattle.packet_socket.specs.HostStretches.{Given}
+use Rattle.scenario_bench.specs.declared.drained.DrainedFrame.{DrainedFrame}
+
+abbrev pub drained_frame : DrainedFrame → Given
+drained_frame one = record { socket = one.socket; frame = one.frame }
