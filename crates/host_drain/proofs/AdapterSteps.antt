@@ -1,5 +1,5 @@
 -- The steps of its adapter in a drain.
-use Rattle.std.proofs.Common.{◌≡◌, ◌≢◌, ◌<◌, ◌-◌, ◌++◌, ◌∷◌, [], ℕ, Bool, true, false, Option, Some, None, List, length}
+use Rattle.std.proofs.Common.{◌≡◌, ◌≢◌, ◌≤◌, ◌<◌, ◌+◌, ◌-◌, ◌*◌, ◌++◌, ◌∷◌, [], ℕ, Bool, true, false, Option, Some, None, List, length}
 use Rattle.std.proofs.Common.{refl, sym, ap, subst, ◌∙◌, arith, if◌then◌else◌, inl, inr, replicate}
 use Rattle.std.specs.List.{All}
 use Rattle.std.proofs.lemmas.Bool.{eq-eqb}
@@ -102,64 +102,72 @@ pub work-none : (work : Option Work) → work ≡ None → (length (slot_of_work
 work-none None none = (refl, λ line. refl)
 work-none (Some work) none = absurd (cc none)
 
--- The frame in work is ended.
-done-steps : (place : ℕ) (a b : List StationState) (h : HostState) → CanBeDrained h (world_at a place)
-    → TakesStep place RxDone stepped.Done a b → StepsOn 1 place a b h h []
-done-steps place a b h stands takes =
-    let played = At place (Steps RxDone true stepped.Done) ∷ [] in
-    let runs = step-runs place RxDone stepped.Done a b h stands takes in
-    let total = held-stays place 0 played a b h takes.leads refl runs in
-    let o = h.driver.oldest_receive in
-    let before = work-counted (world_at a place).adapter.receiver.work takes.answers in
-    let behind = work-none (world_at b place).adapter.receiver.work (ap (λ (w : World). w.adapter.receiver.work) takes.world) in
-    let same : length (world_at b place).adapter.receiver.buffer ≡ length (world_at a place).adapter.receiver.buffer =
-    ap (λ (w : World). length w.adapter.receiver.buffer) takes.world in
-    let pending = before.1 (count_line (world_at a place).adapter.causes) in
-    let pending' = behind.1 (count_line (world_at b place).adapter.causes) in
-    let one = held-counted o (world_at a place) in
-    let two = held-counted o (world_at b place) in
+-- What an adapter has at hand.
+
+abbrev count_buffered : World → ℕ
+count_buffered world = length world.adapter.receiver.buffer
+
+abbrev count_work : World → ℕ
+count_work world = length (slot_of_work world.adapter.receiver.work)
+
+-- how many steps its frame in work asks for, or else its line
+abbrev count_asked : World → ℕ
+count_asked world = count_pending world.adapter.receiver.work (count_line world.adapter.causes)
+
+-- A step of an adapter is one of the drain, where it brings frames nearer to their end, and nothing else happens.
+step-on : (steps moves place : ℕ) (kind : StepKind) (answer : Stepped) (a b : List StationState) (h : HostState)
+    → CanBeDrained h (world_at a place) → TakesStep place kind answer a b
+    → happened_in (At place (Steps kind true answer) ∷ []) ≡ replicate moves (Moved place)
+    → count_buffered (world_at a place) ≡ moves + count_buffered (world_at b place)
+    → (world_at b place).adapter.filter ≡ (world_at a place).adapter.filter
+    → steps + 3 * count_buffered (world_at b place) + count_asked (world_at b place) + count_work (world_at a place)
+    ≤ 3 * count_buffered (world_at a place) + count_asked (world_at a place) + count_work (world_at b place)
+    → 2 * count_buffered (world_at a place) + count_work (world_at a place)
+    ≤ steps + 2 * count_buffered (world_at b place) + count_work (world_at b place)
+    → StepsOn steps place a b h h []
+step-on steps moves place kind answer a b h stands takes moved buffered filter fewer least =
+    let played = At place (Steps kind true answer) ∷ [] in
+    let runs = step-runs place kind answer a b h stands takes in
+    let total = held-stays place moves played a b h takes.leads moved runs in
+    let one = held-counted h.driver.oldest_receive (world_at a place) in
+    let two = held-counted h.driver.oldest_receive (world_at b place) in
     record {
       played = played;
       leads = takes.leads;
       taken = [];
       runs = runs;
-      moves = 0;
-      moved = refl;
-      buffered = omega (arith, same);
-      alone = λ k other. elsewhere place k (Steps RxDone true stepped.Done) other;
-      filter = ap (λ (w : World). w.adapter.filter) takes.world;
-      most = omega (arith, total, before.0, behind.0, same, pending, pending', one, two);
-      least = omega (arith, before.0, behind.0, same);
+      moves = moves;
+      moved = moved;
+      buffered = buffered;
+      alone = λ k other. elsewhere place k (Steps kind true answer) other;
+      filter = filter;
+      most = omega (arith, total, fewer, one, two);
+      least = omega (arith, least);
       held = omega (arith, total);
     }
+
+-- The frame in work is ended.
+done-steps : (place : ℕ) (a b : List StationState) (h : HostState) → CanBeDrained h (world_at a place)
+    → TakesStep place RxDone stepped.Done a b → StepsOn 1 place a b h h []
+done-steps place a b h stands takes =
+    let before = work-counted (world_at a place).adapter.receiver.work takes.answers in
+    let behind = work-none (world_at b place).adapter.receiver.work (ap (λ (w : World). w.adapter.receiver.work) takes.world) in
+    let same : count_buffered (world_at b place) ≡ count_buffered (world_at a place) =
+    ap (λ (w : World). count_buffered w) takes.world in
+    let pending = before.1 (count_line (world_at a place).adapter.causes) in
+    let pending' = behind.1 (count_line (world_at b place).adapter.causes) in
+    step-on 1 0 place RxDone stepped.Done a b h stands takes refl (omega (arith, same)) (ap (λ (w : World). w.adapter.filter) takes.world)
+    (omega (arith, before.0, behind.0, same, pending, pending')) (omega (arith, before.0, behind.0, same))
 
 -- There was none.
 idle-steps : (place : ℕ) (kind : StepKind) (a b : List StationState) (h : HostState) → CanBeDrained h (world_at a place)
     → TakesStep place kind stepped.Nothing a b → (world_at b place).adapter ≡ (world_at a place).adapter → StepsOn 0 place a b h h []
 idle-steps place kind a b h stands takes same =
-    let played = At place (Steps kind true stepped.Nothing) ∷ [] in
-    let runs = step-runs place kind stepped.Nothing a b h stands takes in
-    let total = held-stays place 0 played a b h takes.leads refl runs in
-    let o = h.driver.oldest_receive in
     let buffer = ap (λ (s : AdapterState). length s.receiver.buffer) same in
     let work = ap (λ (s : AdapterState). length (slot_of_work s.receiver.work)) same in
     let pending = ap (λ (s : AdapterState). count_pending s.receiver.work (count_line s.causes)) same in
-    let one = held-counted o (world_at a place) in
-    let two = held-counted o (world_at b place) in
-    record {
-      played = played;
-      leads = takes.leads;
-      taken = [];
-      runs = runs;
-      moves = 0;
-      moved = refl;
-      buffered = omega (arith, buffer);
-      alone = λ k other. elsewhere place k (Steps kind true stepped.Nothing) other;
-      filter = ap (λ (s : AdapterState). s.filter) same;
-      most = omega (arith, total, buffer, work, pending, one, two);
-      least = omega (arith, buffer, work);
-      held = omega (arith, total);
-    }
+    step-on 0 0 place kind stepped.Nothing a b h stands takes refl (omega (arith, buffer)) (ap (λ (s : AdapterState). s.filter) same)
+    (omega (arith, buffer, work, pending)) (omega (arith, buffer, work))
 
 -- What a done step answers is that it ended a frame, or that there was none.
 pub finishes-done : (place : ℕ) (a b : List StationState) (h : HostState) (result : StepOutcome) → place < length a
@@ -169,13 +177,7 @@ pub finishes-done : (place : ℕ) (a b : List StationState) (h : HostState) (res
     → CanBeDrained h (world_at a place) → StepsOn 1 place a b h h []
 finishes-done place a b h outcome.Done below adapter answers is same stands =
     done-steps place a b h stands (takes-step place RxDone stepped.Done a b below (λ e. absurd (cc e)) adapter answers is)
-finishes-done place a b h outcome.Took below adapter answers is same stands = absurd (cc same)
-finishes-done place a b h outcome.Put below adapter answers is same stands = absurd (cc same)
-finishes-done place a b h outcome.WireFull below adapter answers is same stands = absurd (cc same)
-finishes-done place a b h outcome.Moved below adapter answers is same stands = absurd (cc same)
-finishes-done place a b h outcome.Ticked below adapter answers is same stands = absurd (cc same)
-finishes-done place a b h outcome.Nothing below adapter answers is same stands = absurd (cc same)
-finishes-done place a b h outcome.Fault below adapter answers is same stands = absurd (cc same)
+finishes-done place a b h result below adapter answers is same stands = absurd (cc same)
 
 pub finishes-none : (place : ℕ) (a b : List StationState) (h : HostState) (result : StepOutcome) → place < length a
     → IsAdapter (world_at a place).adapter
@@ -186,12 +188,7 @@ finishes-none place a b h outcome.Nothing below adapter answers is other stands 
     let takes = takes-step place RxDone stepped.Nothing a b below (λ e. absurd (cc e)) adapter answers is in
     idle-steps place RxDone a b h stands takes (ap (λ (w : World). w.adapter) takes.world)
 finishes-none place a b h outcome.Done below adapter answers is other stands = absurd (other refl)
-finishes-none place a b h outcome.Took below adapter answers is other stands = absurd answers
-finishes-none place a b h outcome.Put below adapter answers is other stands = absurd answers
-finishes-none place a b h outcome.WireFull below adapter answers is other stands = absurd answers
-finishes-none place a b h outcome.Moved below adapter answers is other stands = absurd answers
-finishes-none place a b h outcome.Ticked below adapter answers is other stands = absurd answers
-finishes-none place a b h outcome.Fault below adapter answers is other stands = absurd answers
+finishes-none place a b h result below adapter answers is other stands = absurd answers
 
 -- Behind it no frame is in work.
 pub finishes-free : (place : ℕ) (a b : List StationState) (result : StepOutcome) → place < length a
@@ -205,12 +202,7 @@ finishes-free place a b outcome.Done below adapter answers is =
 finishes-free place a b outcome.Nothing below adapter answers is =
     let takes = takes-step place RxDone stepped.Nothing a b below (λ e. absurd (cc e)) adapter answers is in
     ap (λ (w : World). w.adapter.receiver.work) takes.world ∙ answers
-finishes-free place a b outcome.Took below adapter answers is = absurd answers
-finishes-free place a b outcome.Put below adapter answers is = absurd answers
-finishes-free place a b outcome.WireFull below adapter answers is = absurd answers
-finishes-free place a b outcome.Moved below adapter answers is = absurd answers
-finishes-free place a b outcome.Ticked below adapter answers is = absurd answers
-finishes-free place a b outcome.Fault below adapter answers is = absurd answers
+finishes-free place a b result below adapter answers is = absurd answers
 
 -- A frame is moved out of the packet buffer.
 
@@ -221,36 +213,18 @@ some-buffered (frame ∷ frames) some = omega arith
 moved-steps : (place : ℕ) (a b : List StationState) (h : HostState) → CanBeDrained h (world_at a place)
     → (world_at a place).adapter.receiver.work ≡ None → TakesStep place RxData stepped.Moved a b → StepsOn 1 place a b h h []
 moved-steps place a b h stands free takes =
-    let played = At place (Steps RxData true stepped.Moved) ∷ [] in
-    let runs = step-runs place RxData stepped.Moved a b h stands takes in
-    let total = held-stays place 1 played a b h takes.leads refl runs in
-    let o = h.driver.oldest_receive in
     let before = work-none (world_at a place).adapter.receiver.work free in
-    let behind : (length (slot_of_work (world_at b place).adapter.receiver.work) ≡ 1)
-    × ((line : ℕ) → count_pending (world_at b place).adapter.receiver.work line ≡ 3) =
+    let behind : (count_work (world_at b place) ≡ 1) × ((line : ℕ) → count_pending (world_at b place).adapter.receiver.work line ≡ 3) =
     work-counted (world_at b place).adapter.receiver.work
     (λ none. let e = sym (ap (λ (w : World). w.adapter.receiver.work) takes.world) ∙ none in absurd (cc e)) in
     let some = some-buffered (world_at a place).adapter.receiver.buffer takes.answers.0.ready.frames in
-    let fewer : length (world_at b place).adapter.receiver.buffer ≡ length (world_at a place).adapter.receiver.buffer - 1 =
-    ap (λ (w : World). length w.adapter.receiver.buffer) takes.world ∙ length-drop 1 (world_at a place).adapter.receiver.buffer in
+    let fewer : count_buffered (world_at b place) ≡ count_buffered (world_at a place) - 1 =
+    ap (λ (w : World). count_buffered w) takes.world ∙ length-drop 1 (world_at a place).adapter.receiver.buffer in
     let pending = before.1 (count_line (world_at a place).adapter.causes) in
     let pending' = behind.1 (count_line (world_at b place).adapter.causes) in
-    let one = held-counted o (world_at a place) in
-    let two = held-counted o (world_at b place) in
-    record {
-      played = played;
-      leads = takes.leads;
-      taken = [];
-      runs = runs;
-      moves = 1;
-      moved = refl;
-      buffered = omega (arith, some, fewer);
-      alone = λ k other. elsewhere place k (Steps RxData true stepped.Moved) other;
-      filter = ap (λ (w : World). w.adapter.filter) takes.world;
-      most = omega (arith, total, before.0, behind.0, some, fewer, pending, pending', one, two);
-      least = omega (arith, before.0, behind.0, some, fewer);
-      held = omega (arith, total);
-    }
+    step-on 1 1 place RxData stepped.Moved a b h stands takes refl (omega (arith, some, fewer))
+    (ap (λ (w : World). w.adapter.filter) takes.world) (omega (arith, before.0, behind.0, some, fewer, pending, pending'))
+    (omega (arith, before.0, behind.0, some, fewer))
 
 pub moves-frame : (place : ℕ) (a b : List StationState) (h : HostState) (result : StepOutcome) → place < length a
     → IsAdapter (world_at a place).adapter
@@ -259,13 +233,7 @@ pub moves-frame : (place : ℕ) (a b : List StationState) (h : HostState) (resul
     → CanBeDrained h (world_at a place) → (world_at a place).adapter.receiver.work ≡ None → StepsOn 1 place a b h h []
 moves-frame place a b h outcome.Moved below adapter answers is same stands free =
     moved-steps place a b h stands free (takes-step place RxData stepped.Moved a b below (λ e. absurd (cc e)) adapter answers is)
-moves-frame place a b h outcome.Took below adapter answers is same stands free = absurd (cc same)
-moves-frame place a b h outcome.Put below adapter answers is same stands free = absurd (cc same)
-moves-frame place a b h outcome.WireFull below adapter answers is same stands free = absurd (cc same)
-moves-frame place a b h outcome.Done below adapter answers is same stands free = absurd (cc same)
-moves-frame place a b h outcome.Ticked below adapter answers is same stands free = absurd (cc same)
-moves-frame place a b h outcome.Nothing below adapter answers is same stands free = absurd (cc same)
-moves-frame place a b h outcome.Fault below adapter answers is same stands free = absurd (cc same)
+moves-frame place a b h result below adapter answers is same stands free = absurd (cc same)
 
 -- Nothing is moved: then there was no frame to move, as no fault stops an engine that goes on.
 pub record MovesNone (place : ℕ) (a b : List StationState) (h : HostState) : Type 0 where
@@ -288,8 +256,4 @@ moves-none place a b h outcome.Fault below adapter answers is other stands =
     let stopped = ap (λ (w : World). w.adapter.receiver.stopped) takes.world in
     let contrary : true ≡ false = sym stopped ∙ runs in absurd (cc contrary)
 moves-none place a b h outcome.Moved below adapter answers is other stands = absurd (other refl)
-moves-none place a b h outcome.Took below adapter answers is other stands = absurd answers
-moves-none place a b h outcome.Put below adapter answers is other stands = absurd answers
-moves-none place a b h outcome.WireFull below adapter answers is other stands = absurd answers
-moves-none place a b h outcome.Done below adapter answers is other stands = absurd answers
-moves-none place a b h outcome.Ticked below adapter answers is other stands = absurd answers
+moves-none place a b h result below adapter answers is other stands = absurd answers

@@ -65,7 +65,8 @@ buffers-counted h world stands =
 
 -- the outstanding slots are the finished ones, that in work, and those offered
 slots-counted : (h : HostState) (world : World) → CanBeDrained h world
-    → length h.driver.buffers ≡ length (finished h.driver.oldest_receive world) + (length (in_work world) + length (offered (receive_ring world)))
+    → length h.driver.buffers
+    ≡ length (finished h.driver.oldest_receive world) + (length (in_work world) + length (offered (receive_ring world)))
 slots-counted h world stands =
     let ring = receive_ring world in
     let o = h.driver.oldest_receive in
@@ -225,7 +226,8 @@ drains steps place a b h h' given on none stands adapter =
           (ap (toward (wire_at a) k) on.moved ∙ moves-toward (wire_at a) k on.moves place)
           ∙ append-nil (backlog_at a k);
       others = λ k other.
-          subst (λ (list : List Event). Trail list (world_at a k) (world_at b k)) (on.alone k other) (trail-of place k on.played a b on.leads);
+          subst (λ (list : List Event). Trail list (world_at a k) (world_at b k)) (on.alone k other)
+          (trail-of place k on.played a b on.leads);
       misses = λ fits.
           let small = adapter.registers.counters.missed in
           let all = flows.counted (omega (arith, small, lost)) (omega (arith, fits, lost)) in

@@ -1,22 +1,15 @@
 -- A drain of one host, as all hosts find it.
-use Rattle.std.proofs.Common.{◌≡◌, ◌≢◌, ◌≤◌, ◌<◌, ◌+◌, ◌^◌, ◌-◌, ◌==◌, ◌&&◌, ◌++◌, ◌∷◌, [], ℕ, Bool, true, false, List, Option, Some}
-use Rattle.std.proofs.Common.{None, inl, inr}
-use Rattle.std.proofs.Common.{if◌then◌else◌, length, map, min, replicate, slice_get, slice_set, refl, sym, ap, subst, ◌∙◌, arith}
-use Rattle.std.proofs.lemmas.Bool.Decides.{eqb_tells}
+use Rattle.std.proofs.Common.{◌≡◌, ◌≤◌, ◌<◌, ◌^◌, ◌++◌, [], ℕ, List, Option, Some, None}
+use Rattle.std.proofs.Common.{length, min, replicate, slice_set, refl, sym, ap, subst, ◌∙◌, arith}
 use Rattle.std.proofs.lemmas.List.{append-nil, length-set}
 use Rattle.std.proofs.lemmas.Option.{slice_get_past}
 use Rattle.circular_buffer.proofs.Places.{slice_get-set_other}
-use Rattle.descriptors.specs.Frames.{padded}
 use Rattle.adapter.specs.World.{World}
 use Rattle.packet_socket.specs.HostState.{HostState}
-use Rattle.packet_socket.specs.HostStretches.{Given, given_for}
+use Rattle.packet_socket.specs.HostStretches.{Given}
 use Rattle.stations.specs.AtomicSteps.{AtomicStep}
 use Rattle.stations.specs.Stations.{StationState, wire_at, world_at, world_of}
-use Rattle.delivery.proofs.HostLists.{accepted-none, given-none}
-use Rattle.delivery.proofs.Laws.{lists-append}
-use Rattle.delivery.specs.Fates.{Mark, marks}
-use Rattle.delivery.specs.Happenings.{Given as WasGiven, Happening, Moved, accepted, given, happened_in, missed, of_host, put, reached}
-use Rattle.delivery.specs.Happenings.{stored, toward}
+use Rattle.delivery.specs.Happenings.{Happening, Moved, happened_in, of_host}
 use Rattle.host_drain.specs.DrainedHosts.{CanBeDrained, Drains, DrainsInto}
 use Rattle.wire.specs.DrainedNetworks.{NetworkDrains, said_of_drain}
 use Rattle.wire.specs.Equations.{Delivers, counted, most_counted, sum_of}
@@ -24,6 +17,7 @@ use Rattle.wire.specs.Networks.{HostStands, IsHost, NetworkStands, NetworkState}
 use Rattle.wire.specs.EventParts.{HostsGo}
 use Rattle.wire.proofs.Delivering.{Tells, delivers-none}
 use Rattle.wire.proofs.Standing.{caller-behind, each-runs, hosts-go}
+use Rattle.wire.proofs.Tellings.{gives, tells-given}
 
 -- A host that stands can be drained.
 pub can-drain : (host : HostState) (world : World) → HostStands host world → CanBeDrained host world
@@ -35,109 +29,13 @@ can-drain host world stands = record {
   enabled = stands.can.receives;
 }
 
--- What giving frames says of each host.
-
-abbrev gives : ℕ → List Given → List Happening
-gives host list = map (λ (one : Given). WasGiven host one.socket one.frame) list
-
-gives-put : (k host : ℕ) (list : List Given) → put k (gives host list) ≡ []
-gives-put k host [] = refl
-gives-put k host (one ∷ list) = gives-put k host list
-
-gives-reached : (k host : ℕ) (list : List Given) → reached k (gives host list) ≡ []
-gives-reached k host [] = refl
-gives-reached k host (one ∷ list) = gives-reached k host list
-
-gives-stored : (k host : ℕ) (list : List Given) → stored k (gives host list) ≡ []
-gives-stored k host [] = refl
-gives-stored k host (one ∷ list) = gives-stored k host list
-
-gives-accepted : (k host : ℕ) (list : List Given) → accepted k (gives host list) ≡ []
-gives-accepted k host [] = refl
-gives-accepted k host (one ∷ list) = gives-accepted k host list
-
-gives-missed : (k host : ℕ) (list : List Given) → missed k (gives host list) ≡ 0
-gives-missed k host [] = refl
-gives-missed k host (one ∷ list) = gives-missed k host list
-
-gives-marks : (k host : ℕ) (list : List Given) → marks k (gives host list) ≡ []
-gives-marks k host [] = refl
-gives-marks k host (one ∷ list) = gives-marks k host list
-
-gives-toward : (wires : ℕ → Option ℕ) (k host : ℕ) (list : List Given) → toward wires k (gives host list) ≡ []
-gives-toward wires k host [] = refl
-gives-toward wires k host (one ∷ list) = gives-toward wires k host list
-
-same-socket : (s socket : ℕ) → (s == socket) ≡ (socket == s)
-same-socket s socket =
-    elim (eqb_tells s socket) [
-      | inl same ↦ same.0 ∙ sym (subst (λ (n : ℕ). (n == s) ≡ true) same.1 (subst (λ (n : ℕ). (s == n) ≡ true) (sym same.1) same.0))
-      | inr differ ↦ elim (eqb_tells socket s) [
-        | inl same ↦ absurd (differ.1 (sym same.1))
-        | inr other ↦ differ.0 ∙ sym other.0
-      ]
-    ]
-
--- the list of a socket, where the frames are this host's
-listed : (here : Bool) (s : ℕ) (list : List Given) → List (List ℕ)
-listed here s [] = []
-listed here s (one ∷ list) = (if here && (s == one.socket) then one.frame ∷ [] else []) ++ listed here s list
-
-gives-listed : (k host s : ℕ) (list : List Given) → given k s (gives host list) ≡ listed (k == host) s list
-unfolding listed
-gives-listed k host s [] = refl
-gives-listed k host s (one ∷ list) =
-    ap (λ (later : List (List ℕ)). (if (k == host) && (s == one.socket) then one.frame ∷ [] else []) ++ later) (gives-listed k host s list)
-
-listed-for : (here : Bool) (s : ℕ) (list : List Given) → listed here s list ≡ given_for s (if here then list else [])
-unfolding listed
-listed-for true s [] = refl
-listed-for false s [] = refl
-listed-for false s (one ∷ list) = listed-for false s list
-listed-for true s (one ∷ list) =
-    ap (λ (b : Bool). (if b then one.frame ∷ [] else []) ++ listed true s list) (same-socket s one.socket)
-    ∙ ap (λ (later : List (List ℕ)). (if one.socket == s then one.frame ∷ [] else []) ++ later) (listed-for true s list)
-    ∙ taken (one.socket == s)
-  where
-    taken : (b : Bool) → (if b then one.frame ∷ [] else []) ++ given_for s list
-        ≡ map (λ (g : Given). g.frame) (if b then one ∷ Rattle.std.specs.List.filter (λ (g : Given). g.socket == s) list
-        else Rattle.std.specs.List.filter (λ (g : Given). g.socket == s) list)
-    taken true = refl
-    taken false = refl
-
-none-of : {T : Type 0} (here : Bool) → (let none : List T = [] in none) ≡ (if here then [] else [])
-none-of true = refl
-none-of false = refl
-
+-- What it tells of each host.
 tells-drain : (k host moves : ℕ) (list : List Given) (steps : List AtomicStep) (wires : ℕ → Option ℕ)
     → happened_in steps ≡ replicate moves (Moved host)
     → Tells k (said_of_drain host moves list) steps wires (of_host k host list) (of_host k host [])
 tells-drain k host moves list steps wires moved =
     subst (λ (happened : List Happening). Tells k (happened ++ gives host list) steps wires (of_host k host list) (of_host k host [])) moved
-    (let lists = lists-append k (happened_in steps) (gives host list) in
-    let lost = lists.missed in
-    record {
-      put = lists.put ∙ ap (λ (later : List (List ℕ)). put k (happened_in steps) ++ later) (gives-put k host list) ∙ append-nil _;
-      reached =
-          lists.reached ∙ ap (λ (later : List (List ℕ)). reached k (happened_in steps) ++ later) (gives-reached k host list) ∙ append-nil _;
-      toward =
-          lists.toward wires ∙ ap (λ (later : List (List ℕ)). toward wires k (happened_in steps) ++ later) (gives-toward wires k host list)
-          ∙ append-nil _;
-      stored =
-          lists.stored ∙ ap (λ (later : List (List ℕ)). stored k (happened_in steps) ++ later) (gives-stored k host list) ∙ append-nil _;
-      missed = omega (arith, lost, gives-missed k host list);
-      marks = lists.marks ∙ ap (λ (later : List Mark). marks k (happened_in steps) ++ later) (gives-marks k host list) ∙ append-nil _;
-      accepted =
-          ap (map padded) (lists.accepted
-          ∙ ap (λ (later : List (List ℕ)). accepted k (happened_in steps) ++ later) (gives-accepted k host list)
-          ∙ append-nil _ ∙ accepted-none k steps)
-          ∙ none-of (k == host);
-      given = λ s.
-          lists.given s
-          ∙ ap (λ (first : List (List ℕ)). first ++ given k s (gives host list)) (given-none k s steps)
-          ∙ gives-listed k host s list
-          ∙ listed-for (k == host) s list;
-    })
+    (tells-given k host list steps wires)
 
 -- A host that is there.
 

@@ -1,6 +1,6 @@
 -- Events as they are told, and runs of them.
 use Rattle.std.proofs.Common.{◌≡◌, ◌++◌, ◌∷◌, [], ℕ, List, Some, Vec, Global, refl, sym, ap}
-use Rattle.std.proofs.Common.{subst, ◌∙◌, append_assoc, arith}
+use Rattle.std.proofs.Common.{subst, ◌∙◌, append_assoc, arith, rules}
 use Rattle.std.proofs.lemmas.List.{append-nil}
 use Rattle.std.proofs.lemmas.Option.{slice_get_within}
 use Rattle.circular_buffer.proofs.Places.{slice_get-some}
@@ -21,69 +21,24 @@ use Rattle.wire.proofs.Delivering.{delivers-join, delivers-none}
 use Rattle.wire.proofs.Playing.{ticks-go}
 use Rattle.wire.proofs.Tellings.{tells-steps}
 
--- Events.
+-- Events. What is said of each is said of its call.
 
 pub send-event : (old new : NetworkState) (host : ℕ) (frame : Vec ℕ Global) (ticks : Vec Tick Global) (reply : Reply)
     → CallPlayed host ticks.items (accepted_of host frame.items reply.answer ++ told ticks.items reply.outcomes.list) reply
     (IsSendAnswer host frame.items) old new
     → EventRuns old (Send host frame ticks) reply new
-send-event old new host frame ticks reply played = record {
-  steps = played.steps;
-  leads = played.go.leads;
-  played = played.played;
-  accesses = played.accesses;
-  counted = played.counted;
-  outcomes = played.outcomes;
-  numbered = played.numbered;
-  no_host = played.no_host;
-  answer = played.answer;
-  hosts = played.go.hosts;
-  delivers = played.go.delivers;
-  ticks = played.go.ticks;
-  absent = played.go.absent;
-  stands = played.go.stands;
-}
+send-event old new host frame ticks reply played = search rules
 
 pub recv-event : (old new : NetworkState) (host socket : ℕ) (ticks : Vec Tick Global) (reply : Reply)
     → CallPlayed host ticks.items (told ticks.items reply.outcomes.list ++ given_of host socket reply.answer) reply
     (IsRecvAnswer host socket) old new
     → EventRuns old (Recv host socket ticks) reply new
-recv-event old new host socket ticks reply played = record {
-  steps = played.steps;
-  leads = played.go.leads;
-  played = played.played;
-  accesses = played.accesses;
-  counted = played.counted;
-  outcomes = played.outcomes;
-  numbered = played.numbered;
-  no_host = played.no_host;
-  answer = played.answer;
-  hosts = played.go.hosts;
-  delivers = played.go.delivers;
-  ticks = played.go.ticks;
-  absent = played.go.absent;
-  stands = played.go.stands;
-}
+recv-event old new host socket ticks reply played = search rules
 
 pub interrupt-event : (old new : NetworkState) (host : ℕ) (ticks : Vec Tick Global) (reply : Reply)
     → CallPlayed host ticks.items (told ticks.items reply.outcomes.list) reply (IsInterruptAnswer host) old new
     → EventRuns old (Interrupt host ticks) reply new
-interrupt-event old new host ticks reply played = record {
-  steps = played.steps;
-  leads = played.go.leads;
-  played = played.played;
-  accesses = played.accesses;
-  counted = played.counted;
-  outcomes = played.outcomes;
-  numbered = played.numbered;
-  no_host = played.no_host;
-  answer = played.answer;
-  hosts = played.go.hosts;
-  delivers = played.go.delivers;
-  ticks = played.go.ticks;
-  absent = played.go.absent;
-  stands = played.go.stands;
-}
+interrupt-event old new host ticks reply played = search rules
 
 pub tick-event : (old : NetworkState) (stations : List StationState) (tick : Tick) (reply : Reply) → NetworkStands old
     → TickPlayed tick reply old.stations stations
