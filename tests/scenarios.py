@@ -82,6 +82,7 @@ def played(bench):
           EXAMPLE_LINES, files)
     plays(bench, "run: a line of 8,192 bytes", EXAMPLE + b"#" + b"x" * 8191 + b"\n#" + b"x" * 8191 + b"\r\n", EXAMPLE_LINES, files)
     plays(bench, "run: no event", TO_SOCKET, told("a") + told("b"), {"b.0.pcap": FILE_HEADER})
+    plays(bench, "run: drains of hosts that hold nothing", TO_SOCKET + b"drain a\ndrain b\n", told("a") + told("b"), {"b.0.pcap": FILE_HEADER})
     plays(bench, "run: no socket", TWO_HOSTS, told("a") + told("b"), {})
     many = b"".join(b"socket a %04x\nsocket b %04x\n" % (n, n) for n in range(8))
     plays(bench, "run: eight sockets", TWO_HOSTS + many, told("a") + told("b"), {f"{host}.{n}.pcap": FILE_HEADER for host in "ab" for n in range(8)})
@@ -163,13 +164,15 @@ def lines(bench):
     long = b"#" + b"x" * 8192
     for name, text, fault in [
         ("an unknown word", EXAMPLE + b"fly b\n", "line 12: E50 Word"),
-        ("drain", TO_SOCKET + b"drain b\n", "line 4: E50 Word"),
         ("a byte order mark", b"\xef\xbb\xbf" + EXAMPLE, "line 1: E50 Word"),
         ("an upper-case word", b"Host a 02:00:00:00:00:01 w\n", "line 1: E50 Word"),
         ("too few words", b"host a 02:00:00:00:00:01\n", "line 1: E51 Count"),
         ("too many words", TWO_HOSTS + b"group a 01:00:5e:00:00:01 b\n", "line 3: E51 Count"),
         ("words behind a tick", TWO_HOSTS + b"tick go go\n", "line 3: E51 Count"),
         ("a call without its words", TWO_HOSTS + b"send a / go\n", "line 3: E51 Count"),
+        ("a drain with ticks", TO_SOCKET + b"drain b / go\n", "line 4: E51 Count"),
+        ("a drain of nobody", TO_SOCKET + b"drain c\n", "line 4: E53 Name"),
+        ("a host behind a drain", TWO_HOSTS + b"drain a\nhost c 02:00:00:00:00:03 w\n", "line 4: E54 Order"),
         ("an option twice", b"host a 02:00:00:00:00:01 w rx 8 rx 8\n", "line 1: E51 Count"),
         ("an option without its value", b"host a 02:00:00:00:00:01 w rx\n", "line 1: E51 Count"),
         ("an address", b"host a 02:00:00:00:00 w\n", "line 1: E52 Value"),

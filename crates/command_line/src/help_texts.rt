@@ -95,6 +95,7 @@ Then come events, numbered from 0:
   send HOST HEX           a call: it sends a frame of these bytes
   recv HOST S             a call: its socket S gives the oldest frame that waits there
   interrupt HOST          a call: its driver handles an interrupt
+  drain HOST              a call: its sockets give all that it holds for them, one event
   tick TICK               no call, but a tick: txtake:HOST, txput:HOST, rxdata:HOST or rxdone:HOST is a
                           step of its adapter, deliver:HOST brings it the next frame of its wire,
                           eeprom:HOST and phy:HOST are ticks of these, and go is none
