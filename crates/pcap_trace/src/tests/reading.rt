@@ -81,12 +81,8 @@ fn each_beginning_of_a_trace(rt: HostRuntime) -> Result<(), Fail> {
             101..176 => Ok((1, 0, true)),
             _ => Ok((2, 0, false)),
         };
-        same_at(
-            &rt,
-            &read(rt.alloc(), &bytes[..length]),
-            &want,
-            &("of  bytes", length),
-        );
+        let front = bytes.get(..length).ok_or("as many bytes")?;
+        same_at(&rt, &read(rt.alloc(), front), &want, &("of  bytes", length));
     }
     Ok(())
 }
