@@ -2,7 +2,7 @@
 
 use crate::plans::Change;
 use crate::samples::Sample;
-use crate::schedule::{A, Act, B, Comes, NOTHING, play};
+use crate::schedule::{A, Act, B, Comes, NOTHING, play, play_on_two};
 use adapter::{Fate, StepKind};
 use stations::Tick;
 use std::test::Fail;
@@ -17,11 +17,9 @@ const THIRD: Sample = Sample::Behind([0x88, 0xB5, 3, 0]);
 
 #[test]
 fn three_frames_in_the_packet_buffer(rt: HostRuntime) -> Result<(), Fail> {
-    play(
+    play_on_two(
         &rt,
         rt.alloc(),
-        2,
-        Change::None,
         &[
             Act::Bring(FIRST, Fate::Stored),
             Act::Bring(SECOND, Fate::Stored),
@@ -35,11 +33,9 @@ fn three_frames_in_the_packet_buffer(rt: HostRuntime) -> Result<(), Fail> {
 
 #[test]
 fn one_more_cause_is_one_more_step(rt: HostRuntime) -> Result<(), Fail> {
-    play(
+    play_on_two(
         &rt,
         rt.alloc(),
-        2,
-        Change::None,
         &[
             Act::Bring(FIRST, Fate::Stored),
             Act::Bring(SECOND, Fate::Stored),
@@ -54,11 +50,9 @@ fn one_more_cause_is_one_more_step(rt: HostRuntime) -> Result<(), Fail> {
 
 #[test]
 fn more_frames_than_receive_slots(rt: HostRuntime) -> Result<(), Fail> {
-    play(
+    play_on_two(
         &rt,
         rt.alloc(),
-        2,
-        Change::None,
         &[
             Act::Receive(FIRST, 7),
             Act::Bring(SECOND, Fate::Stored),

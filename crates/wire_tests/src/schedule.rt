@@ -320,3 +320,8 @@ pub(crate) fn play(
     }
     Ok(())
 }
+
+/// As [`play`], on two hosts whose plans differ in their names and addresses alone.
+pub(crate) fn play_on_two(rt: &impl Abort, alloc: Global, acts: &[Act]) -> Result<(), Fail> {
+    play(rt, alloc, 2, Change::None, acts)
+}

@@ -2,7 +2,7 @@
 
 use crate::plans::{Change, address, plan};
 use crate::samples::Sample;
-use crate::schedule::{A, Act, B, C, Comes, DATA, DONE, NOTHING, PUT, TAKE, play};
+use crate::schedule::{A, Act, B, C, Comes, DATA, DONE, NOTHING, PUT, TAKE, play, play_on_two};
 use adapter::{Fate, StepKind};
 use bring_up::InitError;
 use driver::SendError;
@@ -65,11 +65,9 @@ fn networks_are_made_or_refused(rt: HostRuntime) -> Result<(), Fail> {
 #[test]
 fn a_first_frame(rt: HostRuntime) -> Result<(), Fail> {
     let short = Sample::Long(14);
-    play(
+    play_on_two(
         &rt,
         rt.alloc(),
-        2,
-        Change::None,
         &[
             Act::Idle,
             Act::Counts(A, Some(NOTHING)),
@@ -88,11 +86,9 @@ fn a_first_frame(rt: HostRuntime) -> Result<(), Fail> {
 #[test]
 fn frames_have_14_to_1518_bytes(rt: HostRuntime) -> Result<(), Fail> {
     let long = Sample::Long(1518);
-    play(
+    play_on_two(
         &rt,
         rt.alloc(),
-        2,
-        Change::None,
         &[
             Act::Send(A, Sample::Long(13), Err(SendError::TooShort)),
             Act::Send(A, Sample::Long(1519), Err(SendError::TooLong)),
@@ -107,11 +103,9 @@ fn frames_have_14_to_1518_bytes(rt: HostRuntime) -> Result<(), Fail> {
 fn a_full_ring_has_room_when_a_frame_is_put(rt: HostRuntime) -> Result<(), Fail> {
     let sent = Act::Send(A, PLAIN, Ok(()));
     let full = Act::Send(A, PLAIN, Err(SendError::RingFull));
-    play(
+    play_on_two(
         &rt,
         rt.alloc(),
-        2,
-        Change::None,
         &[
             sent,
             sent,
@@ -132,11 +126,9 @@ fn a_full_ring_has_room_when_a_frame_is_put(rt: HostRuntime) -> Result<(), Fail>
 
 #[test]
 fn a_frame_is_taken_once_its_descriptor_is_written_back(rt: HostRuntime) -> Result<(), Fail> {
-    play(
+    play_on_two(
         &rt,
         rt.alloc(),
-        2,
-        Change::None,
         &[
             Act::Bring(PLAIN, Fate::Stored),
             Act::Bring(PLAIN, Fate::Stored),
@@ -153,11 +145,9 @@ fn a_frame_is_taken_once_its_descriptor_is_written_back(rt: HostRuntime) -> Resu
 
 #[test]
 fn a_frame_that_finishes_behind_the_read_of_icr(rt: HostRuntime) -> Result<(), Fail> {
-    play(
+    play_on_two(
         &rt,
         rt.alloc(),
-        2,
-        Change::None,
         &[
             Act::Bring(PLAIN, Fate::Stored),
             Act::Bring(PLAIN, Fate::Stored),
@@ -199,11 +189,9 @@ fn a_ring_that_runs_dry(rt: HostRuntime) -> Result<(), Fail> {
         received: 7,
         ..NOTHING
     };
-    play(
+    play_on_two(
         &rt,
         rt.alloc(),
-        2,
-        Change::None,
         &[
             Act::Receive(PLAIN, 7),
             Act::Bring(PLAIN, Fate::Stored),
@@ -327,11 +315,9 @@ fn ends_get_frames_in_one_order(rt: HostRuntime) -> Result<(), Fail> {
 
 #[test]
 fn a_wire_without_room(rt: HostRuntime) -> Result<(), Fail> {
-    play(
+    play_on_two(
         &rt,
         rt.alloc(),
-        2,
-        Change::None,
         &[
             Act::Put(PLAIN, 64),
             Act::Send(A, PLAIN, Ok(())),
@@ -347,11 +333,9 @@ fn a_wire_without_room(rt: HostRuntime) -> Result<(), Fail> {
 fn ticks_of_calls_that_make_no_access(rt: HostRuntime) -> Result<(), Fail> {
     let inside = Act::Inside(&[TAKE, Tick::Go, Tick::Deliver(B)]);
     let idle = Act::Came(0, &[(0, Comes::Nothing), (0, Comes::Nothing)]);
-    play(
+    play_on_two(
         &rt,
         rt.alloc(),
-        2,
-        Change::None,
         &[
             inside,
             Act::Recv(B, 0, Err(RecvError::Empty)),
