@@ -5,10 +5,11 @@ HELP = b"""A bench for a driver of the Intel 82540EM and a model of that adapter
 Usage: nicbench <COMMAND>
 
 Commands:
-  pass  Send the frames of a trace through a receive filter and a ring
-  run   Run a scenario: hosts on wires, step by step
-  show  List the frames of a trace, one a line
-  help  Print this message or the help of the given subcommand(s)
+  pass   Send the frames of a trace through a receive filter and a ring
+  run    Run a scenario: hosts on wires, step by step
+  show   List the frames of a trace, one a line
+  serve  Serve an adapter and its memory to a driver, a request a line
+  help   Print this message or the help of the given subcommand(s)
 
 Options:
   -h, --help  Print help
@@ -16,7 +17,8 @@ Options:
 Exit status: 0 done, 1 a trace or a scenario was refused, 2 the words were refused or help was asked
 for, 3 a file failed, 4 memory was refused. For 1, 3 and 4 standard error has 'nicbench: CODE NAME'.
 IN is what is read: also the TRACE of show, and of run SCENARIO and each FILE that it feeds. OUT is what
-is written: of run each file in OUTDIR. E40 to E56 are of run alone: nicbench run --help
+is written: of run each file in OUTDIR. E40 to E56 are of run alone: nicbench run --help. What E57, E66
+and E67 mean of serve: nicbench serve --help
 
   E57 Memory    Memory was refused before anything was written. Free some, or split IN
   E60 Header    IN has fewer than 24 bytes, so it is no trace. A pipe or a device has no length
@@ -94,13 +96,13 @@ Then come events, numbered from 0:
   send HOST HEX           a call: it sends a frame of these bytes
   recv HOST S             a call: its socket S gives the oldest frame that waits there
   interrupt HOST          a call: its driver handles an interrupt
-  drain HOST              a call: its sockets give all that it holds for them, one event
   tick TICK               no call, but a tick: txtake:HOST, txput:HOST, rxdata:HOST or rxdone:HOST is a
                           step of its adapter, deliver:HOST brings it the next frame of its wire,
                           eeprom:HOST and phy:HOST are ticks of these, and go is none
   CALL / TICK TICK ..     ticks inside a call: those before the first go are played before its first
                           access of memory or of a register, those up to the next go before its second,
                           and so on
+  drain HOST              no call: all that it holds for its sockets is given, in one event
   feed HOST FILE          for each frame of a trace the events that send it, and bring it to the sockets
                           of the other hosts at its wire; FILE has no spaces
   auto COUNT START        COUNT events, up to 1000000, drawn from the number START
@@ -155,4 +157,57 @@ the frames and the packets that were captured in part, and tells whether TRACE e
 
   0 60 02:00:00:00:00:02 02:00:00:00:00:01 0800
   frames 1 skipped 0 cut no
+"""
+
+SERVE_HELP = b"""Serve an adapter and its memory to a driver, a request a line
+
+Usage: nicbench serve [OPTIONS]
+
+Options:
+      --memory <BYTES>       Bytes of memory, from address 0 on, as 0x100000 [1048576]
+      --registers <ADDRESS>  Where the 131,072 bytes of registers begin [0xFEB00000]
+      --address <A>          The Ethernet address in the EEPROM [02:00:00:00:00:01]
+      --link <N|never>       Ticks of the PHY until the link is up, 1 to 65535 [1]
+      --rxa <N>              KB of the receive packet buffer, an even number from 2 to 48 [48]
+      --seed <N>             What interleaved steps are drawn from [0]
+  -h, --help                 Print help
+
+An Intel 82540EM and the memory of its host: a driver in any language reads and writes registers and
+memory through a pipe. A request is a line on standard input, and its answer a line on standard output,
+written out before the next request is read. This sets the mask of causes (IMS), sets a cause (ICS),
+and reads the causes (ICR):
+
+  $ printf 'writel 0xFEB000D0 0x80\\nwritel 0xFEB000C8 0x80\\nreadl 0xFEB000C0\\n' | nicbench serve
+  OK
+  IRQ raise 0
+  OK
+  IRQ lower 0
+  OK 0x0000000000000080
+
+Requests, of which the first six are those of QEMU's qtest:
+
+  readl ADDR              the number of 32 bits there; also readb (8), readw (16) and readq (64)
+  writel ADDR VALUE       writes it; also writeb, writew and writeq
+  read ADDR SIZE          bytes of memory, at most 65536
+  write ADDR SIZE 0xHEX   writes them
+  memset ADDR SIZE VALUE  writes so many, all VALUE
+  endianness              little
+  step KIND               a step of the adapter: txtake, txput, rxdata, rxdone, eeprom or phy
+  arrive HEX              a frame comes from the wire
+  settle                  steps in rounds, until a round does nothing
+  line                    1 where the interrupt line is asserted, else 0
+  interleave COUNT        up to COUNT steps, at most 65535, before each access from here on; 0 ends it
+  log on, log off         each step, access and arrival is printed from here on, or no longer
+
+Numbers are decimal, or hexadecimal behind 0x. Registers answer readl and writel alone. The adapter
+takes no step by itself: each is a request, or interleaved, the same ones for the same seed. Between
+a request and its answer stands what happened: 'IRQ raise 0', 'IRQ lower 0', 'frame HEX' for a frame put
+onto the wire, and '# ...' with the log on. A line that isn't answered by OK changed nothing: the answer
+is 'FAIL unknown', or 'ERR' with count, value, size, address, text or long.
+
+The server ends with its input, by exit status 0; else standard error has 'nicbench: CODE NAME':
+
+  E57 Memory    Memory was refused, status 4. Free some, or give less --memory
+  E66 Read      Standard input failed while it was read, status 3. Look what it comes from
+  E67 Write     Standard output failed while it was written, or nobody reads it any more, status 3
 """

@@ -1,4 +1,4 @@
--- What holds of the program's command line where clap takes the words: the subcommand is `pass`, `run` or `show`, and has its files.
+-- What holds of the program's command line where clap takes the words: the subcommand is one of its four, and has its files.
 use Rattle.std.specs.List.{find, list_all, slice_index_or}
 use Rattle.std.specs.Option.{option_map, option_map_or}
 use Rattle.std.specs.Prelude.{Result, Ok, Err, IfErr, IsErrAnd, codes, is_some}
@@ -26,19 +26,19 @@ use Rattle.clap.specs.declared.parser.matches.ArgMatches.TheViews.{out-ArgMatche
 use Rattle.std.specs.Borrow.{Bor}
 use Rattle.std.specs.Box.{box_value}
 use Rattle.command_line.specs.Jobs.{HasFiles, HasScenario, HasTrace, IsSubcommand}
-use Rattle.command_line.specs.Shape.{found_in, pass_app, program_app, refusals, run_app, show_app}
+use Rattle.command_line.specs.Shape.{found_in, pass_app, program_app, refusals, run_app, serve_app, show_app}
 use Rattle.command_line.proofs.Uses.{EachHasValue, gives, given_has_first, nothing_missing}
 use Rattle.command_line.proofs.Walks.{StopsAtOther, level_below, level_checks, level_rows, level_walk}
 
 pub simple : is_simple program_app ≡ true
-unfolding clap_on_literals program_app pass_app run_app show_app
+unfolding clap_on_literals program_app pass_app run_app show_app serve_app
 simple = refl
 
 pub simple_and_free : is_simple_and_free program_app ≡ true
-unfolding clap_on_literals program_app pass_app run_app show_app
+unfolding clap_on_literals program_app pass_app run_app show_app serve_app
 simple_and_free = refl
 
--- ---- the program as clap builds it, with its subcommands `pass`, `run`, `show` and `help`
+-- ---- the program as clap builds it, with its subcommands `pass`, `run`, `show`, `serve` and `help`
 
 unfoldable built_pass : Shape
 built_pass = slice_index_or (built program_app).subs 0 (new_shape [])
@@ -49,63 +49,70 @@ built_run = slice_index_or (built program_app).subs 1 (new_shape [])
 unfoldable built_show : Shape
 built_show = slice_index_or (built program_app).subs 2 (new_shape [])
 
+unfoldable built_serve : Shape
+built_serve = slice_index_or (built program_app).subs 3 (new_shape [])
+
 unfoldable built_help : Shape
-built_help = slice_index_or (built program_app).subs 3 (new_shape [])
+built_help = slice_index_or (built program_app).subs 4 (new_shape [])
 
 top_gives : list_all gives (built program_app).top.rules ≡ true
-unfolding clap_on_literals program_app pass_app run_app show_app
+unfolding clap_on_literals program_app pass_app run_app show_app serve_app
 top_gives = refl
 
 pass_gives : list_all gives built_pass.rules ≡ true
-unfolding clap_on_literals program_app pass_app run_app show_app built_pass
+unfolding clap_on_literals program_app pass_app run_app show_app serve_app built_pass
 pass_gives = refl
 
 run_gives : list_all gives built_run.rules ≡ true
-unfolding clap_on_literals program_app pass_app run_app show_app built_run
+unfolding clap_on_literals program_app pass_app run_app show_app serve_app built_run
 run_gives = refl
 
 show_gives : list_all gives built_show.rules ≡ true
-unfolding clap_on_literals program_app pass_app run_app show_app built_show
+unfolding clap_on_literals program_app pass_app run_app show_app serve_app built_show
 show_gives = refl
 
 has_help : (built program_app).top.disable_help_subcommand ≡ false
-unfolding clap_on_literals program_app pass_app run_app show_app
+unfolding clap_on_literals program_app pass_app run_app show_app serve_app
 has_help = refl
 
-four_subcommands : (built program_app).subs ≡ built_pass ∷ built_run ∷ built_show ∷ built_help ∷ []
-unfolding clap_on_literals program_app pass_app run_app show_app built_pass built_run built_show built_help
-four_subcommands = refl
+five_subcommands : (built program_app).subs ≡ built_pass ∷ built_run ∷ built_show ∷ built_serve ∷ built_help ∷ []
+unfolding clap_on_literals program_app pass_app run_app show_app serve_app built_pass built_run built_show built_serve built_help
+five_subcommands = refl
 
 help_answers : (word : Text) → answers_to word (label_of built_help) ≡ (bytes_eq (codes "help") word || false)
-unfolding clap_on_literals program_app pass_app run_app show_app built_help
+unfolding clap_on_literals program_app pass_app run_app show_app serve_app built_help
 help_answers word = refl
 
 pass_is_named : built_pass.name ≡ codes "pass"
-unfolding clap_on_literals program_app pass_app run_app show_app built_pass
+unfolding clap_on_literals program_app pass_app run_app show_app serve_app built_pass
 pass_is_named = refl
 
 run_is_named : built_run.name ≡ codes "run"
-unfolding clap_on_literals program_app pass_app run_app show_app built_run
+unfolding clap_on_literals program_app pass_app run_app show_app serve_app built_run
 run_is_named = refl
 
 show_is_named : built_show.name ≡ codes "show"
-unfolding clap_on_literals program_app pass_app run_app show_app built_show
+unfolding clap_on_literals program_app pass_app run_app show_app serve_app built_show
 show_is_named = refl
+
+serve_is_named : built_serve.name ≡ codes "serve"
+unfolding clap_on_literals program_app pass_app run_app show_app serve_app built_serve
+serve_is_named = refl
 
 pass_wants : (rows : List Row)
     → check_fault built_pass rows false
     ≡ check_kinds false false (not (is_given (codes "IN") rows) || (not (is_given (codes "OUT") rows) || false))
-unfolding clap_on_literals program_app pass_app run_app show_app built_pass
+unfolding clap_on_literals program_app pass_app run_app show_app serve_app built_pass
 pass_wants rows = refl
 
 run_wants : (rows : List Row)
     → check_fault built_run rows false
     ≡ check_kinds false false (not (is_given (codes "SCENARIO") rows) || (not (is_given (codes "OUTDIR") rows) || false))
-unfolding clap_on_literals program_app pass_app run_app show_app built_run
+unfolding clap_on_literals program_app pass_app run_app show_app serve_app built_run
 run_wants rows = refl
 
 show_wants : (rows : List Row) → check_fault built_show rows false ≡ check_kinds false false (not (is_given (codes "TRACE") rows) || false)
-unfolding clap_on_literals program_app pass_app run_app show_app built_show
+unfolding clap_on_literals program_app pass_app run_app show_app serve_app built_show
 show_wants rows = refl
 
 -- ---- the subcommand that was met
@@ -135,43 +142,52 @@ entered_is s words name rows f found =
       rows_are = ap (λ (p : Text × List Row). p.1) same;
     }
 
--- one of the program's three subcommands was entered
-abbrev IsEnteredAmong : (first second third : Shape) (words : List Text) (name : Text) (rows : List Row) → Type 0
-IsEnteredAmong first second third words name rows =
-    IsEntered first words name rows ⊎ (IsEntered second words name rows ⊎ IsEntered third words name rows)
+-- one of the program's four subcommands was entered
+abbrev IsEnteredAmong : (first second third fourth : Shape) (words : List Text) (name : Text) (rows : List Row) → Type 0
+IsEnteredAmong first second third fourth words name rows =
+    IsEntered first words name rows
+    ⊎ (IsEntered second words name rows ⊎ (IsEntered third words name rows ⊎ IsEntered fourth words name rows))
 
-first_of_four : (first second third fourth : Shape) (is_first is_second is_third is_fourth : Bool)
+-- the first of five subcommands that answers
+abbrev first_that : (is_first is_second is_third is_fourth is_fifth : Bool) (first second third fourth fifth : Shape) → Option Shape
+first_that is_first is_second is_third is_fourth is_fifth first second third fourth fifth =
+    cond is_first (Some first) (cond is_second (Some second) (cond is_third (Some third)
+    (cond is_fourth (Some fourth) (cond is_fifth (Some fifth) None))))
+
+first_of_five : (first second third fourth fifth : Shape) (is_first is_second is_third is_fourth is_fifth : Bool)
     (words : List Text) (name : Text) (rows : List Row)
-    → is_fourth ≡ false
+    → is_fifth ≡ false
     → option_map_or (λ s. level_fault s [] nothing_held words false [])
-    (cond is_first (Some first) (cond is_second (Some second) (cond is_third (Some third) (cond is_fourth (Some fourth) None)))) [] ≡ []
-    → option_map (λ s. rows_at s words)
-    (cond is_first (Some first) (cond is_second (Some second) (cond is_third (Some third) (cond is_fourth (Some fourth) None))))
+    (first_that is_first is_second is_third is_fourth is_fifth first second third fourth fifth) [] ≡ []
+    → option_map (λ s. rows_at s words) (first_that is_first is_second is_third is_fourth is_fifth first second third fourth fifth)
     ≡ Some (name, rows)
-    → IsEnteredAmong first second third words name rows
-first_of_four first second third fourth true is_second is_third is_fourth words name rows e f found =
+    → IsEnteredAmong first second third fourth words name rows
+first_of_five first second third fourth fifth true is_second is_third is_fourth is_fifth words name rows e f found =
     inl (entered_is first words name rows f found)
-first_of_four first second third fourth false true is_third is_fourth words name rows e f found =
+first_of_five first second third fourth fifth false true is_third is_fourth is_fifth words name rows e f found =
     inr (inl (entered_is second words name rows f found))
-first_of_four first second third fourth false false true is_fourth words name rows e f found =
-    inr (inr (entered_is third words name rows f found))
-first_of_four first second third fourth false false false true words name rows e f found = absurd (true≢false e)
-first_of_four first second third fourth false false false false words name rows e f found = absurd (cc)
+first_of_five first second third fourth fifth false false true is_fourth is_fifth words name rows e f found =
+    inr (inr (inl (entered_is third words name rows f found)))
+first_of_five first second third fourth fifth false false false true is_fifth words name rows e f found =
+    inr (inr (inr (entered_is fourth words name rows f found)))
+first_of_five first second third fourth fifth false false false false true words name rows e f found = absurd (true≢false e)
+first_of_five first second third fourth fifth false false false false false words name rows e f found = absurd (cc)
 
 entered_other : (a : App) (disabled : Bool) (stop : Option (Text × List Text)) (name : Text) (rows : List Row)
-    → a.subs ≡ built_pass ∷ built_run ∷ built_show ∷ built_help ∷ []
+    → a.subs ≡ built_pass ∷ built_run ∷ built_show ∷ built_serve ∷ built_help ∷ []
     → disabled ≡ false → StopsAtOther disabled stop → entered_fault a stop ≡ [] → entered a stop ≡ Some (name, rows)
-    → (words : List Text) × IsEnteredAmong built_pass built_run built_show words name rows
+    → (words : List Text) × IsEnteredAmong built_pass built_run built_show built_serve words name rows
 entered_other a disabled None name rows subs enabled other f found = absurd (cc)
 entered_other a disabled (Some p) name rows subs enabled other f found =
     let answers : Shape → Bool = λ s. answers_to p.0 (label_of s) in
     let fault = subst (λ (l : List Shape). option_map_or (λ s. level_fault s [] nothing_held p.1 false []) (find answers l) []
     ≡ []) subs f in
     let met = subst (λ (l : List Shape). option_map (λ s. rows_at s p.1) (find answers l) ≡ Some (name, rows)) subs found in
-    let is_fourth : answers built_help ≡ false = help_answers p.0 ∙ not_second (codes "help") p.0 (other enabled) in (
+    let is_fifth : answers built_help ≡ false = help_answers p.0 ∙ not_second (codes "help") p.0 (other enabled) in (
       p.1,
-      first_of_four built_pass built_run built_show built_help
-          (answers built_pass) (answers built_run) (answers built_show) (answers built_help) p.1 name rows is_fourth fault met,
+      first_of_five built_pass built_run built_show built_serve built_help
+          (answers built_pass) (answers built_run) (answers built_show) (answers built_serve) (answers built_help) p.1 name rows
+          is_fifth fault met,
     )
 
 both_given : (input output : Bool) → (not input || (not output || false)) ≡ false → (input ≡ true) × (output ≡ true)
@@ -218,7 +234,10 @@ show_taken words name rows it =
     let each = level_rows built_show show_gives [] words false [] it.faultless in
     let trace = trace_there (rows_after built_show.rules [] words) each
     (level_checks built_show show_gives [] words false [] it.faultless) in
-    inr (inr (it.named ∙ show_is_named, subst HasTrace (sym it.rows_are) trace))
+    inr (inr (inl (it.named ∙ show_is_named, subst HasTrace (sym it.rows_are) trace)))
+
+serve_taken : (words : List Text) (name : Text) (rows : List Row) → IsEntered built_serve words name rows → IsSubcommand name rows
+serve_taken words name rows it = inr (inr (inr (it.named ∙ serve_is_named)))
 
 -- where clap takes the words, the subcommand is one of the program's, with its files
 pub taken : (words : List Text) (name : Text) (rows : List Row) → refusals words ≡ [] → found_in words ≡ Some (name, rows)
@@ -230,10 +249,13 @@ taken words name rows f found =
     let stop = (walk a.top.rules (names_of a) nothing_held rest).stopped in
     let below = level_below a.top top_gives (names_of a) rest (is_some (entered a stop)) (entered_fault a stop) f in
     let good = level_walk a.top top_gives (names_of a) rest (is_some (entered a stop)) (entered_fault a stop) f in
-    let it = entered_other a a.top.disable_help_subcommand stop name rows four_subcommands has_help good.1 below found in
+    let it = entered_other a a.top.disable_help_subcommand stop name rows five_subcommands has_help good.1 below found in
     elim it.1 [
       | inl pass ↦ pass_taken it.0 name rows pass
-      | inr other ↦ elim other [ inl run ↦ run_taken it.0 name rows run | inr show ↦ show_taken it.0 name rows show ]
+      | inr other ↦ elim other [
+        | inl run ↦ run_taken it.0 name rows run
+        | inr last ↦ elim last [ inl show ↦ show_taken it.0 name rows show | inr serve ↦ serve_taken it.0 name rows serve ]
+      ]
     ]
 
 -- ---- what clap's contracts say of the program

@@ -1,11 +1,11 @@
 -- From what clap's getters give to what its matches hold.
 use Rattle.std.specs.Borrow.{Bor}
 use Rattle.std.specs.Prelude.{Option, Some, None, option_map, IfSome, IsSome}
-use Rattle.std.proofs.Common.{◌≡◌, ◌∙◌, ap, subst, sym}
+use Rattle.std.proofs.Common.{◌≡◌, ◌∙◌, ap, refl, subst, sym}
 use Rattle.clap.proofs.WalkLemmas.{first_value-rows}
 use Rattle.clap.specs.Words.{Text, first_of, first_value, rows_of}
 use Rattle.clap.specs.declared.parser.matches.Found.{Found}
-use Rattle.command_line.specs.Jobs.{IsValueOf}
+use Rattle.command_line.specs.Jobs.{IsValueOf, IsValueOr}
 
 -- a getter's answer is the text of the rows
 text_of : (found : Found) (id : Text) (got : Option (Bor Text)) → option_map (λ s. s.now) got ≡ first_value found id
@@ -37,6 +37,22 @@ pub a_value : {V : Type 0} (spells : Text → V → Type 0) (first : Option Text
     → spells text value
     → IsValueOf spells first (Some value)
 a_value spells first text value e h = subst (λ (o : Option Text). IsValueOf spells o (Some value)) (sym e) h
+
+-- an option that isn't there has its default, and one that is has the value of its text
+pub default_value : {V : Type 0} (spells : Text → V → Type 0) (default : V) (first : Option Text) → first ≡ None
+    → IsValueOr spells default first default
+default_value spells default first e = subst (λ (o : Option Text). IsValueOr spells default o default) (sym e) refl
+
+pub given_value : {V : Type 0} (spells : Text → V → Type 0) (default : V) (first : Option Text) (text : Text) (value : V)
+    → first ≡ Some text → spells text value → IsValueOr spells default first value
+given_value spells default first text value e h = subst (λ (o : Option Text). IsValueOr spells default o value) (sym e) h
+
+-- what holds of the default and of each value that a text spells holds of the value that there is
+pub of_given_or_default : {V : Type 0} (spells : Text → V → Type 0) (default : V) (P : V → Type 0) → P default
+    → ((text : Text) (value : V) → spells text value → P value)
+    → (first : Option Text) (value : V) → IsValueOr spells default first value → P value
+of_given_or_default spells default P base each None value h = subst P (sym h) base
+of_given_or_default spells default P base each (Some text) value h = each text value h
 
 -- what holds of each value that a text spells holds of the value that was read
 pub of_value : {V : Type 0} (spells : Text → V → Type 0) (P : V → Type 0) → ((text : Text) (value : V) → spells text value → P value)

@@ -1,23 +1,32 @@
 -- What clap holds for the words, as a job or as the value that it is refused for (own).
-use Rattle.std.specs.Prelude.{◌≡◌, ◌≤◌, ◌⊎◌, IfSome, ℕ, List, [], IsSomeAnd, Option, Some, None, ⊤, IsSome, codes}
+use Rattle.std.specs.Prelude.{◌≡◌, ◌≤◌, ◌⊎◌, IfSome, ℕ, List, [], ◌∷◌, IsSomeAnd, Option, Some, None, ⊤, IsSome, codes}
 use Rattle.clap.specs.Words.{Row, Text, first_of}
 use Rattle.command_line.specs.Shape.{found_in, refusals}
-use Rattle.command_line.specs.Spelling.{IsGroup, SpellsAddress, SpellsGroup, SpellsVlan}
+use Rattle.command_line.specs.Spelling.{IsGroup, IsKilobytes, IsLink, SpellsAddress, SpellsDecimal, SpellsGroup, SpellsKilobytes}
+use Rattle.command_line.specs.Spelling.{SpellsLink, SpellsVlan, SpellsWord}
 use Rattle.command_line.specs.declared.error.InvalidValue.{InvalidValue}
 use Rattle.command_line.specs.declared.job.Job.{Job}
-use Rattle.command_line.specs.declared.job.Job.TheVariants.{Pass, Run, Show}
+use Rattle.command_line.specs.declared.job.Job.TheVariants.{Pass, Run, Show, Serve}
 use Rattle.command_line.specs.declared.job.PassFilter.{PassFilter}
 use Rattle.command_line.specs.declared.job.PassJob.{PassJob}
-use Rattle.command_line.specs.declared.job.PassOption.{PassOption}
-use Rattle.command_line.specs.declared.job.PassOption.TheVariants.{Address, Group, Vlan}
 use Rattle.command_line.specs.declared.job.RunJob.{RunJob}
+use Rattle.command_line.specs.declared.job.ServeJob.{ServeJob}
+use Rattle.command_line.specs.declared.job.ServeLink.{ServeLink}
+use Rattle.command_line.specs.declared.job.ServeLink.TheVariants as links
 use Rattle.command_line.specs.declared.job.ShowJob.{ShowJob}
+use Rattle.command_line.specs.declared.job.ValueOption.{ValueOption}
+use Rattle.command_line.specs.declared.job.ValueOption.TheVariants as options
 
 -- the value that an option's text spells, and none exactly where the option isn't there
 abbrev pub IsValueOf : {V : Type 0} → (Text → V → Type 0) → Option Text → Option V → Type 0
 IsValueOf spells None None = ⊤
 IsValueOf spells (Some text) (Some value) = spells text value
 IsValueOf spells _ _ = ⊥
+
+-- the value that an option's text spells, and this one where the option isn't there
+abbrev pub IsValueOr : {V : Type 0} → (Text → V → Type 0) → V → Option Text → V → Type 0
+IsValueOr spells default None value = value ≡ default
+IsValueOr spells default (Some text) value = spells text value
 
 pub record IsPassFilterOf (rows : List Row) (filter : PassFilter) : Type 0 where
   pub address : IsValueOf SpellsAddress (first_of (codes "address") rows) filter.address
@@ -36,20 +45,35 @@ pub record IsRunJobOf (rows : List Row) (job : RunJob) : Type 0 where
 abbrev pub IsShowJobOf : List Row → ShowJob → Type 0
 IsShowJobOf rows job = first_of (codes "TRACE") rows ≡ Some job.trace.now
 
+-- each option of a `serve` has the value of its text, or its default
+pub record IsServeJobOf (rows : List Row) (job : ServeJob) : Type 0 where
+  pub memory : IsValueOr SpellsWord 0x100000 (first_of (codes "memory") rows) job.memory
+  pub registers : IsValueOr SpellsWord 0xFEB00000 (first_of (codes "registers") rows) job.registers
+  pub address : IsValueOr SpellsAddress (2 ∷ 0 ∷ 0 ∷ 0 ∷ 0 ∷ 1 ∷ []) (first_of (codes "address") rows) job.address
+  pub link : IsValueOr SpellsLink (links.After 1) (first_of (codes "link") rows) job.link
+  pub kilobytes : IsValueOr SpellsKilobytes 48 (first_of (codes "rxa") rows) job.receive_kilobytes
+  pub seed : IsValueOr SpellsDecimal 0 (first_of (codes "seed") rows) job.seed
+
 -- the job is that of the subcommand with these matches
 abbrev pub IsJobOf : Text × List Row → Job → Type 0
 IsJobOf found (Pass job) = (found.0 ≡ codes "pass") × IsPassJobOf found.1 job
 IsJobOf found (Run job) = (found.0 ≡ codes "run") × IsRunJobOf found.1 job
 IsJobOf found (Show job) = (found.0 ≡ codes "show") × IsShowJobOf found.1 job
+IsJobOf found (Serve job) = (found.0 ≡ codes "serve") × IsServeJobOf found.1 job
 
 -- what a caller may count on without the words: a group has its group bit, and a VLAN identifier 12 bits
 abbrev pub IsWithinBounds : PassFilter → Type 0
 IsWithinBounds filter = IfSome filter.group IsGroup × IfSome filter.vlan (λ n. n ≤ 4095)
 
+-- the same of a `serve`: a packet buffer's kilobytes are those that there can be, and a link takes one tick at least
+abbrev pub IsServable : ServeJob → Type 0
+IsServable job = IsKilobytes job.receive_kilobytes × IsLink job.link
+
 abbrev pub HasBounds : Job → Type 0
 HasBounds (Pass job) = IsWithinBounds job.filter
 HasBounds (Run job) = ⊤
 HasBounds (Show job) = ⊤
+HasBounds (Serve job) = IsServable job
 
 -- both files of a `pass` are there
 abbrev pub HasFiles : List Row → Type 0
@@ -66,18 +90,29 @@ HasTrace rows = IsSome (first_of (codes "TRACE") rows)
 -- the subcommand is one of the program's, with its files and its folder
 abbrev pub IsSubcommand : Text → List Row → Type 0
 IsSubcommand name rows =
-    ((name ≡ codes "pass") × HasFiles rows) ⊎ (((name ≡ codes "run") × HasScenario rows) ⊎ ((name ≡ codes "show") × HasTrace rows))
+    ((name ≡ codes "pass") × HasFiles rows) ⊎ (((name ≡ codes "run") × HasScenario rows)
+    ⊎ (((name ≡ codes "show") × HasTrace rows) ⊎ (name ≡ codes "serve")))
 
-abbrev pub name_of : PassOption → Text
-name_of Address = codes "address"
-name_of Group = codes "group"
-name_of Vlan = codes "vlan"
+abbrev pub name_of : ValueOption → Text
+name_of options.Address = codes "address"
+name_of options.Group = codes "group"
+name_of options.Vlan = codes "vlan"
+name_of options.Memory = codes "memory"
+name_of options.Registers = codes "registers"
+name_of options.Link = codes "link"
+name_of options.Rxa = codes "rxa"
+name_of options.Seed = codes "seed"
 
 -- the text is of the option's form
-abbrev pub IsSpelled : PassOption → Text → Type 0
-IsSpelled Address text = (address : List ℕ) × SpellsAddress text address
-IsSpelled Group text = (address : List ℕ) × SpellsGroup text address
-IsSpelled Vlan text = (n : ℕ) × SpellsVlan text n
+abbrev pub IsSpelled : ValueOption → Text → Type 0
+IsSpelled options.Address text = (address : List ℕ) × SpellsAddress text address
+IsSpelled options.Group text = (address : List ℕ) × SpellsGroup text address
+IsSpelled options.Vlan text = (n : ℕ) × SpellsVlan text n
+IsSpelled options.Memory text = (n : ℕ) × SpellsWord text n
+IsSpelled options.Registers text = (n : ℕ) × SpellsWord text n
+IsSpelled options.Link text = (link : ServeLink) × SpellsLink text link
+IsSpelled options.Rxa text = (n : ℕ) × SpellsKilobytes text n
+IsSpelled options.Seed text = (n : ℕ) × SpellsDecimal text n
 
 -- the matches have this text for the option, and it isn't of the option's form
 pub record IsInvalidIn (rows : List Row) (value : InvalidValue) : Type 0 where

@@ -28,12 +28,20 @@ run_app = with_rule (with_rule (new_app (codes "run")) (file_rule (codes "SCENAR
 unfoldable pub show_app : App
 show_app = with_rule (new_app (codes "show")) (file_rule (codes "TRACE"))
 
+-- `serve [--memory BYTES] [--registers ADDRESS] [--address A] [--link N|never] [--rxa N] [--seed N]`
+unfoldable pub serve_app : App
+serve_app =
+    with_rule (with_rule (with_rule (with_rule (with_rule (with_rule (new_app (codes "serve"))
+    (option_rule (codes "memory"))) (option_rule (codes "registers"))) (option_rule (codes "address")))
+    (option_rule (codes "link"))) (option_rule (codes "rxa"))) (option_rule (codes "seed"))
+
 -- the program, which has to be told what to do
 unfoldable pub program_app : App
-unfolding pass_app run_app show_app
+unfolding pass_app run_app show_app serve_app
 program_app =
-    with_subcommand (with_subcommand (with_subcommand (on_top (λ s. record s { subcommand_required = true; arg_required_else_help = true })
-    (new_app (codes "nicbench"))) pass_app.top) run_app.top) show_app.top
+    with_subcommand (with_subcommand (with_subcommand (with_subcommand
+    (on_top (λ s. record s { subcommand_required = true; arg_required_else_help = true }) (new_app (codes "nicbench")))
+    pass_app.top) run_app.top) show_app.top) serve_app.top
 
 -- the kinds of error that clap answers the words with, none where it takes them
 unfoldable pub refusals : List Text → Kinds

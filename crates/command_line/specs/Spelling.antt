@@ -1,8 +1,10 @@
--- Which texts spell an address, a group, a number and a VLAN. All of it is own, but for the meaning of the group bit and the
--- width of a VLAN identifier.
-use Rattle.std.specs.Prelude.{◌≡◌, ◌<◌, ◌≤◌, ◌+◌, ◌*◌, ℕ, List, length, slice_index, IsBitSet}
+-- Which texts spell an address, a group, a number, a VLAN, a packet buffer's kilobytes and a link. All of it is own, but for the meaning of
+-- the group bit, the width of a VLAN identifier and the kilobytes that there can be.
+use Rattle.std.specs.Prelude.{⊤, ◌≡◌, ◌<◌, ◌≤◌, ◌+◌, ◌*◌, ◌%◌, ◌^◌, ◌++◌, ◌⊎◌, ℕ, List, codes, length, slice_index, IsBitSet}
 use Rattle.std.specs.Char.{digit_value}
 use Rattle.std.specs.Str.Parse.{IsNumeral, digits_value}
+use Rattle.command_line.specs.declared.job.ServeLink.{ServeLink}
+use Rattle.command_line.specs.declared.job.ServeLink.TheVariants.{After, Never}
 
 -- what a hexadecimal digit stands for: 0 to 9 for '0' to '9', and 10 to 15 for 'a' to 'f' and for 'A' to 'F'
 unfoldable pub hexadecimal_value : ℕ → ℕ
@@ -38,3 +40,35 @@ SpellsNumber text n = IsNumeral 10 text × (n ≡ digits_value 10 text)
 -- a number of 12 bits, as VLAN identifiers have (IEEE 802.1Q 9.6)
 abbrev pub SpellsVlan : List ℕ → ℕ → Type 0
 SpellsVlan text n = SpellsNumber text n × (n ≤ 4095)
+
+-- a number of 64 bits
+abbrev pub IsWord : ℕ → Type 0
+IsWord n = n < 2 ^ 64
+
+-- one that decimal digits alone write
+abbrev pub SpellsDecimal : List ℕ → ℕ → Type 0
+SpellsDecimal text n = SpellsNumber text n × IsWord n
+
+-- one that hexadecimal digits alone write, one or more, in either case
+abbrev pub SpellsHexadecimal : List ℕ → ℕ → Type 0
+SpellsHexadecimal text n = IsNumeral 16 text × (n ≡ digits_value 16 text) × IsWord n
+
+-- one that decimal digits write, or hexadecimal ones behind 0x
+abbrev pub SpellsWord : List ℕ → ℕ → Type 0
+SpellsWord text n = SpellsDecimal text n ⊎ ((digits : List ℕ) × (text ≡ codes "0x" ++ digits) × SpellsHexadecimal digits n)
+
+-- the kilobytes that the receive part of a packet buffer can have (manual 13.4.18 "Packet Buffer Allocation", RXA)
+abbrev pub IsKilobytes : ℕ → Type 0
+IsKilobytes n = (2 ≤ n) × (n ≤ 48) × (n % 2 ≡ 0)
+
+abbrev pub SpellsKilobytes : List ℕ → ℕ → Type 0
+SpellsKilobytes text n = SpellsNumber text n × IsKilobytes n
+
+-- ticks of 16 bits, one at least, behind which a link comes up, or none where it never does
+abbrev pub IsLink : ServeLink → Type 0
+IsLink (After ticks) = (1 ≤ ticks) × (ticks ≤ 65535)
+IsLink Never = ⊤
+
+abbrev pub SpellsLink : List ℕ → ServeLink → Type 0
+SpellsLink text (After ticks) = SpellsNumber text ticks × IsLink (After ticks)
+SpellsLink text Never = text ≡ codes "never"

@@ -2,11 +2,13 @@
 ghost use Rattle.std.specs.Prelude.{◌≡◌, IfOk, false};
 ghost use Rattle.clap.specs.Words.{app_of, rule_of};
 ghost use Rattle.clap.specs.declared.builder.command.Command.TheViews.{out-Command as fields_of};
-ghost use Rattle.command_line.specs.Shape.{file_rule, option_rule, pass_app, program_app, run_app, show_app};
+ghost use Rattle.command_line.specs.Shape.{file_rule, option_rule, pass_app, program_app, run_app, serve_app};
+ghost use Rattle.command_line.specs.Shape.{show_app};
 
 use crate::help::{
-    ADDRESS_HELP, CODES_NOTE, GROUP_HELP, PASS_ABOUT, PASS_NOTE, RUN_ABOUT, RUN_NOTE, SHOW_ABOUT,
-    SHOW_NOTE, VLAN_HELP,
+    ADDRESS_HELP, CODES_NOTE, GROUP_HELP, IMAGE_HELP, LINK_HELP, MEMORY_HELP, PASS_ABOUT,
+    PASS_NOTE, REGISTERS_HELP, RUN_ABOUT, RUN_NOTE, RXA_HELP, SEED_HELP, SERVE_ABOUT, SERVE_NOTE,
+    SHOW_ABOUT, SHOW_NOTE, VLAN_HELP,
 };
 use clap::{Arg, ArgAction, Command};
 use std::alloc::{AllocError, Global};
@@ -79,6 +81,23 @@ fn show_command<'a>(alloc: Global) -> Result<Command<'a>, AllocError>
     Ok(show)
 }
 
+/// `serve [--memory BYTES] [--registers ADDRESS] [--address A] [--link N|never] [--rxa N] [--seed N]`.
+fn serve_command<'a>(alloc: Global) -> Result<Command<'a>, AllocError>
+    ensures app { IfOk result (λ command. app_of command ≡ serve_app) }
+    ensures local { IfOk result (λ command. (fields_of command).has_globals ≡ false) }
+{
+    let serve = Command::new(alloc, "serve")
+        .about(SERVE_ABOUT)
+        .after_help(SERVE_NOTE);
+    let one = serve.arg(value_option(alloc, "memory", "BYTES", MEMORY_HELP))?;
+    let two = one.arg(value_option(alloc, "registers", "ADDRESS", REGISTERS_HELP))?;
+    let three = two.arg(value_option(alloc, "address", "A", IMAGE_HELP))?;
+    let four = three.arg(value_option(alloc, "link", "N|never", LINK_HELP))?;
+    let five = four.arg(value_option(alloc, "rxa", "N", RXA_HELP))?;
+    let six = five.arg(value_option(alloc, "seed", "N", SEED_HELP))?;
+    Ok(six)
+}
+
 /// The command line of the program.
 pub(crate) fn program<'a>(alloc: Global) -> Result<Command<'a>, AllocError>
     ensures app { IfOk result (λ command. app_of command ≡ program_app) }
@@ -87,6 +106,7 @@ pub(crate) fn program<'a>(alloc: Global) -> Result<Command<'a>, AllocError>
     let pass = pass_command(alloc)?;
     let run = run_command(alloc)?;
     let show = show_command(alloc)?;
+    let serve = serve_command(alloc)?;
     let program = Command::new(alloc, "nicbench")
         .about("A bench for a driver of the Intel 82540EM and a model of that adapter")
         .after_help(CODES_NOTE)
@@ -95,5 +115,6 @@ pub(crate) fn program<'a>(alloc: Global) -> Result<Command<'a>, AllocError>
     let with_pass = program.subcommand(pass)?;
     let with_run = with_pass.subcommand(run)?;
     let with_show = with_run.subcommand(show)?;
-    Ok(with_show)
+    let with_serve = with_show.subcommand(serve)?;
+    Ok(with_serve)
 }

@@ -3,7 +3,7 @@ ghost use Rattle.std.specs.Prelude.{◌≡◌};
 ghost use Rattle.command_line.specs.Errors.{IsMadeOf, status_of};
 ghost use Rattle.command_line.specs.declared.error.LineError.TheVariants.{Memory, Value};
 
-use crate::PassOption;
+use crate::ValueOption;
 use clap::error::ErrorKind;
 use std::alloc::AllocError;
 use std::fmt;
@@ -40,7 +40,7 @@ For more information, try '--help'.
 #[derive(Clone, Copy, Debug, PartialEq, Eq)]
 pub struct InvalidValue<'a> {
     /// The option that it was given for.
-    pub option: PassOption,
+    pub option: ValueOption,
     /// The value as it was given.
     pub text: &'a str,
 }
@@ -91,9 +91,14 @@ impl<'a> From<InvalidValue<'a>> for LineError<'a> {
 impl fmt::Display for InvalidValue<'_> {
     fn fmt<W: fmt::Write>(&self, f: &mut fmt::Formatter<W>) -> fmt::Result {
         let (option, form) = match self.option {
-            PassOption::Address => ("--address <A>", ADDRESS_FORM),
-            PassOption::Group => ("--group <G>", GROUP_FORM),
-            PassOption::Vlan => ("--vlan <N>", VLAN_FORM),
+            ValueOption::Address => ("--address <A>", ADDRESS_FORM),
+            ValueOption::Group => ("--group <G>", GROUP_FORM),
+            ValueOption::Vlan => ("--vlan <N>", VLAN_FORM),
+            ValueOption::Memory => ("--memory <BYTES>", MEMORY_FORM),
+            ValueOption::Registers => ("--registers <ADDRESS>", REGISTERS_FORM),
+            ValueOption::Link => ("--link <N|never>", LINK_FORM),
+            ValueOption::Rxa => ("--rxa <N>", RXA_FORM),
+            ValueOption::Seed => ("--seed <N>", SEED_FORM),
         };
         let text = self.text;
         write!(f, "error: invalid value '{text}' for '{option}': {form}\n")?;
@@ -107,3 +112,15 @@ const ADDRESS_FORM: &str =
 const GROUP_FORM: &str = "a group is an address whose first byte is odd, as 01:00:5e:00:00:01";
 
 const VLAN_FORM: &str = "a VLAN is a decimal number from 0 to 4095, as 5";
+
+const MEMORY_FORM: &str =
+    "bytes are a decimal number below 2^64, or a hexadecimal one behind 0x, as 0x100000";
+
+const REGISTERS_FORM: &str =
+    "a place is a decimal number below 2^64, or a hexadecimal one behind 0x, as 0xFEB00000";
+
+const LINK_FORM: &str = "ticks are a decimal number from 1 to 65535, as 1, or 'never'";
+
+const RXA_FORM: &str = "kilobytes are an even decimal number from 2 to 48, as 48";
+
+const SEED_FORM: &str = "a seed is a decimal number below 2^64, as 7";

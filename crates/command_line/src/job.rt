@@ -9,6 +9,8 @@ pub enum Job<'a> {
     Run(RunJob<'a>),
     /// `show`: the frames of a trace are listed.
     Show(ShowJob<'a>),
+    /// `serve`: an adapter answers requests.
+    Serve(ServeJob),
 }
 
 /// The job of `pass [--address A] [--group G] [--vlan N] IN OUT`.
@@ -49,13 +51,50 @@ pub struct PassFilter {
     pub vlan: Option<u16>,
 }
 
-/// An option of `pass`.
+/// The job of `serve [--memory BYTES] [--registers ADDRESS] [--address A] [--link N|never] [--rxa N] [--seed N]`. Each
+/// option that isn't given has its default here.
 #[derive(Clone, Copy, Debug, PartialEq, Eq)]
-pub enum PassOption {
-    /// `--address`.
+pub struct ServeJob {
+    /// How many bytes of memory there are, from address 0 on (`--memory`, 1 MiB).
+    pub memory: u64,
+    /// The address of the first byte of registers (`--registers`, 0xFEB00000).
+    pub registers: u64,
+    /// The address in the adapter's EEPROM, the first byte first (`--address`, 02:00:00:00:00:01).
+    pub address: [u8; 6],
+    /// When the link comes up (`--link`, after one tick).
+    pub link: ServeLink,
+    /// The kilobytes of the adapter's receive packet buffer, an even number from 2 to 48 (`--rxa`, 48).
+    pub receive_kilobytes: u8,
+    /// What interleaved steps are drawn from (`--seed`, 0).
+    pub seed: u64,
+}
+
+/// When the link of an adapter that is served comes up.
+#[derive(Clone, Copy, Debug, PartialEq, Eq)]
+pub enum ServeLink {
+    /// After so many ticks of the PHY, 1 or more.
+    After(u16),
+    /// Never.
+    Never,
+}
+
+/// An option with a value.
+#[derive(Clone, Copy, Debug, PartialEq, Eq)]
+pub enum ValueOption {
+    /// `--address`, of `pass` and of `serve`.
     Address,
-    /// `--group`.
+    /// `--group`, of `pass`.
     Group,
-    /// `--vlan`.
+    /// `--vlan`, of `pass`.
     Vlan,
+    /// `--memory`, of `serve`.
+    Memory,
+    /// `--registers`, of `serve`.
+    Registers,
+    /// `--link`, of `serve`.
+    Link,
+    /// `--rxa`, of `serve`.
+    Rxa,
+    /// `--seed`, of `serve`.
+    Seed,
 }

@@ -11,16 +11,19 @@ mod job;
 mod pass;
 mod reader;
 mod run;
+mod serve;
 mod show;
 pub mod spelling;
 
 pub use error::{InvalidValue, LineError};
-pub use job::{Job, PassFilter, PassJob, PassOption, RunJob, ShowJob};
+pub use job::{Job, PassFilter, PassJob, RunJob, ServeJob, ServeLink, ShowJob, ValueOption};
 pub use reader::line;
 
 #[cfg(test)]
 mod help_texts;
 #[cfg(test)]
 mod readme;
+#[cfg(test)]
+mod serve_tests;
 #[cfg(test)]
 mod tests;

@@ -6,7 +6,7 @@ ghost use Rattle.command_line.specs.Jobs.{IsWithinBounds};
 ghost use Rattle.command_line.specs.Spelling.{SpellsAddress, SpellsGroup, SpellsVlan};
 
 use crate::spelling::{address_of, group_of, vlan_of};
-use crate::{InvalidValue, PassFilter, PassJob, PassOption};
+use crate::{InvalidValue, PassFilter, PassJob, ValueOption};
 use clap::ArgMatches;
 
 fn address<'a>(matches: &ArgMatches<'a>) -> Result<Option<[u8; 6]>, InvalidValue<'a>>
@@ -18,7 +18,7 @@ fn address<'a>(matches: &ArgMatches<'a>) -> Result<Option<[u8; 6]>, InvalidValue
         Some(text) => match address_of(text) {
             Some(address) => Ok(Some(address)),
             None => Err(InvalidValue {
-                option: PassOption::Address,
+                option: ValueOption::Address,
                 text,
             }),
         },
@@ -35,7 +35,7 @@ fn group<'a>(matches: &ArgMatches<'a>) -> Result<Option<[u8; 6]>, InvalidValue<'
         Some(text) => match group_of(text) {
             Some(group) => Ok(Some(group)),
             None => Err(InvalidValue {
-                option: PassOption::Group,
+                option: ValueOption::Group,
                 text,
             }),
         },
@@ -52,7 +52,7 @@ fn vlan<'a>(matches: &ArgMatches<'a>) -> Result<Option<u16>, InvalidValue<'a>>
         Some(text) => match vlan_of(text) {
             Some(vlan) => Ok(Some(vlan)),
             None => Err(InvalidValue {
-                option: PassOption::Vlan,
+                option: ValueOption::Vlan,
                 text,
             }),
         },

@@ -11,6 +11,7 @@ ghost use Rattle.command_line.specs.declared.error.LineError.TheVariants.{NotUni
 use crate::command::program;
 use crate::pass::pass_job;
 use crate::run::run_job;
+use crate::serve::serve_job;
 use crate::show::show_job;
 use crate::{InvalidValue, Job, LineError};
 use clap::ArgMatches;
@@ -27,6 +28,7 @@ fn job_of<'a>(name: &str, matches: &ArgMatches<'a>) -> Result<Job<'a>, InvalidVa
         "pass" => Ok(Job::Pass(pass_job(matches)?)),
         "run" => Ok(Job::Run(run_job(matches))),
         "show" => Ok(Job::Show(show_job(matches))),
+        "serve" => Ok(Job::Serve(serve_job(matches)?)),
         _ => unreachable!(),
     }
 }

@@ -1,8 +1,12 @@
-//! The texts of addresses, groups and VLANs, as options write them.
+//! The texts of addresses, groups, VLANs, numbers and links, as options write them.
 ghost use Rattle.std.specs.Prelude.{◌≡◌, ◌≤◌, ◌+◌, ◌*◌, ℕ, List, IfSome, IfNone};
 ghost use Rattle.std.specs.Option.{SomeIff};
 ghost use Rattle.command_line.specs.Spelling.{IsHexadecimalDigit, SpellsAddress, SpellsByte};
-ghost use Rattle.command_line.specs.Spelling.{SpellsGroup, SpellsVlan, hexadecimal_value};
+ghost use Rattle.command_line.specs.Spelling.{SpellsDecimal, SpellsGroup, SpellsHexadecimal, SpellsKilobytes};
+ghost use Rattle.command_line.specs.Spelling.{SpellsLink, SpellsVlan, SpellsWord, hexadecimal_value};
+ghost use Rattle.command_line.specs.declared.job.ServeLink.{ServeLink};
+
+use crate::ServeLink;
 
 /// The bytes of an Ethernet address (IEEE 802.3 3.2.3).
 const ADDRESS_BYTES: usize = 6;
@@ -17,6 +21,11 @@ const GROUP_BIT: u8 = 1;
 const HIGHEST_VLAN: u16 = 4095;
 
 const HEXADECIMAL: u32 = 16;
+
+/// The fewest and the most kilobytes of a receive packet buffer (manual 13.4.18, RXA).
+const LEAST_KILOBYTES: u64 = 2;
+
+const MOST_KILOBYTES: u64 = 48;
 
 #[tactic(auto, unfolding(crate::specs::Spelling::hexadecimal_value))]
 fn hexadecimal_digit(digit: u8) -> Option<u8>
@@ -82,4 +91,67 @@ pub fn vlan_of(text: &str) -> Option<u16>
         return None;
     }
     Some(vlan)
+}
+
+/// The number that a text spells in decimal digits alone, below 2^64, leading zeros or none. `None` for any other
+/// text, one with a sign among them.
+pub fn decimal_of(text: &str) -> Option<u64>
+    ensures spelled { IfSome result (SpellsDecimal text.now) }
+    ensures refused { IfNone result ((n : ℕ) → ¬ SpellsDecimal text.now n) }
+{
+    if text.starts_with('+') {
+        return None;
+    }
+    text.parse::<u64>().ok()
+}
+
+fn hexadecimal_of(text: &str) -> Option<u64>
+    ensures spelled { IfSome result (SpellsHexadecimal text.now) }
+    ensures refused { IfNone result ((n : ℕ) → ¬ SpellsHexadecimal text.now n) }
+{
+    if text.starts_with('+') {
+        return None;
+    }
+    u64::from_str_radix(text, HEXADECIMAL).ok()
+}
+
+/// The number that a text spells, below 2^64: decimal digits alone, or hexadecimal ones in either case behind `0x`.
+/// `None` for any other text.
+pub fn word_of(text: &str) -> Option<u64>
+    ensures spelled { IfSome result (SpellsWord text.now) }
+    ensures refused { IfNone result ((n : ℕ) → ¬ SpellsWord text.now n) }
+{
+    match text.strip_prefix("0x") {
+        Some(digits) => hexadecimal_of(digits),
+        None => decimal_of(text),
+    }
+}
+
+/// The kilobytes of a receive packet buffer that a text spells: an even number from 2 to 48, in decimal digits alone.
+/// `None` for any other text.
+pub fn kilobytes_of(text: &str) -> Option<u8>
+    ensures spelled { IfSome result (SpellsKilobytes text.now) }
+    ensures refused { IfNone result ((kilobytes : ℕ) → ¬ SpellsKilobytes text.now kilobytes) }
+{
+    let kilobytes = decimal_of(text)?;
+    if kilobytes < LEAST_KILOBYTES || kilobytes > MOST_KILOBYTES || kilobytes % 2 != 0 {
+        return None;
+    }
+    Some(kilobytes as u8)
+}
+
+/// When a link comes up, as a text spells it: `never`, or ticks from 1 to 65,535 in decimal digits alone. `None` for
+/// any other text.
+pub fn link_of(text: &str) -> Option<ServeLink>
+    ensures spelled { IfSome result (SpellsLink text.now) }
+    ensures refused { IfNone result ((link : ServeLink) → ¬ SpellsLink text.now link) }
+{
+    if text == "never" {
+        return Some(ServeLink::Never);
+    }
+    let ticks = u16::try_from(decimal_of(text)?).ok()?;
+    if ticks == 0 {
+        return None;
+    }
+    Some(ServeLink::After(ticks))
 }

@@ -1,5 +1,7 @@
-use crate::help_texts::{PASS_HELP, PROGRAM_HELP, RUN_HELP, SHOW_HELP};
-use crate::{InvalidValue, Job, LineError, PassFilter, PassJob, PassOption, RunJob, ShowJob, line};
+use crate::help_texts::{PASS_HELP, PROGRAM_HELP, RUN_HELP, SERVE_HELP, SHOW_HELP};
+use crate::{
+    InvalidValue, Job, LineError, PassFilter, PassJob, RunJob, ShowJob, ValueOption, line,
+};
 use std::alloc::{AllocError, Global};
 use std::test::Fail;
 
@@ -20,7 +22,7 @@ const ALL: PassFilter = PassFilter {
 };
 
 /// The words of a line, which single spaces separate.
-fn words_of<'a>(alloc: Global, line: &'a str) -> Result<Vec<&'a str>, AllocError> {
+pub(crate) fn words_of<'a>(alloc: Global, line: &'a str) -> Result<Vec<&'a str>, AllocError> {
     let mut words = Vec::new(alloc);
     for word in line.split(' ') {
         words.push(word)?;
@@ -124,27 +126,27 @@ fn a_vlan_is_a_decimal_number(rt: HostRuntime) -> Result<(), Fail> {
 #[test]
 fn values_of_another_form_are_refused(rt: HostRuntime) {
     let table = [
-        ("--address", PassOption::Address, ""),
-        ("--address", PassOption::Address, "02:00:00:00:00"),
-        ("--address", PassOption::Address, "02:00:00:00:00:1"),
-        ("--address", PassOption::Address, "02:00:00:00:00:011"),
-        ("--address", PassOption::Address, "02:00:00:00:00:01:02"),
-        ("--address", PassOption::Address, "02-00-00-00-00-01"),
-        ("--address", PassOption::Address, "0200:00:00:00:001"),
-        ("--address", PassOption::Address, "02:00:00:00:00:0g"),
-        ("--address", PassOption::Address, "02:00:00:00:00:+1"),
-        ("--address", PassOption::Address, "02:00:00:00:00:é"),
-        ("--group", PassOption::Group, ""),
-        ("--group", PassOption::Group, "02:00:5e:00:00:01"),
-        ("--group", PassOption::Group, "01:00:5e:00:00"),
-        ("--group", PassOption::Group, "01:00:5e:00:00:0x"),
-        ("--vlan", PassOption::Vlan, ""),
-        ("--vlan", PassOption::Vlan, "+8"),
-        ("--vlan", PassOption::Vlan, "4096"),
-        ("--vlan", PassOption::Vlan, "70000"),
-        ("--vlan", PassOption::Vlan, "99999999999999999999999"),
-        ("--vlan", PassOption::Vlan, "0x5"),
-        ("--vlan", PassOption::Vlan, "5 "),
+        ("--address", ValueOption::Address, ""),
+        ("--address", ValueOption::Address, "02:00:00:00:00"),
+        ("--address", ValueOption::Address, "02:00:00:00:00:1"),
+        ("--address", ValueOption::Address, "02:00:00:00:00:011"),
+        ("--address", ValueOption::Address, "02:00:00:00:00:01:02"),
+        ("--address", ValueOption::Address, "02-00-00-00-00-01"),
+        ("--address", ValueOption::Address, "0200:00:00:00:001"),
+        ("--address", ValueOption::Address, "02:00:00:00:00:0g"),
+        ("--address", ValueOption::Address, "02:00:00:00:00:+1"),
+        ("--address", ValueOption::Address, "02:00:00:00:00:é"),
+        ("--group", ValueOption::Group, ""),
+        ("--group", ValueOption::Group, "02:00:5e:00:00:01"),
+        ("--group", ValueOption::Group, "01:00:5e:00:00"),
+        ("--group", ValueOption::Group, "01:00:5e:00:00:0x"),
+        ("--vlan", ValueOption::Vlan, ""),
+        ("--vlan", ValueOption::Vlan, "+8"),
+        ("--vlan", ValueOption::Vlan, "4096"),
+        ("--vlan", ValueOption::Vlan, "70000"),
+        ("--vlan", ValueOption::Vlan, "99999999999999999999999"),
+        ("--vlan", ValueOption::Vlan, "0x5"),
+        ("--vlan", ValueOption::Vlan, "5 "),
     ];
     for (name, option, text) in table {
         let words = ["nicbench", "pass", name, text, "in.pcap", "out.pcap"];
@@ -156,8 +158,8 @@ fn values_of_another_form_are_refused(rt: HostRuntime) {
     }
 }
 
-// The status, and the whole text for the user.
-fn refusal(alloc: Global, words: &[&str]) -> Result<String, AllocError> {
+/// The status, and the whole text for the user.
+pub(crate) fn refusal(alloc: Global, words: &[&str]) -> Result<String, AllocError> {
     match line(alloc, words) {
         Ok(job) => format!(in alloc; "{job:?}"),
         Err(error) => format!(in alloc; "{} {error}", error.status()),
@@ -208,6 +210,8 @@ fn help_is_claps_text(rt: HostRuntime) -> Result<(), Fail> {
         (["nicbench", "run", "-h"].as_slice(), RUN_HELP),
         (["nicbench", "help", "show"].as_slice(), SHOW_HELP),
         (["nicbench", "show", "--help"].as_slice(), SHOW_HELP),
+        (["nicbench", "help", "serve"].as_slice(), SERVE_HELP),
+        (["nicbench", "serve", "--help"].as_slice(), SERVE_HELP),
     ];
     for (words, expected) in table {
         let text = refusal(rt.alloc(), words)?;
@@ -217,7 +221,7 @@ fn help_is_claps_text(rt: HostRuntime) -> Result<(), Fail> {
 }
 
 /// Lines that clap refuses, each with the first words of its text behind `error: `.
-const REFUSED_LINES: [(&str, &str); 17] = [
+const REFUSED_LINES: [(&str, &str); 22] = [
     ("nicbench fly", "unrecognized subcommand 'fly'"),
     ("nicbench --fly", "unexpected argument '--fly' found"),
     ("nicbench help fly", "unrecognized subcommand 'fly'"),
@@ -267,6 +271,20 @@ const REFUSED_LINES: [(&str, &str); 17] = [
     (
         "nicbench show a --vlan 5",
         "unexpected argument '--vlan' found",
+    ),
+    ("nicbench serve a", "unexpected argument 'a' found"),
+    (
+        "nicbench serve --vlan 5",
+        "unexpected argument '--vlan' found",
+    ),
+    ("nicbench serve --seed -7", "unexpected argument '-7' found"),
+    (
+        "nicbench serve --link",
+        "a value is required for '--link <N|never>' but none was supplied",
+    ),
+    (
+        "nicbench serve --memory 1 --memory=x",
+        "the argument '--memory <BYTES>' cannot be used multiple times",
     ),
 ];
 

@@ -1,5 +1,6 @@
 -- The exit status of the program (own: 1 for input that is refused, 3 for a file that failed, 4 for want of memory).
 use Rattle.std.specs.Prelude.{ℕ}
+use Rattle.adapter_server.specs.Statuses as server
 use Rattle.pcap_bench.specs.ProgramErrors as program
 use Rattle.scenario.specs.declared.refusal.Refusal.TheVariants as refusals
 use Rattle.scenario_bench.specs.Errors as bench
@@ -11,4 +12,5 @@ status_of (faults.Program error) = program.status_of error
 status_of (faults.Scenario (refusals.Line line fault)) = 1
 status_of (faults.Scenario refusals.Memory) = 4
 status_of (faults.Bench error) = bench.status_of error
+status_of (faults.Serve error) = server.status_of error
 status_of faults.Memory = 4

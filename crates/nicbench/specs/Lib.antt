@@ -1,2 +1,3 @@
 pub mod Faults
+pub mod Served
 pub mod Sinks

@@ -3,6 +3,7 @@ ghost use Rattle.std.specs.Prelude.{◌≡◌};
 ghost use Rattle.nicbench.specs.Faults.{status_of};
 ghost use Rattle.nicbench.specs.declared.fault.Fault.TheVariants as faults;
 
+use adapter_server::ServeError;
 use pcap_bench::{ProgramError, WriteError};
 use scenario::Refusal;
 use scenario_bench::BenchError;
@@ -27,6 +28,9 @@ pub(crate) enum Fault {
     /// A scenario wasn't run to its end.
     #[error("{0}")]
     Bench(BenchError),
+    /// A server ended before its input did.
+    #[error("{0}")]
+    Serve(ServeError),
     /// Memory was refused elsewhere.
     #[error("E57 Memory")]
     Memory,
@@ -42,6 +46,7 @@ impl Fault {
             Fault::Scenario(Refusal::Line { .. }) => REFUSED,
             Fault::Scenario(Refusal::Memory) => NO_MEMORY,
             Fault::Bench(error) => error.status(),
+            Fault::Serve(error) => error.status(),
             Fault::Memory => NO_MEMORY,
         }
     }
@@ -74,6 +79,14 @@ impl From<BenchError> for Fault {
 
     fn from(error: BenchError) -> Fault {
         Fault::Bench(error)
+    }
+}
+
+impl From<ServeError> for Fault {
+    ghost from_gives = { λ e f. f ≡ faults.Serve e };
+
+    fn from(error: ServeError) -> Fault {
+        Fault::Serve(error)
     }
 }
 

@@ -1,16 +1,18 @@
 //! `nicbench`: takes the frames of a trace file through the modelled adapter's receive filter and a receive ring, runs
-//! a scenario of hosts on wires, or lists the frames of a trace.
+//! a scenario of hosts on wires, lists the frames of a trace, or serves a modelled adapter to a driver.
 #![tactic(auto)]
 
 mod fault;
 mod files;
 mod pass;
 mod run;
+mod serve;
 mod show;
 
 use crate::fault::Fault;
 use crate::pass::run_pass;
 use crate::run::run_scenario;
+use crate::serve::run_serve;
 use crate::show::run_show;
 use command_line::{Job, LineError, line};
 use std::alloc::Global;
@@ -76,6 +78,7 @@ fn main(rt: HostRuntime) -> ExitCode {
         Job::Pass(job) => run_pass(&rt, &job),
         Job::Run(job) => run_scenario(&rt, &job),
         Job::Show(job) => run_show(&rt, &job),
+        Job::Serve(job) => run_serve(&rt, &job),
     };
     match outcome {
         Ok(()) => ExitCode::SUCCESS,

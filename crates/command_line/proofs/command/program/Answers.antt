@@ -18,8 +18,9 @@ returns-clause-app c =
     ≡ on_top (λ s. record s { subcommand_required = true; arg_required_else_help = true }) (new_app (codes "nicbench")) =
     helps ∙ ap (on_top (λ s. record s { arg_required_else_help = true })) (needs
     ∙ ap (on_top (λ s. record s { subcommand_required = true })) named) in
-    c.in_ok-with_show.ensures.shape c.in_ok-show.ensures.local
+    c.in_ok-with_serve.ensures.shape c.in_ok-serve.ensures.local
+    ∙ ap₂ with_subcommand (c.in_ok-with_show.ensures.shape c.in_ok-show.ensures.local
     ∙ ap₂ with_subcommand (c.in_ok-with_run.ensures.shape c.in_ok-run.ensures.local
     ∙ ap₂ with_subcommand (c.in_ok-with_pass.ensures.shape c.in_ok-pass.ensures.local
     ∙ ap₂ with_subcommand settings (ap (λ (a : App). a.top) c.in_ok-pass.ensures.app)) (ap (λ (a : App). a.top) c.in_ok-run.ensures.app))
-    (ap (λ (a : App). a.top) c.in_ok-show.ensures.app)
+    (ap (λ (a : App). a.top) c.in_ok-show.ensures.app)) (ap (λ (a : App). a.top) c.in_ok-serve.ensures.app)

@@ -1,0 +1,146 @@
+//! The job of `serve`, from what clap holds for its options.
+ghost use Rattle.std.specs.Prelude.{◌∷◌, IfErr, IfOk, [], codes};
+ghost use Rattle.clap.specs.Words.{first_of, found_of, rows_of};
+ghost use Rattle.command_line.specs.Jobs.{IsInvalidIn, IsServeJobOf, IsServable, IsValueOr};
+ghost use Rattle.command_line.specs.Spelling.{SpellsAddress, SpellsDecimal, SpellsKilobytes, SpellsLink, SpellsWord};
+ghost use Rattle.command_line.specs.declared.job.ServeLink.TheVariants.{After};
+
+use crate::spelling::{address_of, decimal_of, kilobytes_of, link_of, word_of};
+use crate::{InvalidValue, ServeJob, ServeLink, ValueOption};
+use clap::ArgMatches;
+
+const DEFAULT_MEMORY: u64 = 1 << 20;
+
+const DEFAULT_REGISTERS: u64 = 0xFEB0_0000;
+
+const DEFAULT_ADDRESS: [u8; 6] = [0x02, 0, 0, 0, 0, 0x01];
+
+const DEFAULT_LINK: ServeLink = ServeLink::After(1);
+
+const DEFAULT_KILOBYTES: u8 = 48;
+
+const DEFAULT_SEED: u64 = 0;
+
+fn memory<'a>(matches: &ArgMatches<'a>) -> Result<u64, InvalidValue<'a>>
+    ensures value { IfOk result (IsValueOr SpellsWord 0x100000
+        (first_of (codes "memory") (rows_of (found_of matches.now)))) }
+    ensures refused { IfErr result (IsInvalidIn (rows_of (found_of matches.now))) }
+{
+    match matches.get_str("memory") {
+        Some(text) => match word_of(text) {
+            Some(memory) => Ok(memory),
+            None => Err(InvalidValue {
+                option: ValueOption::Memory,
+                text,
+            }),
+        },
+        None => Ok(DEFAULT_MEMORY),
+    }
+}
+
+fn registers<'a>(matches: &ArgMatches<'a>) -> Result<u64, InvalidValue<'a>>
+    ensures value { IfOk result (IsValueOr SpellsWord 0xFEB00000
+        (first_of (codes "registers") (rows_of (found_of matches.now)))) }
+    ensures refused { IfErr result (IsInvalidIn (rows_of (found_of matches.now))) }
+{
+    match matches.get_str("registers") {
+        Some(text) => match word_of(text) {
+            Some(registers) => Ok(registers),
+            None => Err(InvalidValue {
+                option: ValueOption::Registers,
+                text,
+            }),
+        },
+        None => Ok(DEFAULT_REGISTERS),
+    }
+}
+
+fn address<'a>(matches: &ArgMatches<'a>) -> Result<[u8; 6], InvalidValue<'a>>
+    ensures value { IfOk result (IsValueOr SpellsAddress (2 ∷ 0 ∷ 0 ∷ 0 ∷ 0 ∷ 1 ∷ [])
+        (first_of (codes "address") (rows_of (found_of matches.now)))) }
+    ensures refused { IfErr result (IsInvalidIn (rows_of (found_of matches.now))) }
+{
+    match matches.get_str("address") {
+        Some(text) => match address_of(text) {
+            Some(address) => Ok(address),
+            None => Err(InvalidValue {
+                option: ValueOption::Address,
+                text,
+            }),
+        },
+        None => Ok(DEFAULT_ADDRESS),
+    }
+}
+
+fn link<'a>(matches: &ArgMatches<'a>) -> Result<ServeLink, InvalidValue<'a>>
+    ensures value { IfOk result (IsValueOr SpellsLink (After 1)
+        (first_of (codes "link") (rows_of (found_of matches.now)))) }
+    ensures refused { IfErr result (IsInvalidIn (rows_of (found_of matches.now))) }
+{
+    match matches.get_str("link") {
+        Some(text) => match link_of(text) {
+            Some(link) => Ok(link),
+            None => Err(InvalidValue {
+                option: ValueOption::Link,
+                text,
+            }),
+        },
+        None => Ok(DEFAULT_LINK),
+    }
+}
+
+fn kilobytes<'a>(matches: &ArgMatches<'a>) -> Result<u8, InvalidValue<'a>>
+    ensures value { IfOk result (IsValueOr SpellsKilobytes 48
+        (first_of (codes "rxa") (rows_of (found_of matches.now)))) }
+    ensures refused { IfErr result (IsInvalidIn (rows_of (found_of matches.now))) }
+{
+    match matches.get_str("rxa") {
+        Some(text) => match kilobytes_of(text) {
+            Some(kilobytes) => Ok(kilobytes),
+            None => Err(InvalidValue {
+                option: ValueOption::Rxa,
+                text,
+            }),
+        },
+        None => Ok(DEFAULT_KILOBYTES),
+    }
+}
+
+fn seed<'a>(matches: &ArgMatches<'a>) -> Result<u64, InvalidValue<'a>>
+    ensures value { IfOk result (IsValueOr SpellsDecimal 0
+        (first_of (codes "seed") (rows_of (found_of matches.now)))) }
+    ensures refused { IfErr result (IsInvalidIn (rows_of (found_of matches.now))) }
+{
+    match matches.get_str("seed") {
+        Some(text) => match decimal_of(text) {
+            Some(seed) => Ok(seed),
+            None => Err(InvalidValue {
+                option: ValueOption::Seed,
+                text,
+            }),
+        },
+        None => Ok(DEFAULT_SEED),
+    }
+}
+
+/// The job of a `serve` with these matches.
+pub(crate) fn serve_job<'a>(matches: &ArgMatches<'a>) -> Result<ServeJob, InvalidValue<'a>>
+    ensures bounds { IfOk result IsServable }
+    ensures job { IfOk result (IsServeJobOf (rows_of (found_of matches.now))) }
+    ensures refused { IfErr result (IsInvalidIn (rows_of (found_of matches.now))) }
+{
+    let memory = memory(matches)?;
+    let registers = registers(matches)?;
+    let address = address(matches)?;
+    let link = link(matches)?;
+    let receive_kilobytes = kilobytes(matches)?;
+    let seed = seed(matches)?;
+    Ok(ServeJob {
+        memory,
+        registers,
+        address,
+        link,
+        receive_kilobytes,
+        seed,
+    })
+}

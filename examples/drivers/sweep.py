@@ -1,0 +1,111 @@
+#!/usr/bin/env python3
+"""Runs the driver over a sweep of seeds, as it should be and with each of its bugs.
+
+usage: sweep.py PROGRAM [SEEDS]          seeds 1 to SEEDS (default 100)
+       sweep.py PROGRAM --bug BUG SEED   one run, with its whole log
+
+PROGRAM is `nicbench`. Each run brings an adapter up, and then lets frames come and sends some. A seed says which steps the adapter
+takes between the accesses of the driver, so a seed that fails fails each time. The exit status is 0 where the right driver passes and
+each bug is found, and of one run where it passes.
+"""
+
+import sys
+
+sys.dont_write_bytecode = True
+from adapter import Adapter, Refused  # noqa: E402
+from driver import BUGS, DeviceError, Driver  # noqa: E402
+
+ROUNDS = 8
+# How many steps are played before an access at most.
+STEPS = 3
+SELF, OTHER = bytes.fromhex("020000000001"), bytes.fromhex("020000000009")
+
+
+def frame_of(number, to, source):
+    """A frame of its own length and bytes."""
+    return to + source + b"\x88\xb5" + bytes([number]) * (46 + number)
+
+
+def handle(adapter, driver):
+    """The handler is called as long as the interrupt line is asserted."""
+    while adapter.line:
+        driver.interrupt()
+
+
+def fault_of(name, wanted, got):
+    """What is wrong with a list of frames, or None."""
+    for number, frame in enumerate(wanted):
+        if number == len(got):
+            return f"frame {number} was never {name}"
+        if got[number] != frame:
+            return f"frame {number} was {name} as one of {len(got[number])} bytes, in place of {len(frame)}"
+    return None if len(got) == len(wanted) else f"a frame was {name} that never was"
+
+
+def exchange(adapter, driver):
+    """Rounds of frames that come and are sent. What was wrong behind one, or None; and where the log of the last one begins."""
+    came, sent = [], []
+    for number in range(ROUNDS):
+        begins = len(adapter.told)
+        for frame in (frame_of(2 * number + n, SELF, OTHER) for n in range(2)):
+            if adapter.arrive(frame) == "stored":
+                came.append(frame)
+        frame = frame_of(number, OTHER, SELF)
+        if driver.send(frame):
+            sent.append(frame)
+        handle(adapter, driver)
+        # Now the adapter does all that is left. Where it doesn't call the driver for that, nobody does.
+        adapter.settle()
+        handle(adapter, driver)
+        fault = fault_of("received", came, driver.received) or fault_of("sent", sent, adapter.wire)
+        if fault:
+            return fault, begins
+    return None, begins
+
+
+def run(program, seed, bug=None):
+    """A run: what was wrong, its log, and where the log of its last round begins."""
+    with Adapter(program, "--seed", str(seed)) as adapter:
+        adapter.log(True)
+        adapter.interleave(STEPS)
+        driver = Driver(adapter, bug)
+        driver.bring_up()
+        fault, begins = exchange(adapter, driver)
+        return fault, adapter.told, begins
+
+
+def sweep(program, seeds, name, bug=None):
+    """Prints the first seed that fails, and gives it with the log of the round in which it does; None where all pass."""
+    for seed in range(1, seeds + 1):
+        fault, log, begins = run(program, seed, bug)
+        if fault:
+            print(f"{name}: seed {seed}: {fault}")
+            return seed, log[begins:]
+    print(f"{name}: seeds 1 to {seeds} pass")
+    return None
+
+
+def sweep_all(program, seeds):
+    """Prints the sweep of each driver, and then the logs. Whether the right one passes, and each bug is found."""
+    passes = sweep(program, seeds, "right") is None
+    found = {bug: sweep(program, seeds, bug, bug) for bug in BUGS}
+    for bug, failed in found.items():
+        if failed:
+            print(f"\n{bug}: {BUGS[bug]}. Seed {failed[0]}, the last round:")
+            print("\n".join(failed[1]))
+    return passes and None not in found.values()
+
+
+def main():
+    program, *words = sys.argv[1:]
+    if words[:1] == ["--bug"]:
+        fault, log, _ = run(program, int(words[2]), words[1])
+        print("\n".join([*log, fault or "passes"]))
+        return 0 if fault is None else 1
+    return 0 if sweep_all(program, int(words[0]) if words else 100) else 1
+
+
+try:
+    sys.exit(main())
+except (DeviceError, Refused) as error:
+    sys.exit(f"sweep.py: {error}")
