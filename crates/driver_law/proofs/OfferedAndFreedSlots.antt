@@ -176,8 +176,10 @@ frame_is_offered driver frame world ready room least short stands =
         mask = refl;
         sum = omega arith;
         counted = λ fits low. omega arith;
+        sticks = λ fits much. omega (arith, much);
         at_most = omega arith;
         exactly = λ exact below_greatest. record { exact = exact; below_greatest = below_greatest; sum = omega arith };
+        stays_exact = λ exact below low. exact;
       };
       causes = λ bit has. has;
       told = inl (omega (arith, ap length done.finished_same));

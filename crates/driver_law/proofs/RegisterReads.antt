@@ -1,7 +1,7 @@
 -- A register is read.
 use Rattle.std.proofs.Common.{Bool, IsTrue, nat_lt, ◌&&◌, ◌≡◌, ◌≢◌, ◌≤◌, ◌<◌, ◌+◌, ◌-◌, ◌^◌, [], ℕ, Option, None, Some, length, min, inl}
 use Rattle.std.proofs.Common.{refl, sym, ap, subst, ◌∙◌, arith}
-use Rattle.std.proofs.lemmas.Bool.{and_parts, ltb-true}
+use Rattle.std.proofs.lemmas.Bool.{and_parts, lt-ltb, ltb-true}
 use Rattle.std.proofs.lemmas.List.{append-nil}
 use Rattle.registers.specs.Bits.{HasBit}
 use Rattle.registers.specs.Counting.{greatest_count}
@@ -86,15 +86,22 @@ abbrev IsCounted : ℕ → ℕ → ℕ → ℕ → Type 0
 IsCounted missed packets missed' packets' = packets + 0 ≤ greatest_count → missed + packets + 0 < 2 ^ 64
     → missed' + packets' ≡ missed + packets + 0
 
+-- It stays at the greatest u64.
+abbrev Sticks : ℕ → ℕ → ℕ → ℕ → Type 0
+Sticks missed packets missed' packets' = packets + 0 ≤ greatest_count → 2 ^ 64 - 1 ≤ missed + packets + 0 → 2 ^ 64 - 1 ≤ missed' + packets'
+
 -- A read of any register, where it is known what becomes of the sum.
 flows-read : {up : Bool} (driver : DriverState) (offset missed : ℕ) (exact : Bool) (a : World) → ReadyWith up driver a
     → driver.missed ≤ missed
     → IsCounted driver.missed a.adapter.missed_packets missed (world_after_read offset a).adapter.missed_packets
+    → Sticks driver.missed a.adapter.missed_packets missed (world_after_read offset a).adapter.missed_packets
     → missed + (world_after_read offset a).adapter.missed_packets ≤ driver.missed + a.adapter.missed_packets
     → (IsTrue exact → (world_after_read offset a).adapter.missed_packets < greatest_count
     → IsExact driver a (record driver { missed = missed; exact = exact }) (world_after_read offset a) nothing)
+    → (IsTrue driver.exact → a.adapter.missed_packets + 0 < greatest_count → driver.missed + a.adapter.missed_packets + 0 < 2 ^ 64
+    → IsTrue exact)
     → FlowsTo up driver a (record driver { missed = missed; exact = exact }) (world_after_read offset a) [] [] nothing
-flows-read {up} driver offset missed exact a ready more counted most exactly =
+flows-read {up} driver offset missed exact a ready more counted sticks most exactly stays_exact =
     let b = world_after_read offset a in
     let read = read-offset offset a in
     let leaves = reads_leave_frames driver.oldest_receive driver.oldest_transmit offset a ready.sound in
@@ -108,8 +115,10 @@ flows-read {up} driver offset missed exact a ready more counted most exactly =
       mask = read.mask;
       sum = more;
       counted = counted;
+      sticks = sticks;
       at_most = omega (arith, most);
       exactly = exactly;
+      stays_exact = stays_exact;
     }
 
 -- Where MPC and the sum are as they were.
@@ -117,8 +126,10 @@ flows-same : {up : Bool} (driver : DriverState) (offset : ℕ) (a : World) → R
     → (world_after_read offset a).adapter.missed_packets ≡ a.adapter.missed_packets
     → FlowsTo up driver a driver (world_after_read offset a) [] [] nothing
 flows-same driver offset a ready same =
-    flows-read driver offset driver.missed driver.exact a ready (omega arith) (λ fits low. omega (arith, same)) (omega (arith, same))
+    flows-read driver offset driver.missed driver.exact a ready (omega arith) (λ fits low. omega (arith, same))
+    (λ fits much. omega (arith, same, much)) (omega (arith, same))
     (λ exact below_greatest. record { exact = exact; below_greatest = omega (arith, below_greatest, same); sum = omega (arith, same) })
+    (λ exact below low. exact)
 
 -- ICR
 
@@ -141,13 +152,17 @@ misses_are_read up driver world fits ready =
     let missed = min (driver.missed + value) (2 ^ 64 - 1) in
     record {
       flows = flows-read driver 0x4010 missed (driver.exact && adds_exactly driver.missed value) world ready (omega (arith, fits))
-          (λ most low. omega (arith, shown, none, low)) (omega (arith, shown, none))
+          (λ most low. omega (arith, shown, none, low)) (λ most much. omega (arith, shown, none, much)) (omega (arith, shown, none))
           (λ exact below_greatest.
           let both = and_parts driver.exact (adds_exactly driver.missed value) exact in
           let tests = and_parts (nat_lt value greatest_count) (nat_lt (driver.missed + value) (2 ^ 64)) both.1 in
           let below_greatest = ltb-true value greatest_count tests.0 in
           let sum = ltb-true (driver.missed + value) (2 ^ 64) tests.1 in
-          record { exact = both.0; below_greatest = omega (arith, below_greatest, shown); sum = omega (arith, sum, shown, none) });
+          record { exact = both.0; below_greatest = omega (arith, below_greatest, shown); sum = omega (arith, sum, shown, none) })
+          (λ exact below low.
+          ap (λ (e : Bool). e && adds_exactly driver.missed value) exact
+          ∙ ap (λ (e : Bool). e && nat_lt (driver.missed + value) (2 ^ 64)) (lt-ltb value greatest_count (omega (arith, below, shown)))
+          ∙ lt-ltb (driver.missed + value) (2 ^ 64) (omega (arith, low, shown)));
       causes = λ place has. has;
       told = inl (omega (arith, same));
     }

@@ -57,9 +57,11 @@ goes-passes {up} d buffers staged pool handed_out a b past passes ready =
         mask = passes.mask;
         sum = omega arith;
         counted = λ fits low. let same = passes.missed fits in omega (arith, same);
+        sticks = λ fits much. let same = passes.missed fits in omega (arith, same, much);
         at_most = omega (arith, passes.missed_most);
         exactly = λ exact below_greatest. let same = passes.missed_below_greatest below_greatest in record
             { exact = exact; below_greatest = omega (arith, same, below_greatest); sum = omega (arith, same) };
+        stays_exact = λ exact below low. exact;
       };
       causes = passes.causes;
       told =

@@ -37,6 +37,7 @@ goes-rests {up} driver a driver' b ready rests = record {
     mask = rests.mask;
     sum = omega (arith, rests.missed);
     counted = λ fits low. omega (arith, rests.missed, rests.missed_packets);
+    sticks = λ fits much. omega (arith, rests.missed, rests.missed_packets, much);
     at_most = omega (arith, rests.missed, rests.missed_packets);
     exactly = λ exact below_greatest. record {
       exact = subst IsTrue rests.exact exact;
@@ -44,6 +45,7 @@ goes-rests {up} driver a driver' b ready rests = record {
       sum = omega
           (arith, rests.missed, rests.missed_packets);
     };
+    stays_exact = λ exact below low. subst IsTrue (sym rests.exact) exact;
   };
   causes = λ place has. subst (λ (causes : ℕ). HasBit causes place) (sym rests.recorded) has;
   told = inl (omega (arith, ap length rests.finished_same));

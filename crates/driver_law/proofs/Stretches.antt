@@ -1,6 +1,7 @@
 -- Two stretches of a driver's run join, and no work is forgotten over one.
-use Rattle.std.proofs.Common.{Bool, ◌≡◌, ◌+◌, ◌++◌, ◌∷◌, [], ℕ, List, length, refl, inl, inr, ⊎_elim, subst, sym, ap, ◌∙◌, add-zero}
-use Rattle.std.proofs.Common.{append_assoc, length-append, arith}
+use Rattle.std.proofs.Common.{Bool, ◌≡◌, ◌≤◌, ◌<◌, ◌^◌, ◌+◌, ◌++◌, ◌∷◌, [], ℕ, List, length, refl, inl, inr, ⊎_elim, subst, sym, ap, ◌∙◌}
+use Rattle.std.proofs.Common.{add-zero, append_assoc, length-append, arith}
+use Rattle.std.proofs.lemmas.Bool.{cases_lt}
 use Rattle.std.proofs.lemmas.List.{append-nil}
 use Rattle.std.proofs.lemmas.List.Elements.{All-append}
 use Rattle.registers.specs.Bits.{HasBit}
@@ -40,11 +41,24 @@ flows_join d1 d2 d3 a b c t1 t2 g1 g2 first later one two = record {
       let before = one.counted (omega (arith, fits)) (omega (arith, low)) in
       let behind = two.counted (omega (arith, before, one.sum, fits)) (omega (arith, before, low)) in
       omega (arith, before, behind);
+  sticks = λ fits much.
+      let behind = two.sticks (omega (arith, one.at_most, one.sum, fits)) in
+      ⊎_elim
+      (λ (low : d1.missed + a.adapter.missed_packets + first.missed < 2 ^ 64).
+      let before = one.counted (omega (arith, fits)) low in
+      behind (omega (arith, before, much)))
+      (λ (high : 2 ^ 64 ≤ d1.missed + a.adapter.missed_packets + first.missed).
+      let before = one.sticks (omega (arith, fits)) (omega (arith, high)) in
+      behind (omega (arith, before)))
+      (cases_lt (d1.missed + a.adapter.missed_packets + first.missed) (2 ^ 64));
   at_most = omega (arith, one.at_most, two.at_most);
   exactly = λ exact below_greatest.
       let behind = two.exactly exact below_greatest in
       let before = one.exactly behind.exact behind.below_greatest in
       record { exact = before.exact; below_greatest = before.below_greatest; sum = omega (arith, before.sum, behind.sum) };
+  stays_exact = λ exact below low.
+      let before = one.stays_exact exact (omega (arith, below)) (omega (arith, low)) in
+      two.stays_exact before (omega (arith, one.at_most, one.sum, below)) (omega (arith, one.at_most, low));
 }
 
 pub goes_join : {first_up up : Bool} (d1 d2 d3 : DriverState) (a b c : World) (t1 t2 g1 g2 : List (List ℕ)) (first later : Past)

@@ -192,8 +192,10 @@ oldest_can_be_taken up d m rest slots a ready buffers done =
         mask = refl;
         sum = omega arith;
         counted = λ fits low. omega arith;
+        sticks = λ fits much. omega (arith, much);
         at_most = omega arith;
         exactly = λ exact below_greatest. record { exact = exact; below_greatest = below_greatest; sum = omega arith };
+        stays_exact = λ exact below low. exact;
       };
       causes = λ place has. has;
       told = inl (omega (arith, ap length done, ap length at.behind));

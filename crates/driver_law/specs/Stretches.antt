@@ -1,5 +1,5 @@
 -- A stretch of a driver's run: what happens meanwhile, and what it does itself (own).
-use Rattle.std.specs.Prelude.{◌≡◌, ◌≤◌, ◌<◌, ◌⊎◌, ◌^◌, ◌+◌, ◌++◌, ℕ, Bool, true, List, [], All, IsTrue, length}
+use Rattle.std.specs.Prelude.{◌≡◌, ◌≤◌, ◌<◌, ◌⊎◌, ◌^◌, ◌+◌, ◌-◌, ◌++◌, ℕ, Bool, true, List, [], All, IsTrue, length}
 use Rattle.registers.specs.Bits.{HasBit}
 use Rattle.registers.specs.Counting.{greatest_count}
 use Rattle.adapter.specs.HostFrames.{frames_held, frames_to_send}
@@ -39,9 +39,17 @@ pub record FlowsTo (up : Bool) (d : DriverState) (a : World) (d' : DriverState) 
   pub counted :
       a.adapter.missed_packets + past.missed ≤ greatest_count → d.missed + a.adapter.missed_packets + past.missed < 2 ^ 64
       → d'.missed + b.adapter.missed_packets ≡ d.missed + a.adapter.missed_packets + past.missed
+  -- Where it reaches the greatest u64 it stays there, while MPC doesn't stick.
+  pub sticks :
+      a.adapter.missed_packets + past.missed ≤ greatest_count → 2 ^ 64 - 1 ≤ d.missed + a.adapter.missed_packets + past.missed
+      → 2 ^ 64 - 1 ≤ d'.missed + b.adapter.missed_packets
   -- It never counts too many, and none too few where it is exact at the end and MPC doesn't stick.
   pub at_most : d'.missed + b.adapter.missed_packets ≤ d.missed + a.adapter.missed_packets + past.missed
   pub exactly : IsTrue d'.exact → b.adapter.missed_packets < greatest_count → IsExact d a d' b past
+  -- It stays exact while neither sticks.
+  pub stays_exact :
+      IsTrue d.exact → a.adapter.missed_packets + past.missed < greatest_count
+      → d.missed + a.adapter.missed_packets + past.missed < 2 ^ 64 → IsTrue d'.exact
 
 -- And ICR wasn't read: causes are only added, and as many slots are finished as at the beginning, less those taken, or RXT0, bit 7, is
 -- recorded.

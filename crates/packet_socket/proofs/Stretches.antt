@@ -1,5 +1,5 @@
 -- Stretches of a host's run.
-use Rattle.std.proofs.Common.{Bool, ◌≡◌, ◌≤◌, ◌<◌, ◌+◌, ◌-◌, ◌^◌, ◌++◌, ◌∷◌, [], ℕ, List, length, map, refl, sym, ap, subst, ◌∙◌, arith}
+use Rattle.std.proofs.Common.{Bool, ◌≡◌, ◌++◌, [], ℕ, List, map, refl, sym, ap, subst, ◌∙◌, arith}
 use Rattle.std.specs.List.{All}
 use Rattle.std.proofs.lemmas.List.{append-nil}
 use Rattle.dma_memory.specs.Layout.{Counts}
@@ -14,11 +14,9 @@ use Rattle.driver_law.specs.DriverState.{DriverState, HandedOut, holding}
 use Rattle.driver_law.specs.Stretches.{FlowsTo, GoesTo, RanBy}
 use Rattle.driver_law.specs.ReadyDrivers.{ReadyWith, Stands}
 use Rattle.driver.specs.SendSteps.{Answer, Transmits, accesses_by, accepted_by}
-use Rattle.driver.specs.TakenFrames.{GrowsBy}
-use Rattle.driver.specs.declared.receiver.Received.{Received}
 use Rattle.packet_socket.specs.HostCalls.{HostTransmits}
 use Rattle.packet_socket.specs.HostStretches.{Accounts, Given, HostFlowsTo, HostGoesTo}
-use Rattle.packet_socket.specs.HeldFrames.{HostReady, HostReadyWith, driver_of, waiting_frame, waiting_frames, waiting_entry}
+use Rattle.packet_socket.specs.HeldFrames.{HostReady, HostReadyWith, driver_of, waiting_frame, waiting_frames}
 use Rattle.packet_socket.specs.HostState.{HostState}
 use Rattle.packet_socket.specs.SocketsState.{all_of, queue_at}
 use Rattle.packet_socket.proofs.Accounts.{accounts, accounts-join}
@@ -69,9 +67,11 @@ flows-hold d a e b taken sent past held flows ready = record {
   mask = flows.mask;
   sum = flows.sum;
   counted = flows.counted;
+  sticks = flows.sticks;
   at_most = flows.at_most;
   exactly = λ exact below_greatest. let all =
       flows.exactly exact below_greatest in record { exact = all.exact; below_greatest = all.below_greatest; sum = all.sum };
+  stays_exact = flows.stays_exact;
 }
 
 abbrev pub goes-hold : {up : Bool} (d : DriverState) (a : World) (e : DriverState) (b : World) (taken sent : List (List ℕ)) (past : Past)
