@@ -1,5 +1,5 @@
 -- The steps of its adapter in a drain.
-use Rattle.std.proofs.Common.{◌≡◌, ◌≢◌, ◌≤◌, ◌<◌, ◌+◌, ◌-◌, ◌*◌, ◌++◌, ◌∷◌, [], ℕ, Bool, true, false, Option, Some, None, List, length}
+use Rattle.std.proofs.Common.{◌≡◌, ◌≢◌, ◌≤◌, ◌<◌, ◌+◌, ◌-◌, ◌*◌, ◌⊎◌, ◌++◌, ◌∷◌, [], ℕ, Bool, true, false, Option, Some, None, List, length}
 use Rattle.std.proofs.Common.{refl, sym, ap, subst, ◌∙◌, arith, if◌then◌else◌, inl, inr, replicate}
 use Rattle.std.specs.List.{All}
 use Rattle.std.proofs.lemmas.Bool.{eq-eqb}
@@ -33,7 +33,7 @@ use Rattle.packet_socket.specs.HostState.{HostState}
 use Rattle.host_calls.proofs.Calling.{runs-alone}
 use Rattle.host_calls.proofs.HostTrails.{happens-alone, none-alone}
 use Rattle.host_calls.specs.CallsOfHosts.{HostRuns}
-use Rattle.host_drain.specs.DrainedHosts.{CanBeDrained}
+use Rattle.host_drain.specs.DrainedHosts.{CanBeDrained, IsDrainStep}
 use Rattle.host_drain.specs.DrainSteps.{StepsOn, count_line, count_pending}
 use Rattle.host_drain.proofs.JoinedSteps.{nothing-stored}
 use Rattle.host_drain.proofs.SocketCounts.{held-counted, held-flows}
@@ -116,7 +116,7 @@ count_asked world = count_pending world.adapter.receiver.work (count_line world.
 
 -- A step of an adapter is one of the drain, where it brings frames nearer to their end, and nothing else happens.
 step-on : (steps moves place : ℕ) (kind : StepKind) (answer : Stepped) (a b : List StationState) (h : HostState)
-    → CanBeDrained h (world_at a place) → TakesStep place kind answer a b
+    → (kind ≡ RxData) ⊎ (kind ≡ RxDone) → CanBeDrained h (world_at a place) → TakesStep place kind answer a b
     → happened_in (At place (Steps kind true answer) ∷ []) ≡ replicate moves (Moved place)
     → count_buffered (world_at a place) ≡ moves + count_buffered (world_at b place)
     → (world_at b place).adapter.filter ≡ (world_at a place).adapter.filter
@@ -125,7 +125,7 @@ step-on : (steps moves place : ℕ) (kind : StepKind) (answer : Stepped) (a b : 
     → 2 * count_buffered (world_at a place) + count_work (world_at a place)
     ≤ steps + 2 * count_buffered (world_at b place) + count_work (world_at b place)
     → StepsOn steps place a b h h []
-step-on steps moves place kind answer a b h stands takes moved buffered filter fewer least =
+step-on steps moves place kind answer a b h receives stands takes moved buffered filter fewer least =
     let played = At place (Steps kind true answer) ∷ [] in
     let runs = step-runs place kind answer a b h stands takes in
     let total = held-stays place moves played a b h takes.leads moved runs in
@@ -134,6 +134,7 @@ step-on steps moves place kind answer a b h stands takes moved buffered filter f
     record {
       played = played;
       leads = takes.leads;
+      only = All-cons (IsDrainStep place) (At place (Steps kind true answer)) [] (refl, receives) (all-none (IsDrainStep place));
       taken = [];
       runs = runs;
       moves = moves;
@@ -156,18 +157,20 @@ done-steps place a b h stands takes =
     ap (λ (w : World). count_buffered w) takes.world in
     let pending = before.1 (count_line (world_at a place).adapter.causes) in
     let pending' = behind.1 (count_line (world_at b place).adapter.causes) in
-    step-on 1 0 place RxDone stepped.Done a b h stands takes refl (omega (arith, same)) (ap (λ (w : World). w.adapter.filter) takes.world)
-    (omega (arith, before.0, behind.0, same, pending, pending')) (omega (arith, before.0, behind.0, same))
+    step-on 1 0 place RxDone stepped.Done a b h (inr refl) stands takes refl (omega (arith, same))
+    (ap (λ (w : World). w.adapter.filter) takes.world) (omega (arith, before.0, behind.0, same, pending, pending'))
+    (omega (arith, before.0, behind.0, same))
 
 -- There was none.
-idle-steps : (place : ℕ) (kind : StepKind) (a b : List StationState) (h : HostState) → CanBeDrained h (world_at a place)
+idle-steps : (place : ℕ) (kind : StepKind) (a b : List StationState) (h : HostState) → (kind ≡ RxData) ⊎ (kind ≡ RxDone)
+    → CanBeDrained h (world_at a place)
     → TakesStep place kind stepped.Nothing a b → (world_at b place).adapter ≡ (world_at a place).adapter → StepsOn 0 place a b h h []
-idle-steps place kind a b h stands takes same =
+idle-steps place kind a b h receives stands takes same =
     let buffer = ap (λ (s : AdapterState). length s.receiver.buffer) same in
     let work = ap (λ (s : AdapterState). length (slot_of_work s.receiver.work)) same in
     let pending = ap (λ (s : AdapterState). count_pending s.receiver.work (count_line s.causes)) same in
-    step-on 0 0 place kind stepped.Nothing a b h stands takes refl (omega (arith, buffer)) (ap (λ (s : AdapterState). s.filter) same)
-    (omega (arith, buffer, work, pending)) (omega (arith, buffer, work))
+    step-on 0 0 place kind stepped.Nothing a b h receives stands takes refl (omega (arith, buffer))
+    (ap (λ (s : AdapterState). s.filter) same) (omega (arith, buffer, work, pending)) (omega (arith, buffer, work))
 
 -- What a done step answers is that it ended a frame, or that there was none.
 pub finishes-done : (place : ℕ) (a b : List StationState) (h : HostState) (result : StepOutcome) → place < length a
@@ -186,7 +189,7 @@ pub finishes-none : (place : ℕ) (a b : List StationState) (h : HostState) (res
     → CanBeDrained h (world_at a place) → StepsOn 0 place a b h h []
 finishes-none place a b h outcome.Nothing below adapter answers is other stands =
     let takes = takes-step place RxDone stepped.Nothing a b below (λ e. absurd (cc e)) adapter answers is in
-    idle-steps place RxDone a b h stands takes (ap (λ (w : World). w.adapter) takes.world)
+    idle-steps place RxDone a b h (inr refl) stands takes (ap (λ (w : World). w.adapter) takes.world)
 finishes-none place a b h outcome.Done below adapter answers is other stands = absurd (other refl)
 finishes-none place a b h result below adapter answers is other stands = absurd answers
 
@@ -222,7 +225,7 @@ moved-steps place a b h stands free takes =
     ap (λ (w : World). count_buffered w) takes.world ∙ length-drop 1 (world_at a place).adapter.receiver.buffer in
     let pending = before.1 (count_line (world_at a place).adapter.causes) in
     let pending' = behind.1 (count_line (world_at b place).adapter.causes) in
-    step-on 1 1 place RxData stepped.Moved a b h stands takes refl (omega (arith, some, fewer))
+    step-on 1 1 place RxData stepped.Moved a b h (inl refl) stands takes refl (omega (arith, some, fewer))
     (ap (λ (w : World). w.adapter.filter) takes.world) (omega (arith, before.0, behind.0, some, fewer, pending, pending'))
     (omega (arith, before.0, behind.0, some, fewer))
 
@@ -249,7 +252,7 @@ pub moves-none : (place : ℕ) (a b : List StationState) (h : HostState) (result
 moves-none place a b h outcome.Nothing below adapter answers is other stands =
     let takes = takes-step place RxData stepped.Nothing a b below (λ e. absurd (cc e)) adapter answers is in
     let same = ap (λ (w : World). w.adapter) takes.world in
-    record { on = idle-steps place RxData a b h stands takes same; takes = takes; same = same }
+    record { on = idle-steps place RxData a b h (inl refl) stands takes same; takes = takes; same = same }
 moves-none place a b h outcome.Fault below adapter answers is other stands =
     let takes = takes-step place RxData stepped.Fault a b below (λ e. absurd (cc e)) adapter answers is in
     let runs = (step-runs place RxData stepped.Fault a b h stands takes).flows.flows.ready.runs.receiver_runs in

@@ -36,12 +36,12 @@ use Rattle.interrupt_causes.specs.InterruptCauses.{ReadsIcrFirst}
 use Rattle.host_calls.specs.CallAnswers.{AnswersRecv, InterruptRuns, given_by}
 use Rattle.host_calls.specs.CallsOfHosts.{CallRuns, HostRuns, IsOfDriver}
 use Rattle.packet_socket.specs.QueueLaws.{queue-within}
-use Rattle.host_drain.specs.DrainedHosts.{count_held}
+use Rattle.host_drain.specs.DrainedHosts.{IsDrainStep, count_held}
 use Rattle.host_drain.specs.DrainSteps.{StepsOn, count_line}
 use Rattle.host_drain.proofs.AdapterSteps.{work-none}
 use Rattle.host_drain.proofs.JoinedSteps.{nothing-stored}
-use Rattle.host_drain.proofs.QuietCalls.{IsAccess, LeavesEngine, accesses-alone, events-elsewhere, events-here, nothing-happened}
-use Rattle.host_drain.proofs.QuietCalls.{trail-clears, trail-leaves}
+use Rattle.host_drain.proofs.QuietCalls.{IsAccess, LeavesEngine, accesses-alone, drain-steps, events-elsewhere, events-here}
+use Rattle.host_drain.proofs.QuietCalls.{nothing-happened, trail-clears, trail-leaves}
 use Rattle.host_drain.proofs.SocketCounts.{given-sum, held-counted, held-flows, queues-flow, sum_to}
 
 -- What a call without ticks leaves.
@@ -49,6 +49,7 @@ record Quiet (place : ℕ) (played : List AtomicStep) (a b : List StationState) 
   happened : happened_in played ≡ []
   engine : LeavesEngine (world_at a place).adapter (world_at b place).adapter
   alone : (k : ℕ) → k ≢ place → events_at k played ≡ []
+  only : All (IsDrainStep place) played
 
 quiet : (place : ℕ) (played : List AtomicStep) (a b : List StationState) (counts : Counts) → LeadsTo place played a b
     → without_go is_go (map tick_of played) ≡ [] → All (IsOfDriver counts) (past_at place played).accesses → Quiet place played a b
@@ -59,6 +60,7 @@ quiet place played a b counts leads none own =
       engine = trail-leaves counts (events_at place played) (world_at a place) (world_at b place) (events-here place place played are) own
           (trail-of place place played a b leads);
       alone = λ k other. events-elsewhere place k played other are;
+      only = drain-steps place played are;
     }
 
 -- The line isn't asserted behind a call where it wasn't before.
@@ -119,6 +121,7 @@ one-call place n played a b h h' taken given leads none runs fits fits' known fr
     record {
       played = played;
       leads = leads;
+      only = calm.only;
       taken = taken;
       runs = runs;
       moves = 0;

@@ -193,6 +193,7 @@ drains steps place a b h h' given on none stands adapter =
     let gone : past.put ≡ [] = sym moves.put ∙ ap (put place) on.moved ∙ moves-put place on.moves place in
     let lost : past.missed ≡ 0 = sym moves.missed ∙ ap (missed place) on.moved ∙ moves-missed place on.moves place in
     let flows = on.runs.flows.flows in
+    let small = adapter.registers.counters.missed in
     let accounts = on.runs.flows.accounts in
     let behind = held-counted h'.driver.oldest_receive two in
     let empty = ap length none.held in
@@ -228,12 +229,17 @@ drains steps place a b h h' given on none stands adapter =
       others = λ k other.
           subst (λ (list : List Event). Trail list (world_at a k) (world_at b k)) (on.alone k other)
           (trail-of place k on.played a b on.leads);
-      misses = λ fits.
-          let small = adapter.registers.counters.missed in
-          let all = flows.counted (omega (arith, small, lost)) (omega (arith, fits, lost)) in
-          omega (arith, all, lost);
+      misses = record {
+        sum = λ fits. let all = flows.counted (omega (arith, small, lost)) (omega (arith, fits, lost)) in omega (arith, all, lost);
+        sticks = λ much. flows.sticks (omega (arith, small, lost)) (omega (arith, much, lost));
+        exact = λ exact below fits. (
+          flows.stays_exact exact (omega (arith, below, lost)) (omega (arith, fits, lost)),
+          omega (arith, flows.at_most, flows.sum, below, lost),
+        );
+      };
       played = on.played;
       leads = on.leads;
+      only = on.only;
       taken = on.taken;
       runs = on.runs;
       moved =

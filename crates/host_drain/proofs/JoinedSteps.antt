@@ -2,6 +2,7 @@
 use Rattle.std.proofs.Common.{◌≡◌, ◌≢◌, ◌+◌, ◌++◌, ◌∷◌, [], ℕ, zero, suc, Bool, false, List, length, replicate, refl, sym, ap, subst, ◌∙◌}
 use Rattle.std.proofs.Common.{arith, length-append}
 use Rattle.std.proofs.lemmas.List.{replicate-append-replicate}
+use Rattle.std.proofs.lemmas.List.Elements.{All-append}
 use Rattle.std.proofs.lemmas.Grind.{flat_map-append}
 use Rattle.registers.specs.Bits.{HasBit}
 use Rattle.registers.specs.Places.{rctl_en}
@@ -18,7 +19,7 @@ use Rattle.packet_socket.specs.HostState.{HostState}
 use Rattle.packet_socket.specs.HostStretches.{Given}
 use Rattle.host_calls.proofs.Calling.{ready-behind, runs-alone, runs-join}
 use Rattle.host_calls.proofs.HostTrails.{happens-alone, none-alone}
-use Rattle.host_drain.specs.DrainedHosts.{CanBeDrained}
+use Rattle.host_drain.specs.DrainedHosts.{CanBeDrained, IsDrainStep}
 use Rattle.host_drain.specs.DrainSteps.{StepsInto, StepsOn, steps_of}
 
 -- The host can still be drained.
@@ -37,6 +38,7 @@ pub steps-none : (place : ℕ) (a : List StationState) (h : HostState) → CanBe
 steps-none place a h stands = record {
   played = [];
   leads = refl;
+  only = all-none (IsDrainStep place);
   taken = [];
   runs = runs-alone place [] a a h stands.ready (happens-alone place place [] a a (all-none IsTick) refl)
       (none-alone place [] (all-none IsTick));
@@ -58,6 +60,7 @@ steps-join m n place a b c h1 h2 h3 given more one two =
     record {
       played = one.played ++ two.played;
       leads = leads_join place one.played two.played a b c one.leads two.leads;
+      only = All-append (IsDrainStep place) one.played two.played one.only two.only;
       taken = one.taken ++ two.taken;
       runs = runs-join place one.played two.played a b c h1 h2 h3 one.taken two.taken given more [] [] one.runs.flows.flows.counts
           one.runs two.runs;

@@ -25,6 +25,7 @@ use Rattle.stations.specs.declared.tick.Tick.{Tick}
 use Rattle.lent_bus.specs.AtomicRuns.{LeadsTo, events_at, is_go}
 use Rattle.delivery.specs.Happenings.{happened_in}
 use Rattle.host_calls.specs.CallsOfHosts.{IsOfDriver, IsTailWrite}
+use Rattle.host_drain.specs.DrainedHosts.{IsDrainStep}
 
 -- The engine, the filter and the mask of causes stay, and the recorded causes stay or are cleared.
 pub record LeavesEngine (a b : AdapterState) : Type 0 where
@@ -145,6 +146,19 @@ accesses-alone caller (At host (Accesses access) ∷ later) a b leads none =
     All-cons (IsAccessAt caller) (At host (Accesses access)) later leads.1
     (accesses-alone caller later (after (At host (Accesses access)) a) b leads.2 none)
 accesses-alone caller (Idles tick ∷ later) a b leads none = absurd (idle-none tick (map tick_of later) leads.1 none)
+
+-- They are steps that a drain may play.
+pub drain-steps : (caller : ℕ) (steps : List AtomicStep) → All (IsAccessAt caller) steps → All (IsDrainStep caller) steps
+drain-steps caller [] are = all-none (IsDrainStep caller)
+drain-steps caller (At host (Steps kind wire_free answer) ∷ later) are =
+    absurd (all-head (IsAccessAt caller) (At host (Steps kind wire_free answer)) later are)
+drain-steps caller (At host (Arrives frame fate) ∷ later) are =
+    absurd (all-head (IsAccessAt caller) (At host (Arrives frame fate)) later are)
+drain-steps caller (At host (Accesses access) ∷ later) are =
+    All-cons (IsDrainStep caller) (At host (Accesses access)) later
+    (all-head (IsAccessAt caller) (At host (Accesses access)) later are)
+    (drain-steps caller later (all-tail (IsAccessAt caller) (At host (Accesses access)) later are))
+drain-steps caller (Idles tick ∷ later) are = absurd (all-head (IsAccessAt caller) (Idles tick) later are)
 
 -- Nothing happens to frames,
 pub nothing-happened : (caller : ℕ) (steps : List AtomicStep) → All (IsAccessAt caller) steps → happened_in steps ≡ []

@@ -1,5 +1,5 @@
 -- The steps of a drain (own).
-use Rattle.std.specs.Prelude.{◌≡◌, ◌≢◌, ◌≤◌, ◌+◌, ◌*◌, ◌++◌, [], ℕ, Bool, Option, Some, None, List, bit_and, length, min, replicate}
+use Rattle.std.specs.Prelude.{◌≡◌, ◌≢◌, ◌≤◌, ◌+◌, ◌*◌, ◌++◌, [], ℕ, Bool, Option, Some, None, All, List, bit_and, length, min, replicate}
 use Rattle.std.specs.Prelude.{if◌then◌else◌}
 use Rattle.registers.specs.Interrupts.{Interrupts}
 use Rattle.rx_engine.specs.declared.engine.Work.{Work}
@@ -13,7 +13,7 @@ use Rattle.packet_socket.specs.HostState.{HostState}
 use Rattle.packet_socket.specs.HostStretches.{Given}
 use Rattle.packet_socket.specs.SocketsState.{all_of}
 use Rattle.host_calls.specs.CallsOfHosts.{HostRuns}
-use Rattle.host_drain.specs.DrainedHosts.{count_adapter_steps, count_held}
+use Rattle.host_drain.specs.DrainedHosts.{IsDrainStep, count_adapter_steps, count_held}
 
 -- The measure.
 
@@ -40,6 +40,7 @@ steps_of stepped = if stepped then 1 else 0
 pub record StepsOn (steps place : ℕ) (old new : List StationState) (h h' : HostState) (given : List Given) : Type 0 where
   pub played : List AtomicStep
   pub leads : LeadsTo place played old new
+  pub only : All (IsDrainStep place) played
   pub taken : List (List ℕ)
   pub runs : HostRuns place played old new h h' taken given []
   -- so many frames were moved out of the packet buffer, and nothing else happened, at this host alone

@@ -1,11 +1,14 @@
 -- A host that was drained: all that it held for its sockets was given (own).
-use Rattle.std.specs.Prelude.{◌≡◌, ◌≢◌, ◌≤◌, ◌+◌, ◌*◌, ◌^◌, ◌<◌, ◌++◌, [], ℕ, List, length, replicate}
+use Rattle.std.specs.Prelude.{◌≡◌, ◌≢◌, ◌≤◌, ◌+◌, ◌-◌, ◌*◌, ◌^◌, ◌<◌, ◌⊎◌, ◌++◌, [], ℕ, All, IsTrue, List, length, replicate}
 use Rattle.registers.specs.Bits.{HasBit}
+use Rattle.registers.specs.Counting.{greatest_count}
 use Rattle.registers.specs.Places.{rctl_en}
 use Rattle.adapter.specs.HostFrames.{frames_held, frames_to_send}
 use Rattle.adapter.specs.Slots.{in_work}
 use Rattle.adapter.specs.World.{World}
-use Rattle.stations.specs.AtomicSteps.{AtomicStep}
+use Rattle.adapter.specs.declared.step.StepKind.TheVariants.{RxData, RxDone}
+use Rattle.bus.specs.declared.event.Event.TheVariants.{Accesses, Arrives, Steps}
+use Rattle.stations.specs.AtomicSteps.{At, AtomicStep, Idles}
 use Rattle.stations.specs.Stations.{StationState, backlog_at, world_at}
 use Rattle.lent_bus.specs.AtomicRuns.{LeadsTo}
 use Rattle.delivery.specs.Happenings.{Moved, happened_in}
@@ -40,6 +43,23 @@ pub record HoldsNothing (host : HostState) (world : World) : Type 0 where
   pub held : frames_held host.driver.oldest_receive world ≡ []
   pub queued : all_of host.queues ≡ []
 
+-- The steps that a drain plays: accesses of the host, and RxData and RxDone of its adapter.
+abbrev pub IsDrainStep : (place : ℕ) → AtomicStep → Type 0
+IsDrainStep place (At host (Accesses access)) = host ≡ place
+IsDrainStep place (At host (Steps kind wire_free answer)) = (host ≡ place) × ((kind ≡ RxData) ⊎ (kind ≡ RxDone))
+IsDrainStep place (At host (Arrives frame fate)) = ⊥
+IsDrainStep place (Idles tick) = ⊥
+
+-- Misses are counted as before: the sum of those that the driver read and those in MPC stays as far as a u64 holds it, and so does that it
+-- is exact.
+pub record KeepsMisses (h : HostState) (a : World) (h' : HostState) (b : World) : Type 0 where
+  pub sum : h.driver.missed + a.adapter.missed_packets < 2 ^ 64
+      → h'.driver.missed + b.adapter.missed_packets ≡ h.driver.missed + a.adapter.missed_packets
+  pub sticks : 2 ^ 64 - 1 ≤ h.driver.missed + a.adapter.missed_packets → 2 ^ 64 - 1 ≤ h'.driver.missed + b.adapter.missed_packets
+  pub exact :
+      IsTrue h.driver.exact → a.adapter.missed_packets < greatest_count → h.driver.missed + a.adapter.missed_packets < 2 ^ 64
+      → IsTrue h'.driver.exact × (b.adapter.missed_packets < greatest_count)
+
 -- The drain of a host, in so many steps, gave these frames.
 pub record Drains (steps place : ℕ) (old new : List StationState) (h h' : HostState) (given : List Given) : Type 0 where
   -- At most four steps for each frame that it held, and one; and at least those of the adapter, and one for each frame given.
@@ -54,13 +74,11 @@ pub record Drains (steps place : ℕ) (old new : List StationState) (h h' : Host
   pub to_send : frames_to_send (world_at new place) ≡ frames_to_send (world_at old place)
   pub lines : (k : ℕ) → backlog_at new k ≡ backlog_at old k
   pub others : (k : ℕ) → k ≢ place → world_at new k ≡ world_at old k
-  -- So does the sum of the misses that the driver read and those in MPC, while a u64 holds it.
-  pub misses :
-      h.driver.missed + (world_at old place).adapter.missed_packets < 2 ^ 64
-      → h'.driver.missed + (world_at new place).adapter.missed_packets ≡ h.driver.missed + (world_at old place).adapter.missed_packets
+  pub misses : KeepsMisses h (world_at old place) h' (world_at new place)
   -- It went by these atomic steps: each frame of the packet buffer was moved, and beside what the host did nothing else happened.
   pub played : List AtomicStep
   pub leads : LeadsTo place played old new
+  pub only : All (IsDrainStep place) played
   pub taken : List (List ℕ)
   pub runs : HostRuns place played old new h h' taken given []
   pub moved : happened_in played ≡ replicate (length (world_at old place).adapter.receiver.buffer) (Moved place)
