@@ -1,6 +1,7 @@
 -- A drain of one host, as all hosts find it.
-use Rattle.std.proofs.Common.{◌≡◌, ◌≤◌, ◌<◌, ◌^◌, ◌++◌, [], ℕ, List, Option, Some, None}
-use Rattle.std.proofs.Common.{length, min, replicate, slice_set, refl, sym, ap, subst, ◌∙◌, arith}
+use Rattle.std.proofs.Common.{◌≡◌, ◌≤◌, ◌<◌, ◌^◌, ◌++◌, [], ℕ, List, Option, Some, None, ⊎_elim}
+use Rattle.std.proofs.Common.{length, replicate, slice_set, refl, sym, ap, subst, ◌∙◌, arith}
+use Rattle.std.proofs.lemmas.Bool.{cases_lt}
 use Rattle.std.proofs.lemmas.List.{append-nil, length-set}
 use Rattle.std.proofs.lemmas.Option.{slice_get_past}
 use Rattle.circular_buffer.proofs.Places.{slice_get-set_other}
@@ -10,9 +11,9 @@ use Rattle.packet_socket.specs.HostStretches.{Given}
 use Rattle.stations.specs.AtomicSteps.{AtomicStep}
 use Rattle.stations.specs.Stations.{StationState, wire_at, world_at, world_of}
 use Rattle.delivery.specs.Happenings.{Happening, Moved, happened_in, of_host}
-use Rattle.host_drain.specs.DrainedHosts.{CanBeDrained, Drains, DrainsInto}
+use Rattle.host_drain.specs.DrainedHosts.{CanBeDrained, Drains, DrainsInto, KeepsMisses}
 use Rattle.wire.specs.DrainedNetworks.{NetworkDrains, said_of_drain}
-use Rattle.wire.specs.Equations.{Delivers, counted, most_counted, sum_of}
+use Rattle.wire.specs.Equations.{Delivers, IsExact, counted, sum_of}
 use Rattle.wire.specs.Networks.{HostStands, IsHost, NetworkStands, NetworkState}
 use Rattle.wire.specs.EventParts.{HostsGo}
 use Rattle.wire.proofs.Delivering.{Tells, delivers-none}
@@ -39,9 +40,19 @@ tells-drain k host moves list steps wires moved =
 
 -- A host that is there.
 
-same-counted : (sum sum' : ℕ) → (sum < 2 ^ 64 → sum' ≡ sum) → sum ≤ most_counted → min sum' most_counted ≡ min sum most_counted
-same-counted sum sum' stays fits =
-    let same = stays (omega (arith, fits)) in omega (arith, same)
+same-counted : (h : HostState) (a : World) (h' : HostState) (b : World) → KeepsMisses h a h' b → counted h' b ≡ counted h a
+same-counted h a h' b keeps =
+    ⊎_elim
+    (λ (fits : sum_of h a < 2 ^ 64). let same = keeps.sum fits in omega (arith, same))
+    (λ (much : 2 ^ 64 ≤ sum_of h a). let stuck = keeps.sticks (omega (arith, much)) in omega (arith, stuck, much))
+    (cases_lt (sum_of h a) (2 ^ 64))
+
+stays-exact : (h : HostState) (a : World) (h' : HostState) (b : World) → KeepsMisses h a h' b → IsExact h a → IsExact h' b
+stays-exact h a h' b keeps is =
+    let fits : sum_of h a < 2 ^ 64 = let most = is.fits in omega (arith, most) in
+    let same = keeps.sum fits in
+    let both = keeps.exact is.exact is.below_greatest fits in
+    record { exact = both.0; below_greatest = both.1; fits = omega (arith, same, fits) }
 
 pub host-drained : (old : NetworkState) (stations : List StationState) (host steps : ℕ) (h h' : HostState) (before behind : List Given)
     → NetworkStands old → IsHost old host h → host < length old.hosts
@@ -67,13 +78,20 @@ host-drained old stations host steps h h' before behind stands there below into 
           let behind_is : is ≡ h' = caller-behind old.hosts host h h' is there now in
           subst (λ (w : HostState). Drains steps host old.stations stations w is into.given) (sym before_is)
           (subst (λ (w : HostState). Drains steps host old.stations stations h w into.given) (sym behind_is) drains);
-      counts = λ was is first now fits.
+      counts = λ was is first now.
           let before_is : was ≡ h = (let e : Some h ≡ Some was = sym there ∙ first in cc) in
           let behind_is : is ≡ h' = caller-behind old.hosts host h h' is there now in
           subst (λ (w : HostState). counted is (world_at stations host) ≡ counted w (world_at old.stations host)) (sym before_is)
           (subst (λ (w : HostState). counted w (world_at stations host) ≡ counted h (world_at old.stations host)) (sym behind_is)
-          (same-counted (sum_of h (world_at old.stations host)) (sum_of h' (world_at stations host)) drains.misses
-          (subst (λ (w : HostState). sum_of w (world_at old.stations host) ≤ most_counted) before_is fits)));
+          (same-counted h (world_at old.stations host) h' (world_at stations host) drains.misses));
+      exact = λ was is first now. (
+        λ exact. ((go.delivers host was is first now).misses_are_counted.exactly exact).0,
+        (let before_is : was ≡ h = (let e : Some h ≡ Some was = sym there ∙ first in cc) in
+        let behind_is : is ≡ h' = caller-behind old.hosts host h h' is there now in
+        subst (λ (w : HostState). IsExact w (world_at old.stations host) → IsExact is (world_at stations host)) (sym before_is)
+        (subst (λ (w : HostState). IsExact h (world_at old.stations host) → IsExact w (world_at stations host)) (sym behind_is)
+        (stays-exact h (world_at old.stations host) h' (world_at stations host) drains.misses))),
+      );
       absent = λ past. absurd (omega (arith, past, below));
       hosts = go.hosts;
       others = λ k other. slice_get-set_other old.hosts host k h' other;
@@ -93,7 +111,8 @@ absent-drained old host before stands past =
       given = [];
       appended = sym (append-nil before);
       drains = λ was is first now. absurd (let e : Some was ≡ None = sym first ∙ nobody in cc);
-      counts = λ was is first now fits. absurd (let e : Some was ≡ None = sym first ∙ nobody in cc);
+      counts = λ was is first now. absurd (let e : Some was ≡ None = sym first ∙ nobody in cc);
+      exact = λ was is first now. absurd (let e : Some was ≡ None = sym first ∙ nobody in cc);
       absent = λ beyond. (refl, refl, refl);
       hosts = refl;
       others = λ k other. refl;

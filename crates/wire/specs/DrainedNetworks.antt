@@ -1,11 +1,11 @@
 -- A network of which a host was drained (own).
-use Rattle.std.specs.Prelude.{◌≡◌, ◌≢◌, ◌≤◌, ◌++◌, [], ℕ, List, length, map, replicate, slice_get}
+use Rattle.std.specs.Prelude.{◌≡◌, ◌≢◌, ◌↔◌, ◌≤◌, ◌++◌, [], ℕ, List, length, map, replicate, slice_get}
 use Rattle.packet_socket.specs.HostState.{HostState}
 use Rattle.packet_socket.specs.HostStretches.{Given as GivenFrame}
 use Rattle.stations.specs.Stations.{world_at}
 use Rattle.delivery.specs.Happenings.{Given, Happening, Moved}
 use Rattle.host_drain.specs.DrainedHosts.{Drains}
-use Rattle.wire.specs.Equations.{Delivers, counted, most_counted, sum_of}
+use Rattle.wire.specs.Equations.{Delivers, IsExact, counted}
 use Rattle.wire.specs.Networks.{IsHost, NetworkStands, NetworkState}
 
 -- What a drain says of frames: one was moved out of the host's packet buffer for each that was there, then each was given.
@@ -17,9 +17,11 @@ pub record NetworkDrains (old : NetworkState) (host steps : ℕ) (before behind 
   pub given : List GivenFrame
   pub appended : behind ≡ before ++ given
   pub drains : (h h' : HostState) → IsHost old host h → IsHost new host h' → Drains steps host old.stations new.stations h h' given
-  -- its count of misses stays, where the u64 holds it
-  pub counts : (h h' : HostState) → IsHost old host h → IsHost new host h' → sum_of h (world_at old.stations host) ≤ most_counted
+  -- its count of misses stays, and whether that is exact
+  pub counts : (h h' : HostState) → IsHost old host h → IsHost new host h'
       → counted h' (world_at new.stations host) ≡ counted h (world_at old.stations host)
+  pub exact : (h h' : HostState) → IsHost old host h → IsHost new host h'
+      → IsExact h' (world_at new.stations host) ↔ IsExact h (world_at old.stations host)
   pub absent : length old.hosts ≤ host → (steps ≡ 0) × (given ≡ []) × (new ≡ old)
   -- every other host stays; its adapter, its memory and its end of its wire do by `drains`
   pub hosts : length new.hosts ≡ length old.hosts
