@@ -1,5 +1,5 @@
 -- What atomic steps leave of each host: its world goes by a trail of events.
-use Rattle.std.proofs.Common.{◌≡◌, ◌≢◌, ◌==◌, ◌&&◌, ◌++◌, ◌∷◌, [], not, ℕ, Bool, true, false, List, All, Option, Some, None, slice_get}
+use Rattle.std.proofs.Common.{◌≡◌, ◌==◌, ◌&&◌, ◌++◌, ◌∷◌, [], not, ℕ, Bool, true, false, List, All, Option, Some, None, slice_get}
 use Rattle.std.proofs.Common.{option_map}
 use Rattle.std.proofs.Common.{if◌then◌else◌, inl, inr, refl, sym, ap, subst, ◌∙◌}
 use Rattle.std.proofs.lemmas.Bool.{cases_Bool}
@@ -11,10 +11,10 @@ use Rattle.bus.specs.Trails.{IsStep, Occurs, Trail, past_of_event, world_after}
 use Rattle.bus.specs.declared.event.Event.{Event}
 use Rattle.bus.specs.declared.event.Event.TheVariants.{Accesses, Arrives, Steps}
 use Rattle.stations.proofs.Places.{after-is, get-at_each}
-use Rattle.stations.specs.AtomicSteps.{At, AtomicStep, Idles, OccursAt, after}
+use Rattle.stations.specs.AtomicSteps.{At, AtomicStep, Idles, OccursAt}
 use Rattle.stations.specs.Stations.{StationState, each_after, station_after, stations_after, wire_at, wire_of, with_frames, world_at}
 use Rattle.stations.specs.Stations.{world_of}
-use Rattle.lent_bus.specs.AtomicRuns.{IsOfCall, IsTick, LeadsTo, events_at}
+use Rattle.lent_bus.specs.AtomicRuns.{IsTick, LeadsTo, events_at}
 
 -- Where a host is, what it has is found at its place.
 record Stands (ss : List StationState) (host wire : ℕ) : Type 0 where

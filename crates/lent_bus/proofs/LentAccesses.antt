@@ -1,6 +1,6 @@
 -- An access over a lent bus, behind what comes before it.
-use Rattle.std.proofs.Common.{◌≡◌, ◌<◌, ◌+◌, ◌++◌, ◌==◌, ◌∷◌, [], ℕ, List, All, Bool, true, inl, inr, length, map, min, slice_get, Some}
-use Rattle.std.proofs.Common.{if◌then◌else◌, refl, sym, ap, subst, ◌∙◌, append_assoc, arith}
+use Rattle.std.proofs.Common.{◌≡◌, ◌<◌, ◌+◌, ◌++◌, ◌∷◌, [], ℕ, List, All, Bool, inl, inr, length, min}
+use Rattle.std.proofs.Common.{if◌then◌else◌, refl, sym, ap, subst, ◌∙◌, arith}
 use Rattle.std.proofs.lemmas.Bool.{eq-eqb}
 use Rattle.std.proofs.lemmas.List.{append-nil, map-append}
 use Rattle.std.proofs.lemmas.Option.{slice_get_cases}
@@ -8,8 +8,7 @@ use Rattle.adapter.specs.State.{IsAdapter}
 use Rattle.adapter.specs.World.{World}
 use Rattle.bus.proofs.Trails.{trail_happens}
 use Rattle.bus.specs.Law.{Acts}
-use Rattle.bus.specs.PastOfStretch.{Past, joined, nothing}
-use Rattle.bus.specs.TickGroups.{group_of}
+use Rattle.bus.specs.PastOfStretch.{joined}
 use Rattle.bus.specs.TrailLaws.{past_of-append, same_past}
 use Rattle.bus.specs.Trails.{IsAnswered, IsStep, Trail, past_of, world_after_access}
 use Rattle.bus.specs.declared.event.Access.{Access}
@@ -18,7 +17,7 @@ use Rattle.bus.specs.declared.event.Event.{Event}
 use Rattle.bus.specs.declared.event.Event.TheVariants.{Accesses}
 use Rattle.solo_bus.proofs.SoloAccesses.{happens_accesses, no_access}
 use Rattle.stations.proofs.Places.{set-after, set-same}
-use Rattle.stations.specs.AtomicSteps.{At, AtomicStep, OccursAt, tick_of}
+use Rattle.stations.specs.AtomicSteps.{At, OccursAt, tick_of}
 use Rattle.stations.specs.Stations.{StationState, stations_after, wire_of, world_at}
 use Rattle.stations.specs.declared.outcomes.Numbered.{Numbered}
 use Rattle.stations.specs.declared.tick.Tick.{Tick}
@@ -26,7 +25,7 @@ use Rattle.stations.specs.declared.tick.Tick.TheVariants.{Go}
 use Rattle.lent_bus.proofs.HostTrails.{steps-alone, trail-of, world-here}
 use Rattle.lent_bus.proofs.TickLoops.{counted-ticks}
 use Rattle.lent_bus.specs.AtomicRunLaws.{counted_join, leads_join, noted_join, past_join}
-use Rattle.lent_bus.specs.AtomicRuns.{LeadsTo, counted_of, events_at, is_go, most_accesses, noted_of, past_at}
+use Rattle.lent_bus.specs.AtomicRuns.{counted_of, events_at, most_accesses, noted_of, past_at}
 use Rattle.lent_bus.specs.Retelling.{Prepared, Retells, SameLent, bytes_here, world_here}
 use Rattle.lent_bus.specs.RetellingLaws.{same_lent_on}
 use Rattle.lent_bus.specs.declared.lent_bus.LentBus.{LentBus}

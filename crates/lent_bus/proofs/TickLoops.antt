@@ -1,5 +1,5 @@
 -- Ticks are played one after the other, in a loop.
-use Rattle.std.proofs.Common.{◌≡◌, ◌≢◌, ◌≤◌, ◌+◌, ◌++◌, ◌∷◌, [], Bool, false, true, ℕ, List, All, length, map, refl, sym, ap, subst, ◌∙◌}
+use Rattle.std.proofs.Common.{◌≡◌, ◌≢◌, ◌≤◌, ◌++◌, ◌∷◌, [], Bool, false, true, ℕ, List, All, length, refl, sym, ap, subst, ◌∙◌}
 use Rattle.std.proofs.Common.{append_assoc}
 use Rattle.std.proofs.Common.{arith, if◌then◌else◌, length-append, not}
 use Rattle.std.proofs.lemmas.List.{append-nil, map-append}
@@ -7,14 +7,14 @@ use Rattle.std.proofs.lemmas.List.Elements.{All-append, All-cons}
 use Rattle.bus.proofs.Lists.{all-head, all-none, all-tail}
 use Rattle.bus.specs.TickGroups.{behind_group, group_of, without_go}
 use Rattle.bus.specs.declared.event.Event.TheVariants.{Accesses, Arrives, Steps}
-use Rattle.stations.specs.AtomicSteps.{At, AtomicStep, Idles, PlaysNoted, outcome_of, tick_of}
+use Rattle.stations.specs.AtomicSteps.{At, AtomicStep, Idles, PlaysNoted, tick_of}
 use Rattle.stations.specs.Outcomes.{OutcomeList}
 use Rattle.stations.specs.Stations.{StationState}
 use Rattle.stations.specs.declared.outcomes.Numbered.{Numbered}
 use Rattle.stations.specs.declared.tick.Outcome.{Outcome}
 use Rattle.stations.specs.declared.tick.Tick.{Tick}
 use Rattle.stations.specs.declared.tick.Tick.TheVariants.{Deliver, Go, Step}
-use Rattle.lent_bus.specs.AtomicRunLaws.{counted_join, leads_join, noted_join}
+use Rattle.lent_bus.specs.AtomicRunLaws.{leads_join, noted_join}
 use Rattle.lent_bus.specs.AtomicRuns.{IsOfCall, IsTick, counted_by, counted_of, is_go, noted_by, noted_of, numbered}
 use Rattle.lent_bus.specs.PlayedTicks.{PlaysTicks}
 

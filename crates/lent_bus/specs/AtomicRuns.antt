@@ -1,5 +1,5 @@
 -- Atomic steps one after the other, in a call of one host or between calls (own).
-use Rattle.std.specs.Prelude.{⊤, ◌≡◌, ◌≢◌, ◌+◌, ◌==◌, ◌^◌, ◌-◌, ◌++◌, ℕ, Bool, false, true, List, [], ◌∷◌, min, if◌then◌else◌}
+use Rattle.std.specs.Prelude.{⊤, ◌≡◌, ◌+◌, ◌==◌, ◌^◌, ◌-◌, ◌++◌, ℕ, Bool, false, true, List, [], ◌∷◌, min, if◌then◌else◌}
 use Rattle.std.specs.List.{flat_map}
 use Rattle.bus.specs.PastOfStretch.{Past}
 use Rattle.bus.specs.Trails.{past_of}

@@ -1,5 +1,5 @@
 -- Where each frame went.
-use Rattle.std.proofs.Common.{◌≡◌, ◌≤◌, ◌<◌, ◌+◌, ◌-◌, ◌^◌, ◌++◌, ◌∷◌, [], ℕ, Bool, cond, List, length, map, refl, sym, ap, subst, ◌∙◌}
+use Rattle.std.proofs.Common.{◌≡◌, ◌+◌, ◌++◌, ℕ, cond, List, map, sym, ap, ◌∙◌}
 use Rattle.std.proofs.Common.{append_assoc, arith}
 use Rattle.std.specs.Prelude.{◌==◌}
 use Rattle.std.specs.List.{filter}
@@ -10,7 +10,7 @@ use Rattle.rx_filter.specs.Addresses.{ether_type}
 use Rattle.adapter.specs.HostFrames.{frames_held}
 use Rattle.adapter.specs.World.{World}
 use Rattle.driver.specs.TakenFrames.{GrowsBy}
-use Rattle.packet_socket.specs.HostStretches.{Accounts, Given, given_for, unclaimed_in}
+use Rattle.packet_socket.specs.HostStretches.{Accounts, Given, given_for}
 use Rattle.packet_socket.specs.HeldFrames.{socket_frames, waiting_frames, held_for_socket, without_socket}
 use Rattle.packet_socket.specs.HostState.{HostState}
 use Rattle.packet_socket.specs.SocketKinds.{goes_to, has_none}

@@ -1,11 +1,10 @@
 -- A host stays consistent in its calls, over any bus.
-use Rattle.std.proofs.Common.{◌≡◌, ◌+◌, ◌<◌, ◌≤◌, ◌++◌, ◌∷◌, [], ℕ, Bool, cond, List, length, map, replicate, refl, sym, ap, subst, ◌∙◌}
+use Rattle.std.proofs.Common.{◌≡◌, ◌+◌, ◌<◌, ◌≤◌, ◌++◌, ◌∷◌, [], ℕ, Bool, List, length, map, replicate, sym, ap, subst, ◌∙◌}
 use Rattle.std.proofs.Common.{length-append, arith}
-use Rattle.std.specs.List.{All, filter, slice_set}
-use Rattle.std.specs.List.Sorted.{IsPermutation}
-use Rattle.std.proofs.lemmas.List.{append-nil, length-map, length-replicate, length-set, map-append}
+use Rattle.std.specs.List.{slice_set}
+use Rattle.std.proofs.lemmas.List.{length-map, length-replicate, length-set, map-append}
 use Rattle.std.proofs.lemmas.List.Elements.{All-append, All-filter}
-use Rattle.std.proofs.lemmas.List.Sorted.{All-permutation, IsPermutation-map, length_permutation, sum_by-IsPermutation}
+use Rattle.std.proofs.lemmas.List.Sorted.{All-permutation, IsPermutation-map, sum_by-IsPermutation}
 use Rattle.dma_memory.specs.Owners.{HasNoSecondOwner, HaveSameNumbers, copies}
 use Rattle.dma_memory.specs.OwnersLaws.{copies-append, copies-cons, copies-itself, if_same, known_from_no_second, length-no_second}
 use Rattle.dma_memory.specs.OwnersLaws.{once_from_no_second}

@@ -1,8 +1,8 @@
 -- A host gives the oldest frame of a queue.
-use Rattle.std.proofs.Common.{Bool, true, false, cond, inl, inr, ◌≡◌, ◌≢◌, ◌≤◌, ◌<◌, ◌+◌, ◌-◌, ◌^◌, ◌++◌, ◌∷◌, [], ℕ, List, length, map}
+use Rattle.std.proofs.Common.{Bool, true, false, cond, inl, inr, ◌≡◌, ◌≢◌, ◌++◌, ◌∷◌, [], ℕ, List, length, map}
 use Rattle.std.proofs.Common.{refl, sym, ap, subst, ◌∙◌, arith}
 use Rattle.std.specs.Prelude.{◌==◌}
-use Rattle.std.specs.List.{All, slice_set}
+use Rattle.std.specs.List.{All}
 use Rattle.std.proofs.lemmas.Bool.Decides.{eqb_tells}
 use Rattle.std.proofs.lemmas.List.{append-nil, get_or-set_other, map-append}
 use Rattle.dma_memory.specs.Layout.{Counts}
@@ -20,7 +20,7 @@ use Rattle.driver.specs.RefillSteps.{Refills}
 use Rattle.driver.specs.TakenFrames.{AreFrames, IsFrameSize}
 use Rattle.driver.specs.declared.receiver.Received.{Received}
 use Rattle.packet_socket.specs.HostCalls.{Leaves, Receives, receive_accesses}
-use Rattle.packet_socket.specs.HostStretches.{Accounts, Given, given_for}
+use Rattle.packet_socket.specs.HostStretches.{Given, given_for}
 use Rattle.packet_socket.specs.HeldFrames.{HostReadyWith, driver_of, waiting_frame, waiting_frames, waiting_entry}
 use Rattle.packet_socket.specs.HostState.{HostState}
 use Rattle.packet_socket.specs.SocketsState.{all_of, queue_at}

@@ -1,47 +1,40 @@
 -- A host handles an interrupt.
-use Rattle.std.proofs.Common.{Bool, ◌≡◌, ◌≤◌, ◌<◌, ◌+◌, ◌-◌, ◌^◌, ◌++◌, ◌∷◌, [], ℕ, List, length, map, refl, sym, ap, subst, ◌∙◌}
+use Rattle.std.proofs.Common.{Bool, ◌≡◌, ◌≤◌, ◌+◌, ◌++◌, ◌∷◌, [], ℕ, List, length, map, refl, sym, ap, subst, ◌∙◌}
 use Rattle.std.proofs.Common.{length-append, arith}
 use Rattle.std.specs.List.{All, slice_index_or}
-use Rattle.std.specs.List.Sorted.{IsPermutation}
-use Rattle.std.proofs.lemmas.List.{append-nil, length-map, map-append}
+use Rattle.std.proofs.lemmas.List.{length-map, map-append}
 use Rattle.std.proofs.lemmas.List.Elements.{All-append, All-map}
 use Rattle.std.proofs.lemmas.List.Sorted.{All-permutation}
-use Rattle.registers.specs.Bits.{HasBit, Meet}
 use Rattle.dma_memory.specs.HostMemory.{bytes_at}
 use Rattle.dma_memory.specs.Layout.{Counts}
-use Rattle.dma_memory.specs.Owners.{HasNoSecondOwner, HasOneOwner, copies}
+use Rattle.dma_memory.specs.Owners.{HasNoSecondOwner, copies}
 use Rattle.dma_memory.specs.OwnersLaws.{copies-append, length-no_second}
-use Rattle.adapter.specs.HostFrames.{frames_held}
 use Rattle.adapter.specs.World.{World}
-use Rattle.bus.proofs.Lists.{all-left, all-right, all-unmapped}
-use Rattle.bus.specs.PastOfStretch.{Past, joined, nothing}
-use Rattle.bus.specs.declared.event.Access.{Access}
+use Rattle.bus.proofs.Lists.{all-left, all-right}
+use Rattle.bus.specs.PastOfStretch.{Past, joined}
 use Rattle.driver_law.proofs.Owners.{owners-count}
 use Rattle.driver_law.proofs.TakenSlots.{buffers_can_come_back}
-use Rattle.driver_law.specs.DriverState.{DriverState, HandedOut, buffer_at, holding, next_receive, numbers_of, owners}
-use Rattle.driver_law.specs.Stretches.{FlowsTo, GoesTo, HasNoForgottenWork, RanBy}
-use Rattle.driver_law.specs.RegisterReadings.{ReadsCauses, with_missed}
-use Rattle.driver_law.specs.ReadyDrivers.{IsDriver, ReadyWith, Stands}
-use Rattle.driver.specs.HandlerSteps.{Handles, HandlesBy, HandlesIt, LeavesIt, OnNotMine, OnTaken, handled_accesses}
-use Rattle.bring_up.specs.WrittenRegisters.{handled_causes}
-use Rattle.driver.specs.TakenFrames.{AreFrames, GrowsBy, IsFrameSize, IsPart, buffers_of, received_of}
+use Rattle.driver_law.specs.DriverState.{DriverState, HandedOut, buffer_at, holding, numbers_of}
+use Rattle.driver_law.specs.Stretches.{FlowsTo}
+use Rattle.driver_law.specs.RegisterReadings.{ReadsCauses}
+use Rattle.driver_law.specs.ReadyDrivers.{ReadyWith, Stands}
+use Rattle.driver.specs.HandlerSteps.{Handles, HandlesIt, LeavesIt, OnNotMine}
+use Rattle.driver.specs.TakenFrames.{GrowsBy, IsPart, buffers_of, received_of}
 use Rattle.driver.specs.declared.interrupt.Handled.{Handled}
 use Rattle.driver.specs.declared.interrupt.Handled.TheVariants.{NotMine}
 use Rattle.driver.specs.declared.interrupt.Handled.TheVariants as answers
 use Rattle.driver.specs.declared.receiver.Received.{Received}
-use Rattle.packet_socket.specs.HostCalls.{HostHandles, HostHandlesBy, HostLeaves, HostWorks, frames_taken}
-use Rattle.packet_socket.specs.HostStretches.{Accounts, HostFlowsTo}
+use Rattle.packet_socket.specs.HostCalls.{HostHandles, HostLeaves, HostWorks, frames_taken}
 use Rattle.packet_socket.specs.HeldFrames.{HostReadyWith, driver_of, waiting_frame, socket_frames, waiting_frames, waiting_entry}
 use Rattle.packet_socket.specs.HeldFrames.{without_socket}
 use Rattle.packet_socket.specs.HostState.{HostState}
 use Rattle.packet_socket.specs.InsideHost.{IsHost, host_with}
-use Rattle.packet_socket.specs.SocketsState.{Queues, SocketsState, Sorts, all_of, claimed_of, frames_of, queue_at, unclaimed_of}
-use Rattle.packet_socket.specs.declared.socket_kind.SocketKind.{SocketKind}
+use Rattle.packet_socket.specs.SocketsState.{Queues, SocketsState, Sorts, all_of, frames_of, queue_at}
 use Rattle.packet_socket.proofs.Accounts.{accounts}
 use Rattle.packet_socket.proofs.ShownFrames.{queue-frames, received-numbers, unclaimed-frames}
 use Rattle.packet_socket.proofs.ConsistentHosts.{kept-copies}
-use Rattle.packet_socket.proofs.WaitingFrames.{AreLong, AreSame, all-long, one-same, queue-frames-same}
-use Rattle.packet_socket.proofs.Stretches.{accounts-stay, driver-stays, flows-hold, goes-hold, queues-stand, with_driver}
+use Rattle.packet_socket.proofs.WaitingFrames.{AreLong, AreSame, all-long, queue-frames-same}
+use Rattle.packet_socket.proofs.Stretches.{accounts-stay, driver-stays, flows-hold, goes-hold, queues-stand}
 
 -- It does nothing.
 leaves : {up : Bool} {B : Type 0} (world : B → World) (happened : B → B → Past → Type 0) (old middle new : B) (h : HostState) (causes : ℕ)

@@ -1,5 +1,5 @@
 -- Queues, as the host keeps them.
-use Rattle.std.proofs.Common.{◌≡◌, ◌+◌, ◌-◌, ◌<◌, ◌++◌, ◌∷◌, [], ℕ, zero, suc, Some, None, Option, List, length, map, drop, replicate, refl}
+use Rattle.std.proofs.Common.{◌≡◌, ◌-◌, ◌<◌, ◌++◌, ◌∷◌, [], ℕ, zero, suc, Some, Option, List, length, map, drop, replicate, refl}
 use Rattle.std.proofs.Common.{sym, ap, subst, ◌∙◌, length-append, arith}
 use Rattle.std.specs.List.{All, slice_get, slice_index_or, slice_set}
 use Rattle.std.specs.Option.{IfSome}

@@ -1,18 +1,16 @@
 -- Frames that wait stand in memory.
-use Rattle.std.proofs.Common.{Bool, ◌≡◌, ◌≤◌, ◌<◌, ◌+◌, ◌-◌, ◌++◌, ◌∷◌, [], ℕ, zero, suc, List, length, map, refl, sym, ap, subst, ◌∙◌}
+use Rattle.std.proofs.Common.{Bool, ◌≡◌, ◌<◌, ◌∷◌, [], ℕ, zero, suc, List, length, map, ap, subst, ◌∙◌}
 use Rattle.std.proofs.Common.{arith}
 use Rattle.std.specs.List.{All, slice_index_or}
-use Rattle.dma_memory.specs.HostMemory.{LiesIn, bytes_at}
+use Rattle.dma_memory.specs.HostMemory.{bytes_at}
 use Rattle.dma_memory.specs.Laws.{length-bytes_at}
 use Rattle.dma_memory.specs.Layout.{Counts}
-use Rattle.dma_memory.specs.Owners.{copies}
 use Rattle.adapter.specs.World.{World}
 use Rattle.bus.proofs.Lists.{all-left, all-none, all-right, all-unmapped, map-same}
 use Rattle.driver_law.proofs.Buffers.{buffer-lies}
 use Rattle.driver_law.proofs.Owners.{all-copies, elsewhere-number}
-use Rattle.driver_law.specs.DriverState.{DriverState, HandedOut, buffer_at, holding, numbers_of}
-use Rattle.driver_law.specs.ReadyDrivers.{ReadyWith, Stands}
-use Rattle.driver.specs.TakenFrames.{AreFrames, IsFrameSize}
+use Rattle.driver_law.specs.DriverState.{HandedOut, buffer_at, holding, numbers_of}
+use Rattle.driver_law.specs.ReadyDrivers.{Stands}
 use Rattle.driver.specs.declared.receiver.Received.{Received}
 use Rattle.packet_socket.specs.HeldFrames.{HostReadyWith, driver_of, waiting_frame, waiting_entry}
 use Rattle.packet_socket.specs.HostState.{HostState}

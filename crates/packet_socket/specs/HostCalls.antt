@@ -1,7 +1,6 @@
 -- What a host does in its calls.
 use Rattle.std.specs.Prelude.{◌≡◌, ◌≤◌, ◌-◌, ◌++◌, ◌∷◌, ℕ, Bool, true, List, [], length, map, slice_set}
 use Rattle.registers.specs.Bits.{HasBit, Meet}
-use Rattle.dma_memory.specs.Layout.{Counts}
 use Rattle.adapter.specs.Slots.{finished}
 use Rattle.adapter.specs.World.{World}
 use Rattle.bus.specs.PastOfStretch.{Past, joined}
@@ -9,7 +8,7 @@ use Rattle.bus.specs.declared.event.Access.{Access}
 use Rattle.bus.specs.declared.event.Access.TheVariants.{Loads}
 use Rattle.driver_law.specs.Accesses.{stores_from, tail_write}
 use Rattle.driver_law.specs.DriverState.{DriverState, HandedOut, buffer_at, next_receive, numbers_of}
-use Rattle.driver_law.specs.Stretches.{HasNoForgottenWork, IsRefilled, RanBy}
+use Rattle.driver_law.specs.Stretches.{HasNoForgottenWork, RanBy}
 use Rattle.driver_law.specs.RegisterReadings.{ReadsCauses, with_missed}
 use Rattle.bring_up.specs.WrittenRegisters.{handled_causes}
 use Rattle.driver.specs.HandlerSteps.{LeavesIt, handled_accesses}
@@ -19,7 +18,7 @@ use Rattle.driver.specs.declared.interrupt.Handled.{Handled}
 use Rattle.driver.specs.declared.interrupt.Handled.TheVariants.{NotMine}
 use Rattle.driver.specs.declared.interrupt.Handled.TheVariants as answers
 use Rattle.driver.specs.declared.receiver.Received.{Received}
-use Rattle.packet_socket.specs.HostStretches.{Accounts, Given, HostFlowsTo, HostRanBy}
+use Rattle.packet_socket.specs.HostStretches.{HostFlowsTo, HostRanBy}
 use Rattle.packet_socket.specs.HeldFrames.{driver_of, waiting_frames}
 use Rattle.packet_socket.specs.HostState.{HostState}
 use Rattle.packet_socket.specs.SocketsState.{Queues, claimed_of, queue_at, unclaimed_of}

@@ -1,9 +1,8 @@
 -- How a host keeps its state (own).
-use Rattle.std.specs.Prelude.{◌≡◌, ◌++◌, ℕ, List, length}
+use Rattle.std.specs.Prelude.{◌≡◌, ◌++◌, length}
 use Rattle.dma_memory.specs.Owners.{HasNoSecondOwner}
 use Rattle.driver_law.specs.DriverState.{DriverState, owners}
 use Rattle.driver.specs.TakenFrames.{AreFrames, buffers_of}
-use Rattle.driver.specs.declared.receiver.Received.{Received}
 use Rattle.packet_socket.specs.HostState.{HostState}
 use Rattle.packet_socket.specs.SocketsState.{SocketsState, all_of}
 use Rattle.packet_socket.specs.declared.host.Host.TheInside.{Inside}

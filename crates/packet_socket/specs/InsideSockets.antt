@@ -1,5 +1,5 @@
 -- How a host keeps its sockets (own).
-use Rattle.std.specs.Prelude.{◌≡◌, ℕ, List, All, length, map}
+use Rattle.std.specs.Prelude.{◌≡◌, List, All, length, map}
 use Rattle.circular_buffer.specs.Buffer.{Buffer}
 use Rattle.driver.specs.declared.receiver.Received.{Received}
 use Rattle.packet_socket.specs.SocketsState.{SocketsState}

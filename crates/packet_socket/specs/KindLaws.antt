@@ -1,8 +1,8 @@
 -- The socket of an EtherType.
-use Rattle.std.proofs.Common.{◌≡◌, ◌≢◌, inl, inr, Bool, true, false, ℕ, Option, Some, None, List, refl, ap, sym, ◌∙◌, arith}
+use Rattle.std.proofs.Common.{◌≡◌, ◌≢◌, inl, inr, true, false, ℕ, Some, List, refl, ap, ◌∙◌}
 use Rattle.std.proofs.lemmas.Bool.{eq-eqb}
 use Rattle.std.proofs.lemmas.Bool.Decides.{eqb_tells}
-use Rattle.packet_socket.specs.SocketKinds.{goes_to, has_none, has_socket, is_at, socket_of}
+use Rattle.packet_socket.specs.SocketKinds.{goes_to, is_at, socket_of}
 use Rattle.packet_socket.specs.declared.socket_kind.SocketKind.{SocketKind}
 
 pub goes-there : (kinds : List SocketKind) (socket ether_type : ℕ) → socket_of kinds ether_type ≡ Some socket

@@ -1,6 +1,6 @@
 -- Frames that pass, one after the other.
-use Rattle.std.proofs.Common.{◌≡◌, ◌≤◌, ◌+◌, ◌-◌, ℕ, List, [], ◌∷◌, ◌++◌, true, false, cond, length, take, drop, Bool, Option, Some, None}
-use Rattle.std.proofs.Common.{refl, sym, ap, subst, ◌∙◌, append_assoc, append-nil, take-append-drop, arith}
+use Rattle.std.proofs.Common.{◌≡◌, ◌+◌, ℕ, List, [], ◌∷◌, ◌++◌, true, false, cond, length, take, Bool, Option}
+use Rattle.std.proofs.Common.{refl, sym, ap, subst, ◌∙◌, append_assoc, append-nil, arith}
 use Rattle.std.specs.Prelude.{count_by}
 use Rattle.std.specs.Io.KnownBytes.{Appends, append_known}
 use Rattle.std.proofs.KnownBytes.{Appends-nil, Appends-trans}
@@ -8,8 +8,8 @@ use Rattle.std.proofs.lemmas.List.{length-append, take_at}
 use Rattle.std.proofs.lemmas.List.Sums.{sum_by_push}
 use Rattle.descriptors.specs.Frames.{padded, is_sendable}
 use Rattle.pcap_trace.specs.Devices.{AppendsFront, Grows}
-use Rattle.pcap_trace.specs.Format.{Timed, packet_of, written, file_header}
-use Rattle.pcap_trace.proofs.Flushed.{flushed, flushed_front}
+use Rattle.pcap_trace.specs.Format.{Timed, packet_of, written}
+use Rattle.pcap_trace.proofs.Flushed.{flushed_front}
 use Rattle.pcap_trace.proofs.Packets.{written-push}
 use Rattle.pcap_bench.specs.Passing.{Filter, Fate, illegal, filtered, kept, IsFate, HaveFates, is_illegal, is_filtered, is_kept, kept_from}
 use Rattle.pcap_bench.specs.Passing.{StopsAmong}

@@ -1,5 +1,5 @@
 -- A tick is played.
-use Rattle.std.proofs.Common.{◌≡◌, ◌≢◌, ◌<◌, ◌↔◌, IsTrue, ℕ, Bool, true, false, List, [], ◌∷◌, Option, Some, None, length, slice_get}
+use Rattle.std.proofs.Common.{◌≡◌, ◌≢◌, ◌<◌, ◌↔◌, IsTrue, ℕ, Bool, true, false, List, [], Option, Some, length, slice_get}
 use Rattle.std.proofs.Common.{slice_set}
 use Rattle.std.proofs.Common.{option_map, refl, sym, ap, subst, ◌∙◌}
 use Rattle.circular_buffer.proofs.Places.{slice_get-set_other}
@@ -9,7 +9,6 @@ use Rattle.mdic_phy.specs.Mdic.{has_work}
 use Rattle.adapter.specs.Outcomes.{answer_with, put_by}
 use Rattle.adapter.specs.State.{AdapterState, IsAdapter}
 use Rattle.adapter.specs.Steps.{Answers, ticked}
-use Rattle.adapter.specs.World.{World}
 use Rattle.adapter.specs.declared.step.StepKind.{StepKind}
 use Rattle.adapter.specs.declared.step.StepKind.TheVariants.{EepromTick, PhyTick, RxData, RxDone, TxPut, TxTake}
 use Rattle.adapter.specs.declared.step.StepOutcome.{StepOutcome}
@@ -22,7 +21,6 @@ use Rattle.bus.specs.declared.event.Event.TheVariants.{Arrives, Steps}
 use Rattle.stations.specs.AtomicSteps.{At, FindsNothing, Idles, IsDelivered, OccursAt, Plays, SuitsWire}
 use Rattle.stations.specs.Outcomes.{answer_without_frame, outcome_of_step}
 use Rattle.stations.specs.Stations.{StationState, WireHasRoom, backlog_of, station_after, wire_of, with_frames, world_of}
-use Rattle.stations.specs.declared.tick.Outcome.{Outcome}
 use Rattle.stations.specs.declared.tick.Outcome.TheVariants.{Delivered, Nothing}
 use Rattle.stations.specs.declared.tick.Tick.{Tick}
 use Rattle.stations.specs.declared.tick.Tick.TheVariants.{Deliver, Step}

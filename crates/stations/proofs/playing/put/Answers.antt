@@ -1,4 +1,4 @@
-use Rattle.std.proofs.Common.{◌<◌, length, slice_index_or, ap, ◌∙◌, sym, subst}
+use Rattle.std.proofs.Common.{slice_index_or, ap, ◌∙◌, subst}
 use Rattle.std.proofs.lemmas.List.{get_or_default}
 use Rattle.std.proofs.lemmas.Option.{slice_get-get_or}
 use Rattle.adapter.specs.declared.step.StepKind.TheVariants.{TxPut}

@@ -1,4 +1,4 @@
-use Rattle.std.proofs.Common.{◌≡◌, ◌<◌, ◌∷◌, [], ℕ, slice_get, nat_lt, option_map, if◌then◌else◌}
+use Rattle.std.proofs.Common.{◌≡◌, ◌∷◌, [], ℕ, slice_get, nat_lt, option_map, if◌then◌else◌}
 use Rattle.stations.specs.Stations.{with_frames}
 use Rattle.stations.proofs.playing.spread.Given as goal
 

@@ -1,8 +1,8 @@
-use Rattle.std.proofs.Common.{◌<◌, ◌≤◌, ◌≡◌, ℕ, length, slice_get, slice_index_or, slice_set, Bool, true, arith, ap, ◌∙◌, sym, subst}
+use Rattle.std.proofs.Common.{◌<◌, ◌≤◌, length, slice_index_or, true, arith, sym, subst}
 use Rattle.std.proofs.lemmas.Option.{slice_get-get_or, slice_get_past}
 use Rattle.adapter.specs.Outcomes.{oldest, stepped_of}
 use Rattle.adapter.specs.declared.step.Stepped.{Stepped}
-use Rattle.stations.specs.Outcomes.{IsNoted, answer_without_frame, outcome_of_step}
+use Rattle.stations.specs.Outcomes.{IsNoted, outcome_of_step}
 use Rattle.stations.specs.declared.tick.Outcome.TheVariants.{Nothing}
 use Rattle.stations.specs.declared.tick.Tick.TheVariants.{Step}
 use Rattle.stations.proofs.PlayedTicks.{outcome-whole, plays-nothing, plays-stays, put-none}

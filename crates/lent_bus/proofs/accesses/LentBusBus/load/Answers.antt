@@ -1,4 +1,4 @@
-use Rattle.std.proofs.Common.{◌+◌, ◌≤◌, length, ap, arith, refl, ◌∙◌}
+use Rattle.std.proofs.Common.{length, ap, arith, refl, ◌∙◌}
 use Rattle.adapter.specs.World.{World}
 use Rattle.bus.specs.declared.event.Access.TheVariants.{Loads}
 use Rattle.lent_bus.proofs.LentAccesses.{acted, load-leaves, size-prepared, world-there}

@@ -1,4 +1,4 @@
-use Rattle.std.proofs.Common.{◌+◌, ◌≤◌, length, ap, arith, refl, ◌∙◌}
+use Rattle.std.proofs.Common.{length, ap, arith, refl, ◌∙◌}
 use Rattle.adapter.specs.World.{World}
 use Rattle.bus.specs.declared.event.Access.TheVariants.{Stores}
 use Rattle.dma_memory.specs.Laws.{length-with_bytes}

@@ -1,4 +1,4 @@
-use Rattle.std.proofs.Common.{◌≡◌, ◌≤◌, [], Err, IfErr, List, length, map, ap, refl, sym, subst, ◌∙◌, arith}
+use Rattle.std.proofs.Common.{◌≡◌, Err, IfErr, ap, refl, sym, subst, ◌∙◌}
 use Rattle.std.proofs.lemmas.Result.{err_from_is_err_and}
 use Rattle.dma_memory.specs.Layout.{Counts}
 use Rattle.dma_memory.specs.OwnersLaws.{no_second_from_one}
@@ -6,11 +6,9 @@ use Rattle.bring_up.specs.Configuration.{CanBeHad}
 use Rattle.bring_up.specs.declared.init_error.InitError.TheVariants.{Memory}
 use Rattle.bring_up.specs.declared.init_error.InitError.TheVariants as errors
 use Rattle.bus.specs.PastOfStretch.{nothing}
-use Rattle.driver_law.specs.DriverState.{DriverState, owners}
+use Rattle.driver_law.specs.DriverState.{owners}
 use Rattle.driver.specs.Initialisation.{Refuses}
-use Rattle.packet_socket.specs.InsideHost.{IsHost}
 use Rattle.packet_socket.proofs.ConsistentHosts.{new-host, new-ready}
-use Rattle.packet_socket.proofs.host.Host.new.Given.{Over}
 use Rattle.packet_socket.proofs.host.Host.new.Goals as goal
 
 pub returns-in_err-layout-clause-refuses : goal.returns-in_err-layout-clause-refuses

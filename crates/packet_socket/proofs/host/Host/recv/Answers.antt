@@ -1,13 +1,11 @@
-use Rattle.std.proofs.Common.{◌≡◌, ◌<◌, length, take, ◌∙◌, ap, sym, subst, arith}
+use Rattle.std.proofs.Common.{take, ap, sym, subst}
 use Rattle.driver_law.specs.DriverState.{DriverState}
 use Rattle.driver.specs.TakenFrames.{IsFrameSize}
 use Rattle.packet_socket.specs.HeldFrames.{driver_of}
 use Rattle.packet_socket.specs.InsideHost.{host_of, host_with}
 use Rattle.packet_socket.specs.SocketsState.{SocketsState}
 use Rattle.packet_socket.proofs.GivenFrames.{host-receives}
-use Rattle.packet_socket.proofs.QueueParts.{Splits, splits}
-use Rattle.packet_socket.proofs.ConsistentHosts.{CanComeBack, can-come-back, entry-splits, stays-host}
-use Rattle.packet_socket.proofs.host.Host.recv.Given.{Over}
+use Rattle.packet_socket.proofs.ConsistentHosts.{can-come-back, entry-splits, stays-host}
 use Rattle.packet_socket.proofs.host.Host.recv.Goals as goal
 
 pub read-size-requires-clause-known : goal.read-size-requires-clause-known

@@ -1,4 +1,3 @@
-use Rattle.driver_law.specs.DriverState.{HandedOut}
 use Rattle.packet_socket.specs.HeldFrames.{driver_of}
 use Rattle.packet_socket.specs.InsideHost.{host_of}
 use Rattle.packet_socket.proofs.Stretches.{host-transmits}

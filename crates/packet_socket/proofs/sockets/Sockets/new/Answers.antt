@@ -1,5 +1,4 @@
-use Rattle.std.proofs.Common.{◌≡◌, [], ℕ, List, length, replicate, map, sym, ap, ◌∙◌, arith}
-use Rattle.circular_buffer.specs.Buffer.{Buffer, buffer}
+use Rattle.std.proofs.Common.{◌≡◌, [], ℕ, List, length, replicate, map, ap, ◌∙◌, arith}
 use Rattle.driver.specs.declared.receiver.Received.{Received}
 use Rattle.packet_socket.specs.InsideSockets.{items_of}
 use Rattle.packet_socket.specs.SocketsState.{SocketsState}

@@ -1,5 +1,4 @@
-use Rattle.std.proofs.Common.{◌≡◌, ◌<◌, List, Option, length, sym, ap, subst, ◌∙◌, arith}
-use Rattle.packet_socket.specs.InsideSockets.{items_of}
+use Rattle.std.proofs.Common.{◌<◌, List, length, ap, arith}
 use Rattle.packet_socket.specs.SocketsState.{SocketsState}
 use Rattle.driver.specs.declared.receiver.Received.{Received}
 use Rattle.packet_socket.proofs.InsideQueues.{oldest-leaves, others-stay}
