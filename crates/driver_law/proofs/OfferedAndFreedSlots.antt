@@ -180,6 +180,7 @@ frame_is_offered driver frame world ready room least short stands =
         at_most = omega arith;
         exactly = λ exact below_greatest. record { exact = exact; below_greatest = below_greatest; sum = omega arith };
         stays_exact = λ exact below low. exact;
+        small = λ was. was;
       };
       causes = λ bit has. has;
       told = inl (omega (arith, ap length done.finished_same));

@@ -100,8 +100,9 @@ flows-read : {up : Bool} (driver : DriverState) (offset missed : ℕ) (exact : B
     → IsExact driver a (record driver { missed = missed; exact = exact }) (world_after_read offset a) nothing)
     → (IsTrue driver.exact → a.adapter.missed_packets + 0 < greatest_count → driver.missed + a.adapter.missed_packets + 0 < 2 ^ 64
     → IsTrue exact)
+    → ((driver.missed < greatest_count → IsTrue driver.exact) → missed < greatest_count → IsTrue exact)
     → FlowsTo up driver a (record driver { missed = missed; exact = exact }) (world_after_read offset a) [] [] nothing
-flows-read {up} driver offset missed exact a ready more counted sticks most exactly stays_exact =
+flows-read {up} driver offset missed exact a ready more counted sticks most exactly stays_exact small =
     let b = world_after_read offset a in
     let read = read-offset offset a in
     let leaves = reads_leave_frames driver.oldest_receive driver.oldest_transmit offset a ready.sound in
@@ -119,6 +120,7 @@ flows-read {up} driver offset missed exact a ready more counted sticks most exac
       at_most = omega (arith, most);
       exactly = exactly;
       stays_exact = stays_exact;
+      small = small;
     }
 
 -- Where MPC and the sum are as they were.
@@ -129,7 +131,7 @@ flows-same driver offset a ready same =
     flows-read driver offset driver.missed driver.exact a ready (omega arith) (λ fits low. omega (arith, same))
     (λ fits much. omega (arith, same, much)) (omega (arith, same))
     (λ exact below_greatest. record { exact = exact; below_greatest = omega (arith, below_greatest, same); sum = omega (arith, same) })
-    (λ exact below low. exact)
+    (λ exact below low. exact) (λ was. was)
 
 -- ICR
 
@@ -140,6 +142,14 @@ causes_are_read up driver world ready =
     record { flows = flows-same driver 0xC0 world ready same; cleared = refl }
 
 -- MPC
+
+-- An exact sum stays exact where neither sticks.
+adds : (exact : Bool) (missed value : ℕ) → IsTrue exact → value < greatest_count → missed + value < 2 ^ 64
+    → IsTrue (exact && adds_exactly missed value)
+adds exact missed value is below fits =
+    ap (λ (e : Bool). e && adds_exactly missed value) is
+    ∙ ap (λ (e : Bool). e && nat_lt (missed + value) (2 ^ 64)) (lt-ltb value greatest_count below)
+    ∙ lt-ltb (missed + value) (2 ^ 64) fits
 
 pub misses_are_read : MissesAreRead
 unfolding register_at
@@ -159,10 +169,8 @@ misses_are_read up driver world fits ready =
           let below_greatest = ltb-true value greatest_count tests.0 in
           let sum = ltb-true (driver.missed + value) (2 ^ 64) tests.1 in
           record { exact = both.0; below_greatest = omega (arith, below_greatest, shown); sum = omega (arith, sum, shown, none) })
-          (λ exact below low.
-          ap (λ (e : Bool). e && adds_exactly driver.missed value) exact
-          ∙ ap (λ (e : Bool). e && nat_lt (driver.missed + value) (2 ^ 64)) (lt-ltb value greatest_count (omega (arith, below, shown)))
-          ∙ lt-ltb (driver.missed + value) (2 ^ 64) (omega (arith, low, shown)));
+          (λ exact below low. adds driver.exact driver.missed value exact (omega (arith, below, shown)) (omega (arith, low, shown)))
+          (λ was below. adds driver.exact driver.missed value (was (omega (arith, below))) (omega (arith, below)) (omega (arith, below)));
       causes = λ place has. has;
       told = inl (omega (arith, same));
     }

@@ -62,6 +62,7 @@ goes-passes {up} d buffers staged pool handed_out a b past passes ready =
         exactly = λ exact below_greatest. let same = passes.missed_below_greatest below_greatest in record
             { exact = exact; below_greatest = omega (arith, same, below_greatest); sum = omega (arith, same) };
         stays_exact = λ exact below low. exact;
+        small = λ was. was;
       };
       causes = passes.causes;
       told =

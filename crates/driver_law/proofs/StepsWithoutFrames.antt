@@ -46,6 +46,7 @@ goes-rests {up} driver a driver' b ready rests = record {
           (arith, rests.missed, rests.missed_packets);
     };
     stays_exact = λ exact below low. subst IsTrue (sym rests.exact) exact;
+    small = λ was below. subst IsTrue (sym rests.exact) (was (omega (arith, below, rests.missed)));
   };
   causes = λ place has. subst (λ (causes : ℕ). HasBit causes place) (sym rests.recorded) has;
   told = inl (omega (arith, ap length rests.finished_same));

@@ -59,6 +59,7 @@ flows_join d1 d2 d3 a b c t1 t2 g1 g2 first later one two = record {
   stays_exact = λ exact below low.
       let before = one.stays_exact exact (omega (arith, below)) (omega (arith, low)) in
       two.stays_exact before (omega (arith, one.at_most, one.sum, below)) (omega (arith, one.at_most, low));
+  small = λ was. two.small (one.small was);
 }
 
 pub goes_join : {first_up up : Bool} (d1 d2 d3 : DriverState) (a b c : World) (t1 t2 g1 g2 : List (List ℕ)) (first later : Past)

@@ -196,6 +196,7 @@ oldest_can_be_taken up d m rest slots a ready buffers done =
         at_most = omega arith;
         exactly = λ exact below_greatest. record { exact = exact; below_greatest = below_greatest; sum = omega arith };
         stays_exact = λ exact below low. exact;
+        small = λ was. was;
       };
       causes = λ place has. has;
       told = inl (omega (arith, ap length done, ap length at.behind));

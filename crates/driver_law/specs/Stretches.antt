@@ -50,6 +50,8 @@ pub record FlowsTo (up : Bool) (d : DriverState) (a : World) (d' : DriverState) 
   pub stays_exact :
       IsTrue d.exact → a.adapter.missed_packets + past.missed < greatest_count
       → d.missed + a.adapter.missed_packets + past.missed < 2 ^ 64 → IsTrue d'.exact
+  -- It is exact below MPC's greatest value, where it was so at the beginning.
+  pub small : (d.missed < greatest_count → IsTrue d.exact) → d'.missed < greatest_count → IsTrue d'.exact
 
 -- And ICR wasn't read: causes are only added, and as many slots are finished as at the beginning, less those taken, or RXT0, bit 7, is
 -- recorded.

@@ -72,6 +72,7 @@ flows-hold d a e b taken sent past held flows ready = record {
   exactly = λ exact below_greatest. let all =
       flows.exactly exact below_greatest in record { exact = all.exact; below_greatest = all.below_greatest; sum = all.sum };
   stays_exact = flows.stays_exact;
+  small = flows.small;
 }
 
 abbrev pub goes-hold : {up : Bool} (d : DriverState) (a : World) (e : DriverState) (b : World) (taken sent : List (List ℕ)) (past : Past)
