@@ -8,6 +8,7 @@ use Rattle.network_plan.specs.declared.plan.HostPlan.{HostPlan}
 use Rattle.packet_socket.specs.HostState.{HostState}
 use Rattle.stations.specs.Stations.{StationState, world_of}
 use Rattle.wire.specs.Networks.{HostStands, NetworkStands, NetworkState}
+use Rattle.wire.proofs.Standing.{stands-with}
 
 pub made-stands : (plans : List HostPlan) (hosts : List HostState) (stations : List StationState)
     → AreUp plans (length plans) hosts stations
@@ -22,5 +23,5 @@ made-stands plans hosts stations up = record {
       let station = slice_get-some stations k (omega (arith, below, count, places)) in
       let up_is = up.each k plan.0 host station.0 plan.1 is station.1 in
       subst (λ (world : World). HostStands host world) (ap world_of (sym station.1))
-      (record { ready = up_is.ready; work = up_is.work; refilled = up_is.refilled; offered = up_is.offered; can = up_is.can });
+      (stands-with host station.0.world up_is.ready up_is.work up_is.refilled up_is.offered up_is.can (λ small. up_is.no_frames.exact));
 }

@@ -87,10 +87,10 @@ host-drained old stations host steps h h' before behind stands there below into 
       exact = λ was is first now. (
         λ exact. ((go.delivers host was is first now).misses_are_counted.exactly exact).0,
         (let before_is : was ≡ h = (let e : Some h ≡ Some was = sym there ∙ first in cc) in
-        let behind_is : is ≡ h' = caller-behind old.hosts host h h' is there now in
-        subst (λ (w : HostState). IsExact w (world_at old.stations host) → IsExact is (world_at stations host)) (sym before_is)
-        (subst (λ (w : HostState). IsExact h (world_at old.stations host) → IsExact w (world_at stations host)) (sym behind_is)
-        (stays-exact h (world_at old.stations host) h' (world_at stations host) drains.misses))),
+            let behind_is : is ≡ h' = caller-behind old.hosts host h h' is there now in
+            subst (λ (w : HostState). IsExact w (world_at old.stations host) → IsExact is (world_at stations host)) (sym before_is)
+            (subst (λ (w : HostState). IsExact h (world_at old.stations host) → IsExact w (world_at stations host)) (sym behind_is)
+            (stays-exact h (world_at old.stations host) h' (world_at stations host) drains.misses))),
       );
       absent = λ past. absurd (omega (arith, past, below));
       hosts = go.hosts;

@@ -3,11 +3,12 @@ use Rattle.std.proofs.Common.{◌≡◌, ◌≢◌, ◌<◌, [], ℕ, Bool, List
 use Rattle.std.proofs.Common.{length, slice_get}
 use Rattle.std.proofs.Common.{refl, sym, subst, ◌∙◌, arith, if◌then◌else◌, slice_set}
 use Rattle.std.specs.List.{All}
-use Rattle.std.specs.Prelude.{IfSome}
+use Rattle.std.specs.Prelude.{IfSome, IsTrue}
 use Rattle.std.proofs.lemmas.Bool.Decides.{eqb_tells}
 use Rattle.std.proofs.lemmas.Nat.{and_le_l}
 use Rattle.std.proofs.lemmas.Option.{slice_get_past, slice_get_within}
 use Rattle.circular_buffer.proofs.Places.{slice_get-set_other, slice_get-set_same, slice_get-some}
+use Rattle.registers.specs.Counting.{greatest_count}
 use Rattle.dma_memory.specs.Layout.{Counts}
 use Rattle.descriptors.specs.Ring.{count_of}
 use Rattle.adapter.specs.Table.{register_at}
@@ -22,6 +23,7 @@ use Rattle.stations.specs.Stations.{StationState, wire_at, world_at}
 use Rattle.lent_bus.proofs.HostTrails.{trail-of}
 use Rattle.lent_bus.specs.AtomicRuns.{LeadsTo, events_at, past_at}
 use Rattle.driver_law.proofs.FramesCounted.{slots_have_frames}
+use Rattle.driver_law.specs.Stretches.{HasNoForgottenWork, IsRefilled}
 use Rattle.packet_socket.specs.HeldFrames.{HostReady, driver_of}
 use Rattle.packet_socket.specs.HostState.{HostState}
 use Rattle.packet_socket.specs.HostStretches.{Given}
@@ -30,11 +32,11 @@ use Rattle.delivery.specs.Happenings.{Happening, of_host}
 use Rattle.step_answers.proofs.HostSteps.{trail-goes}
 use Rattle.step_answers.proofs.Ticks.{absent-nothing, ticks-answered}
 use Rattle.step_answers.specs.Counts.{tail_of}
-use Rattle.step_answers.specs.CountedHosts.{IsCounted, IsCountedWrite}
+use Rattle.step_answers.specs.CountedHosts.{CanAnswer, IsCounted, IsCountedWrite}
 use Rattle.host_calls.proofs.Calling.{others-run, ready-behind}
 use Rattle.host_calls.specs.CallsOfHosts.{HostRuns, IsOfDriver, IsTailWrite}
 use Rattle.wire.specs.EventParts.{HostsGo}
-use Rattle.wire.specs.Networks.{HostIsOrderly, HostStands, IsHost, NetworkStands, NetworkState}
+use Rattle.wire.specs.Networks.{HostStands, IsHost, NetworkStands, NetworkState}
 use Rattle.wire.proofs.Delivering.{Tells, delivers-runs}
 
 -- Accesses of a driver that is up can be counted.
@@ -71,28 +73,39 @@ all-counted h world accesses ready are =
     (subst (λ (n : ℕ). All (IsCounted own.rx n) accesses) (sym ready.ready.transmit.knows.slots)
     (all-weaker (IsOfDriver own) (IsCounted own.rx own.tx) accesses (counts-one own) are))
 
+-- A host that is ready, with no work forgotten, refilled and able to answer, stands.
+pub stands-with : (h : HostState) (world : World) → HostReady h world → HasNoForgottenWork h.driver world → IsRefilled h.driver
+    → h.driver.staged ≡ [] → CanAnswer world.adapter → (h.driver.missed < greatest_count → IsTrue h.driver.exact) → HostStands h world
+stands-with h world ready work refilled offered can exactly = record {
+  ready = ready;
+  work = work;
+  refilled = refilled;
+  offered = offered;
+  can = can;
+  one_owner = ready.ready.driver_is.one_owner;
+  sends_at_most = (slots_have_frames (driver_of h world) world ready.ready).most;
+  reads_exactly = exactly;
+  counts_exactly = λ small. record {
+    exact = exactly (omega (arith, small));
+    below_greatest = omega (arith, small);
+    fits = omega (arith, small);
+  };
+}
+
 -- A host that stood stands.
 pub stands-behind : (caller k : ℕ) (steps : List AtomicStep) (a b : List StationState) (h h' : HostState) (taken : List (List ℕ))
     (given : List Given) (accepted : List (List ℕ))
     → LeadsTo caller steps a b → HostStands h (world_at a k) → HostRuns k steps a b h h' taken given accepted
     → HostStands h' (world_at b k)
-stands-behind caller k steps a b h h' taken given accepted leads stands runs = record {
-  ready = ready-behind h (world_at a k) h' (world_at b k) taken given accepted (past_at k steps) runs.flows;
-  work = runs.work stands.work;
-  refilled = runs.refilled stands.refilled;
-  offered = runs.offered stands.offered;
-  can =
-      (trail-goes (events_at k steps) (world_at a k) (world_at b k) (count_of (receive_ring (world_at a k)))
-      (count_of (transmit_ring (world_at a k))) refl refl
-      (all-counted h (world_at a k) (past_at k steps).accesses stands.ready runs.accesses) (trail-of caller k steps a b leads)
-      stands.can).can;
-}
-
-pub orderly-of : (h : HostState) (world : World) → HostStands h world → HostIsOrderly h world
-orderly-of h world stands = record {
-  one_owner = stands.ready.ready.driver_is.one_owner;
-  sends_at_most = (slots_have_frames (driver_of h world) world stands.ready.ready).most;
-}
+stands-behind caller k steps a b h h' taken given accepted leads stands runs =
+    stands-with h' (world_at b k)
+    (ready-behind h (world_at a k) h' (world_at b k) taken given accepted (past_at k steps) runs.flows)
+    (runs.work stands.work) (runs.refilled stands.refilled) (runs.offered stands.offered)
+    (trail-goes (events_at k steps) (world_at a k) (world_at b k) (count_of (receive_ring (world_at a k)))
+    (count_of (transmit_ring (world_at a k))) refl refl
+    (all-counted h (world_at a k) (past_at k steps).accesses stands.ready runs.accesses) (trail-of caller k steps a b leads)
+    stands.can).can
+    (runs.flows.flows.small stands.reads_exactly)
 
 -- Which host is which.
 

@@ -1,5 +1,6 @@
 -- A network as plain data: its hosts, and their adapters, memories and ends of wires (own).
-use Rattle.std.specs.Prelude.{◌≡◌, ◌≤◌, ◌+◌, [], ℕ, List, Some, length, slice_get}
+use Rattle.std.specs.Prelude.{◌≡◌, ◌≤◌, ◌<◌, ◌+◌, [], ℕ, IsTrue, List, Some, length, slice_get}
+use Rattle.registers.specs.Counting.{greatest_count}
 use Rattle.adapter.specs.HostFrames.{frames_to_send}
 use Rattle.adapter.specs.World.{World}
 use Rattle.dma_memory.specs.Owners.{HasOneOwner}
@@ -9,6 +10,7 @@ use Rattle.packet_socket.specs.HeldFrames.{HostReady, driver_of}
 use Rattle.packet_socket.specs.HostState.{HostState}
 use Rattle.stations.specs.Stations.{StationState, world_at}
 use Rattle.step_answers.specs.CountedHosts.{CanAnswer}
+use Rattle.wire.specs.Equations.{IsExact, counted}
 
 -- Hosts are numbered from 0; the k-th station is the k-th host's.
 pub record NetworkState : Type 0 where
@@ -31,14 +33,15 @@ pub record HostStands (host : HostState) (world : World) : Type 0 where
   pub offered : host.driver.staged ≡ []
   -- both sides of its adapter are enabled
   pub can : CanAnswer world.adapter
+  -- No buffer has two owners, sockets' queues among them.
+  pub one_owner : HasOneOwner host.driver.counts.buffers (owners (driver_of host world))
+  -- fewer frames are to be sent than the transmit ring has slots
+  pub sends_at_most : length (frames_to_send world) + 1 ≤ host.driver.counts.tx
+  -- What its driver read of MPC, and then the whole count of misses, is exact below MPC's greatest value.
+  pub reads_exactly : host.driver.missed < greatest_count → IsTrue host.driver.exact
+  pub counts_exactly : counted host world < greatest_count → IsExact host world
 
 -- Each host has its station, and stands.
 pub record NetworkStands (network : NetworkState) : Type 0 where
   pub same : length network.stations ≡ length network.hosts
   pub each : (k : ℕ) (host : HostState) → IsHost network k host → HostStands host (world_at network.stations k)
-
--- What a host shows of this: no buffer has two owners, sockets' queues among them; and fewer frames are to be sent than the transmit ring
--- has slots.
-pub record HostIsOrderly (host : HostState) (world : World) : Type 0 where
-  pub one_owner : HasOneOwner host.driver.counts.buffers (owners (driver_of host world))
-  pub sends_at_most : length (frames_to_send world) + 1 ≤ host.driver.counts.tx

@@ -7,8 +7,8 @@ use Rattle.network_plan.specs.declared.plan_error.PlanError.{PlanError}
 use Rattle.network_plan.specs.declared.plan_error.PlanError.TheVariants as refused
 use Rattle.wire.specs.Networks.{NetworkState}
 
--- Each host has come up as its plan has it, with its sockets, rings, filter and link, no frame is anywhere, and nothing is counted; and
--- two hosts are on one wire exactly where their plans name the same.
+-- Each host has come up as its plan has it, with its sockets, rings, filter and link, no frame is anywhere, no miss and no frame without a
+-- socket is counted; and two hosts are on one wire exactly where their plans name the same.
 pub record IsMade (plans : List HostPlan) (network : NetworkState) : Type 0 where
   pub up : AreUp plans (length plans) network.hosts network.stations
   pub wires : ShareWires plans network.stations

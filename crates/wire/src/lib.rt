@@ -11,5 +11,5 @@ mod new;
 pub use counts::Counts;
 pub use host_drain::Outlet;
 pub use lan::Lan;
-pub use law::networks_stand_and_runs_join;
+pub use law::runs_join;
 pub use network_events::{Answer, Event, Reply, Stopped};
