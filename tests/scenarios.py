@@ -1,6 +1,7 @@
 """`nicbench run` from outside: scenarios, their outputs and their refusals."""
 
 import os
+import re
 import subprocess
 
 from bench import FILE_HEADER, packet, trace, trace_in, written
@@ -337,6 +338,16 @@ def event_of(word, hosts):
     return kind.replace(b"%s", name) + b"\n"
 
 
+def all_fit(bench, hosts, summary):
+    """All frames that are drawn are broadcasts of a legal length, and pass the filter: each that reached a host was stored or missed."""
+    line = r"(\w+) accepted \d+ put \d+ reached (\d+) stored (\d+) missed (\d+) (exact|atleast) given \d+ unclaimed \d+"
+    told_of = [found.groups() for found in map(re.compile(line).fullmatch, summary.splitlines()) if found]
+    bench.check("auto: the lines of the hosts", [name.encode() for name, *_ in told_of], [name for name, _ in hosts])
+    for name, reached, stored, missed, exact in told_of:
+        bench.check(f"auto: {name}: each frame is stored or missed", (int(stored) + int(missed), exact), (int(reached), "exact"))
+    bench.check("auto: some frames are missed", any(int(missed) > 0 for _, _, _, missed, _ in told_of), True)
+
+
 def drawn(bench):
     """Events that are drawn: twice the same, and the same as their lines."""
     bench.check("auto: the first words from 0", words_from(0, 4), [298703107, 4236525527, 336081875, 1056616254])
@@ -353,6 +364,7 @@ def drawn(bench):
         bench.check(f"auto: {name}", (ran.returncode, ran.stderr), (0, b""))
         bench.check(f"auto: {name}: as the first", runs[-1] == runs[0], True)
     bench.check("auto: frames are given", len(runs[0][3]["a.0.pcap"]) > 10000, True)
+    all_fit(bench, hosts, runs[0][1].decode())
     plays(bench, "auto 0 1", TO_SOCKET + b"auto 0 1\n", told("a") + told("b"), {"b.0.pcap": FILE_HEADER})
 
 

@@ -386,9 +386,32 @@ fn refusals_have_texts(rt: HostRuntime) -> Result<(), Fail> {
     Ok(())
 }
 
+/// Lines of all kinds, with all that can stand in them.
+const ALL_KINDS: &[u8] = b"# two hosts
+host a 02:00:00:00:00:01 w rx 16 tx 24 buffers 32 rxa 8 link 2 promiscuous
+host b 02:00:00:00:00:02 w link never
+group b 01:00:5e:00:00:01
+vlan b 5
+socket b 0806
+socket b all
+send a 0200000000020200000000010800 / go txtake:a go go txput:a deliver:b
+recv b 0 / eeprom:a phy:a
+interrupt b / go rxdata:b rxdone:b
+tick go
+feed a one.pcap
+auto 20 1
+drain b
+feed b two.pcap
+send b 0200000000010200000000020806
+recv a 1
+interrupt a
+";
+
+/// A second reading is never refused, since one allocation is.
 #[test]
 fn a_refused_allocation_is_memory(rt: HostRuntime) {
-    if let Some(refusal) = answer(rt.alloc(), EXAMPLE) {
+    if let Some(refusal) = answer(rt.alloc(), ALL_KINDS) {
         assert_eq!(rt; refusal, Refusal::Memory);
+        assert_eq!(rt; answer(rt.alloc(), ALL_KINDS), None);
     }
 }

@@ -62,6 +62,19 @@ fn sink(alloc: Global, fails: bool) -> Result<TestSink, AllocError>
     })
 }
 
+/// A trace of so many frames to b, each with its number behind the header.
+fn trace_of(alloc: Global, count: u8) -> Result<Trace, AllocError> {
+    let mut frames = Frames::new(alloc);
+    for mark in 0..count {
+        frames.push(&[2, 0, 0, 0, 0, 2, 2, 0, 0, 0, 0, 1, 8, 0, mark])?;
+    }
+    Ok(Trace {
+        frames,
+        skipped: 0,
+        cut: false,
+    })
+}
+
 /// What came of a scenario: what was told, or why it stopped; and what its sinks took.
 #[derive(Drop)]
 struct Played {
@@ -193,15 +206,7 @@ fn a_drain_is_one_event(rt: HostRuntime) -> Result<(), Fail> {
 
 #[test]
 fn a_feed_is_given_in_order(rt: HostRuntime) -> Result<(), Fail> {
-    let mut frames = Frames::new(rt.alloc());
-    for mark in 0..20 {
-        frames.push(&[2, 0, 0, 0, 0, 2, 2, 0, 0, 0, 0, 1, 8, 0, mark])?;
-    }
-    let traces = [Trace {
-        frames,
-        skipped: 0,
-        cut: false,
-    }];
+    let traces = [trace_of(rt.alloc(), 20)?];
     let played = play(&rt, rt.alloc(), &["feed a t.pcap\n"], &traces, 9)?;
     assert!(rt; are_fed(taken(&played, 0)));
     Ok(())
@@ -237,13 +242,38 @@ fn a_plan_is_refused_before_anything(rt: HostRuntime) -> Result<(), Fail> {
     Ok(())
 }
 
+/// A first frame, a trace of one more, events that are drawn, of all kinds, and drains.
+const ALL_LINES: [&str; 4] = [
+    FIRST,
+    "feed a t.pcap\n",
+    "auto 24 1515\n",
+    "drain b\ndrain a\n",
+];
+
+/// What is told of them.
+const ALL_TOLD: &str = "a accepted 6 put 3 reached 1 stored 1 missed 0 exact given 0 unclaimed 1\n\
+b accepted 1 put 1 reached 3 stored 3 missed 0 exact given 3 unclaimed 0\n";
+
+/// The first frame, the one that is fed, and one that is drawn, each with the number of its event as its time.
+fn are_given(bytes: &[u8]) -> bool {
+    let is_first = bytes.get(28) == Some(&7);
+    let is_fed = bytes.get(104) == Some(&15);
+    let is_drawn = bytes.get(180) == Some(&39);
+    is_first && is_fed && is_drawn && bytes.len() == 252
+}
+
 #[test]
 fn a_refused_allocation_is_memory(rt: HostRuntime) {
-    match play(&rt, rt.alloc(), &[FIRST, "drain b\n"], &[], 9) {
+    let Ok(trace) = trace_of(rt.alloc(), 1) else {
+        return;
+    };
+    match play(&rt, rt.alloc(), &ALL_LINES, &[trace], 9) {
         Err(error) => assert!(rt; error.status() == 4),
         Ok(played) => {
-            let is_memory = stops(&played, 4) && taken(&played, 0).is_empty();
-            assert!(rt; is_memory || tells(&played, TOLD));
+            let bytes = taken(&played, 0);
+            let is_memory = stops(&played, 4) && bytes.is_empty();
+            let is_whole = tells(&played, ALL_TOLD) && are_given(bytes);
+            assert!(rt; is_memory || is_whole);
         }
     }
 }

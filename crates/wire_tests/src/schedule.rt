@@ -152,6 +152,18 @@ impl Act {
     }
 }
 
+/// Asserts how many accesses a call made, and what came of its ticks.
+pub(crate) fn check_inside(
+    rt: &impl Abort,
+    reply: &Reply,
+    accesses: u64,
+    want: &[(u64, Comes)],
+    at: usize,
+) {
+    check(rt, reply.accesses, accesses, at);
+    check_outcomes(rt, reply, want, at);
+}
+
 /// Asserts what came of the ticks of a call, each behind so many accesses.
 fn check_outcomes(rt: &impl Abort, reply: &Reply, want: &[(u64, Comes)], at: usize) {
     let shown = reply.outcomes.as_slice();
@@ -171,6 +183,14 @@ pub(crate) fn check_counts(
     at: usize,
 ) {
     assert_eq!(rt; lan.counts(host), want, "act {at}");
+}
+
+/// Asserts which frames a drain gave, all of them by the first socket.
+pub(crate) fn check_taken(rt: &impl Abort, taken: &Taken, frames: &[Sample], at: usize) {
+    check(rt, taken.list.len() as u64, frames.len() as u64, at);
+    for (one, frame) in taken.list.as_slice().iter().zip(frames) {
+        assert!(rt; one.socket == 0 && one.frame == frame.on_wire(), "act {at}");
+    }
 }
 
 /// Asserts that a number is as it has to be.
@@ -216,7 +236,11 @@ impl Rig {
             }
             Act::Came(accesses, outcomes) => self.check_inside(rt, *accesses, outcomes, at),
             Act::Counts(host, counts) => check_counts(rt, &self.lan, *host, *counts, at),
-            Act::Drain(host, steps, frames) => self.drain(rt, alloc, *host, *steps, frames, at)?,
+            Act::Drain(host, steps, frames) => {
+                let mut taken = Taken::with_room(alloc, self.lan.drain_room(*host))?;
+                check(rt, self.lan.drain(*host, &mut taken), *steps, at);
+                check_taken(rt, &taken, frames, at);
+            }
             _ => self.run(rt, alloc, act, at)?,
         }
         Ok(())
@@ -248,8 +272,7 @@ impl Rig {
     /// Asserts what the last call showed.
     fn check_inside(&self, rt: &impl Abort, accesses: u64, want: &[(u64, Comes)], at: usize) {
         for reply in &self.replies {
-            check(rt, reply.accesses, accesses, at);
-            check_outcomes(rt, reply, want, at);
+            check_inside(rt, reply, accesses, want, at);
         }
     }
 
@@ -278,25 +301,6 @@ impl Rig {
         self.put(rt, alloc, sample, at)?;
         let comes = Comes::Delivered(sample, fate);
         self.run(rt, alloc, &Act::Tick(Tick::Deliver(B), comes), at)
-    }
-
-    /// A host is drained.
-    fn drain(
-        &mut self,
-        rt: &impl Abort,
-        alloc: Global,
-        host: usize,
-        steps: u64,
-        frames: &[Sample],
-        at: usize,
-    ) -> Result<(), Fail> {
-        let mut taken = Taken::with_room(alloc, self.lan.drain_room(host))?;
-        check(rt, self.lan.drain(host, &mut taken), steps, at);
-        check(rt, taken.list.len() as u64, frames.len() as u64, at);
-        for (one, frame) in taken.list.as_slice().iter().zip(frames) {
-            assert!(rt; one.socket == 0 && one.frame == frame.on_wire(), "act {at}");
-        }
-        Ok(())
     }
 
     /// The oldest frame of b is finished.

@@ -44,6 +44,12 @@ fn networks_are_made_or_refused(rt: HostRuntime) -> Result<(), Fail> {
         (2, Change::Address(address(0)), Some(PlanError::Address)),
         (2, Change::Rx(12), Some(PlanError::Config)),
         (2, Change::Link(Link::After(0)), Some(PlanError::Config)),
+        (2, Change::Link(Link::After(2000)), None),
+        (
+            2,
+            Change::Link(Link::After(2001)),
+            Some(PlanError::Init(1, InitError::NoLink)),
+        ),
         (
             2,
             Change::Link(Link::Never),
@@ -329,21 +335,51 @@ fn a_wire_without_room(rt: HostRuntime) -> Result<(), Fail> {
     )
 }
 
+/// Inside the next call a frame of a goes to b.
+const INSIDE: Act = Act::Inside(&[TAKE, Tick::Go, PUT, Tick::Go, Tick::Deliver(B), TAKE]);
+
+/// The call made no access, and the frame went to b.
+const BROUGHT: Act = Act::Came(
+    0,
+    &[
+        (0, Comes::Took),
+        (0, Comes::Put(PLAIN)),
+        (0, Comes::Delivered(PLAIN, Fate::Stored)),
+        (0, Comes::Nothing),
+    ],
+);
+
+/// Before each of these calls a sends a frame, which the ticks inside the call bring to b.
 #[test]
 fn ticks_of_calls_that_make_no_access(rt: HostRuntime) -> Result<(), Fail> {
-    let inside = Act::Inside(&[TAKE, Tick::Go, Tick::Deliver(B)]);
-    let idle = Act::Came(0, &[(0, Comes::Nothing), (0, Comes::Nothing)]);
+    let sent = Act::Send(A, PLAIN, Ok(()));
+    let counted = Counts {
+        transmitted: 4,
+        ..NOTHING
+    };
     play_on_two(
         &rt,
         rt.alloc(),
         &[
-            inside,
+            sent,
+            INSIDE,
             Act::Recv(B, 0, Err(RecvError::Empty)),
-            idle,
-            inside,
+            BROUGHT,
+            sent,
+            INSIDE,
+            Act::Recv(B, 1, Err(RecvError::NoSocket)),
+            BROUGHT,
+            sent,
+            INSIDE,
+            Act::Send(A, Sample::Long(13), Err(SendError::TooShort)),
+            BROUGHT,
+            sent,
+            INSIDE,
             Act::NoHost(9),
-            idle,
+            BROUGHT,
             Act::Tick(Tick::Go, Comes::Nothing),
+            Act::Counts(A, Some(counted)),
+            Act::Drain(B, 16, &[PLAIN, PLAIN, PLAIN, PLAIN]),
         ],
     )
 }
