@@ -6,9 +6,9 @@ ghost use Rattle.command_line.specs.Shape.{file_rule, option_rule, pass_app, pro
 ghost use Rattle.command_line.specs.Shape.{show_app};
 
 use crate::help::{
-    ADDRESS_HELP, CODES_NOTE, GROUP_HELP, IMAGE_HELP, LINK_HELP, MEMORY_HELP, PASS_ABOUT,
-    PASS_NOTE, REGISTERS_HELP, RUN_ABOUT, RUN_NOTE, RXA_HELP, SEED_HELP, SERVE_ABOUT, SERVE_NOTE,
-    SHOW_ABOUT, SHOW_NOTE, VLAN_HELP,
+    ADDRESS_HELP, GROUP_HELP, IMAGE_HELP, LINK_HELP, MEMORY_HELP, PASS_ABOUT, PASS_NOTE,
+    PROGRAM_NOTE, REGISTERS_HELP, RUN_ABOUT, RUN_NOTE, RXA_HELP, SEED_HELP, SERVE_ABOUT,
+    SERVE_NOTE, SHOW_ABOUT, SHOW_NOTE, VLAN_HELP,
 };
 use clap::{Arg, ArgAction, Command};
 use std::alloc::{AllocError, Global};
@@ -109,7 +109,7 @@ pub(crate) fn program<'a>(alloc: Global) -> Result<Command<'a>, AllocError>
     let serve = serve_command(alloc)?;
     let program = Command::new(alloc, "nicbench")
         .about("A bench for a driver of the Intel 82540EM and a model of that adapter")
-        .after_help(CODES_NOTE)
+        .after_help(PROGRAM_NOTE)
         .subcommand_required(true)
         .arg_required_else_help(true);
     let with_pass = program.subcommand(pass)?;

@@ -6,7 +6,26 @@ pub(crate) const PASS_ABOUT: &str =
 pub(crate) const PASS_NOTE: &str =
     "Frames for the broadcast address pass too. Without --address and --group, \
                          frames for every address do.
-OUT is made once IN has been read whole, so both may name one file: its frames are replaced.";
+OUT is made once IN has been read whole, so both may name one file: its frames are replaced.
+From the top of the repository:
+
+  $ ./nicbench pass --group 01:00:5e:00:00:01 examples/groups.pcap out.pcap
+  read 5 skipped 0 illegal 0 filtered 2 written 3 cut no
+
+  read      frames in IN: packets that were captured whole
+  skipped   packets that were captured in part
+  illegal   frames below 14 or above 1,518 bytes
+  filtered  the others that the filter turned away
+  written   frames in OUT
+  cut       whether IN ends inside a packet
+
+Where it fails, standard error has 'nicbench: CODE NAME':
+
+  E60 to E64  IN was refused, status 1
+  E66 to E68  A file or standard output failed, status 3
+  E57, E65    Memory was refused, status 4
+
+What each of these means, and what to do: nicbench --help";
 
 pub(crate) const ADDRESS_HELP: &str = "Let frames for this address pass, as 02:00:00:00:00:01";
 
@@ -93,7 +112,9 @@ A line is refused by 'nicbench: line N: CODE NAME', and what isn't of one line b
                 32 VLANs already. Name one that stands above, or take lines away
   E54 Order     An event stands before it. Move it up
   E55 Long      It has more than 8192 bytes. Split it
-  E56 Text      It isn't UTF-8. Save the scenario as such";
+  E56 Text      It isn't UTF-8. Save the scenario as such
+
+A run can end with E57 and E60 to E68, too. What each of these means, and what to do: nicbench --help";
 
 pub(crate) const SHOW_ABOUT: &str = "List the frames of a trace, one a line";
 
@@ -102,8 +123,19 @@ pub(crate) const SHOW_NOTE: &str =
 its type; 'short' in place of the last three where it has fewer than 14 bytes. The last line counts
 the frames and the packets that were captured in part, and tells whether TRACE ends inside a packet:
 
-  0 60 02:00:00:00:00:02 02:00:00:00:00:01 0800
-  frames 1 skipped 0 cut no";
+  $ ./nicbench show examples/lengths.pcap
+  0 14 02:00:00:00:00:02 02:00:00:00:00:01 0800
+  1 13 short
+  2 1518 02:00:00:00:00:02 02:00:00:00:00:01 0800
+  frames 3 skipped 0 cut no
+
+Where it fails, standard error has 'nicbench: CODE NAME':
+
+  E60 to E64  TRACE was refused, status 1
+  E66 to E68  A file or standard output failed, status 3
+  E57, E65    Memory was refused, status 4
+
+What each of these means, and what to do: nicbench --help";
 
 pub(crate) const SERVE_ABOUT: &str =
     "Serve an adapter and its memory to a driver, a request a line";
@@ -161,9 +193,20 @@ The server ends with its input, by exit status 0; else standard error has 'nicbe
   E66 Read      Standard input failed while it was read, status 3. Look what it comes from
   E67 Write     Standard output failed while it was written, or nobody reads it any more, status 3";
 
-/// What each exit status and each code on standard error means, and what a user can do.
-pub(crate) const CODES_NOTE: &str =
-    "Exit status: 0 done, 1 a trace or a scenario was refused, 2 the words were refused or help was asked
+/// An example; what each exit status and each code on standard error means, and what a user can do.
+pub(crate) const PROGRAM_NOTE: &str =
+    "Here one host sends a frame to another, step by step, and what came there is listed. From the top of
+the repository:
+
+  $ mkdir out
+  $ ./nicbench run examples/first-frame.scenario out
+  a accepted 1 put 1 reached 0 stored 0 missed 0 exact given 0 unclaimed 0
+  b accepted 0 put 0 reached 1 stored 1 missed 0 exact given 1 unclaimed 0
+  $ ./nicbench show out/b.0.pcap
+  0 60 02:00:00:00:00:02 02:00:00:00:00:01 0800
+  frames 1 skipped 0 cut no
+
+Exit status: 0 done, 1 a trace or a scenario was refused, 2 the words were refused or help was asked
 for, 3 a file failed, 4 memory was refused. For 1, 3 and 4 standard error has 'nicbench: CODE NAME'.
 IN is what is read: also the TRACE of show, and of run SCENARIO and each FILE that it feeds. OUT is what
 is written: of run each file in OUTDIR. E40 to E56 are of run alone: nicbench run --help. What E57, E66

@@ -53,7 +53,7 @@ fn a_serve_has_the_values_of_its_texts(rt: HostRuntime) -> Result<(), Fail> {
 }
 
 #[test]
-fn each_option_of_a_serve_stands_alone(rt: HostRuntime) -> Result<(), Fail> {
+fn each_place_of_a_serve_stands_alone(rt: HostRuntime) -> Result<(), Fail> {
     for (text, expected) in [
         (
             "nicbench serve --memory 0",
@@ -83,6 +83,15 @@ fn each_option_of_a_serve_stands_alone(rt: HostRuntime) -> Result<(), Fail> {
                 ..DEFAULTS
             },
         ),
+    ] {
+        assert!(rt; is_serve(text, expected, rt.alloc())?, "{text}");
+    }
+    Ok(())
+}
+
+#[test]
+fn each_number_of_a_serve_stands_alone(rt: HostRuntime) -> Result<(), Fail> {
+    for (text, expected) in [
         (
             "nicbench serve --link 65535",
             ServeJob {
