@@ -1,6 +1,7 @@
 pub mod AccessLemmas
 pub mod Alone
 pub mod Drawing
+pub mod FewWords
 pub mod Numbers
 pub mod Playing
 pub mod ReadRequests

@@ -3,6 +3,7 @@ use Rattle.std.proofs.Common.{◌≡◌, ◌≢◌, ◌+◌, ◌<◌, ◌≤◌,
 use Rattle.std.proofs.Common.{length, min, take, nat_lt, not, append_assoc, arith, inl, inr, lit<, ◌⊎◌, refl, sym, ap, subst, ◌∙◌}
 use Rattle.std.proofs.lemmas.Bool.Decides.{nat_tests}
 use Rattle.std.proofs.lemmas.List.{append-nil, length-append, length-take, take_all}
+use Rattle.std.specs.Io.KnownBytes.{Keeps}
 use Rattle.adapter_server.specs.Lines.{behind_line, first_line, is_feed, lines_of, most_line_bytes, with_front}
 use Rattle.adapter_server.specs.LinesRead.{AtEnd, BothKnown, GivesByte, IsLong, IsNextLine, IsWhole, kept_as}
 use Rattle.adapter_server.specs.Texts.{Text}
@@ -31,6 +32,18 @@ known_then None now after P Q R joins one two = tt
 known_then (Some a) None after P Q R joins one two = absurd one
 known_then (Some a) (Some b) None P Q R joins one two = absurd two
 known_then (Some a) (Some b) (Some c) P Q R joins one two = joins a b c one two
+
+-- what gives a byte after reads that gave nothing gives it from the beginning
+pub gives_kept : (byte : Option ℕ) (before now after : Option (List ℕ)) → Keeps before now → GivesByte byte now after
+    → GivesByte byte before after
+gives_kept (Some byte) None now after keeps gives = tt
+gives_kept (Some byte) (Some a) None after keeps gives = absurd keeps
+gives_kept (Some byte) (Some a) (Some b) None keeps gives = absurd gives
+gives_kept (Some byte) (Some a) (Some b) (Some c) keeps gives = sym keeps ∙ gives
+gives_kept None None now after keeps gives = tt
+gives_kept None (Some a) None after keeps gives = absurd keeps
+gives_kept None (Some a) (Some b) None keeps gives = absurd gives
+gives_kept None (Some a) (Some b) (Some c) keeps gives = record { none = sym keeps ∙ gives.none; still = gives.still }
 
 pub got_none : (before : Option (List ℕ)) → Got [] false before before
 got_none before = record {

@@ -1,55 +1,77 @@
 -- Lines that are answered, one behind another.
 use Rattle.std.proofs.Common.{◌≡◌, ◌≢◌, ◌<◌, ◌≤◌, ◌++◌, ℕ, Bool, true, false, List, [], ◌∷◌, Option, Some, None, length, nat_lt}
-use Rattle.std.proofs.Common.{append_assoc, arith, refl, sym, subst}
+use Rattle.std.proofs.Common.{ap, append_assoc, arith, refl, sym, subst, ◌∙◌}
 use Rattle.std.proofs.lemmas.Bool.Decides.{nat_tests}
 use Rattle.std.proofs.lemmas.List.{append-nil}
-use Rattle.std.specs.Prelude.{IfSome, MatchBool}
+use Rattle.std.specs.Prelude.{Err, IfErr, IfSome, MatchBool, Ok, Result}
 use Rattle.std.specs.Io.KnownBytes.{Appends, Keeps}
 use Rattle.adapter_server.specs.Answers.{AnswersLine, Refuses}
 use Rattle.adapter_server.specs.Devices.{Tells}
 use Rattle.adapter_server.specs.Lines.{behind_line, first_line, lines_of, most_line_bytes}
 use Rattle.adapter_server.specs.LinesRead.{AtEnd, BothKnown, IsLong, IsWhole}
-use Rattle.adapter_server.specs.Serving.{Serves, ServesAll, Turns}
+use Rattle.adapter_server.specs.Serving.{Serves, ServesAll, ServesSome, Turns}
 use Rattle.adapter_server.specs.Sessions.{Begins}
+use Rattle.adapter_server.specs.Statuses.{ended_by}
 use Rattle.adapter_server.specs.Texts.{Text}
+use Rattle.adapter_server.specs.declared.answer_error.AnswerError.{AnswerError}
+use Rattle.adapter_server.specs.declared.answer_error.AnswerError.TheVariants as causes
 use Rattle.adapter_server.specs.declared.options.ServeOptions.{ServeOptions}
 use Rattle.adapter_server.specs.declared.refusal.Refusal.TheVariants as refusals
+use Rattle.adapter_server.specs.declared.serve_error.ServeError.TheVariants as errors
 use Rattle.adapter_server.specs.declared.session.Session.{Session}
 use Rattle.adapter_server.proofs.ReadingLines.{known_same, known_then, lines_some}
 use Rattle.adapter_server.proofs.Writing.{appends_kept, appends_none, appends_then}
 
--- What serves the lines that are left serves all, behind what was written.
-abbrev pub GoesOnServing : Session → Session → Text → List ℕ → List ℕ → Type 0
-GoesOnServing begin now text old new =
-    (last : Session) (rest : Text) → Serves (lines_of new) now last rest → Serves (lines_of old) begin last (text ++ rest)
+-- Lines are served, and behind them others.
+serves_append : (front lines : List Text) (begin now last : Session) (text rest : Text) → Serves front begin now text
+    → Serves lines now last rest → Serves (front ++ lines) begin last (text ++ rest)
+serves_append [] lines begin now last text rest served more =
+    subst (λ (t : Text). Serves lines begin last (t ++ rest)) (sym served.1)
+    (subst (λ (s : Session). Serves lines s last rest) served.0 more)
+serves_append (line ∷ front) lines begin now last text rest served more = record {
+  middle = served.middle;
+  first = served.first;
+  rest = served.rest ++ rest;
+  turn = served.turn;
+  later = serves_append front lines served.middle now last served.rest rest served.later more;
+  text_is = ap (λ (t : Text). t ++ rest) served.text_is ∙ append_assoc served.first served.rest rest;
+}
+
+-- The lines that were read up to here are served by this text.
+pub record Served (begin now : Session) (text : Text) (old new : List ℕ) : Type 0 where
+  pub front : List Text
+  pub lines : lines_of old ≡ front ++ lines_of new
+  pub serves : Serves front begin now text
 
 pub record ServesOn (old new : Option (List ℕ)) (begin now : Session) (before after : Option (List ℕ)) : Type 0 where
   pub text : Text
   pub written : Appends before after text
-  pub goes : BothKnown old new (GoesOnServing begin now text)
+  pub goes : BothKnown old new (Served begin now text)
 
 pub serves_none : (bytes : Option (List ℕ)) (begin : Session) (before : Option (List ℕ)) → ServesOn bytes bytes begin begin before before
 serves_none bytes begin before = record {
   text = [];
   written = appends_none before;
-  goes = known_same bytes (GoesOnServing begin begin []) (λ some last rest serves. serves);
+  goes = known_same bytes (Served begin begin []) (λ some. record { front = []; lines = refl; serves = (refl, refl) });
 }
 
 -- one more line
-more_served : (begin now next last : Session) (text first rest line : Text) (old new later : List ℕ)
-    → GoesOnServing begin now text old new → new ≢ [] → line ≡ first_line new → later ≡ behind_line new → Turns line now next first
-    → Serves (lines_of later) next last rest → Serves (lines_of old) begin last ((text ++ first) ++ rest)
-more_served begin now next last text first rest line old new later goes some line_is later_is turn serves =
-    let both : Serves (first_line new ∷ lines_of (behind_line new)) now last (first ++ rest) = record {
-      middle = next;
-      first = first;
-      rest = rest;
-      turn = subst (λ (l : Text). Turns l now next first) line_is turn;
-      later = subst (λ (bytes : List ℕ). Serves (lines_of bytes) next last rest) later_is serves;
-      text_is = refl;
-    } in
-    subst (λ (t : Text). Serves (lines_of old) begin last t) (sym (append_assoc text first rest))
-    (goes last (first ++ rest) (subst (λ (lines : List Text). Serves lines now last (first ++ rest)) (sym (lines_some new some)) both))
+more_served : (begin now next : Session) (text first : Text) (old new later : List ℕ) → Served begin now text old new → new ≢ []
+    → later ≡ behind_line new → Turns (first_line new) now next first → Served begin next (text ++ first) old later
+more_served begin now next text first old new later on some later_is turn = record {
+  front = on.front ++ first_line new ∷ [];
+  lines = on.lines ∙ ap (λ (lines : List Text). on.front ++ lines) (lines_some new some)
+      ∙ sym (append_assoc on.front (first_line new ∷ []) (lines_of (behind_line new)))
+      ∙ ap (λ (bytes : List ℕ). (on.front ++ first_line new ∷ []) ++ lines_of bytes) (sym later_is);
+  serves = serves_append on.front (first_line new ∷ []) begin now next text first on.serves record {
+    middle = next;
+    first = first;
+    rest = [];
+    turn = turn;
+    later = (refl, refl);
+    text_is = sym (append-nil first);
+  };
+}
 
 is_short : (n : ℕ) → n ≤ most_line_bytes → nat_lt most_line_bytes n ≡ false
 is_short n short = grind (arith, nat_tests)
@@ -75,10 +97,11 @@ serves_whole old new later begin now next line before middle after sent on whole
   text = on.text ++ told.text;
   written = appends_kept before after sent (on.text ++ told.text)
       (appends_then before middle after on.text told.text on.written told.written) kept;
-  goes = known_then old new later (GoesOnServing begin now on.text) (IsWhole line) (GoesOnServing begin next (on.text ++ told.text))
-      (λ a b c goes is. λ last rest serves.
-      more_served begin now next last on.text told.text rest line a b c goes is.some is.line_is is.rest
-      (short_turn line now next told.text (subst (λ (l : Text). length l ≤ most_line_bytes) (sym is.line_is) is.short) told.holds) serves)
+  goes = known_then old new later (Served begin now on.text) (IsWhole line) (Served begin next (on.text ++ told.text))
+      (λ a b c goes is.
+      more_served begin now next on.text told.text a b c goes is.some is.rest
+      (short_turn (first_line b) now next told.text is.short
+      (subst (λ (l : Text). AnswersLine l now next told.text) is.line_is told.holds)))
       on.goes whole;
 }
 
@@ -89,10 +112,10 @@ serves_long old new later begin now next before middle after sent on long told k
   text = on.text ++ told.text;
   written = appends_kept before after sent (on.text ++ told.text)
       (appends_then before middle after on.text told.text on.written told.written) kept;
-  goes = known_then old new later (GoesOnServing begin now on.text) IsLong (GoesOnServing begin next (on.text ++ told.text))
-      (λ a b c goes is. λ last rest serves.
-      more_served begin now next last on.text told.text rest (first_line b) a b c goes is.some refl is.rest
-      (long_turn (first_line b) now next told.text is.long told.holds) serves)
+  goes = known_then old new later (Served begin now on.text) IsLong (Served begin next (on.text ++ told.text))
+      (λ a b c goes is.
+      more_served begin now next on.text told.text a b c goes is.some is.rest
+      (long_turn (first_line b) now next told.text is.long told.holds))
       on.goes long;
 }
 
@@ -103,13 +126,39 @@ serves_all options None new later begin now before after begins on ends = tt
 serves_all options (Some old) None later begin now before after begins on ends = absurd on.goes
 serves_all options (Some old) (Some new) None begin now before after begins on ends = absurd ends
 serves_all options (Some old) (Some new) (Some later) begin now before after begins on ends =
-    let none : Serves (lines_of new) now now [] =
-    subst (λ (bytes : List ℕ). Serves (lines_of bytes) now now []) (sym ends.none) (refl, refl) in
+    let all : lines_of old ≡ on.goes.front =
+    on.goes.lines ∙ ap (λ (left : List ℕ). on.goes.front ++ lines_of left) ends.none ∙ append-nil on.goes.front in
     record {
       begin = begin;
       begins = begins;
       last = now;
-      text = on.text ++ [];
-      serves = on.goes now [] none;
-      written = subst (λ (t : Text). Appends before after t) (sym (append-nil on.text)) on.written;
+      text = on.text;
+      serves = subst (λ (lines : List Text). Serves lines begin now on.text) (sym all) on.goes.serves;
+      written = on.written;
     }
+
+pub serves_some : (options : ServeOptions) (old new : Option (List ℕ)) (begin now : Session) (before after : Option (List ℕ))
+    → Begins options begin → ServesOn old new begin now before after → IfSome old (λ bytes. ServesSome options bytes before after)
+serves_some options None new begin now before after begins on = tt
+serves_some options (Some old) None begin now before after begins on = absurd on.goes
+serves_some options (Some old) (Some new) begin now before after begins on = record {
+  begin = begin;
+  begins = begins;
+  answered = on.goes.front;
+  left = lines_of new;
+  lines = on.goes.lines;
+  last = now;
+  text = on.text;
+  serves = on.goes.serves;
+  written = on.written;
+}
+
+-- While a line is answered nothing is read.
+pub never_read : (cause : AnswerError) → ended_by cause ≡ errors.Read → ⊥
+never_read causes.Memory same = cc
+never_read causes.Write same = cc
+
+-- what holds holds at any error
+pub whatever_error : {T E : Type 0} (result : Result T E) (Q : E → Type 0) (P : Type 0) → P → IfErr result (λ error. Q error → P)
+whatever_error (Ok value) Q P holds = tt
+whatever_error (Err error) Q P holds = λ q. holds

@@ -34,3 +34,15 @@ pub record ServesAll (options : ServeOptions) (bytes : List ℕ) (before after :
   pub text : Text
   pub serves : Serves (lines_of bytes) begin last text
   pub written : Appends before after text
+
+-- The first of the lines of these bytes are answered, from a new session on: each whole, in order, and nothing else is written.
+pub record ServesSome (options : ServeOptions) (bytes : List ℕ) (before after : Option (List ℕ)) : Type 0 where
+  pub begin : Session
+  pub begins : Begins options begin
+  pub answered : List Text
+  pub left : List Text
+  pub lines : lines_of bytes ≡ answered ++ left
+  pub last : Session
+  pub text : Text
+  pub serves : Serves answered begin last text
+  pub written : Appends before after text

@@ -1,5 +1,7 @@
--- The exit status of a program that ends for an error of a server (own).
+-- The exit status of a program that ends for an error of a server, and which error one ends with for a line (own).
 use Rattle.std.specs.Prelude.{ℕ}
+use Rattle.adapter_server.specs.declared.answer_error.AnswerError.{AnswerError}
+use Rattle.adapter_server.specs.declared.answer_error.AnswerError.TheVariants as causes
 use Rattle.adapter_server.specs.declared.serve_error.ServeError.{ServeError}
 use Rattle.adapter_server.specs.declared.serve_error.ServeError.TheVariants.{Memory, Read, Write}
 
@@ -7,3 +9,8 @@ abbrev pub status_of : ServeError → ℕ
 status_of Memory = 4
 status_of Read = 3
 status_of Write = 3
+
+-- the error of a server that ends as a line wasn't answered whole
+abbrev pub ended_by : AnswerError → ServeError
+ended_by causes.Memory = Memory
+ended_by causes.Write = Write

@@ -4,7 +4,7 @@ ghost use Rattle.std.specs.Prelude.{◌≡◌, ◌+◌, ◌≤◌, IfOk, OnOk, l
 ghost use Rattle.bus.specs.declared.event.Access.TheVariants.{Loads, Reads, Stores, Writes};
 ghost use Rattle.dma_memory.specs.HostMemory.{bytes_at};
 
-use crate::serve_error::ServeError;
+use crate::answer_error::AnswerError;
 use crate::session::Session;
 use std::alloc::Global;
 use std::io::Write;
@@ -20,7 +20,7 @@ impl Session {
         out: &mut W,
         said: &[u8],
         offset: u32,
-    ) -> Result<u32, ServeError>
+    ) -> Result<u32, AnswerError>
         requires { IsQuiet self.old.device.bus }
         ensures ok { IfOk result (λ value. Tells (W.contents out.old) (W.contents out.new)
             (Accessed (Reads offset value) said.now self.old self.new)) }
@@ -39,7 +39,7 @@ impl Session {
         said: &[u8],
         offset: u32,
         value: u32,
-    ) -> Result<(), ServeError>
+    ) -> Result<(), AnswerError>
         requires { IsQuiet self.old.device.bus }
         ensures ok { OnOk result (Tells (W.contents out.old) (W.contents out.new)
             (Accessed (Writes offset value) said.now self.old self.new)) }
@@ -58,7 +58,7 @@ impl Session {
         said: &[u8],
         address: u64,
         count: usize,
-    ) -> Result<Vec<u8>, ServeError>
+    ) -> Result<Vec<u8>, AnswerError>
         requires quiet { IsQuiet self.old.device.bus }
         requires lies { address + count ≤ length self.old.device.bus.world.memory }
         ensures ok { OnOk result (Tells (W.contents out.old) (W.contents out.new)
@@ -82,7 +82,7 @@ impl Session {
         said: &[u8],
         address: u64,
         bytes: &[u8],
-    ) -> Result<(), ServeError>
+    ) -> Result<(), AnswerError>
         requires quiet { IsQuiet self.old.device.bus }
         requires lies { address + length bytes.now ≤ length self.old.device.bus.world.memory }
         ensures ok { OnOk result (Tells (W.contents out.old) (W.contents out.new)

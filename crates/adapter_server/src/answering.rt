@@ -4,11 +4,11 @@ ghost use Rattle.std.specs.Prelude.{◌≡◌, ◌≤◌, IfOk, OnOk, codes, len
 ghost use Rattle.adapter_server.specs.Widths.{bytes_of, bytes_spelling, number_spelled};
 ghost use Rattle.adapter_server.specs.Texts.{number_line, word_line};
 
+use crate::answer_error::AnswerError;
 use crate::output::say;
 use crate::reading::read_line;
 use crate::refusal::{Refusal, Stop};
 use crate::request::{Request, Width};
-use crate::serve_error::ServeError;
 use crate::session::{Place, Session};
 use crate::text::{bytes_line, fate_word, number_line, outcome_word, word_line};
 use adapter::StepKind;
@@ -64,7 +64,7 @@ impl Session {
     ghost use Rattle.adapter_server.specs.declared.refusal.Refusal.TheVariants as refusals;
 
     /// Writes a refusal. Nothing changes.
-    fn refuse<W: Write>(&mut self, out: &mut W, refusal: Refusal) -> Result<(), ServeError>
+    fn refuse<W: Write>(&mut self, out: &mut W, refusal: Refusal) -> Result<(), AnswerError>
         ensures ok { OnOk result (Tells (W.contents out.old) (W.contents out.new) (Refuses refusal self.old self.new)) }
         ensures same { self.new ≡ self.old }
     {
@@ -80,7 +80,7 @@ impl Session {
         said: &[u8],
         width: Width,
         address: u64,
-    ) -> Result<(), ServeError>
+    ) -> Result<(), AnswerError>
         requires { IsQuiet self.old.device.bus }
         ensures ok { OnOk result (Tells (W.contents out.old) (W.contents out.new)
             (ReadsNumber (place_in self.old address (bytes_of width)) width address said.now self.old self.new)) }
@@ -112,7 +112,7 @@ impl Session {
         width: Width,
         address: u64,
         value: u64,
-    ) -> Result<(), ServeError>
+    ) -> Result<(), AnswerError>
         requires { IsQuiet self.old.device.bus }
         ensures ok { OnOk result (Tells (W.contents out.old) (W.contents out.new)
             (WritesNumber (place_in self.old address (bytes_of width)) width address value said.now
@@ -143,7 +143,7 @@ impl Session {
         said: &[u8],
         address: u64,
         size: u64,
-    ) -> Result<(), ServeError>
+    ) -> Result<(), AnswerError>
         requires { IsQuiet self.old.device.bus }
         ensures ok { OnOk result (Tells (W.contents out.old) (W.contents out.new)
             (ReadsBytes (is_memory self.old address size) address size said.now self.old self.new)) }
@@ -166,7 +166,7 @@ impl Session {
         said: &[u8],
         address: u64,
         bytes: &[u8],
-    ) -> Result<(), ServeError>
+    ) -> Result<(), AnswerError>
         requires { IsQuiet self.old.device.bus }
         ensures ok { OnOk result (Tells (W.contents out.old) (W.contents out.new)
             (WritesBytes (is_memory self.old address (length bytes.now)) address bytes.now said.now
@@ -187,7 +187,7 @@ impl Session {
         alloc: Global,
         out: &mut W,
         kind: StepKind,
-    ) -> Result<(), ServeError>
+    ) -> Result<(), AnswerError>
         requires { IsQuiet self.old.device.bus }
         ensures ok { OnOk result (Tells (W.contents out.old) (W.contents out.new) (TakesStep kind self.old self.new)) }
         ensures quiet { OnOk result (StaysQuiet self.old.device.bus self.new.device.bus) }
@@ -205,7 +205,7 @@ impl Session {
         out: &mut W,
         said: &[u8],
         frame: &[u8],
-    ) -> Result<(), ServeError>
+    ) -> Result<(), AnswerError>
         requires { IsQuiet self.old.device.bus }
         ensures ok { OnOk result (Tells (W.contents out.old) (W.contents out.new)
             (Delivers frame.now said.now self.old self.new)) }
@@ -218,7 +218,7 @@ impl Session {
     }
 
     /// `settle`.
-    fn settle<W: Write>(&mut self, alloc: Global, out: &mut W) -> Result<(), ServeError>
+    fn settle<W: Write>(&mut self, alloc: Global, out: &mut W) -> Result<(), AnswerError>
         requires { IsQuiet self.old.device.bus }
         ensures ok { OnOk result (Tells (W.contents out.old) (W.contents out.new) (SettlesAll self.old self.new)) }
         ensures quiet { OnOk result (StaysQuiet self.old.device.bus self.new.device.bus) }
@@ -230,7 +230,7 @@ impl Session {
     }
 
     /// `line`.
-    fn tell_line<W: Write>(&mut self, alloc: Global, out: &mut W) -> Result<(), ServeError>
+    fn tell_line<W: Write>(&mut self, alloc: Global, out: &mut W) -> Result<(), AnswerError>
         ensures ok { OnOk result (Tells (W.contents out.old) (W.contents out.new)
             (Replies (number_line (line_number self.old.device.bus)) self.old self.new)) }
         ensures same { self.new ≡ self.old }
@@ -242,7 +242,7 @@ impl Session {
 
     /// `endianness`.
     #[tactic(auto, unfolding(crate::specs::Texts::word_line))]
-    fn tell_endianness<W: Write>(&mut self, out: &mut W) -> Result<(), ServeError>
+    fn tell_endianness<W: Write>(&mut self, out: &mut W) -> Result<(), AnswerError>
         ensures ok { OnOk result (Tells (W.contents out.old) (W.contents out.new)
             (Replies (word_line (codes "little")) self.old self.new)) }
         ensures same { self.new ≡ self.old }
@@ -252,7 +252,7 @@ impl Session {
     }
 
     /// `interleave`.
-    fn set_most_steps<W: Write>(&mut self, out: &mut W, count: u32) -> Result<(), ServeError>
+    fn set_most_steps<W: Write>(&mut self, out: &mut W, count: u32) -> Result<(), AnswerError>
         requires { IsQuiet self.old.device.bus }
         ensures ok { OnOk result (Tells (W.contents out.old) (W.contents out.new)
             (Sets (record self.old { most_steps = count }) self.new)) }
@@ -264,7 +264,7 @@ impl Session {
     }
 
     /// `log`.
-    fn set_log<W: Write>(&mut self, out: &mut W, on: bool) -> Result<(), ServeError>
+    fn set_log<W: Write>(&mut self, out: &mut W, on: bool) -> Result<(), AnswerError>
         requires { IsQuiet self.old.device.bus }
         ensures ok { OnOk result (Tells (W.contents out.old) (W.contents out.new)
             (Sets (record self.old { device = record self.old.device { log = on } }) self.new)) }
@@ -282,7 +282,7 @@ impl Session {
         out: &mut W,
         said: &[u8],
         request: &Request,
-    ) -> Result<(), ServeError>
+    ) -> Result<(), AnswerError>
         requires { IsQuiet self.old.device.bus }
         ensures ok { OnOk result (Tells (W.contents out.old) (W.contents out.new)
             (Does request.now said.now self.old self.new)) }
@@ -317,7 +317,7 @@ impl Session {
         alloc: Global,
         out: &mut W,
         line: &[u8],
-    ) -> Result<(), ServeError>
+    ) -> Result<(), AnswerError>
         requires { IsQuiet self.old.device.bus }
         ensures ok { OnOk result
             (Tells (W.contents out.old) (W.contents out.new) (AnswersLine line.now self.old self.new)) }
@@ -326,12 +326,12 @@ impl Session {
         match read_line(alloc, line) {
             Ok(request) => self.answer(alloc, out, line, &request),
             Err(Stop::Refused(refusal)) => self.refuse(out, refusal),
-            Err(Stop::Memory) => Err(ServeError::Memory),
+            Err(Stop::Memory) => Err(AnswerError::Memory),
         }
     }
 
     /// A line that is too long is refused.
-    pub(crate) fn refuse_long<W: Write>(&mut self, out: &mut W) -> Result<(), ServeError>
+    pub(crate) fn refuse_long<W: Write>(&mut self, out: &mut W) -> Result<(), AnswerError>
         ensures ok { OnOk result
             (Tells (W.contents out.old) (W.contents out.new) (Refuses refusals.Long self.old self.new)) }
         ensures same { self.new ≡ self.old }

@@ -7,8 +7,8 @@ ghost use Rattle.adapter_server.specs.Outcomes.{moved_by};
 ghost use Rattle.dma_memory.specs.HostMemory.{bytes_at};
 ghost use Rattle.bus.specs.declared.event.Access.TheVariants.{Loads, Reads, Stores, Writes};
 
+use crate::answer_error::AnswerError;
 use crate::output::say;
-use crate::serve_error::ServeError;
 use crate::text::{push_frame, push_line, push_said, push_step};
 use adapter::{Fate, StepKind, StepOutcome};
 use bus::Bus;
@@ -56,7 +56,7 @@ impl Device {
     ghost use Rattle.adapter_server.specs.Devices.{Tells, most_rounds, told, told_text};
 
     /// Writes what happened, and behind it whether the interrupt line moved.
-    fn tell<W: Write>(&mut self, out: &mut W, mut text: Vec<u8>) -> Result<(), ServeError>
+    fn tell<W: Write>(&mut self, out: &mut W, mut text: Vec<u8>) -> Result<(), AnswerError>
         ensures state { OnOk result (self.new ≡ told self.old) }
         ensures text { OnOk result
             (Appends (W.contents out.old) (W.contents out.new) (told_text text.items self.old self.new)) }
@@ -73,7 +73,7 @@ impl Device {
         alloc: Global,
         out: &mut W,
         kind: StepKind,
-    ) -> Result<StepOutcome, ServeError>
+    ) -> Result<StepOutcome, AnswerError>
         requires { IsQuiet self.old.bus }
         ensures ok { IfOk result (λ outcome.
             Tells (W.contents out.old) (W.contents out.new) (Steps kind outcome self.old self.new)) }
@@ -96,7 +96,7 @@ impl Device {
         out: &mut W,
         said: &[u8],
         frame: &[u8],
-    ) -> Result<Fate, ServeError>
+    ) -> Result<Fate, AnswerError>
         requires { IsQuiet self.old.bus }
         ensures ok { IfOk result (λ fate. Tells (W.contents out.old) (W.contents out.new)
             (Arrives frame.now fate said.now self.old self.new)) }
@@ -115,7 +115,7 @@ impl Device {
         alloc: Global,
         out: &mut W,
         said: &[u8],
-    ) -> Result<(), ServeError>
+    ) -> Result<(), AnswerError>
         ensures state { OnOk result (self.new ≡ told self.old) }
         ensures text { OnOk result (Appends (W.contents out.old) (W.contents out.new)
             (told_text (said_log self.old.log said.now) self.old self.new)) }
@@ -132,7 +132,7 @@ impl Device {
         out: &mut W,
         said: &[u8],
         offset: u32,
-    ) -> Result<u32, ServeError>
+    ) -> Result<u32, AnswerError>
         requires { IsQuiet self.old.bus }
         ensures ok { IfOk result (λ value. Tells (W.contents out.old) (W.contents out.new)
             (Accesses (Reads offset value) said.now self.old self.new)) }
@@ -151,7 +151,7 @@ impl Device {
         said: &[u8],
         offset: u32,
         value: u32,
-    ) -> Result<(), ServeError>
+    ) -> Result<(), AnswerError>
         requires { IsQuiet self.old.bus }
         ensures ok { OnOk result (Tells (W.contents out.old) (W.contents out.new)
             (Accesses (Writes offset value) said.now self.old self.new)) }
@@ -170,7 +170,7 @@ impl Device {
         said: &[u8],
         address: u64,
         into: &mut [u8],
-    ) -> Result<(), ServeError>
+    ) -> Result<(), AnswerError>
         requires quiet { IsQuiet self.old.bus }
         requires lies { address + length into.old ≤ length self.old.bus.world.memory }
         ensures ok { OnOk result (Tells (W.contents out.old) (W.contents out.new)
@@ -191,7 +191,7 @@ impl Device {
         said: &[u8],
         address: u64,
         bytes: &[u8],
-    ) -> Result<(), ServeError>
+    ) -> Result<(), AnswerError>
         requires quiet { IsQuiet self.old.bus }
         requires lies { address + length bytes.now ≤ length self.old.bus.world.memory }
         ensures ok { OnOk result (Tells (W.contents out.old) (W.contents out.new)
@@ -204,7 +204,7 @@ impl Device {
     }
 
     /// A round of steps, one of each kind; how many of them did something.
-    fn round<W: Write>(&mut self, alloc: Global, out: &mut W) -> Result<u64, ServeError>
+    fn round<W: Write>(&mut self, alloc: Global, out: &mut W) -> Result<u64, AnswerError>
         requires { IsQuiet self.old.bus }
         ensures ok { IfOk result
             (λ moved. Tells (W.contents out.old) (W.contents out.new) (Round moved self.old self.new)) }
@@ -220,7 +220,11 @@ impl Device {
     }
 
     /// Rounds of steps until one does nothing; how many steps did something.
-    pub(crate) fn settle<W: Write>(&mut self, alloc: Global, out: &mut W) -> Result<u64, ServeError>
+    pub(crate) fn settle<W: Write>(
+        &mut self,
+        alloc: Global,
+        out: &mut W,
+    ) -> Result<u64, AnswerError>
         requires { IsQuiet self.old.bus }
         ensures ok { IfOk result
             (λ moved. Tells (W.contents out.old) (W.contents out.new) (Settles most_rounds moved self.old self.new)) }

@@ -6,6 +6,7 @@
 #![tactic(auto)]
 
 mod access;
+mod answer_error;
 mod answering;
 mod device;
 mod line_reader;

@@ -1,10 +1,13 @@
 // Lines, read from any reader.
 
-ghost use Rattle.std.specs.Prelude.{◌≡◌, ◌≤◌, ◌++◌, ◌∷◌, [], IfOk, OnOk, if◌then◌else◌, length, nat_lt, vec_capacity};
+ghost use Rattle.std.specs.Prelude.{◌≡◌, ◌≤◌, ◌++◌, ◌∷◌, [], IfOk, OnErr, OnOk, if◌then◌else◌, length, nat_lt};
+ghost use Rattle.std.specs.Prelude.{vec_capacity};
+ghost use Rattle.std.specs.Io.KnownBytes.{Keeps};
 ghost use Rattle.adapter_server.specs.LinesRead.{GivesByte, IsNextLine, kept_as};
 
 use crate::serve_error::ServeError;
-use std::io::Read;
+use std::io;
+use std::io::{ErrorKind, Read};
 
 /// How many bytes a line has at most, its end not counted (own): room for a `write` of 65,536 bytes.
 pub(crate) const MOST_LINE_BYTES: usize = 131_200;
@@ -48,16 +51,32 @@ fn push_byte(line: &mut Vec<u8>, byte: u8) -> bool
     true
 }
 
-/// The next byte of a reader; `None` at its end.
-fn next_byte<R: Read>(reader: &mut R) -> Result<Option<u8>, ServeError>
-    ensures { IfOk result (λ byte. GivesByte byte (R.remaining reader.old) (R.remaining reader.new)) }
+/// One read of the next byte of a reader; `None` at its end.
+fn try_byte<R: Read>(reader: &mut R) -> io::Result<Option<u8>>
+    ensures ok { IfOk result (λ byte. GivesByte byte (R.remaining reader.old) (R.remaining reader.new)) }
+    ensures err { OnErr result (Keeps (R.remaining reader.old) (R.remaining reader.new)) }
 {
     let mut byte = [0; 1];
     match reader.read(&mut byte) {
         Ok(0) => Ok(None),
         Ok(_) => Ok(Some(byte[0])),
-        Err(_) => Err(ServeError::Read),
+        Err(error) => Err(error),
     }
+}
+
+/// The next byte of a reader; `None` at its end. A read that was interrupted is tried again, up to 2^64 - 1 times.
+fn next_byte<R: Read>(reader: &mut R) -> Result<Option<u8>, ServeError>
+    ensures { IfOk result (λ byte. GivesByte byte (R.remaining reader.old) (R.remaining reader.new)) }
+{
+    for _turn in 0..u64::MAX {
+        match try_byte(reader) {
+            Ok(byte) => return Ok(byte),
+            Err(error) => if error.kind() != ErrorKind::Interrupted {
+                return Err(ServeError::Read);
+            },
+        }
+    }
+    Err(ServeError::Read)
 }
 
 /// Reads the next line, without its end, in place of what stands in `line`. Of one that is too long the front is kept,

@@ -2,8 +2,9 @@
 
 ghost use Rattle.std.specs.Prelude.{◌≡◌};
 ghost use Rattle.adapter_server.specs.declared.serve_error.ServeError.TheVariants as errors;
-ghost use Rattle.adapter_server.specs.Statuses.{status_of};
+ghost use Rattle.adapter_server.specs.Statuses.{ended_by, status_of};
 
+use crate::answer_error::AnswerError;
 use std::alloc::AllocError;
 use thiserror::Error;
 
@@ -44,5 +45,16 @@ impl From<AllocError> for ServeError {
 
     fn from(_error: AllocError) -> ServeError {
         ServeError::Memory
+    }
+}
+
+impl From<AnswerError> for ServeError {
+    ghost from_gives = { λ cause e. e ≡ ended_by cause };
+
+    fn from(cause: AnswerError) -> ServeError {
+        match cause {
+            AnswerError::Memory => ServeError::Memory,
+            AnswerError::Write => ServeError::Write,
+        }
     }
 }

@@ -1,7 +1,8 @@
 // The server.
 
-ghost use Rattle.std.specs.Prelude.{IfSome, OnOk};
-ghost use Rattle.adapter_server.specs.Serving.{ServesAll};
+ghost use Rattle.std.specs.Prelude.{◌≡◌, IfErr, IfSome, OnOk};
+ghost use Rattle.adapter_server.specs.Serving.{ServesAll, ServesSome};
+ghost use Rattle.adapter_server.specs.declared.serve_error.ServeError.TheVariants as errors;
 
 use crate::line_reader::{MOST_LINE_BYTES, NextLine, next_line};
 use crate::options::ServeOptions;
@@ -18,19 +19,24 @@ use std::io::{Read, Write};
 /// out whole where it is flushed.
 ///
 /// All bytes of input are answered: a line that is no request is refused, and so is one that has more than 131,200
-/// bytes, which is skipped to its end. Memory is bounded by the options' and by about half a MiB beside it.
+/// bytes, which is skipped to its end. Memory is bounded by the options' and by 721,039 bytes beside it, of which a
+/// line takes 131,200, and the answer to a `read` of 65,536 bytes the others: for these, their digits, and its text.
 ///
 /// # Errors
 ///
-/// E57 where memory was refused, E66 where the input failed, or had 2^64 bytes, E67 where the output did.
+/// E57 where memory was refused, E66 where the input failed, or had 2^64 bytes, E67 where the output did. At E66 the
+/// lines before it were answered, each whole.
+#[tactic(auto, using(crate::proofs::ServedLines::never_read))]
 pub fn serve<R: Read + Drop, W: Write>(
     alloc: Global,
     options: &ServeOptions,
     input: R,
     output: &mut W,
 ) -> Result<(), ServeError>
-    ensures { OnOk result (IfSome (R.remaining input)
+    ensures ok { OnOk result (IfSome (R.remaining input)
         (λ bytes. ServesAll options.now bytes (W.contents output.old) (W.contents output.new))) }
+    ensures read { IfErr result (λ error. error ≡ errors.Read → IfSome (R.remaining input)
+        (λ bytes. ServesSome options.now bytes (W.contents output.old) (W.contents output.new))) }
 {
     let mut session = Session::new(alloc, options)?;
     let mut input = input;

@@ -3,9 +3,9 @@
 ghost use Rattle.std.specs.Prelude.{◌≡◌, ◌%◌, ◌<◌, IfOk, OnOk};
 ghost use Rattle.adapter_server.specs.Kinds.{kind_numbered};
 
+use crate::answer_error::AnswerError;
 use crate::device::Device;
 use crate::options::ServeOptions;
-use crate::serve_error::ServeError;
 use adapter::offsets::PBA;
 use adapter::{Adapter, StepKind};
 use bus::Bus;
@@ -70,7 +70,7 @@ impl Session {
     ghost use Rattle.adapter_server.specs.Sessions.{Begins, Interleaves, drawn_count, drawn_kind, is_memory, place_in};
 
     /// A server before the first request: a new adapter, whose PBA is written once, and memory of zeros.
-    pub(crate) fn new(alloc: Global, options: &ServeOptions) -> Result<Session, ServeError>
+    pub(crate) fn new(alloc: Global, options: &ServeOptions) -> Result<Session, AnswerError>
         ensures { IfOk result (λ session. Begins options.now session) }
     {
         let image = Image::with_address(options.address);
@@ -141,7 +141,7 @@ impl Session {
         &mut self,
         alloc: Global,
         out: &mut W,
-    ) -> Result<(), ServeError>
+    ) -> Result<(), AnswerError>
         requires { IsQuiet self.old.device.bus }
         ensures ok { OnOk result (Tells (W.contents out.old) (W.contents out.new) (Interleaves self.old self.new)) }
         ensures quiet { OnOk result (StaysQuiet self.old.device.bus self.new.device.bus) }

@@ -2,6 +2,8 @@
 
 use crate::{ServeError, ServeOptions, serve};
 use std::alloc::Global;
+use std::io;
+use std::io::Read;
 use std::process::Abort;
 use std::test::Fail;
 
@@ -54,7 +56,7 @@ fn registers_and_memory_are_read_and_written(rt: HostRuntime) -> Result<(), Fail
 }
 
 #[test]
-fn other_lines_are_refused(rt: HostRuntime) -> Result<(), Fail> {
+fn lines_that_read_as_no_request_are_refused(rt: HostRuntime) -> Result<(), Fail> {
     let options = ServeOptions::new();
     check(
         &rt,
@@ -63,18 +65,13 @@ fn other_lines_are_refused(rt: HostRuntime) -> Result<(), Fail> {
         b"\n\
           hello\n\
           readl\n\
+          readl 0 0\n\
+          write 0 1 0xaa 0\n\
+          write 0 1 0xaa 0 0 0 0\n\
           readl 0x\n\
           readl 12z\n\
           writeb 0 256\n\
-          readw 0xFEB00008\n\
-          readl 0xFEB00009\n\
-          readl 0xfffffffffffffffe\n\
           readl 18446744073709551616\n\
-          read 0x100000 1\n\
-          read 0x100000 0\n\
-          read 0 65537\n\
-          write 0 2 0xaa\n\
-          write 0 1 aa\n\
           arrive 0\n\
           step txtook\n\
           log maybe\n\
@@ -83,16 +80,11 @@ fn other_lines_are_refused(rt: HostRuntime) -> Result<(), Fail> {
         b"FAIL unknown\n\
           FAIL unknown\n\
           ERR count\n\
+          ERR count\n\
+          ERR count\n\
+          ERR count\n\
           ERR value\n\
           ERR value\n\
-          ERR value\n\
-          ERR address\n\
-          ERR address\n\
-          ERR address\n\
-          ERR value\n\
-          ERR address\n\
-          OK 0x\n\
-          ERR size\n\
           ERR value\n\
           ERR value\n\
           ERR value\n\
@@ -101,6 +93,91 @@ fn other_lines_are_refused(rt: HostRuntime) -> Result<(), Fail> {
           ERR text\n\
           ERR value\n",
     )
+}
+
+#[test]
+fn addresses_and_sizes_that_do_not_fit_are_refused(rt: HostRuntime) -> Result<(), Fail> {
+    let options = ServeOptions::new();
+    check(
+        &rt,
+        rt.alloc(),
+        &options,
+        b"readw 0xFEB00008\n\
+          readl 0xFEB00009\n\
+          readl 0xfffffffffffffffe\n\
+          read 0x100000 1\n\
+          read 0x100000 0\n\
+          read 0 65537\n\
+          write 0 2 0xaa\n\
+          write 0 1 aa\n",
+        b"ERR address\n\
+          ERR address\n\
+          ERR address\n\
+          ERR address\n\
+          OK 0x\n\
+          ERR size\n\
+          ERR value\n\
+          ERR value\n",
+    )
+}
+
+/// A line of 131,199 bytes, `write` and 65,597 words behind it; and one of 131,200, 65,600 words that aren't known.
+#[test]
+fn lines_of_many_words_are_refused(rt: HostRuntime) -> Result<(), Fail> {
+    let mut input = Vec::from_slice(rt.alloc(), b"write")?;
+    for _word in 0..65_597 {
+        input.extend_from_slice(b" a")?;
+    }
+    input.extend_from_slice(b"\n")?;
+    for _word in 0..65_600 {
+        input.extend_from_slice(b"a ")?;
+    }
+    input.extend_from_slice(b"\nendianness\n")?;
+    let options = ServeOptions::new();
+    check(
+        &rt,
+        rt.alloc(),
+        &options,
+        input.as_slice(),
+        b"ERR count\n\
+          FAIL unknown\n\
+          OK little\n",
+    )
+}
+
+/// A reader of which every other read is interrupted, and which fails where its text ends.
+#[derive(Drop)]
+struct Failing<'a> {
+    text: &'a [u8],
+    is_interrupted: bool,
+}
+
+impl io::Read for Failing<'_> {
+    fn read(&mut self, buf: &mut [u8]) -> io::Result<usize> {
+        self.is_interrupted = !self.is_interrupted;
+        if self.is_interrupted {
+            return Err(io::Error::from(io::ErrorKind::Interrupted));
+        }
+        if self.text.is_empty() {
+            return Err(io::Error::from(io::ErrorKind::TimedOut));
+        }
+        self.text.read(buf)
+    }
+}
+
+#[test]
+fn interrupted_reads_are_tried_again_and_others_end_it(rt: HostRuntime) -> Result<(), Fail> {
+    let options = ServeOptions::new();
+    let input = Failing {
+        text: b"line\nendianness\nli",
+        is_interrupted: false,
+    };
+    let mut output = Vec::new(rt.alloc());
+    let ended = serve(rt.alloc(), &options, input, &mut output);
+    assert_eq!(&rt; ended, Err(ServeError::Read));
+    let want = b"OK 0x0000000000000000\nOK little\n";
+    assert_eq!(&rt; output.as_slice(), want.as_slice());
+    Ok(())
 }
 
 #[test]
@@ -146,11 +223,10 @@ fn a_frame_is_received(rt: HostRuntime) -> Result<(), Fail> {
 
 #[test]
 fn a_frame_is_sent_with_the_log_on(rt: HostRuntime) -> Result<(), Fail> {
-    let options = ServeOptions::new();
     check(
         &rt,
         rt.alloc(),
-        &options,
+        &ServeOptions::new(),
         b"writel 0xFEB03808 128\n\
           write 0 16 0x00010000000000000e00000b00000000\n\
           write 0x100 14 0xffffffffffff02000000000188b5\n\

@@ -1,17 +1,24 @@
 // The words of a line.
 
-ghost use Rattle.std.specs.Prelude.{◌≡◌, ◌<◌, IfOk, length};
+ghost use Rattle.std.specs.Prelude.{◌≡◌, ◌<◌, ◌+◌, IfOk, length, take};
+ghost use Rattle.adapter_server.specs.Reading.{request_in};
 ghost use Rattle.adapter_server.specs.Words.{texts, word, words_of};
 
 use std::alloc::{AllocError, Global};
 
-/// The words of a line: what stands between its spaces and tabs.
+/// How many words a request has at most.
+const MOST_WORDS: usize = 4;
+
+/// The words of a line, what stands between its spaces and tabs: as many as a request has at most, and one more where
+/// there are more. What is behind these isn't looked at.
 pub(crate) fn words_in<'a>(alloc: Global, line: &'a str) -> Result<Vec<&'a str>, AllocError>
-    ensures { IfOk result (λ words. texts words.items ≡ words_of line.entry.now) }
+    ensures words { IfOk result (λ words. texts words.items ≡ take (MOST_WORDS + 1) (words_of line.entry.now)) }
+    ensures asked { IfOk result (λ words. request_in (texts words.items) ≡ request_in (words_of line.entry.now)) }
 {
     line.split(' ')
         .flat_map(|part| part.split('\t'))
         .filter(|word| !word.is_empty())
+        .take(MOST_WORDS + 1)
         .collect(alloc)
 }
 

@@ -1,9 +1,11 @@
-use Rattle.std.proofs.Common.{◌∙◌, arith, subst, sym}
+use Rattle.std.proofs.Common.{◌≡◌, ◌∙◌, arith, subst, sym}
 use Rattle.adapter_server.specs.Devices.{IsQuiet}
 use Rattle.adapter_server.specs.LinesRead.{IsNextLine}
 use Rattle.adapter_server.specs.declared.line_reader.NextLine.{NextLine}
+use Rattle.adapter_server.specs.declared.serve_error.ServeError.TheVariants as errors
 use Rattle.adapter_server.specs.declared.session.Session.{Session}
-use Rattle.adapter_server.proofs.ServedLines.{ServesOn, serves_all, serves_long, serves_none, serves_whole}
+use Rattle.adapter_server.proofs.ServedLines.{ServesOn, serves_all, serves_long, serves_none, serves_some}
+use Rattle.adapter_server.proofs.ServedLines.{serves_whole, whatever_error}
 use Rattle.adapter_server.proofs.server.serve.Goals.{in-Whole+in_ok-answer_line-in-Whole, in-Long+in_ok-refuse_long-in-Long}
 use Rattle.adapter_server.proofs.server.serve.Goals as goal
 
@@ -56,8 +58,8 @@ loop-count-init g c = record {
   so_far = serves_none (g.R.Read.remaining c.args.input) c.in_ok-session.session (g.W.Write.contents c.args.output.now);
 }
 
-pub returns-in-End : goal.returns-in-End
-returns-in-End g c =
+pub returns-in-End-clause-ok : goal.returns-in-End-clause-ok
+returns-in-End-clause-ok g c =
     let left = g.R.Read.remaining in
     let contents = g.W.Write.contents in
     serves_all c.args.options.now (left c.args.input) (left c.loop-count.input) (left c.next_line.new.reader)
@@ -65,3 +67,16 @@ returns-in-End g c =
     c.in_ok-session.ensures c.loop-count.invariant.so_far
     (subst (λ (next : NextLine). IsNextLine next c.next_line.new.line.items (left c.loop-count.input) (left c.next_line.new.reader))
     c.in-End.is c.in_ok-next_line.ensures.next)
+
+pub returns-in_err-next_line-clause-read : goal.returns-in_err-next_line-clause-read
+returns-in_err-next_line-clause-read g c =
+    whatever_error c.from_residual-in_err-next_line.result (λ error. error ≡ errors.Read) _
+    (serves_some c.args.options.now (g.R.Read.remaining c.args.input) (g.R.Read.remaining c.loop-count.input) c.in_ok-session.session
+    c.loop-count.session (g.W.Write.contents c.args.output.now) (g.W.Write.contents c.loop-count.output) c.in_ok-session.ensures
+    c.loop-count.invariant.so_far)
+
+pub returns-clause-read : goal.returns-clause-read
+returns-clause-read g c = λ same.
+    serves_some c.args.options.now (g.R.Read.remaining c.args.input) (g.R.Read.remaining c.loop-count.input) c.in_ok-session.session
+    c.loop-count.session (g.W.Write.contents c.args.output.now) (g.W.Write.contents c.loop-count.output) c.in_ok-session.ensures
+    c.loop-count.invariant.so_far
