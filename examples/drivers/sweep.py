@@ -16,6 +16,8 @@ from adapter import Adapter, Refused  # noqa: E402
 from driver import BUGS, DeviceError, Driver  # noqa: E402
 
 ROUNDS = 8
+# How many frames are sent behind these without a pause.
+BURST = 12
 # How many steps are played before an access at most.
 STEPS = 3
 SELF, OTHER = bytes.fromhex("020000000001"), bytes.fromhex("020000000009")
@@ -43,10 +45,9 @@ def fault_of(name, wanted, got):
 
 
 def exchange(adapter, driver):
-    """Rounds of frames that come and are sent. What was wrong behind one, or None; and where the log of the last one begins."""
+    """Rounds of frames that come and are sent, and then a burst. What was wrong behind one, or None."""
     came, sent = [], []
     for number in range(ROUNDS):
-        begins = len(adapter.told)
         for frame in (frame_of(2 * number + n, SELF, OTHER) for n in range(2)):
             if adapter.arrive(frame) == "stored":
                 came.append(frame)
@@ -59,28 +60,41 @@ def exchange(adapter, driver):
         handle(adapter, driver)
         fault = fault_of("received", came, driver.received) or fault_of("sent", sent, adapter.wire)
         if fault:
-            return fault, begins
-    return None, begins
+            return fault
+    return burst(adapter, driver, sent)
+
+
+def burst(adapter, driver, sent):
+    """Frames are sent one behind the other, behind those that were. What was wrong, or None."""
+    for number in range(BURST):
+        frame = frame_of(ROUNDS + number, OTHER, SELF)
+        if driver.send(frame):
+            sent.append(frame)
+        if driver.sent > len(adapter.wire):
+            return f"the buffer of frame {driver.sent - 1} was freed before the frame was on the wire"
+    adapter.settle()
+    handle(adapter, driver)
+    return fault_of("sent", sent, adapter.wire)
 
 
 def run(program, seed, bug=None):
-    """A run: what was wrong, its log, and where the log of its last round begins."""
+    """A run: what was wrong, or None, and its log."""
     with Adapter(program, "--seed", str(seed)) as adapter:
         adapter.log(True)
         adapter.interleave(STEPS)
         driver = Driver(adapter, bug)
         driver.bring_up()
-        fault, begins = exchange(adapter, driver)
-        return fault, adapter.told, begins
+        fault = exchange(adapter, driver)
+        return fault, adapter.told
 
 
 def sweep(program, seeds, name, bug=None):
-    """Prints the first seed that fails, and gives it with the log of the round in which it does; None where all pass."""
+    """Prints the first seed that fails, and gives it with the log of its run; None where all pass."""
     for seed in range(1, seeds + 1):
-        fault, log, begins = run(program, seed, bug)
+        fault, log = run(program, seed, bug)
         if fault:
             print(f"{name}: seed {seed}: {fault}")
-            return seed, log[begins:]
+            return seed, log
     print(f"{name}: seeds 1 to {seeds} pass")
     return None
 
@@ -91,7 +105,7 @@ def sweep_all(program, seeds):
     found = {bug: sweep(program, seeds, bug, bug) for bug in BUGS}
     for bug, failed in found.items():
         if failed:
-            print(f"\n{bug}: {BUGS[bug]}. Seed {failed[0]}, the last round:")
+            print(f"\n{bug}: {BUGS[bug]}. Seed {failed[0]}, its log:")
             print("\n".join(failed[1]))
     return passes and None not in found.values()
 
@@ -99,7 +113,7 @@ def sweep_all(program, seeds):
 def main():
     program, *words = sys.argv[1:]
     if words[:1] == ["--bug"]:
-        fault, log, _ = run(program, int(words[2]), words[1])
+        fault, log = run(program, int(words[2]), words[1])
         print("\n".join([*log, fault or "passes"]))
         return 0 if fault is None else 1
     return 0 if sweep_all(program, int(words[0]) if words else 100) else 1
