@@ -86,7 +86,7 @@ abbrev pub reported : List Queued → List ℕ → List ℕ
 reported [] memory = memory
 reported (queued ∷ later) memory = written_back memory queued
 
--- Byte 12 of the descriptor of the frame put becomes 0x01 where it asks for a report.
+-- The status byte of the descriptor of the frame put has DD alone where it asks for a report.
 abbrev pub memory_after_put : Stepped → List ℕ → AdapterState → List ℕ
 memory_after_put (Put frame) memory state = reported state.transmitter.buffer memory
 memory_after_put _ memory state = memory

@@ -4,7 +4,7 @@ ghost use Rattle.std.specs.Prelude.{◌≡◌, ◌↔◌, ◌+◌, ◌<◌, ◌�
 ghost use Rattle.dma_memory.specs.Layout.{size_of};
 ghost use Rattle.dma_memory.specs.Owners.{HasNoSecondOwner, copies};
 ghost use Rattle.registers.specs.Bits.{HasBit, is_set};
-ghost use Rattle.descriptors.specs.RxStatus.{status_bits};
+ghost use Rattle.descriptors.specs.RxStatus.{dd, eop, status_bits};
 ghost use Rattle.descriptors.specs.RingLaws.{place};
 ghost use Rattle.rx_filter.specs.Addresses.{ether_type};
 ghost use Rattle.adapter.specs.Conditions.{IsWhole};
@@ -45,14 +45,14 @@ struct Finished {
 
 /// Whether the adapter is done with a descriptor.
 fn is_done(descriptor: &RxDesc) -> bool
-    ensures { result ≡ is_set (status_bits descriptor.now.status) 0 }
+    ensures { result ≡ is_set (status_bits descriptor.now.status) dd }
 {
     descriptor.status.contains(RxStatus::DD)
 }
 
 /// Whether a packet ends in a descriptor's buffer: EOP.
 fn is_ended(descriptor: &RxDesc) -> bool
-    ensures { IsTrue result ↔ HasBit (status_bits descriptor.now.status) 1 }
+    ensures { IsTrue result ↔ HasBit (status_bits descriptor.now.status) eop }
 {
     descriptor.status.contains(RxStatus::EOP)
 }

@@ -5,6 +5,7 @@ ghost use Rattle.std.specs.Bool.{OnFalse, OnTrue};
 ghost use Rattle.registers.specs.Bits.{is_set};
 ghost use Rattle.dma_memory.specs.Layout.{size_of};
 ghost use Rattle.descriptors.specs.Frames.{padded};
+ghost use Rattle.descriptors.specs.TxFields.{tx_dd};
 ghost use Rattle.adapter.specs.Slots.{written_back};
 ghost use Rattle.driver_law.specs.DriverState.{HandedOut, holding, transmit_slot, transmit_tail};
 ghost use Rattle.driver_law.specs.Stretches.{RanBy};
@@ -52,7 +53,7 @@ fn descriptor_address(layout: Layout, slot: u16) -> u64
 
 /// Whether the adapter is done with a transmit descriptor: DD is set.
 fn shows_done(bytes: &[u8; 16]) -> bool
-    ensures { result ≡ is_set (slice_index bytes.now 12) 0 }
+    ensures { result ≡ is_set (slice_index bytes.now 12) tx_dd }
 {
     TxDesc::from_bytes(bytes).status.contains(TxStatus::DD)
 }

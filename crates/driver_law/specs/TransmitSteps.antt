@@ -7,7 +7,9 @@ use Rattle.dma_memory.specs.Layout.{Counts, TransmitBuffer, area_of, buffer_byte
 use Rattle.descriptors.specs.Frames.{longest_frame, padded, shortest_sent}
 use Rattle.descriptors.specs.Ring.{slots_from}
 use Rattle.descriptors.specs.TxDesc.{tx_desc_bytes}
-use Rattle.descriptors.specs.TxFields.{command_of, sent_of}
+use Rattle.descriptors.specs.TxFields.{command_of, sent_of, tx_eop, tx_ifcs, tx_rs}
+use Rattle.registers.specs.Bits.{union}
+use Rattle.registers.specs.Places.{alone}
 use Rattle.adapter.specs.HostFrames.{frames_to_send}
 use Rattle.adapter.specs.Slots.{is_done, written_back}
 use Rattle.adapter.specs.World.{World, transmit_ring, world_after_store, world_after_write}
@@ -36,14 +38,17 @@ tail_buffer driver = transmit_buffer driver.counts (transmit_tail driver)
 abbrev pub oldest_slot : DriverState → ℕ
 oldest_slot driver = transmit_slot driver.counts driver.oldest_transmit
 
--- a transmit descriptor that names so many bytes at an address, as a whole packet (EOP) with a check sequence (IFCS), and asks for a report
--- (RS)
+-- the command of a whole packet (EOP), with a check sequence (IFCS), of which a report is asked for (RS)
+abbrev pub whole_packet_command : ℕ
+whole_packet_command = union (union (alone tx_eop) (alone tx_ifcs)) (alone tx_rs)
+
+-- a transmit descriptor that names so many bytes at an address, as a whole packet
 abbrev pub whole_descriptor : (address size : ℕ) → List ℕ
 whole_descriptor address size = tx_desc_bytes (record {
   address = address;
   length = size;
   cso = 0;
-  command = command_of 0x0B;
+  command = command_of whole_packet_command;
   status = sent_of 0;
   css = 0;
   special = 0;

@@ -1,7 +1,8 @@
 -- The done step of the receive engine ("3.2.3 Receive Descriptor Format").
 use Rattle.std.specs.Prelude.{◌≡◌, ◌+◌, ◌++◌, ℕ, List, [], ◌∷◌, length, nat_le, Option, None, Some, if◌then◌else◌}
 use Rattle.byteorder.specs.Endian.{little_bytes}
-use Rattle.registers.specs.Bits.{HasBit}
+use Rattle.registers.specs.Bits.{HasBit, union}
+use Rattle.registers.specs.Places.{alone}
 use Rattle.dma_memory.specs.Areas.{area_at, descriptor_area, AreApart}
 use Rattle.dma_memory.specs.HostMemory.{bytes_at, with_bytes, LiesIn}
 use Rattle.descriptors.specs.RxStatus.{status_bits, dd, eop}
@@ -9,9 +10,13 @@ use Rattle.rx_engine.specs.Descriptors.{descriptor_at, named_address}
 use Rattle.rx_engine.specs.Receiver.{Receiver}
 use Rattle.rx_engine.specs.declared.engine.Work.{Work}
 
--- bytes 8 to 15 of a finished descriptor: the length, checksum 0, status 0x03 (DD and EOP), errors 0, special 0
+-- the status of a finished descriptor: DD and EOP (3.2.3.1)
+abbrev pub finished_status : ℕ
+finished_status = union (alone dd) (alone eop)
+
+-- bytes 8 to 15 of a finished descriptor: the length, checksum 0, the status, errors 0, special 0
 abbrev pub finished_bytes : ℕ → List ℕ
-finished_bytes n = little_bytes 2 n ++ 0 ∷ 0 ∷ 3 ∷ 0 ∷ 0 ∷ 0 ∷ []
+finished_bytes n = little_bytes 2 n ++ 0 ∷ 0 ∷ finished_status ∷ 0 ∷ 0 ∷ 0 ∷ []
 
 -- the engine after a done step: no frame is in work
 abbrev pub engine_after_done : Receiver → Receiver

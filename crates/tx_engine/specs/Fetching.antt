@@ -2,17 +2,18 @@
 use Rattle.std.specs.Prelude.{◌≡◌, ◌<◌, ◌≤◌, ◌⊎◌, if◌then◌else◌, Bool, IsTrue, ℕ, List, length}
 use Rattle.dma_memory.specs.HostMemory.{bytes_at, LiesIn}
 use Rattle.registers.specs.Bits.{HasBit, is_set}
+use Rattle.registers.specs.Places.{tctl_en, tctl_psp}
 use Rattle.descriptors.specs.declared.ring.Ring.{Ring}
 use Rattle.descriptors.specs.declared.tx_desc.TxDesc.{TxDesc}
 use Rattle.descriptors.specs.Frames.{longest_frame, padded}
 use Rattle.descriptors.specs.Ring.{HasValidIndices, address_of}
 use Rattle.descriptors.specs.TxDesc.{tx_desc_of}
-use Rattle.descriptors.specs.TxFields.{command_bits}
+use Rattle.descriptors.specs.TxFields.{command_bits, tx_dext, tx_eop, tx_rs}
 use Rattle.tx_engine.specs.Transmitter.{Queued, Transmitter}
 
 -- Whether a transmit control register pads short packets: PSP ("13.4.33 Transmit Control Register").
 abbrev pub pads : ℕ → Bool
-pads control = is_set control 3
+pads control = is_set control tctl_psp
 
 -- The descriptor that stands at an address.
 abbrev pub descriptor_at : List ℕ → ℕ → TxDesc
@@ -30,23 +31,24 @@ as_sent pad frame = if pad then padded frame else frame
 abbrev pub frame_at : Bool → List ℕ → ℕ → List ℕ
 frame_at pad memory address = as_sent pad (named_by memory (descriptor_at memory address))
 
--- What the engine makes of the descriptor at an address. RS is bit 3 of its command.
+-- What the engine makes of the descriptor at an address.
 abbrev pub fetched : Bool → List ℕ → ℕ → Queued
 fetched pad memory address = record {
   frame = frame_at pad memory address;
   descriptor = address;
-  report = is_set (command_bits (descriptor_at memory address).command) 3;
+  report = is_set (command_bits (descriptor_at memory address).command) tx_rs;
 }
 
 -- The engine has nothing to take: TCTL.EN is 0, it is stopped, its buffer holds four frames (own), or head equals tail.
 abbrev pub IsIdle : ℕ → Transmitter → Ring → Type 0
-IsIdle control engine ring = (¬ (HasBit control 1)) ⊎ (IsTrue engine.stopped ⊎ ((length engine.buffer ≡ 4) ⊎ (ring.head ≡ ring.tail)))
+IsIdle control engine ring =
+    (¬ (HasBit control tctl_en)) ⊎ (IsTrue engine.stopped ⊎ ((length engine.buffer ≡ 4) ⊎ (ring.head ≡ ring.tail)))
 
 -- A descriptor that this adapter can transmit (own; by the manual a packet may span several descriptors): it holds the end
 -- of its packet, it has the legacy format, and it names 1 to 1,518 bytes of memory.
 pub record IsTransmittable (memory : List ℕ) (desc : TxDesc) : Type 0 where
-  pub ends : HasBit (command_bits desc.command) 0
-  pub legacy : ¬ (HasBit (command_bits desc.command) 5)
+  pub ends : HasBit (command_bits desc.command) tx_eop
+  pub legacy : ¬ (HasBit (command_bits desc.command) tx_dext)
   pub least : 0 < desc.length
   pub most : desc.length ≤ longest_frame
   pub lies : LiesIn memory desc.address desc.length

@@ -4,6 +4,8 @@ use Rattle.std.specs.Prelude.{◌≡◌, ◌+◌, ◌++◌, ◌∷◌, [], ◌&&
 use Rattle.dma_memory.specs.HostMemory.{with_bytes}
 use Rattle.descriptors.specs.declared.ring.Ring.{Ring}
 use Rattle.descriptors.specs.Ring.{next_of, address_of}
+use Rattle.descriptors.specs.TxFields.{tx_dd}
+use Rattle.registers.specs.Places.{alone}
 use Rattle.tx_engine.specs.Transmitter.{Queued, Transmitter}
 use Rattle.tx_engine.specs.Fetching.{pads, fetched}
 use Rattle.tx_engine.specs.declared.answers.Take.{Take}
@@ -37,11 +39,11 @@ pub record Takes (control : ℕ) (memory : List ℕ) (ring moved : Ring) (engine
 abbrev pub status_place : Queued → ℕ
 status_place queued = queued.descriptor + 12
 
--- Memory once a frame has gone out: where its descriptor asks for a report, the status byte is 1 (DD). In a memory that
+-- Memory once a frame has gone out: where its descriptor asks for a report, the status byte has DD alone (3.3.3.2). In a memory that
 -- ends before that byte nothing is written.
 abbrev pub written_back : List ℕ → Queued → List ℕ
 written_back memory queued = if queued.report && nat_lt (status_place queued) (length memory) then with_bytes memory (status_place queued)
-    (1 ∷ []) else memory
+    (alone tx_dd ∷ []) else memory
 
 -- At most the byte at this place differs.
 pub record DiffersAtMostAt (place : ℕ) (memory changed : List ℕ) : Type 0 where

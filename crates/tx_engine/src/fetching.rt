@@ -2,7 +2,7 @@ ghost use Rattle.std.specs.Prelude.{◌≡◌, ◌+◌, ◌<◌, ◌≤◌, ◌^
 ghost use Rattle.registers.specs.Bits.{HasBit, is_set};
 ghost use Rattle.dma_memory.specs.HostMemory.{LiesIn};
 ghost use Rattle.descriptors.specs.Ring.{address_of};
-ghost use Rattle.descriptors.specs.TxFields.{command_bits};
+ghost use Rattle.descriptors.specs.TxFields.{command_bits, tx_dext, tx_eop, tx_rs};
 ghost use Rattle.tx_engine.specs.Fetching.{IsTransmittable, IsFetchable, descriptor_at, named_by};
 
 use bitflags::Flags;
@@ -22,21 +22,21 @@ pub struct Named<'a> {
 
 /// Whether a descriptor holds the end of its packet: EOP is set.
 fn ends_packet(command: TxCommand) -> bool
-    ensures { IsTrue result ↔ HasBit (command_bits command) 0 }
+    ensures { IsTrue result ↔ HasBit (command_bits command) tx_eop }
 {
     command.contains(TxCommand::EOP)
 }
 
 /// Whether a descriptor has one of the extended formats: DEXT is set.
 fn is_extended(command: TxCommand) -> bool
-    ensures { IsTrue result ↔ HasBit (command_bits command) 5 }
+    ensures { IsTrue result ↔ HasBit (command_bits command) tx_dext }
 {
     command.contains(TxCommand::DEXT)
 }
 
 /// Whether a descriptor asks for a report: RS is set.
 fn asks_report(command: TxCommand) -> bool
-    ensures { result ≡ is_set (command_bits command) 3 }
+    ensures { result ≡ is_set (command_bits command) tx_rs }
 {
     command.contains(TxCommand::RS)
 }
@@ -82,7 +82,7 @@ pub fn fetch<'a>(ring: &Ring, memory: &'a HostMemory) -> Option<Named<'a>>
     ensures fits { IfSome result (λ named. named.descriptor + 12 < 2 ^ 64) }
     ensures length { IfSome result (λ named. length named.bytes.now ≤ 1518) }
     ensures reports { IfSome result (λ named. named.reports
-        ≡ is_set (command_bits (descriptor_at memory.now (address_of ring.now ring.now.head)).command) 3) }
+        ≡ is_set (command_bits (descriptor_at memory.now (address_of ring.now ring.now.head)).command) tx_rs) }
 {
     if !ring.has_valid_indices() {
         return None;
