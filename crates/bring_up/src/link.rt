@@ -2,6 +2,8 @@
 
 ghost use Rattle.std.specs.Prelude.{◌≡◌, ◌⊎◌, ◌↔◌, IfErr, IsOkUnless, IsTrue};
 ghost use Rattle.registers.specs.Bits.{Meet};
+ghost use Rattle.registers.specs.Places.{alone};
+ghost use Rattle.mdic_phy.specs.Places.{status_complete, status_link};
 ghost use Rattle.bring_up.specs.Link.{AwaitsLink, Commands, IsCommand, Negotiates};
 
 use crate::MOST_READS;
@@ -81,7 +83,7 @@ pub fn await_link<B: Bus>(bus: &mut B) -> Result<(), InitError>
 
 /// Whether the PHY's status shows that negotiation is complete, bit 5, and the link up, bit 2.
 fn shows_link(status: u32) -> bool
-    ensures { IsTrue result ↔ (Meet status 0x20 × Meet status 0x04) }
+    ensures { IsTrue result ↔ (Meet status (alone status_complete) × Meet status (alone status_link)) }
 {
     status & NEGOTIATED != 0 && status & LINK != 0
 }

@@ -1,13 +1,13 @@
 -- MDIC, the MDI control register (manual, 13.4.7), one step at a time.
 use Rattle.std.specs.Prelude.{ℕ, ◌+◌, ◌*◌, ◌/◌, ◌%◌, ◌^◌, ◌==◌, ◌&&◌, ◌||◌, Bool, Option, Some, None, is_some, if◌then◌else◌}
-use Rattle.std.specs.Int.RustNames.{bit_and, bit_or}
-use Rattle.registers.specs.Bits.{field, is_set}
+use Rattle.registers.specs.Bits.{difference, field, is_set, union}
+use Rattle.registers.specs.Places.{alone}
 use Rattle.mdic_phy.specs.declared.mdic.Operation.{Operation}
 use Rattle.mdic_phy.specs.declared.mdic.Operation.TheVariants.{Write, Read}
 use Rattle.mdic_phy.specs.declared.mdic.Ticked.{Ticked}
 use Rattle.mdic_phy.specs.Phy.{PhyState}
 use Rattle.mdic_phy.specs.Phy as phy
-use Rattle.mdic_phy.specs.Places.{mdic_i, mdic_op, mdic_phyadd, mdic_regadd}
+use Rattle.mdic_phy.specs.Places.{mdic_e, mdic_i, mdic_op, mdic_phyadd, mdic_r, mdic_regadd, mdic_reserved}
 
 -- The register's number, and the command that is pending.
 pub record MdicState : Type 0 where
@@ -35,21 +35,21 @@ op value = field value mdic_op 2
 abbrev pub operation_of : ℕ → Option Operation
 operation_of value = if op value == 1 then Some Write else (if op value == 2 then Some Read else None)
 
--- What a write keeps: all but R (28), E (30) and bit 31.
+-- What a write keeps: all but R, E and the reserved bit (own).
 abbrev pub kept : ℕ → ℕ
-kept value = bit_and value 0x2FFF_FFFF
+kept value = difference value (union (union (alone mdic_r) (alone mdic_e)) (alone mdic_reserved))
 
 -- A write begins the command of its OP; one that was pending is dropped (own).
 abbrev pub after_write : ℕ → MdicState
 after_write value = record { value = kept value; pending = operation_of value }
 
--- The number with R, bit 28, set.
+-- The number with R set.
 abbrev pub with_ready : ℕ → ℕ
-with_ready value = bit_or value 0x1000_0000
+with_ready value = union value (alone mdic_r)
 
--- The number with R and E, bits 28 and 30, set.
+-- The number with R and E set.
 abbrev pub with_error : ℕ → ℕ
-with_error value = bit_or (with_ready value) 0x4000_0000
+with_error value = union (with_ready value) (alone mdic_e)
 
 -- The number with other DATA.
 abbrev pub with_data : ℕ → ℕ → ℕ

@@ -1,11 +1,12 @@
 -- A PHY with the registers of IEEE 802.3, clause 22, as far as link up, one step at a time.
 use Rattle.std.specs.Prelude.{ℕ, ◌-◌, ◌==◌, ◌&&◌, Bool, true, false, nat_le, not, if◌then◌else◌}
-use Rattle.registers.specs.Bits.{is_set}
+use Rattle.registers.specs.Bits.{is_set, union}
+use Rattle.registers.specs.Places.{alone}
 use Rattle.mdic_phy.specs.declared.phy.Link.{Link}
 use Rattle.mdic_phy.specs.declared.phy.Link.TheVariants.{After, Never}
 use Rattle.mdic_phy.specs.declared.phy.Negotiation.{Negotiation}
 use Rattle.mdic_phy.specs.declared.phy.Negotiation.TheVariants.{NotStarted, Running, Complete}
-use Rattle.mdic_phy.specs.Places.{control_enable, control_reset, control_restart}
+use Rattle.mdic_phy.specs.Places.{control_enable, control_reset, control_restart, status_complete, status_link}
 
 -- What a PHY knows: when its link comes up, whether negotiation is enabled (register 0, bit 12), how far
 -- negotiation stands, and whether the link status (register 1, bit 2) is latched low.
@@ -53,12 +54,19 @@ after_write register value phy = if register == 0 then after_control value phy e
 
 -- Register 0 reads its bit 12; the others read 0 (own).
 abbrev pub control_value : PhyState → ℕ
-control_value phy = if phy.negotiation_enabled then 0x1000 else 0
+control_value phy = if phy.negotiation_enabled then alone control_enable else 0
+
+-- The status register with Auto-Negotiation Complete alone, and with Link Status too (22.2.4.2).
+abbrev pub link_unseen : ℕ
+link_unseen = alone status_complete
+
+abbrev pub link_seen : ℕ
+link_seen = union (alone status_complete) (alone status_link)
 
 -- Register 1 (22.2.4.2): bit 5 where negotiation is complete, bit 2 where the link is up and its status isn't
 -- latched low; the others read 0 (own).
 abbrev pub status_value : PhyState → ℕ
-status_value phy = if link_is_up phy then (if phy.latched_low then 0x20 else 0x24) else 0
+status_value phy = if link_is_up phy then (if phy.latched_low then link_unseen else link_seen) else 0
 
 -- What a register reads: control, status, the two identifiers (22.2.4.3.1), and 0 (own).
 abbrev pub read_value : ℕ → PhyState → ℕ

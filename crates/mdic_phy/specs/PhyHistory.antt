@@ -3,9 +3,10 @@ use Rattle.std.specs.Prelude.{◌≡◌, ℕ, ◌≤◌, ◌==◌, ◌&&◌, ◌
 use Rattle.std.specs.Prelude.{if◌then◌else◌}
 use Rattle.std.specs.List.{list_any}
 use Rattle.registers.specs.Bits.{is_set}
+use Rattle.registers.specs.Places.{alone}
 use Rattle.mdic_phy.specs.declared.phy.Link.{Link}
 use Rattle.mdic_phy.specs.declared.phy.Link.TheVariants.{After, Never}
-use Rattle.mdic_phy.specs.Phy.{PhyState, new_phy, after_write, after_read, after_tick, read_value, link_is_up}
+use Rattle.mdic_phy.specs.Phy.{PhyState, new_phy, after_write, after_read, after_tick, read_value, link_is_up, link_seen, link_unseen}
 use Rattle.mdic_phy.specs.Places.{control_enable, control_reset, control_restart}
 
 -- What may come to a PHY: a tick, a read of a register, a write of a value to a register.
@@ -91,26 +92,26 @@ where_up link events value = if link_is_up (phy_behind link events) then value e
 -- restart came since that read (22.2.4.2, "Link Status": latched low until read); and bit 5 exactly where the link is up.
 pub record LatchByHistory : Type 0 where
   -- The first read has no bit 2.
-  pub never_read : (link : Link) (all : List PhyEvent) → HasNo is_status_read all → status_behind link all ≡ where_up link all 0x20
+  pub never_read : (link : Link) (all : List PhyEvent) → HasNo is_status_read all → status_behind link all ≡ where_up link all link_unseen
   -- A read has no bit 2 where a reset or a restart came and no read behind it.
   pub taken_down : (link : Link) (before : List PhyEvent) (event : PhyEvent) (after : List PhyEvent) → IsTrue (takes_down event)
       → HasNo is_status_read after
-      → status_behind link (before ++ event ∷ after) ≡ where_up link (before ++ event ∷ after) 0x20
+      → status_behind link (before ++ event ∷ after) ≡ where_up link (before ++ event ∷ after) link_unseen
   -- A read has bit 2, where the link is up, if a read came before it and neither a reset nor a restart behind that.
   pub stayed : (link : Link) (before : List PhyEvent) (event : PhyEvent) (after : List PhyEvent) → IsTrue (is_status_read event)
       → HasNo takes_down after
-      → status_behind link (before ++ event ∷ after) ≡ where_up link (before ++ event ∷ after) 0x24
+      → status_behind link (before ++ event ∷ after) ≡ where_up link (before ++ event ∷ after) link_seen
 
 -- What the control register reads behind a list of events.
 abbrev pub control_behind : Link → List PhyEvent → ℕ
 control_behind link events = read_value 0 (phy_behind link events)
 
--- The control register reads bit 12 of what was last written to it, or 1000h where that was a reset or nothing.
+-- The control register reads bit 12 of what was last written to it, or bit 12 alone where that was a reset or nothing.
 pub record ControlByHistory : Type 0 where
-  pub never_written : (link : Link) (all : List PhyEvent) → HasNo is_control_write all → control_behind link all ≡ 0x1000
+  pub never_written : (link : Link) (all : List PhyEvent) → HasNo is_control_write all → control_behind link all ≡ alone control_enable
   pub reset : (link : Link) (before : List PhyEvent) (value : ℕ) (after : List PhyEvent) → is_set value control_reset ≡ true
       → HasNo is_control_write after
-      → control_behind link (before ++ Write 0 value ∷ after) ≡ 0x1000
+      → control_behind link (before ++ Write 0 value ∷ after) ≡ alone control_enable
   pub kept : (link : Link) (before : List PhyEvent) (value : ℕ) (after : List PhyEvent) → is_set value control_reset ≡ false
       → HasNo is_control_write after
-      → control_behind link (before ++ Write 0 value ∷ after) ≡ (if is_set value control_enable then 0x1000 else 0)
+      → control_behind link (before ++ Write 0 value ∷ after) ≡ (if is_set value control_enable then alone control_enable else 0)

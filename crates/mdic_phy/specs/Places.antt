@@ -1,5 +1,5 @@
--- Where the bits of the PHY's registers stand, by the names of IEEE 802.3, 22.2.4, "Management functions", and that of MDIC's I (13.4.7 of
--- Intel's manual, "MDI Control Register").
+-- Where the bits of the PHY's registers stand, by the names of IEEE 802.3, 22.2.4, "Management functions", and the fields and bits of MDIC,
+-- by those of 13.4.7 of Intel's manual, "MDI Control Register".
 use Rattle.std.specs.Prelude.{ℕ}
 
 -- register 0 (22.2.4.1 "Control register"): Reset, Auto-Negotiation Enable, Restart Auto-Negotiation
@@ -29,6 +29,15 @@ mdic_phyadd = 21
 abbrev pub mdic_op : ℕ
 mdic_op = 26
 
--- MDIC's I: the end of the command is told
+-- MDIC's R, the command has ended; I, its end is told; E, it has failed; and bit 31, which is reserved
+abbrev pub mdic_r : ℕ
+mdic_r = 28
+
 abbrev pub mdic_i : ℕ
 mdic_i = 29
+
+abbrev pub mdic_e : ℕ
+mdic_e = 30
+
+abbrev pub mdic_reserved : ℕ
+mdic_reserved = 31
