@@ -3,6 +3,7 @@
 use Rattle.std.specs.Prelude.{◌≡◌, ◌<◌, ◌↔◌, ◌+◌, ◌*◌, ◌^◌, ◌++◌, ℕ, zero, suc, List, [], ◌∷◌, length, map}
 use Rattle.std.specs.List.{Contains}
 use Rattle.adapter.specs.declared.offsets.TheConstants.{RAL}
+use Rattle.registers.specs.Places.{alone, rah_av}
 use Rattle.rx_filter.specs.Addresses.{group_number, high_word, low_word}
 use Rattle.rx_filter.specs.Registers.{HasTableBit}
 use Rattle.bus.specs.Settings.{Write}
@@ -33,4 +34,4 @@ empty_entries entry (suc count) = entry_writes entry 0 0 ++ empty_entries (entry
 
 -- the first entry holds the address and is valid, and the other 15 are 0
 abbrev pub address_writes : List ℕ → List Write
-address_writes address = entry_writes 0 (low_word address) (high_word address + 2 ^ 31) ++ empty_entries 1 15
+address_writes address = entry_writes 0 (low_word address) (high_word address + alone rah_av) ++ empty_entries 1 15

@@ -20,6 +20,9 @@ ctrl_rst = 26
 abbrev pub status_lu : ℕ
 status_lu = 1
 
+abbrev pub status_speed : ℕ
+status_speed = 6
+
 -- RCTL (13.4.22 "Receive Control Register")
 abbrev pub rctl_en : ℕ
 rctl_en = 1

@@ -3,7 +3,7 @@
 ghost use Rattle.std.specs.Prelude.{⊤, ◌≡◌, ◌↔◌, [], ◌∷◌, IsTrue, bit_and, codes, if◌then◌else◌};
 ghost use Rattle.registers.specs.Bits.{HasBit, field};
 ghost use Rattle.registers.specs.Kept.{control_mask, written_control_mask, status_of_link_up};
-ghost use Rattle.registers.specs.Places.{ctrl_rst, ctrl_slu, status_lu};
+ghost use Rattle.registers.specs.Places.{ctrl_rst, ctrl_slu, status_lu, status_speed};
 
 use crate::fields::two_bit_field;
 use bitflags::{Flag, Flags, bitflag_items};
@@ -155,7 +155,7 @@ impl Status {
 
     /// The link speed, SPEED (bits 7:6).
     pub fn speed(self) -> Speed
-        ensures { result ≡ speed_of (field self.0 6 2) }
+        ensures { result ≡ speed_of (field self.0 status_speed 2) }
     {
         match two_bit_field(self.0, 6) {
             0 => Speed::Mbps10,

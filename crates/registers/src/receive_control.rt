@@ -3,7 +3,8 @@
 ghost use Rattle.std.specs.Prelude.{⊤, ◌≡◌, ◌↔◌, [], ◌∷◌, IsTrue, bit_and, codes};
 ghost use Rattle.registers.specs.Bits.{HasBit, field};
 ghost use Rattle.registers.specs.Kept.{receive_control_mask};
-ghost use Rattle.registers.specs.Places.{rctl_bam, rctl_bsex, rctl_en, rctl_mpe, rctl_upe, rctl_vfe};
+ghost use Rattle.registers.specs.Places.{rctl_bam, rctl_bsex, rctl_bsize, rctl_en, rctl_mo};
+ghost use Rattle.registers.specs.Places.{rctl_mpe, rctl_upe, rctl_vfe};
 
 use crate::fields::two_bit_field;
 use bitflags::{Flag, Flags, bitflag_items};
@@ -147,7 +148,7 @@ impl Rctl {
 
     /// Which bits of a group address are its number, MO (bits 13:12).
     pub fn group_offset(self) -> GroupOffset
-        ensures { result ≡ group_offset_of (field self.0 12 2) }
+        ensures { result ≡ group_offset_of (field self.0 rctl_mo 2) }
     {
         match two_bit_field(self.0, 12) {
             0 => GroupOffset::Bits47To36,
@@ -159,7 +160,7 @@ impl Rctl {
 
     /// The size of a receive buffer in bytes that BSIZE (bits 17:16) names while BSEX is clear.
     pub fn buffer_size(self) -> u16
-        ensures { result ≡ buffer_size_of (field self.0 16 2) }
+        ensures { result ≡ buffer_size_of (field self.0 rctl_bsize 2) }
     {
         match two_bit_field(self.0, 16) {
             0 => 2048,

@@ -2,6 +2,7 @@
 
 ghost use Rattle.std.specs.Prelude.{◌≡◌, ◌+◌, ◌*◌, ◌/◌, ◌%◌, ◌^◌, ◌≤◌, ◌<◌, ◌↔◌, IsTrue, length, slice_index};
 ghost use Rattle.registers.specs.Bits.{HasBit};
+ghost use Rattle.registers.specs.Places.{alone, rah_av};
 ghost use Rattle.registers.specs.ReceiveControl.{shift_of};
 ghost use Rattle.rx_filter.specs.Addresses.{destination, IsAddress, IsGroup, broadcast, group_number, low_word};
 ghost use Rattle.rx_filter.specs.Addresses.{high_word, ether_type, vlan_number};
@@ -30,7 +31,7 @@ impl AddressWords {
     /// The words of the valid entry that holds an address.
     pub fn of(address: &[u8; 6]) -> AddressWords
         ensures low { result.low ≡ low_word address.now }
-        ensures high { result.high ≡ high_word address.now + 2 ^ 31 }
+        ensures high { result.high ≡ high_word address.now + alone rah_av }
         ensures address { IsAddress address.now }
     {
         let [b0, b1, b2, b3, b4, b5] = *address;
