@@ -39,43 +39,53 @@ fn stored_bytes_are_loaded(rt: HostRuntime) -> Result<(), Fail> {
     Ok(())
 }
 
+/// Four bytes from an address on don't all lie in the memory: they are neither stored, nor loaded, nor viewed.
+fn refuses_four_bytes(rt: &impl Abort, memory: &mut HostMemory, address: u64) {
+    same_at(
+        rt,
+        &memory.store(address, &[8; 4]),
+        &Err(OutOfRange),
+        &("store at", address),
+    );
+    let mut into = [9; 4];
+    same_at(
+        rt,
+        &memory.load(address, &mut into),
+        &Err(OutOfRange),
+        &("load at", address),
+    );
+    same(rt, &into, &[9; 4]);
+    assert!(rt; memory.view(address, 4).is_err(), "view at {address}");
+}
+
+/// No bytes lie at an address, whichever it is.
+fn accepts_no_bytes(rt: &impl Abort, memory: &mut HostMemory, address: u64) {
+    same_at(
+        rt,
+        &memory.store(address, &[]),
+        &Ok(()),
+        &("nothing stored at", address),
+    );
+    same_at(
+        rt,
+        &memory.load(address, &mut []),
+        &Ok(()),
+        &("nothing loaded at", address),
+    );
+    assert!(rt;
+        memory.view(address, 0).is_ok(),
+        "nothing viewed at {address}"
+    );
+}
+
 /// One byte past the end is refused, addresses that would wrap are, and no bytes lie at every address.
 #[test]
 fn out_of_range_changes_nothing(rt: HostRuntime) -> Result<(), Fail> {
     let mut memory = HostMemory::new(rt.alloc(), 16)?;
     same(&rt, &memory.store(4, &[1, 2, 3, 4]), &Ok(()));
     for address in [13, 16, 17, u64::MAX - 3, u64::MAX] {
-        same_at(
-            &rt,
-            &memory.store(address, &[8; 4]),
-            &Err(OutOfRange),
-            &("store at", address),
-        );
-        let mut into = [9; 4];
-        same_at(
-            &rt,
-            &memory.load(address, &mut into),
-            &Err(OutOfRange),
-            &("load at", address),
-        );
-        same(&rt, &into, &[9; 4]);
-        assert!(rt; memory.view(address, 4).is_err(), "view at {address}");
-        same_at(
-            &rt,
-            &memory.store(address, &[]),
-            &Ok(()),
-            &("nothing stored at", address),
-        );
-        same_at(
-            &rt,
-            &memory.load(address, &mut []),
-            &Ok(()),
-            &("nothing loaded at", address),
-        );
-        assert!(rt;
-            memory.view(address, 0).is_ok(),
-            "nothing viewed at {address}"
-        );
+        refuses_four_bytes(&rt, &mut memory, address);
+        accepts_no_bytes(&rt, &mut memory, address);
     }
     let mut all = [9; 16];
     same(&rt, &memory.load(0, &mut all), &Ok(()));
