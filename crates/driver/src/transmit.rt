@@ -154,8 +154,13 @@ impl Driver {
 
     /// Sends a frame of 14 to 1,518 bytes.
     ///
-    /// First it frees the oldest transmit slots whose descriptors are done, by one load each. The ring is
-    /// full where all its slots but one are outstanding then.
+    /// First it frees the oldest transmit slots whose descriptors are done, by one load each.
+    ///
+    /// # Errors
+    ///
+    /// E20 [`TooShort`](SendError::TooShort) where the frame has fewer than 14 bytes, and E21
+    /// [`TooLong`](SendError::TooLong) where it has more than 1,518; both without an access. E22
+    /// [`RingFull`](SendError::RingFull) where all slots of the ring but one are outstanding still.
     pub fn transmit<B: Bus>(&mut self, bus: &mut B, frame: &[u8]) -> Result<(), SendError>
         requires memory { size_of self.old.counts ≤ B.extent bus.old }
         ensures extent { B.extent bus.new ≡ B.extent bus.old }

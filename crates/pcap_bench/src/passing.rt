@@ -65,6 +65,10 @@ fn write_received<W: Sink, L: Watch>(
 }
 
 /// The same as [`pass`], with somebody who looks on.
+///
+/// # Errors
+///
+/// Those of [`pass`].
 pub fn pass_watched<W: Sink, L: Watch>(
     watch: &mut L,
     alloc: Global,

@@ -38,7 +38,11 @@ pub(crate) fn push_cut(line: &mut Line, cut: bool)
 }
 
 /// Writes the program's line of a pass to a sink: `read R skipped K illegal I filtered F written W cut no` (or `cut
-/// yes`), ended by a line feed. It takes no memory. After an error a beginning of the line went out.
+/// yes`), ended by a line feed. It takes no memory.
+///
+/// # Errors
+///
+/// E67 [`Write`](WriteError::Write) where the sink fails; then a beginning of the line went out.
 pub fn print_pass<W: Sink>(
     trace: &Trace,
     counts: &PassCounts,

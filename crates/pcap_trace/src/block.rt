@@ -55,6 +55,10 @@ fn read_behind<S: Source>(
 
 impl Block {
     /// A block that holds nothing. It takes 320 KiB.
+    ///
+    /// # Errors
+    ///
+    /// Want of memory alone.
     pub fn new(alloc: Global) -> Result<Block, AllocError>
         ensures { IfOk result (λ b. b ≡ []) }
     {
@@ -102,6 +106,10 @@ impl Block {
     }
 
     /// Reads from a source until so many bytes are held, at most 327,696, or the source is at its end.
+    ///
+    /// # Errors
+    ///
+    /// [`DeviceError`] where the source fails.
     pub fn fill<S: Source>(&mut self, source: &mut S, want: usize) -> Result<(), DeviceError>
         requires sound { S.failures source.old < u64.MAX }
         requires room { want ≤ ROOM }

@@ -24,8 +24,11 @@ pub trait Source {
     /// How often it has failed.
     ghost failures: { Self → ℕ };
 
-    /// Reads bytes into the front of a slice, and answers how many. None, where the slice isn't empty, is the end. An
-    /// `Err` uses up none, and adds 1 to the failures.
+    /// Reads bytes into the front of a slice, and answers how many. None, where the slice isn't empty, is the end.
+    ///
+    /// # Errors
+    ///
+    /// [`DeviceError`] where the device fails: it uses up no byte, and adds 1 to the failures.
     fn read(&mut self, into: &mut [u8]) -> Result<usize, DeviceError>
         requires { failures self.old < u64.MAX }
         ensures count { IfOk result (λ n. n ≤ length into.old) }
@@ -54,8 +57,11 @@ pub trait Sink {
     /// How often it has failed.
     ghost failures: { Self → ℕ };
 
-    /// Takes bytes from the front of a slice, and answers how many: at least one where there is one. An `Err` takes
-    /// none, and adds 1 to the failures.
+    /// Takes bytes from the front of a slice, and answers how many: at least one where there is one.
+    ///
+    /// # Errors
+    ///
+    /// [`DeviceError`] where the device fails: it takes no byte, and adds 1 to the failures.
     fn write(&mut self, bytes: &[u8]) -> Result<usize, DeviceError>
         requires { failures self.old < u64.MAX }
         ensures count { IfOk result (λ n. n ≤ length bytes.now) }

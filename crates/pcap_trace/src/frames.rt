@@ -48,7 +48,11 @@ impl Frames {
         self.len() == 0
     }
 
-    /// Appends a frame. Where memory is refused, the frames stay as they were.
+    /// Appends a frame.
+    ///
+    /// # Errors
+    ///
+    /// Want of memory alone; then the frames stay as they were.
     pub fn push(&mut self, frame: &[u8]) -> Result<(), AllocError>
         requires { length frame.now < 2 ^ 32 }
         ensures ok { OnOk result (self.new ≡ self.old ++ frame.now ∷ []) }

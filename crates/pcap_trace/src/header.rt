@@ -38,6 +38,11 @@ fn check_header<T: ByteOrder>(bytes: &[u8]) -> Result<(), ReadError>
 }
 
 /// The byte order in which the file header at the front has no fault.
+///
+/// # Errors
+///
+/// The first of these that the header has: E60 [`Header`](ReadError::Header), E61 [`Magic`](ReadError::Magic), E62
+/// [`Version`](ReadError::Version) and E63 [`LinkType`](ReadError::LinkType).
 pub fn byte_order(bytes: &[u8]) -> Result<Endianness, ReadError>
     ensures ok { IfOk result (λ order. header_fault (number_in order) bytes.now ≡ None) }
     ensures fault { IfErr result (λ e. IsHeaderFault bytes.now e) }

@@ -95,10 +95,13 @@ impl Trace {
     /// Ethernet. The snapshot length, the two words before it and all times are ignored. It takes memory for a block
     /// of 320 KiB, given back at the end, and for the frames.
     ///
-    /// The faults of the file header, E60 to E63, are looked for in this order, and before any packet. E64 comes
-    /// where, behind whole packets, a whole packet header tells more than 262,144 captured bytes, whatever stands
-    /// behind it. E65 is want of memory. A device's failure is E66 and never anything else. After an error some bytes
-    /// of the source are used up.
+    /// # Errors
+    ///
+    /// The faults of the file header, E60 to E63, are looked for in this order, and before any packet. E64
+    /// [`Record`](ReadError::Record) comes where, behind whole packets, a whole packet header tells more than 262,144
+    /// captured bytes, whatever stands behind it. E65 [`Memory`](ReadError::Memory) is want of memory. A device's
+    /// failure is E66 [`Read`](ReadError::Read) and never anything else. After an error some bytes of the source are
+    /// used up.
     pub fn read<S: Source>(alloc: Global, source: &mut S) -> Result<Trace, ReadError>
         requires { S.failures source.old < u64.MAX }
 

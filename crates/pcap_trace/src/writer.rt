@@ -36,6 +36,10 @@ impl Model for RecordWriter {
 
 impl RecordWriter {
     /// A writer in which the file header waits. It takes 64 KiB.
+    ///
+    /// # Errors
+    ///
+    /// Want of memory alone.
     pub fn new(alloc: Global) -> Result<RecordWriter, AllocError>
         ensures { IfOk result (λ w. w ≡ file_header) }
     {
@@ -55,8 +59,10 @@ impl RecordWriter {
     /// Appends the packet of a frame of at most 1,518 bytes, at a time in microseconds. Where the block has no room
     /// for it, what waits goes to the sink first.
     ///
-    /// After an error (E67) a beginning of what waited went out, and all of it waits still, without this packet: a
-    /// further flush would send that beginning again.
+    /// # Errors
+    ///
+    /// E67 [`Write`](WriteError::Write) where the sink fails; then a beginning of what waited went out, and all of it
+    /// waits still, without this packet: a further flush would send that beginning again.
     pub fn write<W: Sink>(
         &mut self,
         sink: &mut W,
@@ -94,8 +100,10 @@ impl RecordWriter {
 
     /// Writes what waits to the sink. What was appended since the last flush goes out only by this, so it ends a trace.
     ///
-    /// After an error (E67) a beginning of what waited went out, and all of it waits still: a further flush would
-    /// send that beginning again.
+    /// # Errors
+    ///
+    /// E67 [`Write`](WriteError::Write) where the sink fails; then a beginning of what waited went out, and all of it
+    /// waits still: a further flush would send that beginning again.
     pub fn flush<W: Sink>(&mut self, sink: &mut W) -> Result<(), WriteError>
         requires { W.failures sink.old < u64.MAX }
         ensures ok { OnOk result (Appends (W.taken sink.old) (W.taken sink.new) self.old) }

@@ -10,7 +10,11 @@ use crate::packet::{file_header, packet_header};
 use crate::trace::Trace;
 use descriptors::Frame;
 
-/// Writes all of a slice to a sink, in as many writes as it takes. After an error (E67) a beginning of it went out.
+/// Writes all of a slice to a sink, in as many writes as it takes.
+///
+/// # Errors
+///
+/// E67 [`Write`](WriteError::Write) where the sink fails; then a beginning of the slice went out.
 pub fn write_all<W: Sink>(sink: &mut W, bytes: &[u8]) -> Result<(), WriteError>
     requires { W.failures sink.old < u64.MAX }
     ensures ok { OnOk result (Appends (W.taken sink.old) (W.taken sink.new) bytes.now) }
@@ -43,7 +47,9 @@ impl Trace {
     /// packet the frame's, of the seconds the low 32 bits. It takes no memory, and hands the sink two slices a
     /// packet; [`RecordWriter`] writes large blocks.
     ///
-    /// A device's failure is E67, the only error; then a beginning of the file's bytes went out.
+    /// # Errors
+    ///
+    /// E67 [`Write`](WriteError::Write) where the sink fails; then a beginning of the file's bytes went out.
     pub fn write<W: Sink>(sink: &mut W, packets: &[(u64, Frame)]) -> Result<(), WriteError>
         requires { W.failures sink.old < u64.MAX }
         ensures ok { OnOk result (Appends (W.taken sink.old) (W.taken sink.new) (written (map timed packets.now))) }
