@@ -56,7 +56,7 @@ fn push_sinks<R: Files + AllocGlobal>(
 ) -> Result<(), Fault>
     requires { All (λ sink. ⟦<WriterSink<R::File> as Sink>⟧.failures sink ≡ 0) sinks.old.items }
     ensures count { OnOk result (length sinks.new.items ≡ length sinks.old.items + length plan.now.sockets.items) }
-    ensures sound { OnOk result
+    ensures countable { OnOk result
         (All (λ sink. ⟦<WriterSink<R::File> as Sink>⟧.failures sink ≡ 0) sinks.new.items) }
 {
     for socket in 0..plan.sockets.len() {
@@ -72,7 +72,7 @@ fn create_sinks<R: Files + AllocGlobal>(
     plans: &[HostPlan],
 ) -> Result<Vec<WriterSink<R::File>>, Fault>
     ensures count { IfOk result (λ sinks. length sinks.items ≡ sockets_in plans.now) }
-    ensures sound { IfOk result (λ sinks.
+    ensures countable { IfOk result (λ sinks.
         All (λ sink. ⟦<WriterSink<R::File> as Sink>⟧.failures sink ≡ 0) sinks.items) }
 {
     find_folder(rt, directory)?;

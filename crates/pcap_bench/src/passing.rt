@@ -46,7 +46,7 @@ fn write_received<W: Sink, L: Watch>(
     sink: &mut W,
     number: u64,
 ) -> Result<(), WriteError>
-    requires sound { W.failures sink.old < u64.MAX }
+    requires countable { W.failures sink.old < u64.MAX }
     requires short { length (slot_bytes lane.old) ≤ 1518 }
     requires finished { HasFrame lane.old (slot_bytes lane.old) }
     ensures ok { OnOk result
@@ -76,7 +76,7 @@ pub fn pass_watched<W: Sink, L: Watch>(
     filter: &PassFilter,
     sink: &mut W,
 ) -> Result<PassCounts, PassError>
-    requires sound { W.failures sink.old < u64.MAX }
+    requires countable { W.failures sink.old < u64.MAX }
     requires vlan { HasVlanNumber filter.now }
     ensures ok { IfOk result
         (λ counts. WritesKept (KeptBy filter.now) trace.now.frames counts (W.taken sink.old) (W.taken sink.new)) }
@@ -131,7 +131,7 @@ pub fn pass<W: Sink>(
     filter: &PassFilter,
     sink: &mut W,
 ) -> Result<PassCounts, PassError>
-    requires sound { W.failures sink.old < u64.MAX }
+    requires countable { W.failures sink.old < u64.MAX }
     requires vlan { HasVlanNumber filter.now }
     ensures ok { IfOk result
         (λ counts. WritesKept (KeptBy filter.now) trace.now.frames counts (W.taken sink.old) (W.taken sink.new)) }

@@ -71,7 +71,7 @@ fn write_frame<W: Sink>(sink: &mut W, number: u64, frame: &[u8]) -> Result<(), W
 
 /// Writes the last line of a trace with so many frames.
 fn write_end<W: Sink>(sink: &mut W, trace: &Trace, count: u64) -> Result<(), WriteError>
-    requires sound { W.failures sink.old < u64.MAX }
+    requires countable { W.failures sink.old < u64.MAX }
     requires counted { count ≡ length trace.now.frames }
     ensures ok { OnOk result (Appends (W.taken sink.old) (W.taken sink.new) (end_line trace.now)) }
     ensures err { OnErr result (AppendsFront (W.taken sink.old) (W.taken sink.new) (end_line trace.now)) }

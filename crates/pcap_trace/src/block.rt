@@ -38,7 +38,7 @@ fn read_behind<S: Source>(
     bytes: &mut [u8],
     end: usize,
 ) -> Result<usize, DeviceError>
-    requires sound { S.failures source.old < u64.MAX }
+    requires countable { S.failures source.old < u64.MAX }
     requires room { end < length bytes.old }
     ensures front { take end bytes.new ≡ take end bytes.old }
     ensures fits { IfOk result (λ n. end + n ≤ length bytes.old) }
@@ -88,7 +88,7 @@ impl Block {
     /// Moves what it holds to the front of its memory, and reads once from a source behind it. There has to be room
     /// for a byte.
     fn read_more<S: Source>(&mut self, source: &mut S) -> Result<usize, DeviceError>
-        requires sound { S.failures source.old < u64.MAX }
+        requires countable { S.failures source.old < u64.MAX }
         requires room { length self.old < ROOM }
         ensures received { OnOk result (Receives self.old self.new (S.left source.old) (S.left source.new)) }
         ensures more { IfOk result (λ n. length self.new ≡ length self.old + n) }
@@ -111,7 +111,7 @@ impl Block {
     ///
     /// [`DeviceError`] where the source fails.
     pub fn fill<S: Source>(&mut self, source: &mut S, want: usize) -> Result<(), DeviceError>
-        requires sound { S.failures source.old < u64.MAX }
+        requires countable { S.failures source.old < u64.MAX }
         requires room { want ≤ ROOM }
         ensures received { OnOk result (Receives self.old self.new (S.left source.old) (S.left source.new)) }
         ensures filled { OnOk result ((want ≤ length self.new) ⊎ IsAtEnd (S.left source.new)) }

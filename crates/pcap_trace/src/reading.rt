@@ -47,7 +47,7 @@ fn read_body<T: ByteOrder, S: Source>(
     block: &mut Block,
     source: &mut S,
 ) -> Result<Trace, ReadError>
-    requires sound { S.failures source.old < u64.MAX }
+    requires countable { S.failures source.old < u64.MAX }
     requires small { length block.old ≤ 327696 }
     ensures ok { IfOk result
         (λ t. IfSome (prepend_known block.old (S.left source.old))

@@ -69,7 +69,7 @@ impl RecordWriter {
         time: u64,
         frame: &[u8],
     ) -> Result<(), WriteError>
-        requires sound { W.failures sink.old < u64.MAX }
+        requires countable { W.failures sink.old < u64.MAX }
         requires short { length frame.now ≤ 1518 }
         ensures ok { OnOk result
             (Appends (append_known (W.taken sink.old) self.old) (append_known (W.taken sink.new) self.new)

@@ -91,20 +91,20 @@ module _ {S : Type 0} (taken : S → Option (List ℕ)) (failures : S → ℕ) w
 
   found_as : (most : ℕ) (found : Option S) (now : S) → ((sink : S) → found ≡ Some sink → failures sink < most)
       → option_map state_of found ≡ Some (state_of now) → failures now < most
-  found_as most None now sound is = cc
-  found_as most (Some sink) now sound is =
+  found_as most None now countable is = cc
+  found_as most (Some sink) now countable is =
       let same : state_of sink ≡ state_of now = inside (state_of sink) (state_of now) is in
-      subst (λ (n : ℕ). n < most) (ap (λ (s : SinkState). s.failures) same) (sound sink refl)
+      subst (λ (n : ℕ). n < most) (ap (λ (s : SinkState). s.failures) same) (countable sink refl)
     where
       inside : (a b : SinkState) → Some a ≡ Some b → a ≡ b
       inside a b e = cc
 
-  pub still_sound : (most place : ℕ) (texts : List (List Timed)) (old new : List S) (now : S)
+  pub still_countable : (most place : ℕ) (texts : List (List Timed)) (old new : List S) (now : S)
       → All (λ (sink : S). failures sink < most) old
       → AreWritten place texts (map state_of old) (map state_of new) → slice_get new place ≡ Some now → failures now < most
-  still_sound most place texts old new now sound has there =
+  still_countable most place texts old new now countable has there =
       found_as most (slice_get old place) now (λ sink is. subst (λ (s : S). failures s < most)
-      (get_or_from_slice_get old place sink sink is) (sound place sink (slice_get_within old place sink is))) (sym (slice_get-map state_of old place)
+      (get_or_from_slice_get old place sink sink is) (countable place sink (slice_get_within old place sink is))) (sym (slice_get-map state_of old place)
       ∙ as_before place texts (map state_of old) (map state_of new) (state_of now) has (at_place new place now there))
 
   pub sink_written : (place : ℕ) (texts : List (List Timed)) (old new : List S) (text : List Timed) (now later : S)

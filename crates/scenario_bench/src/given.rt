@@ -75,7 +75,7 @@ impl GivenFrames {
         writer: &mut RecordWriter,
         sink: &mut W,
     ) -> Result<(), WriteError>
-        requires sound { W.failures sink.old < u64.MAX }
+        requires countable { W.failures sink.old < u64.MAX }
         ensures ok { OnOk result (Appends (W.taken sink.old) (W.taken sink.new) (written self.now.frames)) }
         ensures err { OnErr result (AppendsFront (W.taken sink.old) (W.taken sink.new) (written self.now.frames)) }
         ensures failures { CountsFailures result (W.failures sink.old) (W.failures sink.new) }

@@ -215,7 +215,7 @@ impl Play {
     #[tactic(auto, using(crate::proofs::Writing::none_written))]
     fn write<W: Sink>(&self, writer: &mut RecordWriter, sinks: &mut [W]) -> Result<(), WriteError>
         requires sinks { length sinks.old ≡ length self.now.record.sockets.items }
-        requires sound { All (λ (sink : W). W.failures sink < u64.MAX) sinks.old }
+        requires countable { All (λ (sink : W). W.failures sink < u64.MAX) sinks.old }
         ensures ok { OnOk result (AreWritten (length sinks.old) (map frames_given self.now.record.sockets.items)
             (map (λ (s : W). record { taken = W.taken s; failures = W.failures s }) sinks.old)
             (map (λ (s : W). record { taken = W.taken s; failures = W.failures s }) sinks.new)) }
@@ -249,7 +249,7 @@ pub fn bench<W: Sink>(
     sinks: &mut [W],
 ) -> Result<Summary, BenchError>
     requires sinks { length sinks.old ≡ length (sockets_from 0 (hosts_of scenario.now.plan.hosts.items)) }
-    requires sound { All (λ (sink : W). W.failures sink < u64.MAX) sinks.old }
+    requires countable { All (λ (sink : W). W.failures sink < u64.MAX) sinks.old }
     ensures ok { IfOk result (λ summary. Benches scenario.now (map frames_of traces.now) summary
         (map (λ (s : W). record { taken = W.taken s; failures = W.failures s }) sinks.old)
         (map (λ (s : W). record { taken = W.taken s; failures = W.failures s }) sinks.new)) }

@@ -5,7 +5,7 @@ use Rattle.nicbench.proofs.files.bytes_of.Given as goal
 abbrev pub invariant-loop-end : goal.invariant-loop-end
 invariant-loop-end g l = record {
   within : l.end ≤ length l.bytes.items;
-  sound : g.S.Source.failures l.source ≡ g.S.Source.failures l.initial.source;
+  countable : g.S.Source.failures l.source ≡ g.S.Source.failures l.initial.source;
 }
 
 -- each read gives a byte more

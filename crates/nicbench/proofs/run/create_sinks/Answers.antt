@@ -6,5 +6,5 @@ pub loop-plan-preserved : goal.loop-plan-preserved
 loop-plan-preserved g c = record {
   count = host_more c.args.plans.now c.loop-plan.plan-index c.plan-item.result c.plan-item.result (length c.loop-plan.sinks.items)
       (length c.push_sinks.new.sinks.items) (omega arith) c.plan-item.is c.loop-plan.invariant.count c.in_ok-push_sinks.ensures.count;
-  sound = c.in_ok-push_sinks.ensures.sound;
+  countable = c.in_ok-push_sinks.ensures.countable;
 }

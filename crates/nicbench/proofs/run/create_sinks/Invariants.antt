@@ -7,5 +7,5 @@ use Rattle.nicbench.proofs.run.create_sinks.Given as goal
 abbrev pub invariant-loop-plan : goal.invariant-loop-plan
 invariant-loop-plan g l = record {
   count : length l.sinks.items ≡ sockets_in (take l.plan-index l.plans);
-  sound : All (λ sink. sink.failures ≡ 0) l.sinks.items;
+  countable : All (λ sink. sink.failures ≡ 0) l.sinks.items;
 }

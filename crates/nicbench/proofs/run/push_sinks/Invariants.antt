@@ -6,5 +6,5 @@ use Rattle.nicbench.proofs.run.push_sinks.Given as goal
 abbrev pub invariant-loop-socket : goal.invariant-loop-socket
 invariant-loop-socket g l = record {
   count : length l.sinks.items ≡ length l.initial.sinks.items + l.socket;
-  sound : All (λ sink. sink.failures ≡ 0) l.sinks.items;
+  countable : All (λ sink. sink.failures ≡ 0) l.sinks.items;
 }

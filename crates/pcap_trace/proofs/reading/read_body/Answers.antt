@@ -43,7 +43,7 @@ packets-preserved g c =
     let text : take (16 + n - 16) (drop 16 all) ≡ take n (drop 16 all) = ap (λ (k : ℕ). take k (drop 16 all)) (omega arith) in
     elim c.if-lengths.branch [
       | then-lengths w ↦ record {
-        sound = c.in_ok-fill-2.ensures.failures ∙ c.in_ok-fill.ensures.failures ∙ c.packets.invariant.sound;
+        countable = c.in_ok-fill-2.ensures.failures ∙ c.in_ok-fill.ensures.failures ∙ c.packets.invariant.countable;
         room = omega (
           arith,
           ap length c.skip.ensures,
@@ -60,7 +60,7 @@ packets-preserved g c =
             (omega (arith, ap length c.held-in-packets.ensures)) (omega (arith, w.if-lengths.true, origin)) so_far);
       }
       | else-lengths+in_ok-push w ↦ record {
-        sound = c.in_ok-fill-2.ensures.failures ∙ c.in_ok-fill.ensures.failures ∙ c.packets.invariant.sound;
+        countable = c.in_ok-fill-2.ensures.failures ∙ c.in_ok-fill.ensures.failures ∙ c.packets.invariant.countable;
         room = omega (
           arith,
           ap length c.skip.ensures,

@@ -11,7 +11,7 @@ returns-in_err-count-clause-err g c =
 
 pub loop-rest-preserved : goal.loop-rest-preserved
 loop-rest-preserved g c = record {
-  sound = c.in_ok-count.ensures.failures ∙ c.loop-rest.invariant.sound;
+  countable = c.in_ok-count.ensures.failures ∙ c.loop-rest.invariant.countable;
   sent = rw c.split_at.ensures.back
       (SentUpTo-more (g.W.Sink.taken c.args.sink.now) (g.W.Sink.taken c.loop-rest.sink)
       (g.W.Sink.taken c.write.new.self) c.args.bytes.now c.loop-rest.rest.now c.in_ok-count.count c.loop-rest.invariant.sent

@@ -4,7 +4,7 @@ use Rattle.pcap_trace.proofs.block.Block.fill.Given as goal
 
 abbrev pub invariant-loop-self : goal.invariant-loop-self
 invariant-loop-self g l = record {
-  sound : g.S.Source.failures l.source ≡ g.S.Source.failures l.initial.source;
+  countable : g.S.Source.failures l.source ≡ g.S.Source.failures l.initial.source;
   received : Receives l.initial.self l.self (g.S.Source.left l.initial.source) (g.S.Source.left l.source);
   limit : length l.self + g.S.Source.most l.source ≤ length l.initial.self + g.S.Source.most l.initial.source;
 }

@@ -24,7 +24,7 @@ returns-in_err-write_packet-clause-err g c =
 
 pub loop-packet-preserved : goal.loop-packet-preserved
 loop-packet-preserved g c = record {
-  sound = c.in_ok-write_packet.ensures.failures ∙ c.loop-packet.invariant.sound;
+  countable = c.in_ok-write_packet.ensures.failures ∙ c.loop-packet.invariant.countable;
   sent = written-more (g.W.Sink.taken c.args.sink.now) (g.W.Sink.taken c.loop-packet.sink)
       (g.W.Sink.taken c.write_packet.new.sink) c.args.packets.now c.loop-packet.packet-index c.packet-item.result c.loop-packet-test.true
       c.packet-item.is c.loop-packet.invariant.sent c.in_ok-write_packet.ensures.ok;

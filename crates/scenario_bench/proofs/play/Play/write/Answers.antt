@@ -2,13 +2,13 @@ use Rattle.std.proofs.Common.{arith, get_or, map}
 use Rattle.std.proofs.lemmas.Option.{slice_get-get_or}
 use Rattle.std.proofs.lemmas.Result.{err_from_is_err_and}
 use Rattle.scenario_bench.specs.SocketLists.{frames_given}
-use Rattle.scenario_bench.proofs.Writing.{sink_failed, sink_written, still_sound, text_at}
+use Rattle.scenario_bench.proofs.Writing.{sink_failed, sink_written, still_countable, text_at}
 use Rattle.scenario_bench.proofs.play.Play.write.Goals as goal
 
 pub write-requires : goal.write-requires
 write-requires g c = record {
-  sound = still_sound g.W.Sink.taken g.W.Sink.failures _ c.loop-place.place (map frames_given c.args.self.now.record.sockets.items)
-      c.args.sinks.now c.loop-place.sinks (get_or c.loop-place.sinks c.loop-place.place c.index-sinks-place.result) c.requires.sound
+  countable = still_countable g.W.Sink.taken g.W.Sink.failures _ c.loop-place.place (map frames_given c.args.self.now.record.sockets.items)
+      c.args.sinks.now c.loop-place.sinks (get_or c.loop-place.sinks c.loop-place.place c.index-sinks-place.result) c.requires.countable
       c.loop-place.invariant (slice_get-get_or c.loop-place.sinks c.loop-place.place c.index-sinks-place.result (omega arith));
 }
 
