@@ -18,4 +18,5 @@ returns-in-None-address_of-clause-refused c = record {
 
 pub returns-in-None-clause-value : goal.returns-in-None-clause-value
 returns-in-None-clause-value c =
-    default_value SpellsAddress _ _ (no_text (found_of c.args.matches.now) (codes "address") c.get_str.result c.get_str.ensures c.in-None.is)
+    default_value SpellsAddress _ _
+    (no_text (found_of c.args.matches.now) (codes "address") c.get_str.result c.get_str.ensures c.in-None.is)
