@@ -17,7 +17,7 @@
 //! | 0x00D8 | IMC | a write takes causes out of the mask; reads 0 | 0 |
 //! | 0x0100 | RCTL | 0x0607B33A | 0 |
 //! | 0x0400 | TCTL | 0x003FFFFA | 0 |
-//! | 0x1000 | PBA | RXA, bits 15:0, an even number from 2 to 48, else the write is ignored; the upper half reads 64 - RXA | 0x00100030 |
+//! | 0x1000 | PBA | RXA (15:0), an even number from 2 to 48, else ignored; the upper half reads 64 - RXA | 0x00100030 |
 //! | 0x2800, 0x3800 | RDBAL, TDBAL | 0xFFFFFFF0 | 0 |
 //! | 0x2804, 0x3804 | RDBAH, TDBAH | 0xFFFFFFFF | 0 |
 //! | 0x2808, 0x3808 | RDLEN, TDLEN | 0x000FFF80 | 0 |
@@ -29,7 +29,7 @@
 //! | 0x40A0 | RNBC | counter | 0 |
 //! | 0x5200 to 0x53FC | MTA, 128 words | 0xFFFFFFFF | 0 |
 //! | 0x5400 + 8n | RAL(n), n 0 to 15 | 0xFFFFFFFF | RAL(0) from words 0 and 1 of the EEPROM, the others 0 |
-//! | 0x5404 + 8n | RAH(n), n 0 to 15 | 0x8000FFFF | RAH(0) from word 2 of the EEPROM with bit 31, AV, set; the others 0 |
+//! | 0x5404 + 8n | RAH(n), n 0 to 15 | 0x8000FFFF | RAH(0) from word 2 of the EEPROM with bit 31, AV; the others 0 |
 //! | 0x5600 to 0x57FC | VFTA, 128 words | 0xFFFFFFFF | 0 |
 //!
 //! Every other offset, one that isn't a multiple of 4 among them, reads 0 and ignores writes (own).

@@ -4,7 +4,8 @@ ghost use Rattle.std.specs.Prelude.{◌≡◌};
 ghost use Rattle.bus.specs.AdaptersAtRest.{IsAtRest};
 ghost use Rattle.bring_up.specs.DriverSteps.{EnablesCauses};
 ghost use Rattle.bring_up.specs.SettingSteps.{Sets};
-ghost use Rattle.bring_up.specs.WrittenRegisters.{allocation_writes, handled_causes, link_writes, mask_writes, reset_writes};
+ghost use Rattle.bring_up.specs.WrittenRegisters.{allocation_writes, handled_causes, link_writes};
+ghost use Rattle.bring_up.specs.WrittenRegisters.{mask_writes, reset_writes};
 ghost use Rattle.driver_law.specs.DriverState.{DriverState};
 ghost use Rattle.driver_law.specs.ReadyDrivers.{Ready};
 

@@ -1,8 +1,8 @@
 // Laws of a driver's transmit side.
 
-ghost use Rattle.driver_law.specs.TransmitSteps.{DataIsStored, DescriptorIsStored, FrameIsOffered, NextSlotBelongsToDriver};
-ghost use Rattle.driver_law.specs.TransmitSteps.{NoneIsWrittenBack, SendsEndWithTail, SlotIsFreed, SlotsHaveFrames};
-ghost use Rattle.driver_law.specs.TransmitSteps.{SlotsKeepBytes, TailIsMoved};
+ghost use Rattle.driver_law.specs.TransmitSteps.{DataIsStored, DescriptorIsStored, FrameIsOffered};
+ghost use Rattle.driver_law.specs.TransmitSteps.{NextSlotBelongsToDriver, NoneIsWrittenBack, SendsEndWithTail};
+ghost use Rattle.driver_law.specs.TransmitSteps.{SlotIsFreed, SlotsHaveFrames, SlotsKeepBytes, TailIsMoved};
 
 /// A driver stores what it likes into the buffer and the descriptor of a transmit slot that isn't
 /// outstanding, such as the one at the tail, and both stay whatever happens.

@@ -1,5 +1,6 @@
 -- When a network can be made by a plan (own).
-use Rattle.std.specs.Prelude.{◌≡◌, ◌≢◌, ◌≤◌, ◌-◌, ◌^◌, ◌&&◌, ◌||◌, ◌==◌, ℕ, Bool, true, List, All, Err, Ok, Result, String, count_by, length, nat_le}
+use Rattle.std.specs.Prelude.{◌≡◌, ◌≢◌, ◌≤◌, ◌-◌, ◌^◌, ◌&&◌, ◌||◌, ◌==◌, ℕ, Bool, true, List, All, Err, Ok, Result, String, count_by}
+use Rattle.std.specs.Prelude.{length, nat_le}
 use Rattle.std.specs.Prelude.{string_bytes, string_eq}
 use Rattle.std.specs.declared.alloc.Global.{Global}
 use Rattle.eeprom.specs.Image.{address_bytes}

@@ -1,5 +1,5 @@
-//! The plan of a network: its hosts, each with its EEPROM, its link, its configuration and its sockets, and the wires that
-//! join them; and why a plan is refused.
+//! The plan of a network: its hosts, each with its EEPROM, its link, its configuration and its sockets, and the wires
+//! that join them; and why a plan is refused.
 #![tactic(auto)]
 
 mod plan;

@@ -1,8 +1,8 @@
 // Hosts and their wires.
 
 ghost use Rattle.std.specs.Prelude.{◌≡◌, ◌↔◌, IsTrue};
-ghost use Rattle.network_plan.specs.Plans.{HasAddress, HasAddresses, HasConfigs, HasEnds, HasName, HasNames, HasWire, IsName};
-ghost use Rattle.network_plan.specs.Plans.{IsPlanAnswer, IsSameIfAddressed, hosts_named, hosts_on};
+ghost use Rattle.network_plan.specs.Plans.{HasAddress, HasAddresses, HasConfigs, HasEnds, HasName, HasNames};
+ghost use Rattle.network_plan.specs.Plans.{HasWire, IsName, IsPlanAnswer, IsSameIfAddressed, hosts_named, hosts_on};
 
 use crate::plan_error::PlanError;
 use arrayvec::ArrayVec;

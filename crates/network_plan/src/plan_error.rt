@@ -6,8 +6,8 @@ use thiserror::Error;
 /// Why no network was made by a plan. Of several reasons the first in this order is told.
 #[derive(Clone, Copy, Debug, PartialEq, Eq, Error)]
 pub enum PlanError {
-    /// The name of a host or a wire is empty, has more than 16 bytes, or bytes other than those of `a-z 0-9 _ -`; or two
-    /// hosts have one name.
+    /// The name of a host or a wire is empty, has more than 16 bytes, or bytes other than those of `a-z 0-9 _ -`; or
+    /// two hosts have one name.
     #[error("E40 Name")]
     Name,
     /// A wire has one end, or more than 8.

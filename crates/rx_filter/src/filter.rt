@@ -171,7 +171,6 @@ impl Filter {
     }
 
     /// Whether a destination is accepted.
-    #[tactic(auto, unfolding(crate::specs::Registers::filter_of, crate::specs::Passing::AcceptsAddress, crate::specs::Passing::AcceptsGroup))]
     fn accepts_address(&self, address: &[u8; 6]) -> bool
         ensures { IsTrue result ↔ AcceptsAddress (filter_of self.now) address.now }
     {
