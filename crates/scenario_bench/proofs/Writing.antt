@@ -104,7 +104,8 @@ module _ {S : Type 0} (taken : S → Option (List ℕ)) (failures : S → ℕ) w
       → AreWritten place texts (map state_of old) (map state_of new) → slice_get new place ≡ Some now → failures now < most
   still_countable most place texts old new now countable has there =
       found_as most (slice_get old place) now (λ sink is. subst (λ (s : S). failures s < most)
-      (get_or_from_slice_get old place sink sink is) (countable place sink (slice_get_within old place sink is))) (sym (slice_get-map state_of old place)
+      (get_or_from_slice_get old place sink sink is) (countable place sink (slice_get_within old place sink is)))
+      (sym (slice_get-map state_of old place)
       ∙ as_before place texts (map state_of old) (map state_of new) (state_of now) has (at_place new place now there))
 
   pub sink_written : (place : ℕ) (texts : List (List Timed)) (old new : List S) (text : List Timed) (now later : S)
