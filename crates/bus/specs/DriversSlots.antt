@@ -30,7 +30,7 @@ pub record IsDriversSlot (ring : Ring) (oldest slot : ℕ) : Type 0 where
   pub below : slot < count_of ring
   pub apart : All (λ other. other ≢ address_of ring slot) (outstanding ring oldest)
 
--- A slot of the one ring or the other that is the driver's own stays its own, and its descriptor stays.
+-- A slot of the one ring or the other that is the driver's stays so, and its descriptor stays.
 pub record DriversSlotStays (ring : World → Ring) (oldest slot : ℕ) (a b : World) : Type 0 where
   pub own : IsDriversSlot (ring b) oldest slot
   pub bytes : bytes_in b.memory (descriptor_area (address_of (ring a) slot))

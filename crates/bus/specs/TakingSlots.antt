@@ -16,7 +16,7 @@ abbrev pub behind_oldest_receive : ℕ → World → ℕ
 behind_oldest_receive oldest world = next_of (receive_ring world) oldest
 
 -- The slot stands at the driver's oldest place. With the next place as the oldest the conditions hold, the slot is no longer outstanding
--- but the driver's own, and its frame leaves the front of the frames held. The frame's bytes aren't the adapter's to write.
+-- but the driver's, and its frame leaves the front of the frames held. The frame's bytes aren't the adapter's to write.
 pub record Taken (oldest_receive oldest_transmit : ℕ) (world : World) (slot : ℕ) (later : List ℕ) : Type 0 where
   pub stands : slot ≡ address_of (receive_ring world) oldest_receive
   pub sound : Sound (behind_oldest_receive oldest_receive world) oldest_transmit world

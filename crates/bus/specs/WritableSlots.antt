@@ -1,4 +1,4 @@
--- The driver's own slots, the one at the tail among them, can be written (own).
+-- The driver's slots, the one at the tail among them, can be written (own).
 use Rattle.std.specs.Prelude.{◌≤◌, ◌<◌, ℕ}
 use Rattle.dma_memory.specs.Areas.{descriptor_area}
 use Rattle.dma_memory.specs.HostMemory.{LiesIn}
@@ -16,7 +16,7 @@ pub record CanBeWritten (oldest_receive oldest_transmit : ℕ) (world : World) (
   pub own : IsDriversArea oldest_receive oldest_transmit world (descriptor_area descriptor)
   pub foreign : IsForeign world (descriptor_area descriptor)
 
--- Each slot of the receive ring that is the driver's own can be written,
+-- Each slot of the receive ring that is the driver's can be written,
 abbrev pub DriversReceiveSlotsCanBeWritten : Type 0
 DriversReceiveSlotsCanBeWritten =
     (oldest_receive oldest_transmit slot : ℕ) (world : World)

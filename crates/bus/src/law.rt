@@ -72,7 +72,7 @@ pub fn drivers_stores_leave_frames()
     ensures foreign { DriversStoresLeaveForeign }
 {}
 
-/// Each slot of either ring that is a driver's own lies in memory, isn't the adapter's to write, and may
+/// Each slot of either ring that is a driver's lies in memory, isn't the adapter's to write, and may
 /// be stored to, as [`drivers_stores_leave_frames`] says. Such are the slots from the tail on up to its oldest.
 pub fn drivers_slots_can_be_written()
     ensures received { DriversReceiveSlotsCanBeWritten }
@@ -112,14 +112,14 @@ pub fn frames_can_be_offered()
 {}
 
 /// A driver takes its oldest finished receive slot, by counting the next one as its oldest: the
-/// conditions of the law hold then, the slot is the driver's own, and its frame, which isn't the
+/// conditions of the law hold then, the slot is the driver's, and its frame, which isn't the
 /// adapter's to write, leaves the front of the frames held.
 pub fn finished_slots_can_be_taken()
     ensures { FinishedSlotsCanBeTaken }
 {}
 
 /// A driver frees its oldest written-back transmit slot, by counting the next one as its oldest: the
-/// conditions of the law hold then, and the slot is the driver's own.
+/// conditions of the law hold then, and the slot is the driver's.
 pub fn written_slots_can_be_freed()
     ensures { WrittenSlotsCanBeFreed }
 {}

@@ -20,4 +20,6 @@ pub use memory_layout::{
 pub use pool::{BufId, Pool};
 
 #[cfg(test)]
+mod readme;
+#[cfg(test)]
 mod tests;

@@ -27,6 +27,8 @@ mod init_tests;
 #[cfg(test)]
 mod lying_bus_tests;
 #[cfg(test)]
+mod readme;
+#[cfg(test)]
 mod receive_races;
 #[cfg(test)]
 mod schedule;

@@ -13,4 +13,6 @@ pub use image::{Image, WORDS, checksum_ok};
 pub use laws::answers_by_history;
 
 #[cfg(test)]
+mod readme;
+#[cfg(test)]
 mod tests;

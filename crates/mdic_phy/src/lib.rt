@@ -17,4 +17,6 @@ pub use mdic::{Mdic, Operation, Ticked};
 pub use phy::{Link, Negotiation, Phy};
 
 #[cfg(test)]
+mod readme;
+#[cfg(test)]
 mod tests;

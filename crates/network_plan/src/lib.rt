@@ -9,4 +9,6 @@ pub use plan::{HostPlan, MOST_ENDS, MOST_HOSTS, MOST_NAME_BYTES, MOST_SOCKETS, P
 pub use plan_error::PlanError;
 
 #[cfg(test)]
+mod readme;
+#[cfg(test)]
 mod tests;

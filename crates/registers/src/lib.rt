@@ -20,4 +20,6 @@ pub use statistics::Counter;
 pub use transmit_control::Tctl;
 
 #[cfg(test)]
+mod readme;
+#[cfg(test)]
 mod tests;

@@ -14,4 +14,6 @@ pub use laws::sets_of_registers;
 pub use table::TableBit;
 
 #[cfg(test)]
+mod readme;
+#[cfg(test)]
 mod tests;

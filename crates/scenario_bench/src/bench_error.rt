@@ -24,7 +24,9 @@ pub enum BenchError {
     /// No network was made by its plan; nothing was written.
     #[error("{0}")]
     Plan(PlanError),
-    /// Memory was refused in a run; nothing was written.
+    /// Memory was refused in a run; nothing was written. `done` counts within a command's events and not from the
+    /// first event of all: it is 0 at a single or a drawn event, and in a feed it counts from a frame's send, or from
+    /// the event behind that.
     #[error("{0}")]
     Run(Stopped),
     /// Memory was refused elsewhere; nothing was written.
