@@ -25,7 +25,7 @@ use Rattle.packet_socket.specs.HostState.{HostState}
 use Rattle.packet_socket.specs.HostStretches.{Given, HostFlowsTo, HostGoesTo}
 use Rattle.delivery.proofs.Laws.{lent-calls, outcomes-tell}
 use Rattle.delivery.specs.TickNumbers.{numbers}
-use Rattle.host_calls.specs.CallsOfHosts.{CallRuns, HostRuns, IsOfDriver}
+use Rattle.host_calls.specs.CallsOfHosts.{CallRuns, HostRuns, IsOfDriver, OnlyLastWrites}
 use Rattle.host_calls.proofs.HostTrails.{happens-alone, happens-elsewhere, none-alone, none-elsewhere}
 
 -- What a host knows of its driver's work doesn't depend on who holds frames.
@@ -87,18 +87,26 @@ runs-join k first later a b c h1 h2 h3 t1 t2 given more s1 s2 counts one two = r
   offered = λ offered. two.offered (one.offered offered);
 }
 
+-- Ticks behind a call add no access.
+whole-accesses : (k : ℕ) (first last : List AtomicStep) → (past_at k last).accesses ≡ []
+    → (past_at k (first ++ last)).accesses ≡ (past_at k first).accesses
+whole-accesses k first last none =
+    ap (λ (past : Past). past.accesses) (past_join k first last)
+    ∙ ap (λ (accesses : List Access). (past_at k first).accesses ++ accesses) none
+    ∙ append-nil (past_at k first).accesses
+
 -- A call of which the lent bus tells, and the ticks that are left.
 pub call-runs_by : (a m b : LentBus) (past : Past) (h h' : HostState) (taken : List (List ℕ)) (given : List Given)
     (accepted : List (List ℕ))
     → a.accesses ≡ 0 → (told : Retells a m past) → HostFlowsTo true h (world_here a) h' (world_here m) taken given accepted past
-    → All (IsOfDriver h.driver.counts) past.accesses
+    → All (IsOfDriver h.driver.counts) past.accesses → OnlyLastWrites past.accesses
     → (HasNoForgottenWork h.driver (world_here a) → HasNoForgottenWork h'.driver (world_here m))
     → (IsRefilled h.driver → IsRefilled h'.driver)
     → (h.driver.staged ≡ [] → h'.driver.staged ≡ [])
     → (finished : Finished m b)
     → ((runs : CallRuns a.host a.ticks.now a.stations.now b.stations.now a.outcomes.now b.outcomes.now b.accesses h h' taken given accepted)
     × (runs.steps ≡ told.steps ++ finished.plays.steps))
-call-runs_by a m b past h h' taken given accepted zero told flows accesses work refilled offered finished =
+call-runs_by a m b past h h' taken given accepted zero told flows accesses writes work refilled offered finished =
     let first = told.steps in
     let last = finished.plays.steps in
     let leads = leads_join a.host first last a.stations.now m.stations.now b.stations.now told.leads (finished.plays.leads a.host) in
@@ -142,20 +150,24 @@ call-runs_by a m b past h h' taken given accepted zero told flows accesses work 
             (append-nil given)
             (subst (λ (list : List (List ℕ)). HostRuns a.host (first ++ last) a.stations.now b.stations.now h h' (taken ++ []) (given ++ [])
             list) (append-nil accepted) whole));
+        last_writes =
+            subst OnlyLastWrites
+            (sym (whole-accesses a.host first last (none-alone a.host last finished.plays.are)))
+            (subst (λ (p : Past). OnlyLastWrites p.accesses) told.past_is writes);
       },
       refl,
     )
 
 pub call-runs : (a m b : LentBus) (past : Past) (h h' : HostState) (taken : List (List ℕ)) (given : List Given) (accepted : List (List ℕ))
     → a.accesses ≡ 0 → Retells a m past → HostFlowsTo true h (world_here a) h' (world_here m) taken given accepted past
-    → All (IsOfDriver h.driver.counts) past.accesses
+    → All (IsOfDriver h.driver.counts) past.accesses → OnlyLastWrites past.accesses
     → (HasNoForgottenWork h.driver (world_here a) → HasNoForgottenWork h'.driver (world_here m))
     → (IsRefilled h.driver → IsRefilled h'.driver)
     → (h.driver.staged ≡ [] → h'.driver.staged ≡ [])
     → Finished m b
     → CallRuns a.host a.ticks.now a.stations.now b.stations.now a.outcomes.now b.outcomes.now b.accesses h h' taken given accepted
-call-runs a m b past h h' taken given accepted zero told flows accesses work refilled offered finished =
-    (call-runs_by a m b past h h' taken given accepted zero told flows accesses work refilled offered finished).0
+call-runs a m b past h h' taken given accepted zero told flows accesses writes work refilled offered finished =
+    (call-runs_by a m b past h h' taken given accepted zero told flows accesses writes work refilled offered finished).0
 
 -- Every other host.
 pub others-run : (caller k : ℕ) (steps : List AtomicStep) (a b : List StationState) (h : HostState) → k ≢ caller

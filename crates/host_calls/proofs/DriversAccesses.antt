@@ -6,7 +6,9 @@ use Rattle.std.proofs.lemmas.Nat.{mod_below}
 use Rattle.adapter.specs.declared.offsets.TheConstants.{ICR, MPC, RDT, TDT}
 use Rattle.dma_memory.specs.Layout.{Counts}
 use Rattle.descriptors.specs.Ring.{slots_from}
+use Rattle.descriptors.specs.RingLaws.{place}
 use Rattle.bus.proofs.Lists.{all-none}
+use Rattle.bus.specs.declared.event.Access.{Access}
 use Rattle.bus.specs.declared.event.Access.TheVariants.{Loads, Reads, Stores, Writes}
 use Rattle.driver_law.specs.Accesses.{last_load, stores_from, tail_write, takes_from}
 use Rattle.driver_law.specs.DriverState.{DriverState, buffer_at, next_receive, receive_slot, transmit_slot, transmit_tail}
@@ -16,7 +18,7 @@ use Rattle.driver.specs.SendSteps.{Answer, accesses_by, slots_looked_at}
 use Rattle.driver.specs.declared.transmit.SendError.TheVariants.{TooShort, TooLong, RingFull}
 use Rattle.packet_socket.specs.HostCalls.{receive_accesses}
 use Rattle.std.specs.Prelude.{Ok, Err}
-use Rattle.host_calls.specs.CallsOfHosts.{IsOfDriver}
+use Rattle.host_calls.specs.CallsOfHosts.{IsOfDriver, OnlyLastWrites}
 
 -- Sending.
 
@@ -91,3 +93,56 @@ handles-of_driver own d misses taken rest offered last below =
 
 pub causes-of_driver : (own : Counts) (causes : ℕ) → All (IsOfDriver own) (Reads ICR causes ∷ [])
 causes-of_driver own causes = All-cons (IsOfDriver own) (Reads ICR causes) [] (inl refl) (all-none (IsOfDriver own))
+
+-- Of each call the last access alone writes a register.
+
+loads-last : (counts : Counts) (slots : List ℕ) → OnlyLastWrites (map (λ slot. Loads (transmit_slot counts slot) 16) slots)
+loads-last counts [] = tt
+loads-last counts (slot ∷ later) = loads-last counts later
+
+behind-loads : (counts : Counts) (slots : List ℕ) (behind : List Access) → OnlyLastWrites behind
+    → OnlyLastWrites (map (λ slot. Loads (transmit_slot counts slot) 16) slots ++ behind)
+behind-loads counts [] behind last = last
+behind-loads counts (slot ∷ later) behind last = behind-loads counts later behind last
+
+pub sends-last : (result : Answer) (d d' : DriverState) (frame : List ℕ) → OnlyLastWrites (accesses_by result d d' frame)
+sends-last (Ok u) d d' frame =
+    behind-loads d.counts (slots_from d.counts.tx d.oldest_transmit (slots_looked_at d.sending (d'.sending - 1))) (send_accesses d frame) refl
+sends-last (Err TooShort) d d' frame = tt
+sends-last (Err TooLong) d d' frame = tt
+sends-last (Err RingFull) d d' frame =
+    loads-last d.counts (slots_from d.counts.tx d.oldest_transmit (slots_looked_at d.sending d'.sending))
+
+tail-last : (slot : ℕ) (staged : List ℕ) → OnlyLastWrites (tail_write slot staged)
+tail-last slot [] = tt
+tail-last slot (number ∷ later) = refl
+
+behind-stores : (counts : Counts) (slot : ℕ) (numbers : List ℕ) (behind : List Access) → OnlyLastWrites behind
+    → OnlyLastWrites (stores_from counts slot numbers ++ behind)
+behind-stores counts slot [] behind last = last
+behind-stores counts slot (number ∷ later) behind last = behind-stores counts ((slot + 1) % counts.rx) later behind last
+
+pub receives-last : (d d' : DriverState) (buffer size : ℕ) (offered : List ℕ)
+    → OnlyLastWrites (receive_accesses d d' buffer size offered)
+receives-last d d' buffer size offered =
+    behind-stores d.counts (next_receive d) offered (tail_write (next_receive d') (d.staged ++ offered))
+    (tail-last (next_receive d') (d.staged ++ offered))
+
+behind-last : (slot : ℕ) (outstanding : List ℕ) (behind : List Access) → OnlyLastWrites behind
+    → OnlyLastWrites (last_load slot outstanding ++ behind)
+behind-last slot [] behind last = last
+behind-last slot (number ∷ later) behind last = last
+
+behind-takes : (counts : Counts) (slot : ℕ) (numbers : List ℕ) (load behind : List Access) → OnlyLastWrites (load ++ behind)
+    → OnlyLastWrites ((takes_from counts slot numbers ++ load) ++ behind)
+behind-takes counts slot [] load behind last = last
+behind-takes counts slot (number ∷ later) load behind last = behind-takes counts ((slot + 1) % counts.rx) later load behind last
+
+pub handles-last : (d : DriverState) (misses : ℕ) (taken rest offered : List ℕ) (last : ℕ)
+    → OnlyLastWrites (handled_accesses d misses taken rest offered last)
+handles-last d misses taken rest offered last =
+    let tail = tail_write last (d.staged ++ offered) in
+    let behind = stores_from d.counts (next_receive d) offered ++ tail in
+    let slot = place d.counts.rx d.oldest_receive (length taken) in
+    behind-takes d.counts d.oldest_receive taken (last_load slot rest) behind
+    (behind-last slot rest behind (behind-stores d.counts (next_receive d) offered tail (tail-last last (d.staged ++ offered))))

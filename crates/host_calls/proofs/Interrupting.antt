@@ -26,7 +26,7 @@ use Rattle.packet_socket.specs.SocketKinds.{has_none}
 use Rattle.packet_socket.specs.SocketsState.{unclaimed_of}
 use Rattle.packet_socket.specs.declared.socket_kind.SocketKind.{SocketKind}
 use Rattle.host_calls.specs.CallAnswers.{InterruptRuns}
-use Rattle.host_calls.specs.CallsOfHosts.{IsOfDriver}
+use Rattle.host_calls.specs.CallsOfHosts.{IsOfDriver, OnlyLastWrites}
 use Rattle.dma_memory.specs.Layout.{Counts}
 use Rattle.interrupt_causes.proofs.Answering.{calls-tell_causes, first-reads_stay}
 use Rattle.interrupt_causes.specs.InterruptCauses.{TellsCauses}
@@ -35,7 +35,7 @@ use Rattle.stations.specs.Outcomes.{OutcomeList}
 use Rattle.stations.specs.Stations.{StationState}
 use Rattle.stations.specs.declared.tick.Tick.{Tick}
 use Rattle.host_calls.proofs.Calling.{call-runs_by}
-use Rattle.host_calls.proofs.DriversAccesses.{causes-of_driver, handles-of_driver}
+use Rattle.host_calls.proofs.DriversAccesses.{causes-of_driver, handles-last, handles-of_driver}
 
 -- Frames without a socket are counted as they are taken.
 same-count : (kinds : List SocketKind) (taken : List HandedOut) → unclaimed_of kinds (map received_of taken)
@@ -69,6 +69,7 @@ leaves-runs a m b h h' zero ready handles finished =
     let made = call-runs_by a m b past h h' [] [] [] zero told leaves.flows
     (subst (λ (accesses : List Access). All (IsOfDriver h.driver.counts) accesses) (sym only)
     (causes-of_driver h.driver.counts handles.causes))
+    (subst OnlyLastWrites (sym only) tt)
     leaves.leaves.work
     (subst (λ (host : HostState). IsRefilled h.driver → IsRefilled host.driver) (sym leaves.stays) (λ refilled. refilled))
     (subst (λ (host : HostState). h.driver.staged ≡ [] → host.driver.staged ≡ []) (sym leaves.stays) (λ offered. offered))
@@ -101,6 +102,9 @@ works-runs a m b h h' n zero ready refilled offered handles finished =
     (All-append (IsOfDriver own) past.accesses works.ran.past.accesses
     (subst (λ (accesses : List Access). All (IsOfDriver own) accesses) (sym only) (causes-of_driver own handles.causes))
     (subst (λ (accesses : List Access). All (IsOfDriver own) accesses) (sym works.ran.only) driver_accesses))
+    (subst OnlyLastWrites (ap (λ (accesses : List Access). accesses ++ works.ran.past.accesses) (sym only))
+    (subst OnlyLastWrites (sym works.ran.only)
+    (handles-last h.driver works.misses (numbers_of works.taken) works.rest works.offered (next_receive h'.driver))))
     (λ work. works.work work.enabled)
     (λ before. refilled) (λ before. offered) finished in
     record {

@@ -1,6 +1,7 @@
 -- A host receives over a lent bus.
 use Rattle.std.proofs.Common.{◌≡◌, ◌≤◌, ◌<◌, ◌+◌, ◌++◌, ◌∷◌, [], ℕ, Bool, true, List, length, take, inl, inr, refl, sym, ap, subst, ◌∙◌}
 use Rattle.std.proofs.Common.{arith}
+use Rattle.std.proofs.lemmas.Grind.{common_steps}
 use Rattle.std.specs.List.{All}
 use Rattle.std.specs.Prelude.{Err, Ok, Result, ◌↔◌}
 use Rattle.adapter.specs.World.{World}
@@ -16,17 +17,17 @@ use Rattle.driver_law.specs.DriverState.{next_receive}
 use Rattle.driver_law.specs.Stretches.{IsRefilled}
 use Rattle.packet_socket.proofs.Stretches.{host-happens}
 use Rattle.packet_socket.specs.HeldFrames.{HostReady, waiting_frames}
-use Rattle.packet_socket.specs.HostCalls.{Receives}
+use Rattle.packet_socket.specs.HostCalls.{LeavesSome, Receives}
 use Rattle.packet_socket.specs.HostState.{HostState}
 use Rattle.packet_socket.specs.HostStretches.{HostGoesTo}
 use Rattle.packet_socket.specs.SocketsState.{queue_at}
 use Rattle.packet_socket.specs.declared.receive.RecvError.{RecvError}
 use Rattle.packet_socket.specs.declared.receive.RecvError.TheVariants.{Empty, NoSocket}
 use Rattle.driver.specs.declared.receiver.Received.{Received}
-use Rattle.host_calls.specs.CallAnswers.{AnswersRecv, given_by}
-use Rattle.host_calls.specs.CallsOfHosts.{CallRuns, IsOfDriver}
+use Rattle.host_calls.specs.CallAnswers.{AnswersRecv, LeavesRecv, given_by}
+use Rattle.host_calls.specs.CallsOfHosts.{CallRuns, IsOfDriver, OnlyLastWrites}
 use Rattle.host_calls.proofs.Calling.{call-runs, flows-of, work-goes}
-use Rattle.host_calls.proofs.DriversAccesses.{receives-of_driver}
+use Rattle.host_calls.proofs.DriversAccesses.{receives-last, receives-of_driver}
 
 pub recv-runs : (a m b : LentBus) (h h' : HostState) (socket size : ℕ) (bytes : List ℕ) → a.accesses ≡ 0 → HostReady h (world_here a)
     → Receives true world_here Retells a m h h' socket size bytes → IsRefilled h'.driver → h'.driver.staged ≡ [] → Finished m b
@@ -45,6 +46,8 @@ recv-runs a m b h h' socket size bytes zero ready receives refilled offered fini
     (subst (λ (accesses : List Access). All (IsOfDriver h.driver.counts) accesses) (sym ran.only)
     (receives-of_driver h.driver.counts h.driver h'.driver receives.received.buffer size receives.offered
     (subst (λ (c : Rattle.dma_memory.specs.Layout.Counts). next_receive h'.driver < c.rx) counts below)))
+    (subst OnlyLastWrites (sym ran.only)
+    (receives-last h.driver h'.driver receives.received.buffer size receives.offered))
     (work-goes h (world_here a) h' (world_here m) [] given [] ran.past goes)
     (λ before. refilled) (λ before. offered) finished
 
@@ -59,7 +62,7 @@ none-runs a m b h h' socket error zero ready same stays finished =
     h host [] [] [])
     (sym stays)
     (call-runs a a b nothing h h [] [] [] zero (retells_none a) (flows-of h (world_here a) h (world_here a) [] [] [] nothing goes)
-    (all-none (IsOfDriver h.driver.counts)) (λ work. work) (λ refilled. refilled) (λ offered. offered)
+    (all-none (IsOfDriver h.driver.counts)) tt (λ work. work) (λ refilled. refilled) (λ offered. offered)
     (subst (λ (bus : LentBus). Finished bus b) same finished))
 
 -- The answers.
@@ -113,3 +116,16 @@ err-answers result NoSocket socket h world is none empty =
           (λ other. absurd (cc), λ both. absurd (let e : Err NoSocket ≡ Err Empty = sym is ∙ empty.1 (both.0, queue.1 both.1) in cc));
       oldest = tt;
     }
+
+-- What it leaves of the host.
+
+pub ok-leaves : (h h' : HostState) (socket size accesses : ℕ) (bytes : List ℕ) → size ≤ length bytes → LeavesSome h h' socket size
+    → LeavesRecv (Ok (take size bytes)) socket h h' accesses
+ok-leaves h h' socket size accesses bytes fits leaves =
+    let long : length (take size bytes) ≡ size = grind (arith, common_steps) in
+    subst (LeavesSome h h' socket) (sym long) leaves
+
+pub err-leaves : (a m b : LentBus) (h h' : HostState) (socket : ℕ) (error : RecvError) → a.accesses ≡ 0 → m ≡ a → h' ≡ h → Finished m b
+    → LeavesRecv (Err error) socket h h' b.accesses
+err-leaves a m b h h' socket error zero same stays finished =
+    (stays, finished.count ∙ ap (λ (bus : LentBus). bus.accesses) same ∙ zero)

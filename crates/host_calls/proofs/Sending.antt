@@ -1,5 +1,5 @@
 -- A host sends over a lent bus.
-use Rattle.std.proofs.Common.{◌≡◌, ◌<◌, ◌+◌, [], ℕ, true, List, length, refl, sym, ap, subst, arith}
+use Rattle.std.proofs.Common.{◌≡◌, ◌<◌, ◌+◌, [], ℕ, true, List, length, refl, sym, ap, subst, ◌∙◌, arith}
 use Rattle.std.specs.List.{All}
 use Rattle.std.specs.Prelude.{Err, ◌↔◌}
 use Rattle.adapter.specs.HostFrames.{frames_to_send}
@@ -10,16 +10,16 @@ use Rattle.lent_bus.specs.declared.lent_bus.LentBus.{LentBus}
 use Rattle.driver_law.proofs.FramesCounted.{slots_have_frames}
 use Rattle.driver_law.specs.DriverState.{DriverState}
 use Rattle.driver_law.specs.Stretches.{IsRefilled}
-use Rattle.driver.specs.SendSteps.{Answer, IsAnswer, accepted_by, with_sending}
+use Rattle.driver.specs.SendSteps.{Answer, IsAnswer, IsRefused, accepted_by, with_sending}
 use Rattle.driver.specs.declared.transmit.SendError.TheVariants.{RingFull, TooLong, TooShort}
 use Rattle.packet_socket.specs.HeldFrames.{HostReady, driver_of}
 use Rattle.packet_socket.specs.HostCalls.{HostTransmits}
 use Rattle.packet_socket.specs.HostState.{HostState}
 use Rattle.packet_socket.specs.HostStretches.{HostGoesTo}
-use Rattle.host_calls.specs.CallAnswers.{AnswersSend}
-use Rattle.host_calls.specs.CallsOfHosts.{CallRuns, IsOfDriver}
+use Rattle.host_calls.specs.CallAnswers.{AnswersSend, LeavesSend}
+use Rattle.host_calls.specs.CallsOfHosts.{CallRuns, IsOfDriver, OnlyLastWrites}
 use Rattle.host_calls.proofs.Calling.{call-runs, work-goes}
-use Rattle.host_calls.proofs.DriversAccesses.{sends-of_driver}
+use Rattle.host_calls.proofs.DriversAccesses.{sends-last, sends-of_driver}
 
 pub send-runs : (a m b : LentBus) (h h' : HostState) (frame : List ℕ) (result : Answer) → a.accesses ≡ 0 → HostReady h (world_here a)
     → h' ≡ record h { driver = with_sending h.driver h'.driver.oldest_transmit h'.driver.sending }
@@ -35,6 +35,7 @@ send-runs a m b h h' frame result zero ready others sent finished =
     (record { sizes = sent.ran.sizes; flows = ran.goes.flows; accounts = sent.ran.accounts })
     (subst (λ (accesses : List Access). All (IsOfDriver h.driver.counts) accesses) (sym ran.only)
     (sends-of_driver h.driver.counts result (driver_of h (world_here a)) (driver_of h' (world_here m)) frame refl some))
+    (subst OnlyLastWrites (sym ran.only) (sends-last result (driver_of h (world_here a)) (driver_of h' (world_here m)) frame))
     (work-goes h (world_here a) h' (world_here m) [] [] (accepted_by result frame) ran.past goes)
     (λ refilled. subst (λ (host : HostState). IsRefilled host.driver) (sym others) refilled)
     (λ offered. subst (λ (host : HostState). host.driver.staged ≡ []) (sym others) offered)
@@ -54,4 +55,13 @@ send-answers h world frame result ready short long answer = record {
   too_short = short;
   too_long = long;
   full = λ is. full-count result (driver_of h world) world is answer (slots_have_frames (driver_of h world) world ready.ready).count;
+}
+
+-- A frame that can't be sent makes no access.
+pub send-leaves : (a m b : LentBus) (h h' : HostState) (result : Answer) → a.accesses ≡ 0
+    → h' ≡ record h { driver = with_sending h.driver h'.driver.oldest_transmit h'.driver.sending }
+    → (IsRefused result → (m ≡ a) × (h' ≡ h)) → Finished m b → LeavesSend result h h' b.accesses
+send-leaves a m b h h' result zero others nothing finished = record {
+  others = others;
+  unasked = λ refused. finished.count ∙ ap (λ (bus : LentBus). bus.accesses) (nothing refused).0 ∙ zero;
 }

@@ -5,12 +5,13 @@ use Rattle.descriptors.specs.Frames.{longest_frame, shortest_sent}
 use Rattle.adapter.specs.HostFrames.{frames_to_send}
 use Rattle.adapter.specs.Slots.{finished}
 use Rattle.adapter.specs.World.{World}
-use Rattle.driver.specs.SendSteps.{Answer}
+use Rattle.driver.specs.SendSteps.{Answer, IsRefused, with_sending}
 use Rattle.driver.specs.declared.transmit.SendError.TheVariants.{TooShort, TooLong, RingFull}
 use Rattle.driver.specs.TakenFrames.{GrowsBy}
 use Rattle.driver.specs.declared.interrupt.Handled.{Handled}
 use Rattle.driver.specs.declared.interrupt.Handled.TheVariants.{NotMine}
 use Rattle.driver.specs.declared.interrupt.Handled.TheVariants as answers
+use Rattle.packet_socket.specs.HostCalls.{LeavesSome}
 use Rattle.packet_socket.specs.HostState.{HostState}
 use Rattle.packet_socket.specs.HostStretches.{Given}
 use Rattle.packet_socket.specs.HeldFrames.{waiting_frames, without_socket}
@@ -44,6 +45,19 @@ pub record AnswersRecv (result : Result (List ℕ) RecvError) (socket : ℕ) (h 
   pub no_socket : (result ≡ Err NoSocket) ↔ (length h.kinds ≤ socket)
   pub empty : (result ≡ Err Empty) ↔ ((socket < length h.kinds) × (waiting_frames h socket world ≡ []))
   pub oldest : IsOldest result (waiting_frames h socket world)
+
+-- What a call leaves of its host, beside the frames.
+
+-- Sending: nothing moves but which transmit slots are outstanding; a frame that can't be sent makes no access.
+pub record LeavesSend (result : Answer) (h h' : HostState) (accesses : ℕ) : Type 0 where
+  pub others : h' ≡ record h { driver = with_sending h.driver h'.driver.oldest_transmit h'.driver.sending }
+  pub unasked : IsRefused result → accesses ≡ 0
+
+-- Receiving: the oldest entry leaves the socket's queue, and nothing else of the sockets moves; where none is given nothing moves, and no
+-- access is made.
+abbrev pub LeavesRecv : Result (List ℕ) RecvError → (socket : ℕ) → (h h' : HostState) → (accesses : ℕ) → Type 0
+LeavesRecv (Ok frame) socket h h' accesses = LeavesSome h h' socket (length frame)
+LeavesRecv (Err error) socket h h' accesses = (h' ≡ h) × (accesses ≡ 0)
 
 -- Handling an interrupt: so many frames were taken, at least those that were finished when the call came; those without a socket were
 -- counted, up to the greatest u64.

@@ -1,5 +1,5 @@
 -- A call of one host, with the ticks that are played inside it and behind it (own).
-use Rattle.std.specs.Prelude.{⊤, ◌≡◌, ◌<◌, ◌⊎◌, ◌++◌, [], ℕ, true, List, All, map}
+use Rattle.std.specs.Prelude.{⊤, ◌≡◌, ◌<◌, ◌⊎◌, ◌++◌, ◌∷◌, [], ℕ, true, List, All, map}
 use Rattle.adapter.specs.declared.offsets.TheConstants.{ICR, MPC, RDT, TDT}
 use Rattle.dma_memory.specs.Layout.{Counts}
 use Rattle.bus.specs.declared.event.Access.{Access}
@@ -26,6 +26,14 @@ IsOfDriver counts (Reads offset value) = (offset ≡ ICR) ⊎ (offset ≡ MPC)
 IsOfDriver counts (Writes offset value) = IsTailWrite counts offset value
 IsOfDriver counts (Loads address size) = ⊤
 IsOfDriver counts (Stores address bytes) = ⊤
+
+-- A register is written by the last access alone, where one is written: so a frame is in the ring, and slots are offered, from then on.
+abbrev pub OnlyLastWrites : List Access → Type 0
+OnlyLastWrites [] = ⊤
+OnlyLastWrites (Reads offset value ∷ later) = OnlyLastWrites later
+OnlyLastWrites (Writes offset value ∷ later) = later ≡ []
+OnlyLastWrites (Loads address size ∷ later) = OnlyLastWrites later
+OnlyLastWrites (Stores address bytes ∷ later) = OnlyLastWrites later
 
 -- Atomic steps lead from one state of all stations to another: those of some ticks, and accesses of one host. Each tick's outcome is noted
 -- behind the others, and bears the number of accesses before it; and so what happened to frames is told.
@@ -55,3 +63,4 @@ pub record CallRuns (caller : ℕ) (ticks : List Tick) (old new : List StationSt
   pub steps : List AtomicStep
   pub are_told : StepsAreTold caller ticks steps old new before behind accesses
   pub runs : HostRuns caller steps old new h h' taken given accepted
+  pub last_writes : OnlyLastWrites (past_at caller steps).accesses

@@ -5,7 +5,7 @@ ghost use Rattle.driver.specs.SendSteps.{accepted_by};
 ghost use Rattle.stations.specs.Stations.{world_at};
 ghost use Rattle.packet_socket.specs.HeldFrames.{HostReady};
 ghost use Rattle.host_calls.specs.CallsOfHosts.{CallRuns};
-ghost use Rattle.host_calls.specs.CallAnswers.{AnswersRecv, AnswersSend, InterruptRuns, given_by};
+ghost use Rattle.host_calls.specs.CallAnswers.{AnswersRecv, AnswersSend, InterruptRuns, LeavesRecv, LeavesSend, given_by};
 
 use descriptors::Frame;
 use driver::{Handled, SendError};
@@ -41,6 +41,7 @@ pub fn send(
     ensures runs { CallRuns place ticks.now stations.old stations.new outcomes.old outcomes.new result.accesses
         host.old host.new [] [] (accepted_by result.answer frame.now) }
     ensures answers { AnswersSend result.answer frame.now host.old.driver.counts (world_at stations.old place) }
+    ensures leaves { LeavesSend result.answer host.old host.new result.accesses }
 {
     let mut bus = LentBus {
         stations,
@@ -76,6 +77,7 @@ pub fn recv(
     ensures runs { CallRuns place ticks.now stations.old stations.new outcomes.old outcomes.new result.accesses
         host.old host.new [] (given_by socket result.answer) [] }
     ensures answers { AnswersRecv result.answer socket host.old (world_at stations.old place) }
+    ensures leaves { LeavesRecv result.answer socket host.old host.new result.accesses }
 {
     let mut bus = LentBus {
         stations,

@@ -1,5 +1,5 @@
 -- The equations of one host, over one event and over several.
-use Rattle.std.proofs.Common.{◌≡◌, ◌≤◌, ◌<◌, ◌+◌, ◌++◌, [], ℕ, IsTrue, List, Option, cond, inl, inr, ⊎_elim}
+use Rattle.std.proofs.Common.{◌≡◌, ◌≤◌, ◌<◌, ◌+◌, ◌^◌, ◌++◌, [], ℕ, IsTrue, List, Option, cond, inl, inr, ⊎_elim}
 use Rattle.std.proofs.Common.{map, refl, sym, ap, subst, ◌∙◌}
 use Rattle.std.proofs.Common.{append_assoc, arith}
 use Rattle.std.specs.List.{All}
@@ -54,9 +54,17 @@ misses-of : (h : HostState) (a : World) (h' : HostState) (b : World) (misses : �
     → (IsTrue h'.driver.exact → b.adapter.missed_packets < Rattle.registers.specs.Counting.greatest_count
     → IsTrue h.driver.exact × (a.adapter.missed_packets < Rattle.registers.specs.Counting.greatest_count)
     × (sum_of h' b ≡ sum_of h a + misses))
+    → h.driver.missed ≤ h'.driver.missed
+    → (IsTrue h.driver.exact → a.adapter.missed_packets + misses < Rattle.registers.specs.Counting.greatest_count
+    → sum_of h a + misses < 2 ^ 64 → IsTrue h'.driver.exact × (sum_of h' b ≡ sum_of h a + misses))
     → CountsMisses h a misses h' b
-misses-of h a h' b misses most exactly = record {
+misses-of h a h' b misses most exactly grows stays = record {
   at_most = omega (arith, most);
+  stays = λ is small fits.
+      let behind = stays is.exact small (omega (arith, fits)) in
+      let sum = behind.1 in
+      record { exact = behind.0; below_greatest = omega (arith, sum, small, grows); fits = omega (arith, sum, fits) };
+  grows = grows;
   exactly = λ is.
       let before = exactly is.exact is.below_greatest in
       let fits = is.fits in
@@ -74,6 +82,13 @@ misses-join h1 h2 h3 a b c m n all is one two = record {
       let later = two.exactly exact in
       let first = one.exactly later.0 in
       (first.0, omega (arith, is, first.1, later.1));
+  stays = λ exact small fits.
+      let middle = one.stays exact (omega (arith, is, small)) (omega (arith, is, fits)) in
+      let same = (one.exactly middle).1 in
+      let grows = one.grows in
+      let room = middle.fits in
+      two.stays middle (omega (arith, is, small, fits, same, grows, room)) (omega (arith, is, fits, same, room));
+  grows = let first = one.grows in let later = two.grows in omega (arith, first, later);
 }
 
 -- Counts of frames without a socket.
@@ -213,7 +228,12 @@ delivers-runs caller k steps happened a b h h' taken given_are accepted_are lead
           (λ exact below.
           let exactly = flows.exactly exact below in
           let sum = exactly.sum in
-          (exactly.exact, exactly.below_greatest, omega (arith, sum, missed_are)));
+          (exactly.exact, exactly.below_greatest, omega (arith, sum, missed_are)))
+          flows.sum
+          (λ exact small fits.
+          let stays = flows.stays_exact exact (omega (arith, small, missed_are)) (omega (arith, fits, missed_are)) in
+          let sum = flows.counted (omega (arith, small, missed_are)) (omega (arith, fits, missed_are)) in
+          (stays, omega (arith, sum, missed_are)));
       unclaimed_is_counted =
           subst (λ (frames : List (List ℕ)). CountsUnclaimed h (world_at a k) (without_socket h.kinds frames) h' (world_at b k))
           (sym stored_are) (record { least = accounts.least; most = accounts.most; exactly = accounts.exactly });
@@ -227,6 +247,11 @@ delivers-none k a h = record {
   reached_is_put = sym (append-nil (backlog_at a k));
   given_is_kept = λ socket. sym (append-nil (held_for_socket h socket (world_at a k)));
   fates_are_right = receives-none (world_at a k).adapter;
-  misses_are_counted = record { at_most = omega arith; exactly = λ exact. (exact, omega arith) };
+  misses_are_counted = record {
+    at_most = omega arith;
+    exactly = λ exact. (exact, omega arith);
+    stays = λ exact small fits. exact;
+    grows = omega arith;
+  };
   unclaimed_is_counted = record { least = omega arith; most = omega arith; exactly = λ below. omega arith };
 }

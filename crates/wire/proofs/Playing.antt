@@ -6,6 +6,7 @@ use Rattle.std.specs.List.{All}
 use Rattle.std.proofs.lemmas.List.{length-set}
 use Rattle.std.proofs.lemmas.Option.{slice_get_past}
 use Rattle.bus.specs.TickGroups.{without_go}
+use Rattle.circular_buffer.proofs.Places.{slice_get-set_other}
 use Rattle.packet_socket.specs.HostState.{HostState}
 use Rattle.packet_socket.specs.HostStretches.{Given}
 use Rattle.stations.specs.AtomicSteps.{AtomicStep}
@@ -70,8 +71,8 @@ call-played caller ticks old stations before behind h h' taken given accepted ha
       counted = runs.are_told.counted;
       accesses = λ was then.
           let same_host : was ≡ h = let e : Some h ≡ Some was = sym there ∙ then in cc in
-          subst (λ (w : HostState). All (IsOfDriver w.driver.counts) (past_at caller runs.steps).accesses) (sym same_host)
-          runs.runs.accesses;
+          (subst (λ (w : HostState). All (IsOfDriver w.driver.counts) (past_at caller runs.steps).accesses) (sym same_host)
+          runs.runs.accesses, runs.last_writes);
       outcomes = noted;
       numbered = ap Rattle.delivery.specs.TickNumbers.numbers_of noted ∙ runs.are_told.numbered;
       no_host = (λ none. absurd (some none), λ low. absurd (omega (arith, low, below)));
@@ -80,6 +81,7 @@ call-played caller ticks old stations before behind h h' taken given accepted ha
           let behind_is : is ≡ h' = caller-behind old.hosts caller h h' is there now in
           subst (λ (w : HostState). answers reply.answer w is runs.steps old.stations stations) (sym before_is)
           (subst (λ (w : HostState). answers reply.answer h w runs.steps old.stations stations) (sym behind_is) answer);
+      others = λ k other. slice_get-set_other old.hosts caller k h' other;
     }
 
 -- Ticks that are played in no call.
@@ -134,4 +136,5 @@ absent-played caller ticks old stations before reply happened answers stands pas
       no_host = (λ same. past, λ low. none);
       answer = λ was is then now. absurd (let gone = slice_get_past old.hosts caller past in
           let e : Some was ≡ None = sym then ∙ gone in cc);
+      others = λ k other. refl;
     }

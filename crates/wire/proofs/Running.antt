@@ -58,6 +58,7 @@ tick-event old stations tick reply stands played =
       no_host = played.answer;
       answer = λ was is then now. played.answer;
       hosts = go.hosts;
+      others = refl;
       delivers = go.delivers;
       ticks = go.ticks;
       absent = go.absent;

@@ -40,6 +40,9 @@ pub record IsExact (host : HostState) (world : World) : Type 0 where
 pub record CountsMisses (h : HostState) (a : World) (misses : ℕ) (h' : HostState) (b : World) : Type 0 where
   pub at_most : counted h' b ≤ counted h a + misses
   pub exactly : IsExact h' b → IsExact h a × (counted h' b ≡ counted h a + misses)
+  -- It stays exact while neither MPC nor the sum would stick, and what the driver read of MPC only grows.
+  pub stays : IsExact h a → a.adapter.missed_packets + misses < greatest_count → sum_of h a + misses ≤ most_counted → IsExact h' b
+  pub grows : h.driver.missed ≤ h'.driver.missed
 
 -- Frames without a socket are counted, up to the greatest u64, or held still.
 pub record CountsUnclaimed (h : HostState) (a : World) (frames : ℕ) (h' : HostState) (b : World) : Type 0 where

@@ -1,5 +1,5 @@
 -- What an event does to all hosts, before it is told as an event with its reply (own).
-use Rattle.std.specs.Prelude.{◌≡◌, ◌≤◌, ◌↔◌, ◌++◌, ◌∷◌, [], ℕ, All, List, Result, length, map}
+use Rattle.std.specs.Prelude.{◌≡◌, ◌≢◌, ◌≤◌, ◌↔◌, ◌++◌, ◌∷◌, [], ℕ, All, List, Result, length, map, slice_get}
 use Rattle.driver.specs.SendSteps.{Answer as SendAnswer}
 use Rattle.driver.specs.declared.interrupt.Handled.{Handled}
 use Rattle.packet_socket.specs.HostState.{HostState}
@@ -20,8 +20,8 @@ use Rattle.network_events.specs.declared.reply.Answer.TheVariants.{Interrupted, 
 use Rattle.network_events.specs.declared.reply.Reply.{Reply}
 use Rattle.packet_socket.specs.HeldFrames.{socket_frames, waiting_frames}
 use Rattle.interrupt_causes.specs.InterruptCauses.{TellsCauses}
-use Rattle.host_calls.specs.CallsOfHosts.{IsOfDriver}
-use Rattle.host_calls.specs.CallAnswers.{AnswersInterrupt, AnswersRecv, AnswersSend}
+use Rattle.host_calls.specs.CallsOfHosts.{IsOfDriver, OnlyLastWrites}
+use Rattle.host_calls.specs.CallAnswers.{AnswersInterrupt, AnswersRecv, AnswersSend, LeavesRecv, LeavesSend}
 use Rattle.step_answers.specs.StepAnswers.{AreAnswered, OfEachTick}
 use Rattle.wire.specs.Equations.{Delivers}
 use Rattle.wire.specs.Networks.{IsHost, NetworkStands, NetworkState}
@@ -42,10 +42,12 @@ abbrev pub IsSendAnswer : (host : ℕ) (frame : List ℕ) → Answer → (h h' :
     → Type 0
 IsSendAnswer host frame answer h h' steps old new =
     (result : SendAnswer) × (answer ≡ Sent result) × AnswersSend result frame h.driver.counts (world_at old host)
+    × LeavesSend result h h' (counted_of 0 steps)
 
 abbrev pub IsRecvAnswer : (host socket : ℕ) → Answer → (h h' : HostState) → List AtomicStep → (old new : List StationState) → Type 0
 IsRecvAnswer host socket answer h h' steps old new =
     (result : Result (List ℕ) RecvError) × (answer ≡ Received result) × AnswersRecv result socket h (world_at old host)
+    × LeavesRecv result socket h h' (counted_of 0 steps)
 
 -- The frames taken are those that left the front of what the host held, and each socket's queue grew at its end by its part of them.
 pub record TakesFrames (host : ℕ) (steps : List AtomicStep) (h h' : HostState) (old new : List StationState) (taken : List (List ℕ))
@@ -70,11 +72,13 @@ pub record CallPlayed (host : ℕ) (ticks : List Tick) (happened : List Happenin
   -- the steps that aren't accesses are the ticks that aren't Go, in order
   pub played : without_go is_go (map tick_of steps) ≡ without_go is_go ticks
   pub counted : reply.accesses ≡ counted_of 0 steps
-  pub accesses : (h : HostState) → IsHost old host h → All (IsOfDriver h.driver.counts) (past_at host steps).accesses
+  pub accesses : (h : HostState) → IsHost old host h
+      → All (IsOfDriver h.driver.counts) (past_at host steps).accesses × OnlyLastWrites (past_at host steps).accesses
   pub outcomes : reply.outcomes.list ≡ noted_of 0 steps
   pub numbered : numbers_of reply.outcomes.list ≡ numbers ticks 0 reply.accesses
   pub no_host : reply.answer ≡ NoHost ↔ (length old.hosts ≤ host)
   pub answer : (h h' : HostState) → IsHost old host h → IsHost new host h' → answers reply.answer h h' steps old.stations new.stations
+  pub others : (k : ℕ) → k ≢ host → slice_get new.hosts k ≡ slice_get old.hosts k
 
 -- A tick by itself.
 

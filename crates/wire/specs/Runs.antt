@@ -1,5 +1,5 @@
 -- Runs of events (own).
-use Rattle.std.specs.Prelude.{◌≡◌, ◌≤◌, ◌↔◌, ◌++◌, ◌∷◌, [], ℕ, All, List, Ok, length, map}
+use Rattle.std.specs.Prelude.{◌≡◌, ◌≢◌, ◌≤◌, ◌↔◌, ◌++◌, ◌∷◌, [], ℕ, All, List, Ok, length, map, slice_get}
 use Rattle.packet_socket.specs.HostState.{HostState}
 use Rattle.dma_memory.specs.Layout.{Counts}
 use Rattle.bus.specs.TickGroups.{without_go}
@@ -18,7 +18,7 @@ use Rattle.network_events.specs.declared.reply.Answer.{Answer}
 use Rattle.network_events.specs.declared.reply.Answer.TheVariants.{NoHost, Received, Sent, Ticked}
 use Rattle.network_events.specs.declared.reply.Reply.{Reply}
 use Rattle.step_answers.specs.StepAnswers.{AreAnswered, OfEachTick}
-use Rattle.host_calls.specs.CallsOfHosts.{IsOfDriver}
+use Rattle.host_calls.specs.CallsOfHosts.{IsOfDriver, OnlyLastWrites}
 use Rattle.wire.specs.Equations.{Delivers}
 use Rattle.wire.specs.EventParts.{AreOutcomesAlone, IsInterruptAnswer, IsRecvAnswer, IsSendAnswer}
 use Rattle.wire.specs.Networks.{IsHost, NetworkStands, NetworkState}
@@ -57,12 +57,12 @@ ticks_of (Recv host socket ticks) = without_go is_go ticks.items
 ticks_of (Interrupt host ticks) = without_go is_go ticks.items
 ticks_of (Alone tick) = without_go is_go (tick ∷ [])
 
--- An access of a call is one of its host's driver: a load, a store, a read of ICR or MPC, a write of RDT or TDT with a slot of its ring. A
--- tick by itself has none.
+-- An access of a call is one of its host's driver: a load, a store, a read of ICR or MPC, a write of RDT or TDT with a slot of its ring; and
+-- a write is the last. A tick by itself has none.
 abbrev pub AreAccessesOf : Event → Counts → List Access → Type 0
-AreAccessesOf (Send host frame ticks) counts accesses = All (IsOfDriver counts) accesses
-AreAccessesOf (Recv host socket ticks) counts accesses = All (IsOfDriver counts) accesses
-AreAccessesOf (Interrupt host ticks) counts accesses = All (IsOfDriver counts) accesses
+AreAccessesOf (Send host frame ticks) counts accesses = All (IsOfDriver counts) accesses × OnlyLastWrites accesses
+AreAccessesOf (Recv host socket ticks) counts accesses = All (IsOfDriver counts) accesses × OnlyLastWrites accesses
+AreAccessesOf (Interrupt host ticks) counts accesses = All (IsOfDriver counts) accesses × OnlyLastWrites accesses
 AreAccessesOf (Alone tick) counts accesses = accesses ≡ []
 
 -- The outcomes.
@@ -104,6 +104,13 @@ IsNoHost (Recv host socket ticks) hosts answer = answer ≡ NoHost ↔ (hosts �
 IsNoHost (Interrupt host ticks) hosts answer = answer ≡ NoHost ↔ (hosts ≤ host)
 IsNoHost (Alone tick) hosts answer = answer ≡ Ticked
 
+-- Of hosts that make no call nothing moves but their adapters and what these write: neither drivers nor queues.
+abbrev pub OthersStay : Event → (old new : List HostState) → Type 0
+OthersStay (Send host frame ticks) old new = (k : ℕ) → k ≢ host → slice_get new k ≡ slice_get old k
+OthersStay (Recv host socket ticks) old new = (k : ℕ) → k ≢ host → slice_get new k ≡ slice_get old k
+OthersStay (Interrupt host ticks) old new = (k : ℕ) → k ≢ host → slice_get new k ≡ slice_get old k
+OthersStay (Alone tick) old new = new ≡ old
+
 -- Events.
 
 -- An event and its reply lead from one state of a network to the next, by atomic steps.
@@ -121,6 +128,7 @@ pub record EventRuns (old : NetworkState) (event : Event) (reply : Reply) (new :
   pub answer : (h h' : HostState) → IsHost old (caller_of event) h → IsHost new (caller_of event) h'
       → IsCallAnswer event reply.answer h h' steps old.stations new.stations
   pub hosts : length new.hosts ≡ length old.hosts
+  pub others : OthersStay event old.hosts new.hosts
   pub delivers : (k : ℕ) (h h' : HostState) → IsHost old k h → IsHost new k h'
       → Delivers k (said event reply) old.stations new.stations h h'
   -- each tick is answered by what is counted at the start, with the outcomes before it applied; a host that isn't there has nothing to do

@@ -2,9 +2,9 @@ use Rattle.std.proofs.Common.{rules, refl, sym, subst, [], ◌≡◌, take, true
 use Rattle.std.specs.Prelude.{Ok, Result}
 use Rattle.stations.specs.Stations.{world_at}
 use Rattle.packet_socket.specs.declared.receive.RecvError.{RecvError}
-use Rattle.host_calls.specs.CallAnswers.{AnswersRecv, given_by}
+use Rattle.host_calls.specs.CallAnswers.{AnswersRecv, LeavesRecv, given_by}
 use Rattle.host_calls.specs.CallsOfHosts.{CallRuns}
-use Rattle.host_calls.proofs.Receiving.{err-answers, none-runs, ok-answers, recv-runs, there-given}
+use Rattle.host_calls.proofs.Receiving.{err-answers, err-leaves, none-runs, ok-answers, ok-leaves, recv-runs, there-given}
 use Rattle.host_calls.proofs.Calling.{call-back}
 use Rattle.host_calls.proofs.calls.recv.Goals.{in-Ok, in-Err}
 use Rattle.host_calls.proofs.calls.recv.Goals as goal
@@ -46,4 +46,20 @@ returns-clause-answers c =
           (world_at c.args.stations.now c.args.place)) (sym w.answer-is)
           (err-answers c.recv.result w.in-Err.error c.args.socket c.args.host.now _ w.in-Err.is c.recv.ensures.no_socket
           c.recv.ensures.empty)
+    ]
+
+pub returns-clause-leaves : goal.returns-clause-leaves
+returns-clause-leaves c =
+    elim c.match-recv.branch [
+      | in-Ok w ↦
+          let is : c.match-recv.answer ≡ Ok (take w.in-Ok.size c.recv.new.into) = search rules in
+          subst (λ (answer : Result (List ℕ) RecvError). LeavesRecv answer c.args.socket c.args.host.now c.recv.new.self
+          c.finish.new.self.accesses) (sym is)
+          (ok-leaves c.args.host.now c.recv.new.self c.args.socket w.in-Ok.size c.finish.new.self.accesses c.recv.new.into
+          (search rules) w.in-Ok.ensures.leaves)
+      | in-Err w ↦
+          subst (λ (answer : Result (List ℕ) RecvError). LeavesRecv answer c.args.socket c.args.host.now c.recv.new.self
+          c.finish.new.self.accesses) (sym w.answer-is)
+          (err-leaves _ c.recv.new.bus c.finish.new.self c.args.host.now c.recv.new.self c.args.socket w.in-Err.error refl
+          w.in-Err.ensures.unasked.0 w.in-Err.ensures.unasked.1 c.finish.ensures)
     ]

@@ -1,7 +1,7 @@
 use Rattle.std.proofs.Common.{rules, refl, []}
 use Rattle.driver.specs.SendSteps.{accepted_by}
 use Rattle.host_calls.proofs.Calling.{call-back}
-use Rattle.host_calls.proofs.Sending.{send-answers, send-runs}
+use Rattle.host_calls.proofs.Sending.{send-answers, send-leaves, send-runs}
 use Rattle.host_calls.proofs.calls.send.Goals as goal
 
 pub returns-clause-runs : goal.returns-clause-runs
@@ -18,3 +18,8 @@ returns-clause-answers c =
     let sent = c.send-answer.ensures.ran tt c.requires.ready in
     send-answers c.args.host.now _ c.args.frame.now c.send-answer.result c.requires.ready c.send-answer.ensures.too_short
     c.send-answer.ensures.too_long sent.answer
+
+pub returns-clause-leaves : goal.returns-clause-leaves
+returns-clause-leaves c =
+    send-leaves _ c.send-answer.new.bus c.finish.new.self c.args.host.now c.send-answer.new.self c.send-answer.result refl
+    c.send-answer.ensures.others c.send-answer.ensures.nothing c.finish.ensures

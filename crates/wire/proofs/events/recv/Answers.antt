@@ -4,7 +4,7 @@ use Rattle.std.proofs.lemmas.Option.{slice_get-get_or}
 use Rattle.delivery.specs.Happenings.{Happening, of_host, told}
 use Rattle.stations.specs.Stations.{wire_at}
 use Rattle.network_events.specs.declared.reply.Answer.TheVariants.{Received}
-use Rattle.host_calls.specs.CallAnswers.{given_by}
+use Rattle.host_calls.specs.CallAnswers.{LeavesRecv, given_by}
 use Rattle.wire.specs.Runs.{given_of}
 use Rattle.network_events.specs.declared.reply.Answer.{Answer}
 use Rattle.wire.specs.EventParts.{IsRecvAnswer}
@@ -45,4 +45,6 @@ returns c =
     (list ++ given_of c.args.host c.args.socket (Received c.recv-called.result.answer)) runs.steps (wire_at c.args.stations.now)
     (of_host k c.args.host (given_by c.args.socket c.recv-called.result.answer)) (of_host k c.args.host [])) (sym said)
     (tells-recv k c.args.host c.args.socket c.recv-called.result.answer runs.steps (wire_at c.args.stations.now)))
-    (c.recv-called.result.answer, refl, c.recv-called.ensures.answers)
+    (c.recv-called.result.answer, refl, c.recv-called.ensures.answers,
+    subst (LeavesRecv c.recv-called.result.answer c.args.socket host c.recv-called.new.host) runs.are_told.counted
+    c.recv-called.ensures.leaves)

@@ -7,6 +7,7 @@ use Rattle.network_events.specs.declared.reply.Answer.TheVariants.{Sent}
 use Rattle.wire.specs.Runs.{accepted_of}
 use Rattle.network_events.specs.declared.reply.Answer.{Answer}
 use Rattle.wire.specs.EventParts.{IsSendAnswer}
+use Rattle.host_calls.specs.CallAnswers.{LeavesSend}
 use Rattle.wire.proofs.Delivering.{Tells}
 use Rattle.wire.proofs.Playing.{absent-played, call-played}
 use Rattle.wire.proofs.Tellings.{tells-send}
@@ -44,4 +45,5 @@ returns c =
     (accepted_of c.args.host c.args.frame.now (Sent c.send-called.result.answer) ++ list) runs.steps (wire_at c.args.stations.now)
     (of_host k c.args.host []) (of_host k c.args.host (accepted_by c.send-called.result.answer c.args.frame.now))) (sym said)
     (tells-send k c.args.host c.args.frame.now c.send-called.result.answer runs.steps (wire_at c.args.stations.now)))
-    (c.send-called.result.answer, refl, c.send-called.ensures.answers)
+    (c.send-called.result.answer, refl, c.send-called.ensures.answers,
+    subst (LeavesSend c.send-called.result.answer host c.send-called.new.host) runs.are_told.counted c.send-called.ensures.leaves)
