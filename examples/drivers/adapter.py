@@ -2,9 +2,11 @@
 
 import subprocess
 
-# Where the registers begin, and how many requests are sent before answers are read.
+# Where the registers begin.
 REGISTERS = 0xFEB00000
-MOST_AT_ONCE = 64
+# How many bytes of requests are sent before answers are read. No pipe holds fewer, so that sending them never waits for
+# the server, which may wait for its answers to be read.
+MOST_AT_ONCE = 4096
 
 
 class Refused(Exception):
@@ -30,14 +32,24 @@ class Adapter:
     # Requests and answers
 
     def ask(self, *requests):
-        """The answers to requests, each what stands behind OK. Many of them are sent before the first is answered."""
-        answers = []
-        for first in range(0, len(requests), MOST_AT_ONCE):
-            some = requests[first:first + MOST_AT_ONCE]
-            self.process.stdin.write("".join(f"{request}\n" for request in some).encode())
+        """The answers to requests, each what stands behind OK. Many are sent before the first is answered; a long one alone."""
+        answers, some, size = [], [], 0
+        for request in requests:
+            if some and size + len(request) + 1 > MOST_AT_ONCE:
+                answers += self.ask_at_once(some)
+                some, size = [], 0
+            some.append(request)
+            size += len(request) + 1
+        return answers + self.ask_at_once(some)
+
+    def ask_at_once(self, requests):
+        """The answers to these requests, which are sent before the first is read."""
+        try:
+            self.process.stdin.write("".join(f"{request}\n" for request in requests).encode())
             self.process.stdin.flush()
-            answers += [self.answer(request) for request in some]
-        return answers
+        except BrokenPipeError:
+            raise Refused(f"{requests[0]}: the server has ended") from None
+        return [self.answer(request) for request in requests]
 
     def answer(self, request):
         """The next answer. Lines before it tell what happened."""

@@ -78,13 +78,16 @@ def burst(adapter, driver, sent):
 
 
 def run(program, seed, bug=None):
-    """A run: what was wrong, or None, and its log."""
+    """A run: what was wrong, or None, and its log. What a driver raises is what was wrong."""
     with Adapter(program, "--seed", str(seed)) as adapter:
-        adapter.log(True)
-        adapter.interleave(STEPS)
-        driver = Driver(adapter, bug)
-        driver.bring_up()
-        fault = exchange(adapter, driver)
+        try:
+            adapter.log(True)
+            adapter.interleave(STEPS)
+            driver = Driver(adapter, bug)
+            driver.bring_up()
+            fault = exchange(adapter, driver)
+        except (DeviceError, Refused) as error:
+            fault = str(error)
         return fault, adapter.told
 
 
@@ -101,13 +104,12 @@ def sweep(program, seeds, name, bug=None):
 
 def sweep_all(program, seeds):
     """Prints the sweep of each driver, and then the logs. Whether the right one passes, and each bug is found."""
-    passes = sweep(program, seeds, "right") is None
-    found = {bug: sweep(program, seeds, bug, bug) for bug in BUGS}
-    for bug, failed in found.items():
+    found = {name: sweep(program, seeds, name, None if name == "right" else name) for name in ("right", *BUGS)}
+    for name, failed in found.items():
         if failed:
-            print(f"\n{bug}: {BUGS[bug]}. Seed {failed[0]}, its log:")
+            print(f"\n{name}: {BUGS.get(name, 'the driver as it should be')}. Seed {failed[0]}, its log:")
             print("\n".join(failed[1]))
-    return passes and None not in found.values()
+    return found.pop("right") is None and None not in found.values()
 
 
 def main():
@@ -121,5 +123,5 @@ def main():
 
 try:
     sys.exit(main())
-except (DeviceError, Refused) as error:
+except OSError as error:
     sys.exit(f"sweep.py: {error}")

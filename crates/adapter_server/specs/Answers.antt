@@ -1,5 +1,6 @@
 -- What each request answers and leaves (own; the words of answers are those of QEMU, docs/devel/testing/qtest).
-use Rattle.std.specs.Prelude.{◌≡◌, ◌++◌, ◌%◌, ◌^◌, ℕ, Bool, true, false, List, Result, Ok, Err, codes, if◌then◌else◌, length, IsUtf8}
+use Rattle.std.specs.Prelude.{◌≡◌, ◌++◌, ◌%◌, ◌^◌, ℕ, List, Result, Ok, Err, codes, if◌then◌else◌, length, IsUtf8}
+use Rattle.std.specs.Int.{from_le_bytes, to_le_bytes, w32}
 use Rattle.bus.specs.declared.event.Access.{Access}
 use Rattle.bus.specs.declared.event.Access.TheVariants.{Loads, Reads, Stores, Writes}
 use Rattle.dma_memory.specs.HostMemory.{bytes_at}
@@ -9,7 +10,7 @@ use Rattle.rx_engine.specs.declared.arrival.Fate.{Fate}
 use Rattle.solo_bus.specs.SoloBuses.{SoloState}
 use Rattle.adapter_server.specs.Devices.{Accesses, Arrives, Settles, Steps, is_asserted, most_rounds}
 use Rattle.adapter_server.specs.Reading.{request_in}
-use Rattle.adapter_server.specs.Sessions.{Interleaves, is_memory, place_in}
+use Rattle.adapter_server.specs.Sessions.{Interleaves, place_in}
 use Rattle.adapter_server.specs.Texts.{Text, bytes_line, fate_word, number_line, ok_line, outcome_word, refusal_line, word_line}
 use Rattle.adapter_server.specs.Widths.{bytes_of, bytes_spelling, number_spelled}
 use Rattle.adapter_server.specs.Words.{words_of}
@@ -52,17 +53,21 @@ pub record Replies (line : Text) (a b : Session) (text : Text) : Type 0 where
 abbrev pub Refuses : Refusal → Session → Session → Text → Type 0
 Refuses refusal a b text = Replies (refusal_line refusal) a b text
 
--- A read of a register answers what the register reads.
-pub record ReadsRegister (offset : ℕ) (said : Text) (a b : Session) (text : Text) : Type 0 where
+-- A read of a register answers what the register reads, by this line.
+pub record ReadsRegister (line : ℕ → Text) (offset : ℕ) (said : Text) (a b : Session) (text : Text) : Type 0 where
   pub value : ℕ
-  pub answered : Answered (Accessed (Reads offset value) said a b) (number_line value) text
+  pub answered : Answered (Accessed (Reads offset value) said a b) (line value) text
+
+-- the line of a register's four bytes, the lowest first
+abbrev pub register_line : ℕ → Text
+register_line value = bytes_line (to_le_bytes w32 value)
 
 -- the memory behind a request
 abbrev pub memory_of : Session → List ℕ
 memory_of session = session.device.bus.world.memory
 
 abbrev pub ReadsNumber : Place → Width → (address : ℕ) → Text → Session → Session → Text → Type 0
-ReadsNumber (Register offset) width address said a b text = ReadsRegister offset said a b text
+ReadsNumber (Register offset) width address said a b text = ReadsRegister number_line offset said a b text
 ReadsNumber Memory width address said a b text =
     Answered (Accessed (Loads address (bytes_of width)) said a b)
     (number_line (number_spelled (bytes_at (memory_of b) address (bytes_of width)))) text
@@ -75,14 +80,18 @@ WritesNumber Memory width address value said a b text =
     Answered (Accessed (Stores address (bytes_spelling width value)) said a b) ok_line text
 WritesNumber Nowhere width address value said a b text = Refuses refusals.Address a b text
 
-abbrev pub ReadsBytes : (lies : Bool) (address size : ℕ) → Text → Session → Session → Text → Type 0
-ReadsBytes true address size said a b text =
+-- Bytes where a register of 32 bits stands are one access of it, and other bytes are those of memory.
+abbrev pub ReadsBytes : Place → (address size : ℕ) → Text → Session → Session → Text → Type 0
+ReadsBytes (Register offset) address size said a b text = ReadsRegister register_line offset said a b text
+ReadsBytes Memory address size said a b text =
     Answered (Accessed (Loads address size) said a b) (bytes_line (bytes_at (memory_of b) address size)) text
-ReadsBytes false address size said a b text = Refuses refusals.Address a b text
+ReadsBytes Nowhere address size said a b text = Refuses refusals.Address a b text
 
-abbrev pub WritesBytes : (lies : Bool) (address : ℕ) → List ℕ → Text → Session → Session → Text → Type 0
-WritesBytes true address bytes said a b text = Answered (Accessed (Stores address bytes) said a b) ok_line text
-WritesBytes false address bytes said a b text = Refuses refusals.Address a b text
+abbrev pub WritesBytes : Place → (address : ℕ) → List ℕ → Text → Session → Session → Text → Type 0
+WritesBytes (Register offset) address bytes said a b text =
+    Answered (Accessed (Writes offset (from_le_bytes w32 bytes)) said a b) ok_line text
+WritesBytes Memory address bytes said a b text = Answered (Accessed (Stores address bytes) said a b) ok_line text
+WritesBytes Nowhere address bytes said a b text = Refuses refusals.Address a b text
 
 pub record TakesStep (kind : StepKind) (a b : Session) (text : Text) : Type 0 where
   pub outcome : StepOutcome
@@ -110,8 +119,8 @@ abbrev pub Does : Request → (said : Text) → Session → Session → Text →
 Does (requests.ReadNumber width address) said a b text = ReadsNumber (place_in a address (bytes_of width)) width address said a b text
 Does (requests.WriteNumber width address value) said a b text =
     WritesNumber (place_in a address (bytes_of width)) width address value said a b text
-Does (requests.ReadBytes address size) said a b text = ReadsBytes (is_memory a address size) address size said a b text
-Does (requests.WriteBytes address bytes) said a b text = WritesBytes (is_memory a address (length bytes)) address bytes said a b text
+Does (requests.ReadBytes address size) said a b text = ReadsBytes (place_in a address size) address size said a b text
+Does (requests.WriteBytes address bytes) said a b text = WritesBytes (place_in a address (length bytes)) address bytes said a b text
 Does requests.Endianness said a b text = Replies (word_line (codes "little")) a b text
 Does (requests.Step kind) said a b text = TakesStep kind a b text
 Does (requests.Arrive frame) said a b text = Delivers frame said a b text

@@ -2,6 +2,7 @@ pub mod Statuses
 pub mod Texts
 pub mod Outcomes
 pub mod Kinds
+pub mod Defaults
 pub mod Devices
 pub mod Words
 pub mod Spellings

@@ -1,6 +1,7 @@
 // Requests, answered.
 
 ghost use Rattle.std.specs.Prelude.{◌≡◌, ◌≤◌, IfOk, OnOk, codes, length};
+ghost use Rattle.std.specs.Int.{from_le_bytes, w32};
 ghost use Rattle.adapter_server.specs.Widths.{bytes_of, bytes_spelling, number_spelled};
 ghost use Rattle.adapter_server.specs.Texts.{number_line, word_line};
 
@@ -17,6 +18,9 @@ use std::io::Write;
 
 /// How many values a register has.
 const REGISTER_VALUES: u64 = 1 << 32;
+
+/// How many bytes a register has.
+const REGISTER_WIDTH: usize = 4;
 
 /// How many bytes a number has at most.
 const MOST_NUMBER_BYTES: usize = 8;
@@ -55,9 +59,19 @@ fn bytes_spelling(alloc: Global, width: Width, number: u64) -> Result<Vec<u8>, A
     Vec::from_slice(alloc, &number.to_le_bytes()[..width.bytes()])
 }
 
+/// The number of a register that four bytes spell, the lowest first.
+fn register_value(bytes: &[u8]) -> u32
+    requires { length bytes.now ≡ 4 }
+    ensures { result ≡ from_le_bytes w32 bytes.now }
+{
+    let mut all = [0; REGISTER_WIDTH];
+    all.copy_from_slice(bytes);
+    u32::from_le_bytes(all)
+}
+
 impl Session {
     ghost use Rattle.adapter_server.specs.Devices.{IsQuiet, StaysQuiet, Tells};
-    ghost use Rattle.adapter_server.specs.Sessions.{is_memory, place_in};
+    ghost use Rattle.adapter_server.specs.Sessions.{place_in};
     ghost use Rattle.adapter_server.specs.Answers.{AnswersLine, Delivers, Does, ReadsBytes, ReadsNumber, Refuses};
     ghost use Rattle.adapter_server.specs.Answers.{Replies, Sets};
     ghost use Rattle.adapter_server.specs.Answers.{SettlesAll, TakesStep, WritesBytes, WritesNumber, line_number};
@@ -135,7 +149,7 @@ impl Session {
         }
     }
 
-    /// `read`.
+    /// `read`. Four bytes at a register are one access of it.
     fn read_bytes<W: Write>(
         &mut self,
         alloc: Global,
@@ -146,19 +160,27 @@ impl Session {
     ) -> Result<(), AnswerError>
         requires { IsQuiet self.old.device.bus }
         ensures ok { OnOk result (Tells (W.contents out.old) (W.contents out.new)
-            (ReadsBytes (is_memory self.old address size) address size said.now self.old self.new)) }
+            (ReadsBytes (place_in self.old address size) address size said.now self.old self.new)) }
         ensures quiet { OnOk result (StaysQuiet self.old.device.bus self.new.device.bus) }
     {
-        if !self.is_memory(address, size) {
-            return self.refuse(out, Refusal::Address);
+        match self.place_of(address, size) {
+            Place::Register(offset) => {
+                let value = self.read_register(alloc, out, said, offset)?;
+                let line = bytes_line(alloc, &value.to_le_bytes())?;
+                say(out, line.as_slice())?;
+                Ok(())
+            }
+            Place::Memory => {
+                let bytes = self.load(alloc, out, said, address, size as usize)?;
+                let line = bytes_line(alloc, bytes.as_slice())?;
+                say(out, line.as_slice())?;
+                Ok(())
+            }
+            Place::Nowhere => self.refuse(out, Refusal::Address),
         }
-        let bytes = self.load(alloc, out, said, address, size as usize)?;
-        let line = bytes_line(alloc, bytes.as_slice())?;
-        say(out, line.as_slice())?;
-        Ok(())
     }
 
-    /// `write`, `memset`.
+    /// `write`, `memset`. Four bytes at a register are one access of it.
     fn write_bytes<W: Write>(
         &mut self,
         alloc: Global,
@@ -169,16 +191,24 @@ impl Session {
     ) -> Result<(), AnswerError>
         requires { IsQuiet self.old.device.bus }
         ensures ok { OnOk result (Tells (W.contents out.old) (W.contents out.new)
-            (WritesBytes (is_memory self.old address (length bytes.now)) address bytes.now said.now
+            (WritesBytes (place_in self.old address (length bytes.now)) address bytes.now said.now
             self.old self.new)) }
         ensures quiet { OnOk result (StaysQuiet self.old.device.bus self.new.device.bus) }
     {
-        if !self.is_memory(address, bytes.len() as u64) {
-            return self.refuse(out, Refusal::Address);
+        match self.place_of(address, bytes.len() as u64) {
+            Place::Register(offset) => {
+                let value = register_value(bytes);
+                self.write_register(alloc, out, said, offset, value)?;
+                say(out, b"OK\n")?;
+                Ok(())
+            }
+            Place::Memory => {
+                self.store(alloc, out, said, address, bytes)?;
+                say(out, b"OK\n")?;
+                Ok(())
+            }
+            Place::Nowhere => self.refuse(out, Refusal::Address),
         }
-        self.store(alloc, out, said, address, bytes)?;
-        say(out, b"OK\n")?;
-        Ok(())
     }
 
     /// `step`.
@@ -252,7 +282,7 @@ impl Session {
     }
 
     /// `interleave`.
-    fn set_most_steps<W: Write>(&mut self, out: &mut W, count: u32) -> Result<(), AnswerError>
+    fn set_most_steps<W: Write>(&mut self, out: &mut W, count: u16) -> Result<(), AnswerError>
         requires { IsQuiet self.old.device.bus }
         ensures ok { OnOk result (Tells (W.contents out.old) (W.contents out.new)
             (Sets (record self.old { most_steps = count }) self.new)) }

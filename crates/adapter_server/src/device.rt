@@ -89,6 +89,22 @@ impl Device {
         Ok(outcome)
     }
 
+    /// Tells what was asked for, and behind it whether the interrupt line moved.
+    fn tell_request<W: Write>(
+        &mut self,
+        alloc: Global,
+        out: &mut W,
+        said: &[u8],
+    ) -> Result<(), AnswerError>
+        ensures state { OnOk result (self.new ≡ told self.old) }
+        ensures text { OnOk result (Appends (W.contents out.old) (W.contents out.new)
+            (told_text (said_log self.old.log said.now) self.old self.new)) }
+    {
+        let mut text = Vec::new(alloc);
+        push_said(&mut text, self.log, said)?;
+        self.tell(out, text)
+    }
+
     /// A frame is delivered to the adapter.
     pub(crate) fn arrive<W: Write>(
         &mut self,
@@ -103,26 +119,8 @@ impl Device {
         ensures quiet { OnOk result (StaysQuiet self.old.bus self.new.bus) }
     {
         let fate = self.bus.arrive(frame);
-        let mut text = Vec::new(alloc);
-        push_said(&mut text, self.log, said)?;
-        self.tell(out, text)?;
+        self.tell_request(alloc, out, said)?;
         Ok(fate)
-    }
-
-    /// Tells an access: what was asked for, and whether the interrupt line moved.
-    fn tell_access<W: Write>(
-        &mut self,
-        alloc: Global,
-        out: &mut W,
-        said: &[u8],
-    ) -> Result<(), AnswerError>
-        ensures state { OnOk result (self.new ≡ told self.old) }
-        ensures text { OnOk result (Appends (W.contents out.old) (W.contents out.new)
-            (told_text (said_log self.old.log said.now) self.old self.new)) }
-    {
-        let mut text = Vec::new(alloc);
-        push_said(&mut text, self.log, said)?;
-        self.tell(out, text)
     }
 
     /// Reads the register at an offset.
@@ -139,7 +137,7 @@ impl Device {
         ensures quiet { OnOk result (StaysQuiet self.old.bus self.new.bus) }
     {
         let value = self.bus.read(offset);
-        self.tell_access(alloc, out, said)?;
+        self.tell_request(alloc, out, said)?;
         Ok(value)
     }
 
@@ -158,7 +156,7 @@ impl Device {
         ensures quiet { OnOk result (StaysQuiet self.old.bus self.new.bus) }
     {
         self.bus.write(offset, value);
-        self.tell_access(alloc, out, said)?;
+        self.tell_request(alloc, out, said)?;
         Ok(())
     }
 
@@ -179,7 +177,7 @@ impl Device {
         ensures quiet { OnOk result (StaysQuiet self.old.bus self.new.bus) }
     {
         self.bus.load(address, into);
-        self.tell_access(alloc, out, said)?;
+        self.tell_request(alloc, out, said)?;
         Ok(())
     }
 
@@ -199,7 +197,7 @@ impl Device {
         ensures quiet { OnOk result (StaysQuiet self.old.bus self.new.bus) }
     {
         self.bus.store(address, bytes);
-        self.tell_access(alloc, out, said)?;
+        self.tell_request(alloc, out, said)?;
         Ok(())
     }
 

@@ -1,5 +1,8 @@
 // What a server is asked for.
 
+ghost use Rattle.std.specs.Prelude.{◌≡◌};
+ghost use Rattle.adapter_server.specs.Defaults.{default_options};
+
 use mdic_phy::Link;
 
 /// What an adapter is served with.
@@ -22,7 +25,9 @@ pub struct ServeOptions {
 impl ServeOptions {
     /// What stands where nothing is asked for: 1 MiB of memory, registers from 0xFEB00000 on, the address
     /// 02:00:00:00:00:01, a link that comes up after one tick of the PHY, 48 kilobytes, and seed 0.
-    pub fn new() -> ServeOptions {
+    pub fn new() -> ServeOptions
+        ensures { result ≡ default_options }
+    {
         ServeOptions {
             memory: 1 << 20,
             registers: 0xFEB0_0000,

@@ -108,7 +108,7 @@ fn request_with(alloc: Global, verb: Verb, words: &[&str]) -> Result<Request, St
         Verb::Line => Ok(Request::Line),
         Verb::Interleave => {
             let count = number_at(word_at(words, 1), MOST_STEPS)?;
-            Ok(Request::Interleave(count as u32))
+            Ok(Request::Interleave(count as u16))
         }
         Verb::Log => Ok(log_of(word_at(words, 1))?),
     }

@@ -50,7 +50,7 @@ pub enum Request {
     WriteNumber(Width, u64, u64),
     /// `read`: so many bytes from an address on.
     ReadBytes(u64, u64),
-    /// `write`: these bytes are written from an address on.
+    /// `write`, `memset`: these bytes are written from an address on.
     WriteBytes(u64, Payload),
     /// `endianness`: the order of the bytes of a number.
     Endianness,
@@ -63,7 +63,7 @@ pub enum Request {
     /// `line`: whether the interrupt line is asserted.
     Line,
     /// `interleave`: up to so many steps before each access from here on.
-    Interleave(u32),
+    Interleave(u16),
     /// `log`: whether steps, accesses and arrivals are printed from here on.
     Log(bool),
 }

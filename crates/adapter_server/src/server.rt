@@ -19,8 +19,9 @@ use std::io::{Read, Write};
 /// out whole where it is flushed.
 ///
 /// All bytes of input are answered: a line that is no request is refused, and so is one that has more than 131,200
-/// bytes, which is skipped to its end. Memory is bounded by the options' and by 721,039 bytes beside it, of which a
-/// line takes 131,200, and the answer to a `read` of 65,536 bytes the others: for these, their digits, and its text.
+/// bytes, which is skipped to its end. Memory is bounded by the options', by what an adapter and its bus take, which
+/// is the same for all input (packet buffers and queues), and by 721,039 bytes beside these: a line takes 131,200, and
+/// the answer to a `read` of 65,536 bytes the others, for these, their digits, and its text.
 ///
 /// # Errors
 ///

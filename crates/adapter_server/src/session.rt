@@ -37,7 +37,7 @@ pub struct Session {
     /// What interleaved steps are drawn from.
     pub generator: Lcg64Xsh32,
     /// How many steps are played before an access at most.
-    pub most_steps: u32,
+    pub most_steps: u16,
 }
 
 /// What stands where an access goes.

@@ -55,6 +55,41 @@ fn registers_and_memory_are_read_and_written(rt: HostRuntime) -> Result<(), Fail
     )
 }
 
+/// As clients of QEMU read and write a register, by its four bytes; other sizes there are memory's.
+#[test]
+fn registers_are_read_and_written_as_four_bytes(rt: HostRuntime) -> Result<(), Fail> {
+    let options = ServeOptions::new();
+    check(
+        &rt,
+        rt.alloc(),
+        &options,
+        b"write 0xfeb05400 0x4 0x78563412\n\
+          readl 0xfeb05400\n\
+          read 0xfeb05400 0x4\n\
+          memset 0xfeb05400 4 0x5a\n\
+          readl 0xfeb05400\n\
+          write 0xfeb000d0 0x4 0x80000000\n\
+          write 0xfeb000c8 0x4 0x80000000\n\
+          read 0xfeb000c0 0x4\n\
+          read 0xfeb05400 3\n\
+          read 0xfeb05401 4\n\
+          write 0xfeb05400 8 0x7856341200000000\n",
+        b"OK\n\
+          OK 0x0000000012345678\n\
+          OK 0x78563412\n\
+          OK\n\
+          OK 0x000000005a5a5a5a\n\
+          OK\n\
+          IRQ raise 0\n\
+          OK\n\
+          IRQ lower 0\n\
+          OK 0x80000000\n\
+          ERR address\n\
+          ERR address\n\
+          ERR address\n",
+    )
+}
+
 #[test]
 fn lines_that_read_as_no_request_are_refused(rt: HostRuntime) -> Result<(), Fail> {
     let options = ServeOptions::new();
@@ -121,17 +156,21 @@ fn addresses_and_sizes_that_do_not_fit_are_refused(rt: HostRuntime) -> Result<()
     )
 }
 
+/// Puts a text behind another, so many times.
+fn push_times(input: &mut Vec<u8>, text: &[u8], times: u32) -> Result<(), Fail> {
+    for _time in 0..times {
+        input.extend_from_slice(text)?;
+    }
+    Ok(())
+}
+
 /// A line of 131,199 bytes, `write` and 65,597 words behind it; and one of 131,200, 65,600 words that aren't known.
 #[test]
 fn lines_of_many_words_are_refused(rt: HostRuntime) -> Result<(), Fail> {
     let mut input = Vec::from_slice(rt.alloc(), b"write")?;
-    for _word in 0..65_597 {
-        input.extend_from_slice(b" a")?;
-    }
+    push_times(&mut input, b" a", 65_597)?;
     input.extend_from_slice(b"\n")?;
-    for _word in 0..65_600 {
-        input.extend_from_slice(b"a ")?;
-    }
+    push_times(&mut input, b"a ", 65_600)?;
     input.extend_from_slice(b"\nendianness\n")?;
     let options = ServeOptions::new();
     check(

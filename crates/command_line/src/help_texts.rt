@@ -232,7 +232,7 @@ Requests, of which the first six are those of QEMU's qtest:
 
   readl ADDR              the number of 32 bits there; also readb (8), readw (16) and readq (64)
   writel ADDR VALUE       writes it; also writeb, writew and writeq
-  read ADDR SIZE          bytes of memory, at most 65536
+  read ADDR SIZE          the bytes there, at most 65536
   write ADDR SIZE 0xHEX   writes them
   memset ADDR SIZE VALUE  writes so many, all VALUE
   endianness              little
@@ -243,15 +243,17 @@ Requests, of which the first six are those of QEMU's qtest:
   interleave COUNT        up to COUNT steps, at most 65535, before each access from here on; 0 ends it
   log on, log off         each step, access and arrival is printed from here on, or no longer
 
-Numbers are decimal, or hexadecimal behind 0x. Registers answer readl and writel alone. The adapter
-takes no step by itself: each is a request, or interleaved, the same ones for the same seed. Between
-a request and its answer stands what happened: 'IRQ raise 0', 'IRQ lower 0', 'frame HEX' for a frame put
-onto the wire, and '# ...' with the log on. A line that isn't answered by OK changed nothing: the answer
-is 'FAIL unknown', or 'ERR' with count, value, size, address, text or long.
+Numbers are decimal, or hexadecimal behind 0x. A register answers four bytes at its place, by readl,
+writel, read, write or memset. The adapter takes no step by itself: each is a request, or interleaved,
+the same ones for the same seed. Between a request and its answer stands what happened: 'IRQ raise 0',
+'IRQ lower 0', 'frame HEX' for a frame put onto the wire, and '# ...' with the log on. A line that isn't
+answered by OK changed nothing: the answer is 'FAIL unknown', or 'ERR' with count, value, size, address,
+text or long.
 
 The server ends with its input, by exit status 0; else standard error has 'nicbench: CODE NAME':
 
   E57 Memory    Memory was refused, status 4. Free some, or give less --memory
   E66 Read      Standard input failed while it was read, status 3. Look what it comes from
-  E67 Write     Standard output failed while it was written, or nobody reads it any more, status 3
+  E67 Write     Standard output failed while it was written, or nobody reads it any more, status 3. Make
+                room there, or read all answers
 ";

@@ -46,6 +46,11 @@ fn matches_of<'a>(alloc: Global, words: &'a [&'a str]) -> Result<ArgMatches<'a>,
 }
 
 /// Reads the program's words, of which the first is the program's name.
+///
+/// # Errors
+///
+/// `Words` where clap refuses the words, or is asked for help, `Value` where the value of an option isn't of its form,
+/// and E57 where memory was refused. `NotUnicode` never comes.
 pub fn line<'a>(alloc: Global, words: &'a [&'a str]) -> Result<Job<'a>, LineError<'a>>
     ensures job { IfOk result (IsAskedBy (texts words.entry.now)) }
     ensures bounds { IfOk result HasBounds }

@@ -8,13 +8,13 @@ returns-clause-ok g c =
     let acts = c.read-value.ensures.acts tt in
     let access = Reads c.args.offset c.read-value.result in
     let alone = access_alone c.args.self.now.bus c.read-value.new.self acts.past access c.requires acts.told acts.only in
-    access_told c.args.self.now c.tell_access.new.self c.read-value.new.self access c.args.said.now (g.W.Write.contents c.args.out.now)
-    (g.W.Write.contents c.tell_access.new.out) alone c.in_ok-tell_access.ensures.state c.in_ok-tell_access.ensures.text
+    access_told c.args.self.now c.tell_request.new.self c.read-value.new.self access c.args.said.now (g.W.Write.contents c.args.out.now)
+    (g.W.Write.contents c.tell_request.new.out) alone c.in_ok-tell_request.ensures.state c.in_ok-tell_request.ensures.text
 
 pub returns-clause-quiet : goal.returns-clause-quiet
 returns-clause-quiet g c =
     let acts = c.read-value.ensures.acts tt in
     let access = Reads c.args.offset c.read-value.result in
     let alone = access_alone c.args.self.now.bus c.read-value.new.self acts.past access c.requires acts.told acts.only in
-    access_quiet c.args.self.now c.tell_access.new.self c.read-value.new.self access c.requires alone c.in_ok-tell_access.ensures.state
+    access_quiet c.args.self.now c.tell_request.new.self c.read-value.new.self access c.requires alone c.in_ok-tell_request.ensures.state
     c.read-value.ensures.extent

@@ -25,7 +25,7 @@ returns-in_ok-say-in-Register-clause-ok g c =
     subst
     (λ (p : Place). Tells before after
     (ReadsNumber p c.args.width c.args.address c.args.said.now c.args.self.now c.read_register.new.self)) (sym place)
-    (tells_more _ (ReadsRegister c.in-Register.offset c.args.said.now c.args.self.now c.read_register.new.self) before after
+    (tells_more _ (ReadsRegister number_line c.in-Register.offset c.args.said.now c.args.self.now c.read_register.new.self) before after
     (λ text answer. record { value = value; answered = answer }) told)
 
 pub returns-in_ok-say-in-Memory-clause-ok : goal.returns-in_ok-say-in-Memory-clause-ok

@@ -1,19 +1,42 @@
-use Rattle.std.proofs.Common.{◌≡◌, ◌∙◌, Bool, true, arith, refl, rules, subst, sym}
-use Rattle.std.proofs.lemmas.Bool.Decides.{nat_tests}
-use Rattle.adapter_server.specs.Answers.{WritesBytes}
+use Rattle.std.proofs.Common.{◌∙◌, ℕ, refl, subst, sym}
+use Rattle.bus.specs.declared.event.Access.TheVariants.{Writes}
+use Rattle.adapter_server.specs.Answers.{Accessed, WritesBytes}
 use Rattle.adapter_server.specs.Devices.{Tells}
 use Rattle.adapter_server.specs.Texts.{ok_line}
+use Rattle.adapter_server.specs.declared.session.Place.{Place}
+use Rattle.adapter_server.proofs.Places.{register_has_four}
 use Rattle.adapter_server.proofs.Told.{answered, said_line}
 use Rattle.adapter_server.proofs.session.Session.write_bytes.Goals as goal
 
-pub returns-clause-ok : goal.returns-clause-ok
-returns-clause-ok g c =
+pub register_value-value-requires : goal.register_value-value-requires
+register_value-value-requires g c =
+    register_has_four c.args.self.now c.args.address _ c.in-Register.offset (sym c.place_of.ensures ∙ c.in-Register.is)
+
+pub returns-in_ok-say-in-Register-clause-ok : goal.returns-in_ok-say-in-Register-clause-ok
+returns-in_ok-say-in-Register-clause-ok g c =
+    let contents = g.W.Write.contents in
+    let before = contents c.args.out.now in
+    let now = contents c.write_register.new.out in
+    let after = contents c.say.new.out in
+    let place = sym c.place_of.ensures ∙ c.in-Register.is in
+    let written = subst
+    (λ (n : ℕ). Tells before now
+    (Accessed (Writes c.in-Register.offset n) c.args.said.now c.args.self.now c.write_register.new.self)) c.register_value-value.ensures
+    c.in_ok-write_register-in-Register.ensures.ok in
+    let told = answered _ ok_line before now after written (said_line now after _ ok_line c.in_ok-say-in-Register.ensures refl) in
+    subst
+    (λ (p : Place). Tells before after
+    (WritesBytes p c.args.address c.args.bytes.now c.args.said.now c.args.self.now c.write_register.new.self)) (sym place) told
+
+pub returns-in_ok-say-in-Memory-clause-ok : goal.returns-in_ok-say-in-Memory-clause-ok
+returns-in_ok-say-in-Memory-clause-ok g c =
     let contents = g.W.Write.contents in
     let before = contents c.args.out.now in
     let now = contents c.store.new.out in
-    let after = contents c.say.new.out in
-    let is : c.is_memory.result ≡ true = first_of (search rules, grind (arith, nat_tests)) in
-    let told = answered _ ok_line before now after c.in_ok-store.ensures.ok (said_line now after _ ok_line c.in_ok-say.ensures refl) in
-    subst (λ (lies : Bool). Tells before after
-    (WritesBytes lies c.args.address c.args.bytes.now c.args.said.now c.args.self.now c.store.new.self))
-    (sym is ∙ c.is_memory.ensures) told
+    let after = contents c.say-in-Memory.new.out in
+    let place = sym c.place_of.ensures ∙ c.in-Memory.is in
+    let told = answered _ ok_line before now after c.in_ok-store-in-Memory.ensures.ok
+    (said_line now after _ ok_line c.in_ok-say-in-Memory.ensures refl) in
+    subst
+    (λ (p : Place). Tells before after
+    (WritesBytes p c.args.address c.args.bytes.now c.args.said.now c.args.self.now c.store.new.self)) (sym place) told

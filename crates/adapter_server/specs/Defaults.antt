@@ -1,0 +1,36 @@
+-- What is served where nothing is asked for (own).
+use Rattle.std.specs.Prelude.{ℕ, List, [], ◌∷◌, ◌^◌}
+use Rattle.mdic_phy.specs.declared.phy.Link.{Link}
+use Rattle.mdic_phy.specs.declared.phy.Link.TheVariants.{After}
+use Rattle.adapter_server.specs.declared.options.ServeOptions.{ServeOptions}
+
+-- a mebibyte
+abbrev pub default_memory : ℕ
+default_memory = 2 ^ 20
+
+abbrev pub default_registers : ℕ
+default_registers = 0xFEB00000
+
+-- 02:00:00:00:00:01
+abbrev pub default_address : List ℕ
+default_address = 2 ∷ 0 ∷ 0 ∷ 0 ∷ 0 ∷ 1 ∷ []
+
+-- one tick of the PHY
+abbrev pub default_link : Link
+default_link = After 1
+
+abbrev pub default_kilobytes : ℕ
+default_kilobytes = 48
+
+abbrev pub default_seed : ℕ
+default_seed = 0
+
+abbrev pub default_options : ServeOptions
+default_options = record {
+  memory = default_memory;
+  registers = default_registers;
+  address = default_address;
+  link = default_link;
+  receive_kilobytes = default_kilobytes;
+  seed = default_seed;
+}
