@@ -1,5 +1,5 @@
 -- A tick is played.
-use Rattle.std.proofs.Common.{◌≡◌, ◌≢◌, ◌<◌, ◌↔◌, IsTrue, ℕ, Bool, true, false, List, [], Option, Some, length, slice_get}
+use Rattle.std.proofs.Common.{◌≡◌, ◌≢◌, ◌<◌, ◌↔◌, IsTrue, ℕ, Bool, true, false, List, [], ◌∷◌, Option, Some, length, slice_get}
 use Rattle.std.proofs.Common.{slice_set}
 use Rattle.std.proofs.Common.{option_map, refl, sym, ap, subst, ◌∙◌}
 use Rattle.circular_buffer.proofs.Places.{slice_get-set_other}
@@ -18,10 +18,10 @@ use Rattle.adapter.specs.declared.step.Stepped.TheVariants as stepped
 use Rattle.bus.specs.Trails.{Occurs, past_of_event}
 use Rattle.bus.specs.declared.event.Event.{Event}
 use Rattle.bus.specs.declared.event.Event.TheVariants.{Arrives, Steps}
-use Rattle.stations.specs.AtomicSteps.{At, FindsNothing, Idles, IsDelivered, OccursAt, Plays, SuitsWire}
-use Rattle.stations.specs.Outcomes.{answer_without_frame, outcome_of_step}
-use Rattle.stations.specs.Stations.{StationState, WireHasRoom, backlog_of, station_after, wire_of, with_frames, world_of}
-use Rattle.stations.specs.declared.tick.Outcome.TheVariants.{Delivered, Nothing}
+use Rattle.stations.specs.AtomicSteps.{At, DeliversNoted, FindsNothing, Idles, IsDelivered, OccursAt, Plays, PlaysNoted, SuitsWire}
+use Rattle.stations.specs.Outcomes.{IsNoted, OutcomeList, answer_without_frame, outcome_of_step}
+use Rattle.stations.specs.Stations.{StationState, WireHasRoom, backlog_of, station_after, wire_at, wire_of, with_frames, world_of}
+use Rattle.stations.specs.declared.tick.Outcome.TheVariants.{Delivered, Nothing, WireFull}
 use Rattle.stations.specs.declared.tick.Tick.{Tick}
 use Rattle.stations.specs.declared.tick.Tick.TheVariants.{Deliver, Step}
 use Rattle.stations.proofs.Places.{none-anywhere, set-after, set-same, spread-after}
@@ -67,13 +67,10 @@ outcome-whole small.Ticked frame none = ((λ is. cc), refl)
 outcome-whole small.Nothing frame none = ((λ is. cc), refl)
 outcome-whole small.Fault frame none = ((λ is. cc), refl)
 
--- nothing is put onto a wire that isn't free
-pub put-free : (free : Bool) (memory : List ℕ) (adapter : AdapterState) (answer : Stepped) → Answers TxPut free memory adapter answer
-    → put_by answer ≢ [] → free ≡ true
-put-free free memory adapter (stepped.Put frame) answers some = answers.0
-put-free free memory adapter stepped.Nothing answers some = absurd (some refl)
-put-free free memory adapter stepped.WireFull answers some = absurd (some refl)
-put-free free memory adapter _ answers some = absurd answers
+-- the wire that a station is on
+pub on-wire : (ss : List StationState) (host wire : ℕ) (s : StationState) → slice_get ss host ≡ Some s → wire_at ss host ≡ Some wire
+    → wire ≡ s.wire
+on-wire ss host wire s there on = let same : Some wire ≡ Some s.wire = sym on ∙ ap wire_of there in cc
 
 -- room at the other ends stays where the sender's station changes
 pub still-room : (ss : List StationState) (host wire : ℕ) (new : StationState) → WireHasRoom ss host wire
@@ -147,3 +144,51 @@ plays-stays ss host s new kind answer below there other adapter none answers is 
     (λ same. absurd (other same)) adapter answers is
     (λ k. sym (ap (λ (put : List (List ℕ)). option_map (with_frames host s.wire put k) (slice_get (slice_set ss host new) k)) none
     ∙ none-anywhere host s.wire k (slice_get (slice_set ss host new) k)))
+
+-- a step that could put, where it puts nothing
+plays-no_put : (ss : List StationState) (host wire : ℕ) (s new : StationState) (free : Bool) (answer : Stepped) → host < length ss
+    → slice_get ss host ≡ Some s → wire ≡ s.wire → IsTrue free ↔ WireHasRoom ss host wire → IsAdapter s.world.adapter → new ≡ s
+    → Answers TxPut free s.world.memory s.world.adapter answer → station_after (Steps TxPut free answer) s ≡ s → put_by answer ≡ []
+    → Plays ss (Step host TxPut) (outcome_of_step answer) (slice_set ss host new)
+plays-no_put ss host wire s new free answer below there on finds adapter same answers stays none =
+    plays-step ss (slice_set ss host new) host wire s new TxPut free answer below there on (λ kind. finds) adapter answers
+    (same ∙ sym stays)
+    (λ k. sym (ap (λ (put : List (List ℕ)). option_map (with_frames host wire put k) (slice_get (slice_set ss host new) k)) none
+    ∙ none-anywhere host wire k (slice_get (slice_set ss host new) k)))
+
+-- no frame is there
+pub plays-no_frame : (ss : List StationState) (host wire : ℕ) (s new : StationState) (free : Bool) → host < length ss
+    → slice_get ss host ≡ Some s → wire ≡ s.wire → IsTrue free ↔ WireHasRoom ss host wire → IsAdapter s.world.adapter → new ≡ s
+    → s.world.adapter.transmitter.buffer ≡ [] → Plays ss (Step host TxPut) Nothing (slice_set ss host new)
+plays-no_frame ss host wire s new free below there on finds adapter same empty =
+    plays-no_put ss host wire s new free stepped.Nothing below there on finds adapter same empty refl refl
+
+-- another end has no room for it
+pub plays-wire_full : (ss : List StationState) (host wire : ℕ) (s new : StationState) (free : Bool) → host < length ss
+    → slice_get ss host ≡ Some s → wire ≡ s.wire → IsTrue free ↔ WireHasRoom ss host wire → IsAdapter s.world.adapter → new ≡ s
+    → s.world.adapter.transmitter.buffer ≢ [] → free ≡ false → Plays ss (Step host TxPut) WireFull (slice_set ss host new)
+plays-wire_full ss host wire s new free below there on finds adapter same some full =
+    plays-no_put ss host wire s new free stepped.WireFull below there on finds adapter same (some, full) refl refl
+
+-- The oldest frame that waits at a host's end is delivered and noted, or that none waits.
+pub notes-delivery : (ss : List StationState) (host : ℕ) (s new : StationState) (accesses : ℕ) (before behind : OutcomeList)
+    → host < length ss → slice_get ss host ≡ Some s
+    → (s.backlog ≡ [] → (new ≡ s) × IsNoted accesses Nothing before behind)
+    → (s.backlog ≢ [] → DeliversNoted s accesses before behind new)
+    → PlaysNoted ss (Deliver host) accesses before behind (slice_set ss host new)
+notes-delivery ss host s new accesses before behind below there none some = by_case s.backlog refl
+  where
+    by_case : (frames : List (List ℕ)) → s.backlog ≡ frames → PlaysNoted ss (Deliver host) accesses before behind (slice_set ss host new)
+    by_case [] is = record {
+      outcome = Nothing;
+      plays = plays-no_delivery ss host s new below there (none is).0 is;
+      noted = (none is).1;
+    }
+    by_case (first ∷ later) is =
+        let waits : s.backlog ≢ [] = λ empty. cc in
+        let given : DeliversNoted s accesses before behind new = some waits in
+        record {
+          outcome = Delivered given.frame given.fate;
+          plays = plays-delivery ss host s new given.frame given.fate below there given.delivered;
+          noted = given.noted;
+        }

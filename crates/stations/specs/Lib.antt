@@ -1,4 +1,5 @@
 pub mod Stations
 pub mod StationView
+pub mod FrameRoom
 pub mod Outcomes
 pub mod AtomicSteps

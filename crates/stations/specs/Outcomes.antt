@@ -1,5 +1,5 @@
 -- What came of ticks, as plain data.
-use Rattle.std.specs.Prelude.{◌≡◌, ◌≤◌, ◌+◌, ◌-◌, ◌++◌, ◌∷◌, [], ℕ, List, length, vec_capacity}
+use Rattle.std.specs.Prelude.{◌≡◌, ◌≤◌, ◌+◌, ◌++◌, ◌∷◌, [], ℕ, List, length, vec_capacity}
 use Rattle.adapter.specs.Outcomes.{answer_with}
 use Rattle.adapter.specs.declared.step.StepOutcome.{StepOutcome}
 use Rattle.adapter.specs.declared.step.Stepped.{Stepped}
@@ -15,7 +15,11 @@ pub record OutcomeList : Type 0 where
   pub room : ℕ
 
 abbrev pub outcomes_of : Inside → OutcomeList
-outcomes_of inside = record { list = inside.list.items; room = vec_capacity inside.list - length inside.list.items }
+outcomes_of inside = record { list = inside.list.items; room = length inside.spare.items }
+
+-- each outcome that there is room for has its place
+pub record HasPlaces (inside : Inside) : Type 0 where
+  pub places : length inside.list.items + length inside.spare.items ≤ vec_capacity inside.list
 
 -- An outcome is noted behind the others, with so many accesses of the call; there is room for one less, at least.
 pub record IsNoted (accesses : ℕ) (outcome : Outcome) (before behind : OutcomeList) : Type 0 where

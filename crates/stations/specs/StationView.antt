@@ -12,3 +12,4 @@ station_of inside = record {
 
 pub record HasEnd (inside : Inside) : Type 0 where
   pub backlog : inside.backlog.capacity ≡ end_frames
+  pub closed : inside.closed.capacity ≡ 0

@@ -1,6 +1,6 @@
 // What is played on all hosts.
 
-ghost use Rattle.std.specs.Prelude.{◌≡◌, ◌<◌, ◌↔◌, ◌≢◌, ℕ, [], length, option_map, slice_get, IsTrue, true};
+ghost use Rattle.std.specs.Prelude.{◌≡◌, ◌<◌, ◌↔◌, ◌≢◌, ℕ, [], length, option_map, slice_get, IsTrue, Some, true};
 ghost use Rattle.adapter.specs.Outcomes.{put_by, stepped_of};
 ghost use Rattle.adapter.specs.Registers.{answer_at};
 ghost use Rattle.adapter.specs.State.{IsAdapter};
@@ -13,7 +13,7 @@ ghost use Rattle.dma_memory.specs.HostMemory.{bytes_at, LiesIn};
 ghost use Rattle.registers.specs.Bits.{Meet};
 ghost use Rattle.stations.specs.AtomicSteps.{PlaysNoted};
 ghost use Rattle.stations.specs.Outcomes.{IsNoted, answer_without_frame, outcome_of_step};
-ghost use Rattle.stations.specs.Stations.{WireHasRoom, stations_after, with_frames, world_at};
+ghost use Rattle.stations.specs.Stations.{WireHasRoom, stations_after, with_frames, wire_at, world_at};
 ghost use Rattle.stations.specs.declared.tick.Tick.TheVariants as tick;
 
 use crate::outcomes::Outcomes;
@@ -65,9 +65,33 @@ fn put(stations: &mut [Station], host: usize, accesses: u64, outcomes: &mut Outc
 {
     let wire = stations[host].wire();
     let wire_free = has_room(stations, host, wire);
-    let stepped = stations[host].put(wire_free);
+    if stations[host].has_nothing_to_put() {
+        outcomes.note(accesses, Outcome::Nothing);
+    } else if wire_free {
+        put_oldest(stations, host, wire, accesses, outcomes);
+    } else {
+        outcomes.note(accesses, Outcome::WireFull);
+    }
+}
+
+/// A host's adapter puts its oldest frame onto the wire, at each other end of which there is room.
+#[inline(never)]
+fn put_oldest(
+    stations: &mut [Station],
+    host: usize,
+    wire: usize,
+    accesses: u64,
+    outcomes: &mut Outcomes,
+)
+    requires there { host < length stations.old }
+    requires on_wire { wire_at stations.old host ≡ Some wire }
+    requires free { WireHasRoom stations.old host wire }
+    requires room { 0 < outcomes.old.room }
+    ensures { PlaysNoted stations.old (tick.Step host TxPut) accesses outcomes.old outcomes.new stations.new }
+{
+    let stepped = stations[host].put();
     spread(stations, host, wire, &stepped);
-    outcomes.note(accesses, outcome_of(stepped));
+    note_put(&stepped, accesses, outcomes);
 }
 
 /// Whether each other end of the wire has room for a frame more.
@@ -95,19 +119,20 @@ fn spread(stations: &mut [Station], sender: usize, wire: usize, stepped: &Steppe
     }
 }
 
-/// What came of a step of an adapter.
-fn outcome_of(stepped: Stepped) -> Outcome
-    ensures { result ≡ outcome_of_step stepped }
+/// Notes what came of a step that may have put a frame.
+fn note_put(stepped: &Stepped, accesses: u64, outcomes: &mut Outcomes)
+    requires room { 0 < outcomes.old.room }
+    ensures { IsNoted accesses (outcome_of_step stepped.now) outcomes.old outcomes.new }
 {
     match stepped {
-        Stepped::Took => Outcome::Took,
-        Stepped::Put(frame) => Outcome::Put(frame),
-        Stepped::WireFull => Outcome::WireFull,
-        Stepped::Moved => Outcome::Moved,
-        Stepped::Done => Outcome::Done,
-        Stepped::Ticked => Outcome::Ticked,
-        Stepped::Nothing => Outcome::Nothing,
-        Stepped::Fault => Outcome::Fault,
+        Stepped::Took => outcomes.note(accesses, Outcome::Took),
+        Stepped::Put(frame) => outcomes.note_put(accesses, frame.as_slice()),
+        Stepped::WireFull => outcomes.note(accesses, Outcome::WireFull),
+        Stepped::Moved => outcomes.note(accesses, Outcome::Moved),
+        Stepped::Done => outcomes.note(accesses, Outcome::Done),
+        Stepped::Ticked => outcomes.note(accesses, Outcome::Ticked),
+        Stepped::Nothing => outcomes.note(accesses, Outcome::Nothing),
+        Stepped::Fault => outcomes.note(accesses, Outcome::Fault),
     }
 }
 
@@ -137,10 +162,7 @@ fn deliver(stations: &mut [Station], host: usize, accesses: u64, outcomes: &mut 
         outcomes.note(accesses, Outcome::Nothing);
         return;
     }
-    match stations[host].deliver() {
-        Some((frame, fate)) => outcomes.note(accesses, Outcome::Delivered(frame, fate)),
-        None => outcomes.note(accesses, Outcome::Nothing),
-    }
+    stations[host].deliver(accesses, outcomes);
 }
 
 /// A host's adapter takes a step that puts nothing onto a wire, by itself.

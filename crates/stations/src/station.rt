@@ -1,7 +1,8 @@
 // One host's adapter, memory and end of a wire.
 
-use adapter::{Adapter, Fate, FrameCounts, StepKind, StepOutcome, Stepped};
-use descriptors::Frame;
+use crate::outcomes::Outcomes;
+use crate::tick::Outcome;
+use adapter::{Adapter, FrameCounts, StepKind, StepOutcome, Stepped};
 use dma_memory::HostMemory;
 use frame_queue::FrameQueue;
 use std::alloc::{AllocError, Global};
@@ -19,6 +20,8 @@ pub struct Station {
     memory: HostMemory,
     wire: usize,
     backlog: FrameQueue,
+    /// A wire that never has room.
+    closed: FrameQueue,
 }
 
 impl Model for Station {
@@ -34,7 +37,7 @@ impl Model for Station {
 }
 
 impl Station {
-    ghost use Rattle.std.specs.Prelude.{◌≡◌, ◌≢◌, ◌<◌, ◌≤◌, ◌↔◌, ◌∷◌, [], length, IfNone, IfOk, IfSome, IsNone, IsTrue, true};
+    ghost use Rattle.std.specs.Prelude.{◌≡◌, ◌≢◌, ◌<◌, ◌≤◌, ◌↔◌, ◌∷◌, [], length, IfOk, IsTrue, true};
     ghost use Rattle.adapter.specs.Outcomes.{stepped_of};
     ghost use Rattle.adapter.specs.Registers.{answer_at};
     ghost use Rattle.adapter.specs.State.{IsAdapter};
@@ -45,7 +48,9 @@ impl Station {
     ghost use Rattle.dma_memory.specs.HostMemory.{bytes_at, LiesIn};
     ghost use Rattle.registers.specs.Bits.{Meet};
     ghost use Rattle.stations.specs.Stations.{HasRoomFrom, station_after, with_frames};
-    ghost use Rattle.stations.specs.AtomicSteps.{IsDelivered};
+    ghost use Rattle.stations.specs.AtomicSteps.{DeliversNoted};
+    ghost use Rattle.stations.specs.Outcomes.{IsNoted};
+    ghost use Rattle.stations.specs.declared.tick.Outcome.TheVariants.{Nothing};
 
     /// A host on a wire, at whose end no frame waits.
     ///
@@ -69,6 +74,7 @@ impl Station {
             memory,
             wire,
             backlog: FrameQueue::new(alloc, END_FRAMES)?,
+            closed: FrameQueue::new(alloc, 0)?,
         })
     }
 
@@ -101,26 +107,42 @@ impl Station {
         self.adapter.step_onto(kind, &mut self.memory, unused)
     }
 
-    /// The adapter puts its oldest frame onto the wire, if that is free.
-    pub(crate) fn put(&mut self, wire_free: bool) -> Stepped
-        ensures answer { Answers TxPut wire_free self.old.world.memory self.old.world.adapter result }
-        ensures state { self.new ≡ station_after (Steps TxPut wire_free result) self.old }
+    /// Whether no frame is there to be put onto the wire. It is tried on one without room, so that nothing changes.
+    pub(crate) fn has_nothing_to_put(&mut self) -> bool
+        ensures none { IsTrue result ↔ (self.old.world.adapter.transmitter.buffer ≡ []) }
+        ensures same { self.new ≡ self.old }
         ensures adapter { IsAdapter self.old.world.adapter }
     {
-        self.adapter
-            .step(StepKind::TxPut, &mut self.memory, wire_free)
+        let closed = &mut self.closed;
+        let outcome = self
+            .adapter
+            .step_onto(StepKind::TxPut, &mut self.memory, closed);
+        matches!(outcome, StepOutcome::Nothing)
     }
 
-    /// The oldest frame that waits is delivered, if there is one.
-    pub(crate) fn deliver(&mut self) -> Option<(Frame, Fate)>
-        ensures none { IsNone result ↔ (self.old.backlog ≡ []) }
-        ensures same { IfNone result (self.new ≡ self.old) }
-        ensures some { IfSome result (λ given. IsDelivered self.old given.0 given.1 self.new) }
+    /// The adapter puts its oldest frame onto the wire, which is free.
+    pub(crate) fn put(&mut self) -> Stepped
+        ensures answer { Answers TxPut true self.old.world.memory self.old.world.adapter result }
+        ensures state { self.new ≡ station_after (Steps TxPut true result) self.old }
+        ensures adapter { IsAdapter self.old.world.adapter }
     {
-        let frame = Frame::from_slice(self.backlog.front()?);
-        let fate = self.adapter.arrive(frame.as_slice());
+        self.adapter.step(StepKind::TxPut, &mut self.memory, true)
+    }
+
+    /// The oldest frame that waits is delivered, if there is one; what came of it is noted.
+    pub(crate) fn deliver(&mut self, accesses: u64, outcomes: &mut Outcomes)
+        requires room { 0 < outcomes.old.room }
+        ensures none { self.old.backlog ≡ []
+            → (self.new ≡ self.old) × IsNoted accesses Nothing outcomes.old outcomes.new }
+        ensures some { self.old.backlog ≢ [] → DeliversNoted self.old accesses outcomes.old outcomes.new self.new }
+    {
+        let Some(frame) = self.backlog.front() else {
+            outcomes.note(accesses, Outcome::Nothing);
+            return;
+        };
+        let fate = self.adapter.arrive(frame);
+        outcomes.note_delivered(accesses, frame, fate);
         self.backlog.pop();
-        Some((frame, fate))
     }
 
     /// Whether a frame more may wait.

@@ -1,7 +1,7 @@
 // What is played, and what came of it.
 
+use crate::heap_frame::HeapFrame;
 use adapter::{Fate, StepKind};
-use descriptors::Frame;
 
 /// A tick of a schedule.
 #[derive(Clone, Copy, Debug, PartialEq, Eq)]
@@ -14,13 +14,13 @@ pub enum Tick {
     Deliver(usize),
 }
 
-/// What came of a tick.
+/// What came of a tick. It is small: a frame's bytes lie on the heap.
 #[derive(Debug, Drop, PartialEq, Eq)]
 pub enum Outcome {
     /// A frame was taken from the transmit ring.
     Took,
     /// This frame is on the wire: it waits at each other end.
-    Put(Frame),
+    Put(HeapFrame),
     /// Another end of the wire has no room for the frame that is to be put; nothing changed.
     WireFull,
     /// A frame was written to memory, and is in work.
@@ -28,7 +28,7 @@ pub enum Outcome {
     /// A receive descriptor was written back.
     Done,
     /// This frame was delivered, and met this fate.
-    Delivered(Frame, Fate),
+    Delivered(HeapFrame, Fate),
     /// The EEPROM or the PHY did something.
     Ticked,
     /// There was nothing to do, or no such host, and nothing changed.

@@ -58,18 +58,26 @@ pub(crate) enum Comes {
 }
 
 impl Comes {
-    /// The outcome that it is.
-    pub(crate) fn outcome(&self) -> Outcome {
-        match self {
-            Comes::Nothing => Outcome::Nothing,
-            Comes::Took => Outcome::Took,
-            Comes::Put(sample) => Outcome::Put(sample.on_wire()),
-            Comes::WireFull => Outcome::WireFull,
-            Comes::Moved => Outcome::Moved,
-            Comes::Done => Outcome::Done,
-            Comes::Delivered(sample, fate) => Outcome::Delivered(sample.on_wire(), *fate),
+    /// Whether it is this outcome.
+    pub(crate) fn is(&self, outcome: &Outcome) -> bool {
+        match (self, outcome) {
+            (Comes::Nothing, Outcome::Nothing)
+            | (Comes::Took, Outcome::Took)
+            | (Comes::WireFull, Outcome::WireFull)
+            | (Comes::Moved, Outcome::Moved)
+            | (Comes::Done, Outcome::Done) => true,
+            (Comes::Put(sample), Outcome::Put(frame)) => is_frame(*sample, frame.as_slice()),
+            (Comes::Delivered(sample, fate), Outcome::Delivered(frame, met)) => {
+                fate == met && is_frame(*sample, frame.as_slice())
+            }
+            _ => false,
         }
     }
+}
+
+/// Whether these are the bytes of a sample on the wire.
+fn is_frame(sample: Sample, bytes: &[u8]) -> bool {
+    sample.on_wire().as_slice() == bytes
 }
 
 /// An act, with what it has to show.
@@ -170,7 +178,7 @@ fn check_outcomes(rt: &impl Abort, reply: &Reply, want: &[(u64, Comes)], at: usi
     check(rt, shown.len() as u64, want.len() as u64, at);
     for (one, (accesses, comes)) in shown.iter().zip(want) {
         check(rt, one.accesses, *accesses, at);
-        assert_eq!(rt; one.outcome, comes.outcome(), "act {at}");
+        assert!(rt; comes.is(&one.outcome), "act {at}: {:?}", one.outcome);
     }
 }
 

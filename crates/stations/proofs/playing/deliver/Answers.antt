@@ -1,9 +1,9 @@
-use Rattle.std.proofs.Common.{◌<◌, ◌≤◌, length, slice_index_or, arith, ap, refl}
+use Rattle.std.proofs.Common.{◌<◌, ◌≤◌, length, slice_index_or, arith, ap}
 use Rattle.std.proofs.lemmas.Option.{slice_get-get_or, slice_get_past}
 use Rattle.stations.specs.Stations.{backlog_of}
-use Rattle.stations.specs.declared.tick.Outcome.TheVariants.{Delivered, Nothing}
+use Rattle.stations.specs.declared.tick.Outcome.TheVariants.{Nothing}
 use Rattle.stations.specs.declared.tick.Tick.TheVariants.{Deliver}
-use Rattle.stations.proofs.PlayedTicks.{plays-delivery, plays-no_delivery, plays-nothing}
+use Rattle.stations.proofs.PlayedTicks.{notes-delivery, plays-nothing}
 use Rattle.stations.proofs.playing.deliver.Goals as goal
 
 pub returns-then-host-stations : goal.returns-then-host-stations
@@ -17,28 +17,10 @@ returns-then-host-stations c =
       noted = c.note.ensures;
     }
 
-pub returns-in-Some : goal.returns-in-Some
-returns-in-Some c =
+pub returns : goal.returns
+returns c =
     let ss = c.args.stations.now in
     let default = c.index-stations-host.result in
     let below : c.args.host < length ss = omega arith in
-    record {
-      outcome = Delivered c.in-Some.frame c.in-Some.fate;
-      plays =
-          plays-delivery ss c.args.host (slice_index_or ss c.args.host default) c.deliver.new.self c.in-Some.frame c.in-Some.fate below
-          (slice_get-get_or ss c.args.host default below) c.in-Some.ensures.some;
-      noted = c.note-in-Some.ensures;
-    }
-
-pub returns-in-None : goal.returns-in-None
-returns-in-None c =
-    let ss = c.args.stations.now in
-    let default = c.index-stations-host.result in
-    let below : c.args.host < length ss = omega arith in
-    record {
-      outcome = Nothing;
-      plays =
-          plays-no_delivery ss c.args.host (slice_index_or ss c.args.host default) c.deliver.new.self below
-          (slice_get-get_or ss c.args.host default below) c.in-None.ensures.same (c.in-None.ensures.none.0 refl);
-      noted = c.note-in-None.ensures;
-    }
+    notes-delivery ss c.args.host (slice_index_or ss c.args.host default) c.deliver.new.self c.args.accesses c.args.outcomes.now
+    c.deliver.new.outcomes below (slice_get-get_or ss c.args.host default below) c.deliver.ensures.none c.deliver.ensures.some

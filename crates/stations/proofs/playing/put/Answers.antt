@@ -1,34 +1,44 @@
-use Rattle.std.proofs.Common.{slice_index_or, ap, ◌∙◌, subst}
+use Rattle.std.proofs.Common.{slice_index_or, ap, ◌∙◌}
 use Rattle.std.proofs.lemmas.List.{get_or_default}
 use Rattle.std.proofs.lemmas.Option.{slice_get-get_or}
-use Rattle.adapter.specs.declared.step.StepKind.TheVariants.{TxPut}
-use Rattle.stations.specs.Outcomes.{IsNoted, outcome_of_step}
 use Rattle.stations.specs.Stations.{StationState}
-use Rattle.stations.specs.declared.tick.Outcome.{Outcome}
-use Rattle.stations.proofs.PlayedTicks.{plays-step, put-free, still-room}
+use Rattle.stations.specs.declared.tick.Outcome.TheVariants.{Nothing, WireFull}
+use Rattle.stations.proofs.PlayedTicks.{plays-no_frame, plays-wire_full}
 use Rattle.stations.proofs.playing.put.Goals as goal
 
-pub spread-requires : goal.spread-requires
-spread-requires c = λ some.
-    let s = slice_index_or c.args.stations.now c.args.host c.index-stations-host-2.result in
-    still-room c.args.stations.now c.args.host c.wire-wire.result c.put-stepped.new.self
-    (c.has_room-wire_free.ensures.0
-    (put-free c.has_room-wire_free.result s.world.memory s.world.adapter c.put-stepped.result c.put-stepped.ensures.answer some))
-
-pub returns : goal.returns
-returns c =
+pub returns-then-has_nothing_to_put : goal.returns-then-has_nothing_to_put
+returns-then-has_nothing_to_put c =
     let ss = c.args.stations.now in
     let host = c.args.host in
     let one = c.index-stations-host.result in
     let two = c.index-stations-host-2.result in
     let below = c.requires.there in
+    let tried = c.has_nothing_to_put.ensures in
     record {
-      outcome = outcome_of_step c.put-stepped.result;
+      outcome = Nothing;
       plays =
-          plays-step ss c.spread.new.stations host c.wire-wire.result (slice_index_or ss host two) c.put-stepped.new.self TxPut
-          c.has_room-wire_free.result c.put-stepped.result below (slice_get-get_or ss host two below)
+          plays-no_frame ss host c.wire-wire.result (slice_index_or ss host two) c.has_nothing_to_put.new.self
+          c.has_room-wire_free.result below (slice_get-get_or ss host two below)
           (c.wire-wire.ensures ∙ ap (λ (s : StationState). s.wire) (get_or_default ss host one two below))
-          (λ same. c.has_room-wire_free.ensures) c.put-stepped.ensures.adapter c.put-stepped.ensures.answer c.put-stepped.ensures.state c.spread.ensures;
-      noted =
-          subst (λ (o : Outcome). IsNoted c.args.accesses o c.args.outcomes.now c.note.new.self) c.outcome_of.ensures c.note.ensures;
+          c.has_room-wire_free.ensures tried.adapter tried.same (tried.none.0 c.if-has_nothing_to_put.true);
+      noted = c.note.ensures;
+    }
+
+pub returns-else-wire_free : goal.returns-else-wire_free
+returns-else-wire_free c =
+    let ss = c.args.stations.now in
+    let host = c.args.host in
+    let one = c.index-stations-host.result in
+    let two = c.index-stations-host-2.result in
+    let below = c.requires.there in
+    let tried = c.has_nothing_to_put.ensures in
+    record {
+      outcome = WireFull;
+      plays =
+          plays-wire_full ss host c.wire-wire.result (slice_index_or ss host two) c.has_nothing_to_put.new.self
+          c.has_room-wire_free.result below (slice_get-get_or ss host two below)
+          (c.wire-wire.ensures ∙ ap (λ (s : StationState). s.wire) (get_or_default ss host one two below))
+          c.has_room-wire_free.ensures tried.adapter tried.same
+          (λ empty. cc (tried.none.1 empty, c.if-has_nothing_to_put.false)) c.if-wire_free.false;
+      noted = c.note-else-wire_free.ensures;
     }

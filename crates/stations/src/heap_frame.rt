@@ -1,0 +1,78 @@
+// Frames whose bytes lie on the heap.
+
+ghost use Rattle.std.specs.Cmp.{partial_equiv_from_equiv};
+ghost use Rattle.std.specs.Cmp.Lexicographic.{nat_list_eq_equiv, pointwise};
+ghost use Rattle.std.specs.Prelude.{nat_eq};
+
+use descriptors::LONGEST_LEGAL;
+use std::alloc::{AllocError, Global};
+use std::marker::Model;
+
+/// An Ethernet frame of at most 1,518 bytes, without its check sequence, whose bytes lie on the heap: what may hold one
+/// is small, and needs no room for the frame where there is none.
+///
+/// Its memory is taken when it is made, so that to fill it takes none. In contracts it is the list of its bytes.
+#[derive(Debug, Drop)]
+pub struct HeapFrame {
+    bytes: Vec<u8>,
+}
+
+impl Model for HeapFrame {
+    ghost use Rattle.std.specs.Prelude.{List, ℕ};
+
+    ghost Value = { List ℕ };
+
+    ghost use Rattle.stations.specs.FrameRoom.{HasFrameRoom};
+
+    ghost view = { λ frame. frame.bytes.items };
+
+    ghost invariant = { HasFrameRoom };
+}
+
+impl HeapFrame {
+    ghost use Rattle.std.specs.Prelude.{◌≡◌, ◌≤◌, [], length, IfOk};
+
+    /// The frame without a byte, with room for as many as a frame may have.
+    ///
+    /// # Errors
+    ///
+    /// Want of memory alone.
+    pub(crate) fn with_room(alloc: Global) -> Result<HeapFrame, AllocError>
+        ensures { IfOk result (λ frame. frame ≡ []) }
+    {
+        Ok(HeapFrame {
+            bytes: Vec::with_capacity(alloc, LONGEST_LEGAL)?,
+        })
+    }
+
+    /// Takes these bytes, of which there are at most 1,518, in place of its own.
+    pub(crate) fn fill(&mut self, bytes: &[u8])
+        requires fits { length bytes.now ≤ LONGEST_LEGAL }
+        ensures { self.new ≡ bytes.now }
+    {
+        self.bytes.clear();
+        let _ = self.bytes.extend_from_slice(bytes);
+    }
+
+    /// The bytes of the frame.
+    pub fn as_slice(&self) -> &[u8]
+        ensures value { result.now ≡ self.now }
+        ensures fits { length result.now ≤ LONGEST_LEGAL }
+    {
+        self.bytes.as_slice()
+    }
+}
+
+impl PartialEq for HeapFrame {
+    ghost eq = { pointwise nat_eq };
+
+    ghost laws = { partial_equiv_from_equiv nat_list_eq_equiv };
+
+    fn eq(&self, other: &HeapFrame) -> bool {
+        self.bytes.as_slice() == other.bytes.as_slice()
+    }
+}
+
+impl Eq for HeapFrame {
+    ghost laws = { nat_list_eq_equiv };
+}
