@@ -109,8 +109,8 @@ pub(crate) enum Act {
     Receive(Sample, u8),
     /// What was counted of a host.
     Counts(usize, Option<Counts>),
-    /// Draining a host takes so many steps, and its first socket gives these frames.
-    Drain(usize, u64, &'static [Sample]),
+    /// Draining a host takes so many steps, and gives these frames, each of the socket with this number.
+    Drain(usize, u64, &'static [(usize, Sample)]),
     /// No event is run.
     Idle,
 }
@@ -198,11 +198,12 @@ pub(crate) fn check_counts(
     assert_eq!(rt; lan.counts(host), want, "act {at}");
 }
 
-/// Asserts which frames a drain gave, all of them by the first socket.
-pub(crate) fn check_taken(rt: &impl Abort, taken: &Taken, frames: &[Sample], at: usize) {
+/// Asserts which frames a drain gave, each with its socket's number.
+pub(crate) fn check_taken(rt: &impl Abort, taken: &Taken, frames: &[(usize, Sample)], at: usize) {
     check(rt, taken.list.len() as u64, frames.len() as u64, at);
-    for (one, frame) in taken.list.as_slice().iter().zip(frames) {
-        assert!(rt; one.socket == 0 && one.frame == frame.on_wire(), "act {at}");
+    for (one, (socket, frame)) in taken.list.as_slice().iter().zip(frames) {
+        check(rt, one.socket as u64, *socket as u64, at);
+        assert!(rt; one.frame == frame.on_wire(), "act {at}");
     }
 }
 
