@@ -366,6 +366,8 @@ def drawn(bench):
     bench.check("auto: frames are given", len(runs[0][3]["a.0.pcap"]) > 10000, True)
     all_fit(bench, hosts, runs[0][1].decode())
     plays(bench, "auto 0 1", TO_SOCKET + b"auto 0 1\n", told("a") + told("b"), {"b.0.pcap": FILE_HEADER})
+    plays(bench, "auto 0 1: the events behind it have the numbers from 0 on", EXAMPLE.replace(TO_SOCKET, TO_SOCKET + b"auto 0 1\n"), EXAMPLE_LINES,
+          {"b.0.pcap": written([(7, EXAMPLE_FRAME)])})
 
 
 def all_cases(bench):

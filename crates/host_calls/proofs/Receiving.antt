@@ -3,7 +3,7 @@ use Rattle.std.proofs.Common.{◌≡◌, ◌≤◌, ◌<◌, ◌+◌, ◌++◌, 
 use Rattle.std.proofs.Common.{arith}
 use Rattle.std.proofs.lemmas.Grind.{common_steps}
 use Rattle.std.specs.List.{All}
-use Rattle.std.specs.Prelude.{Err, Ok, Result, ◌↔◌}
+use Rattle.std.specs.Prelude.{Err, IfErr, IfOk, Ok, Result, ◌↔◌}
 use Rattle.adapter.specs.World.{World}
 use Rattle.bus.proofs.Composition.{happens_none}
 use Rattle.bus.proofs.Lists.{all-none}
@@ -23,8 +23,9 @@ use Rattle.packet_socket.specs.HostStretches.{HostGoesTo}
 use Rattle.packet_socket.specs.SocketsState.{queue_at}
 use Rattle.packet_socket.specs.declared.receive.RecvError.{RecvError}
 use Rattle.packet_socket.specs.declared.receive.RecvError.TheVariants.{Empty, NoSocket}
+use Rattle.driver.specs.TakenFrames.{IsFrameSize}
 use Rattle.driver.specs.declared.receiver.Received.{Received}
-use Rattle.host_calls.specs.CallAnswers.{AnswersRecv, LeavesRecv, given_by}
+use Rattle.host_calls.specs.CallAnswers.{AnswersRecv, LeavesRecv, frame_in, given_by}
 use Rattle.host_calls.specs.CallsOfHosts.{CallRuns, IsOfDriver, OnlyLastWrites}
 use Rattle.host_calls.proofs.Calling.{call-runs, flows-of, work-goes}
 use Rattle.host_calls.proofs.DriversAccesses.{receives-last, receives-of_driver}
@@ -129,3 +130,35 @@ pub err-leaves : (a m b : LentBus) (h h' : HostState) (socket : ℕ) (error : Re
     → LeavesRecv (Err error) socket h h' b.accesses
 err-leaves a m b h h' socket error zero same stays finished =
     (stays, finished.count ∙ ap (λ (bus : LentBus). bus.accesses) same ∙ zero)
+
+-- By the answer.
+
+pub any-runs : (a m b : LentBus) (h h' : HostState) (socket : ℕ) (result : Result ℕ RecvError) (into : List ℕ) → a.accesses ≡ 0
+    → HostReady h (world_here a)
+    → IfOk result (λ size. Receives true world_here Retells a m h h' socket size (take size into))
+    → IfOk result (λ size. IsRefilled h'.driver) → IfOk result (λ size. h'.driver.staged ≡ [])
+    → IfErr result (λ error. (m ≡ a) × (h' ≡ h)) → Finished m b
+    → CallRuns a.host a.ticks.now a.stations.now b.stations.now a.outcomes.now b.outcomes.now b.accesses h h' []
+    (given_by socket (frame_in into result)) []
+any-runs a m b h h' socket (Ok size) into zero ready receives refilled offered unasked finished =
+    recv-runs a m b h h' socket size (take size into) zero ready receives refilled offered finished
+any-runs a m b h h' socket (Err error) into zero ready receives refilled offered unasked finished =
+    none-runs a m b h h' socket error zero ready unasked.0 unasked.1 finished
+
+pub any-answers : (a m : LentBus) (h h' : HostState) (socket : ℕ) (result : Result ℕ RecvError) (into : List ℕ)
+    → IfOk result (λ size. Receives true world_here Retells a m h h' socket size (take size into))
+    → ((result ≡ Err NoSocket) ↔ (length h.kinds ≤ socket))
+    → ((result ≡ Err Empty) ↔ ((socket < length h.kinds) × (queue_at h.queues socket ≡ [])))
+    → AnswersRecv (frame_in into result) socket h (world_here a)
+any-answers a m h h' socket (Ok size) into receives none empty =
+    ok-answers a m h h' socket size (take size into) receives (there-given (Ok size) size socket (length h.kinds) refl none)
+any-answers a m h h' socket (Err error) into receives none empty =
+    err-answers (Err error) error socket h (world_here a) refl none empty
+
+pub any-leaves : (a m b : LentBus) (h h' : HostState) (socket : ℕ) (result : Result ℕ RecvError) (into : List ℕ) → a.accesses ≡ 0
+    → length into ≡ 1518 → IfOk result IsFrameSize → IfOk result (LeavesSome h h' socket) → IfErr result (λ error. (m ≡ a) × (h' ≡ h))
+    → Finished m b → LeavesRecv (frame_in into result) socket h h' b.accesses
+any-leaves a m b h h' socket (Ok size) into zero long sized leaves unasked finished =
+    ok-leaves h h' socket size b.accesses into (let most = sized.most in omega (arith, long, most)) leaves
+any-leaves a m b h h' socket (Err error) into zero long sized leaves unasked finished =
+    err-leaves a m b h h' socket error zero unasked.0 unasked.1 finished

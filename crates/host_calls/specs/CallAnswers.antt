@@ -1,5 +1,5 @@
 -- What a call of a host answers (own).
-use Rattle.std.specs.Prelude.{⊤, ◌≡◌, ◌↔◌, ◌≤◌, ◌<◌, ◌+◌, ◌∷◌, [], ℕ, List, Result, Ok, Err, length}
+use Rattle.std.specs.Prelude.{⊤, ◌≡◌, ◌↔◌, ◌≤◌, ◌<◌, ◌+◌, ◌∷◌, [], ℕ, List, Result, Ok, Err, length, take}
 use Rattle.dma_memory.specs.Layout.{Counts}
 use Rattle.descriptors.specs.Frames.{longest_frame, shortest_sent}
 use Rattle.adapter.specs.HostFrames.{frames_to_send}
@@ -34,6 +34,11 @@ pub record AnswersSend (result : Answer) (frame : List ℕ) (counts : Counts) (w
 abbrev pub given_by : (socket : ℕ) → Result (List ℕ) RecvError → List Given
 given_by socket (Ok frame) = record { socket = socket; frame = frame } ∷ []
 given_by socket (Err error) = []
+
+-- the answer with its frame, which stands at the front of these bytes, in place of how many it has
+abbrev pub frame_in : List ℕ → Result ℕ RecvError → Result (List ℕ) RecvError
+frame_in bytes (Ok size) = Ok (take size bytes)
+frame_in bytes (Err error) = Err error
 
 -- the oldest frame that waited, where one is given
 abbrev pub IsOldest : Result (List ℕ) RecvError → List (List ℕ) → Type 0

@@ -1,11 +1,12 @@
 // Calls of one host, with the ticks inside them.
 
-ghost use Rattle.std.specs.Prelude.{◌≡◌, ◌≤◌, ◌<◌, [], length};
+ghost use Rattle.std.specs.Prelude.{◌≡◌, ◌≤◌, ◌<◌, [], length, IfOk};
+ghost use Rattle.driver.specs.TakenFrames.{IsFrameSize};
 ghost use Rattle.driver.specs.SendSteps.{accepted_by};
 ghost use Rattle.stations.specs.Stations.{world_at};
 ghost use Rattle.packet_socket.specs.HeldFrames.{HostReady};
 ghost use Rattle.host_calls.specs.CallsOfHosts.{CallRuns};
-ghost use Rattle.host_calls.specs.CallAnswers.{AnswersRecv, AnswersSend, InterruptRuns, LeavesRecv, LeavesSend, given_by};
+ghost use Rattle.host_calls.specs.CallAnswers.{AnswersRecv, AnswersSend, InterruptRuns, LeavesRecv, LeavesSend, frame_in, given_by};
 
 use descriptors::Frame;
 use driver::{Handled, SendError};
@@ -58,7 +59,46 @@ pub fn send(
     }
 }
 
-/// A host asks for the oldest frame of a socket, while ticks are played on all stations.
+/// A host asks for the oldest frame of a socket, while ticks are played on all stations. It is copied into the front of
+/// `into`, and the answer is how many bytes it has.
+///
+/// # Errors
+///
+/// The answer is that of [`Host::recv`].
+pub fn recv_into(
+    host: &mut Host,
+    stations: &mut [Station],
+    place: usize,
+    socket: usize,
+    ticks: &[Tick],
+    outcomes: &mut Outcomes,
+    into: &mut [u8; 1518],
+) -> Called<Result<usize, RecvError>>
+    requires there { place < length stations.old }
+    requires ready { HostReady host.old (world_at stations.old place) }
+    requires room { length ticks.now ≤ outcomes.old.room }
+    ensures runs { CallRuns place ticks.now stations.old stations.new outcomes.old outcomes.new result.accesses
+        host.old host.new [] (given_by socket (frame_in into.new result.answer)) [] }
+    ensures answers { AnswersRecv (frame_in into.new result.answer) socket host.old (world_at stations.old place) }
+    ensures leaves { LeavesRecv (frame_in into.new result.answer) socket host.old host.new result.accesses }
+    ensures size { IfOk result.answer IsFrameSize }
+{
+    let mut bus = LentBus {
+        stations,
+        ticks,
+        host: place,
+        accesses: 0,
+        outcomes,
+    };
+    let answer = host.recv(&mut bus, socket, into);
+    bus.finish();
+    Called {
+        answer,
+        accesses: bus.accesses,
+    }
+}
+
+/// A [`recv_into`] that answers the frame itself.
 ///
 /// # Errors
 ///
@@ -79,22 +119,25 @@ pub fn recv(
     ensures answers { AnswersRecv result.answer socket host.old (world_at stations.old place) }
     ensures leaves { LeavesRecv result.answer socket host.old host.new result.accesses }
 {
-    let mut bus = LentBus {
-        stations,
-        ticks,
-        host: place,
-        accesses: 0,
-        outcomes,
-    };
     let mut bytes = [0; 1518];
-    let answer = match host.recv(&mut bus, socket, &mut bytes) {
+    let called = recv_into(host, stations, place, socket, ticks, outcomes, &mut bytes);
+    Called {
+        answer: frame_of(&bytes, called.answer),
+        accesses: called.accesses,
+    }
+}
+
+/// The answer with its frame, which stands at the front of these bytes.
+fn frame_of(
+    bytes: &[u8; 1518],
+    answer: Result<usize, RecvError>,
+) -> Result<Frame, RecvError>
+    requires { IfOk answer IsFrameSize }
+    ensures { result ≡ frame_in bytes.now answer }
+{
+    match answer {
         Ok(size) => Ok(Frame::from_slice(&bytes[..size])),
         Err(error) => Err(error),
-    };
-    bus.finish();
-    Called {
-        answer,
-        accesses: bus.accesses,
     }
 }
 

@@ -3,4 +3,4 @@
 
 mod calls;
 
-pub use calls::{Called, interrupt, recv, send};
+pub use calls::{Called, interrupt, recv, recv_into, send};

@@ -14,7 +14,8 @@ use packet_socket::Host;
 use stations::{Outcomes, Station, line_at, step_at};
 
 /// Drains a host: gives all that it holds for its sockets to `sink`, and tells in how many steps. `place` is the
-/// host's number. No outcome is noted, as no tick is played inside its calls.
+/// host's number. No outcome is noted, as no tick is played inside its calls. What room `sink` had and didn't need is
+/// left.
 ///
 /// Each step is the first of these that applies: its adapter ends the frame in work, where there is one; the host
 /// handles an interrupt, where the line is asserted; it gives the oldest frame of its first socket for which one
@@ -29,8 +30,9 @@ pub fn drain<S: Outlet>(
     requires there { place < length stations.old }
     requires stands { CanBeDrained host.old (world_at stations.old place) }
     requires room { host.old.driver.counts.buffers + 24 ≤ S.places sink.old }
-    ensures { DrainsInto result place stations.old stations.new host.old host.new (S.frames sink.old)
+    ensures drains { DrainsInto result place stations.old stations.new host.old host.new (S.frames sink.old)
         (S.frames sink.new) }
+    ensures left { length (S.frames sink.old) + S.places sink.old ≤ length (S.frames sink.new) + S.places sink.new }
 {
     // A look at the adapter, so that the frames that are held may be counted as those of every adapter.
     let _line = line_at(stations, place);

@@ -1,18 +1,17 @@
 // What came of an event.
 
-use descriptors::Frame;
 use driver::{Handled, SendError};
 use packet_socket::RecvError;
-use stations::Outcomes;
+use stations::{HeapFrame, Outcomes};
 use thiserror::Error;
 
-/// What a call answered.
+/// What a call answered. It is small: a frame's bytes lie on the heap.
 #[derive(Debug, Drop, PartialEq, Eq)]
 pub enum Answer {
     /// A send was accepted, or refused.
     Sent(Result<(), SendError>),
     /// A socket gave its oldest frame, or none.
-    Received(Result<Frame, RecvError>),
+    Received(Result<HeapFrame, RecvError>),
     /// An interrupt was handled.
     Interrupted(Handled),
     /// A tick was played by itself.

@@ -13,7 +13,7 @@ use Rattle.stations.specs.Stations.{StationState}
 use Rattle.network_plan.specs.declared.plan.HostPlan.{HostPlan}
 use Rattle.network_plan.specs.declared.plan_error.PlanError.{PlanError}
 use Rattle.network_plan.specs.declared.plan_error.PlanError.TheVariants as refused
-use Rattle.network_hosts.specs.HostsUp.{AreUp, ComesUp, IsReason, IsRefusal, ShareWires, wire_number}
+use Rattle.network_hosts.specs.HostsUp.{AreUp, CanComeUp, ComesUp, IsReason, IsRefusal, ShareWires, wire_number}
 
 -- Wires.
 
@@ -87,16 +87,17 @@ first-or-all p xs = or-all (position_or_len p xs) (length xs) (place-short p xs)
 
 -- A refusal of one host is one of all.
 pub refusal-is : (plans : List HostPlan) (number : ℕ) (plan : HostPlan) (error : InitError) (refusal : PlanError)
-    → slice_get plans number ≡ Some plan → IsReason plan error → (error ≡ errors.Memory → refusal ≡ refused.Memory)
+    → slice_get plans number ≡ Some plan → CanComeUp plans number → IsReason plan error
+    → (error ≡ errors.Memory → refusal ≡ refused.Memory)
     → (error ≢ errors.Memory → refusal ≡ refused.Init number error) → IsRefusal plans refusal
-refusal-is plans number plan errors.Memory refusal there reason memory others = subst (IsRefusal plans) (sym (memory refl)) tt
-refusal-is plans number plan errors.EepromTimeout refusal there reason memory others = absurd reason
-refusal-is plans number plan errors.Checksum refusal there reason memory others =
-    subst (IsRefusal plans) (sym (others (λ is. cc))) (plan, there, reason)
-refusal-is plans number plan errors.PhyTimeout refusal there reason memory others = absurd reason
-refusal-is plans number plan errors.NoLink refusal there reason memory others =
-    subst (IsRefusal plans) (sym (others (λ is. cc))) (plan, there, reason)
-refusal-is plans number plan errors.Config refusal there reason memory others = absurd reason
+refusal-is plans number plan errors.Memory refusal there can reason memory others = subst (IsRefusal plans) (sym (memory refl)) tt
+refusal-is plans number plan errors.EepromTimeout refusal there can reason memory others = absurd reason
+refusal-is plans number plan errors.Checksum refusal there can reason memory others =
+    subst (IsRefusal plans) (sym (others (λ is. cc))) (plan, there, reason, can)
+refusal-is plans number plan errors.PhyTimeout refusal there can reason memory others = absurd reason
+refusal-is plans number plan errors.NoLink refusal there can reason memory others =
+    subst (IsRefusal plans) (sym (others (λ is. cc))) (plan, there, reason, can)
+refusal-is plans number plan errors.Config refusal there can reason memory others = absurd reason
 
 pub share-wires : (plans : List HostPlan) (count : ℕ) (hosts : List HostState) (stations : List StationState)
     → AreUp plans count hosts stations → ShareWires plans stations
@@ -127,6 +128,22 @@ up-none plans = record {
   each = λ k plan host station there made on. absurd (cc);
   wires = λ k plan station there on. absurd (cc);
 }
+
+there-is : {X : Type 0} (xs : List X) (k : ℕ) → k < length xs → (x : X) × (slice_get xs k ≡ Some x)
+there-is [] k below = absurd (omega (arith, below))
+there-is (x ∷ xs) zero below = (x, refl)
+there-is (x ∷ xs) (suc k) below = there-is xs k (omega (arith, below))
+
+-- Hosts that are up can come up.
+pub up-can : (plans : List HostPlan) (count : ℕ) (hosts : List HostState) (stations : List StationState)
+    → AreUp plans count hosts stations → CanComeUp plans count
+up-can plans count hosts stations up k plan below there =
+    let count_of_hosts = up.host_count in
+    let count_of_stations = up.station_count in
+    let host = there-is hosts k (omega (arith, below, count_of_hosts)) in
+    let station = there-is stations k (omega (arith, below, count_of_stations)) in
+    let is = up.each k plan host.0 station.0 there host.1 station.1 in
+    (is.sum, is.comes)
 
 pub up-more : (plans : List HostPlan) (count : ℕ) (hosts : List HostState) (stations : List StationState) (host : HostState)
     (station : StationState)

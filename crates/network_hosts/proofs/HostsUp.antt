@@ -1,12 +1,16 @@
 -- A host is brought up over a bus of its own.
-use Rattle.std.proofs.Common.{◌≡◌, ◌<◌, ◌-◌, [], ℕ, List, length, replicate, refl, sym, ap, subst, ◌∙◌, arith}
+use Rattle.std.proofs.Common.{◌≡◌, ◌≢◌, ◌<◌, ◌-◌, [], true, false, ℕ, List, length, replicate, refl, sym, ap, subst, ◌∙◌, arith}
 use Rattle.dma_memory.specs.Layout.{Counts, size_of}
 use Rattle.descriptors.specs.Ring.{HasValidIndices, count_of}
 use Rattle.descriptors.specs.declared.ring.Ring.{Ring}
 use Rattle.registers.specs.Bits.{HasBit}
 use Rattle.registers.specs.Places.{tctl_en}
 use Rattle.eeprom.specs.Image.{HasRightSum, address_bytes}
+use Rattle.mdic_phy.specs.declared.phy.Link.{Link}
+use Rattle.mdic_phy.specs.declared.phy.Link.TheVariants.{Never}
+use Rattle.mdic_phy.specs.Phy.{PhyState, is_complete, link_is_up}
 use Rattle.rx_filter.specs.Addresses.{IsAddress}
+use Rattle.adapter.specs.Registers.{new_adapter}
 use Rattle.adapter.specs.State.{AdapterState}
 use Rattle.adapter.specs.World.{World, receive_ring, transmit_ring}
 use Rattle.bus.specs.Settings.{settings_of}
@@ -26,6 +30,7 @@ use Rattle.step_answers.specs.CountedHosts.{CanAnswer}
 use Rattle.network_plan.specs.declared.plan.HostPlan.{HostPlan}
 use Rattle.network_hosts.specs.HostsUp.{ComesUp, HasNoFrames}
 use Rattle.network_hosts.proofs.ArrivalsAlone.{alone-stays}
+use Rattle.network_hosts.proofs.OwnTicks.{IsAdapterOf, IsPhyOf}
 use Rattle.network_hosts.proofs.PlansFilters.{Controls, controls, plans-filter}
 
 -- a host on a wire, at whose end nothing waits
@@ -66,7 +71,7 @@ pub record IsBroughtUp (plan : HostPlan) (old new : SoloState) (host : HostState
   pub had : CanBeHad plan.config size
   pub address : IsAddress (address_bytes plan.image)
   pub waiting : old.waiting ≡ []
-  pub image : old.world.adapter.image ≡ plan.image
+  pub adapter : old.world.adapter ≡ new_adapter plan.image plan.link
   pub memory : length new.world.memory ≡ size_of (counts_of plan.config)
   pub host_is : host ≡ new_host host.driver plan.sockets.items
   pub fresh : host.driver ≡ with_owners (new_driver (counts_of plan.config) []) host.driver.buffers [] host.driver.pool []
@@ -75,12 +80,33 @@ pub record IsBroughtUp (plan : HostPlan) (old new : SoloState) (host : HostState
       host.driver
   pub ready : HostReady host new.world
 
+-- a link that is up isn't one that never comes up
+link-comes : (link : Link) (phy : PhyState) → IsPhyOf link phy → link_is_up phy ≡ true → link ≢ Never
+link-comes link phy is up = λ never.
+    let down : link_is_up phy ≡ false = ap is_complete (is.never never) in
+    cc
+
+-- What bring-up leaves of the adapter.
+left-alone : (plan : HostPlan) (old new : SoloState) (host : HostState) → IsBroughtUp plan old new host
+    → IsAdapterOf plan.link new.world.adapter
+left-alone plan old new host is =
+    let init = is.initialises in
+    let first = alone-stays old init.middle init.first is.waiting init.told_first in
+    let later = alone-stays init.middle new init.later first.waiting init.told_later in
+    later.leaves plan.link
+    (first.leaves plan.link
+    (subst (λ (adapter : AdapterState). IsAdapterOf plan.link adapter) (sym is.adapter) (
+      record { link_is = refl; never = λ never. refl },
+      record { no_descriptor = refl; none_received = refl; none_transmitted = refl },
+    )))
+
 no-frames : (plan : HostPlan) (old new : SoloState) (host : HostState) (wire : ℕ) → IsBroughtUp plan old new host
     → HasNoFrames host (station_on wire new.world)
 no-frames plan old new host wire is =
     let init = is.initialises in
     let first = alone-stays old init.middle init.first is.waiting init.told_first in
     let later = alone-stays init.middle new init.later first.waiting init.told_later in
+    let counts = (left-alone plan old new host is).1 in
     record {
       to_send = init.none_to_send;
       held = init.held ∙ later.none.none_stored;
@@ -91,6 +117,9 @@ no-frames plan old new host wire is =
       missed = ap (λ (d : DriverState). d.missed) is.fresh;
       exact = ap (λ (d : DriverState). d.exact) is.fresh;
       missed_packets = omega (arith, init.missed_most, later.none.none_missed);
+      without_descriptor = counts.no_descriptor;
+      received = counts.none_received;
+      transmitted = counts.none_transmitted;
       unclaimed = ap (λ (h : HostState). h.unclaimed) is.host_is;
     }
 
@@ -99,8 +128,10 @@ pub comes-up : (plan : HostPlan) (old new : SoloState) (host : HostState) (wire 
 comes-up plan old new host wire is =
     let init = is.initialises in
     let counts : host.driver.counts ≡ counts_of plan.config = ap (λ (d : DriverState). d.counts) is.fresh in
+    let phy = (left-alone plan old new host is).0 in
+    let image : old.world.adapter.image ≡ plan.image = ap (λ (adapter : AdapterState). adapter.image) is.adapter in
     let configured : IsConfigured plan.config (address_bytes plan.image) (settings_of new.world.adapter) =
-    subst (λ (words : List ℕ). IsConfigured plan.config (address_bytes words) (settings_of new.world.adapter)) is.image
+    subst (λ (words : List ℕ). IsConfigured plan.config (address_bytes words) (settings_of new.world.adapter)) image
     init.configured in
     record {
       ready = is.ready;
@@ -113,8 +144,10 @@ comes-up plan old new host wire is =
       kinds = ap (λ (h : HostState). h.kinds) is.host_is;
       allocation = configured.allocation;
       filter = plans-filter plan (settings_of new.world.adapter) is.address configured;
-      image = init.image ∙ is.image;
-      sum = subst HasRightSum is.image init.sum;
+      image = init.image ∙ image;
+      sum = subst HasRightSum image init.sum;
+      link_is = phy.link_is;
+      comes = link-comes plan.link new.world.adapter.phy phy init.up.up;
       link = init.up;
       no_frames = no-frames plan old new host wire is;
     }

@@ -1,3 +1,4 @@
+pub mod OwnTicks
 pub mod ArrivalsAlone
 pub mod PlansFilters
 pub mod HostsUp

@@ -1,8 +1,9 @@
 -- What a host is when its network has brought it up (own).
-use Rattle.std.specs.Prelude.{⊤, ◌≡◌, ◌*◌, ◌↔◌, ℕ, true, IsTrue, List, [], Some, String, length, replicate, slice_get, string_eq}
+use Rattle.std.specs.Prelude.{⊤, ◌≡◌, ◌≢◌, ◌<◌, ◌*◌, ◌↔◌, ℕ, true, IsTrue, List, [], Some, String, length, replicate, slice_get, string_eq}
 use Rattle.std.specs.List.{position_or_len}
 use Rattle.std.specs.declared.alloc.Global.{Global}
 use Rattle.eeprom.specs.Image.{HasRightSum}
+use Rattle.mdic_phy.specs.declared.phy.Link.TheVariants.{Never}
 use Rattle.dma_memory.specs.Layout.{size_of}
 use Rattle.adapter.specs.HostFrames.{frames_held, frames_to_send}
 use Rattle.bus.specs.Link.{HasLink}
@@ -21,7 +22,7 @@ use Rattle.network_plan.specs.declared.plan_error.PlanError.{PlanError}
 use Rattle.network_plan.specs.declared.plan_error.PlanError.TheVariants as refused
 use Rattle.network_hosts.specs.Filters.{HasPlansFilter}
 
--- No frame is anywhere, and none was.
+-- No frame is anywhere, and none was counted.
 pub record HasNoFrames (host : HostState) (station : StationState) : Type 0 where
   pub to_send : frames_to_send station.world ≡ []
   pub held : frames_held host.driver.oldest_receive station.world ≡ []
@@ -30,6 +31,10 @@ pub record HasNoFrames (host : HostState) (station : StationState) : Type 0 wher
   pub missed : host.driver.missed ≡ 0
   pub exact : host.driver.exact ≡ true
   pub missed_packets : station.world.adapter.missed_packets ≡ 0
+  -- RNBC, GPRC and GPTC
+  pub without_descriptor : station.world.adapter.no_receive_buffers ≡ 0
+  pub received : station.world.adapter.received_packets ≡ 0
+  pub transmitted : station.world.adapter.transmitted_packets ≡ 0
   pub unclaimed : host.unclaimed ≡ 0
 
 -- A host and its station are as its plan says.
@@ -46,17 +51,19 @@ pub record ComesUp (plan : HostPlan) (host : HostState) (station : StationState)
   pub kinds : host.kinds ≡ plan.sockets.items
   pub allocation : station.world.adapter.receive_kilobytes ≡ plan.config.rxa
   pub filter : HasPlansFilter plan station.world.adapter.filter
-  -- its EEPROM, whose sum is right, and its link
+  -- its EEPROM, whose sum is right, and its link: when that comes up is as the plan says, and now it is up
   pub image : station.world.adapter.image ≡ plan.image
   pub sum : HasRightSum plan.image
+  pub link_is : station.world.adapter.phy.link ≡ plan.link
+  pub comes : plan.link ≢ Never
   pub link : HasLink station.world
   pub no_frames : HasNoFrames host station
 
--- Why a host doesn't come up, other than for want of memory: its EEPROM's sum is wrong, or its link needs more than 2,000 ticks or never
--- comes up.
+-- Why a host doesn't come up, other than for want of memory: its EEPROM's sum is wrong; or that is right, and its link needs more than
+-- 2,000 ticks or never comes up.
 abbrev pub IsDevices : HostPlan → InitError → Type 0
 IsDevices plan Checksum = ¬ (HasRightSum plan.image)
-IsDevices plan NoLink = NeedsMoreThan (2 * most_reads) plan.link
+IsDevices plan NoLink = HasRightSum plan.image × NeedsMoreThan (2 * most_reads) plan.link
 IsDevices plan error = ⊥
 
 abbrev pub IsReason : HostPlan → InitError → Type 0
@@ -87,9 +94,15 @@ ShareWires plans stations =
     → slice_get stations j ≡ Some a → slice_get stations k ≡ Some b
     → (a.wire ≡ b.wire) ↔ IsTrue (string_eq one.wire other.wire)
 
--- this host of the plan doesn't come up, for this reason
+-- Each of the first so many hosts has a right sum, and a link that comes up at some time.
+abbrev pub CanComeUp : List HostPlan → ℕ → Type 0
+CanComeUp plans count =
+    (k : ℕ) (plan : HostPlan) → k < count → slice_get plans k ≡ Some plan → HasRightSum plan.image × (plan.link ≢ Never)
+
+-- This host of the plan doesn't come up, for this reason, and those before it can.
 abbrev pub IsNotUp : List HostPlan → ℕ → InitError → Type 0
-IsNotUp plans number error = (plan : HostPlan) × (slice_get plans number ≡ Some plan) × IsDevices plan error
+IsNotUp plans number error =
+    (plan : HostPlan) × (slice_get plans number ≡ Some plan) × IsDevices plan error × CanComeUp plans number
 
 -- Why the hosts of a plan don't come up.
 abbrev pub IsRefusal : List HostPlan → PlanError → Type 0

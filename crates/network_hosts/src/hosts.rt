@@ -6,7 +6,7 @@ ghost use Rattle.bring_up.specs.declared.init_error.InitError.TheVariants as Ini
 ghost use Rattle.network_plan.specs.Plans.{HasConfigs};
 ghost use Rattle.network_plan.specs.declared.plan.HostPlan.{HostPlan};
 ghost use Rattle.network_plan.specs.declared.plan_error.PlanError.TheVariants as PlanError;
-ghost use Rattle.network_hosts.specs.HostsUp.{AreUp, ComesUp, IsRefusal, ShareWires};
+ghost use Rattle.network_hosts.specs.HostsUp.{AreUp, CanComeUp, ComesUp, IsRefusal, ShareWires};
 ghost use Rattle.network_hosts.specs.HostsUp as up;
 
 use crate::host::bring_up_host;
@@ -22,7 +22,8 @@ use std::alloc::{AllocError, Global};
 /// # Errors
 ///
 /// [`Memory`](PlanError::Memory) where memory is refused, and [`Init`](PlanError::Init) with the number of a host whose
-/// EEPROM's sum is wrong, or whose link needs more than 2,000 ticks or never comes up.
+/// EEPROM's sum is wrong, or whose link needs more than 2,000 ticks or never comes up. Those before it have right sums
+/// and links that come up at some time.
 pub fn bring_up(alloc: Global, plan: &Plan) -> Result<(Vec<Host>, Vec<Station>), PlanError>
     requires { HasConfigs plan.now.hosts.items }
     ensures up { IfOk result (λ made.
@@ -42,7 +43,7 @@ pub fn bring_up(alloc: Global, plan: &Plan) -> Result<(Vec<Host>, Vec<Station>),
     Ok((hosts, stations))
 }
 
-/// Brings one host of a plan up, on its wire.
+/// Brings one host of a plan up, on its wire, where those before it can come up.
 fn bring_up_one(
     alloc: Global,
     plans: &[HostPlan],
@@ -50,6 +51,7 @@ fn bring_up_one(
 ) -> Result<(Host, Station), PlanError>
     requires there { number < length plans.now }
     requires configs { HasConfigs plans.now }
+    requires earlier { CanComeUp plans.now number }
     ensures up { (plan : HostPlan) → slice_get plans.now number ≡ Some plan
         → IfOk result (λ made. ComesUp plan made.0 made.1) }
     ensures wire { (plan : HostPlan) → slice_get plans.now number ≡ Some plan

@@ -219,8 +219,11 @@ fn drawn_events_are_the_same_twice(rt: HostRuntime) -> Result<(), Fail> {
     let second = play(&rt, rt.alloc(), &lines, &[], 9)?;
     assert!(rt; taken(&first, 0).len() > 24);
     assert!(rt; taken(&first, 0) == taken(&second, 0) && taken(&first, 1) == taken(&second, 1));
-    let none = play(&rt, rt.alloc(), &["auto 0 1\n"], &[], 9)?;
-    assert!(rt; taken(&none, 0).len() == 24);
+    // No event is drawn, so those of the first frame have the numbers from 0 on.
+    let none = play(&rt, rt.alloc(), &["auto 0 1\n", FIRST], &[], 9)?;
+    assert!(rt; tells(&none, TOLD));
+    let given = taken(&none, 0);
+    assert!(rt; given.len() == 100 && given[28] == 7);
     Ok(())
 }
 

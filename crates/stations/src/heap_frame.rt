@@ -37,7 +37,7 @@ impl HeapFrame {
     /// # Errors
     ///
     /// Want of memory alone.
-    pub(crate) fn with_room(alloc: Global) -> Result<HeapFrame, AllocError>
+    pub fn with_room(alloc: Global) -> Result<HeapFrame, AllocError>
         ensures { IfOk result (λ frame. frame ≡ []) }
     {
         Ok(HeapFrame {
@@ -46,7 +46,7 @@ impl HeapFrame {
     }
 
     /// Takes these bytes, of which there are at most 1,518, in place of its own.
-    pub(crate) fn fill(&mut self, bytes: &[u8])
+    pub fn fill(&mut self, bytes: &[u8])
         requires fits { length bytes.now ≤ LONGEST_LEGAL }
         ensures { self.new ≡ bytes.now }
     {

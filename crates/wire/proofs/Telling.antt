@@ -22,9 +22,10 @@ use Rattle.wire.proofs.Running.{interrupt-event, recv-event, send-event, tick-ev
 -- What is written back is what the network is now.
 pub network-now : (inside now : Inside) (caller : ℕ) (happened : List Happening) (steps : List AtomicStep) (old new : NetworkState)
     → HostsGo caller happened steps old new → length old.hosts ≡ inside.hosts.len → length old.stations ≡ inside.stations.len
-    → now ≡ record { hosts = with_items inside.hosts new.hosts; stations = with_items inside.stations new.stations }
+    → (given : List ℕ)
+    → now ≡ record { hosts = with_items inside.hosts new.hosts; stations = with_items inside.stations new.stations; given = given }
     → network_of now ≡ new
-network-now inside now caller happened steps old new go hosts stations is =
+network-now inside now caller happened steps old new go hosts stations given is =
     let one = with_items_is inside.hosts new.hosts (go.hosts ∙ hosts) in
     let two = with_items_is inside.stations new.stations
     (length-stays caller steps old.stations new.stations go.leads ∙ stations) in
@@ -78,9 +79,10 @@ interrupt-told args old new now event host ticks reply list old_is event_is list
 -- A tick by itself.
 pub tick-now : (inside now : Inside) (tick : Tick) (reply : Reply) (old : NetworkState) (stations : List StationState)
     → TickPlayed tick reply old.stations stations → length old.hosts ≡ inside.hosts.len → length old.stations ≡ inside.stations.len
-    → now ≡ record { hosts = with_items inside.hosts old.hosts; stations = with_items inside.stations stations }
+    → (given : List ℕ)
+    → now ≡ record { hosts = with_items inside.hosts old.hosts; stations = with_items inside.stations stations; given = given }
     → (let network : NetworkState = record { hosts = old.hosts; stations = stations } in network_of now ≡ network)
-tick-now inside now tick reply old stations played hosts len is =
+tick-now inside now tick reply old stations played hosts len given is =
     let one = with_items_is inside.hosts old.hosts hosts in
     let two = with_items_is inside.stations stations (length-stays 0 played.steps old.stations stations (played.leads 0) ∙ len) in
     ap network_of is

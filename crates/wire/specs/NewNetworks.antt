@@ -7,8 +7,8 @@ use Rattle.network_plan.specs.declared.plan_error.PlanError.{PlanError}
 use Rattle.network_plan.specs.declared.plan_error.PlanError.TheVariants as refused
 use Rattle.wire.specs.Networks.{NetworkState}
 
--- Each host has come up as its plan has it, with its sockets, rings, filter and link, no frame is anywhere, no miss and no frame without a
--- socket is counted; and two hosts are on one wire exactly where their plans name the same.
+-- Each host has come up as its plan has it, with its sockets, rings, filter and link, no frame is anywhere, and none is counted; and two
+-- hosts are on one wire exactly where their plans name the same.
 pub record IsMade (plans : List HostPlan) (network : NetworkState) : Type 0 where
   pub up : AreUp plans (length plans) network.hosts network.stations
   pub wires : ShareWires plans network.stations
@@ -17,7 +17,7 @@ abbrev pub IsRight : List HostPlan → Type 0
 IsRight plans = IsPlanAnswer plans (Ok tt)
 
 -- Which answer a plan gets: the first reason by which the plan alone is refused; else want of memory, or a host whose EEPROM's sum is
--- wrong or whose link doesn't come up within 2,000 ticks; else the network.
+-- wrong, or is right and whose link doesn't come up within 2,000 ticks, behind hosts that can come up; else the network.
 abbrev pub IsLanAnswer : List HostPlan → Result NetworkState PlanError → Type 0
 IsLanAnswer plans (Ok network) = IsRight plans × IsMade plans network
 IsLanAnswer plans (Err refused.Memory) = IsRight plans

@@ -1,6 +1,6 @@
 // A host of a network is drained.
 
-ghost use Rattle.std.specs.Prelude.{◌≡◌, ◌≤◌, ◌+◌};
+ghost use Rattle.std.specs.Prelude.{◌≡◌, ◌≤◌, ◌+◌, length};
 ghost use Rattle.packet_socket.specs.HostState.{HostState};
 ghost use Rattle.wire.specs.DrainedNetworks.{NetworkDrains};
 ghost use Rattle.wire.specs.Networks.{IsHost, NetworkStands};
@@ -17,7 +17,8 @@ impl Lan {
     /// For how many frames a [`drain`](Lan::drain) of a host needs room: its receive buffers and what its packet buffer
     /// may hold, 24; none where the host isn't there.
     pub fn drain_room(&self, host: usize) -> usize
-        ensures { (state : HostState) → IsHost self.now host state → result ≡ state.driver.counts.buffers + 24 }
+        ensures there { (state : HostState) → IsHost self.now host state → result ≡ state.driver.counts.buffers + 24 }
+        ensures none { length self.now.hosts ≤ host → result ≡ 0 }
     {
         match self.hosts.get(host) {
             Some(one) => usize::from(one.layout().buffers()) + MOST_BUFFERED,
@@ -27,7 +28,7 @@ impl Lan {
 
     /// Drains a host: gives all that it holds for its sockets to `sink`, each frame with its socket's number, and
     /// tells in how many steps. A host that isn't there takes none. It takes no memory; `sink` must have the room that
-    /// [`drain_room`](Lan::drain_room) tells.
+    /// [`drain_room`](Lan::drain_room) tells, and what it didn't need of its room is left.
     ///
     /// Each step is the first of these that applies: the host's adapter ends the frame in work, where there is one;
     /// the host handles an interrupt, where the line is asserted; it gives the oldest frame of its first socket for
@@ -35,7 +36,8 @@ impl Lan {
     pub fn drain<S: Outlet>(&mut self, host: usize, sink: &mut S) -> u64
         requires room { (state : HostState) → IsHost self.old host state
             → state.driver.counts.buffers + 24 ≤ S.places sink.old }
-        ensures { NetworkDrains self.old host result (S.frames sink.old) (S.frames sink.new) self.new }
+        ensures drains { NetworkDrains self.old host result (S.frames sink.old) (S.frames sink.new) self.new }
+        ensures left { length (S.frames sink.old) + S.places sink.old ≤ length (S.frames sink.new) + S.places sink.new }
     {
         let outcomes = Outcomes::new(*self.stations.allocator());
         let hosts = self.hosts.as_mut_slice();
@@ -54,8 +56,9 @@ fn drain<S: Outlet>(
     requires stands { NetworkStands (record { hosts = hosts.old; stations = stations.old }) }
     requires room { (state : HostState) → IsHost (record { hosts = hosts.old; stations = stations.old }) host state
         → state.driver.counts.buffers + 24 ≤ S.places sink.old }
-    ensures { NetworkDrains (record { hosts = hosts.old; stations = stations.old }) host result (S.frames sink.old)
-        (S.frames sink.new) (record { hosts = hosts.new; stations = stations.new }) }
+    ensures drains { NetworkDrains (record { hosts = hosts.old; stations = stations.old }) host result
+        (S.frames sink.old) (S.frames sink.new) (record { hosts = hosts.new; stations = stations.new }) }
+    ensures left { length (S.frames sink.old) + S.places sink.old ≤ length (S.frames sink.new) + S.places sink.new }
 {
     if host >= hosts.len() {
         return 0;

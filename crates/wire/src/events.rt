@@ -1,6 +1,8 @@
 // One event, over all hosts and their stations.
 
-ghost use Rattle.std.specs.Prelude.{◌≡◌, ◌≢◌, ◌≤◌, ◌<◌, ◌++◌, [], length};
+ghost use Rattle.std.specs.Prelude.{◌≡◌, ◌≢◌, ◌≤◌, ◌<◌, ◌++◌, [], length, IfOk};
+ghost use Rattle.driver.specs.TakenFrames.{IsFrameSize};
+ghost use Rattle.host_calls.specs.CallAnswers.{frame_in};
 ghost use Rattle.bus.specs.TickGroups.{without_go};
 ghost use Rattle.delivery.specs.Happenings.{told};
 ghost use Rattle.lent_bus.specs.AtomicRuns.{is_go};
@@ -10,10 +12,11 @@ ghost use Rattle.wire.specs.EventParts.{CallPlayed, IsInterruptAnswer, IsRecvAns
 ghost use Rattle.wire.specs.Networks.{NetworkStands};
 ghost use Rattle.wire.specs.Runs.{accepted_of, given_of};
 
+use host_calls::recv_into;
 use lent_bus::play_rest;
 use network_events::{Answer, Reply};
-use packet_socket::Host;
-use stations::{Outcome, Outcomes, Station, Tick, play};
+use packet_socket::{Host, RecvError};
+use stations::{HeapFrame, Outcome, Outcomes, Station, Tick, play};
 
 /// A call for a host that isn't there: its ticks are played.
 fn no_host(stations: &mut [Station], ticks: &[Tick], outcomes: Outcomes) -> Reply
@@ -68,6 +71,28 @@ pub(crate) fn send(
     }
 }
 
+/// Room for a frame that a socket gives: where it is copied to, and what it is handed on in.
+#[derive(Drop)]
+pub(crate) struct FrameRoom<'a> {
+    pub(crate) bytes: &'a mut [u8; 1518],
+    pub(crate) frame: HeapFrame,
+}
+
+/// The answer with its frame, in place of how many of these bytes it has.
+fn shown(room: FrameRoom, answer: Result<usize, RecvError>) -> Result<HeapFrame, RecvError>
+    requires { IfOk answer IsFrameSize }
+    ensures { result ≡ frame_in room.bytes.now answer }
+{
+    let mut frame = room.frame;
+    match answer {
+        Ok(size) => {
+            frame.fill(&room.bytes[..size]);
+            Ok(frame)
+        }
+        Err(error) => Err(error),
+    }
+}
+
 /// A host asks for the oldest frame of a socket, while ticks are played.
 #[inline(never)]
 pub(crate) fn recv(
@@ -77,6 +102,7 @@ pub(crate) fn recv(
     socket: usize,
     ticks: &[Tick],
     outcomes: Outcomes,
+    room: FrameRoom,
 ) -> Reply
     requires stands { NetworkStands (record { hosts = hosts.old; stations = stations.old }) }
     requires empty { outcomes.list ≡ [] }
@@ -90,16 +116,17 @@ pub(crate) fn recv(
         return no_host(stations, ticks, outcomes);
     }
     let mut outcomes = outcomes;
-    let called = host_calls::recv(
+    let called = recv_into(
         &mut hosts[host],
         stations,
         host,
         socket,
         ticks,
         &mut outcomes,
+        room.bytes,
     );
     Reply {
-        answer: Answer::Received(called.answer),
+        answer: Answer::Received(shown(room, called.answer)),
         accesses: called.accesses,
         outcomes,
     }

@@ -1,9 +1,9 @@
 // Hosts on wires.
 
-use crate::events;
+use crate::events::{self, FrameRoom};
 use network_events::{Event, Reply, Stopped};
 use packet_socket::Host;
-use stations::{Outcomes, Station};
+use stations::{HeapFrame, Outcomes, Station};
 use std::alloc::{AllocError, Global};
 use std::marker::Model;
 
@@ -14,6 +14,8 @@ use std::marker::Model;
 pub struct Lan {
     pub(crate) hosts: Vec<Host>,
     pub(crate) stations: Vec<Station>,
+    /// What a socket gave last, before it is handed on.
+    pub(crate) given: [u8; 1518],
 }
 
 impl Model for Lan {
@@ -51,7 +53,12 @@ impl Lan {
                 ticks,
             } => {
                 let outcomes = Outcomes::with_room(alloc, ticks.len())?;
-                Ok(events::recv(hosts, stations, *host, *socket, ticks.as_slice(), outcomes))
+                let room = FrameRoom {
+                    bytes: &mut self.given,
+                    frame: HeapFrame::with_room(alloc)?,
+                };
+                let ticks = ticks.as_slice();
+                Ok(events::recv(hosts, stations, *host, *socket, ticks, outcomes, room))
             }
             Event::Interrupt { host, ticks } => {
                 let outcomes = Outcomes::with_room(alloc, ticks.len())?;

@@ -22,6 +22,10 @@ impl Lan {
     {
         plan.check()?;
         let (hosts, stations) = bring_up(alloc, plan)?;
-        Ok(Lan { hosts, stations })
+        Ok(Lan {
+            hosts,
+            stations,
+            given: [0; 1518],
+        })
     }
 }

@@ -156,7 +156,7 @@ fn check_held(rt: &impl Abort, alloc: Global, lan: &mut Lan) {
     }
     if let Ok(mut taken) = Taken::with_room(alloc, lan.drain_room(B)) {
         check(rt, lan.drain(B, &mut taken), 2, EVENTS.len());
-        check_taken(rt, &taken, &[SECOND], EVENTS.len());
+        check_taken(rt, &taken, &[(0, SECOND)], EVENTS.len());
     }
 }
 

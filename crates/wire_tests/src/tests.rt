@@ -379,7 +379,21 @@ fn ticks_of_calls_that_make_no_access(rt: HostRuntime) -> Result<(), Fail> {
             BROUGHT,
             Act::Tick(Tick::Go, Comes::Nothing),
             Act::Counts(A, Some(counted)),
-            Act::Drain(B, 16, &[PLAIN, PLAIN, PLAIN, PLAIN]),
+            Act::Drain(B, 16, &[(0, PLAIN), (0, PLAIN), (0, PLAIN), (0, PLAIN)]),
+        ],
+    )
+}
+
+/// A call that makes no access plays all its ticks behind none, also where nothing comes of them.
+#[test]
+fn an_empty_queue_while_nothing_comes(rt: HostRuntime) -> Result<(), Fail> {
+    play_on_two(
+        &rt,
+        rt.alloc(),
+        &[
+            Act::Inside(&[TAKE, Tick::Go, Tick::Deliver(B)]),
+            Act::Recv(B, 0, Err(RecvError::Empty)),
+            Act::Came(0, &[(0, Comes::Nothing), (0, Comes::Nothing)]),
         ],
     )
 }

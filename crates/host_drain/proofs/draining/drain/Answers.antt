@@ -1,4 +1,4 @@
-use Rattle.std.proofs.Common.{◌≡◌, ◌≤◌, ◌<◌, ◌+◌, ◌^◌, [], ℕ, Bool, true, arith, rules, subst}
+use Rattle.std.proofs.Common.{◌≡◌, ◌≤◌, ◌<◌, ◌+◌, ◌^◌, [], ℕ, Bool, true, ap, arith, length, length-append, rules, subst}
 use Rattle.stations.specs.Stations.{world_at}
 use Rattle.host_drain.specs.DrainSteps.{StepsInto, steps_of}
 use Rattle.host_drain.proofs.Endings.{drains-into, held-at_most, steps-fit}
@@ -45,8 +45,8 @@ loop-steps-preserved g c =
           c.loop-steps.invariant.stands;
     }
 
-pub returns : goal.returns
-returns g c =
+pub returns-clause-drains : goal.returns-clause-drains
+returns-clause-drains g c =
     let into = c.loop-steps.invariant.into in
     let n = c.loop-steps.steps in
     let more = steps_of c.step.result in
@@ -63,3 +63,17 @@ returns g c =
     (g.S.Outlet.frames c.step.new.sink) (g.S.Outlet.places c.args.sink.now) (g.S.Outlet.places c.loop-steps.sink)
     (g.S.Outlet.places c.step.new.sink) into c.step.ensures.steps))
     (c.step.ensures.ends c.loop-steps-test.false) c.requires.stands c.line_at-line.ensures.adapter
+
+pub returns-clause-left : goal.returns-clause-left
+returns-clause-left g c =
+    let one = c.loop-steps.invariant.into in
+    let two = c.step.ensures.steps in
+    omega (
+      arith,
+      one.room,
+      two.room,
+      ap length one.appended,
+      ap length two.appended,
+      length-append (g.S.Outlet.frames c.args.sink.now) one.given,
+      length-append (g.S.Outlet.frames c.loop-steps.sink) two.given,
+    )

@@ -2,7 +2,6 @@ use Rattle.std.proofs.Common.{◌≡◌, ℕ, List, length, ap, sym, subst, ◌�
 use Rattle.std.proofs.lemmas.List.{length-replicate}
 use Rattle.dma_memory.specs.Layout.{size_of}
 use Rattle.rx_filter.specs.Addresses.{IsAddress}
-use Rattle.adapter.specs.State.{AdapterState}
 use Rattle.solo_bus.specs.SoloBuses.{SoloState}
 use Rattle.packet_socket.specs.HostState.{new_host}
 use Rattle.packet_socket.specs.declared.socket_kind.SocketKind.{SocketKind}
@@ -27,9 +26,7 @@ returns-clause-comes_up c =
       had = c.requires.config;
       address = subst IsAddress c.address_of-address.ensures.address c.address_of-address.ensures.is;
       waiting = ap (λ (bus : SoloState). bus.waiting) c.in_ok-bus.ensures;
-      image =
-          ap (λ (bus : SoloState). bus.world.adapter.image) c.in_ok-bus.ensures
-          ∙ ap (λ (adapter : AdapterState). adapter.image) c.in_ok-adapter.ensures;
+      adapter = ap (λ (bus : SoloState). bus.world.adapter) c.in_ok-bus.ensures ∙ c.in_ok-adapter.ensures;
       memory =
           c.in_ok-host.ensures.extent
           ∙ ap (λ (bus : SoloState). length bus.world.memory) c.in_ok-bus.ensures

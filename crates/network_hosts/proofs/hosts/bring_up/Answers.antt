@@ -3,8 +3,13 @@ use Rattle.packet_socket.specs.HostState.{HostState}
 use Rattle.stations.specs.Stations.{StationState}
 use Rattle.network_plan.specs.declared.plan.HostPlan.{HostPlan}
 use Rattle.network_hosts.specs.HostsUp.{AreUp, ShareWires}
-use Rattle.network_hosts.proofs.AllHosts.{share-wires, up-more}
+use Rattle.network_hosts.proofs.AllHosts.{share-wires, up-can, up-more}
 use Rattle.network_hosts.proofs.hosts.bring_up.Goals as goal
+
+pub bring_up_one-requires-clause-earlier : goal.bring_up_one-requires-clause-earlier
+bring_up_one-requires-clause-earlier c =
+    let here = c.loop-number in
+    up-can c.as_slice-plans.result.now here.number here.hosts.items here.stations.items here.invariant
 
 pub loop-number-preserved : goal.loop-number-preserved
 loop-number-preserved c =

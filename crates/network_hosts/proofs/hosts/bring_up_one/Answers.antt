@@ -10,5 +10,5 @@ returns-in-Err c = record {
   refuses =
       refusal-is c.args.plans.now c.args.number c.index-plans-number.result c.in-Err.error c.refusal.result
       (slice_get_read c.args.plans.now _ c.args.number c.index-plans-number.result refl c.requires.there c.index-plans-number.is)
-      c.in-Err.ensures.why c.refusal.ensures.memory c.refusal.ensures.device;
+      c.requires.earlier c.in-Err.ensures.why c.refusal.ensures.memory c.refusal.ensures.device;
 }

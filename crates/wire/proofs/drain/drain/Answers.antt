@@ -3,8 +3,8 @@ use Rattle.std.proofs.lemmas.Option.{slice_get-get_or}
 use Rattle.wire.proofs.Draining.{absent-drained, can-drain, host-drained}
 use Rattle.wire.proofs.drain.drain.Goals as goal
 
-pub returns-then-host-hosts : goal.returns-then-host-hosts
-returns-then-host-hosts g c =
+pub returns-then-host-hosts-clause-drains : goal.returns-then-host-hosts-clause-drains
+returns-then-host-hosts-clause-drains g c =
     absent-drained (record { hosts = c.args.hosts.now; stations = c.args.stations.now }) c.args.host
     (g.S.Outlet.frames c.args.sink.now) c.requires.stands c.if-host-hosts.true
 
@@ -19,10 +19,10 @@ drain-requires-clause-room g c =
     c.requires.room (slice_index_or c.args.hosts.now c.args.host c.index-hosts-host.result)
     (slice_get-get_or c.args.hosts.now c.args.host c.index-hosts-host.result c.if-host-hosts.false)
 
-pub returns : goal.returns
-returns g c =
+pub returns-clause-drains : goal.returns-clause-drains
+returns-clause-drains g c =
     host-drained (record { hosts = c.args.hosts.now; stations = c.args.stations.now }) c.drain.new.stations c.args.host c.drain.result
     (slice_index_or c.args.hosts.now c.args.host c.index-hosts-host.result) c.drain.new.host (g.S.Outlet.frames c.args.sink.now)
     (g.S.Outlet.frames c.drain.new.sink) c.requires.stands
     (slice_get-get_or c.args.hosts.now c.args.host c.index-hosts-host.result c.if-host-hosts.false) c.if-host-hosts.false
-    c.drain.ensures
+    c.drain.ensures.drains

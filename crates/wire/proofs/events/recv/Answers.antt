@@ -1,10 +1,13 @@
-use Rattle.std.proofs.Common.{◌++◌, [], List, refl, sym, ap, subst, ◌∙◌, slice_index_or}
+use Rattle.std.proofs.Common.{◌++◌, [], ℕ, List, refl, sym, ap, subst, ◌∙◌, slice_index_or}
 use Rattle.std.proofs.lemmas.List.{append-nil}
 use Rattle.std.proofs.lemmas.Option.{slice_get-get_or}
 use Rattle.delivery.specs.Happenings.{Happening, of_host, told}
-use Rattle.stations.specs.Stations.{wire_at}
+use Rattle.stations.specs.Stations.{wire_at, world_at}
 use Rattle.network_events.specs.declared.reply.Answer.TheVariants.{Received}
-use Rattle.host_calls.specs.CallAnswers.{LeavesRecv, given_by}
+use Rattle.host_calls.specs.CallAnswers.{AnswersRecv, LeavesRecv, given_by}
+use Rattle.host_calls.specs.CallsOfHosts.{CallRuns}
+use Rattle.packet_socket.specs.declared.receive.RecvError.{RecvError}
+use Rattle.std.specs.Prelude.{Result}
 use Rattle.wire.specs.Runs.{given_of}
 use Rattle.network_events.specs.declared.reply.Answer.{Answer}
 use Rattle.wire.specs.EventParts.{IsRecvAnswer}
@@ -23,8 +26,8 @@ returns-then-host-hosts c =
     ++ given_of c.args.host c.args.socket answer) c.no_host.ensures.answer
     ∙ append-nil (told c.args.ticks.now c.no_host.result.outcomes.list))
 
-pub recv-called-requires-clause-ready : goal.recv-called-requires-clause-ready
-recv-called-requires-clause-ready c =
+pub recv_into-called-requires-clause-ready : goal.recv_into-called-requires-clause-ready
+recv_into-called-requires-clause-ready c =
     let host = slice_index_or c.args.hosts.now c.args.host c.index-hosts-host.result in
     (c.requires.stands.each c.args.host host
     (slice_get-get_or c.args.hosts.now c.args.host c.index-hosts-host.result c.if-host-hosts.false)).ready
@@ -32,19 +35,28 @@ recv-called-requires-clause-ready c =
 pub returns : goal.returns
 returns c =
     let host = slice_index_or c.args.hosts.now c.args.host c.index-hosts-host.result in
-    let runs = c.recv-called.ensures.runs in
+    let answer = c.shown.result in
+    let runs : CallRuns c.args.host c.args.ticks.now c.args.stations.now c.recv_into-called.new.stations c.args.outcomes
+    c.recv_into-called.new.outcomes c.recv_into-called.result.accesses host c.recv_into-called.new.host []
+    (given_by c.args.socket answer) [] =
+    subst (λ (shown : Result (List ℕ) RecvError). CallRuns c.args.host c.args.ticks.now c.args.stations.now
+    c.recv_into-called.new.stations c.args.outcomes c.recv_into-called.new.outcomes c.recv_into-called.result.accesses host
+    c.recv_into-called.new.host [] (given_by c.args.socket shown) []) (sym c.shown.ensures) c.recv_into-called.ensures.runs in
     call-played c.args.host c.args.ticks.now (record { hosts = c.args.hosts.now; stations = c.args.stations.now })
-    c.recv-called.new.stations c.args.outcomes c.recv-called.new.outcomes host c.recv-called.new.host []
-    (given_by c.args.socket c.recv-called.result.answer) []
-    (told c.args.ticks.now c.recv-called.new.outcomes.list ++ given_of c.args.host c.args.socket
-    (Received c.recv-called.result.answer)) _ (IsRecvAnswer c.args.host c.args.socket) c.requires.stands
+    c.recv_into-called.new.stations c.args.outcomes c.recv_into-called.new.outcomes host c.recv_into-called.new.host []
+    (given_by c.args.socket answer) []
+    (told c.args.ticks.now c.recv_into-called.new.outcomes.list ++ given_of c.args.host c.args.socket (Received answer)) _
+    (IsRecvAnswer c.args.host c.args.socket) c.requires.stands
     (slice_get-get_or c.args.hosts.now c.args.host c.index-hosts-host.result c.if-host-hosts.false) c.if-host-hosts.false
     c.requires.empty refl (λ none. absurd (cc)) runs
     (λ k said.
     subst (λ (list : List Happening). Tells k
-    (list ++ given_of c.args.host c.args.socket (Received c.recv-called.result.answer)) runs.steps (wire_at c.args.stations.now)
-    (of_host k c.args.host (given_by c.args.socket c.recv-called.result.answer)) (of_host k c.args.host [])) (sym said)
-    (tells-recv k c.args.host c.args.socket c.recv-called.result.answer runs.steps (wire_at c.args.stations.now)))
-    (c.recv-called.result.answer, refl, c.recv-called.ensures.answers,
-    subst (LeavesRecv c.recv-called.result.answer c.args.socket host c.recv-called.new.host) runs.are_told.counted
-    c.recv-called.ensures.leaves)
+    (list ++ given_of c.args.host c.args.socket (Received answer)) runs.steps (wire_at c.args.stations.now)
+    (of_host k c.args.host (given_by c.args.socket answer)) (of_host k c.args.host [])) (sym said)
+    (tells-recv k c.args.host c.args.socket answer runs.steps (wire_at c.args.stations.now)))
+    (answer, refl,
+    subst (λ (shown : Result (List ℕ) RecvError). AnswersRecv shown c.args.socket host (world_at c.args.stations.now c.args.host))
+    (sym c.shown.ensures) c.recv_into-called.ensures.answers,
+    subst (LeavesRecv answer c.args.socket host c.recv_into-called.new.host) runs.are_told.counted
+    (subst (λ (shown : Result (List ℕ) RecvError). LeavesRecv shown c.args.socket host c.recv_into-called.new.host
+    c.recv_into-called.result.accesses) (sym c.shown.ensures) c.recv_into-called.ensures.leaves))
