@@ -128,10 +128,7 @@ pub fn recv(
 }
 
 /// The answer with its frame, which stands at the front of these bytes.
-fn frame_of(
-    bytes: &[u8; 1518],
-    answer: Result<usize, RecvError>,
-) -> Result<Frame, RecvError>
+fn frame_of(bytes: &[u8; 1518], answer: Result<usize, RecvError>) -> Result<Frame, RecvError>
     requires { IfOk answer IsFrameSize }
     ensures { result ≡ frame_in bytes.now answer }
 {

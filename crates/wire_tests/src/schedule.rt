@@ -158,7 +158,11 @@ impl Act {
 
     /// Asserts that a reply answers this act's event as it is to be.
     pub(crate) fn check(&self, rt: &impl Abort, reply: &Reply, at: usize) {
-        assert!(rt; self.is_answered_by(&reply.answer), "act {at}: {:?}", reply.answer);
+        assert!(rt;
+            self.is_answered_by(&reply.answer),
+            "act {at}: {:?}",
+            reply.answer
+        );
         if let Act::Tick(_, comes) = self {
             check_outcomes(rt, reply, &[(0, *comes)], at);
         }
