@@ -107,7 +107,8 @@ behind-loads counts (slot ∷ later) behind last = behind-loads counts later beh
 
 pub sends-last : (result : Answer) (d d' : DriverState) (frame : List ℕ) → OnlyLastWrites (accesses_by result d d' frame)
 sends-last (Ok u) d d' frame =
-    behind-loads d.counts (slots_from d.counts.tx d.oldest_transmit (slots_looked_at d.sending (d'.sending - 1))) (send_accesses d frame) refl
+    let looked = slots_looked_at d.sending (d'.sending - 1) in
+    behind-loads d.counts (slots_from d.counts.tx d.oldest_transmit looked) (send_accesses d frame) refl
 sends-last (Err TooShort) d d' frame = tt
 sends-last (Err TooLong) d d' frame = tt
 sends-last (Err RingFull) d d' frame =

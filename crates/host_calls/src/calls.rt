@@ -6,7 +6,8 @@ ghost use Rattle.driver.specs.SendSteps.{accepted_by};
 ghost use Rattle.stations.specs.Stations.{world_at};
 ghost use Rattle.packet_socket.specs.HeldFrames.{HostReady};
 ghost use Rattle.host_calls.specs.CallsOfHosts.{CallRuns};
-ghost use Rattle.host_calls.specs.CallAnswers.{AnswersRecv, AnswersSend, InterruptRuns, LeavesRecv, LeavesSend, frame_in, given_by};
+ghost use Rattle.host_calls.specs.CallAnswers.{AnswersRecv, AnswersSend, InterruptRuns, LeavesRecv, LeavesSend};
+ghost use Rattle.host_calls.specs.CallAnswers.{frame_in, given_by};
 
 use descriptors::Frame;
 use driver::{Handled, SendError};

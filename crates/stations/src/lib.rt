@@ -1,5 +1,5 @@
-//! The hosts of a network as the adapters see it: each an adapter, its memory and its end of a wire; and what is played on
-//! all of them, one step of one adapter or one delivery at a time.
+//! The hosts of a network as the adapters see it: each an adapter, its memory and its end of a wire; and what is played
+//! on all of them, one step of one adapter or one delivery at a time.
 //!
 //! A wire has no time of its own: a frame that a host puts onto it waits at each other end until it is delivered there.
 #![tactic(auto)]

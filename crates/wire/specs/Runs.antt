@@ -57,8 +57,8 @@ ticks_of (Recv host socket ticks) = without_go is_go ticks.items
 ticks_of (Interrupt host ticks) = without_go is_go ticks.items
 ticks_of (Alone tick) = without_go is_go (tick ∷ [])
 
--- An access of a call is one of its host's driver: a load, a store, a read of ICR or MPC, a write of RDT or TDT with a slot of its ring; and
--- a write is the last. A tick by itself has none.
+-- An access of a call is one of its host's driver: a load, a store, a read of ICR or MPC, a write of RDT or TDT with a slot of its ring;
+-- and a write is the last. A tick by itself has none.
 abbrev pub AreAccessesOf : Event → Counts → List Access → Type 0
 AreAccessesOf (Send host frame ticks) counts accesses = All (IsOfDriver counts) accesses × OnlyLastWrites accesses
 AreAccessesOf (Recv host socket ticks) counts accesses = All (IsOfDriver counts) accesses × OnlyLastWrites accesses
