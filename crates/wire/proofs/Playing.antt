@@ -70,9 +70,11 @@ call-played caller ticks old stations before behind h h' taken given accepted ha
       played = runs.are_told.played;
       counted = runs.are_told.counted;
       accesses = λ was then.
-          let same_host : was ≡ h = let e : Some h ≡ Some was = sym there ∙ then in cc in
-          (subst (λ (w : HostState). All (IsOfDriver w.driver.counts) (past_at caller runs.steps).accesses) (sym same_host)
-          runs.runs.accesses, runs.last_writes);
+          let same_host : was ≡ h = let e : Some h ≡ Some was = sym there ∙ then in cc in (
+            subst (λ (w : HostState). All (IsOfDriver w.driver.counts) (past_at caller runs.steps).accesses) (sym same_host)
+                runs.runs.accesses,
+            runs.last_writes,
+          );
       outcomes = noted;
       numbered = ap Rattle.delivery.specs.TickNumbers.numbers_of noted ∙ runs.are_told.numbered;
       no_host = (λ none. absurd (some none), λ low. absurd (omega (arith, low, below)));

@@ -53,10 +53,12 @@ returns c =
     subst (λ (list : List Happening). Tells k
     (list ++ given_of c.args.host c.args.socket (Received answer)) runs.steps (wire_at c.args.stations.now)
     (of_host k c.args.host (given_by c.args.socket answer)) (of_host k c.args.host [])) (sym said)
-    (tells-recv k c.args.host c.args.socket answer runs.steps (wire_at c.args.stations.now)))
-    (answer, refl,
-    subst (λ (shown : Result (List ℕ) RecvError). AnswersRecv shown c.args.socket host (world_at c.args.stations.now c.args.host))
-    (sym c.shown.ensures) c.recv_into-called.ensures.answers,
-    subst (LeavesRecv answer c.args.socket host c.recv_into-called.new.host) runs.are_told.counted
-    (subst (λ (shown : Result (List ℕ) RecvError). LeavesRecv shown c.args.socket host c.recv_into-called.new.host
-    c.recv_into-called.result.accesses) (sym c.shown.ensures) c.recv_into-called.ensures.leaves))
+    (tells-recv k c.args.host c.args.socket answer runs.steps (wire_at c.args.stations.now))) (
+      answer,
+      refl,
+      subst (λ (shown : Result (List ℕ) RecvError). AnswersRecv shown c.args.socket host (world_at c.args.stations.now c.args.host))
+          (sym c.shown.ensures) c.recv_into-called.ensures.answers,
+      subst (LeavesRecv answer c.args.socket host c.recv_into-called.new.host) runs.are_told.counted
+          (subst (λ (shown : Result (List ℕ) RecvError). LeavesRecv shown c.args.socket host c.recv_into-called.new.host
+          c.recv_into-called.result.accesses) (sym c.shown.ensures) c.recv_into-called.ensures.leaves),
+    )

@@ -44,6 +44,9 @@ returns c =
     subst (λ (list : List Happening). Tells k
     (accepted_of c.args.host c.args.frame.now (Sent c.send-called.result.answer) ++ list) runs.steps (wire_at c.args.stations.now)
     (of_host k c.args.host []) (of_host k c.args.host (accepted_by c.send-called.result.answer c.args.frame.now))) (sym said)
-    (tells-send k c.args.host c.args.frame.now c.send-called.result.answer runs.steps (wire_at c.args.stations.now)))
-    (c.send-called.result.answer, refl, c.send-called.ensures.answers,
-    subst (LeavesSend c.send-called.result.answer host c.send-called.new.host) runs.are_told.counted c.send-called.ensures.leaves)
+    (tells-send k c.args.host c.args.frame.now c.send-called.result.answer runs.steps (wire_at c.args.stations.now))) (
+      c.send-called.result.answer,
+      refl,
+      c.send-called.ensures.answers,
+      subst (LeavesSend c.send-called.result.answer host c.send-called.new.host) runs.are_told.counted c.send-called.ensures.leaves,
+    )
