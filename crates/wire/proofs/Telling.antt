@@ -1,6 +1,5 @@
 -- Events over the lists that a Lan keeps.
 use Rattle.std.proofs.Common.{◌≡◌, ◌++◌, ℕ, List, Vec, Global, length, sym, ap, subst, ◌∙◌}
-use Rattle.std.specs.Prelude.{IfOk, Ok, Result}
 use Rattle.std.specs.Vec.{with_items}
 use Rattle.std.proofs.lemmas.List.{with_items_is}
 use Rattle.packet_socket.specs.HostState.{HostState}
@@ -13,42 +12,40 @@ use Rattle.network_events.specs.declared.event.Event.{Event}
 use Rattle.network_events.specs.declared.event.Event.TheVariants.{Interrupt, Recv, Send, Tick as Alone}
 use Rattle.network_events.specs.declared.reply.Reply.{Reply}
 use Rattle.wire.specs.EventParts.{CallPlayed, HostsGo, IsInterruptAnswer, IsRecvAnswer, IsSendAnswer, TickPlayed}
-use Rattle.wire.specs.LanView.{IsNetwork, network_of}
 use Rattle.wire.specs.Networks.{NetworkStands, NetworkState}
 use Rattle.wire.specs.Runs.{EventRuns, accepted_of, given_of}
 use Rattle.wire.specs.declared.lan.Lan.TheInside.{Inside}
 use Rattle.wire.proofs.Running.{interrupt-event, recv-event, send-event, tick-event}
 
+-- the network whose lists are written back
+abbrev pub written : Inside → List HostState → List StationState → NetworkState
+written inside hosts stations =
+    record { hosts = (with_items inside.hosts hosts).items; stations = (with_items inside.stations stations).items }
+
 -- What is written back is what the network is now.
-pub network-now : (inside now : Inside) (caller : ℕ) (happened : List Happening) (steps : List AtomicStep) (old new : NetworkState)
+pub network-now : (inside : Inside) (caller : ℕ) (happened : List Happening) (steps : List AtomicStep) (old new : NetworkState)
     → HostsGo caller happened steps old new → length old.hosts ≡ inside.hosts.len → length old.stations ≡ inside.stations.len
-    → (given : List ℕ)
-    → now ≡ record { hosts = with_items inside.hosts new.hosts; stations = with_items inside.stations new.stations; given = given }
-    → network_of now ≡ new
-network-now inside now caller happened steps old new go hosts stations given is =
+    → written inside new.hosts new.stations ≡ new
+network-now inside caller happened steps old new go hosts stations =
     let one = with_items_is inside.hosts new.hosts (go.hosts ∙ hosts) in
     let two = with_items_is inside.stations new.stations
     (length-stays caller steps old.stations new.stations go.leads ∙ stations) in
-    ap network_of is
-    ∙ ap (λ (list : List HostState). let network : NetworkState = record
+    ap (λ (list : List HostState). let network : NetworkState = record
     { hosts = list; stations = (with_items inside.stations new.stations).items } in network) one
     ∙ ap (λ (list : List StationState). let network : NetworkState = record { hosts = new.hosts; stations = list } in network) two
 
-pub network-stands : (now : Inside) (new : NetworkState) → network_of now ≡ new → NetworkStands new → IsNetwork now
-network-stands now new is stands = record { stands = subst NetworkStands (sym is) stands }
-
-told-as : (args old new : NetworkState) (now : Inside) (event was : Event) (reply : Reply) → old ≡ args → event ≡ was
-    → network_of now ≡ new → EventRuns old was reply new → EventRuns args event reply (network_of now)
+told-as : (args old new now : NetworkState) (event was : Event) (reply : Reply) → old ≡ args → event ≡ was
+    → now ≡ new → EventRuns old was reply new → EventRuns args event reply now
 told-as args old new now event was reply old_is event_is now_is runs =
-    subst (λ (e : Event). EventRuns args e reply (network_of now)) (sym event_is)
+    subst (λ (e : Event). EventRuns args e reply now) (sym event_is)
     (subst (λ (n : NetworkState). EventRuns args was reply n) (sym now_is)
     (subst (λ (o : NetworkState). EventRuns o was reply new) old_is runs))
 
-pub send-told : (args old new : NetworkState) (now : Inside) (event : Event) (host : ℕ) (frame : Vec ℕ Global) (ticks : Vec Tick Global)
+pub send-told : (args old new now : NetworkState) (event : Event) (host : ℕ) (frame : Vec ℕ Global) (ticks : Vec Tick Global)
     (reply : Reply) (bytes : List ℕ) (list : List Tick) → old ≡ args → event ≡ Send host frame ticks → bytes ≡ frame.items
-    → list ≡ ticks.items → network_of now ≡ new
+    → list ≡ ticks.items → now ≡ new
     → CallPlayed host list (accepted_of host bytes reply.answer ++ told list reply.outcomes.list) reply (IsSendAnswer host bytes) old new
-    → EventRuns args event reply (network_of now)
+    → EventRuns args event reply now
 send-told args old new now event host frame ticks reply bytes list old_is event_is bytes_are list_is now_is played =
     told-as args old new now event (Send host frame ticks) reply old_is event_is now_is
     (send-event old new host frame ticks reply
@@ -57,43 +54,41 @@ send-told args old new now event host frame ticks reply bytes list old_is event_
     (subst (λ (b : List ℕ). CallPlayed host list (accepted_of host b reply.answer ++ told list reply.outcomes.list) reply
     (IsSendAnswer host b) old new) bytes_are played)))
 
-pub recv-told : (args old new : NetworkState) (now : Inside) (event : Event) (host socket : ℕ) (ticks : Vec Tick Global)
-    (reply : Reply) (list : List Tick) → old ≡ args → event ≡ Recv host socket ticks → list ≡ ticks.items → network_of now ≡ new
+pub recv-told : (args old new now : NetworkState) (event : Event) (host socket : ℕ) (ticks : Vec Tick Global)
+    (reply : Reply) (list : List Tick) → old ≡ args → event ≡ Recv host socket ticks → list ≡ ticks.items → now ≡ new
     → CallPlayed host list (told list reply.outcomes.list ++ given_of host socket reply.answer) reply (IsRecvAnswer host socket) old new
-    → EventRuns args event reply (network_of now)
+    → EventRuns args event reply now
 recv-told args old new now event host socket ticks reply list old_is event_is list_is now_is played =
     told-as args old new now event (Recv host socket ticks) reply old_is event_is now_is
     (recv-event old new host socket ticks reply
     (subst (λ (l : List Tick). CallPlayed host l (told l reply.outcomes.list ++ given_of host socket reply.answer) reply
     (IsRecvAnswer host socket) old new) list_is played))
 
-pub interrupt-told : (args old new : NetworkState) (now : Inside) (event : Event) (host : ℕ) (ticks : Vec Tick Global)
-    (reply : Reply) (list : List Tick) → old ≡ args → event ≡ Interrupt host ticks → list ≡ ticks.items → network_of now ≡ new
+pub interrupt-told : (args old new now : NetworkState) (event : Event) (host : ℕ) (ticks : Vec Tick Global)
+    (reply : Reply) (list : List Tick) → old ≡ args → event ≡ Interrupt host ticks → list ≡ ticks.items → now ≡ new
     → CallPlayed host list (told list reply.outcomes.list) reply (IsInterruptAnswer host) old new
-    → EventRuns args event reply (network_of now)
+    → EventRuns args event reply now
 interrupt-told args old new now event host ticks reply list old_is event_is list_is now_is played =
     told-as args old new now event (Interrupt host ticks) reply old_is event_is now_is
     (interrupt-event old new host ticks reply
     (subst (λ (l : List Tick). CallPlayed host l (told l reply.outcomes.list) reply (IsInterruptAnswer host) old new) list_is played))
 
 -- A tick by itself.
-pub tick-now : (inside now : Inside) (tick : Tick) (reply : Reply) (old : NetworkState) (stations : List StationState)
+pub tick-now : (inside : Inside) (tick : Tick) (reply : Reply) (old : NetworkState) (stations : List StationState)
     → TickPlayed tick reply old.stations stations → length old.hosts ≡ inside.hosts.len → length old.stations ≡ inside.stations.len
-    → (given : List ℕ)
-    → now ≡ record { hosts = with_items inside.hosts old.hosts; stations = with_items inside.stations stations; given = given }
-    → (let network : NetworkState = record { hosts = old.hosts; stations = stations } in network_of now ≡ network)
-tick-now inside now tick reply old stations played hosts len given is =
+    → (let network : NetworkState = record { hosts = old.hosts; stations = stations } in
+    written inside old.hosts stations ≡ network)
+tick-now inside tick reply old stations played hosts len =
     let one = with_items_is inside.hosts old.hosts hosts in
     let two = with_items_is inside.stations stations (length-stays 0 played.steps old.stations stations (played.leads 0) ∙ len) in
-    ap network_of is
-    ∙ ap (λ (list : List HostState). let network : NetworkState = record
+    ap (λ (list : List HostState). let network : NetworkState = record
     { hosts = list; stations = (with_items inside.stations stations).items } in network) one
     ∙ ap (λ (list : List StationState). let network : NetworkState = record { hosts = old.hosts; stations = list } in network) two
 
-pub tick-told : (args old : NetworkState) (stations : List StationState) (now : Inside) (event : Event) (tick : Tick) (reply : Reply)
+pub tick-told : (args old : NetworkState) (stations : List StationState) (now : NetworkState) (event : Event) (tick : Tick) (reply : Reply)
     → old ≡ args → event ≡ Alone tick
-    → (let network : NetworkState = record { hosts = old.hosts; stations = stations } in network_of now ≡ network) → NetworkStands old
-    → TickPlayed tick reply old.stations stations → EventRuns args event reply (network_of now)
+    → (let network : NetworkState = record { hosts = old.hosts; stations = stations } in now ≡ network) → NetworkStands old
+    → TickPlayed tick reply old.stations stations → EventRuns args event reply now
 tick-told args old stations now event tick reply old_is event_is now_is stands played =
     told-as args old (record { hosts = old.hosts; stations = stations }) now event (Alone tick) reply old_is event_is now_is
     (tick-event old stations tick reply stands played)
@@ -102,11 +97,6 @@ pub tick-stands : (old : NetworkState) (stations : List StationState) (tick : Ti
     → TickPlayed tick reply old.stations stations
     → (let network : NetworkState = record { hosts = old.hosts; stations = stations } in NetworkStands network)
 tick-stands old stations tick reply stands played = (tick-event old stations tick reply stands played).stands
-
-pub ok-is : {E : Type 0} (args : NetworkState) (event : Event) (new : NetworkState) (result : Result Reply E) (reply : Reply)
-    → result ≡ Ok reply → EventRuns args event reply new → IfOk result (λ r. EventRuns args event r new)
-ok-is {E} args event new result reply is runs =
-    subst (λ (r : Result Reply E). IfOk r (λ one. EventRuns args event one new)) (sym is) runs
 
 pub tick-moved : (tick other : Tick) (reply : Reply) (old new : List StationState) → tick ≡ other → TickPlayed tick reply old new
     → TickPlayed other reply old new

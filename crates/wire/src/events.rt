@@ -79,14 +79,18 @@ pub(crate) struct FrameRoom<'a> {
 }
 
 /// The answer with its frame, in place of how many of these bytes it has.
-fn shown(room: FrameRoom, answer: Result<usize, RecvError>) -> Result<HeapFrame, RecvError>
+fn shown(
+    frame: HeapFrame,
+    bytes: &[u8; 1518],
+    answer: Result<usize, RecvError>,
+) -> Result<HeapFrame, RecvError>
     requires { IfOk answer IsFrameSize }
-    ensures { result ≡ frame_in room.bytes.now answer }
+    ensures { result ≡ frame_in bytes.now answer }
 {
-    let mut frame = room.frame;
+    let mut frame = frame;
     match answer {
         Ok(size) => {
-            frame.fill(&room.bytes[..size]);
+            frame.fill(&bytes[..size]);
             Ok(frame)
         }
         Err(error) => Err(error),
@@ -115,6 +119,7 @@ pub(crate) fn recv(
     if host >= hosts.len() {
         return no_host(stations, ticks, outcomes);
     }
+    let FrameRoom { bytes, frame } = room;
     let mut outcomes = outcomes;
     let called = recv_into(
         &mut hosts[host],
@@ -123,10 +128,10 @@ pub(crate) fn recv(
         socket,
         ticks,
         &mut outcomes,
-        room.bytes,
+        bytes,
     );
     Reply {
-        answer: Answer::Received(shown(room, called.answer)),
+        answer: Answer::Received(shown(frame, bytes, called.answer)),
         accesses: called.accesses,
         outcomes,
     }
