@@ -22,4 +22,6 @@ pub use law::texts_are_read_or_refused;
 pub use refusal::{Fault, Refusal};
 
 #[cfg(test)]
+mod readme;
+#[cfg(test)]
 mod tests;

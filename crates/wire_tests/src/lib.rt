@@ -10,6 +10,8 @@ mod outlet;
 #[cfg(test)]
 mod plans;
 #[cfg(test)]
+mod readme;
+#[cfg(test)]
 mod samples;
 #[cfg(test)]
 mod schedule;

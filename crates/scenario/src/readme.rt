@@ -1,0 +1,24 @@
+//! The code of README.md, word for word.
+
+use crate::{Fault, Refusal, Scenario};
+use std::test::Fail;
+
+#[test]
+fn the_code_of_the_readme(rt: HostRuntime) -> Result<(), Fail> {
+    let text = "host a 02:00:00:00:00:01 w\n\
+        host b 02:00:00:00:00:02 w\n\
+        socket b all\n\
+        feed a frames.pcap\n\
+        drain b\n";
+    let scenario = Scenario::read(rt.alloc(), text.as_bytes())?;
+    assert_eq!(rt; scenario.plan.hosts.len(), 2);
+    assert_eq!(rt; scenario.commands.len(), 2);
+    assert_eq!(rt; scenario.trace_names().len(), 1); // frames.pcap
+    let refusal = Refusal::Line {
+        line: 2,
+        fault: Fault::Name,
+    };
+    let refused = Scenario::read(rt.alloc(), b"# no host\ndrain b\n");
+    assert_eq!(rt; refused.err(), Some(refusal));
+    Ok(())
+}
