@@ -42,7 +42,12 @@ fn the_code_of_the_readme_of_wire(rt: HostRuntime) -> Result<(), Fail> {
     // It is given when host 1 is drained, in one step.
     let mut taken = Taken::with_room(rt.alloc(), lan.drain_room(1))?;
     assert_eq!(rt; lan.drain(1, &mut taken), 1);
-    assert!(rt; taken.list.iter().all(|given| given.frame.as_slice() == &frame));
+    assert!(rt;
+        taken
+            .list
+            .iter()
+            .all(|given| given.frame.as_slice() == frame.as_slice())
+    );
     Ok(())
 }
 
