@@ -26,6 +26,3 @@ mod words;
 pub use options::ServeOptions;
 pub use serve_error::ServeError;
 pub use server::serve;
-
-#[cfg(test)]
-mod tests;

@@ -1,7 +1,10 @@
 // What a server holds, and the steps before an access.
 
 ghost use Rattle.std.specs.Prelude.{◌≡◌, ◌%◌, ◌<◌, IfOk, OnOk};
+ghost use Rattle.adapter.specs.Registers.{after_write, new_adapter};
+ghost use Rattle.eeprom.specs.Image.{image_with};
 ghost use Rattle.adapter_server.specs.Kinds.{kind_numbered};
+ghost use Rattle.adapter_server.specs.Sessions.{pba};
 
 use crate::answer_error::AnswerError;
 use crate::device::Device;
@@ -15,7 +18,7 @@ use rand_core::SeedableRng;
 use rand_core::utils::NextWord;
 use rand_pcg::Lcg64Xsh32;
 use solo_bus::SoloBus;
-use std::alloc::Global;
+use std::alloc::{AllocError, Global};
 use std::io::Write;
 
 /// How many kinds of steps there are.
@@ -65,6 +68,17 @@ fn kind_numbered(number: u32) -> StepKind
     }
 }
 
+/// A new adapter, whose PBA is written once.
+fn adapter_of(alloc: Global, options: &ServeOptions) -> Result<Adapter, AllocError>
+    ensures { IfOk result (λ adapter. adapter ≡ after_write pba options.now.receive_kilobytes
+        (new_adapter (image_with options.now.address) options.now.link)) }
+{
+    let image = Image::with_address(options.address);
+    let mut adapter = Adapter::new(alloc, &image, options.link)?;
+    adapter.write(PBA, u32::from(options.receive_kilobytes));
+    Ok(adapter)
+}
+
 impl Session {
     ghost use Rattle.adapter_server.specs.Devices.{IsQuiet, StaysQuiet, Tells};
     ghost use Rattle.adapter_server.specs.Sessions.{Begins, Interleaves, drawn_count, drawn_kind, is_memory, place_in};
@@ -73,9 +87,7 @@ impl Session {
     pub(crate) fn new(alloc: Global, options: &ServeOptions) -> Result<Session, AnswerError>
         ensures { IfOk result (λ session. Begins options.now session) }
     {
-        let image = Image::with_address(options.address);
-        let mut adapter = Adapter::new(alloc, &image, options.link)?;
-        adapter.write(PBA, u32::from(options.receive_kilobytes));
+        let adapter = adapter_of(alloc, options)?;
         let memory = HostMemory::new(alloc, options.memory)?;
         let device = Device {
             bus: SoloBus::new(alloc, adapter, memory, false)?,

@@ -18,12 +18,3 @@ pub mod spelling;
 pub use error::{InvalidValue, LineError};
 pub use job::{Job, PassFilter, PassJob, RunJob, ServeJob, ServeLink, ShowJob, ValueOption};
 pub use reader::line;
-
-#[cfg(test)]
-mod help_texts;
-#[cfg(test)]
-mod readme;
-#[cfg(test)]
-mod serve_tests;
-#[cfg(test)]
-mod tests;

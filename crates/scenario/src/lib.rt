@@ -20,8 +20,3 @@ mod tick_word;
 pub use command::{Command, Scenario};
 pub use law::texts_are_read_or_refused;
 pub use refusal::{Fault, Refusal};
-
-#[cfg(test)]
-mod readme;
-#[cfg(test)]
-mod tests;

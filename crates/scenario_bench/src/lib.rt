@@ -19,6 +19,3 @@ pub use places::sockets;
 pub use play::bench;
 pub use printing::print_summary;
 pub use summary::{HostSummary, Summary};
-
-#[cfg(test)]
-mod tests;

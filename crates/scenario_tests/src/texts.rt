@@ -1,10 +1,10 @@
 //! Texts that are read, and texts that are refused.
 
-use crate::{Command, Fault, Refusal, Scenario};
 use adapter::StepKind;
 use mdic_phy::Link;
 use network_events::Event;
 use packet_socket::SocketKind;
+use scenario::{Command, Fault, Refusal, Scenario};
 use stations::Tick;
 use std::alloc::{AllocError, Global};
 use std::process::Abort;

@@ -1,6 +1,6 @@
 //! Whole sessions: what is written for some lines.
 
-use crate::{ServeError, ServeOptions, serve};
+use adapter_server::{ServeError, ServeOptions, serve};
 use std::alloc::Global;
 use std::io;
 use std::io::Read;

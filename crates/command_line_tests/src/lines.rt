@@ -1,5 +1,5 @@
 use crate::help_texts::{PASS_HELP, PROGRAM_HELP, RUN_HELP, SERVE_HELP, SHOW_HELP};
-use crate::{
+use command_line::{
     InvalidValue, Job, LineError, PassFilter, PassJob, RunJob, ShowJob, ValueOption, line,
 };
 use std::alloc::{AllocError, Global};

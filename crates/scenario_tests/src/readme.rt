@@ -1,10 +1,10 @@
-//! The code of README.md, word for word.
+//! The code of the README of `scenario`, word for word.
 
-use crate::{Fault, Refusal, Scenario};
+use scenario::{Fault, Refusal, Scenario};
 use std::test::Fail;
 
 #[test]
-fn the_code_of_the_readme(rt: HostRuntime) -> Result<(), Fail> {
+fn the_code_of_the_readme_of_scenario(rt: HostRuntime) -> Result<(), Fail> {
     let text = "host a 02:00:00:00:00:01 w\n\
         host b 02:00:00:00:00:02 w\n\
         socket b all\n\

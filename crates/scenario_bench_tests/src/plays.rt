@@ -1,9 +1,9 @@
 //! Scenarios, played over memory.
 ghost use Rattle.std.specs.Prelude.{◌≡◌, IfOk, Some};
 
-use crate::{BenchError, bench, print_summary, sockets};
 use pcap_trace::{DeviceError, Frames, Sink, Trace};
 use scenario::Scenario;
+use scenario_bench::{BenchError, bench, print_summary, sockets};
 use std::alloc::{AllocError, Global};
 use std::process::Abort;
 use std::test::Fail;
@@ -169,7 +169,7 @@ fn are_fed(bytes: &[u8]) -> bool {
 }
 
 #[test]
-fn the_code_of_the_readme(rt: HostRuntime) -> Result<(), Fail> {
+fn the_code_of_the_readme_of_scenario_bench(rt: HostRuntime) -> Result<(), Fail> {
     let text = "host a 02:00:00:00:00:01 w\n\
         host b 02:00:00:00:00:02 w\n\
         socket b all\n\

@@ -1,10 +1,10 @@
-//! The code of README.md, word for word.
+//! The code of the README of `command_line`, word for word.
 
-use crate::{Job, LineError, line};
+use command_line::{Job, LineError, line};
 use std::test::Fail;
 
 #[test]
-fn the_code_of_the_readme(rt: HostRuntime) -> Result<(), Fail> {
+fn the_code_of_the_readme_of_command_line(rt: HostRuntime) -> Result<(), Fail> {
     let words = ["nicbench", "pass", "--vlan", "5", "in.pcap", "out.pcap"];
     let job = line(rt.alloc(), words.as_slice());
     assert!(rt;

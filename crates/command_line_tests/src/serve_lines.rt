@@ -1,7 +1,7 @@
 //! The words of `serve`.
 
-use crate::tests::{refusal, words_of};
-use crate::{InvalidValue, Job, LineError, ServeJob, ServeLink, ValueOption, line};
+use crate::lines::{refusal, words_of};
+use command_line::{InvalidValue, Job, LineError, ServeJob, ServeLink, ValueOption, line};
 use std::alloc::{AllocError, Global};
 use std::test::Fail;
 
