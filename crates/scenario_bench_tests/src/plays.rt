@@ -169,24 +169,6 @@ fn are_fed(bytes: &[u8]) -> bool {
 }
 
 #[test]
-fn the_code_of_the_readme_of_scenario_bench(rt: HostRuntime) -> Result<(), Fail> {
-    let text = "host a 02:00:00:00:00:01 w\n\
-        host b 02:00:00:00:00:02 w\n\
-        socket b all\n\
-        auto 1000 1\n\
-        drain b\n";
-    let scenario = Scenario::read(rt.alloc(), text.as_bytes())?;
-    let places = sockets(rt.alloc(), scenario.plan.hosts.as_slice())?;
-    let mut sinks = [sink(rt.alloc(), false)?]; // a sink for each socket, which doesn't fail
-    assert!(rt; sinks.len() == places.len());
-    let summary = bench(rt.alloc(), &scenario, &[], &mut sinks)?;
-    let mut told = sink(rt.alloc(), false)?;
-    print_summary(&summary, &mut told)?; // a line for each host
-    assert!(rt; sinks[0].bytes.len() > 24); // the trace of what was given
-    Ok(())
-}
-
-#[test]
 fn a_first_frame_is_given(rt: HostRuntime) -> Result<(), Fail> {
     let played = play(&rt, rt.alloc(), &[FIRST], &[], 9)?;
     assert!(rt; tells(&played, TOLD));
