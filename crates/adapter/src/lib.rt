@@ -27,12 +27,3 @@ pub use register::{Register, RingRegister};
 pub use ring::RingRegisters;
 pub use rx_engine::Fate;
 pub use step::{StepKind, StepOutcome, Stepped};
-
-#[cfg(test)]
-mod fixtures;
-#[cfg(test)]
-mod frame_tests;
-#[cfg(test)]
-mod readme;
-#[cfg(test)]
-mod tests;

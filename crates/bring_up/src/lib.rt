@@ -36,14 +36,3 @@ pub use ring_registers::{
 
 /// How often a driver reads a register in vain before it gives up (own).
 pub const MOST_READS: u16 = 1000;
-
-#[cfg(test)]
-mod bring_up_tests;
-#[cfg(test)]
-mod config_tests;
-#[cfg(test)]
-mod eeprom_reading_tests;
-#[cfg(test)]
-mod link_tests;
-#[cfg(test)]
-mod readme;

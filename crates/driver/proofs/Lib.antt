@@ -6,4 +6,3 @@ pub mod TakenFrames
 pub mod HandlerSteps
 pub mod FirstSlots
 pub mod Initialisation
-pub mod TestOwners

@@ -8,6 +8,3 @@ mod playing;
 
 pub use lent_bus::LentBus;
 pub use playing::play_rest;
-
-#[cfg(test)]
-mod readme;

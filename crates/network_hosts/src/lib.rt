@@ -6,6 +6,3 @@ mod hosts;
 
 pub use host::bring_up_host;
 pub use hosts::bring_up;
-
-#[cfg(test)]
-mod tests;

@@ -7,8 +7,3 @@ mod plan_error;
 
 pub use plan::{HostPlan, MOST_ENDS, MOST_HOSTS, MOST_NAME_BYTES, MOST_SOCKETS, Plan};
 pub use plan_error::PlanError;
-
-#[cfg(test)]
-mod readme;
-#[cfg(test)]
-mod tests;

@@ -13,12 +13,3 @@ pub use law::{host_stretches_join, hosts_go_on};
 pub use receive::RecvError;
 pub use socket_kind::SocketKind;
 pub use sockets::MOST_SOCKETS;
-
-#[cfg(test)]
-mod fixtures;
-#[cfg(test)]
-mod readme;
-#[cfg(test)]
-mod schedule;
-#[cfg(test)]
-mod tests;

@@ -15,8 +15,6 @@ mod law;
 mod memory;
 mod packet;
 mod reading;
-#[cfg(test)]
-mod tests;
 mod trace;
 mod writer;
 mod writing;

@@ -12,12 +12,3 @@ pub mod sound_buses;
 
 pub use law::conditions_can_be_met;
 pub use solo_bus::{MOST_TICKS, SoloBus, SoloTick, WIRE_FRAMES};
-
-#[cfg(test)]
-mod readme;
-#[cfg(test)]
-mod schedule;
-#[cfg(test)]
-mod sound_bus_tests;
-#[cfg(test)]
-mod tests;

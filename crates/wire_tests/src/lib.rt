@@ -1,10 +1,12 @@
-//! Tests of hosts on wires, over the public calls of `wire` alone.
+//! Tests of hosts on wires, over the public calls of `wire` and of what it stands on.
 #![tactic(auto)]
 
 #[cfg(test)]
 mod drain_tests;
 #[cfg(test)]
 mod memory_tests;
+#[cfg(test)]
+mod network_tests;
 #[cfg(test)]
 mod outlet;
 #[cfg(test)]

@@ -2,10 +2,19 @@
 
 use crate::outlet::Taken;
 use crate::plans::{Change, plan};
-use adapter::StepKind;
+use adapter::offsets::EERD;
+use adapter::{Adapter, StepKind};
+use arrayvec::ArrayVec;
+use bring_up::Config;
+use bus::Bus;
+use dma_memory::HostMemory;
 use driver::Handled;
+use eeprom::Image;
+use lent_bus::LentBus;
+use mdic_phy::Link;
 use network_hosts::bring_up;
-use stations::Tick;
+use network_plan::{HostPlan, Plan, PlanError};
+use stations::{Outcome, Outcomes, Station, Tick, play};
 use std::test::Fail;
 use wire::{Answer, Event, Lan};
 
@@ -42,6 +51,7 @@ fn the_code_of_the_readme_of_wire(rt: HostRuntime) -> Result<(), Fail> {
     // It is given when host 1 is drained, in one step.
     let mut taken = Taken::with_room(rt.alloc(), lan.drain_room(1))?;
     assert_eq!(rt; lan.drain(1, &mut taken), 1);
+    assert_eq!(rt; taken.list.len(), 1);
     assert!(rt;
         taken
             .list
@@ -57,8 +67,86 @@ fn the_code_of_the_readme_of_network_hosts(rt: HostRuntime) -> Result<(), Fail> 
     let plan = plan(rt.alloc(), 2, Change::None)?;
     plan.check()?;
     let (hosts, stations) = bring_up(rt.alloc(), &plan)?;
-    assert_eq!(rt; hosts.len(), 2);
+    assert_eq!(rt; (hosts.len(), stations.len()), (2, 2));
     assert!(rt; stations.iter().all(|station| station.wire() == 0));
     assert!(rt; hosts.iter().all(|host| host.unclaimed() == 0));
+    Ok(())
+}
+
+#[test]
+fn the_code_of_the_readme_of_network_plan(rt: HostRuntime) -> Result<(), Fail> {
+    let mut plan = Plan {
+        hosts: Vec::new(rt.alloc()),
+    };
+    assert_eq!(rt; plan.check(), Err(PlanError::Hosts)); // there are less than two
+    for (name, last) in [("a", 1), ("b", 2)] {
+        let host = HostPlan {
+            name: name.to_string(rt.alloc())?,
+            wire: "w".to_string(rt.alloc())?,
+            image: Image::with_address([0x02, 0, 0, 0, 0, last]),
+            link: Link::After(3),
+            config: Config {
+                rx: 8,
+                tx: 8,
+                buffers: 16,
+                rxa: 48,
+                promiscuous: false,
+                groups: ArrayVec::new(),
+                vlans: None,
+            },
+            sockets: ArrayVec::new(),
+        };
+        plan.hosts.push(host)?;
+    }
+    assert_eq!(rt; plan.check(), Ok(()));
+    plan.hosts.pop();
+    assert_eq!(rt; plan.check(), Err(PlanError::Ends)); // a wire with one end
+    Ok(())
+}
+
+#[test]
+fn the_code_of_the_readme_of_stations(rt: HostRuntime) -> Result<(), Fail> {
+    let image = Image::with_address([0x02, 0, 0, 0, 0, 0x01]);
+    let adapter = Adapter::new(rt.alloc(), &image, Link::Never)?;
+    let memory = HostMemory::new(rt.alloc(), 4096)?;
+    let mut stations = [Station::new(rt.alloc(), adapter, memory, 0)?]; // on wire 0, and alone there
+    let mut outcomes = Outcomes::with_room(rt.alloc(), 1)?;
+    play(&mut stations, Tick::Deliver(0), 0, &mut outcomes); // behind no access
+    for one in outcomes.as_slice() {
+        assert_eq!(rt; one.outcome, Outcome::Nothing); // no frame waits at its end
+    }
+    Ok(())
+}
+
+#[test]
+fn the_code_of_the_readme_of_lent_bus(rt: HostRuntime) -> Result<(), Fail> {
+    let image = Image::with_address([0x02, 0, 0, 0, 0, 0x01]);
+    let adapter = Adapter::new(rt.alloc(), &image, Link::Never)?;
+    let memory = HostMemory::new(rt.alloc(), 4096)?;
+    let mut stations = [Station::new(rt.alloc(), adapter, memory, 0)?];
+    let mut outcomes = Outcomes::with_room(rt.alloc(), 4)?;
+    let ticks = [
+        Tick::Go, // none before the first access,
+        Tick::Step(0, StepKind::EepromTick), // one before the second,
+        Tick::Go,
+        Tick::Deliver(0), // and one that is left for the end
+    ];
+    let mut bus = LentBus {
+        stations: &mut stations,
+        ticks: &ticks,
+        host: 0,
+        accesses: 0,
+        outcomes: &mut outcomes,
+    };
+    bus.write(EERD, 1); // word 0 is asked for
+    assert_eq!(rt; bus.read(EERD), 0x0002_0010); // the word, and DONE
+    bus.finish();
+    assert_eq!(rt; bus.accesses, 2);
+    assert_eq!(rt; outcomes.as_slice().len(), 2);
+    for one in outcomes.as_slice() {
+        let ticked = one.accesses == 1 && one.outcome == Outcome::Ticked;
+        let late = one.accesses == 2 && one.outcome == Outcome::Nothing; // nothing waits there
+        assert!(rt; ticked || late);
+    }
     Ok(())
 }

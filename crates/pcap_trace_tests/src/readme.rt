@@ -1,0 +1,27 @@
+//! The code of a README, word for word.
+
+use pcap_trace::{RecordWriter, SliceSource, Trace, VecSink};
+use std::test::Fail;
+
+#[test]
+fn the_code_of_the_readme_of_pcap_trace(rt: HostRuntime) -> Result<(), Fail> {
+    // Two frames are written, with their times in microseconds.
+    let mut sink = VecSink::new(rt.alloc());
+    let mut writer = RecordWriter::new(rt.alloc())?;
+    writer.write(&mut sink, 0, &[0xFF; 60])?;
+    writer.write(&mut sink, 1, &[0xAA; 64])?;
+    writer.flush(&mut sink)?;
+    assert_eq!(rt; sink.bytes().len(), 24 + 76 + 80);
+    // They are read again, from a source that may be cut.
+    let mut source = SliceSource::new(sink.bytes());
+    let trace = Trace::read(rt.alloc(), &mut source)?;
+    assert_eq!(rt;
+        (trace.frames.len(), trace.skipped, trace.cut),
+        (2, 0, false)
+    );
+    let mut frames = trace.frames.iter();
+    assert_eq!(rt; frames.next(), Some([0xFF; 60].as_slice()));
+    assert_eq!(rt; frames.next(), Some([0xAA; 64].as_slice()));
+    assert!(rt; frames.next().is_none());
+    Ok(())
+}
