@@ -135,7 +135,8 @@ impl Adapter {
     /// ([`TxPut`](StepKind::TxPut)).
     ///
     /// An adapter is stepped with memories of one size: so the descriptor of a frame in work, or put,
-    /// lies in memory, as it did when it was read. Where it doesn't, nothing is written.
+    /// lies in memory, as it did when it was read. In a smaller one `RxDone` writes nothing where the
+    /// descriptor doesn't lie in it whole, and `TxPut` nothing where its byte 12 doesn't.
     pub fn step(&mut self, kind: StepKind, memory: &mut HostMemory, wire_free: bool) -> Stepped
         ensures answer { Answers kind wire_free memory.old self.old result }
         ensures state { self.new ≡ after_step kind result memory.old self.old }
