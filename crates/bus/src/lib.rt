@@ -25,6 +25,3 @@ pub use settings_law::{adapters_rest, writes_alone_set};
 pub use trail_law::{
     causes_are_those_of_steps, faults_stay_visible, quiet_accesses_leave_adapters,
 };
-
-#[cfg(test)]
-mod event_tests;

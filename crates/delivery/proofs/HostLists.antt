@@ -22,8 +22,8 @@ use Rattle.stations.specs.Outcomes.{outcome_of_step}
 use Rattle.stations.specs.Stations.{StationState, world_at}
 use Rattle.stations.specs.declared.tick.Outcome.{Outcome}
 use Rattle.stations.specs.declared.tick.Outcome.TheVariants as outcome
-use Rattle.lent_bus.proofs.HostTrails.{trail-of}
-use Rattle.lent_bus.specs.AtomicRuns.{LeadsTo, events_at, past_at}
+use Rattle.stations.proofs.HostTrails.{trail-of}
+use Rattle.stations.specs.AtomicRuns.{LeadsTo, events_at, past_at}
 use Rattle.delivery.specs.Fates.{Came, Left, Mark, mark_by, marks}
 use Rattle.delivery.specs.Happenings.{Happening, Moved, Put, Reached, accepted, accepted_by, given, given_by, happened_in}
 use Rattle.delivery.specs.Happenings.{missed, missed_of, of_host, put, put_by, reached, reached_by, stored, stored_by, told_of}

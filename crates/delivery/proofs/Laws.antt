@@ -7,10 +7,10 @@ use Rattle.stations.specs.AtomicSteps.{AtomicStep}
 use Rattle.stations.specs.Stations.{StationState}
 use Rattle.stations.specs.declared.tick.Tick.{Tick}
 use Rattle.stations.specs.declared.outcomes.Numbered.{Numbered}
-use Rattle.lent_bus.specs.AtomicRunLaws.{noted_join}
-use Rattle.lent_bus.specs.AtomicRuns.{LeadsTo, counted_of, is_go, noted_of}
-use Rattle.lent_bus.specs.Retelling.{Finished, Retells}
-use Rattle.lent_bus.specs.declared.lent_bus.LentBus.{LentBus}
+use Rattle.stations.specs.AtomicRunLaws.{noted_join}
+use Rattle.stations.specs.AtomicRuns.{LeadsTo, counted_of, is_go, noted_of}
+use Rattle.stations.specs.Retelling.{Finished, Retells}
+use Rattle.stations.specs.declared.lent_bus.LentBus.{LentBus}
 use Rattle.delivery.proofs.HostLists.{accepted-none, given-none, missed-told, put-told, stored-told}
 use Rattle.delivery.proofs.Joining.{accepted-append, given-append, marks-append, missed-append, put-append, reached-append, stored-append}
 use Rattle.delivery.proofs.Joining.{toward-append}

@@ -5,3 +5,9 @@ pub mod HostLists
 pub mod Waiting
 pub mod RightFates
 pub mod Laws
+pub mod Rings
+pub mod HostSteps
+pub mod Answering
+pub mod WaitingFrames
+pub mod Ticks
+pub mod TailWrites

@@ -9,9 +9,9 @@ use Rattle.stations.specs.Stations.{StationState}
 use Rattle.stations.specs.declared.outcomes.Numbered.{Numbered}
 use Rattle.stations.specs.declared.tick.Tick.{Tick}
 use Rattle.stations.specs.declared.tick.Tick.TheVariants.{Deliver, Go, Step}
-use Rattle.lent_bus.proofs.TickLoops.{counted-ticks}
-use Rattle.lent_bus.specs.AtomicRunLaws.{counted_join, noted_join}
-use Rattle.lent_bus.specs.AtomicRuns.{IsTick, LeadsTo, counted_of, is_go, most_accesses, noted_of}
+use Rattle.stations.proofs.TickLoops.{counted-ticks}
+use Rattle.stations.specs.AtomicRunLaws.{counted_join, noted_join}
+use Rattle.stations.specs.AtomicRuns.{IsTick, LeadsTo, counted_of, is_go, most_accesses, noted_of}
 use Rattle.delivery.specs.TickNumbers.{numbers, numbers_of}
 
 -- One tick more.

@@ -35,8 +35,8 @@ use Rattle.bus.specs.declared.event.Event.{Event}
 use Rattle.bus.specs.declared.event.Event.TheVariants.{Accesses, Arrives, Steps}
 use Rattle.stations.specs.AtomicSteps.{AtomicStep}
 use Rattle.stations.specs.Stations.{StationState, world_at}
-use Rattle.lent_bus.proofs.HostTrails.{trail-of}
-use Rattle.lent_bus.specs.AtomicRuns.{LeadsTo, events_at, past_at}
+use Rattle.stations.proofs.HostTrails.{trail-of}
+use Rattle.stations.specs.AtomicRuns.{LeadsTo, events_at, past_at}
 use Rattle.delivery.proofs.HostLists.{marks-told, marks_in, marks_of_answer}
 use Rattle.delivery.proofs.Joining.{fates-append}
 use Rattle.delivery.specs.Fates.{AreRightFates, Came, IsRightFate, Mark, marks}

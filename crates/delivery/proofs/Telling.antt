@@ -12,8 +12,8 @@ use Rattle.stations.specs.declared.outcomes.Numbered.{Numbered}
 use Rattle.stations.specs.declared.tick.Outcome.{Outcome}
 use Rattle.stations.specs.declared.tick.Tick.{Tick}
 use Rattle.stations.specs.declared.tick.Tick.TheVariants.{Deliver, Go, Step}
-use Rattle.lent_bus.specs.AtomicRunLaws.{leads_join}
-use Rattle.lent_bus.specs.AtomicRuns.{IsOfCall, IsTick, LeadsTo, counted_by, is_go, noted_of}
+use Rattle.stations.specs.AtomicRunLaws.{leads_join}
+use Rattle.stations.specs.AtomicRuns.{IsOfCall, IsTick, LeadsTo, counted_by, is_go, noted_of}
 use Rattle.delivery.specs.DeliveryLaws.{LeadsAlone}
 use Rattle.delivery.specs.Happenings.{Happening, happened_in, told, told_alone, told_of}
 

@@ -13,7 +13,7 @@ use Rattle.stations.proofs.Places.{after-is, get-at_each}
 use Rattle.stations.specs.AtomicSteps.{At, AtomicStep, CanHappen, Idles, OccursAt, SuitsWire, after, outcome_of_event}
 use Rattle.stations.specs.Stations.{StationState, all_after, at_each, backlog_after, backlog_at, backlog_of, each_after, station_after}
 use Rattle.stations.specs.Stations.{stations_after, wire_at, wire_of, with_frames, world_at}
-use Rattle.lent_bus.specs.AtomicRuns.{LeadsTo, events_at}
+use Rattle.stations.specs.AtomicRuns.{LeadsTo, events_at}
 use Rattle.delivery.proofs.HostLists.{arrived_in, frames_in, none-chosen, put-chosen, put-occurs, reached-told, step-told}
 use Rattle.delivery.specs.Happenings.{happened_in, reached, share_wire, told_of, toward, toward_by}
 

@@ -14,9 +14,9 @@ use Rattle.stations.specs.Stations.{StationState, backlog_at, wire_at, world_at}
 use Rattle.stations.specs.declared.tick.Outcome.{Outcome}
 use Rattle.stations.specs.declared.tick.Tick.{Tick}
 use Rattle.stations.specs.declared.tick.Tick.TheVariants.{Go}
-use Rattle.lent_bus.specs.AtomicRuns.{IsTick, LeadsTo, counted_of, is_go, noted_of, past_at}
-use Rattle.lent_bus.specs.Retelling.{Finished, Retells}
-use Rattle.lent_bus.specs.declared.lent_bus.LentBus.{LentBus}
+use Rattle.stations.specs.AtomicRuns.{IsTick, LeadsTo, counted_of, is_go, noted_of, past_at}
+use Rattle.stations.specs.Retelling.{Finished, Retells}
+use Rattle.stations.specs.declared.lent_bus.LentBus.{LentBus}
 use Rattle.delivery.specs.Fates.{AreRightByCounting, AreRightFates, Mark, marks}
 use Rattle.delivery.specs.Happenings.{Happening, accepted, given, happened_in, missed, put, reached, stored, told, told_alone, toward}
 use Rattle.delivery.specs.Reception.{LeavesReception, ReceivesRightly}

@@ -3,3 +3,8 @@ pub mod TickNumbers
 pub mod Fates
 pub mod Reception
 pub mod DeliveryLaws
+pub mod Counts
+pub mod WaitingFrames
+pub mod CountedHosts
+pub mod StepAnswers
+pub mod AnswersLaws

@@ -1,10 +1,14 @@
-//! What happens to frames in a network: laws of atomic steps, of the outcomes that tell them, and of the
-//! fates that frames meet.
+//! What happens to frames in a network, and what each tick answers: laws of atomic steps, of the outcomes that tell
+//! them, of the fates that frames meet, and of answers that are judged by counting.
 #![tactic(auto)]
 
-mod law;
+mod answers_law;
+mod delivery_law;
 
-pub use law::{
+pub use answers_law::{
+    idle_ticks_answer_nothing, tails_offer_slots, ticks_are_answered_by_counting,
+};
+pub use delivery_law::{
     deliveries_join, fates_are_judged_by_counting, fates_are_right, outcomes_tell_steps,
     steps_move_frames,
 };

@@ -24,8 +24,3 @@ pub use rx_status::RxStatus;
 pub use tx_command::TxCommand;
 pub use tx_desc::{TX_DESC_BYTES, TxDesc};
 pub use tx_status::TxStatus;
-
-#[cfg(test)]
-mod readme;
-#[cfg(test)]
-mod tests;

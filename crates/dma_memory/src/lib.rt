@@ -18,8 +18,3 @@ pub use memory_layout::{
     BUFFER_BYTES, DESCRIPTOR_BYTES, Layout, LayoutError, MOST_BUFFERS, MOST_DESCRIPTORS, RING_STEP,
 };
 pub use pool::{BufId, Pool};
-
-#[cfg(test)]
-mod readme;
-#[cfg(test)]
-mod tests;

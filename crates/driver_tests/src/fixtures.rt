@@ -55,14 +55,6 @@ pub(crate) fn broadcast(number: u8) -> [u8; 70] {
     frame
 }
 
-/// A frame of 60 bytes to this address, with these bytes behind both addresses.
-pub(crate) fn frame_to(destination: [u8; 6], behind: [u8; 4]) -> [u8; 60] {
-    let mut frame = [0; 60];
-    frame[..6].copy_from_slice(&destination);
-    frame[12..16].copy_from_slice(&behind);
-    frame
-}
-
 /// What an interrupt answers behind so many slots that were taken.
 pub(crate) fn took(taken: u64) -> Handled {
     Handled::Handled { taken }

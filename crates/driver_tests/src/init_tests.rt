@@ -1,11 +1,11 @@
 //! Worked examples of bring-up over a lively bus, and over buses whose registers all read one value.
 
-use crate::fixtures::{ADDRESS, NEEDED, config, frame_to, good_bus, new_bus};
-use crate::schedule::{Act, Rig, play};
+use crate::fixtures::{ADDRESS, NEEDED, config, good_bus, new_bus};
+use crate::schedule::{Act, Rig};
+use adapter::Adapter;
 use adapter::offsets::*;
-use adapter::{Adapter, Fate, StepKind, StepOutcome};
 use arrayvec::ArrayVec;
-use bring_up::{Config, InitError, MOST_VLANS};
+use bring_up::{Config, InitError};
 use bus::{Bus, HonestBus};
 use dma_memory::HostMemory;
 use driver::Driver;
@@ -15,25 +15,6 @@ use solo_bus::SoloBus;
 use std::alloc::Global;
 use std::process::Abort;
 use std::test::Fail;
-
-/// An address that is no adapter's here.
-const OTHER: [u8; 6] = [0x02, 0, 0, 0, 0, 0x09];
-
-/// A group, whose bits 47:36 are 16.
-const GROUP: [u8; 6] = [0x01, 0, 0x5E, 0, 0, 0x01];
-
-/// A group, whose bits 47:36 are 32.
-const OTHER_GROUP: [u8; 6] = [0x01, 0, 0x5E, 0, 0, 0x02];
-
-const BROADCAST: [u8; 6] = [0xFF; 6];
-
-/// The EtherType of IP version 4.
-const INTERNET: [u8; 4] = [0x08, 0, 0, 0];
-
-/// The VLAN tags with the numbers 5 and 6.
-const TAG_5: [u8; 4] = [0x81, 0, 0, 0x05];
-
-const TAG_6: [u8; 4] = [0x81, 0, 0, 0x06];
 
 /// What a driver tells, and what registers read, once an adapter is brought up with [`config`], but for its
 /// address.
@@ -64,15 +45,6 @@ const BROUGHT_UP: [Act; 24] = [
     Act::Read(ICR, 0x04),
     Act::Read(IMS, 0xD1),
 ];
-
-/// These VLANs, of which a configuration has room for 32.
-fn vlans(numbers: &[u16]) -> Option<ArrayVec<u16, MOST_VLANS>> {
-    let mut vlans = ArrayVec::new();
-    for number in numbers {
-        let _ = vlans.try_push(*number);
-    }
-    Some(vlans)
-}
 
 /// Why an adapter can't be brought up, if so.
 fn error_of<B: Bus>(alloc: Global, bus: &mut B, config: &Config) -> Option<InitError> {
@@ -157,50 +129,6 @@ fn links_come_in_time_or_not(rt: HostRuntime) -> Result<(), Fail> {
     Ok(())
 }
 
-#[test]
-fn memory_has_to_be_large_enough(rt: HostRuntime) -> Result<(), Fail> {
-    for (bytes, want) in [(NEEDED - 1, Some((InitError::Config, 0))), (NEEDED, None)] {
-        let image = Image::with_address(ADDRESS);
-        let bus = new_bus(rt.alloc(), &image, Link::After(1), bytes)?;
-        attempt_on(&rt, rt.alloc(), bus, want);
-    }
-    Ok(())
-}
-
-/// Tries a configuration that is refused without an access, then another that can be had, and the first one again.
-fn attempt_thrice(rt: &impl Abort, alloc: Global, mut bus: SoloBus, refused: &Config) {
-    attempt(rt, alloc, &mut bus, refused, Some((InitError::Config, 0)));
-    attempt(rt, alloc, &mut bus, &config(), None);
-    attempt(rt, alloc, &mut bus, refused, Some((InitError::Config, 0)));
-}
-
-/// A configuration with one group.
-fn config_with_group(group: [u8; 6]) -> Config {
-    let mut config = config();
-    let _ = config.groups.try_push(group);
-    config
-}
-
-#[test]
-fn configurations_are_refused_without_an_access(rt: HostRuntime) -> Result<(), Fail> {
-    for refused in [
-        Config { rx: 12, ..config() },
-        Config {
-            buffers: 7,
-            ..config()
-        },
-        Config { rxa: 3, ..config() },
-        Config {
-            vlans: vlans(&[4096]),
-            ..config()
-        },
-        config_with_group(OTHER),
-    ] {
-        attempt_thrice(&rt, rt.alloc(), good_bus(rt.alloc())?, &refused);
-    }
-    Ok(())
-}
-
 /// Want of memory is the one refusal that is allowed here, so that each allocation can be made to fail in
 /// turn. Bring-up can be called again behind it.
 #[test]
@@ -212,105 +140,6 @@ fn a_refused_allocation_is_memory(rt: HostRuntime) {
         assert_eq!(rt; (error, bus.accesses()), (InitError::Memory, 0));
         attempt(&rt, rt.alloc(), &mut bus, &config(), None);
     }
-}
-
-/// What frames do that come behind a bring-up.
-const COMING: [Act; 9] = [
-    Act::ArriveTo(ADDRESS, INTERNET, Fate::Stored),
-    Act::Step(StepKind::RxData, StepOutcome::Moved),
-    Act::Step(StepKind::RxDone, StepOutcome::Done),
-    Act::ArriveTo(ADDRESS, INTERNET, Fate::Stored),
-    Act::Step(StepKind::RxData, StepOutcome::Moved),
-    Act::Step(StepKind::RxDone, StepOutcome::Done),
-    Act::ArriveTo(ADDRESS, INTERNET, Fate::Stored),
-    Act::Step(StepKind::RxData, StepOutcome::Moved),
-    Act::Step(StepKind::RxDone, StepOutcome::Done),
-];
-
-/// What an interrupt finds of them.
-const HELD: [Act; 5] = [
-    Act::Take(3),
-    Act::Received(3, 180, 7, 0),
-    Act::Read(RDH, 3),
-    Act::Read(RDT, 2),
-    Act::NotMine,
-];
-
-/// A frame comes before an adapter is brought up.
-fn check_off(rt: &impl Abort, bus: &mut SoloBus) {
-    assert_eq!(rt; bus.arrive(&frame_to(ADDRESS, INTERNET)), Fate::Off);
-}
-
-#[test]
-fn frames_that_come_behind_bring_up_are_held(rt: HostRuntime) -> Result<(), Fail> {
-    let mut bus = good_bus(rt.alloc())?;
-    check_off(&rt, &mut bus);
-    play_on(&rt, rt.alloc(), bus, &COMING, &HELD)
-}
-
-#[test]
-fn frames_to_the_adapter_and_to_all_pass(rt: HostRuntime) -> Result<(), Fail> {
-    let acts = [
-        Act::Read(RCTL, 0x0400_8002),
-        Act::ArriveTo(ADDRESS, INTERNET, Fate::Stored),
-        Act::ArriveTo(BROADCAST, INTERNET, Fate::Stored),
-        Act::ArriveTo(ADDRESS, TAG_5, Fate::Stored),
-        Act::ArriveTo(OTHER, INTERNET, Fate::Filtered),
-        Act::ArriveTo(GROUP, INTERNET, Fate::Filtered),
-    ];
-    play(&rt, rt.alloc(), &config(), &acts)
-}
-
-#[test]
-fn a_promiscuous_adapter_takes_frames_to_everyone(rt: HostRuntime) -> Result<(), Fail> {
-    let promiscuous = Config {
-        promiscuous: true,
-        ..config()
-    };
-    let acts = [
-        Act::Read(RCTL, 0x0400_801A),
-        Act::ArriveTo(ADDRESS, INTERNET, Fate::Stored),
-        Act::ArriveTo(OTHER, INTERNET, Fate::Stored),
-        Act::ArriveTo(GROUP, INTERNET, Fate::Stored),
-    ];
-    play(&rt, rt.alloc(), &promiscuous, &acts)
-}
-
-#[test]
-fn groups_pass_that_are_configured(rt: HostRuntime) -> Result<(), Fail> {
-    let acts = [
-        Act::Read(MTA, 0x0001_0000),
-        Act::ArriveTo(GROUP, INTERNET, Fate::Stored),
-        Act::ArriveTo(OTHER_GROUP, INTERNET, Fate::Filtered),
-    ];
-    play(&rt, rt.alloc(), &config_with_group(GROUP), &acts)
-}
-
-#[test]
-fn tagged_frames_pass_by_their_vlan(rt: HostRuntime) -> Result<(), Fail> {
-    let by_vlan = Config {
-        vlans: vlans(&[5]),
-        ..config()
-    };
-    let acts = [
-        Act::Read(VFTA, 0x0000_0020),
-        Act::Read(RCTL, 0x0404_8002),
-        Act::ArriveTo(ADDRESS, TAG_5, Fate::Stored),
-        Act::ArriveTo(ADDRESS, TAG_6, Fate::Filtered),
-        Act::ArriveTo(ADDRESS, INTERNET, Fate::Stored),
-    ];
-    play(&rt, rt.alloc(), &by_vlan, &acts)?;
-    // Of no VLAN at all: no tagged frame passes.
-    let by_none = Config {
-        vlans: vlans(&[]),
-        ..config()
-    };
-    let acts = [
-        Act::Read(RCTL, 0x0404_8002),
-        Act::ArriveTo(ADDRESS, TAG_5, Fate::Filtered),
-        Act::ArriveTo(ADDRESS, INTERNET, Fate::Stored),
-    ];
-    play(&rt, rt.alloc(), &by_none, &acts)
 }
 
 /// A bus without an adapter, on which every register reads the same, and which keeps nothing. It counts its

@@ -1,21 +1,33 @@
-//! Tests of a driver, over the public calls of `driver` alone.
+//! Tests of calls over a bus: how an adapter is brought up, its driver, and its sockets.
 #![tactic(auto)]
 
 #[cfg(test)]
+mod bring_up_readme;
+#[cfg(test)]
+mod buses;
+#[cfg(test)]
+mod configurations;
+#[cfg(test)]
 mod fixtures;
 #[cfg(test)]
-mod giving_races;
+mod images;
 #[cfg(test)]
 mod init_tests;
 #[cfg(test)]
+mod links;
+#[cfg(test)]
 mod lying_bus_tests;
+#[cfg(test)]
+mod packet_socket_readme;
 #[cfg(test)]
 mod readme;
 #[cfg(test)]
-mod receive_races;
-#[cfg(test)]
 mod schedule;
 #[cfg(test)]
-mod tests;
+mod socket_calls;
 #[cfg(test)]
-mod transmit_races;
+mod socket_fixtures;
+#[cfg(test)]
+mod steps;
+#[cfg(test)]
+mod tests;

@@ -1,13 +1,13 @@
 //! Worked examples over a solo bus that isn't lively: frames come round the receive ring, and are sent.
 
-use crate::fixtures::{config, good_bus};
+use crate::fixtures::{Keeper, broadcast, config, good_bus, took};
 use crate::schedule::{Act, Rig};
-use adapter::offsets::{RCTL, RDLEN, RDT, TCTL, TDBAL, TDLEN, TDT};
+use adapter::offsets::{ICS, RCTL, RDLEN, RDT, TCTL, TDBAL, TDLEN, TDT};
 use adapter::{Adapter, StepKind, StepOutcome};
 use bring_up::Config;
-use bus::Bus;
+use bus::{Bus, HonestBus};
 use dma_memory::{HostMemory, Layout};
-use driver::{Driver, SendError};
+use driver::{Driver, Handled, SendError};
 use eeprom::Image;
 use mdic_phy::Link;
 use solo_bus::SoloBus;
@@ -145,5 +145,40 @@ fn refusals_have_texts(rt: HostRuntime) -> Result<(), Fail> {
     ] {
         assert_eq!(rt; format!(in rt.alloc(); "{error}")?.as_str(), text);
     }
+    Ok(())
+}
+
+/// LSC: the link came up, which no driver asks to be told.
+const LINK_CHANGED: u32 = 0x0000_0004;
+
+/// Handles an interrupt, and asserts what it answers, by how many accesses.
+fn check_interrupt(
+    rt: &impl Abort,
+    driver: &mut Driver,
+    bus: &mut SoloBus,
+    want: Handled,
+    accesses: u64,
+) {
+    let before = bus.accesses();
+    let mut keeper = Keeper::new(false);
+    assert!(rt; driver.layout().size() <= bus.size());
+    let handled = driver.interrupt(bus, &mut keeper);
+    assert_eq!(rt; handled, want);
+    assert_eq!(rt; bus.accesses().wrapping_sub(before), accesses);
+}
+
+/// For a cause of which the driver doesn't ask ICR is read, and nothing else. No call of the handler brings another.
+#[test]
+fn interrupts_are_the_drivers_or_not(rt: HostRuntime) -> Result<(), Fail> {
+    let mut bus = good_bus(rt.alloc())?;
+    let mut driver = Driver::init(rt.alloc(), &mut bus, &config())?;
+    bus.write(ICS, LINK_CHANGED);
+    check_interrupt(&rt, &mut driver, &mut bus, Handled::NotMine, 1);
+    bus.arrive(&broadcast(0));
+    bus.step(StepKind::RxData);
+    bus.step(StepKind::RxDone);
+    // ICR, MPC, descriptor and EtherType of the frame, the next descriptor, that of the slot that is offered, and RDT.
+    check_interrupt(&rt, &mut driver, &mut bus, took(1), 7);
+    check_interrupt(&rt, &mut driver, &mut bus, Handled::NotMine, 1);
     Ok(())
 }

@@ -11,8 +11,3 @@ mod laws;
 pub use eerd::{Eerd, ReadState};
 pub use image::{Image, WORDS, checksum_ok};
 pub use laws::answers_by_history;
-
-#[cfg(test)]
-mod readme;
-#[cfg(test)]
-mod tests;

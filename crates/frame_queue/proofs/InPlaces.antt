@@ -1,13 +1,12 @@
 -- What stands in the places of a queue, after a frame is written behind the others and after the first is dropped.
-use Rattle.std.proofs.Common.{◌≡◌, ◌≤◌, ◌<◌, ◌+◌, ◌-◌, ◌*◌, ◌⊎◌, inl, inr, ◌++◌, ◌∷◌, [], ℕ, suc, List, length, drop, All, refl, sym, ap}
+use Rattle.std.proofs.Common.{◌≡◌, ◌≤◌, ◌<◌, ◌+◌, ◌-◌, ◌*◌, ◌⊎◌, inl, inr, ◌++◌, ◌∷◌, [], ℕ, suc, List, length, take, drop, All, refl, sym, ap}
 use Rattle.std.proofs.Common.{◌∙◌, arith}
 use Rattle.std.proofs.lemmas.Bool.{cond_below, cond_above}
 use Rattle.std.proofs.lemmas.Bool.Decides.{leb_tells, nat_tests}
 use Rattle.std.specs.Prelude.{slice_get, Some, None, is_some, true, false, Bool, IsTrue, ◌==◌, ◌↔◌}
-use Rattle.dma_memory.specs.HostMemory.{bytes_at, with_bytes, LiesIn}
-use Rattle.dma_memory.specs.Laws.{bytes_at-elsewhere, bytes_at-stored}
 use Rattle.frame_queue.specs.Places.{frames_from}
 use Rattle.frame_queue.specs.Wrapping.{wrapped}
+use Rattle.frame_queue.proofs.Written.{bytes-written, bytes-before, bytes-after}
 
 -- A number is below another or not.
 below_or_past : (p c : ℕ) → (p < c) ⊎ (c ≤ p)
@@ -47,16 +46,16 @@ length-frames_from bytes c p (n ∷ ns) = ap (λ (k : ℕ). suc k) (length-frame
 
 -- One more length is one more frame, behind the others.
 pub frames_from-append : (bytes : List ℕ) (c p n : ℕ) (ns : List ℕ)
-    → frames_from bytes c p (ns ++ n ∷ []) ≡ frames_from bytes c p ns ++ bytes_at bytes (wrapped c (p + length ns) * 1518) n ∷ []
+    → frames_from bytes c p (ns ++ n ∷ []) ≡ frames_from bytes c p ns ++ take n (drop (wrapped c (p + length ns) * 1518) bytes) ∷ []
 unfolding frames_from
 frames_from-append bytes c p n [] =
     let here : p ≡ p + 0 = omega arith in
-    ap (λ (q : ℕ). bytes_at bytes (wrapped c q * 1518) n ∷ []) here
+    ap (λ (q : ℕ). take n (drop (wrapped c q * 1518) bytes) ∷ []) here
 frames_from-append bytes c p n (m ∷ ns) =
     let here : p + 1 + length ns ≡ p + length (m ∷ ns) = omega arith in
-    ap (λ (fs : List (List ℕ)). bytes_at bytes (wrapped c p * 1518) m ∷ fs)
+    ap (λ (fs : List (List ℕ)). take m (drop (wrapped c p * 1518) bytes) ∷ fs)
     (frames_from-append bytes c (p + 1) n ns
-    ∙ ap (λ (q : ℕ). frames_from bytes c (p + 1) ns ++ bytes_at bytes (wrapped c q * 1518) n ∷ []) here)
+    ∙ ap (λ (q : ℕ). frames_from bytes c (p + 1) ns ++ take n (drop (wrapped c q * 1518) bytes) ∷ []) here)
 
 -- Once round the frames are those from the first place on.
 pub frames_from-round : (bytes : List ℕ) (c p i : ℕ) (ns : List ℕ) → p ≡ c + i → i + length ns ≤ c
@@ -69,31 +68,32 @@ frames_from-round bytes c p i (n ∷ ns) round fits =
     let rest = frames_from-round bytes c (p + 1) (i + 1) ns (omega arith) (omega arith) in
     rw (here, rest) refl
 
--- Bytes written at a place leave what stands at another one.
-bytes_at-other_place : (bytes written : List ℕ) (place n other : ℕ) → LiesIn bytes (place * 1518) (length written) → length written ≤ 1518
-    → n ≤ 1518 → (other < place) ⊎ (place < other)
-    → bytes_at (with_bytes bytes (place * 1518) written) (other * 1518) n ≡ bytes_at bytes (other * 1518) n
-bytes_at-other_place bytes written place n other lies short fits (inl before) = bytes_at-elsewhere bytes written (place * 1518)
-    (other * 1518) n lies (inr (omega arith))
-bytes_at-other_place bytes written place n other lies short fits (inr after) = bytes_at-elsewhere bytes written (place * 1518)
-    (other * 1518) n lies (inl (omega arith))
+-- Bytes written at a place leave what is at another one.
+bytes-other_place : (bytes written : List ℕ) (place n m other : ℕ) → length written ≡ n → place * 1518 + n ≤ length bytes → n ≤ 1518
+    → m ≤ 1518 → (other < place) ⊎ (place < other)
+    → take m (drop (other * 1518) (take (place * 1518) bytes ++ written ++ drop (place * 1518 + n) bytes))
+    ≡ take m (drop (other * 1518) bytes)
+bytes-other_place bytes written place n m other count lies short fits (inl before) = bytes-before bytes written (place * 1518) n
+    (other * 1518) m count lies (omega arith)
+bytes-other_place bytes written place n m other count lies short fits (inr after) = bytes-after bytes written (place * 1518) n
+    (other * 1518) m count lies (omega arith)
 
 -- Bytes written at the place behind the frames leave them.
-pub frames_from-kept : (bytes written ns : List ℕ) (c p q : ℕ) → LiesIn bytes (wrapped c q * 1518) (length written) → length written ≤ 1518
-    → All (λ (n : ℕ). n ≤ 1518) ns → p + length ns ≡ q → q < p + c → q < c + c
-    → frames_from (with_bytes bytes (wrapped c q * 1518) written) c p ns ≡ frames_from bytes c p ns
+pub frames_from-kept : (bytes written ns : List ℕ) (c p q n : ℕ) → length written ≡ n → wrapped c q * 1518 + n ≤ length bytes → n ≤ 1518
+    → All (λ (m : ℕ). m ≤ 1518) ns → p + length ns ≡ q → q < p + c → q < c + c
+    → frames_from (take (wrapped c q * 1518) bytes ++ written ++ drop (wrapped c q * 1518 + n) bytes) c p ns ≡ frames_from bytes c p ns
 unfolding frames_from
-frames_from-kept bytes written [] c p q lies short fits end near once = refl
-frames_from-kept bytes written (n ∷ ns) c p q lies short fits end near once =
-    let here = bytes_at-other_place bytes written (wrapped c q) n (wrapped c p) lies short (fits 0 0 (omega arith))
+frames_from-kept bytes written [] c p q n count lies short fits end near once = refl
+frames_from-kept bytes written (m ∷ ns) c p q n count lies short fits end near once =
+    let here = bytes-other_place bytes written (wrapped c q) n m (wrapped c p) count lies short (fits 0 0 (omega arith))
     (wrapped-apart c p q (omega arith) near once) in
-    let rest = frames_from-kept bytes written ns c (p + 1) q lies short (λ k d below. fits (suc k) d (omega arith)) (omega arith)
+    let rest = frames_from-kept bytes written ns c (p + 1) q n count lies short (λ k d below. fits (suc k) d (omega arith)) (omega arith)
     (omega arith) once in
     rw (here, rest) refl
 
 -- The oldest frame stands in the first place.
 pub slice_get-frames_from : (bytes : List ℕ) (c p n : ℕ) (ns : List ℕ) → p < c → slice_get ns 0 ≡ Some n
-    → slice_get (frames_from bytes c p ns) 0 ≡ Some (bytes_at bytes (p * 1518) n)
+    → slice_get (frames_from bytes c p ns) 0 ≡ Some (take n (drop (p * 1518) bytes))
 unfolding frames_from
 slice_get-frames_from bytes c p n [] below is = absurd (cc)
 slice_get-frames_from bytes c p n (m ∷ ns) below is =
@@ -141,17 +141,17 @@ frames_from-some bytes c p n (m ∷ ns) some none = absurd (cc)
 -- A frame written at the place behind the others is behind the others.
 pub frames_from-pushed : (bytes written ns : List ℕ) (c p n : ℕ) → length bytes ≡ c * 1518 → p < c → length ns < c
     → All (λ (m : ℕ). m ≤ 1518) ns → length written ≡ n → n ≤ 1518
-    → frames_from (with_bytes bytes (wrapped c (p + length ns) * 1518) written) c p (ns ++ n ∷ [])
+    → frames_from
+    (take (wrapped c (p + length ns) * 1518) bytes ++ written ++ drop (wrapped c (p + length ns) * 1518 + n) bytes) c p (ns ++ n ∷ [])
     ≡ frames_from bytes c p ns ++ written ∷ []
 frames_from-pushed bytes written ns c p n size first room fits count short =
     let q = p + length ns in
+    let start = wrapped c q * 1518 in
     let within = wrapped-within c q (omega arith) in
-    let lies : LiesIn bytes (wrapped c q * 1518) (length written) = omega (arith, within, size, count, short) in
-    let stored : bytes_at (with_bytes bytes (wrapped c q * 1518) written) (wrapped c q * 1518) n ≡ written =
-    ap (bytes_at (with_bytes bytes (wrapped c q * 1518) written) (wrapped c q * 1518)) (sym count)
-    ∙ bytes_at-stored bytes written (wrapped c q * 1518) lies in
-    let kept = frames_from-kept bytes written ns c p q lies (omega (arith, count, short)) fits refl (omega arith) (omega arith) in
-    frames_from-append (with_bytes bytes (wrapped c q * 1518) written) c p n ns ∙ rw (kept, stored) refl
+    let lies : start + n ≤ length bytes = omega (arith, within, size, short) in
+    let stored = bytes-written bytes written start n count lies in
+    let kept = frames_from-kept bytes written ns c p q n count lies short fits refl (omega arith) (omega arith) in
+    frames_from-append (take start bytes ++ written ++ drop (start + n) bytes) c p n ns ∙ rw (kept, stored) refl
 
 -- Where there is a first length, there is one.
 pub some_below : (ns : List ℕ) → is_some (slice_get ns 0) ≡ true → 0 < length ns

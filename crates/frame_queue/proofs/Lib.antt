@@ -1,1 +1,2 @@
 pub mod InPlaces
+mod Written

@@ -1,7 +1,6 @@
 -- Where the frames of a queue stand in its bytes (own): in places of 1,518 bytes, one behind the other from the first on, and
 -- at the front again behind the last place.
-use Rattle.std.specs.Prelude.{◌≡◌, ◌+◌, ◌*◌, ◌<◌, ◌≤◌, ℕ, List, [], ◌∷◌, All, length}
-use Rattle.dma_memory.specs.HostMemory.{bytes_at}
+use Rattle.std.specs.Prelude.{◌≡◌, ◌+◌, ◌*◌, ◌<◌, ◌≤◌, ℕ, List, [], ◌∷◌, All, length, take, drop}
 use Rattle.frame_queue.specs.Frames.{Frames}
 use Rattle.frame_queue.specs.Wrapping.{wrapped}
 use Rattle.frame_queue.specs.declared.queue.FrameQueue.TheInside.{Inside}
@@ -9,7 +8,7 @@ use Rattle.frame_queue.specs.declared.queue.FrameQueue.TheInside.{Inside}
 -- the frames of these lengths, from a place on
 unfoldable pub frames_from : List ℕ → ℕ → ℕ → List ℕ → List (List ℕ)
 frames_from bytes capacity place [] = []
-frames_from bytes capacity place (n ∷ ns) = bytes_at bytes (wrapped capacity place * 1518) n ∷ frames_from bytes capacity (place + 1) ns
+frames_from bytes capacity place (n ∷ ns) = take n (drop (wrapped capacity place * 1518) bytes) ∷ frames_from bytes capacity (place + 1) ns
 
 abbrev pub frames_of : Inside → Frames
 frames_of queue = record {

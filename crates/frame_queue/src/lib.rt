@@ -6,8 +6,3 @@
 mod queue;
 
 pub use queue::{FrameQueue, PLACE_BYTES};
-
-#[cfg(test)]
-mod readme;
-#[cfg(test)]
-mod tests;

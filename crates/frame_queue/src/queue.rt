@@ -1,6 +1,5 @@
-ghost use Rattle.dma_memory.specs.HostMemory.{with_bytes};
 ghost use Rattle.frame_queue.specs.Wrapping.{wrapped};
-ghost use Rattle.std.specs.Prelude.{◌≡◌, ◌+◌, ◌-◌, ◌<◌, ◌≤◌, ◌↔◌, [], ◌∷◌, ◌++◌, drop, length, replicate, slice_get};
+ghost use Rattle.std.specs.Prelude.{◌≡◌, ◌+◌, ◌-◌, ◌<◌, ◌≤◌, ◌↔◌, [], ◌∷◌, ◌++◌, drop, length, replicate, slice_get, take};
 ghost use Rattle.std.specs.Prelude.{IsTrue, IsNone, IfSome, IfOk};
 
 use circular_buffer::HeapCircularBuffer;
@@ -151,7 +150,8 @@ fn wrap(place: usize, capacity: usize) -> usize
 fn write_padded(bytes: &mut [u8], start: usize, frame: &[u8], total: usize)
     requires lies { start + total ≤ length bytes.old }
     requires fits { length frame.now ≤ total }
-    ensures { bytes.new ≡ with_bytes bytes.old start (frame.now ++ replicate (total - length frame.now) 0) }
+    ensures { bytes.new ≡ take start bytes.old ++ (frame.now ++ replicate (total - length frame.now) 0)
+        ++ drop (start + total) bytes.old }
 {
     let place = &mut bytes[start..start + total];
     place[..frame.len()].copy_from_slice(frame);

@@ -13,10 +13,10 @@ use Rattle.stations.specs.AtomicSteps.{AtomicStep}
 use Rattle.stations.specs.Outcomes.{OutcomeList}
 use Rattle.stations.specs.Stations.{StationState, world_at}
 use Rattle.stations.specs.declared.tick.Tick.{Tick}
-use Rattle.lent_bus.specs.AtomicRunLaws.{leads_join, past_join}
-use Rattle.lent_bus.specs.AtomicRuns.{LeadsTo, past_at}
-use Rattle.lent_bus.specs.Retelling.{Finished, Retells, world_here}
-use Rattle.lent_bus.specs.declared.lent_bus.LentBus.{LentBus}
+use Rattle.stations.specs.AtomicRunLaws.{leads_join, past_join}
+use Rattle.stations.specs.AtomicRuns.{LeadsTo, past_at}
+use Rattle.stations.specs.Retelling.{Finished, Retells, world_here}
+use Rattle.stations.specs.declared.lent_bus.LentBus.{LentBus}
 use Rattle.driver_law.proofs.Stretches.{work_kept}
 use Rattle.driver_law.specs.Stretches.{HasNoForgottenWork, IsRefilled}
 use Rattle.packet_socket.proofs.Stretches.{host-flows-join, host-happens}
@@ -97,16 +97,17 @@ whole-accesses k first last none =
 
 -- A call of which the lent bus tells, and the ticks that are left.
 pub call-runs_by : (a m b : LentBus) (past : Past) (h h' : HostState) (taken : List (List ℕ)) (given : List Given)
-    (accepted : List (List ℕ))
+    (accepted : List (List ℕ)) (made : List Access → Type 0)
     → a.accesses ≡ 0 → (told : Retells a m past) → HostFlowsTo true h (world_here a) h' (world_here m) taken given accepted past
-    → All (IsOfDriver h.driver.counts) past.accesses → OnlyLastWrites past.accesses
+    → All (IsOfDriver h.driver.counts) past.accesses → OnlyLastWrites past.accesses → made past.accesses
     → (HasNoForgottenWork h.driver (world_here a) → HasNoForgottenWork h'.driver (world_here m))
     → (IsRefilled h.driver → IsRefilled h'.driver)
     → (h.driver.staged ≡ [] → h'.driver.staged ≡ [])
     → (finished : Finished m b)
-    → ((runs : CallRuns a.host a.ticks.now a.stations.now b.stations.now a.outcomes.now b.outcomes.now b.accesses h h' taken given accepted)
+    → ((runs : CallRuns a.host a.ticks.now a.stations.now b.stations.now a.outcomes.now b.outcomes.now b.accesses h h' taken given accepted
+    made)
     × (runs.steps ≡ told.steps ++ finished.plays.steps))
-call-runs_by a m b past h h' taken given accepted zero told flows accesses writes work refilled offered finished =
+call-runs_by a m b past h h' taken given accepted made zero told flows accesses writes makes work refilled offered finished =
     let first = told.steps in
     let last = finished.plays.steps in
     let leads = leads_join a.host first last a.stations.now m.stations.now b.stations.now told.leads (finished.plays.leads a.host) in
@@ -126,6 +127,7 @@ call-runs_by a m b past h h' taken given accepted zero told flows accesses write
       offered = offered;
     }) flows work in
     let counts : h'.driver.counts ≡ h.driver.counts = flows.flows.counts in
+    let same_accesses = sym (whole-accesses a.host first last (none-alone a.host last finished.plays.are)) in
     let ready = ready-behind h (world_at a.stations.now a.host) h' (world_at m.stations.now a.host) taken given accepted
     (past_at a.host first) here.flows in
     let behind = runs-alone a.host last m.stations.now b.stations.now h' ready
@@ -151,23 +153,24 @@ call-runs_by a m b past h h' taken given accepted zero told flows accesses write
             (subst (λ (list : List (List ℕ)). HostRuns a.host (first ++ last) a.stations.now b.stations.now h h' (taken ++ []) (given ++ [])
             list) (append-nil accepted) whole));
         last_writes =
-            subst OnlyLastWrites
-            (sym (whole-accesses a.host first last (none-alone a.host last finished.plays.are)))
+            subst OnlyLastWrites same_accesses
             (subst (λ (p : Past). OnlyLastWrites p.accesses) told.past_is writes);
+        makes = subst made same_accesses (subst (λ (p : Past). made p.accesses) told.past_is makes);
       },
       refl,
     )
 
 pub call-runs : (a m b : LentBus) (past : Past) (h h' : HostState) (taken : List (List ℕ)) (given : List Given) (accepted : List (List ℕ))
+    (made : List Access → Type 0)
     → a.accesses ≡ 0 → Retells a m past → HostFlowsTo true h (world_here a) h' (world_here m) taken given accepted past
-    → All (IsOfDriver h.driver.counts) past.accesses → OnlyLastWrites past.accesses
+    → All (IsOfDriver h.driver.counts) past.accesses → OnlyLastWrites past.accesses → made past.accesses
     → (HasNoForgottenWork h.driver (world_here a) → HasNoForgottenWork h'.driver (world_here m))
     → (IsRefilled h.driver → IsRefilled h'.driver)
     → (h.driver.staged ≡ [] → h'.driver.staged ≡ [])
     → Finished m b
-    → CallRuns a.host a.ticks.now a.stations.now b.stations.now a.outcomes.now b.outcomes.now b.accesses h h' taken given accepted
-call-runs a m b past h h' taken given accepted zero told flows accesses writes work refilled offered finished =
-    (call-runs_by a m b past h h' taken given accepted zero told flows accesses writes work refilled offered finished).0
+    → CallRuns a.host a.ticks.now a.stations.now b.stations.now a.outcomes.now b.outcomes.now b.accesses h h' taken given accepted made
+call-runs a m b past h h' taken given accepted made zero told flows accesses writes makes work refilled offered finished =
+    (call-runs_by a m b past h h' taken given accepted made zero told flows accesses writes makes work refilled offered finished).0
 
 -- Every other host.
 pub others-run : (caller k : ℕ) (steps : List AtomicStep) (a b : List StationState) (h : HostState) → k ≢ caller
@@ -177,9 +180,11 @@ others-run caller k steps a b h other leads ready =
 
 -- What was lent comes back.
 pub call-back : (place : ℕ) (ticks : List Tick) (old new new' : List StationState) (before behind behind' : OutcomeList) (accesses : ℕ)
-    (h h' : HostState) (taken : List (List ℕ)) (given : List Given) (accepted : List (List ℕ)) → new' ≡ new → behind' ≡ behind
-    → CallRuns place ticks old new before behind accesses h h' taken given accepted
-    → CallRuns place ticks old new' before behind' accesses h h' taken given accepted
-call-back place ticks old new new' before behind behind' accesses h h' taken given accepted same noted runs =
-    subst (λ (stations : List StationState). CallRuns place ticks old stations before behind' accesses h h' taken given accepted) (sym same)
-    (subst (λ (list : OutcomeList). CallRuns place ticks old new before list accesses h h' taken given accepted) (sym noted) runs)
+    (h h' : HostState) (taken : List (List ℕ)) (given : List Given) (accepted : List (List ℕ)) (made : List Access → Type 0)
+    → new' ≡ new → behind' ≡ behind
+    → CallRuns place ticks old new before behind accesses h h' taken given accepted made
+    → CallRuns place ticks old new' before behind' accesses h h' taken given accepted made
+call-back place ticks old new new' before behind behind' accesses h h' taken given accepted made same noted runs =
+    subst (λ (stations : List StationState). CallRuns place ticks old stations before behind' accesses h h' taken given accepted made)
+    (sym same)
+    (subst (λ (list : OutcomeList). CallRuns place ticks old new before list accesses h h' taken given accepted made) (sym noted) runs)

@@ -11,8 +11,8 @@ use Rattle.bus.specs.declared.event.Event.{Event}
 use Rattle.bus.specs.declared.event.Event.TheVariants.{Accesses, Arrives, Steps}
 use Rattle.stations.specs.AtomicSteps.{At, AtomicStep, Idles, after}
 use Rattle.stations.specs.Stations.{StationState, world_at}
-use Rattle.lent_bus.proofs.HostTrails.{steps-alone, trail-of}
-use Rattle.lent_bus.specs.AtomicRuns.{IsOfCall, IsTick, LeadsTo, events_at, past_at}
+use Rattle.stations.proofs.HostTrails.{steps-alone, trail-of}
+use Rattle.stations.specs.AtomicRuns.{IsOfCall, IsTick, LeadsTo, events_at, past_at}
 use Rattle.solo_bus.proofs.SoloAccesses.{no_access}
 
 -- another host makes no access in a call

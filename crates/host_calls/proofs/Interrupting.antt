@@ -6,10 +6,12 @@ use Rattle.std.proofs.lemmas.List.Elements.{All-append}
 use Rattle.std.proofs.lemmas.List.Sums.{sum_by-cons}
 use Rattle.rx_filter.specs.Addresses.{ether_type}
 use Rattle.bus.specs.PastOfStretch.{joined}
+use Rattle.adapter.specs.declared.offsets.TheConstants.{ICR}
 use Rattle.bus.specs.declared.event.Access.{Access}
-use Rattle.lent_bus.specs.Retelling.{Finished, Retells, world_here}
-use Rattle.lent_bus.specs.RetellingLaws.{retells_join}
-use Rattle.lent_bus.specs.declared.lent_bus.LentBus.{LentBus}
+use Rattle.bus.specs.declared.event.Access.TheVariants.{Reads}
+use Rattle.stations.specs.Retelling.{Finished, Retells, world_here}
+use Rattle.stations.specs.RetellingLaws.{retells_join}
+use Rattle.stations.specs.declared.lent_bus.LentBus.{LentBus}
 use Rattle.driver_law.proofs.Places.{place-below}
 use Rattle.driver_law.specs.DriverState.{HandedOut, next_receive, numbers_of}
 use Rattle.driver_law.specs.Stretches.{IsRefilled}
@@ -25,11 +27,11 @@ use Rattle.packet_socket.specs.HostState.{HostState}
 use Rattle.packet_socket.specs.SocketKinds.{has_none}
 use Rattle.packet_socket.specs.SocketsState.{unclaimed_of}
 use Rattle.packet_socket.specs.declared.socket_kind.SocketKind.{SocketKind}
-use Rattle.host_calls.specs.CallAnswers.{InterruptRuns}
+use Rattle.host_calls.specs.CallAnswers.{InterruptRuns, MakesInterrupt}
 use Rattle.host_calls.specs.CallsOfHosts.{IsOfDriver, OnlyLastWrites}
 use Rattle.dma_memory.specs.Layout.{Counts}
-use Rattle.interrupt_causes.proofs.Answering.{calls-tell_causes, first-reads_stay}
-use Rattle.interrupt_causes.specs.InterruptCauses.{TellsCauses}
+use Rattle.host_calls.proofs.Answering.{calls-tell_causes, first-reads_stay}
+use Rattle.host_calls.specs.InterruptCauses.{TellsCauses}
 use Rattle.stations.specs.AtomicSteps.{AtomicStep}
 use Rattle.stations.specs.Outcomes.{OutcomeList}
 use Rattle.stations.specs.Stations.{StationState}
@@ -66,10 +68,11 @@ leaves-runs a m b h h' zero ready handles finished =
     let past = handles.reads.past in
     let only = handles.reads.only in
     let told = subst (λ (bus : LentBus). Retells a bus past) (sym leaves.leaves.still) handles.reads.told in
-    let made = call-runs_by a m b past h h' [] [] [] zero told leaves.flows
+    let made = call-runs_by a m b past h h' [] [] [] (MakesInterrupt NotMine h h') zero told leaves.flows
     (subst (λ (accesses : List Access). All (IsOfDriver h.driver.counts) accesses) (sym only)
     (causes-of_driver h.driver.counts handles.causes))
     (subst OnlyLastWrites (sym only) tt)
+    (handles.causes, only)
     leaves.leaves.work
     (subst (λ (host : HostState). IsRefilled h.driver → IsRefilled host.driver) (sym leaves.stays) (λ refilled. refilled))
     (subst (λ (host : HostState). h.driver.staged ≡ [] → host.driver.staged ≡ []) (sym leaves.stays) (λ offered. offered))
@@ -80,7 +83,7 @@ leaves-runs a m b h h' zero ready handles finished =
       causes = handles.causes;
       tells = tells-on a.host told.steps finished.plays.steps made.0.steps handles.causes (world_here a).adapter.causes.recorded NotMine
           (calls-tell_causes a m m h h' NotMine past [] ready handles told only) made.1;
-      answer = leaves.stays;
+      answer = record { stays = leaves.stays; none = refl };
     }
 
 works-runs : (a m b : LentBus) (h h' : HostState) (n : ℕ) → a.accesses ≡ 0 → HostReady h (world_here a) → IsRefilled h'.driver
@@ -98,13 +101,27 @@ works-runs a m b h h' n zero ready refilled offered handles finished =
     let driver_accesses = handles-of_driver own h.driver works.misses (numbers_of works.taken) works.rest works.offered
     (next_receive h'.driver) (subst (λ (c : Counts). next_receive h'.driver < c.rx) counts below) in
     let told = retells_join a handles.middle m past works.ran.past handles.reads.told works.ran.told in
-    let made = call-runs_by a m b (joined past works.ran.past) h h' (frames_taken works.taken) [] [] zero told works.flows
+    let made = call-runs_by a m b (joined past works.ran.past) h h' (frames_taken works.taken) [] []
+    (MakesInterrupt (answers.Handled n) h h') zero told works.flows
     (All-append (IsOfDriver own) past.accesses works.ran.past.accesses
     (subst (λ (accesses : List Access). All (IsOfDriver own) accesses) (sym only) (causes-of_driver own handles.causes))
     (subst (λ (accesses : List Access). All (IsOfDriver own) accesses) (sym works.ran.only) driver_accesses))
     (subst OnlyLastWrites (ap (λ (accesses : List Access). accesses ++ works.ran.past.accesses) (sym only))
     (subst OnlyLastWrites (sym works.ran.only)
     (handles-last h.driver works.misses (numbers_of works.taken) works.rest works.offered (next_receive h'.driver))))
+    (record {
+      causes = handles.causes;
+      misses = works.misses;
+      taken = numbers_of works.taken;
+      count = length-map works.taken (λ (one : HandedOut). one.number) ∙ works.count;
+      rest = works.rest;
+      oldest = works.oldest;
+      offered = works.offered;
+      newest = works.newest;
+      exact =
+          ap (λ (accesses : List Access). accesses ++ works.ran.past.accesses) only
+          ∙ ap (λ (accesses : List Access). Reads ICR handles.causes ∷ accesses) works.ran.only;
+    })
     (λ work. works.work work.enabled)
     (λ before. refilled) (λ before. offered) finished in
     record {

@@ -4,3 +4,14 @@ pub mod Calling
 pub mod Sending
 pub mod Receiving
 pub mod Interrupting
+pub mod FirstAccess
+pub mod QuietEvents
+pub mod SilentEvents
+pub mod Answering
+pub mod EarlyOutcomes
+pub mod SocketCounts
+pub mod QuietCalls
+pub mod JoinedSteps
+pub mod AdapterSteps
+pub mod CallSteps
+pub mod Endings

@@ -9,15 +9,15 @@ use Rattle.bus.proofs.Composition.{happens_none}
 use Rattle.bus.proofs.Lists.{all-none}
 use Rattle.bus.specs.PastOfStretch.{nothing}
 use Rattle.bus.specs.declared.event.Access.{Access}
-use Rattle.lent_bus.specs.Retelling.{Finished, Retells, world_here}
-use Rattle.lent_bus.specs.RetellingLaws.{retells_none}
-use Rattle.lent_bus.specs.declared.lent_bus.LentBus.{LentBus}
+use Rattle.stations.specs.Retelling.{Finished, Retells, world_here}
+use Rattle.stations.specs.RetellingLaws.{retells_none}
+use Rattle.stations.specs.declared.lent_bus.LentBus.{LentBus}
 use Rattle.driver_law.proofs.Places.{place-below}
 use Rattle.driver_law.specs.DriverState.{next_receive}
 use Rattle.driver_law.specs.Stretches.{IsRefilled}
 use Rattle.packet_socket.proofs.Stretches.{host-happens}
 use Rattle.packet_socket.specs.HeldFrames.{HostReady, waiting_frames}
-use Rattle.packet_socket.specs.HostCalls.{LeavesSome, Receives}
+use Rattle.packet_socket.specs.HostCalls.{LeavesSome, Receives, receive_accesses}
 use Rattle.packet_socket.specs.HostState.{HostState}
 use Rattle.packet_socket.specs.HostStretches.{HostGoesTo}
 use Rattle.packet_socket.specs.SocketsState.{queue_at}
@@ -25,16 +25,17 @@ use Rattle.packet_socket.specs.declared.receive.RecvError.{RecvError}
 use Rattle.packet_socket.specs.declared.receive.RecvError.TheVariants.{Empty, NoSocket}
 use Rattle.driver.specs.TakenFrames.{IsFrameSize}
 use Rattle.driver.specs.declared.receiver.Received.{Received}
-use Rattle.host_calls.specs.CallAnswers.{AnswersRecv, LeavesRecv, frame_in, given_by}
+use Rattle.host_calls.specs.CallAnswers.{AnswersRecv, LeavesRecv, MakesRecv, frame_in, given_by}
 use Rattle.host_calls.specs.CallsOfHosts.{CallRuns, IsOfDriver, OnlyLastWrites}
 use Rattle.host_calls.proofs.Calling.{call-runs, flows-of, work-goes}
 use Rattle.host_calls.proofs.DriversAccesses.{receives-last, receives-of_driver}
 
 pub recv-runs : (a m b : LentBus) (h h' : HostState) (socket size : ℕ) (bytes : List ℕ) → a.accesses ≡ 0 → HostReady h (world_here a)
-    → Receives true world_here Retells a m h h' socket size bytes → IsRefilled h'.driver → h'.driver.staged ≡ [] → Finished m b
+    → length bytes ≡ size → Receives true world_here Retells a m h h' socket size bytes → IsRefilled h'.driver → h'.driver.staged ≡ []
+    → Finished m b
     → CallRuns a.host a.ticks.now a.stations.now b.stations.now a.outcomes.now b.outcomes.now b.accesses h h' []
-    (given_by socket (Ok bytes)) []
-recv-runs a m b h h' socket size bytes zero ready receives refilled offered finished =
+    (given_by socket (Ok bytes)) [] (MakesRecv (Ok bytes) socket h h')
+recv-runs a m b h h' socket size bytes zero ready long receives refilled offered finished =
     let ran = receives.ran.ran in
     let given = given_by socket (Ok bytes) in
     let goes : HostGoesTo true h (world_here a) h' (world_here m) [] given [] ran.past =
@@ -43,12 +44,20 @@ recv-runs a m b h h' socket size bytes zero ready receives refilled offered fini
     let driver = ran.goes.flows.ready.driver_is in
     let below : next_receive h'.driver < h'.driver.counts.rx =
     place-below h'.driver.counts.rx h'.driver.oldest_receive (length h'.driver.buffers + length h'.driver.staged) driver.oldest_slot in
-    call-runs a m b ran.past h h' [] given [] zero ran.told (flows-of h (world_here a) h' (world_here m) [] given [] ran.past goes)
+    call-runs a m b ran.past h h' [] given [] (MakesRecv (Ok bytes) socket h h') zero ran.told (flows-of h (world_here a) h' (world_here m) [] given [] ran.past goes)
     (subst (λ (accesses : List Access). All (IsOfDriver h.driver.counts) accesses) (sym ran.only)
     (receives-of_driver h.driver.counts h.driver h'.driver receives.received.buffer size receives.offered
     (subst (λ (c : Rattle.dma_memory.specs.Layout.Counts). next_receive h'.driver < c.rx) counts below)))
     (subst OnlyLastWrites (sym ran.only)
     (receives-last h.driver h'.driver receives.received.buffer size receives.offered))
+    (record {
+      oldest = receives.received;
+      front = receives.leaves.oldest;
+      offered = receives.offered;
+      newest = receives.newest;
+      exact = ran.only
+          ∙ ap (λ (n : ℕ). receive_accesses h.driver h'.driver receives.received.buffer n receives.offered) (sym long);
+    })
     (work-goes h (world_here a) h' (world_here m) [] given [] ran.past goes)
     (λ before. refilled) (λ before. offered) finished
 
@@ -56,14 +65,14 @@ recv-runs a m b h h' socket size bytes zero ready receives refilled offered fini
 pub none-runs : (a m b : LentBus) (h h' : HostState) (socket : ℕ) (error : RecvError) → a.accesses ≡ 0 → HostReady h (world_here a)
     → m ≡ a → h' ≡ h → Finished m b
     → CallRuns a.host a.ticks.now a.stations.now b.stations.now a.outcomes.now b.outcomes.now b.accesses h h' []
-    (given_by socket (Err error)) []
+    (given_by socket (Err error)) [] (MakesRecv (Err error) socket h h')
 none-runs a m b h h' socket error zero ready same stays finished =
     let goes = host-happens h (world_here a) (world_here a) nothing ready (happens_none (world_here a)) in
     subst (λ (host : HostState). CallRuns a.host a.ticks.now a.stations.now b.stations.now a.outcomes.now b.outcomes.now b.accesses
-    h host [] [] [])
+    h host [] [] [] (λ (accesses : List Access). accesses ≡ []))
     (sym stays)
-    (call-runs a a b nothing h h [] [] [] zero (retells_none a) (flows-of h (world_here a) h (world_here a) [] [] [] nothing goes)
-    (all-none (IsOfDriver h.driver.counts)) tt (λ work. work) (λ refilled. refilled) (λ offered. offered)
+    (call-runs a a b nothing h h [] [] [] (λ (accesses : List Access). accesses ≡ []) zero (retells_none a) (flows-of h (world_here a) h (world_here a) [] [] [] nothing goes)
+    (all-none (IsOfDriver h.driver.counts)) tt refl (λ work. work) (λ refilled. refilled) (λ offered. offered)
     (subst (λ (bus : LentBus). Finished bus b) same finished))
 
 -- The answers.
@@ -120,11 +129,13 @@ err-answers result NoSocket socket h world is none empty =
 
 -- What it leaves of the host.
 
+front-long : (size : ℕ) (bytes : List ℕ) → size ≤ length bytes → length (take size bytes) ≡ size
+front-long size bytes fits = grind (arith, common_steps)
+
 pub ok-leaves : (h h' : HostState) (socket size accesses : ℕ) (bytes : List ℕ) → size ≤ length bytes → LeavesSome h h' socket size
     → LeavesRecv (Ok (take size bytes)) socket h h' accesses
 ok-leaves h h' socket size accesses bytes fits leaves =
-    let long : length (take size bytes) ≡ size = grind (arith, common_steps) in
-    subst (LeavesSome h h' socket) (sym long) leaves
+    subst (LeavesSome h h' socket) (sym (front-long size bytes fits)) leaves
 
 pub err-leaves : (a m b : LentBus) (h h' : HostState) (socket : ℕ) (error : RecvError) → a.accesses ≡ 0 → m ≡ a → h' ≡ h → Finished m b
     → LeavesRecv (Err error) socket h h' b.accesses
@@ -134,15 +145,16 @@ err-leaves a m b h h' socket error zero same stays finished =
 -- By the answer.
 
 pub any-runs : (a m b : LentBus) (h h' : HostState) (socket : ℕ) (result : Result ℕ RecvError) (into : List ℕ) → a.accesses ≡ 0
-    → HostReady h (world_here a)
+    → length into ≡ 1518 → IfOk result IsFrameSize → HostReady h (world_here a)
     → IfOk result (λ size. Receives true world_here Retells a m h h' socket size (take size into))
     → IfOk result (λ size. IsRefilled h'.driver) → IfOk result (λ size. h'.driver.staged ≡ [])
     → IfErr result (λ error. (m ≡ a) × (h' ≡ h)) → Finished m b
     → CallRuns a.host a.ticks.now a.stations.now b.stations.now a.outcomes.now b.outcomes.now b.accesses h h' []
-    (given_by socket (frame_in into result)) []
-any-runs a m b h h' socket (Ok size) into zero ready receives refilled offered unasked finished =
-    recv-runs a m b h h' socket size (take size into) zero ready receives refilled offered finished
-any-runs a m b h h' socket (Err error) into zero ready receives refilled offered unasked finished =
+    (given_by socket (frame_in into result)) [] (MakesRecv (frame_in into result) socket h h')
+any-runs a m b h h' socket (Ok size) into zero long sized ready receives refilled offered unasked finished =
+    recv-runs a m b h h' socket size (take size into) zero ready
+    (front-long size into (let most = sized.most in omega (arith, long, most))) receives refilled offered finished
+any-runs a m b h h' socket (Err error) into zero long sized ready receives refilled offered unasked finished =
     none-runs a m b h h' socket error zero ready unasked.0 unasked.1 finished
 
 pub any-answers : (a m : LentBus) (h h' : HostState) (socket : ℕ) (result : Result ℕ RecvError) (into : List ℕ)

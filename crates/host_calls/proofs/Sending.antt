@@ -1,41 +1,50 @@
 -- A host sends over a lent bus.
 use Rattle.std.proofs.Common.{◌≡◌, ◌<◌, ◌+◌, [], ℕ, true, List, length, refl, sym, ap, subst, ◌∙◌, arith}
 use Rattle.std.specs.List.{All}
-use Rattle.std.specs.Prelude.{Err, ◌↔◌}
+use Rattle.std.specs.Prelude.{Err, Ok, ◌↔◌}
 use Rattle.adapter.specs.HostFrames.{frames_to_send}
 use Rattle.adapter.specs.World.{World}
 use Rattle.bus.specs.declared.event.Access.{Access}
-use Rattle.lent_bus.specs.Retelling.{Finished, Retells, world_here}
-use Rattle.lent_bus.specs.declared.lent_bus.LentBus.{LentBus}
+use Rattle.stations.specs.Retelling.{Finished, Retells, world_here}
+use Rattle.stations.specs.declared.lent_bus.LentBus.{LentBus}
 use Rattle.driver_law.proofs.FramesCounted.{slots_have_frames}
 use Rattle.driver_law.specs.DriverState.{DriverState}
 use Rattle.driver_law.specs.Stretches.{IsRefilled}
-use Rattle.driver.specs.SendSteps.{Answer, IsAnswer, IsRefused, accepted_by, with_sending}
+use Rattle.driver.specs.SendSteps.{Answer, IsAnswer, IsRefused, accepted_by, accesses_by, with_sending}
 use Rattle.driver.specs.declared.transmit.SendError.TheVariants.{RingFull, TooLong, TooShort}
 use Rattle.packet_socket.specs.HeldFrames.{HostReady, driver_of}
 use Rattle.packet_socket.specs.HostCalls.{HostTransmits}
 use Rattle.packet_socket.specs.HostState.{HostState}
 use Rattle.packet_socket.specs.HostStretches.{HostGoesTo}
-use Rattle.host_calls.specs.CallAnswers.{AnswersSend, LeavesSend}
+use Rattle.host_calls.specs.CallAnswers.{AnswersSend, LeavesSend, MakesSend}
 use Rattle.host_calls.specs.CallsOfHosts.{CallRuns, IsOfDriver, OnlyLastWrites}
 use Rattle.host_calls.proofs.Calling.{call-runs, work-goes}
 use Rattle.host_calls.proofs.DriversAccesses.{sends-last, sends-of_driver}
+
+-- Its accesses don't depend on who holds frames.
+sends-as : (result : Answer) (h h' : HostState) (a b : World) (frame : List ℕ)
+    → accesses_by result (driver_of h a) (driver_of h' b) frame ≡ accesses_by result h.driver h'.driver frame
+sends-as (Ok u) h h' a b frame = refl
+sends-as (Err TooShort) h h' a b frame = refl
+sends-as (Err TooLong) h h' a b frame = refl
+sends-as (Err RingFull) h h' a b frame = refl
 
 pub send-runs : (a m b : LentBus) (h h' : HostState) (frame : List ℕ) (result : Answer) → a.accesses ≡ 0 → HostReady h (world_here a)
     → h' ≡ record h { driver = with_sending h.driver h'.driver.oldest_transmit h'.driver.sending }
     → HostTransmits world_here Retells a m h h' frame result → Finished m b
     → CallRuns a.host a.ticks.now a.stations.now b.stations.now a.outcomes.now b.outcomes.now b.accesses h h' [] []
-    (accepted_by result frame)
+    (accepted_by result frame) (MakesSend result frame h h')
 send-runs a m b h h' frame result zero ready others sent finished =
     let ran = sent.ran.ran in
     let goes : HostGoesTo true h (world_here a) h' (world_here m) [] [] (accepted_by result frame) ran.past =
     record { sizes = sent.ran.sizes; goes = ran.goes; accounts = sent.ran.accounts } in
     let some : 0 < h.driver.counts.tx = omega (arith, ready.ready.transmit.oldest_slot) in
-    call-runs a m b ran.past h h' [] [] (accepted_by result frame) zero ran.told
+    call-runs a m b ran.past h h' [] [] (accepted_by result frame) (MakesSend result frame h h') zero ran.told
     (record { sizes = sent.ran.sizes; flows = ran.goes.flows; accounts = sent.ran.accounts })
     (subst (λ (accesses : List Access). All (IsOfDriver h.driver.counts) accesses) (sym ran.only)
     (sends-of_driver h.driver.counts result (driver_of h (world_here a)) (driver_of h' (world_here m)) frame refl some))
     (subst OnlyLastWrites (sym ran.only) (sends-last result (driver_of h (world_here a)) (driver_of h' (world_here m)) frame))
+    (ran.only ∙ sends-as result h h' (world_here a) (world_here m) frame)
     (work-goes h (world_here a) h' (world_here m) [] [] (accepted_by result frame) ran.past goes)
     (λ refilled. subst (λ (host : HostState). IsRefilled host.driver) (sym others) refilled)
     (λ offered. subst (λ (host : HostState). host.driver.staged ≡ []) (sym others) offered)

@@ -1,26 +1,33 @@
--- What a call of a host answers (own).
-use Rattle.std.specs.Prelude.{⊤, ◌≡◌, ◌↔◌, ◌≤◌, ◌<◌, ◌+◌, ◌∷◌, [], ℕ, List, Result, Ok, Err, length, take}
+-- What a call of a host answers, and which accesses it makes (own).
+use Rattle.std.specs.Prelude.{⊤, ◌≡◌, ◌↔◌, ◌≤◌, ◌<◌, ◌+◌, ◌++◌, ◌∷◌, [], ℕ, List, Result, Ok, Err, length, take}
 use Rattle.dma_memory.specs.Layout.{Counts}
 use Rattle.descriptors.specs.Frames.{longest_frame, shortest_sent}
 use Rattle.adapter.specs.HostFrames.{frames_to_send}
 use Rattle.adapter.specs.Slots.{finished}
 use Rattle.adapter.specs.World.{World}
-use Rattle.driver.specs.SendSteps.{Answer, IsRefused, with_sending}
+use Rattle.adapter.specs.declared.offsets.TheConstants.{ICR}
+use Rattle.bus.specs.declared.event.Access.{Access}
+use Rattle.bus.specs.declared.event.Access.TheVariants.{Reads}
+use Rattle.driver_law.specs.DriverState.{next_receive}
+use Rattle.driver.specs.HandlerSteps.{handled_accesses}
+use Rattle.driver.specs.SendSteps.{Answer, IsRefused, accesses_by, with_sending}
 use Rattle.driver.specs.declared.transmit.SendError.TheVariants.{TooShort, TooLong, RingFull}
 use Rattle.driver.specs.TakenFrames.{GrowsBy}
 use Rattle.driver.specs.declared.interrupt.Handled.{Handled}
 use Rattle.driver.specs.declared.interrupt.Handled.TheVariants.{NotMine}
 use Rattle.driver.specs.declared.interrupt.Handled.TheVariants as answers
-use Rattle.packet_socket.specs.HostCalls.{LeavesSome}
+use Rattle.packet_socket.specs.HostCalls.{LeavesSome, receive_accesses}
 use Rattle.packet_socket.specs.HostState.{HostState}
 use Rattle.packet_socket.specs.HostStretches.{Given}
 use Rattle.packet_socket.specs.HeldFrames.{waiting_frames, without_socket}
+use Rattle.packet_socket.specs.SocketsState.{queue_at}
+use Rattle.driver.specs.declared.receiver.Received.{Received}
 use Rattle.packet_socket.specs.declared.receive.RecvError.{RecvError}
 use Rattle.packet_socket.specs.declared.receive.RecvError.TheVariants.{Empty, NoSocket}
 use Rattle.stations.specs.Outcomes.{OutcomeList}
 use Rattle.stations.specs.Stations.{StationState, world_at}
 use Rattle.stations.specs.declared.tick.Tick.{Tick}
-use Rattle.interrupt_causes.specs.InterruptCauses.{TellsCauses}
+use Rattle.host_calls.specs.InterruptCauses.{TellsCauses}
 use Rattle.host_calls.specs.CallsOfHosts.{CallRuns}
 
 -- Sending: too short exactly below 14 bytes, too long exactly above 1,518; the ring is full only where it had as many frames to send as it
@@ -71,16 +78,60 @@ pub record HandlesFrames (h h' : HostState) (world : World) (taken : List (List 
   pub least : length (finished h.driver.oldest_receive world) ≤ n
   pub unclaimed : GrowsBy h.unclaimed h'.unclaimed (without_socket h.kinds taken)
 
--- where none was this host's, nothing of it moved
+-- None was this host's: nothing of it moved, and no frame was taken.
+pub record HandlesNone (h h' : HostState) (taken : List (List ℕ)) : Type 0 where
+  pub stays : h' ≡ h
+  pub none : taken ≡ []
+
+-- by the answer
 abbrev pub AnswersInterrupt : Handled → (h h' : HostState) → World → (taken : List (List ℕ)) → Type 0
-AnswersInterrupt NotMine h h' world taken = h' ≡ h
+AnswersInterrupt NotMine h h' world taken = HandlesNone h h' taken
 AnswersInterrupt (answers.Handled n) h h' world taken = HandlesFrames h h' world taken n
+
+-- Which accesses a call makes.
+
+-- Sending, by the answer: none, for a frame that can't be sent; else the descriptor of each slot that is freed is loaded, and of the first
+-- that isn't; then, where there is a slot for the frame, it and its descriptor are stored, and TDT is written.
+abbrev pub MakesSend : Answer → (frame : List ℕ) → (h h' : HostState) → (accesses : List Access) → Type 0
+MakesSend result frame h h' accesses = accesses ≡ accesses_by result h.driver h'.driver frame
+
+-- Receiving a frame of this size: it is loaded from the buffer that was the oldest of the socket's queue; then slots are offered with these
+-- buffers.
+pub record MakesReceipt (socket size : ℕ) (h h' : HostState) (accesses : List Access) : Type 0 where
+  pub oldest : Received
+  pub front : queue_at h.queues socket ≡ oldest ∷ queue_at h'.queues socket
+  pub offered : List ℕ
+  pub newest : h'.driver.buffers ≡ h.driver.buffers ++ (h.driver.staged ++ offered)
+  pub exact : accesses ≡ receive_accesses h.driver h'.driver oldest.buffer size offered
+
+-- where none is given, no access is made
+abbrev pub MakesRecv : Result (List ℕ) RecvError → (socket : ℕ) → (h h' : HostState) → (accesses : List Access) → Type 0
+MakesRecv (Ok frame) socket h h' accesses = MakesReceipt socket (length frame) h h' accesses
+MakesRecv (Err error) socket h h' accesses = accesses ≡ []
+
+-- Handling an interrupt, so many slots were taken: ICR is read, then MPC; the slots of these buffers are taken, the oldest first, up to one
+-- that isn't finished; then slots are offered with these buffers.
+pub record MakesHandling (n : ℕ) (h h' : HostState) (accesses : List Access) : Type 0 where
+  pub causes : ℕ
+  pub misses : ℕ
+  pub taken : List ℕ
+  pub count : length taken ≡ n
+  pub rest : List ℕ
+  pub oldest : h.driver.buffers ≡ taken ++ rest
+  pub offered : List ℕ
+  pub newest : h'.driver.buffers ≡ rest ++ (h.driver.staged ++ offered)
+  pub exact : accesses ≡ Reads ICR causes ∷ handled_accesses h.driver misses taken rest offered (next_receive h'.driver)
+
+-- where none was this host's, ICR is read, and nothing else is done
+abbrev pub MakesInterrupt : Handled → (h h' : HostState) → (accesses : List Access) → Type 0
+MakesInterrupt NotMine h h' accesses = (causes : ℕ) × (accesses ≡ Reads ICR causes ∷ [])
+MakesInterrupt (answers.Handled n) h h' accesses = MakesHandling n h h' accesses
 
 pub record InterruptRuns (result : Handled) (caller : ℕ) (ticks : List Tick) (old new : List StationState) (before behind : OutcomeList)
     (accesses : ℕ) (h h' : HostState) : Type 0 where
   -- the frames that were taken off the receive ring
   pub taken : List (List ℕ)
-  pub runs : CallRuns caller ticks old new before behind accesses h h' taken [] []
+  pub runs : CallRuns caller ticks old new before behind accesses h h' taken [] [] (MakesInterrupt result h h')
   -- ICR was read first, and showed these causes: the answer is by those that were recorded when the call came, and by what was played
   -- before the read
   pub causes : ℕ

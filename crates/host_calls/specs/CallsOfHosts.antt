@@ -9,7 +9,7 @@ use Rattle.stations.specs.AtomicSteps.{AtomicStep, tick_of}
 use Rattle.stations.specs.Outcomes.{OutcomeList}
 use Rattle.stations.specs.Stations.{StationState, world_at}
 use Rattle.stations.specs.declared.tick.Tick.{Tick}
-use Rattle.lent_bus.specs.AtomicRuns.{LeadsTo, counted_of, is_go, noted_of, past_at}
+use Rattle.stations.specs.AtomicRuns.{LeadsTo, counted_of, is_go, noted_of, past_at}
 use Rattle.driver_law.specs.Stretches.{HasNoForgottenWork, IsRefilled}
 use Rattle.packet_socket.specs.HostState.{HostState}
 use Rattle.packet_socket.specs.HostStretches.{Given, HostFlowsTo}
@@ -57,10 +57,13 @@ pub record HostRuns (k : ℕ) (steps : List AtomicStep) (old new : List StationS
   -- no slot is staged and not offered
   pub offered : h.driver.staged ≡ [] → h'.driver.staged ≡ []
 
--- A call of a host: what it does, and what every other host finds.
+-- A call of a host: what it does, and what every other host finds. `made` says which accesses it makes, in order.
 pub record CallRuns (caller : ℕ) (ticks : List Tick) (old new : List StationState) (before behind : OutcomeList) (accesses : ℕ)
-    (h h' : HostState) (taken : List (List ℕ)) (given : List Given) (accepted : List (List ℕ)) : Type 0 where
+    (h h' : HostState) (taken : List (List ℕ)) (given : List Given) (accepted : List (List ℕ)) (made : List Access → Type 0)
+    : Type 0 where
   pub steps : List AtomicStep
   pub are_told : StepsAreTold caller ticks steps old new before behind accesses
   pub runs : HostRuns caller steps old new h h' taken given accepted
   pub last_writes : OnlyLastWrites (past_at caller steps).accesses
+  -- these are all accesses of the call, so how many they are is `accesses`
+  pub makes : made (past_at caller steps).accesses

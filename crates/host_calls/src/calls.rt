@@ -7,13 +7,12 @@ ghost use Rattle.stations.specs.Stations.{world_at};
 ghost use Rattle.packet_socket.specs.HeldFrames.{HostReady};
 ghost use Rattle.host_calls.specs.CallsOfHosts.{CallRuns};
 ghost use Rattle.host_calls.specs.CallAnswers.{AnswersRecv, AnswersSend, InterruptRuns, LeavesRecv, LeavesSend};
-ghost use Rattle.host_calls.specs.CallAnswers.{frame_in, given_by};
+ghost use Rattle.host_calls.specs.CallAnswers.{MakesRecv, MakesSend, frame_in, given_by};
 
 use descriptors::Frame;
 use driver::{Handled, SendError};
-use lent_bus::LentBus;
 use packet_socket::{Host, RecvError};
-use stations::{Outcomes, Station, Tick};
+use stations::{LentBus, Outcomes, Station, Tick};
 
 /// What a call answered, and how many accesses it made.
 #[derive(Debug, Drop)]
@@ -41,7 +40,8 @@ pub fn send(
     requires ready { HostReady host.old (world_at stations.old place) }
     requires room { length ticks.now ≤ outcomes.old.room }
     ensures runs { CallRuns place ticks.now stations.old stations.new outcomes.old outcomes.new result.accesses
-        host.old host.new [] [] (accepted_by result.answer frame.now) }
+        host.old host.new [] [] (accepted_by result.answer frame.now)
+        (MakesSend result.answer frame.now host.old host.new) }
     ensures answers { AnswersSend result.answer frame.now host.old.driver.counts (world_at stations.old place) }
     ensures leaves { LeavesSend result.answer host.old host.new result.accesses }
 {
@@ -79,7 +79,8 @@ pub fn recv_into(
     requires ready { HostReady host.old (world_at stations.old place) }
     requires room { length ticks.now ≤ outcomes.old.room }
     ensures runs { CallRuns place ticks.now stations.old stations.new outcomes.old outcomes.new result.accesses
-        host.old host.new [] (given_by socket (frame_in into.new result.answer)) [] }
+        host.old host.new [] (given_by socket (frame_in into.new result.answer)) []
+        (MakesRecv (frame_in into.new result.answer) socket host.old host.new) }
     ensures answers { AnswersRecv (frame_in into.new result.answer) socket host.old (world_at stations.old place) }
     ensures leaves { LeavesRecv (frame_in into.new result.answer) socket host.old host.new result.accesses }
     ensures size { IfOk result.answer IsFrameSize }
@@ -116,7 +117,8 @@ pub fn recv(
     requires ready { HostReady host.old (world_at stations.old place) }
     requires room { length ticks.now ≤ outcomes.old.room }
     ensures runs { CallRuns place ticks.now stations.old stations.new outcomes.old outcomes.new result.accesses
-        host.old host.new [] (given_by socket result.answer) [] }
+        host.old host.new [] (given_by socket result.answer) []
+        (MakesRecv result.answer socket host.old host.new) }
     ensures answers { AnswersRecv result.answer socket host.old (world_at stations.old place) }
     ensures leaves { LeavesRecv result.answer socket host.old host.new result.accesses }
 {

@@ -1,6 +1,13 @@
-//! Calls of one host over stations that are lent to it, with the ticks that are played inside them.
+//! Calls of one host over stations that are lent to it, with the ticks that are played inside them; draining a host,
+//! until nothing is held for its sockets; and what the answer of an interrupt handler tells.
 #![tactic(auto)]
 
 mod calls;
+mod causes_law;
+mod draining;
+mod outlet;
 
 pub use calls::{Called, interrupt, recv, recv_into, send};
+pub use causes_law::answers_tell_causes;
+pub use draining::drain;
+pub use outlet::Outlet;

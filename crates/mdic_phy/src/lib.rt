@@ -15,8 +15,3 @@ pub use laws::{
 };
 pub use mdic::{Mdic, Operation, Ticked};
 pub use phy::{Link, Negotiation, Phy};
-
-#[cfg(test)]
-mod readme;
-#[cfg(test)]
-mod tests;

@@ -2,15 +2,14 @@
 use Rattle.std.specs.Prelude.{ℕ}
 use Rattle.adapter_server.specs.Statuses as server
 use Rattle.pcap_bench.specs.ProgramErrors as program
-use Rattle.scenario.specs.declared.refusal.Refusal.TheVariants as refusals
+use Rattle.scenario.specs.Statuses as refusals
 use Rattle.scenario_bench.specs.Errors as bench
 use Rattle.nicbench.specs.declared.fault.Fault.{Fault}
 use Rattle.nicbench.specs.declared.fault.Fault.TheVariants as faults
 
 abbrev pub status_of : Fault → ℕ
 status_of (faults.Program error) = program.status_of error
-status_of (faults.Scenario (refusals.Line line fault)) = 1
-status_of (faults.Scenario refusals.Memory) = 4
+status_of (faults.Scenario refusal) = refusals.status_of refusal
 status_of (faults.Bench error) = bench.status_of error
 status_of (faults.Serve error) = server.status_of error
 status_of faults.Memory = 4

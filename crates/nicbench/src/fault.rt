@@ -10,9 +10,6 @@ use scenario_bench::BenchError;
 use std::alloc::{AllocError, AllocFailed};
 use thiserror::Error;
 
-/// The exit status where a scenario was refused.
-const REFUSED: u8 = 1;
-
 /// The exit status where memory was refused.
 const NO_MEMORY: u8 = 4;
 
@@ -43,8 +40,7 @@ impl Fault {
     {
         match self {
             Fault::Program(error) => error.status(),
-            Fault::Scenario(Refusal::Line { .. }) => REFUSED,
-            Fault::Scenario(Refusal::Memory) => NO_MEMORY,
+            Fault::Scenario(refusal) => refusal.status(),
             Fault::Bench(error) => error.status(),
             Fault::Serve(error) => error.status(),
             Fault::Memory => NO_MEMORY,

@@ -18,8 +18,3 @@ pub use laws::sets_of_places;
 pub use receive_control::{GroupOffset, Rctl};
 pub use statistics::Counter;
 pub use transmit_control::Tctl;
-
-#[cfg(test)]
-mod readme;
-#[cfg(test)]
-mod tests;

@@ -17,8 +17,3 @@ pub use data::{Data, rx_data};
 pub use done::{Done, rx_done};
 pub use engine::{MOST_FRAMES, RxEngine, Work};
 pub use laws::frames_held_by_the_receive_engine;
-
-#[cfg(test)]
-mod readme;
-#[cfg(test)]
-mod tests;

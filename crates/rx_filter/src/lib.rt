@@ -12,8 +12,3 @@ pub use address::{AddressWords, hash_of};
 pub use filter::{EXACT_ADDRESSES, Filter, TABLE_WORDS, VLAN_TYPE};
 pub use laws::sets_of_registers;
 pub use table::TableBit;
-
-#[cfg(test)]
-mod readme;
-#[cfg(test)]
-mod tests;

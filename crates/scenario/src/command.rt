@@ -1,7 +1,6 @@
 // What a text says.
 
-use network_events::Event;
-use network_plan::Plan;
+use network_plan::{Event, Plan};
 
 /// What is to be done.
 #[derive(Debug, Drop)]

@@ -16,8 +16,7 @@ use crate::refusal::{Fault, Stop};
 use crate::spelling::{frame_of, number_of, number32_of};
 use crate::text::{call_words, tick_words, word_at};
 use crate::tick_word::{host_named, is_tick, tick_of};
-use network_events::Event;
-use network_plan::HostPlan;
+use network_plan::{Event, HostPlan};
 use stations::Tick;
 use std::alloc::{AllocError, Global};
 

@@ -6,6 +6,12 @@ ghost use Rattle.scenario.specs.declared.refusal.Stop.TheVariants as stop;
 use std::alloc::{AllocError, AllocFailed};
 use thiserror::Error;
 
+/// The exit status of a program whose input is refused.
+const REFUSED: u8 = 1;
+
+/// The exit status of a program that got no memory.
+const NO_MEMORY: u8 = 4;
+
 /// What is wrong with a line. Of several faults the first in this order is told, but that [`Long`](Fault::Long) and
 /// then [`Text`](Fault::Text) come before all others.
 #[derive(Clone, Copy, Debug, PartialEq, Eq, Error)]
@@ -48,6 +54,20 @@ pub enum Refusal {
     /// Memory was refused.
     #[error("E57 Memory")]
     Memory,
+}
+
+impl Refusal {
+    ghost use Rattle.scenario.specs.Statuses.{status_of};
+
+    /// The exit status of a program that ends for this refusal: 1 for a line that is faulty, 4 for want of memory.
+    pub fn status(&self) -> u8
+        ensures { result ≡ status_of self.now }
+    {
+        match self {
+            Refusal::Line { .. } => REFUSED,
+            Refusal::Memory => NO_MEMORY,
+        }
+    }
 }
 
 /// Why a line wasn't read.

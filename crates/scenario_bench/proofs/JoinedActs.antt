@@ -8,8 +8,8 @@ use Rattle.packet_socket.specs.HostStretches.{Given as GivenFrame}
 use Rattle.stations.specs.Stations.{wire_at, world_at}
 use Rattle.delivery.proofs.Waiting.{wires-stay}
 use Rattle.delivery.specs.Happenings.{Happening}
-use Rattle.network_events.specs.declared.event.Event.{Event}
-use Rattle.network_events.specs.declared.reply.Reply.{Reply}
+use Rattle.network_plan.specs.declared.event.Event.{Event}
+use Rattle.network_plan.specs.declared.reply.Reply.{Reply}
 use Rattle.scenario.specs.SoFar.{Said, event_of}
 use Rattle.wire.specs.DrainedNetworks.{NetworkDrains, said_of_drain}
 use Rattle.wire.specs.Equations.{Delivers}

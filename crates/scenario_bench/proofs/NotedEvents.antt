@@ -6,11 +6,11 @@ use Rattle.std.proofs.lemmas.Grind.{flat_map-append}
 use Rattle.std.proofs.lemmas.List.Sums.{fold-append}
 use Rattle.pcap_trace.specs.Format.{Timed}
 use Rattle.delivery.specs.Happenings.{Given, Happening, given, given_by, told, told_alone, told_of}
-use Rattle.network_events.specs.declared.event.Event.{Event}
-use Rattle.network_events.specs.declared.event.Event.TheVariants as event
-use Rattle.network_events.specs.declared.reply.Answer.{Answer}
-use Rattle.network_events.specs.declared.reply.Answer.TheVariants as answer
-use Rattle.network_events.specs.declared.reply.Reply.{Reply}
+use Rattle.network_plan.specs.declared.event.Event.{Event}
+use Rattle.network_plan.specs.declared.event.Event.TheVariants as event
+use Rattle.network_plan.specs.declared.reply.Answer.{Answer}
+use Rattle.network_plan.specs.declared.reply.Answer.TheVariants as answer
+use Rattle.network_plan.specs.declared.reply.Reply.{Reply}
 use Rattle.stations.specs.declared.outcomes.Numbered.{Numbered}
 use Rattle.stations.specs.declared.tick.Outcome.{Outcome}
 use Rattle.stations.specs.declared.tick.Outcome.TheVariants as outcome

@@ -10,12 +10,12 @@ use Rattle.std.proofs.lemmas.List.{map-append}
 use Rattle.std.proofs.lemmas.Option.{slice_get-map, slice_get_past}
 use Rattle.std.specs.Prelude.{unwrap_or}
 use Rattle.pcap_trace.specs.declared.trace.Trace.{Trace}
-use Rattle.network_events.specs.declared.event.Event.TheVariants as event
+use Rattle.network_plan.specs.declared.event.Event.TheVariants as event
 use Rattle.scenario.specs.declared.command.Command.{Command}
 use Rattle.scenario.specs.declared.command.Command.TheVariants as command
 use Rattle.scenario_bench.specs.EventLists.{all_events, behind_send, event_drawn, events_of, fed, words_drawn, words_from}
-use Rattle.network_events.specs.declared.event.Event.{Event}
-use Rattle.network_events.specs.declared.reply.Reply.{Reply}
+use Rattle.network_plan.specs.declared.event.Event.{Event}
+use Rattle.network_plan.specs.declared.reply.Reply.{Reply}
 use Rattle.stations.specs.Stations.{world_at}
 use Rattle.wire.specs.DrainedNetworks.{NetworkDrains}
 use Rattle.wire.specs.Runs.{RunsTo}

@@ -5,8 +5,8 @@ use Rattle.packet_socket.specs.HostState.{HostState}
 use Rattle.packet_socket.specs.HostStretches.{Given as GivenFrame}
 use Rattle.stations.specs.Stations.{world_at}
 use Rattle.delivery.specs.Happenings.{Happening}
-use Rattle.network_events.specs.declared.event.Event.{Event}
-use Rattle.network_events.specs.declared.reply.Reply.{Reply}
+use Rattle.network_plan.specs.declared.event.Event.{Event}
+use Rattle.network_plan.specs.declared.reply.Reply.{Reply}
 use Rattle.wire.specs.DrainedNetworks.{NetworkDrains, said_of_drain}
 use Rattle.wire.specs.Equations.{Delivers}
 use Rattle.wire.specs.Networks.{IsHost, NetworkState}

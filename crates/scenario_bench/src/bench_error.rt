@@ -3,8 +3,7 @@ ghost use Rattle.std.specs.Prelude.{◌≡◌};
 ghost use Rattle.scenario_bench.specs.Errors.{status_of};
 ghost use Rattle.scenario_bench.specs.declared.bench_error.BenchError.TheVariants as errors;
 
-use network_events::Stopped;
-use network_plan::PlanError;
+use network_plan::{PlanError, Stopped};
 use pcap_trace::WriteError;
 use std::alloc::AllocError;
 use thiserror::Error;

@@ -7,8 +7,7 @@ ghost use Rattle.stations.specs.declared.tick.Tick.TheVariants as ticks;
 
 use adapter::StepKind;
 use eeprom::Image;
-use network_events::Event;
-use network_plan::HostPlan;
+use network_plan::{Event, HostPlan};
 use stations::Tick;
 use std::alloc::{AllocError, Global};
 

@@ -19,8 +19,7 @@ use crate::drained::DrainedFrames;
 use crate::events::{behind_send, drawn, send};
 use crate::record::Record;
 use crate::summary::{HostSummary, Summary};
-use network_events::{Event, Reply};
-use network_plan::{HostPlan, Plan};
+use network_plan::{Event, HostPlan, Plan, Reply};
 use pcap_trace::{RecordWriter, Sink, Trace, WriteError};
 use rand_core::SeedableRng;
 use rand_core::utils::NextWord;
@@ -249,6 +248,7 @@ pub fn bench<W: Sink>(
     traces: &[Trace],
     sinks: &mut [W],
 ) -> Result<Summary, BenchError>
+    requires traces { length traces.now ≡ length scenario.now.traces.items }
     requires sinks { length sinks.old ≡ length (sockets_from 0 (hosts_of scenario.now.plan.hosts.items)) }
     requires countable { All (λ (sink : W). W.failures sink < u64.MAX) sinks.old }
     ensures ok { IfOk result (λ summary. Benches scenario.now (map frames_of traces.now) summary

@@ -14,8 +14,7 @@ use crate::drained::DrainedFrame;
 use crate::given::GivenFrames;
 use crate::tally::{Passage, Tally};
 use adapter::Fate;
-use network_events::{Answer, Event, Reply};
-use network_plan::HostPlan;
+use network_plan::{Answer, Event, HostPlan, Reply};
 use stations::{Numbered, Outcome, Tick};
 use std::alloc::{AllocError, Global};
 

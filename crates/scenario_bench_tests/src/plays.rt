@@ -119,6 +119,7 @@ fn play(
     };
     let places = sockets(alloc, scenario.plan.hosts.as_slice())?;
     let mut sinks = sinks_of(alloc, places.len(), failing)?;
+    assert!(rt; traces.len() == scenario.trace_names().len());
     assert!(rt; sinks.len() == places.len());
     assert!(rt; sinks.iter().all(|sink| sink.failures < u64::MAX));
     let told = match bench(alloc, &scenario, traces, sinks.as_mut_slice()) {

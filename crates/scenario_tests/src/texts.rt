@@ -2,7 +2,7 @@
 
 use adapter::StepKind;
 use mdic_phy::Link;
-use network_events::Event;
+use network_plan::Event;
 use packet_socket::SocketKind;
 use scenario::{Command, Fault, Refusal, Scenario};
 use stations::Tick;

@@ -3,3 +3,8 @@ pub mod StationView
 pub mod FrameRoom
 pub mod Outcomes
 pub mod AtomicSteps
+pub mod AtomicRuns
+pub mod AtomicRunLaws
+pub mod PlayedTicks
+pub mod Retelling
+pub mod RetellingLaws

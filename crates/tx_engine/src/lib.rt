@@ -17,8 +17,3 @@ pub use engine::{PACKET_BUFFER_FRAMES, TxEngine};
 pub use laws::frames_to_be_sent;
 pub use putting::put;
 pub use taking::take;
-
-#[cfg(test)]
-mod readme;
-#[cfg(test)]
-mod tests;

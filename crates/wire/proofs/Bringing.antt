@@ -3,7 +3,7 @@ use Rattle.std.proofs.Common.{List, length, sym, ap, subst, ◌∙◌, arith}
 use Rattle.std.proofs.lemmas.Option.{slice_get_within}
 use Rattle.circular_buffer.proofs.Places.{slice_get-some}
 use Rattle.adapter.specs.World.{World}
-use Rattle.network_hosts.specs.HostsUp.{AreUp}
+use Rattle.wire.specs.HostsUp.{AreUp}
 use Rattle.network_plan.specs.declared.plan.HostPlan.{HostPlan}
 use Rattle.packet_socket.specs.HostState.{HostState}
 use Rattle.stations.specs.Stations.{StationState, world_of}

@@ -18,7 +18,7 @@ use Rattle.bus.specs.declared.event.Access.TheVariants.{Loads, Reads, Stores, Wr
 use Rattle.dma_memory.specs.Layout.{Counts}
 use Rattle.stations.specs.AtomicSteps.{AtomicStep}
 use Rattle.stations.specs.Stations.{StationState, backlog_at, wire_at, world_at}
-use Rattle.lent_bus.specs.AtomicRuns.{LeadsTo, past_at}
+use Rattle.stations.specs.AtomicRuns.{LeadsTo, past_at}
 use Rattle.packet_socket.specs.HeldFrames.{held_for_socket, socket_frames, without_socket}
 use Rattle.packet_socket.specs.HostState.{HostState}
 use Rattle.packet_socket.specs.HostStretches.{Given, given_for}

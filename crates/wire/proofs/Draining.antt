@@ -11,7 +11,7 @@ use Rattle.packet_socket.specs.HostStretches.{Given}
 use Rattle.stations.specs.AtomicSteps.{AtomicStep}
 use Rattle.stations.specs.Stations.{StationState, wire_at, world_at, world_of}
 use Rattle.delivery.specs.Happenings.{Happening, Moved, happened_in, of_host}
-use Rattle.host_drain.specs.DrainedHosts.{CanBeDrained, Drains, DrainsInto, KeepsMisses}
+use Rattle.host_calls.specs.DrainedHosts.{CanBeDrained, Drains, DrainsInto, KeepsMisses}
 use Rattle.wire.specs.DrainedNetworks.{NetworkDrains, said_of_drain}
 use Rattle.wire.specs.Equations.{Delivers, IsExact, counted, sum_of}
 use Rattle.wire.specs.Networks.{HostStands, IsHost, NetworkStands, NetworkState}

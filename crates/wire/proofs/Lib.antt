@@ -8,3 +8,8 @@ pub mod Telling
 pub mod Taking
 pub mod Bringing
 pub mod Draining
+pub mod OwnTicks
+pub mod ArrivalsAlone
+pub mod PlansFilters
+pub mod HostsUp
+pub mod AllHosts

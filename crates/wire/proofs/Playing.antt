@@ -6,6 +6,7 @@ use Rattle.std.specs.List.{All}
 use Rattle.std.proofs.lemmas.List.{length-set}
 use Rattle.std.proofs.lemmas.Option.{slice_get_past}
 use Rattle.bus.specs.TickGroups.{without_go}
+use Rattle.bus.specs.declared.event.Access.{Access}
 use Rattle.circular_buffer.proofs.Places.{slice_get-set_other}
 use Rattle.packet_socket.specs.HostState.{HostState}
 use Rattle.packet_socket.specs.HostStretches.{Given}
@@ -14,13 +15,13 @@ use Rattle.stations.specs.Outcomes.{OutcomeList}
 use Rattle.stations.specs.Stations.{StationState, wire_at}
 use Rattle.stations.specs.declared.outcomes.Numbered.{Numbered}
 use Rattle.stations.specs.declared.tick.Tick.{Tick}
-use Rattle.lent_bus.specs.AtomicRuns.{is_go, noted_of, past_at}
-use Rattle.lent_bus.specs.PlayedTicks.{PlaysTicks}
+use Rattle.stations.specs.AtomicRuns.{is_go, noted_of, past_at}
+use Rattle.stations.specs.PlayedTicks.{PlaysTicks}
 use Rattle.delivery.proofs.Laws.{outcomes-tell}
 use Rattle.delivery.specs.Happenings.{Happening, happened_in, of_host, told}
-use Rattle.network_events.specs.declared.reply.Answer.{Answer}
-use Rattle.network_events.specs.declared.reply.Answer.TheVariants.{NoHost}
-use Rattle.network_events.specs.declared.reply.Reply.{Reply}
+use Rattle.network_plan.specs.declared.reply.Answer.{Answer}
+use Rattle.network_plan.specs.declared.reply.Answer.TheVariants.{NoHost}
+use Rattle.network_plan.specs.declared.reply.Reply.{Reply}
 use Rattle.host_calls.proofs.Calling.{runs-alone}
 use Rattle.host_calls.proofs.HostTrails.{happens-alone, none-alone}
 use Rattle.host_calls.specs.CallsOfHosts.{CallRuns, HostRuns, IsOfDriver}
@@ -32,12 +33,13 @@ use Rattle.wire.proofs.Tellings.{tells-call}
 
 -- What the call of a host that is there tells of all hosts.
 pub call-goes : (caller : ℕ) (ticks : List Tick) (old : NetworkState) (stations : List StationState) (before behind : OutcomeList)
-    (accesses : ℕ) (h h' : HostState) (taken : List (List ℕ)) (given : List Given) (accepted : List (List ℕ)) (happened : List Happening)
+    (accesses : ℕ) (h h' : HostState) (taken : List (List ℕ)) (given : List Given) (accepted : List (List ℕ)) (made : List Access → Type 0)
+    (happened : List Happening)
     → NetworkStands old → IsHost old caller h
-    → (runs : CallRuns caller ticks old.stations stations before behind accesses h h' taken given accepted)
+    → (runs : CallRuns caller ticks old.stations stations before behind accesses h h' taken given accepted made)
     → ((k : ℕ) → Tells k happened runs.steps (wire_at old.stations) (of_host k caller given) (of_host k caller accepted))
     → HostsGo caller happened runs.steps old (record { hosts = slice_set old.hosts caller h'; stations = stations })
-call-goes caller ticks old stations before behind accesses h h' taken given accepted happened stands there runs tells =
+call-goes caller ticks old stations before behind accesses h h' taken given accepted made happened stands there runs tells =
     hosts-go caller happened runs.steps old (record { hosts = slice_set old.hosts caller h'; stations = stations })
     (λ k. of_host k caller taken) (λ k. of_host k caller given) (λ k. of_host k caller accepted) stands runs.are_told.leads
     (length-set old.hosts caller h')
@@ -48,16 +50,17 @@ call-goes caller ticks old stations before behind accesses h h' taken given acce
 
 -- It answers, and its outcomes are numbered.
 pub call-played : (caller : ℕ) (ticks : List Tick) (old : NetworkState) (stations : List StationState) (before behind : OutcomeList)
-    (h h' : HostState) (taken : List (List ℕ)) (given : List Given) (accepted : List (List ℕ)) (happened : List Happening) (reply : Reply)
+    (h h' : HostState) (taken : List (List ℕ)) (given : List Given) (accepted : List (List ℕ)) (made : List Access → Type 0)
+    (happened : List Happening) (reply : Reply)
     (answers : Answer → (h h' : HostState) → List AtomicStep → (old new : List StationState) → Type 0)
     → NetworkStands old → IsHost old caller h → caller < length old.hosts → before.list ≡ [] → reply.outcomes ≡ behind
     → reply.answer ≢ NoHost
-    → (runs : CallRuns caller ticks old.stations stations before behind reply.accesses h h' taken given accepted)
+    → (runs : CallRuns caller ticks old.stations stations before behind reply.accesses h h' taken given accepted made)
     → ((k : ℕ) → told ticks reply.outcomes.list ≡ happened_in runs.steps
     → Tells k happened runs.steps (wire_at old.stations) (of_host k caller given) (of_host k caller accepted))
     → answers reply.answer h h' runs.steps old.stations stations
     → CallPlayed caller ticks happened reply answers old (record { hosts = slice_set old.hosts caller h'; stations = stations })
-call-played caller ticks old stations before behind h h' taken given accepted happened reply answers stands there below empty same
+call-played caller ticks old stations before behind h h' taken given accepted made happened reply answers stands there below empty same
     some runs tells answer =
     let noted : reply.outcomes.list ≡ noted_of 0 runs.steps =
     ap (λ (list : OutcomeList). list.list) same ∙ runs.are_told.noted ∙ ap
@@ -65,7 +68,7 @@ call-played caller ticks old stations before behind h h' taken given accepted ha
     let said : told ticks reply.outcomes.list ≡ happened_in runs.steps = ap (told ticks) noted ∙ runs.are_told.said in
     record {
       steps = runs.steps;
-      go = call-goes caller ticks old stations before behind reply.accesses h h' taken given accepted happened stands there runs
+      go = call-goes caller ticks old stations before behind reply.accesses h h' taken given accepted made happened stands there runs
           (λ k. tells k said);
       played = runs.are_told.played;
       counted = runs.are_told.counted;
@@ -75,6 +78,7 @@ call-played caller ticks old stations before behind h h' taken given accepted ha
                 runs.runs.accesses,
             runs.last_writes,
           );
+      unmade = λ past. absurd (omega (arith, past, below));
       outcomes = noted;
       numbered = ap Rattle.delivery.specs.TickNumbers.numbers_of noted ∙ runs.are_told.numbered;
       no_host = (λ none. absurd (some none), λ low. absurd (omega (arith, low, below)));
@@ -89,8 +93,8 @@ call-played caller ticks old stations before behind h h' taken given accepted ha
 -- Ticks that are played in no call.
 
 ticks-run : (k : ℕ) (steps : List AtomicStep) (old : NetworkState) (stations : List StationState) (was is : HostState) → NetworkStands old
-    → All Rattle.lent_bus.specs.AtomicRuns.IsTick steps
-    → Rattle.lent_bus.specs.AtomicRuns.LeadsTo k steps old.stations stations → slice_get old.hosts k ≡ Some was
+    → All Rattle.stations.specs.AtomicRuns.IsTick steps
+    → Rattle.stations.specs.AtomicRuns.LeadsTo k steps old.stations stations → slice_get old.hosts k ≡ Some was
     → slice_get old.hosts k ≡ Some is → HostRuns k steps old.stations stations was is [] [] []
 ticks-run k steps old stations was is stands are leads then now =
     let same : is ≡ was = let e : Some was ≡ Some is = sym then ∙ now in cc in
@@ -99,8 +103,8 @@ ticks-run k steps old stations was is stands are leads then now =
     (happens-alone k k steps old.stations stations are leads) (none-alone k steps are))
 
 pub ticks-go : (caller : ℕ) (happened : List Happening) (steps : List AtomicStep) (old : NetworkState) (stations : List StationState)
-    → NetworkStands old → All Rattle.lent_bus.specs.AtomicRuns.IsTick steps
-    → ((k : ℕ) → Rattle.lent_bus.specs.AtomicRuns.LeadsTo k steps old.stations stations)
+    → NetworkStands old → All Rattle.stations.specs.AtomicRuns.IsTick steps
+    → ((k : ℕ) → Rattle.stations.specs.AtomicRuns.LeadsTo k steps old.stations stations)
     → ((k : ℕ) → Tells k happened steps (wire_at old.stations) [] [])
     → HostsGo caller happened steps old (record { hosts = old.hosts; stations = stations })
 ticks-go caller happened steps old stations stands are leads tells =
@@ -131,6 +135,7 @@ absent-played caller ticks old stations before reply happened answers stands pas
       counted = zero ∙ sym tells.counted;
       accesses = λ was then. absurd (let gone = slice_get_past old.hosts caller past in
           let e : Some was ≡ None = sym then ∙ gone in cc);
+      unmade = λ past. none-alone caller plays.steps plays.are;
       outcomes = noted;
       numbered =
           ap Rattle.delivery.specs.TickNumbers.numbers_of noted ∙ sym tells.numbered

@@ -10,9 +10,9 @@ use Rattle.stations.specs.declared.tick.Tick.{Tick}
 use Rattle.delivery.proofs.Waiting.{wires-stay}
 use Rattle.delivery.specs.Happenings.{Happening, told, told_alone}
 use Rattle.host_calls.proofs.HostTrails.{none-alone}
-use Rattle.network_events.specs.declared.event.Event.{Event}
-use Rattle.network_events.specs.declared.event.Event.TheVariants.{Interrupt, Recv, Send, Tick as Alone}
-use Rattle.network_events.specs.declared.reply.Reply.{Reply}
+use Rattle.network_plan.specs.declared.event.Event.{Event}
+use Rattle.network_plan.specs.declared.event.Event.TheVariants.{Interrupt, Recv, Send, Tick as Alone}
+use Rattle.network_plan.specs.declared.reply.Reply.{Reply}
 use Rattle.wire.specs.EventParts.{CallPlayed, IsInterruptAnswer, IsRecvAnswer, IsSendAnswer, TickPlayed}
 use Rattle.wire.specs.Equations.{Delivers}
 use Rattle.wire.specs.Networks.{NetworkStands, NetworkState}
@@ -52,6 +52,7 @@ tick-event old stations tick reply stands played =
       leads = go.leads;
       played = played.played;
       accesses = λ was then. none-alone 0 played.steps played.are;
+      unmade = λ past. none-alone 0 played.steps played.are;
       counted = played.counted;
       outcomes = played.outcomes;
       numbered = played.numbered;
@@ -62,6 +63,7 @@ tick-event old stations tick reply stands played =
       delivers = go.delivers;
       ticks = go.ticks;
       absent = go.absent;
+      counts = go.counts;
       stands = go.stands;
     }
 

@@ -20,8 +20,8 @@ use Rattle.bus.specs.declared.event.Access.{Access}
 use Rattle.bus.specs.declared.event.Access.TheVariants.{Loads, Reads, Stores, Writes}
 use Rattle.stations.specs.AtomicSteps.{AtomicStep}
 use Rattle.stations.specs.Stations.{StationState, wire_at, world_at}
-use Rattle.lent_bus.proofs.HostTrails.{trail-of}
-use Rattle.lent_bus.specs.AtomicRuns.{LeadsTo, events_at, past_at}
+use Rattle.stations.proofs.HostTrails.{trail-of}
+use Rattle.stations.specs.AtomicRuns.{LeadsTo, events_at, past_at}
 use Rattle.driver_law.proofs.FramesCounted.{slots_have_frames}
 use Rattle.driver_law.specs.Stretches.{HasNoForgottenWork, IsRefilled}
 use Rattle.packet_socket.specs.HeldFrames.{HostReady, driver_of}
@@ -29,10 +29,10 @@ use Rattle.packet_socket.specs.HostState.{HostState}
 use Rattle.packet_socket.specs.HostStretches.{Given}
 use Rattle.delivery.proofs.Waiting.{length-stays}
 use Rattle.delivery.specs.Happenings.{Happening, of_host}
-use Rattle.step_answers.proofs.HostSteps.{trail-goes}
-use Rattle.step_answers.proofs.Ticks.{absent-nothing, ticks-answered}
-use Rattle.step_answers.specs.Counts.{tail_of}
-use Rattle.step_answers.specs.CountedHosts.{CanAnswer, IsCounted, IsCountedWrite}
+use Rattle.delivery.proofs.HostSteps.{trail-goes}
+use Rattle.delivery.proofs.Ticks.{absent-nothing, counts-go, ticks-answered}
+use Rattle.delivery.specs.Counts.{tail_of}
+use Rattle.delivery.specs.CountedHosts.{CanAnswer, CanBeCounted, IsCounted, IsCountedWrite}
 use Rattle.host_calls.proofs.Calling.{others-run, ready-behind}
 use Rattle.host_calls.specs.CallsOfHosts.{HostRuns, IsOfDriver, IsTailWrite}
 use Rattle.wire.specs.EventParts.{HostsGo}
@@ -151,6 +151,14 @@ each-runs caller k steps a b hosts h h' was is taken given accepted leads there 
           (others-run caller k steps a b was differ.1 leads ready))
     ]
 
+-- A host that stands can be counted over accesses of its driver.
+can-count : (k : ℕ) (steps : List AtomicStep) (a : List StationState) (h : HostState) → HostStands h (world_at a k)
+    → All (IsOfDriver h.driver.counts) (past_at k steps).accesses → CanBeCounted k steps a
+can-count k steps a h stands accesses = record {
+  can = stands.can;
+  accesses = all-counted h (world_at a k) (past_at k steps).accesses stands.ready accesses;
+}
+
 -- So all hosts go by the equations, and stand.
 pub hosts-go : (caller : ℕ) (happened : List Happening) (steps : List AtomicStep) (old new : NetworkState)
     (taken : ℕ → List (List ℕ)) (given : ℕ → List Given) (accepted : ℕ → List (List ℕ))
@@ -172,11 +180,12 @@ hosts-go caller happened steps old new taken given accepted stands leads same ru
       let behind = ready-behind was (world_at old.stations k) some.0 (world_at new.stations k) (taken k) (given k) (accepted k)
       (past_at k steps) run.flows in
       ticks-answered caller k steps old.stations new.stations leads
-      (record {
-        can = stood.can;
-        accesses = all-counted was (world_at old.stations k) (past_at k steps).accesses stood.ready run.accesses;
-      })
+      (can-count k steps old.stations was stood run.accesses)
       (record { receiver = behind.ready.runs.receiver_runs; transmitter = behind.ready.runs.transmitter_runs });
+  counts = λ k was there.
+      let some = slice_get-some new.hosts k (let below = slice_get_within old.hosts k was there in omega (arith, below, same)) in
+      counts-go caller k steps old.stations new.stations leads
+      (can-count k steps old.stations was (stands.each k was there) (runs k was some.0 there some.1).accesses);
   absent = λ k past.
       absent-nothing caller k steps old.stations new.stations leads
       (slice_get_past old.stations k (let length_same = stands.same in omega (arith, past, length_same)));

@@ -6,7 +6,7 @@ use Rattle.rx_filter.specs.Addresses.{ether_type}
 use Rattle.adapter.specs.HostFrames.{frames_held}
 use Rattle.stations.specs.AtomicSteps.{AtomicStep}
 use Rattle.stations.specs.Stations.{StationState, world_at}
-use Rattle.lent_bus.specs.AtomicRuns.{past_at}
+use Rattle.stations.specs.AtomicRuns.{past_at}
 use Rattle.packet_socket.specs.HeldFrames.{socket_frames, waiting_frames}
 use Rattle.packet_socket.specs.HostState.{HostState}
 use Rattle.packet_socket.specs.SocketKinds.{goes_to}

@@ -8,9 +8,9 @@ use Rattle.stations.specs.Stations.{StationState}
 use Rattle.stations.specs.declared.tick.Tick.{Tick}
 use Rattle.delivery.proofs.Waiting.{length-stays}
 use Rattle.delivery.specs.Happenings.{Happening, told}
-use Rattle.network_events.specs.declared.event.Event.{Event}
-use Rattle.network_events.specs.declared.event.Event.TheVariants.{Interrupt, Recv, Send, Tick as Alone}
-use Rattle.network_events.specs.declared.reply.Reply.{Reply}
+use Rattle.network_plan.specs.declared.event.Event.{Event}
+use Rattle.network_plan.specs.declared.event.Event.TheVariants.{Interrupt, Recv, Send, Tick as Alone}
+use Rattle.network_plan.specs.declared.reply.Reply.{Reply}
 use Rattle.wire.specs.EventParts.{CallPlayed, HostsGo, IsInterruptAnswer, IsRecvAnswer, IsSendAnswer, TickPlayed}
 use Rattle.wire.specs.Networks.{NetworkStands, NetworkState}
 use Rattle.wire.specs.Runs.{EventRuns, accepted_of, given_of}

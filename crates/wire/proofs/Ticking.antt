@@ -12,12 +12,12 @@ use Rattle.stations.specs.declared.tick.Outcome.{Outcome}
 use Rattle.stations.specs.declared.tick.Outcome.TheVariants.{Nothing}
 use Rattle.stations.specs.declared.tick.Tick.{Tick}
 use Rattle.stations.specs.declared.tick.Tick.TheVariants.{Deliver, Go, Step}
-use Rattle.lent_bus.specs.AtomicRuns.{IsTick, counted_of, is_go, noted_of}
+use Rattle.stations.specs.AtomicRuns.{IsTick, counted_of, is_go, noted_of}
 use Rattle.delivery.proofs.Telling.{leads-alone, said-alone}
 use Rattle.delivery.specs.Happenings.{told_alone}
 use Rattle.delivery.specs.TickNumbers.{numbers_of}
-use Rattle.network_events.specs.declared.reply.Answer.TheVariants.{Ticked}
-use Rattle.network_events.specs.declared.reply.Reply.{Reply}
+use Rattle.network_plan.specs.declared.reply.Answer.TheVariants.{Ticked}
+use Rattle.network_plan.specs.declared.reply.Reply.{Reply}
 use Rattle.wire.specs.EventParts.{AreOutcomesAlone, TickPlayed}
 
 noted-tick : (step : AtomicStep) → IsTick step → noted_of 0 (step ∷ []) ≡ record { accesses = 0; outcome = outcome_of step } ∷ []

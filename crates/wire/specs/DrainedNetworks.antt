@@ -4,7 +4,7 @@ use Rattle.packet_socket.specs.HostState.{HostState}
 use Rattle.packet_socket.specs.HostStretches.{Given as GivenFrame}
 use Rattle.stations.specs.Stations.{world_at}
 use Rattle.delivery.specs.Happenings.{Given, Happening, Moved}
-use Rattle.host_drain.specs.DrainedHosts.{Drains}
+use Rattle.host_calls.specs.DrainedHosts.{Drains}
 use Rattle.wire.specs.Equations.{Delivers, IsExact, counted}
 use Rattle.wire.specs.Networks.{IsHost, NetworkStands, NetworkState}
 

@@ -12,17 +12,19 @@ use Rattle.stations.specs.declared.outcomes.Numbered.{Numbered}
 use Rattle.stations.specs.declared.tick.Outcome.TheVariants.{Nothing}
 use Rattle.stations.specs.declared.tick.Tick.{Tick}
 use Rattle.stations.specs.declared.tick.Tick.TheVariants.{Deliver, Go, Step}
-use Rattle.lent_bus.specs.AtomicRuns.{IsTick, LeadsTo, counted_of, is_go, noted_of, past_at}
+use Rattle.stations.specs.AtomicRuns.{IsTick, LeadsTo, counted_of, is_go, noted_of, past_at}
 use Rattle.delivery.specs.Happenings.{Happening, happened_in, told_alone}
 use Rattle.delivery.specs.TickNumbers.{numbers, numbers_of}
-use Rattle.network_events.specs.declared.reply.Answer.{Answer}
-use Rattle.network_events.specs.declared.reply.Answer.TheVariants.{Interrupted, NoHost, Received, Sent, Ticked}
-use Rattle.network_events.specs.declared.reply.Reply.{Reply}
+use Rattle.network_plan.specs.declared.reply.Answer.{Answer}
+use Rattle.network_plan.specs.declared.reply.Answer.TheVariants.{Interrupted, NoHost, Received, Sent, Ticked}
+use Rattle.network_plan.specs.declared.reply.Reply.{Reply}
 use Rattle.packet_socket.specs.HeldFrames.{socket_frames, waiting_frames}
-use Rattle.interrupt_causes.specs.InterruptCauses.{TellsCauses}
+use Rattle.host_calls.specs.InterruptCauses.{TellsCauses}
 use Rattle.host_calls.specs.CallsOfHosts.{IsOfDriver, OnlyLastWrites}
 use Rattle.host_calls.specs.CallAnswers.{AnswersInterrupt, AnswersRecv, AnswersSend, LeavesRecv, LeavesSend}
-use Rattle.step_answers.specs.StepAnswers.{AreAnswered, OfEachTick}
+use Rattle.host_calls.specs.CallAnswers.{MakesInterrupt, MakesRecv, MakesSend}
+use Rattle.delivery.specs.Counts.{counts_of}
+use Rattle.delivery.specs.StepAnswers.{AreAnswered, OfEachTick, counts_at}
 use Rattle.wire.specs.Equations.{Delivers}
 use Rattle.wire.specs.Networks.{IsHost, NetworkStands, NetworkState}
 
@@ -34,20 +36,30 @@ pub record HostsGo (caller : ℕ) (happened : List Happening) (steps : List Atom
   -- each tick is answered by what is counted at the start, with the outcomes before it applied; a host that isn't there has nothing to do
   pub ticks : (k : ℕ) (h : HostState) → IsHost old k h → AreAnswered k old.stations steps
   pub absent : (k : ℕ) → length old.hosts ≤ k → OfEachTick k steps (λ before tick outcome. outcome ≡ Nothing)
+  -- what is counted at the end is what was at the start, with all outcomes applied
+  pub counts : (k : ℕ) (h : HostState) → IsHost old k h
+      → counts_of (world_at new.stations k).adapter ≡ counts_at old.stations steps k
   pub stands : NetworkStands new
 
 -- What is answered where the host is there.
 
-abbrev pub IsSendAnswer : (host : ℕ) (frame : List ℕ) → Answer → (h h' : HostState) → List AtomicStep → (old new : List StationState)
-    → Type 0
-IsSendAnswer host frame answer h h' steps old new =
-    (result : SendAnswer) × (answer ≡ Sent result) × AnswersSend result frame h.driver.counts (world_at old host)
-    × LeavesSend result h h' (counted_of 0 steps)
+pub record IsSendAnswer (host : ℕ) (frame : List ℕ) (answer : Answer) (h h' : HostState) (steps : List AtomicStep)
+    (old new : List StationState) : Type 0 where
+  pub result : SendAnswer
+  pub is : answer ≡ Sent result
+  pub answers : AnswersSend result frame h.driver.counts (world_at old host)
+  pub leaves : LeavesSend result h h' (counted_of 0 steps)
+  -- the accesses of its driver are just these, in order
+  pub makes : MakesSend result frame h h' (past_at host steps).accesses
 
-abbrev pub IsRecvAnswer : (host socket : ℕ) → Answer → (h h' : HostState) → List AtomicStep → (old new : List StationState) → Type 0
-IsRecvAnswer host socket answer h h' steps old new =
-    (result : Result (List ℕ) RecvError) × (answer ≡ Received result) × AnswersRecv result socket h (world_at old host)
-    × LeavesRecv result socket h h' (counted_of 0 steps)
+pub record IsRecvAnswer (host socket : ℕ) (answer : Answer) (h h' : HostState) (steps : List AtomicStep) (old new : List StationState)
+    : Type 0 where
+  pub result : Result (List ℕ) RecvError
+  pub is : answer ≡ Received result
+  pub answers : AnswersRecv result socket h (world_at old host)
+  pub leaves : LeavesRecv result socket h h' (counted_of 0 steps)
+  -- the accesses of its driver are just these, in order
+  pub makes : MakesRecv result socket h h' (past_at host steps).accesses
 
 -- The frames taken are those that left the front of what the host held, and each socket's queue grew at its end by its part of them.
 pub record TakesFrames (host : ℕ) (steps : List AtomicStep) (h h' : HostState) (old new : List StationState) (taken : List (List ℕ))
@@ -57,11 +69,18 @@ pub record TakesFrames (host : ℕ) (steps : List AtomicStep) (h h' : HostState)
   pub queues : (socket : ℕ) → waiting_frames h' socket (world_at new host)
       ≡ waiting_frames h socket (world_at old host) ++ socket_frames h.kinds socket taken
 
-abbrev pub IsInterruptAnswer : (host : ℕ) → Answer → (h h' : HostState) → List AtomicStep → (old new : List StationState) → Type 0
-IsInterruptAnswer host answer h h' steps old new =
-    (result : Handled) × (answer ≡ Interrupted result)
-    × ((causes : ℕ) × TellsCauses host steps causes (world_at old host).adapter.causes.recorded result)
-    × ((taken : List (List ℕ)) × AnswersInterrupt result h h' (world_at old host) taken × TakesFrames host steps h h' old new taken)
+pub record IsInterruptAnswer (host : ℕ) (answer : Answer) (h h' : HostState) (steps : List AtomicStep) (old new : List StationState)
+    : Type 0 where
+  pub result : Handled
+  pub is : answer ≡ Interrupted result
+  pub causes : ℕ
+  pub tells : TellsCauses host steps causes (world_at old host).adapter.causes.recorded result
+  -- the frames that were taken off the receive ring: none, where the answer is NotMine
+  pub taken : List (List ℕ)
+  pub answers : AnswersInterrupt result h h' (world_at old host) taken
+  pub takes : TakesFrames host steps h h' old new taken
+  -- the accesses of its driver are just these, in order
+  pub makes : MakesInterrupt result h h' (past_at host steps).accesses
 
 -- A call was made, with its ticks: this is said of it, and so it answers.
 pub record CallPlayed (host : ℕ) (ticks : List Tick) (happened : List Happening) (reply : Reply)
@@ -74,6 +93,7 @@ pub record CallPlayed (host : ℕ) (ticks : List Tick) (happened : List Happenin
   pub counted : reply.accesses ≡ counted_of 0 steps
   pub accesses : (h : HostState) → IsHost old host h
       → All (IsOfDriver h.driver.counts) (past_at host steps).accesses × OnlyLastWrites (past_at host steps).accesses
+  pub unmade : length old.hosts ≤ host → (past_at host steps).accesses ≡ []
   pub outcomes : reply.outcomes.list ≡ noted_of 0 steps
   pub numbered : numbers_of reply.outcomes.list ≡ numbers ticks 0 reply.accesses
   pub no_host : reply.answer ≡ NoHost ↔ (length old.hosts ≤ host)

@@ -1,7 +1,7 @@
 -- The law of runs.
 use Rattle.std.specs.Prelude.{◌++◌, List}
-use Rattle.network_events.specs.declared.event.Event.{Event}
-use Rattle.network_events.specs.declared.reply.Reply.{Reply}
+use Rattle.network_plan.specs.declared.event.Event.{Event}
+use Rattle.network_plan.specs.declared.reply.Reply.{Reply}
 use Rattle.wire.specs.Networks.{NetworkState}
 use Rattle.wire.specs.Runs.{RunsTo}
 

@@ -7,3 +7,5 @@ pub mod LanView
 pub mod Counting
 pub mod NewNetworks
 pub mod Laws
+pub mod Filters
+pub mod HostsUp

@@ -9,7 +9,7 @@ use Rattle.driver_law.specs.Stretches.{HasNoForgottenWork, IsRefilled}
 use Rattle.packet_socket.specs.HeldFrames.{HostReady, driver_of}
 use Rattle.packet_socket.specs.HostState.{HostState}
 use Rattle.stations.specs.Stations.{StationState, world_at}
-use Rattle.step_answers.specs.CountedHosts.{CanAnswer}
+use Rattle.delivery.specs.CountedHosts.{CanAnswer}
 use Rattle.wire.specs.Equations.{IsExact, counted}
 
 -- Hosts are numbered from 0; the k-th station is the k-th host's.

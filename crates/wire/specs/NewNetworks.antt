@@ -1,6 +1,6 @@
 -- A network that was made by a plan (own).
 use Rattle.std.specs.Prelude.{List, Err, Ok, Result, length}
-use Rattle.network_hosts.specs.HostsUp.{AreUp, IsNotUp, ShareWires}
+use Rattle.wire.specs.HostsUp.{AreUp, IsNotUp, ShareWires}
 use Rattle.network_plan.specs.Plans.{IsPlanAnswer}
 use Rattle.network_plan.specs.declared.plan.HostPlan.{HostPlan}
 use Rattle.network_plan.specs.declared.plan_error.PlanError.{PlanError}

@@ -5,19 +5,20 @@ use Rattle.dma_memory.specs.Layout.{Counts}
 use Rattle.bus.specs.TickGroups.{without_go}
 use Rattle.bus.specs.declared.event.Access.{Access}
 use Rattle.stations.specs.AtomicSteps.{AtomicStep, tick_of}
-use Rattle.stations.specs.Stations.{StationState}
+use Rattle.stations.specs.Stations.{StationState, world_at}
 use Rattle.stations.specs.declared.outcomes.Numbered.{Numbered}
 use Rattle.stations.specs.declared.tick.Outcome.TheVariants.{Nothing}
 use Rattle.stations.specs.declared.tick.Tick.{Tick}
-use Rattle.lent_bus.specs.AtomicRuns.{LeadsTo, counted_of, is_go, noted_of, past_at}
+use Rattle.stations.specs.AtomicRuns.{LeadsTo, counted_of, is_go, noted_of, past_at}
 use Rattle.delivery.specs.Happenings.{Accepted, Given, Happening, told, told_alone}
 use Rattle.delivery.specs.TickNumbers.{numbers, numbers_of}
-use Rattle.network_events.specs.declared.event.Event.{Event}
-use Rattle.network_events.specs.declared.event.Event.TheVariants.{Interrupt, Recv, Send, Tick as Alone}
-use Rattle.network_events.specs.declared.reply.Answer.{Answer}
-use Rattle.network_events.specs.declared.reply.Answer.TheVariants.{NoHost, Received, Sent, Ticked}
-use Rattle.network_events.specs.declared.reply.Reply.{Reply}
-use Rattle.step_answers.specs.StepAnswers.{AreAnswered, OfEachTick}
+use Rattle.network_plan.specs.declared.event.Event.{Event}
+use Rattle.network_plan.specs.declared.event.Event.TheVariants.{Interrupt, Recv, Send, Tick as Alone}
+use Rattle.network_plan.specs.declared.reply.Answer.{Answer}
+use Rattle.network_plan.specs.declared.reply.Answer.TheVariants.{NoHost, Received, Sent, Ticked}
+use Rattle.network_plan.specs.declared.reply.Reply.{Reply}
+use Rattle.delivery.specs.Counts.{counts_of}
+use Rattle.delivery.specs.StepAnswers.{AreAnswered, OfEachTick, counts_at}
 use Rattle.host_calls.specs.CallsOfHosts.{IsOfDriver, OnlyLastWrites}
 use Rattle.wire.specs.Equations.{Delivers}
 use Rattle.wire.specs.EventParts.{AreOutcomesAlone, IsInterruptAnswer, IsRecvAnswer, IsSendAnswer}
@@ -121,6 +122,9 @@ pub record EventRuns (old : NetworkState) (event : Event) (reply : Reply) (new :
   pub played : without_go is_go (map tick_of steps) ≡ ticks_of event
   pub accesses : (h : HostState) → IsHost old (caller_of event) h
       → AreAccessesOf event h.driver.counts (past_at (caller_of event) steps).accesses
+  -- a call for a host that isn't there makes none
+  pub unmade : length old.hosts ≤ caller_of event → (past_at (caller_of event) steps).accesses ≡ []
+  -- The reply tells how many accesses were made. Which they are, `answer` says, by what was answered.
   pub counted : reply.accesses ≡ counted_of 0 steps
   pub outcomes : AreOutcomesOf event steps reply.outcomes.list
   pub numbered : IsNumbered event reply
@@ -134,6 +138,10 @@ pub record EventRuns (old : NetworkState) (event : Event) (reply : Reply) (new :
   -- each tick is answered by what is counted at the start, with the outcomes before it applied; a host that isn't there has nothing to do
   pub ticks : (k : ℕ) (h : HostState) → IsHost old k h → AreAnswered k old.stations steps
   pub absent : (k : ℕ) → length old.hosts ≤ k → OfEachTick k steps (λ before tick outcome. outcome ≡ Nothing)
+  -- So the numbers of frames in packet buffers and in work change as the outcomes count them: those at the end are those at the start, with
+  -- all outcomes applied.
+  pub counts : (k : ℕ) (h : HostState) → IsHost old k h
+      → counts_of (world_at new.stations k).adapter ≡ counts_at old.stations steps k
   -- behind it each host stands: one owner, no forgotten work, refilled
   pub stands : NetworkStands new
 

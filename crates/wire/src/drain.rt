@@ -1,29 +1,36 @@
 // A host of a network is drained.
 
 ghost use Rattle.std.specs.Prelude.{◌≡◌, ◌≤◌, ◌+◌, length};
+ghost use Rattle.host_calls.specs.DrainedHosts.{count_held};
 ghost use Rattle.packet_socket.specs.HostState.{HostState};
+ghost use Rattle.stations.specs.Stations.{world_at};
 ghost use Rattle.wire.specs.DrainedNetworks.{NetworkDrains};
 ghost use Rattle.wire.specs.Networks.{IsHost, NetworkStands};
 
 use crate::Lan;
-use host_drain::Outlet;
+use host_calls::Outlet;
 use packet_socket::Host;
-use stations::{Outcomes, Station};
+use stations::{Outcomes, Station, line_at};
 
 /// How many frames a receive packet buffer has room for, at most.
 const MOST_BUFFERED: usize = 24;
 
 impl Lan {
     /// For how many frames a [`drain`](Lan::drain) of a host needs room: its receive buffers and what its packet buffer
-    /// may hold, 24; none where the host isn't there.
+    /// may hold, 24; none where the host isn't there. So many frames are the most that it holds for its sockets.
     pub fn drain_room(&self, host: usize) -> usize
         ensures there { (state : HostState) → IsHost self.now host state → result ≡ state.driver.counts.buffers + 24 }
+        ensures enough { (state : HostState) → IsHost self.now host state
+            → count_held state (world_at self.now.stations host) ≤ result }
         ensures none { length self.now.hosts ≤ host → result ≡ 0 }
     {
-        match self.hosts.get(host) {
-            Some(one) => usize::from(one.layout().buffers()) + MOST_BUFFERED,
-            None => 0,
+        let hosts = self.hosts.as_slice();
+        if host >= hosts.len() {
+            return 0;
         }
+        // A look at the adapter, so that the frames that are held may be counted as those of every adapter.
+        let _line = line_at(self.stations.as_slice(), host);
+        usize::from(hosts[host].layout().buffers()) + MOST_BUFFERED
     }
 
     /// Drains a host: gives all that it holds for its sockets to `sink`, each frame with its socket's number, and
@@ -64,5 +71,5 @@ fn drain<S: Outlet>(
         return 0;
     }
     let mut outcomes = outcomes;
-    host_drain::drain(&mut hosts[host], stations, host, &mut outcomes, sink)
+    host_calls::drain(&mut hosts[host], stations, host, &mut outcomes, sink)
 }

@@ -5,18 +5,17 @@ ghost use Rattle.driver.specs.TakenFrames.{IsFrameSize};
 ghost use Rattle.host_calls.specs.CallAnswers.{frame_in};
 ghost use Rattle.bus.specs.TickGroups.{without_go};
 ghost use Rattle.delivery.specs.Happenings.{told};
-ghost use Rattle.lent_bus.specs.AtomicRuns.{is_go};
-ghost use Rattle.lent_bus.specs.PlayedTicks.{PlaysTicks};
-ghost use Rattle.network_events.specs.declared.reply.Answer.TheVariants.{NoHost};
+ghost use Rattle.stations.specs.AtomicRuns.{is_go};
+ghost use Rattle.stations.specs.PlayedTicks.{PlaysTicks};
+ghost use Rattle.network_plan.specs.declared.reply.Answer.TheVariants.{NoHost};
 ghost use Rattle.wire.specs.EventParts.{CallPlayed, IsInterruptAnswer, IsRecvAnswer, IsSendAnswer, TickPlayed};
 ghost use Rattle.wire.specs.Networks.{NetworkStands};
 ghost use Rattle.wire.specs.Runs.{accepted_of, given_of};
 
 use host_calls::recv_into;
-use lent_bus::play_rest;
-use network_events::{Answer, Reply};
+use network_plan::{Answer, Reply};
 use packet_socket::{Host, RecvError};
-use stations::{HeapFrame, Outcome, Outcomes, Station, Tick, play};
+use stations::{HeapFrame, Outcome, Outcomes, Station, Tick, play, play_rest};
 
 /// A call for a host that isn't there: its ticks are played.
 fn no_host(stations: &mut [Station], ticks: &[Tick], outcomes: Outcomes) -> Reply

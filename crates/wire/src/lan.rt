@@ -1,7 +1,7 @@
 // Hosts on wires.
 
 use crate::events::{self, FrameRoom};
-use network_events::{Event, Reply, Stopped};
+use network_plan::{Event, Reply, Stopped};
 use packet_socket::Host;
 use stations::{HeapFrame, Outcomes, Station};
 use std::alloc::{AllocError, Global};

@@ -1,15 +1,20 @@
-//! Hosts on wires, and runs of calls, interrupts, adapter steps and deliveries over them, interleaved at every access.
+//! Hosts on wires, each brought up by its plan, and runs of calls, interrupts, adapter steps and deliveries over them,
+//! interleaved at every access.
 #![tactic(auto)]
 
 mod counts;
 mod drain;
 mod events;
+mod host;
+mod hosts;
 mod lan;
 mod law;
 mod new;
 
 pub use counts::Counts;
-pub use host_drain::Outlet;
+pub use host::bring_up_host;
+pub use host_calls::Outlet;
+pub use hosts::bring_up;
 pub use lan::Lan;
 pub use law::runs_join;
-pub use network_events::{Answer, Event, Reply, Stopped};
+pub use network_plan::{Answer, Event, Reply, Stopped};

@@ -3,7 +3,7 @@
 ghost use Rattle.wire.specs.NewNetworks.{IsLanAnswer};
 
 use crate::Lan;
-use network_hosts::bring_up;
+use crate::hosts::bring_up;
 use network_plan::{Plan, PlanError};
 use std::alloc::Global;
 

@@ -6,8 +6,6 @@ mod drain_tests;
 #[cfg(test)]
 mod memory_tests;
 #[cfg(test)]
-mod network_tests;
-#[cfg(test)]
 mod outlet;
 #[cfg(test)]
 mod plans;

@@ -13,14 +13,8 @@ use std::alloc::{AllocError, Global};
 pub(crate) enum Change {
     /// Nothing.
     None,
-    /// A packet buffer with so many kilobytes for frames from the wire.
-    Rxa(u8),
     /// So many receive descriptors.
     Rx(u16),
-    /// A group.
-    Group([u8; 6]),
-    /// A VLAN whose frames pass, and no other.
-    Vlan(u16),
     /// These sockets.
     Sockets(&'static [SocketKind]),
     /// When its link comes up.
@@ -85,16 +79,7 @@ fn host_plan(alloc: Global, name: &str, host: u8) -> Result<HostPlan, AllocError
 fn apply(alloc: Global, change: Change, plan: &mut HostPlan) -> Result<(), AllocError> {
     match change {
         Change::None => {}
-        Change::Rxa(kilobytes) => plan.config.rxa = kilobytes,
         Change::Rx(descriptors) => plan.config.rx = descriptors,
-        Change::Group(group) => {
-            let _ = plan.config.groups.try_push(group);
-        }
-        Change::Vlan(vlan) => {
-            let mut vlans = ArrayVec::new();
-            let _ = vlans.try_push(vlan);
-            plan.config.vlans = Some(vlans);
-        }
         Change::Sockets(kinds) => plan.sockets = table_of(kinds),
         Change::Link(link) => plan.link = link,
         Change::Address(address) => plan.image = Image::with_address(address),

@@ -10,13 +10,11 @@ use bus::Bus;
 use dma_memory::HostMemory;
 use driver::Handled;
 use eeprom::Image;
-use lent_bus::LentBus;
 use mdic_phy::Link;
-use network_hosts::bring_up;
 use network_plan::{HostPlan, Plan, PlanError};
-use stations::{Outcome, Outcomes, Station, Tick, play};
+use stations::{LentBus, Outcome, Outcomes, Station, Tick, play};
 use std::test::Fail;
-use wire::{Answer, Event, Lan};
+use wire::{Answer, Event, Lan, bring_up};
 
 #[test]
 fn the_code_of_the_readme_of_wire(rt: HostRuntime) -> Result<(), Fail> {
@@ -62,7 +60,7 @@ fn the_code_of_the_readme_of_wire(rt: HostRuntime) -> Result<(), Fail> {
 }
 
 #[test]
-fn the_code_of_the_readme_of_network_hosts(rt: HostRuntime) -> Result<(), Fail> {
+fn the_code_of_the_readme_of_wire_where_hosts_are_brought_up(rt: HostRuntime) -> Result<(), Fail> {
     // Hosts 0 and 1 on one wire.
     let plan = plan(rt.alloc(), 2, Change::None)?;
     plan.check()?;
@@ -119,7 +117,7 @@ fn the_code_of_the_readme_of_stations(rt: HostRuntime) -> Result<(), Fail> {
 }
 
 #[test]
-fn the_code_of_the_readme_of_lent_bus(rt: HostRuntime) -> Result<(), Fail> {
+fn the_code_of_the_readme_of_stations_where_a_bus_is_lent(rt: HostRuntime) -> Result<(), Fail> {
     let image = Image::with_address([0x02, 0, 0, 0, 0, 0x01]);
     let adapter = Adapter::new(rt.alloc(), &image, Link::Never)?;
     let memory = HostMemory::new(rt.alloc(), 4096)?;

@@ -16,8 +16,6 @@ pub(crate) enum Sample {
     Behind([u8; 4]),
     /// 60 bytes to all, of this number.
     ToAll(u8),
-    /// 60 bytes to this address.
-    To([u8; 6]),
 }
 
 impl Sample {
@@ -33,7 +31,6 @@ impl Sample {
     fn destination(&self) -> [u8; 6] {
         match self {
             Sample::ToAll(_) => [0xFF; 6],
-            Sample::To(address) => *address,
             _ => address(1),
         }
     }
@@ -44,7 +41,6 @@ impl Sample {
             Sample::Long(_) => [0x08, 0x00, 0, 0],
             Sample::Behind(bytes) => *bytes,
             Sample::ToAll(number) => [0x88, 0xB5, *number, 0],
-            Sample::To(_) => [0x88, 0xB5, 0, 0],
         }
     }
 

@@ -51,7 +51,6 @@ pub(crate) enum Comes {
     Nothing,
     Took,
     Put(Sample),
-    WireFull,
     Moved,
     Done,
     Delivered(Sample, Fate),
@@ -63,7 +62,6 @@ impl Comes {
         match (self, outcome) {
             (Comes::Nothing, Outcome::Nothing)
             | (Comes::Took, Outcome::Took)
-            | (Comes::WireFull, Outcome::WireFull)
             | (Comes::Moved, Outcome::Moved)
             | (Comes::Done, Outcome::Done) => true,
             (Comes::Put(sample), Outcome::Put(frame)) => is_frame(*sample, frame.as_slice()),
@@ -99,8 +97,6 @@ pub(crate) enum Act {
     Inside(&'static [Tick]),
     /// The last call made so many accesses, and these outcomes came of its ticks, each behind so many of them.
     Came(u64, &'static [(u64, Comes)]),
-    /// So many times the host a sends a frame, and its adapter puts it onto the wire.
-    Put(Sample, u8),
     /// The host a puts a frame onto the wire, and it is delivered to b with this fate.
     Bring(Sample, Fate),
     /// The adapter of b moves its oldest frame, and writes its descriptor back.
@@ -239,11 +235,6 @@ impl Rig {
     fn play(&mut self, rt: &impl Abort, alloc: Global, act: &Act, at: usize) -> Result<(), Fail> {
         match act {
             Act::Inside(ticks) => self.inside = *ticks,
-            Act::Put(sample, count) => {
-                for _ in 0..*count {
-                    self.put(rt, alloc, *sample, at)?;
-                }
-            }
             Act::Bring(sample, fate) => self.bring(rt, alloc, *sample, *fate, at)?,
             Act::Finish => self.finish(rt, alloc, at)?,
             Act::Receive(sample, count) => {

@@ -2,7 +2,7 @@ use Rattle.std.proofs.Common.{[], List, ℕ, sym, subst}
 use Rattle.std.specs.Prelude.{Result}
 use Rattle.packet_socket.specs.declared.receive.RecvError.{RecvError}
 use Rattle.stations.specs.Stations.{world_at}
-use Rattle.host_calls.specs.CallAnswers.{AnswersRecv, LeavesRecv, given_by}
+use Rattle.host_calls.specs.CallAnswers.{AnswersRecv, LeavesRecv, MakesRecv, given_by}
 use Rattle.host_calls.specs.CallsOfHosts.{CallRuns}
 use Rattle.host_calls.proofs.calls.recv.Goals as goal
 
@@ -10,7 +10,8 @@ pub returns-clause-runs : goal.returns-clause-runs
 returns-clause-runs c =
     subst (λ (answer : Result (List ℕ) RecvError). CallRuns c.args.place c.args.ticks.now c.args.stations.now
     c.recv_into-called.new.stations c.args.outcomes.now c.recv_into-called.new.outcomes c.recv_into-called.result.accesses
-    c.args.host.now c.recv_into-called.new.host [] (given_by c.args.socket answer) []) (sym c.frame_of.ensures)
+    c.args.host.now c.recv_into-called.new.host [] (given_by c.args.socket answer) []
+    (MakesRecv answer c.args.socket c.args.host.now c.recv_into-called.new.host)) (sym c.frame_of.ensures)
     c.recv_into-called.ensures.runs
 
 pub returns-clause-answers : goal.returns-clause-answers

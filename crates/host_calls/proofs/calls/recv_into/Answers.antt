@@ -1,16 +1,17 @@
 use Rattle.std.proofs.Common.{rules, refl, [], true}
 use Rattle.host_calls.proofs.Calling.{call-back}
 use Rattle.host_calls.proofs.Receiving.{any-answers, any-leaves, any-runs}
-use Rattle.host_calls.specs.CallAnswers.{frame_in, given_by}
+use Rattle.host_calls.specs.CallAnswers.{MakesRecv, frame_in, given_by}
 use Rattle.host_calls.proofs.calls.recv_into.Goals as goal
 
 pub returns-clause-runs : goal.returns-clause-runs
 returns-clause-runs c =
     call-back c.args.place c.args.ticks.now c.args.stations.now c.finish.new.self.stations.now _ c.args.outcomes.now
     c.finish.new.self.outcomes.now _ c.finish.new.self.accesses c.args.host.now c.recv-answer.new.self []
-    (given_by c.args.socket (frame_in c.recv-answer.new.into c.recv-answer.result)) [] (search rules) (search rules)
+    (given_by c.args.socket (frame_in c.recv-answer.new.into c.recv-answer.result)) []
+    (MakesRecv (frame_in c.recv-answer.new.into c.recv-answer.result) c.args.socket c.args.host.now c.recv-answer.new.self) (search rules) (search rules)
     (any-runs _ c.recv-answer.new.bus c.finish.new.self c.args.host.now c.recv-answer.new.self c.args.socket c.recv-answer.result
-    c.recv-answer.new.into refl c.requires.ready (c.recv-answer.ensures.receives true tt c.requires.ready)
+    c.recv-answer.new.into refl (search rules) c.recv-answer.ensures.size c.requires.ready (c.recv-answer.ensures.receives true tt c.requires.ready)
     c.recv-answer.ensures.refilled c.recv-answer.ensures.offered c.recv-answer.ensures.unasked c.finish.ensures)
 
 pub returns-clause-answers : goal.returns-clause-answers

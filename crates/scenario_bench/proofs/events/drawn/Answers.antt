@@ -1,6 +1,6 @@
 use Rattle.std.proofs.Common.{◌≡◌, subst, sym}
 use Rattle.std.specs.Prelude.{IfOk}
-use Rattle.network_events.specs.declared.event.Event.{Event}
+use Rattle.network_plan.specs.declared.event.Event.{Event}
 use Rattle.scenario.specs.SoFar.{Said, event_of}
 use Rattle.scenario_bench.proofs.EventsOfCommands.{event_drawn-there}
 use Rattle.scenario_bench.proofs.events.drawn.Goals as goal

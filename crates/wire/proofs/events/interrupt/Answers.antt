@@ -2,6 +2,7 @@ use Rattle.std.proofs.Common.{[], List, refl, sym, subst, slice_index_or}
 use Rattle.std.proofs.lemmas.Option.{slice_get-get_or}
 use Rattle.delivery.specs.Happenings.{Happening, of_host, told}
 use Rattle.stations.specs.Stations.{wire_at}
+use Rattle.host_calls.specs.CallAnswers.{MakesInterrupt}
 use Rattle.wire.specs.EventParts.{IsInterruptAnswer}
 use Rattle.wire.proofs.Delivering.{Tells}
 use Rattle.wire.proofs.Playing.{absent-played, call-played}
@@ -29,21 +30,22 @@ returns c =
     let runs = c.interrupt-called.ensures.runs in
     call-played c.args.host c.args.ticks.now (record { hosts = c.args.hosts.now; stations = c.args.stations.now })
     c.interrupt-called.new.stations c.args.outcomes c.interrupt-called.new.outcomes host c.interrupt-called.new.host
-    c.interrupt-called.ensures.taken [] []
+    c.interrupt-called.ensures.taken [] [] (MakesInterrupt c.interrupt-called.result.answer host c.interrupt-called.new.host)
     (told c.args.ticks.now c.interrupt-called.new.outcomes.list) _ (IsInterruptAnswer c.args.host) c.requires.stands
     (slice_get-get_or c.args.hosts.now c.args.host c.index-hosts-host.result c.if-host-hosts.false) c.if-host-hosts.false
     c.requires.empty refl (λ none. absurd (cc)) runs
     (λ k said.
     subst (λ (list : List Happening). Tells k list runs.steps (wire_at c.args.stations.now)
     (of_host k c.args.host []) (of_host k c.args.host [])) (sym said)
-    (tells-call k c.args.host runs.steps (wire_at c.args.stations.now))) (
-      c.interrupt-called.result.answer,
-      refl,
-      (c.interrupt-called.ensures.causes, c.interrupt-called.ensures.tells),
-      (
-        c.interrupt-called.ensures.taken,
-        c.interrupt-called.ensures.answer,
-        takes-frames c.args.host runs.steps c.args.stations.now c.interrupt-called.new.stations host c.interrupt-called.new.host
-            c.interrupt-called.ensures.taken runs.runs,
-      ),
-    )
+    (tells-call k c.args.host runs.steps (wire_at c.args.stations.now)))
+    (record {
+      result = c.interrupt-called.result.answer;
+      is = refl;
+      causes = c.interrupt-called.ensures.causes;
+      tells = c.interrupt-called.ensures.tells;
+      taken = c.interrupt-called.ensures.taken;
+      answers = c.interrupt-called.ensures.answer;
+      takes = takes-frames c.args.host runs.steps c.args.stations.now c.interrupt-called.new.stations host c.interrupt-called.new.host
+          c.interrupt-called.ensures.taken runs.runs;
+      makes = runs.makes;
+    })

@@ -3,13 +3,13 @@ use Rattle.std.proofs.lemmas.List.{append-nil}
 use Rattle.std.proofs.lemmas.Option.{slice_get-get_or}
 use Rattle.delivery.specs.Happenings.{Happening, of_host, told}
 use Rattle.stations.specs.Stations.{wire_at, world_at}
-use Rattle.network_events.specs.declared.reply.Answer.TheVariants.{Received}
-use Rattle.host_calls.specs.CallAnswers.{AnswersRecv, LeavesRecv, given_by}
+use Rattle.network_plan.specs.declared.reply.Answer.TheVariants.{Received}
+use Rattle.host_calls.specs.CallAnswers.{AnswersRecv, LeavesRecv, MakesRecv, given_by}
 use Rattle.host_calls.specs.CallsOfHosts.{CallRuns}
 use Rattle.packet_socket.specs.declared.receive.RecvError.{RecvError}
 use Rattle.std.specs.Prelude.{Result}
 use Rattle.wire.specs.Runs.{given_of}
-use Rattle.network_events.specs.declared.reply.Answer.{Answer}
+use Rattle.network_plan.specs.declared.reply.Answer.{Answer}
 use Rattle.wire.specs.EventParts.{IsRecvAnswer}
 use Rattle.wire.proofs.Delivering.{Tells}
 use Rattle.wire.proofs.Playing.{absent-played, call-played}
@@ -38,13 +38,14 @@ returns c =
     let answer = c.shown.result in
     let runs : CallRuns c.args.host c.args.ticks.now c.args.stations.now c.recv_into-called.new.stations c.args.outcomes
     c.recv_into-called.new.outcomes c.recv_into-called.result.accesses host c.recv_into-called.new.host []
-    (given_by c.args.socket answer) [] =
+    (given_by c.args.socket answer) [] (MakesRecv answer c.args.socket host c.recv_into-called.new.host) =
     subst (λ (shown : Result (List ℕ) RecvError). CallRuns c.args.host c.args.ticks.now c.args.stations.now
     c.recv_into-called.new.stations c.args.outcomes c.recv_into-called.new.outcomes c.recv_into-called.result.accesses host
-    c.recv_into-called.new.host [] (given_by c.args.socket shown) []) (sym c.shown.ensures) c.recv_into-called.ensures.runs in
+    c.recv_into-called.new.host [] (given_by c.args.socket shown) []
+    (MakesRecv shown c.args.socket host c.recv_into-called.new.host)) (sym c.shown.ensures) c.recv_into-called.ensures.runs in
     call-played c.args.host c.args.ticks.now (record { hosts = c.args.hosts.now; stations = c.args.stations.now })
     c.recv_into-called.new.stations c.args.outcomes c.recv_into-called.new.outcomes host c.recv_into-called.new.host []
-    (given_by c.args.socket answer) []
+    (given_by c.args.socket answer) [] (MakesRecv answer c.args.socket host c.recv_into-called.new.host)
     (told c.args.ticks.now c.recv_into-called.new.outcomes.list ++ given_of c.args.host c.args.socket (Received answer)) _
     (IsRecvAnswer c.args.host c.args.socket) c.requires.stands
     (slice_get-get_or c.args.hosts.now c.args.host c.index-hosts-host.result c.if-host-hosts.false) c.if-host-hosts.false
@@ -53,12 +54,14 @@ returns c =
     subst (λ (list : List Happening). Tells k
     (list ++ given_of c.args.host c.args.socket (Received answer)) runs.steps (wire_at c.args.stations.now)
     (of_host k c.args.host (given_by c.args.socket answer)) (of_host k c.args.host [])) (sym said)
-    (tells-recv k c.args.host c.args.socket answer runs.steps (wire_at c.args.stations.now))) (
-      answer,
-      refl,
-      subst (λ (shown : Result (List ℕ) RecvError). AnswersRecv shown c.args.socket host (world_at c.args.stations.now c.args.host))
-          (sym c.shown.ensures) c.recv_into-called.ensures.answers,
-      subst (LeavesRecv answer c.args.socket host c.recv_into-called.new.host) runs.are_told.counted
+    (tells-recv k c.args.host c.args.socket answer runs.steps (wire_at c.args.stations.now)))
+    (record {
+      result = answer;
+      is = refl;
+      answers = subst (λ (shown : Result (List ℕ) RecvError). AnswersRecv shown c.args.socket host (world_at c.args.stations.now c.args.host))
+          (sym c.shown.ensures) c.recv_into-called.ensures.answers;
+      leaves = subst (LeavesRecv answer c.args.socket host c.recv_into-called.new.host) runs.are_told.counted
           (subst (λ (shown : Result (List ℕ) RecvError). LeavesRecv shown c.args.socket host c.recv_into-called.new.host
-          c.recv_into-called.result.accesses) (sym c.shown.ensures) c.recv_into-called.ensures.leaves),
-    )
+          c.recv_into-called.result.accesses) (sym c.shown.ensures) c.recv_into-called.ensures.leaves);
+      makes = runs.makes;
+    })

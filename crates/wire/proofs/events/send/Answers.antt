@@ -3,11 +3,11 @@ use Rattle.std.proofs.lemmas.Option.{slice_get-get_or}
 use Rattle.delivery.specs.Happenings.{Happening, of_host, told}
 use Rattle.stations.specs.Stations.{wire_at}
 use Rattle.driver.specs.SendSteps.{accepted_by}
-use Rattle.network_events.specs.declared.reply.Answer.TheVariants.{Sent}
+use Rattle.network_plan.specs.declared.reply.Answer.TheVariants.{Sent}
 use Rattle.wire.specs.Runs.{accepted_of}
-use Rattle.network_events.specs.declared.reply.Answer.{Answer}
+use Rattle.network_plan.specs.declared.reply.Answer.{Answer}
 use Rattle.wire.specs.EventParts.{IsSendAnswer}
-use Rattle.host_calls.specs.CallAnswers.{LeavesSend}
+use Rattle.host_calls.specs.CallAnswers.{LeavesSend, MakesSend}
 use Rattle.wire.proofs.Delivering.{Tells}
 use Rattle.wire.proofs.Playing.{absent-played, call-played}
 use Rattle.wire.proofs.Tellings.{tells-send}
@@ -35,6 +35,7 @@ returns c =
     call-played c.args.host c.args.ticks.now (record { hosts = c.args.hosts.now; stations = c.args.stations.now })
     c.send-called.new.stations c.args.outcomes c.send-called.new.outcomes host c.send-called.new.host [] []
     (accepted_by c.send-called.result.answer c.args.frame.now)
+    (MakesSend c.send-called.result.answer c.args.frame.now host c.send-called.new.host)
     (accepted_of c.args.host c.args.frame.now
     (Sent c.send-called.result.answer) ++ told c.args.ticks.now c.send-called.new.outcomes.list) _
     (IsSendAnswer c.args.host c.args.frame.now) c.requires.stands
@@ -44,9 +45,12 @@ returns c =
     subst (λ (list : List Happening). Tells k
     (accepted_of c.args.host c.args.frame.now (Sent c.send-called.result.answer) ++ list) runs.steps (wire_at c.args.stations.now)
     (of_host k c.args.host []) (of_host k c.args.host (accepted_by c.send-called.result.answer c.args.frame.now))) (sym said)
-    (tells-send k c.args.host c.args.frame.now c.send-called.result.answer runs.steps (wire_at c.args.stations.now))) (
-      c.send-called.result.answer,
-      refl,
-      c.send-called.ensures.answers,
-      subst (LeavesSend c.send-called.result.answer host c.send-called.new.host) runs.are_told.counted c.send-called.ensures.leaves,
-    )
+    (tells-send k c.args.host c.args.frame.now c.send-called.result.answer runs.steps (wire_at c.args.stations.now)))
+    (record {
+      result = c.send-called.result.answer;
+      is = refl;
+      answers = c.send-called.ensures.answers;
+      leaves = subst (LeavesSend c.send-called.result.answer host c.send-called.new.host) runs.are_told.counted
+          c.send-called.ensures.leaves;
+      makes = runs.makes;
+    })

@@ -4,8 +4,8 @@ use Rattle.stations.specs.Outcomes.{OutcomeList}
 use Rattle.stations.specs.Stations.{StationState}
 use Rattle.stations.specs.declared.tick.Tick.{Tick}
 use Rattle.stations.specs.declared.tick.Tick.TheVariants.{Go}
-use Rattle.network_events.specs.declared.reply.Answer.TheVariants.{Ticked}
-use Rattle.network_events.specs.declared.reply.Reply.{Reply}
+use Rattle.network_plan.specs.declared.reply.Answer.TheVariants.{Ticked}
+use Rattle.network_plan.specs.declared.reply.Reply.{Reply}
 use Rattle.wire.specs.EventParts.{TickPlayed}
 use Rattle.wire.proofs.Ticking.{go-played, not-go, tick-played}
 use Rattle.wire.proofs.events.tick.Goals.{in-Go, in_default}

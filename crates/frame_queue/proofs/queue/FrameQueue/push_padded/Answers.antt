@@ -1,10 +1,9 @@
-use Rattle.std.proofs.Common.{ℕ, List, ◌≡◌, ◌<◌, ◌≤◌, ◌+◌, ◌-◌, ◌*◌, ◌++◌, ◌∷◌, [], length, replicate, refl, sym, ap, ◌∙◌, arith}
+use Rattle.std.proofs.Common.{ℕ, List, ◌≡◌, ◌<◌, ◌≤◌, ◌+◌, ◌-◌, ◌*◌, ◌++◌, ◌∷◌, [], length, take, drop, replicate, refl, sym, ap, ◌∙◌, arith}
 use Rattle.std.proofs.lemmas.List.{length-append, length-replicate, with_items_is}
 use Rattle.circular_buffer.specs.Buffer.{buffer}
-use Rattle.dma_memory.specs.HostMemory.{with_bytes, LiesIn}
-use Rattle.dma_memory.specs.Laws.{length-with_bytes}
 use Rattle.frame_queue.specs.Laws.{keep_last-room}
 use Rattle.frame_queue.specs.Wrapping.{wrapped}
+use Rattle.frame_queue.proofs.Written.{length-written}
 use Rattle.frame_queue.proofs.InPlaces.{length-frames_from, frames_from-pushed, wrapped-within}
 use Rattle.frame_queue.proofs.queue.FrameQueue.push_padded.Goals as goal
 
@@ -34,13 +33,12 @@ returns c =
     let place : c.wrap-start.result
     ≡ wrapped capacity (queue.first + length lengths) = rw (← behind, ← c.capacity.ensures.capacity) c.wrap-start.ensures in
     let within = wrapped-within capacity (queue.first + length lengths) (omega (arith, first, room)) in
-    let lies : LiesIn bytes (wrapped capacity (queue.first + length lengths) * 1518) (length written) = omega
-    (arith, within, c.self.invariant.size, count, short) in
-    let stored : c.write_padded.new.bytes
-    ≡ with_bytes bytes (wrapped capacity (queue.first + length lengths) * 1518) written = rw
+    let start = wrapped capacity (queue.first + length lengths) * 1518 in
+    let lies : start + n ≤ length bytes = omega (arith, within, c.self.invariant.size, short) in
+    let stored : c.write_padded.new.bytes ≡ take start bytes ++ written ++ drop (start + n) bytes = rw
     (← place, ← c.as_mut_slice.ensures.value) c.write_padded.ensures in
     let kept : length c.write_padded.new.bytes ≡ queue.bytes.len = ap length stored
-    ∙ length-with_bytes bytes written (wrapped capacity (queue.first + length lengths) * 1518) lies ∙ sym queue.bytes.ok.0 in
+    ∙ length-written bytes written start n count lies ∙ sym queue.bytes.ok.0 in
     let items = with_items_is queue.bytes c.write_padded.new.bytes kept ∙ stored in
     let more : c.push_back.new.self ≡ buffer (lengths ++ n ∷ []) capacity = c.push_back.ensures.items
     ∙ ap (λ (ns : List ℕ). buffer ns capacity) (keep_last-room lengths capacity n room) in

@@ -2,7 +2,7 @@ use Rattle.std.proofs.Common.{◌≡◌, ◌+◌, ◌<◌, ◌≤◌, vec_len, v
 use Rattle.std.proofs.Common.{arith, sym}
 use Rattle.std.proofs.Common.{subst}
 use Rattle.std.proofs.lemmas.Grind.{common_steps}
-use Rattle.network_events.specs.declared.event.Event.{Event}
+use Rattle.network_plan.specs.declared.event.Event.{Event}
 use Rattle.wire.specs.Runs.{EventRuns, RunsTo}
 use Rattle.wire.proofs.Running.{runs-more, runs-none}
 use Rattle.wire.proofs.lan.Lan.run.Goals as goal

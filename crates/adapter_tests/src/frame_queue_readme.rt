@@ -1,0 +1,21 @@
+//! The code of README.md, word for word.
+
+use frame_queue::FrameQueue;
+use std::test::Fail;
+
+#[test]
+fn the_code_of_the_readme_of_frame_queue(rt: HostRuntime) -> Result<(), Fail> {
+    let mut queue = FrameQueue::new(rt.alloc(), 2)?;
+    queue.push(&[0xFF; 60]);
+    queue.push_padded(&[0xFF; 14], 60); // and 46 zeros
+    assert!(rt; queue.is_full());
+    assert_eq!(rt; queue.front(), Some([0xFF; 60].as_slice()));
+    queue.pop();
+    assert_eq!(rt; queue.len(), 1);
+    let second = queue.front().unwrap_or_default();
+    assert_eq!(rt; second.len(), 60);
+    assert!(rt; second.starts_with(&[0xFF; 14]) && second.ends_with(&[0; 46]));
+    queue.clear();
+    assert!(rt; queue.is_empty());
+    Ok(())
+}

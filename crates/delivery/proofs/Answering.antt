@@ -1,0 +1,162 @@
+-- What a step answers, by what is counted of the adapter.
+use Rattle.std.proofs.Common.{◌≡◌, ◌≢◌, ◌==◌, ◌||◌, ◌⊎◌, ℕ, suc, Bool, true, false, not, Option, Some, None, List, [], ◌∷◌, length, inl}
+use Rattle.std.proofs.Common.{inr, refl}
+use Rattle.std.proofs.Common.{sym, ap, ◌∙◌, arith}
+use Rattle.std.specs.Prelude.{is_some}
+use Rattle.std.proofs.lemmas.Bool.Decides.{eqb_tells}
+use Rattle.eeprom.specs.Eerd.{is_pending}
+use Rattle.mdic_phy.specs.declared.mdic.Operation.{Operation}
+use Rattle.mdic_phy.specs.declared.phy.Negotiation.{Negotiation}
+use Rattle.mdic_phy.specs.declared.phy.Negotiation.TheVariants.{NotStarted, Running, Complete}
+use Rattle.mdic_phy.specs.Mdic.{has_work}
+use Rattle.mdic_phy.specs.Phy.{PhyState, is_running}
+use Rattle.adapter.specs.Receiving.{DataAnswers, DoneAnswers}
+use Rattle.adapter.specs.Rings.{ring_of}
+use Rattle.adapter.specs.State.{AdapterState}
+use Rattle.adapter.specs.Steps.{ticked}
+use Rattle.adapter.specs.Transmitting.{HasNothingToTake, TakeAnswers}
+use Rattle.adapter.specs.declared.step.Stepped.{Stepped}
+use Rattle.adapter.specs.declared.step.Stepped.TheVariants as stepped
+use Rattle.stations.specs.Outcomes.{outcome_of_step}
+use Rattle.stations.specs.declared.tick.Outcome.{Outcome}
+use Rattle.stations.specs.declared.tick.Outcome.TheVariants.{Done, Moved, Nothing, Ticked, Took}
+use Rattle.delivery.proofs.Rings.{none-offered, some-offered}
+use Rattle.delivery.specs.Counts.{counts_of, negotiation_ticks, ticks_left}
+use Rattle.delivery.specs.CountedHosts.{CanAnswer}
+use Rattle.delivery.specs.StepAnswers.{has_nothing_to_move, has_nothing_to_take, nothing_if}
+
+-- it is Nothing where the test holds, and the other where it doesn't
+idles : (test : Bool) (other : Outcome) → test ≡ true → Nothing ≡ nothing_if test other
+idles true other is = refl
+idles false other is = absurd (cc)
+
+acts : (test : Bool) (other : Outcome) → test ≡ false → other ≡ nothing_if test other
+acts false other is = refl
+acts true other is = absurd (cc)
+
+-- Taking.
+
+-- a test of two numbers, where one of them holds, and where neither does
+either : (n m k : ℕ) → (n ≡ k) ⊎ (m ≡ 0) → (n == k || m == 0) ≡ true
+either n m k one = elim (eqb_tells n k) [
+  | inl same ↦ rw same.0 refl
+  | inr other ↦ rw other.0 (elim (eqb_tells m 0) [
+    | inl none ↦ none.0
+    | inr some ↦ elim one [ inl is ↦ absurd (other.1 is) | inr is ↦ absurd (some.1 is) ]
+  ])
+]
+
+neither : (n m k : ℕ) → n ≢ k → m ≢ 0 → (n == k || m == 0) ≡ false
+neither n m k more some = elim (eqb_tells n k) [
+  | inl same ↦ absurd (more same.1)
+  | inr other ↦ rw other.0 (elim (eqb_tells m 0) [ inl none ↦ absurd (some none.1) | inr is ↦ is.0 ])
+]
+
+stands-runs : (stopped : Bool) → stopped ≡ true → stopped ≡ false → ⊥
+stands-runs true stands runs = absurd (cc)
+stands-runs false stands runs = absurd (cc)
+
+idle-test : (a : AdapterState) → CanAnswer a → a.transmitter.stopped ≡ false → HasNothingToTake a
+    → has_nothing_to_take (counts_of a).transmit ≡ true
+idle-test a can runs (inl off) = absurd (off can.transmits)
+idle-test a can runs (inr (inl stopped)) = absurd (stands-runs a.transmitter.stopped stopped runs)
+idle-test a can runs (inr (inr (inl full))) = either _ _ 4 (inl full)
+idle-test a can runs (inr (inr (inr same))) = either _ _ 4 (inr (none-offered (ring_of a.transmit_ring) can.transmit same))
+
+pub take-answer : (memory : List ℕ) (a : AdapterState) (answer : Stepped) → CanAnswer a → a.transmitter.stopped ≡ false
+    → answer ≢ stepped.Fault → TakeAnswers memory a answer
+    → outcome_of_step answer ≡ nothing_if (has_nothing_to_take (counts_of a).transmit) Took
+take-answer memory a stepped.Nothing can runs well answers =
+    idles (has_nothing_to_take (counts_of a).transmit) Took (idle-test a can runs answers)
+take-answer memory a stepped.Took can runs well answers =
+    acts (has_nothing_to_take (counts_of a).transmit) Took
+    (neither _ _ 4 (λ full. answers.0 (inr (inr (inl full))))
+    (some-offered (ring_of a.transmit_ring) can.transmit (λ same. answers.0 (inr (inr (inr same))))))
+take-answer memory a stepped.Fault can runs well answers = absurd (well refl)
+take-answer memory a _ can runs well answers = absurd answers
+
+-- Moving.
+
+barred : {X : Type 0} (work : Option X) (frames : List (List ℕ)) (offered : ℕ) → (work ≡ None → frames ≢ [] → offered ≢ 0 → ⊥)
+    → (is_some work || (length frames == 0 || offered == 0)) ≡ true
+barred (Some x) frames offered isnt = refl
+barred None frames offered isnt = elim (eqb_tells (length frames) 0) [
+  | inl none ↦ rw none.0 refl
+  | inr some ↦ rw some.0 (elim (eqb_tells offered 0) [
+    | inl none ↦ none.0
+    | inr slots ↦ absurd (isnt refl (λ none. some.1 (ap length none)) slots.1)
+  ])
+]
+
+empty : (frames : List (List ℕ)) → length frames ≡ 0 → frames ≡ []
+empty [] none = refl
+empty (frame ∷ frames) none = absurd (omega (arith, none))
+
+free : {X : Type 0} (work : Option X) (frames : List (List ℕ)) (offered : ℕ) → work ≡ None → frames ≢ [] → offered ≢ 0
+    → (is_some work || (length frames == 0 || offered == 0)) ≡ false
+free (Some x) frames offered none some slots = absurd (cc)
+free None frames offered none some slots = neither (length frames) offered 0 (λ zero. some (empty frames zero)) slots
+
+pub data-answer : (memory : List ℕ) (a : AdapterState) (answer : Stepped) → CanAnswer a → a.receiver.stopped ≡ false
+    → answer ≢ stepped.Fault → DataAnswers memory a answer
+    → outcome_of_step answer ≡ nothing_if (has_nothing_to_move (counts_of a).receive) Moved
+data-answer memory a stepped.Nothing can runs well answers =
+    idles (has_nothing_to_move (counts_of a).receive) Moved
+    (barred a.receiver.work a.receiver.buffer _ (λ none some slots. answers (record {
+      enabled = can.receives;
+      ready = record { running = runs; free = none; frames = some };
+      offered = λ same. slots (none-offered (ring_of a.receive_ring) can.receive same);
+    })))
+data-answer memory a stepped.Moved can runs well answers =
+    acts (has_nothing_to_move (counts_of a).receive) Moved
+    (free a.receiver.work a.receiver.buffer _ answers.0.ready.free answers.0.ready.frames
+    (some-offered (ring_of a.receive_ring) can.receive answers.0.offered))
+data-answer memory a stepped.Fault can runs well answers = absurd (well refl)
+data-answer memory a _ can runs well answers = absurd answers
+
+pub done-answer : (a : AdapterState) (answer : Stepped) → DoneAnswers a answer
+    → outcome_of_step answer ≡ nothing_if (not (counts_of a).receive.is_working) Done
+done-answer a stepped.Nothing answers = idles (not (counts_of a).receive.is_working) Done (ap (λ o. not (is_some o)) answers)
+done-answer a stepped.Done answers = acts (not (counts_of a).receive.is_working) Done (works a.receiver.work answers)
+  where
+    works : {X : Type 0} (work : Option X) → (work ≡ None → ⊥) → not (is_some work) ≡ false
+    works None some = absurd (some refl)
+    works (Some x) some = refl
+done-answer a _ answers = absurd answers
+
+-- Ticks.
+
+tick-answer : (works : Bool) → outcome_of_step (ticked works) ≡ nothing_if (not works) Ticked
+tick-answer true = refl
+tick-answer false = refl
+
+pub eeprom-answer : (a : AdapterState) (answer : Stepped) → answer ≡ ticked (is_pending a.eerd)
+    → outcome_of_step answer ≡ nothing_if (not (counts_of a).is_reading) Ticked
+eeprom-answer a answer is = ap outcome_of_step is ∙ tick-answer (is_pending a.eerd)
+
+-- there is work exactly where ticks are left
+left-works : (value : ℕ) (pending : Option Operation) (phy : PhyState)
+    → not (has_work (record { value = value; pending = pending }) phy) ≡ (ticks_left (record { value = value; pending = pending }) phy == 0)
+left-works value (Some operation) phy = by_case (is_running phy.negotiation) ∙ sym (one-at-least _)
+  where
+    by_case : (runs : Bool) → not (runs || true) ≡ false
+    by_case true = refl
+    by_case false = refl
+
+    one-at-least : (n : ℕ) → (suc n == 0) ≡ false
+    one-at-least n = elim (eqb_tells (suc n) 0) [ inl none ↦ absurd (omega (arith, none.1)) | inr some ↦ some.0 ]
+left-works value None phy = by_case phy.negotiation
+  where
+    by_case : (negotiation : Negotiation) → not (is_running negotiation || false) ≡ (negotiation_ticks negotiation == 0)
+    by_case NotStarted = refl
+    by_case Complete = refl
+    by_case (Running left) = elim (eqb_tells (negotiation_ticks (Running left)) 0) [
+      | inl none ↦ absurd (omega (arith, none.1))
+      | inr some ↦ sym some.0
+    ]
+
+pub phy-answer : (a : AdapterState) (answer : Stepped) → answer ≡ ticked (has_work a.mdic a.phy)
+    → outcome_of_step answer ≡ nothing_if ((counts_of a).phy_ticks == 0) Ticked
+phy-answer a answer is =
+    ap outcome_of_step is ∙ tick-answer (has_work a.mdic a.phy)
+    ∙ ap (λ (idle : Bool). nothing_if idle Ticked) (left-works a.mdic.value a.mdic.pending a.phy)

@@ -1,5 +1,0 @@
-use Rattle.delivery.proofs.RightFates.{fates-right, tails-leave_reception}
-use Rattle.delivery.proofs.law.fates_are_right.Goals as goal
-
-pub returns : goal.returns
-returns c = record { fates = fates-right; tails = tails-leave_reception }

@@ -1,0 +1,54 @@
+-- What is in a list of bytes after n of them, from `start` on, are overwritten.
+use Rattle.std.proofs.Common.{◌≡◌, ◌≤◌, ◌+◌, ◌-◌, ◌++◌, ℕ, List, length, take, drop, sym, ap, ◌∙◌, arith}
+use Rattle.std.proofs.lemmas.List.{length-append, length-take-le, length-drop, take-take, take_at, drop_at, take-append-le}
+use Rattle.std.proofs.lemmas.List.{drop-drop, drop-take}
+use Rattle.std.proofs.Math.Seq.{drop-append-add}
+
+length-front : (bytes written : List ℕ) (start n : ℕ) → length written ≡ n → start + n ≤ length bytes
+    → length (take start bytes ++ written) ≡ start + n
+length-front bytes written start n count fits = omega
+    (arith, count, fits, length-append (take start bytes) written, length-take-le start bytes (omega (arith, fits)))
+
+-- There are as many bytes as before.
+pub length-written : (bytes written : List ℕ) (start n : ℕ) → length written ≡ n → start + n ≤ length bytes
+    → length (take start bytes ++ written ++ drop (start + n) bytes) ≡ length bytes
+length-written bytes written start n count fits = omega (
+  arith,
+  fits,
+  length-front bytes written start n count fits,
+  length-append (take start bytes ++ written) (drop (start + n) bytes),
+  length-drop (start + n) bytes,
+)
+
+-- The bytes that were written are there.
+pub bytes-written : (bytes written : List ℕ) (start n : ℕ) → length written ≡ n → start + n ≤ length bytes
+    → take n (drop start (take start bytes ++ written ++ drop (start + n) bytes)) ≡ written
+bytes-written bytes written start n count fits =
+    let front = take start bytes ++ written in
+    sym (drop-take start n (front ++ drop (start + n) bytes))
+    ∙ ap (drop start) (take_at front (drop (start + n) bytes) (start + n) (length-front bytes written start n count fits))
+    ∙ drop_at (take start bytes) written start (length-take-le start bytes (omega (arith, fits)))
+
+-- The bytes before them are as they were,
+pub bytes-before : (bytes written : List ℕ) (start n i m : ℕ) → length written ≡ n → start + n ≤ length bytes → i + m ≤ start
+    → take m (drop i (take start bytes ++ written ++ drop (start + n) bytes)) ≡ take m (drop i bytes)
+bytes-before bytes written start n i m count fits before =
+    let front = take start bytes ++ written in
+    let below = length-front bytes written start n count fits in
+    let first = length-take-le start bytes (omega (arith, fits)) in
+    sym (drop-take i m (front ++ drop (start + n) bytes))
+    ∙ ap (drop i) (take-append-le (i + m) front (drop (start + n) bytes) (omega (arith, below, before))
+    ∙ take-append-le (i + m) (take start bytes) written (omega (arith, first, before)) ∙ take-take (i + m) start bytes before)
+    ∙ drop-take i m bytes
+
+-- and those after them.
+pub bytes-after : (bytes written : List ℕ) (start n i m : ℕ) → length written ≡ n → start + n ≤ length bytes → start + n ≤ i
+    → take m (drop i (take start bytes ++ written ++ drop (start + n) bytes)) ≡ take m (drop i bytes)
+bytes-after bytes written start n i m count fits after =
+    let front = take start bytes ++ written in
+    let below = length-front bytes written start n count fits in
+    let k = i - (start + n) in
+    let here : length front + k ≡ i = omega (arith, below, after) in
+    let there : start + n + k ≡ i = omega (arith, after) in
+    ap (take m) (ap (λ (j : ℕ). drop j (front ++ drop (start + n) bytes)) (sym here)
+    ∙ drop-append-add front (drop (start + n) bytes) k ∙ drop-drop k (start + n) bytes ∙ ap (λ (j : ℕ). drop j bytes) there)

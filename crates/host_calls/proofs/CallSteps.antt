@@ -1,0 +1,213 @@
+-- The calls of the host in a drain.
+use Rattle.std.proofs.Common.{◌≡◌, ◌≢◌, ◌≤◌, ◌<◌, ◌+◌, ◌++◌, ◌∷◌, [], ℕ, Bool, zero, suc, None, List, bit_and, length, map, min}
+use Rattle.std.proofs.Common.{refl, ap, subst, ◌∙◌, arith, if◌then◌else◌, ⊎_elim}
+use Rattle.std.specs.List.{All}
+use Rattle.std.specs.Prelude.{Err, Ok, Result}
+use Rattle.std.specs.Int.Bits.{and_zero_l}
+use Rattle.std.proofs.lemmas.Bool.{eq-eqb}
+use Rattle.std.proofs.lemmas.Grind.{flat_map-append}
+use Rattle.registers.specs.Bits.{Meet}
+use Rattle.rx_engine.specs.Receiver.{Receiver}
+use Rattle.adapter.specs.HostFrames.{frames_held}
+use Rattle.adapter.specs.State.{AdapterState}
+use Rattle.adapter.specs.World.{World}
+use Rattle.adapter.specs.declared.offsets.TheConstants.{ICR}
+use Rattle.bus.specs.TickGroups.{without_go}
+use Rattle.bus.specs.Trails.{Trail, past_of}
+use Rattle.bus.specs.declared.event.Access.{Access}
+use Rattle.bus.specs.declared.event.Access.TheVariants.{Reads}
+use Rattle.bus.specs.declared.event.Event.{Event}
+use Rattle.bus.specs.declared.event.Event.TheVariants.{Accesses}
+use Rattle.dma_memory.specs.Layout.{Counts}
+use Rattle.driver.specs.declared.interrupt.Handled.{Handled}
+use Rattle.driver.specs.declared.receiver.Received.{Received}
+use Rattle.stations.specs.AtomicSteps.{At, AtomicStep, tick_of}
+use Rattle.stations.specs.Outcomes.{OutcomeList}
+use Rattle.stations.specs.Stations.{StationState, world_at}
+use Rattle.stations.proofs.HostTrails.{trail-of}
+use Rattle.stations.specs.AtomicRuns.{LeadsTo, events_at, events_by, is_go, past_at}
+use Rattle.delivery.specs.Happenings.{happened_in}
+use Rattle.packet_socket.specs.HeldFrames.{waiting_frames}
+use Rattle.packet_socket.specs.HostState.{HostState}
+use Rattle.packet_socket.specs.HostStretches.{Given, given_for}
+use Rattle.packet_socket.specs.SocketsState.{all_of, queue_at}
+use Rattle.packet_socket.specs.declared.receive.RecvError.{RecvError}
+use Rattle.packet_socket.specs.declared.receive.RecvError.TheVariants.{Empty, NoSocket}
+use Rattle.host_calls.specs.InterruptCauses.{ReadsIcrFirst}
+use Rattle.host_calls.specs.CallAnswers.{AnswersRecv, InterruptRuns, given_by}
+use Rattle.host_calls.specs.CallsOfHosts.{CallRuns, HostRuns, IsOfDriver}
+use Rattle.packet_socket.specs.QueueLaws.{queue-within}
+use Rattle.host_calls.specs.DrainedHosts.{IsDrainStep, count_held}
+use Rattle.host_calls.specs.DrainSteps.{StepsOn, count_line}
+use Rattle.host_calls.proofs.AdapterSteps.{work-none}
+use Rattle.host_calls.proofs.JoinedSteps.{nothing-stored}
+use Rattle.host_calls.proofs.QuietCalls.{IsAccess, LeavesEngine, accesses-alone, drain-steps, events-elsewhere, events-here}
+use Rattle.host_calls.proofs.QuietCalls.{nothing-happened, trail-clears, trail-leaves}
+use Rattle.host_calls.proofs.SocketCounts.{given-sum, held-counted, held-flows, queues-flow, sum_to}
+
+-- What a call without ticks leaves.
+record Quiet (place : ℕ) (played : List AtomicStep) (a b : List StationState) : Type 0 where
+  happened : happened_in played ≡ []
+  engine : LeavesEngine (world_at a place).adapter (world_at b place).adapter
+  alone : (k : ℕ) → k ≢ place → events_at k played ≡ []
+  only : All (IsDrainStep place) played
+
+quiet : (place : ℕ) (played : List AtomicStep) (a b : List StationState) (counts : Counts) → LeadsTo place played a b
+    → without_go is_go (map tick_of played) ≡ [] → All (IsOfDriver counts) (past_at place played).accesses → Quiet place played a b
+quiet place played a b counts leads none own =
+    let are = accesses-alone place played a b leads none in
+    record {
+      happened = nothing-happened place played are;
+      engine = trail-leaves counts (events_at place played) (world_at a place) (world_at b place) (events-here place place played are) own
+          (trail-of place place played a b leads);
+      alone = λ k other. events-elsewhere place k played other are;
+      only = drain-steps place played are;
+    }
+
+-- The line isn't asserted behind a call where it wasn't before.
+line-stays : (a b : AdapterState) → LeavesEngine a b → count_line b.causes ≤ count_line a.causes
+line-stays a b leaves = ⊎_elim
+    (λ (same : b.causes.recorded ≡ a.causes.recorded).
+    let e : count_line b.causes ≡ count_line a.causes =
+    ap (λ (m : ℕ). min 1 (bit_and b.causes.recorded m)) leaves.mask
+    ∙ ap (λ (r : ℕ). min 1 (bit_and r a.causes.mask)) same in
+    omega (arith, e))
+    (λ (none : b.causes.recorded ≡ 0).
+    let e : bit_and b.causes.recorded b.causes.mask ≡ 0 =
+    ap (λ (r : ℕ). bit_and r b.causes.mask) none ∙ and_zero_l b.causes.mask in
+    omega (arith, e)) leaves.recorded
+
+-- How many frames a call moves between ring, adapter, queues and whom it gives them to.
+record Flows (place : ℕ) (a b : List StationState) (h h' : HostState) (taken : List (List ℕ)) (given : List Given) : Type 0 where
+  ring : length taken + length (frames_held h'.driver.oldest_receive (world_at b place)) ≡ length (frames_held h.driver.oldest_receive
+      (world_at a place))
+  queues : length given + length (all_of h'.queues) ≤ length (all_of h.queues) + length taken
+
+flows : (place n : ℕ) (played : List AtomicStep) (a b : List StationState) (h h' : HostState) (taken : List (List ℕ))
+    (given : List Given)
+    → LeadsTo place played a b → happened_in played ≡ [] → HostRuns place played a b h h' taken given []
+    → length h.queues ≤ n → length h'.queues ≤ n → length given ≤ sum_to n (λ socket. length (given_for socket given))
+    → Flows place a b h h' taken given
+flows place n played a b h h' taken given leads none runs fits fits' known =
+    let stored = nothing-stored place place played a b 0 leads none in
+    let past = past_at place played in
+    let all = queues-flow n h (world_at a place) h' (world_at b place) taken given past.stored runs.flows.accounts
+    runs.flows.flows.holds fits fits' in
+    record {
+      ring = held-flows taken (frames_held h'.driver.oldest_receive (world_at b place))
+          (frames_held h.driver.oldest_receive (world_at a place)) past.stored runs.flows.flows.holds stored;
+      queues = omega (arith, all, known);
+    }
+
+-- One step that was a call.
+one-call : (place n : ℕ) (played : List AtomicStep) (a b : List StationState) (h h' : HostState) (taken : List (List ℕ))
+    (given : List Given)
+    → LeadsTo place played a b → without_go is_go (map tick_of played) ≡ [] → HostRuns place played a b h h' taken given []
+    → length h.queues ≤ n → length h'.queues ≤ n → length given ≤ sum_to n (λ socket. length (given_for socket given))
+    → (world_at a place).adapter.receiver.work ≡ None → length given ≤ 1
+    → 1 + (count_line (world_at b place).adapter.causes + length taken) ≤ count_line (world_at a place).adapter.causes
+    + (length given + length taken)
+    → StepsOn 1 place a b h h' given
+one-call place n played a b h h' taken given leads none runs fits fits' known free few line =
+    let calm = quiet place played a b h.driver.counts leads none runs.accesses in
+    let flow = flows place n played a b h h' taken given leads calm.happened runs fits fits' known in
+    let before = work-none (world_at a place).adapter.receiver.work free in
+    let behind = work-none (world_at b place).adapter.receiver.work
+    (ap (λ (engine : Receiver). engine.work) calm.engine.receiver ∙ free) in
+    let buffer = ap (λ (engine : Receiver). length engine.buffer) calm.engine.receiver in
+    let pending = before.1 (count_line (world_at a place).adapter.causes) in
+    let pending' = behind.1 (count_line (world_at b place).adapter.causes) in
+    let one = held-counted h.driver.oldest_receive (world_at a place) in
+    let two = held-counted h'.driver.oldest_receive (world_at b place) in
+    record {
+      played = played;
+      leads = leads;
+      only = calm.only;
+      taken = taken;
+      runs = runs;
+      moves = 0;
+      moved = calm.happened;
+      buffered = omega (arith, buffer);
+      alone = calm.alone;
+      filter = calm.engine.filter;
+      most = omega (arith, flow.ring, flow.queues, before.0, behind.0, buffer, pending, pending', one, two, line);
+      least = omega (arith, before.0, behind.0, buffer, few);
+      held = omega (arith, flow.ring, flow.queues);
+    }
+
+-- An interrupt.
+
+first-event : (host : ℕ) (event : Event) (later : List AtomicStep) → events_at host (At host event ∷ later) ≡ event ∷ events_at host later
+first-event host event later =
+    ap (λ (here : Bool). (if here then event ∷ [] else []) ++ events_at host later) (eq-eqb host host refl)
+
+clears : (place : ℕ) (played early : List AtomicStep) (a b : List StationState) (counts : Counts) (causes : ℕ) → LeadsTo place played a b
+    → without_go is_go (map tick_of played) ≡ [] → All (IsOfDriver counts) (past_at place played).accesses
+    → ReadsIcrFirst place played early causes → (world_at b place).adapter.causes.recorded ≡ 0
+clears place played early a b counts causes leads none own first =
+    let are = events-here place place played (accesses-alone place played a b leads none) in
+    let trail = trail-of place place played a b leads in
+    let is : events_at place played ≡ events_at place early ++ Accesses (Reads ICR causes) ∷ events_at place first.later =
+    ap (events_at place) first.split
+    ∙ flat_map-append (events_by place) early (At place (Accesses (Reads ICR causes)) ∷ first.later)
+    ∙ ap (λ (list : List Event). events_at place early ++ list) (first-event place (Accesses (Reads ICR causes)) first.later) in
+    trail-clears counts (events_at place early) causes (events_at place first.later) (world_at a place) (world_at b place)
+    (subst (λ (list : List Event). All IsAccess list) is are)
+    (subst (λ (list : List Event). All (IsOfDriver counts) (past_of list).accesses) is own)
+    (subst (λ (list : List Event). Trail list (world_at a place) (world_at b place)) is trail)
+
+pub handled-steps : (result : Handled) (place : ℕ) (a b : List StationState) (before behind : OutcomeList) (accesses : ℕ)
+    (h h' : HostState)
+    → InterruptRuns result place [] a b before behind accesses h h' → (world_at a place).adapter.receiver.work ≡ None
+    → Meet (world_at a place).adapter.causes.recorded (world_at a place).adapter.causes.mask → StepsOn 1 place a b h h' []
+handled-steps result place a b before behind accesses h h' runs free meets =
+    let told = runs.runs.are_told in
+    let recorded = clears place runs.runs.steps runs.tells.early a b h.driver.counts runs.causes told.leads told.played
+    runs.runs.runs.accesses runs.tells.first in
+    let causes = (world_at b place).adapter.causes in
+    let none : bit_and causes.recorded causes.mask ≡ 0 =
+    ap (λ (r : ℕ). bit_and r causes.mask) recorded ∙ and_zero_l causes.mask in
+    one-call place (length h.queues + length h'.queues) runs.runs.steps a b h h' runs.taken [] told.leads told.played runs.runs.runs
+    (omega arith) (omega arith) (omega arith) free (omega arith) (omega (arith, none, meets))
+
+-- A frame that is given.
+
+queue-there : (queues : List (List Received)) (socket : ℕ) → queue_at queues socket ≢ [] → socket < length queues
+queue-there [] socket some = absurd (some refl)
+queue-there (queue ∷ later) zero some = omega arith
+queue-there (queue ∷ later) (suc socket) some = let rest = queue-there later socket some in omega (arith, rest)
+
+pub given-steps : (place socket : ℕ) (frame : List ℕ) (a b : List StationState) (before behind : OutcomeList) (accesses : ℕ)
+    (h h' : HostState) (made : List Access → Type 0)
+    → CallRuns place [] a b before behind accesses h h' [] (given_by socket (Ok frame)) [] made
+    → (world_at a place).adapter.receiver.work ≡ None → StepsOn 1 place a b h h' (given_by socket (Ok frame))
+given-steps place socket frame a b before behind accesses h h' made runs free =
+    let told = runs.are_told in
+    let n = length h.queues + (length h'.queues + (socket + 1)) in
+    let calm = quiet place runs.steps a b h.driver.counts told.leads told.played runs.runs.accesses in
+    let line = line-stays (world_at a place).adapter (world_at b place).adapter calm.engine in
+    let known = given-sum n (record { socket = socket; frame = frame }) (omega arith) in
+    one-call place n runs.steps a b h h' [] (given_by socket (Ok frame)) told.leads told.played runs.runs
+    (omega arith) (omega arith) (omega (arith, known)) free (omega arith) (omega (arith, line))
+
+-- One was given, as one waited.
+pub not-refused : (result : Result (List ℕ) RecvError) (error : RecvError) (socket : ℕ) (h : HostState) (world : World)
+    → AnswersRecv result socket h world → socket < length h.kinds → queue_at h.queues socket ≢ [] → result ≡ Err error → ⊥
+not-refused result Empty socket h world answers known some is =
+    some (Rattle.bus.proofs.Lists.map-empty
+    (Rattle.packet_socket.specs.HeldFrames.waiting_frame h.driver.counts world.memory) (queue_at h.queues socket)
+    (answers.empty.0 is).1)
+not-refused result NoSocket socket h world answers known some is =
+    let none = answers.no_socket.0 is in omega (arith, none, known)
+
+-- There is room for it.
+pub room-left : (h : HostState) (world : World) (socket places : ℕ) → queue_at h.queues socket ≢ [] → count_held h world ≤ places
+    → 0 < places
+room-left h world socket places some room =
+    let one = some-long (queue_at h.queues socket) some in
+    let within = queue-within h.queues socket in
+    omega (arith, one, within, room)
+  where
+    some-long : (queue : List Received) → queue ≢ [] → 0 < length queue
+    some-long [] some = absurd (some refl)
+    some-long (received ∷ queue) some = omega arith

@@ -1,0 +1,267 @@
+-- Where a drain ends, and what it did.
+use Rattle.std.proofs.Common.{◌≡◌, ◌≢◌, ◌≤◌, ◌<◌, ◌+◌, ◌-◌, ◌*◌, ◌^◌, ◌⊎◌, ◌++◌, ◌∷◌, [], ℕ, zero, suc, None, List, Option, bit_and}
+use Rattle.std.proofs.Common.{length, map}
+use Rattle.std.proofs.Common.{refl, sym, ap, subst, ◌∙◌, arith, replicate, length-append, inl, inr, ⊎_elim}
+use Rattle.std.proofs.lemmas.List.{append-nil, length-map}
+use Rattle.registers.specs.Bits.{HasBit, Meet}
+use Rattle.registers.specs.Laws.{HasBit-intersection, HasBit-zero}
+use Rattle.registers.specs.Places.{rxt0}
+use Rattle.descriptors.specs.Ring.{address_of, offered_places}
+use Rattle.descriptors.specs.RingLaws.{places-none}
+use Rattle.dma_memory.specs.OwnersLaws.{length-one_owner}
+use Rattle.rx_engine.specs.Descriptors.{named_address}
+use Rattle.adapter.specs.HostFrames.{frames_held, frames_to_send}
+use Rattle.adapter.specs.Slots.{finished, in_work, offered, outstanding, slot_of_work}
+use Rattle.adapter.specs.State.{IsAdapter}
+use Rattle.adapter.specs.World.{World, receive_ring}
+use Rattle.bus.specs.declared.event.Event.{Event}
+use Rattle.bus.specs.Trails.{Trail}
+use Rattle.driver.specs.declared.receiver.Received.{Received}
+use Rattle.driver_law.specs.DriverState.{HandedOut, buffer_at, numbers_of, owners}
+use Rattle.packet_socket.specs.HeldFrames.{driver_of, held_for_socket, socket_frames, waiting_entry, waiting_frame, without_socket}
+use Rattle.packet_socket.specs.HostState.{HostState}
+use Rattle.packet_socket.specs.HostStretches.{Given, given_for}
+use Rattle.packet_socket.specs.QueueLaws.{queue-within}
+use Rattle.packet_socket.specs.SocketsState.{all_of, queue_at}
+use Rattle.stations.specs.Stations.{StationState, backlog_at, wire_at, world_at}
+use Rattle.stations.proofs.HostTrails.{trail-of}
+use Rattle.stations.specs.AtomicRuns.{past_at}
+use Rattle.delivery.proofs.Laws.{frames-move}
+use Rattle.delivery.specs.Happenings.{Moved, missed, put, reached, toward}
+use Rattle.host_calls.specs.DrainedHosts.{CanBeDrained, Drains, DrainsInto, HoldsNothing, count_held}
+use Rattle.host_calls.specs.DrainSteps.{StepsInto, StepsOn, count_line, count_pending, count_steps}
+use Rattle.host_calls.proofs.AdapterSteps.{MovesNone, work-none}
+use Rattle.host_calls.proofs.JoinedSteps.{moves-missed, moves-put, moves-reached, moves-toward, nothing-stored}
+use Rattle.host_calls.proofs.SocketCounts.{held-counted}
+
+none-long : {X : Type 0} (xs : List X) → length xs ≡ 0 → xs ≡ []
+none-long [] none = refl
+none-long (x ∷ xs) none = absurd (omega (arith, none))
+
+is-empty : {X : Type 0} (xs : List X) → (xs ≢ [] → ⊥) → xs ≡ []
+is-empty [] none = refl
+is-empty (x ∷ xs) none = absurd (none (λ same. absurd (cc same)))
+
+-- Owners, counted.
+
+-- each buffer is free, in an outstanding slot, or in a queue
+buffers-counted : (h : HostState) (world : World) → CanBeDrained h world
+    → length h.driver.pool + (length h.driver.buffers + length (all_of h.queues)) ≡ h.driver.counts.buffers
+buffers-counted h world stands =
+    let d = driver_of h world in
+    let all = length-one_owner h.driver.counts.buffers (owners d) stands.ready.ready.driver_is.one_owner in
+    let handed = length-map d.handed_out (λ (one : HandedOut). one.number) in
+    let waiting = length-map (all_of h.queues) (waiting_entry h.driver.counts world.memory) in
+    omega (
+      arith,
+      all,
+      length-append d.pool (d.buffers ++ (d.staged ++ numbers_of d.handed_out)),
+      length-append d.buffers (d.staged ++ numbers_of d.handed_out),
+      length-append d.staged (numbers_of d.handed_out),
+      ap length stands.offered,
+      handed,
+      waiting,
+    )
+
+-- the outstanding slots are the finished ones, that in work, and those offered
+slots-counted : (h : HostState) (world : World) → CanBeDrained h world
+    → length h.driver.buffers
+    ≡ length (finished h.driver.oldest_receive world) + (length (in_work world) + length (offered (receive_ring world)))
+slots-counted h world stands =
+    let ring = receive_ring world in
+    let o = h.driver.oldest_receive in
+    let classes = ap length stands.ready.ready.sound.receive_slots.classes in
+    let names = ap length stands.ready.ready.names in
+    omega (
+      arith,
+      classes,
+      names,
+      length-append (finished o world) (in_work world ++ offered ring),
+      length-append (in_work world) (offered ring),
+      length-map (outstanding ring o) (named_address world.memory),
+      length-map h.driver.buffers (buffer_at h.driver.counts),
+    )
+
+-- So a host holds at most as many frames as it has buffers, and those of the packet buffer.
+pub held-at_most : (h : HostState) (world : World) → CanBeDrained h world → IsAdapter world.adapter
+    → count_held h world ≤ h.driver.counts.buffers + 24
+held-at_most h world stands adapter =
+    omega (
+      arith,
+      buffers-counted h world stands,
+      slots-counted h world stands,
+      held-counted h.driver.oldest_receive world,
+      adapter.receiver.room,
+    )
+
+-- The end.
+
+positive : (n place : ℕ) → HasBit n place → 0 < n
+positive zero place set = absurd (HasBit-zero place set)
+positive (suc n) place set = omega arith
+
+none-finished : (h : HostState) (world : World) → CanBeDrained h world → ¬ (Meet world.adapter.causes.recorded world.adapter.causes.mask)
+    → finished h.driver.oldest_receive world ≡ []
+none-finished h world stands quiet = ⊎_elim
+    (λ (none : finished h.driver.oldest_receive world ≡ []). none)
+    (λ (asked : HasBit world.adapter.causes.recorded rxt0).
+    let both = (HasBit-intersection world.adapter.causes.recorded world.adapter.causes.mask rxt0).1 (asked, stands.work.enabled) in
+    absurd (quiet (positive (bit_and world.adapter.causes.recorded world.adapter.causes.mask) rxt0 both))) stands.work.asked
+
+-- While no frame is finished, in work or queued, a slot is offered.
+some-offered : (h : HostState) (world : World) → CanBeDrained h world → finished h.driver.oldest_receive world ≡ []
+    → world.adapter.receiver.work ≡ None → all_of h.queues ≡ [] → 2 ≤ h.driver.counts.rx → 0 < h.driver.counts.buffers
+    → world.adapter.receive_ring.head ≢ world.adapter.receive_ring.tail
+some-offered h world stands none free empty rings buffers same =
+    let ring = receive_ring world in
+    let nowhere = length-map (offered_places ring) (address_of ring) in
+    let places = ap length (places-none ring same) in
+    let slots = slots-counted h world stands in
+    let work = (work-none world.adapter.receiver.work free).0 in
+    let outstanding_none : length h.driver.buffers ≡ 0 = omega (arith, slots, nowhere, places, work, ap length none) in
+    ⊎_elim
+    (λ (free_none : h.driver.pool ≡ []).
+    let all = buffers-counted h world stands in
+    absurd (omega (arith, all, ap length free_none, outstanding_none, ap length empty, buffers)))
+    (λ (full : length h.driver.buffers + 1 ≡ h.driver.counts.rx). absurd (omega (arith, full, outstanding_none, rings)))
+    stands.refilled
+
+holds-none : (h : HostState) (world : World) → count_held h world ≡ 0 → HoldsNothing h world
+holds-none h world none = record {
+  held = none-long (frames_held h.driver.oldest_receive world) (omega (arith, none));
+  queued = none-long (all_of h.queues) (omega (arith, none));
+}
+
+-- Where no frame is in work, the line isn't asserted, none waits for a socket, and none is moved, none is held.
+pub nothing-left : (place : ℕ) (a b : List StationState) (h : HostState) → CanBeDrained h (world_at a place) → MovesNone place a b h
+    → (world_at a place).adapter.receiver.work ≡ None
+    → ¬ (Meet (world_at a place).adapter.causes.recorded (world_at a place).adapter.causes.mask) → all_of h.queues ≡ []
+    → 2 ≤ h.driver.counts.rx → 0 < h.driver.counts.buffers → HoldsNothing h (world_at b place)
+nothing-left place a b h stands moves free quiet empty rings buffers =
+    let world = world_at a place in
+    let o = h.driver.oldest_receive in
+    let none = none-finished h world stands quiet in
+    let slot = some-offered h world stands none free empty rings buffers in
+    let buffer : world.adapter.receiver.buffer ≡ [] =
+    is-empty world.adapter.receiver.buffer (λ some. moves.takes.answers (record {
+      enabled = stands.enabled;
+      ready = record { running = stands.ready.ready.runs.receiver_runs; free = free; frames = some };
+      offered = slot;
+    })) in
+    let work = (work-none world.adapter.receiver.work free).0 in
+    let before = held-counted o world in
+    holds-none h (world_at b place)
+    (omega (arith, moves.on.held, before, ap length none, work, ap length buffer, ap length empty))
+
+-- What a drain did.
+
+steps-most : (h : HostState) (world : World) → count_steps h world ≤ 4 * count_held h world + 1
+steps-most h world =
+    let pending = bounded world.adapter.receiver.work (count_line world.adapter.causes) (omega arith) in
+    omega (arith, pending, held-counted h.driver.oldest_receive world)
+  where
+    bounded : (work : Option Rattle.rx_engine.specs.declared.engine.Work.Work) (line : ℕ) → line ≤ 1
+        → count_pending work line ≤ 3 * length (slot_of_work work) + 1
+    bounded None line few = omega (arith, few)
+    bounded (Rattle.std.proofs.Common.Some work) line few = omega arith
+
+-- fewer than a u64 holds
+pub steps-fit : (h : HostState) (world : World) → CanBeDrained h world → IsAdapter world.adapter → count_steps h world + 1 < 2 ^ 64
+steps-fit h world stands adapter =
+    let most = steps-most h world in
+    let held = held-at_most h world stands adapter in
+    let addresses = stands.ready.ready.driver_is.addresses in
+    omega (arith, most, held, addresses)
+
+nothing-waits : (h : HostState) (socket : ℕ) (world : World) → HoldsNothing h world → held_for_socket h socket world ≡ []
+nothing-waits h socket world none =
+    let queue : queue_at h.queues socket ≡ [] =
+    none-long (queue_at h.queues socket) (let within = queue-within h.queues socket in omega (arith, within, ap length none.queued)) in
+    ap (λ (list : List Received). map (waiting_frame h.driver.counts world.memory) list
+    ++ socket_frames h.kinds socket (frames_held h.driver.oldest_receive world)) queue
+    ∙ ap (socket_frames h.kinds socket) none.held
+
+pub drains : (steps place : ℕ) (a b : List StationState) (h h' : HostState) (given : List Given) → StepsOn steps place a b h h' given
+    → HoldsNothing h' (world_at b place) → CanBeDrained h (world_at a place) → IsAdapter (world_at a place).adapter
+    → Drains steps place a b h h' given
+drains steps place a b h h' given on none stands adapter =
+    let one = world_at a place in
+    let two = world_at b place in
+    let past = past_at place on.played in
+    let moves = frames-move place place on.played a b on.leads in
+    let stored : past.stored ≡ [] = nothing-stored place place on.played a b on.moves on.leads on.moved in
+    let gone : past.put ≡ [] = sym moves.put ∙ ap (put place) on.moved ∙ moves-put place on.moves place in
+    let lost : past.missed ≡ 0 = sym moves.missed ∙ ap (missed place) on.moved ∙ moves-missed place on.moves place in
+    let flows = on.runs.flows.flows in
+    let small = adapter.registers.counters.missed in
+    let accounts = on.runs.flows.accounts in
+    let behind = held-counted h'.driver.oldest_receive two in
+    let empty = ap length none.held in
+    let most = steps-most h one in
+    let counted = without_socket h.kinds (frames_held h.driver.oldest_receive one) in
+    let without : without_socket h'.kinds (frames_held h'.driver.oldest_receive two) ≡ 0 = ap (without_socket h'.kinds) none.held in
+    let without_stored : without_socket h.kinds past.stored ≡ 0 = ap (without_socket h.kinds) stored in
+    record {
+      at_most = omega (arith, on.most, most);
+      at_least = omega (arith, on.least, behind, empty);
+      all_given = λ socket.
+          sym (append-nil (given_for socket given))
+          ∙ ap (λ (list : List (List ℕ)). given_for socket given ++ list) (sym (nothing-waits h' socket two none))
+          ∙ accounts.sockets socket
+          ∙ ap (λ (list : List (List ℕ)). held_for_socket h socket one ++ socket_frames h.kinds socket list) stored
+          ∙ append-nil (held_for_socket h socket one);
+      nothing_left = none;
+      unclaimed = record {
+        least = accounts.least;
+        most = let all = accounts.most in omega (arith, all, without, without_stored);
+        exactly = λ below. let all = accounts.exactly below in omega (arith, all, without, without_stored);
+      };
+      to_send =
+          ap (λ (list : List (List ℕ)). list ++ frames_to_send two) (sym gone) ∙ flows.sends ∙ append-nil (frames_to_send one);
+      lines = λ k.
+          let there = frames-move place k on.played a b on.leads in
+          ap (λ (list : List (List ℕ)). list ++ backlog_at b k)
+          (sym (moves-reached k on.moves place) ∙ ap (reached k) (sym on.moved))
+          ∙ there.waits
+          ∙ ap (λ (list : List (List ℕ)). backlog_at a k ++ list)
+          (ap (toward (wire_at a) k) on.moved ∙ moves-toward (wire_at a) k on.moves place)
+          ∙ append-nil (backlog_at a k);
+      others = λ k other.
+          subst (λ (list : List Event). Trail list (world_at a k) (world_at b k)) (on.alone k other)
+          (trail-of place k on.played a b on.leads);
+      misses = record {
+        sum = λ fits. let all = flows.counted (omega (arith, small, lost)) (omega (arith, fits, lost)) in omega (arith, all, lost);
+        sticks = λ much. flows.sticks (omega (arith, small, lost)) (omega (arith, much, lost));
+        exact = λ exact below fits. (
+          flows.stays_exact exact (omega (arith, below, lost)) (omega (arith, fits, lost)),
+          omega (arith, flows.at_most, flows.sum, below, lost),
+        );
+      };
+      played = on.played;
+      leads = on.leads;
+      only = on.only;
+      taken = on.taken;
+      runs = on.runs;
+      moved =
+          on.moved
+          ∙ ap (λ (n : ℕ). replicate n (Moved place))
+          (omega (arith, on.buffered, behind, empty));
+    }
+
+pub drains-into : (steps place : ℕ) (a b : List StationState) (h h' : HostState) (before behind : List Given) (places left : ℕ)
+    → StepsInto steps place a b h h' before behind places left → HoldsNothing h' (world_at b place) → CanBeDrained h (world_at a place)
+    → IsAdapter (world_at a place).adapter → DrainsInto steps place a b h h' before behind
+drains-into steps place a b h h' before behind places left into none stands adapter = record {
+  given = into.given;
+  appended = into.appended;
+  drains = drains steps place a b h h' into.given into.on none stands adapter;
+}
+
+-- Where nothing waits for any socket, all queues are empty.
+pub all-wait_for_none : (queues : List (List Received)) (n : ℕ) → length queues ≤ n
+    → ((k : ℕ) → k < n → queue_at queues k ≡ []) → all_of queues ≡ []
+all-wait_for_none [] n fits none = refl
+all-wait_for_none (queue ∷ later) zero fits none = absurd (omega (arith, fits))
+all-wait_for_none (queue ∷ later) (suc n) fits none =
+    ap (λ (list : List Received). list ++ all_of later) (none 0 (omega arith))
+    ∙ all-wait_for_none later n (omega (arith, fits)) (λ k below. none (suc k) (omega (arith, below)))

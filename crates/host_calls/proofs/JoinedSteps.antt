@@ -1,0 +1,144 @@
+-- Steps of a drain, one behind the other.
+use Rattle.std.proofs.Common.{◌≡◌, ◌≢◌, ◌+◌, ◌++◌, ◌∷◌, [], ℕ, zero, suc, Bool, false, List, length, replicate, refl, sym, ap, subst, ◌∙◌}
+use Rattle.std.proofs.Common.{arith, length-append}
+use Rattle.std.proofs.lemmas.List.{replicate-append-replicate}
+use Rattle.std.proofs.lemmas.List.Elements.{All-append}
+use Rattle.std.proofs.lemmas.Grind.{flat_map-append}
+use Rattle.registers.specs.Bits.{HasBit}
+use Rattle.registers.specs.Places.{rctl_en}
+use Rattle.rx_filter.specs.Registers.{FilterRegisters}
+use Rattle.bus.proofs.Lists.{all-none}
+use Rattle.bus.specs.declared.event.Event.{Event}
+use Rattle.stations.specs.AtomicSteps.{AtomicStep}
+use Rattle.stations.specs.Stations.{StationState, world_at}
+use Rattle.stations.specs.AtomicRunLaws.{leads_join}
+use Rattle.stations.specs.AtomicRuns.{IsTick, LeadsTo, events_at, events_by, past_at}
+use Rattle.delivery.proofs.Laws.{frames-move}
+use Rattle.delivery.specs.Happenings.{Happening, Moved, happened_by, happened_in, missed, put, reached, stored, toward}
+use Rattle.packet_socket.specs.HostState.{HostState}
+use Rattle.packet_socket.specs.HostStretches.{Given}
+use Rattle.host_calls.proofs.Calling.{ready-behind, runs-alone, runs-join}
+use Rattle.host_calls.proofs.HostTrails.{happens-alone, none-alone}
+use Rattle.host_calls.specs.DrainedHosts.{CanBeDrained, IsDrainStep}
+use Rattle.host_calls.specs.DrainSteps.{StepsInto, StepsOn, steps_of}
+
+-- The host can still be drained.
+pub stands-on : (steps place : ℕ) (a b : List StationState) (h h' : HostState) (given : List Given) → StepsOn steps place a b h h' given
+    → CanBeDrained h (world_at a place) → CanBeDrained h' (world_at b place)
+stands-on steps place a b h h' given on stands = record {
+  ready = ready-behind h (world_at a place) h' (world_at b place) on.taken given [] (past_at place on.played) on.runs.flows;
+  work = on.runs.work stands.work;
+  refilled = on.runs.refilled stands.refilled;
+  offered = on.runs.offered stands.offered;
+  enabled = subst (λ (filter : FilterRegisters). HasBit filter.rctl rctl_en) (sym on.filter) stands.enabled;
+}
+
+-- None.
+pub steps-none : (place : ℕ) (a : List StationState) (h : HostState) → CanBeDrained h (world_at a place) → StepsOn 0 place a a h h []
+steps-none place a h stands = record {
+  played = [];
+  leads = refl;
+  only = all-none (IsDrainStep place);
+  taken = [];
+  runs = runs-alone place [] a a h stands.ready (happens-alone place place [] a a (all-none IsTick) refl)
+      (none-alone place [] (all-none IsTick));
+  moves = 0;
+  moved = refl;
+  buffered = omega arith;
+  alone = λ k other. refl;
+  filter = refl;
+  most = omega arith;
+  least = omega arith;
+  held = omega arith;
+}
+
+-- Some, and then others.
+pub steps-join : (m n place : ℕ) (a b c : List StationState) (h1 h2 h3 : HostState) (given more : List Given)
+    → StepsOn m place a b h1 h2 given → StepsOn n place b c h2 h3 more → StepsOn (m + n) place a c h1 h3 (given ++ more)
+steps-join m n place a b c h1 h2 h3 given more one two =
+    let both = length-append given more in
+    record {
+      played = one.played ++ two.played;
+      leads = leads_join place one.played two.played a b c one.leads two.leads;
+      only = All-append (IsDrainStep place) one.played two.played one.only two.only;
+      taken = one.taken ++ two.taken;
+      runs = runs-join place one.played two.played a b c h1 h2 h3 one.taken two.taken given more [] [] one.runs.flows.flows.counts
+          one.runs two.runs;
+      moves = one.moves + two.moves;
+      moved =
+          flat_map-append happened_by one.played two.played
+          ∙ ap (λ (list : List Happening). list ++ happened_in two.played) one.moved
+          ∙ ap (λ (list : List Happening). replicate one.moves (Moved place) ++ list) two.moved
+          ∙ replicate-append-replicate one.moves two.moves (Moved place);
+      buffered = omega (arith, one.buffered, two.buffered);
+      alone = λ k other.
+          flat_map-append (events_by k) one.played two.played
+          ∙ ap (λ (list : List Event). list ++ events_at k two.played) (one.alone k other)
+          ∙ two.alone k other;
+      filter = two.filter ∙ one.filter;
+      most = omega (arith, one.most, two.most);
+      least = omega (arith, one.least, two.least, both);
+      held = omega (arith, one.held, two.held, both);
+    }
+
+-- A look that did nothing comes first.
+pub steps-after : (first : Bool) (n place : ℕ) (a b c : List StationState) (h h' : HostState) (given : List Given) → first ≡ false
+    → StepsOn (steps_of first) place a b h h [] → StepsOn n place b c h h' given → StepsOn n place a c h h' given
+steps-after first n place a b c h h' given none one two =
+    let nothing : 0 + n ≡ n = omega arith in
+    subst (λ (k : ℕ). StepsOn k place a c h h' given) nothing
+    (steps-join 0 n place a b c h h h' [] given
+    (subst (λ (stepped : Bool). StepsOn (steps_of stepped) place a b h h []) none one) two)
+
+pub still-stands : (first : Bool) (place : ℕ) (a b : List StationState) (h : HostState) → first ≡ false
+    → StepsOn (steps_of first) place a b h h [] → CanBeDrained h (world_at a place) → CanBeDrained h (world_at b place)
+still-stands first place a b h none one stands = stands-on (steps_of first) place a b h h [] one stands
+
+-- What moves of frames into memory say: nothing is put, reaches a host, is stored or missed.
+
+pub moves-put : (k n place : ℕ) → put k (replicate n (Moved place)) ≡ []
+moves-put k zero place = refl
+moves-put k (suc n) place = moves-put k n place
+
+pub moves-reached : (k n place : ℕ) → reached k (replicate n (Moved place)) ≡ []
+moves-reached k zero place = refl
+moves-reached k (suc n) place = moves-reached k n place
+
+pub moves-stored : (k n place : ℕ) → stored k (replicate n (Moved place)) ≡ []
+moves-stored k zero place = refl
+moves-stored k (suc n) place = moves-stored k n place
+
+pub moves-missed : (k n place : ℕ) → missed k (replicate n (Moved place)) ≡ 0
+moves-missed k zero place = refl
+moves-missed k (suc n) place = moves-missed k n place
+
+pub moves-toward : (wires : ℕ → Rattle.std.proofs.Common.Option ℕ) (k n place : ℕ) → toward wires k (replicate n (Moved place)) ≡ []
+moves-toward wires k zero place = refl
+moves-toward wires k (suc n) place = moves-toward wires k n place
+
+pub nothing-stored : (place k : ℕ) (played : List AtomicStep) (a b : List StationState) (n : ℕ) → LeadsTo place played a b
+    → happened_in played ≡ replicate n (Moved place) → (past_at k played).stored ≡ []
+nothing-stored place k played a b n leads moved =
+    sym (frames-move place k played a b leads).stored ∙ ap (stored k) moved ∙ moves-stored k n place
+
+-- Into an outlet.
+
+pub into-none : (place : ℕ) (a b : List StationState) (h h' : HostState) (had : List Given) (places steps : ℕ)
+    → StepsOn steps place a b h h' [] → StepsInto steps place a b h h' had had places places
+into-none place a b h h' had places steps on = record {
+  given = [];
+  appended = sym (Rattle.std.proofs.lemmas.List.append-nil had);
+  room = omega arith;
+  on = on;
+}
+
+pub into-join : (m n place : ℕ) (a b c : List StationState) (h1 h2 h3 : HostState) (x y z : List Given) (p q r : ℕ)
+    → StepsInto m place a b h1 h2 x y p q → StepsInto n place b c h2 h3 y z q r → StepsInto (m + n) place a c h1 h3 x z p r
+into-join m n place a b c h1 h2 h3 x y z p q r one two = record {
+  given = one.given ++ two.given;
+  appended =
+      two.appended ∙ ap (λ (list : List Given). list ++ two.given) one.appended
+      ∙ Rattle.std.proofs.Common.append_assoc x one.given two.given;
+  room = omega (arith, one.room, two.room, length-append one.given two.given);
+  on = steps-join m n place a b c h1 h2 h3 one.given two.given one.on two.on;
+}

@@ -1,0 +1,137 @@
+-- Steps and deliveries of which nothing comes record no cause.
+use Rattle.std.proofs.Common.{◌≡◌, ◌≢◌, ◌==◌, ◌⊎◌, ◌++◌, ◌∷◌, [], ℕ, Bool, true, false, Some, None, List, inl, inr}
+use Rattle.std.proofs.Common.{if◌then◌else◌, refl, sym, ap, subst, ◌∙◌}
+use Rattle.std.specs.List.{All}
+use Rattle.std.proofs.lemmas.Bool.Decides.{eqb_tells}
+use Rattle.std.proofs.lemmas.List.Elements.{All-cons}
+use Rattle.mdic_phy.specs.Mdic.{has_work}
+use Rattle.mdic_phy.specs.declared.mdic.Ticked.{Ticked}
+use Rattle.registers.specs.Bits.{HasBit}
+use Rattle.registers.specs.Laws.{HasBit-union, HasBit-zero}
+use Rattle.adapter.specs.State.{AdapterState}
+use Rattle.adapter.specs.Steps.{ticked}
+use Rattle.adapter.specs.World.{World}
+use Rattle.adapter.specs.declared.step.StepKind.{StepKind}
+use Rattle.adapter.specs.declared.step.StepKind.TheVariants.{EepromTick, PhyTick, RxData, RxDone, TxPut, TxTake}
+use Rattle.adapter.specs.declared.step.Stepped.{Stepped}
+use Rattle.adapter.specs.declared.step.Stepped.TheVariants as stepped
+use Rattle.bus.proofs.Lists.{all-head, all-none, all-tail}
+use Rattle.bus.specs.TrailCauses.{causes_by, causes_by_step, causes_by_tick, causes_in}
+use Rattle.bus.specs.Trails.{Occurs, Trail, world_after}
+use Rattle.bus.specs.declared.event.Event.{Event}
+use Rattle.bus.specs.declared.event.Event.TheVariants.{Accesses, Arrives, Steps}
+use Rattle.stations.specs.AtomicSteps.{At, AtomicStep, Idles, outcome_of_event}
+use Rattle.stations.specs.Outcomes.{outcome_of_step}
+use Rattle.stations.specs.declared.tick.Outcome.{Outcome}
+use Rattle.stations.specs.declared.tick.Outcome.TheVariants.{Delivered, Done, Fault, Moved, Nothing, Put, Ticked as DidTick, Took, WireFull}
+use Rattle.stations.specs.AtomicRuns.{events_at}
+use Rattle.host_calls.specs.InterruptCauses.{DidSomething}
+
+-- nothing comes of the event
+abbrev pub IsSilent : Event → Type 0
+IsSilent event = outcome_of_event event ≡ Nothing
+
+is-nothing : (outcome : Outcome) → (outcome ≡ Nothing) ⊎ (outcome ≢ Nothing)
+is-nothing Took = inr (λ same. absurd (cc same))
+is-nothing (Put frame) = inr (λ same. absurd (cc same))
+is-nothing WireFull = inr (λ same. absurd (cc same))
+is-nothing Moved = inr (λ same. absurd (cc same))
+is-nothing Done = inr (λ same. absurd (cc same))
+is-nothing (Delivered frame fate) = inr (λ same. absurd (cc same))
+is-nothing DidTick = inr (λ same. absurd (cc same))
+is-nothing Nothing = inl refl
+is-nothing Fault = inr (λ same. absurd (cc same))
+
+answer-nothing : (answer : Stepped) → outcome_of_step answer ≡ Nothing → answer ≡ stepped.Nothing
+answer-nothing stepped.Took same = absurd (cc same)
+answer-nothing (stepped.Put frame) same = absurd (cc same)
+answer-nothing stepped.WireFull same = absurd (cc same)
+answer-nothing stepped.Moved same = absurd (cc same)
+answer-nothing stepped.Done same = absurd (cc same)
+answer-nothing stepped.Ticked same = absurd (cc same)
+answer-nothing stepped.Nothing same = refl
+answer-nothing stepped.Fault same = absurd (cc same)
+
+-- A tick of the PHY without work tells nothing.
+silent-tick : (work : Bool) (tells : Ticked) → stepped.Nothing ≡ ticked work → causes_by_tick (if work then Some tells else None) ≡ 0
+silent-tick true tells same = absurd (cc same)
+silent-tick false tells same = refl
+
+silent-step : (kind : StepKind) (adapter : AdapterState)
+    → (kind ≡ PhyTick → stepped.Nothing ≡ ticked (has_work adapter.mdic adapter.phy)) → causes_by_step kind stepped.Nothing adapter ≡ 0
+silent-step TxTake adapter tick = refl
+silent-step TxPut adapter tick = refl
+silent-step RxData adapter tick = refl
+silent-step RxDone adapter tick = refl
+silent-step EepromTick adapter tick = refl
+silent-step PhyTick adapter tick = silent-tick (has_work adapter.mdic adapter.phy) _ (tick refl)
+
+no-tick : (kind : StepKind) (world : World) (wire_free : Bool) (answer : Stepped) → Occurs (Steps kind wire_free answer) world
+    → answer ≡ stepped.Nothing → kind ≡ PhyTick → stepped.Nothing ≡ ticked (has_work world.adapter.mdic world.adapter.phy)
+no-tick PhyTick world wire_free answer occurs nothing is = sym nothing ∙ occurs.1
+no-tick TxTake world wire_free answer occurs nothing is = absurd (cc is)
+no-tick TxPut world wire_free answer occurs nothing is = absurd (cc is)
+no-tick RxData world wire_free answer occurs nothing is = absurd (cc is)
+no-tick RxDone world wire_free answer occurs nothing is = absurd (cc is)
+no-tick EepromTick world wire_free answer occurs nothing is = absurd (cc is)
+
+silent-event : (event : Event) (world : World) → Occurs event world → IsSilent event → causes_by event world ≡ 0
+silent-event (Steps kind wire_free answer) world occurs silent =
+    let nothing = answer-nothing answer silent in
+    ap (λ (s : Stepped). causes_by_step kind s world.adapter) nothing
+    ∙ silent-step kind world.adapter (no-tick kind world wire_free answer occurs nothing)
+silent-event (Arrives frame fate) world occurs silent = absurd (cc silent)
+silent-event (Accesses access) world occurs silent = refl
+
+pub silent-events : (events : List Event) (a b : World) (place : ℕ) → Trail events a b → All IsSilent events
+    → ¬ (HasBit (causes_in events a) place)
+silent-events [] a b place trail silent set = HasBit-zero place set
+silent-events (event ∷ later) a b place trail silent set =
+    let first : causes_by event a ≡ 0 = silent-event event a trail.0 (all-head IsSilent event later silent) in
+    elim ((HasBit-union (causes_by event a) (causes_in later (world_after event a)) place).0 set) [
+      | inl here ↦ HasBit-zero place (subst (λ (n : ℕ). HasBit n place) first here)
+      | inr behind ↦
+          silent-events later (world_after event a) b place trail.1 (all-tail IsSilent event later silent) behind
+    ]
+
+-- Either something came of one of these steps at a host, or nothing of each.
+
+did-before : (caller : ℕ) (step : AtomicStep) (later : List AtomicStep) → DidSomething caller later → DidSomething caller (step ∷ later)
+did-before caller step later did = record {
+  before = step ∷ did.before;
+  event = did.event;
+  behind = did.behind;
+  split = ap (λ (list : List AtomicStep). step ∷ list) did.split;
+  something = did.something;
+}
+
+did-first : (caller host : ℕ) (event : Event) (later : List AtomicStep) → caller ≡ host → outcome_of_event event ≢ Nothing
+    → DidSomething caller (At host event ∷ later)
+did-first caller host event later same something = record {
+  before = [];
+  event = event;
+  behind = later;
+  split = ap (λ (k : ℕ). At k event ∷ later) (sym same);
+  something = something;
+}
+
+silent-first : (here : Bool) (event : Event) (others : List Event) → (here ≡ true → IsSilent event) → All IsSilent others
+    → All IsSilent ((if here then event ∷ [] else []) ++ others)
+silent-first true event others is all = All-cons IsSilent event others (is refl) all
+silent-first false event others is all = all
+
+pub did-or_silent : (caller : ℕ) (steps : List AtomicStep) → DidSomething caller steps ⊎ All IsSilent (events_at caller steps)
+did-or_silent caller [] = inr (all-none IsSilent)
+did-or_silent caller (Idles tick ∷ later) =
+    elim (did-or_silent caller later) [ inl did ↦ inl (did-before caller (Idles tick) later did) | inr silent ↦ inr silent ]
+did-or_silent caller (At host event ∷ later) =
+    elim (did-or_silent caller later) [
+      | inl did ↦ inl (did-before caller (At host event) later did)
+      | inr silent ↦ elim (eqb_tells caller host) [
+        | inl same ↦ elim (is-nothing (outcome_of_event event)) [
+          | inl nothing ↦ inr (silent-first (caller == host) event (events_at caller later) (λ here. nothing) silent)
+          | inr something ↦ inl (did-first caller host event later same.1 something)
+        ]
+        | inr other ↦ inr (silent-first (caller == host) event (events_at caller later) (λ here. absurd (cc (here, other.0))) silent)
+      ]
+    ]

@@ -1,0 +1,28 @@
+use Rattle.std.proofs.Common.{[], ℕ, List, arith, rules, subst}
+use Rattle.std.specs.Prelude.{Ok, Result}
+use Rattle.packet_socket.specs.declared.receive.RecvError.{RecvError}
+use Rattle.stations.specs.Stations.{world_at}
+use Rattle.host_calls.specs.CallAnswers.{MakesRecv, given_by}
+use Rattle.host_calls.specs.CallsOfHosts.{CallRuns}
+use Rattle.host_calls.proofs.CallSteps.{given-steps, not-refused}
+use Rattle.host_calls.proofs.draining.give.Goals as goal
+
+pub returns-in-Ok : goal.returns-in-Ok
+returns-in-Ok g c =
+    let same = c.in-Ok.frame-is in
+    record {
+      given = given_by c.args.socket (Ok c.in-Ok.frame);
+      appended = search rules;
+      room = omega arith;
+      on = given-steps c.args.place c.args.socket c.in-Ok.frame c.args.stations.now c.recv.new.stations c.args.outcomes.now
+          c.recv.new.outcomes c.recv.result.accesses c.args.host.now c.recv.new.host
+          (MakesRecv (Ok c.in-Ok.frame) c.args.socket c.args.host.now c.recv.new.host)
+          (subst (λ (answer : Result (List ℕ) RecvError). CallRuns c.args.place [] c.args.stations.now c.recv.new.stations
+          c.args.outcomes.now c.recv.new.outcomes c.recv.result.accesses c.args.host.now c.recv.new.host []
+          (given_by c.args.socket answer) [] (MakesRecv answer c.args.socket c.args.host.now c.recv.new.host)) c.in-Ok.is c.recv.ensures.runs) c.requires.free;
+    }
+
+pub returns-in_default : goal.returns-in_default
+returns-in_default g c =
+    absurd (not-refused c.recv.result.answer c.in_default.field-0 c.args.socket c.args.host.now
+    (world_at c.args.stations.now c.args.place) c.recv.ensures.answers c.requires.known c.requires.waits c.in_default.is)

@@ -1,0 +1,50 @@
+use Rattle.std.proofs.Common.{[]}
+use Rattle.stations.specs.Stations.{world_at}
+use Rattle.host_calls.specs.DrainSteps.{steps_of}
+use Rattle.host_calls.proofs.CallSteps.{room-left}
+use Rattle.host_calls.proofs.JoinedSteps.{into-none, steps-after, still-stands}
+use Rattle.host_calls.proofs.draining.step.Goals as goal
+
+pub handle-requires-clause-stands : goal.handle-requires-clause-stands
+handle-requires-clause-stands g c =
+    still-stands c.finish.result c.args.place c.args.stations.now c.finish.new.stations c.args.host.now c.if-finish.false
+    (c.finish.ensures.steps c.args.host.now c.requires.stands) c.requires.stands
+
+pub returns-then-line_at-clause-steps : goal.returns-then-line_at-clause-steps
+returns-then-line_at-clause-steps g c =
+    into-none c.args.place c.args.stations.now c.handle.new.stations c.args.host.now c.handle.new.host
+    (g.S.Outlet.frames c.args.sink.now) (g.S.Outlet.places c.args.sink.now) 1
+    (steps-after c.finish.result 1 c.args.place c.args.stations.now c.finish.new.stations c.handle.new.stations c.args.host.now
+    c.handle.new.host [] c.if-finish.false (c.finish.ensures.steps c.args.host.now c.requires.stands) c.handle.ensures)
+
+pub give-requires-clause-stands : goal.give-requires-clause-stands
+give-requires-clause-stands g c =
+    still-stands c.finish.result c.args.place c.args.stations.now c.finish.new.stations c.args.host.now c.if-finish.false
+    (c.finish.ensures.steps c.args.host.now c.requires.stands) c.requires.stands
+
+pub give-requires-clause-room : goal.give-requires-clause-room
+give-requires-clause-room g c =
+    room-left c.args.host.now (world_at c.args.stations.now c.args.place) c.in-Some.socket (g.S.Outlet.places c.args.sink.now)
+    c.in-Some.ensures.some.1 c.requires.room
+
+pub returns-in-Some-clause-steps : goal.returns-in-Some-clause-steps
+returns-in-Some-clause-steps g c = record {
+  given = c.give.ensures.given;
+  appended = c.give.ensures.appended;
+  room = c.give.ensures.room;
+  on = steps-after c.finish.result 1 c.args.place c.args.stations.now c.finish.new.stations c.give.new.stations c.args.host.now
+      c.give.new.host c.give.ensures.given c.if-finish.false (c.finish.ensures.steps c.args.host.now c.requires.stands) c.give.ensures.on;
+}
+
+pub move_frame-requires-clause-stands : goal.move_frame-requires-clause-stands
+move_frame-requires-clause-stands g c =
+    still-stands c.finish.result c.args.place c.args.stations.now c.finish.new.stations c.args.host.now c.if-finish.false
+    (c.finish.ensures.steps c.args.host.now c.requires.stands) c.requires.stands
+
+pub returns-clause-steps : goal.returns-clause-steps
+returns-clause-steps g c =
+    into-none c.args.place c.args.stations.now c.move_frame.new.stations c.args.host.now c.args.host.now
+    (g.S.Outlet.frames c.args.sink.now) (g.S.Outlet.places c.args.sink.now) (steps_of c.move_frame.result)
+    (steps-after c.finish.result (steps_of c.move_frame.result) c.args.place c.args.stations.now c.finish.new.stations
+    c.move_frame.new.stations c.args.host.now c.args.host.now [] c.if-finish.false
+    (c.finish.ensures.steps c.args.host.now c.requires.stands) c.move_frame.ensures.steps)

@@ -1,0 +1,48 @@
+-- Laws of what an interrupt handler answers.
+use Rattle.std.specs.Prelude.{◌≡◌, ◌==◌, ◌++◌, ◌∷◌, ℕ, true, List, filter, map}
+use Rattle.adapter.specs.declared.offsets.TheConstants.{ICR}
+use Rattle.bus.specs.PastOfStretch.{Past}
+use Rattle.bus.specs.declared.event.Access.{Access}
+use Rattle.bus.specs.declared.event.Access.TheVariants.{Reads}
+use Rattle.stations.specs.AtomicSteps.{AtomicStep, outcome_of}
+use Rattle.stations.specs.declared.outcomes.Numbered.{Numbered}
+use Rattle.stations.specs.AtomicRuns.{noted_of}
+use Rattle.stations.specs.Retelling.{Retells, world_here}
+use Rattle.stations.specs.declared.lent_bus.LentBus.{LentBus}
+use Rattle.driver.specs.declared.interrupt.Handled.{Handled}
+use Rattle.packet_socket.specs.HeldFrames.{HostReady}
+use Rattle.packet_socket.specs.HostCalls.{HostHandles}
+use Rattle.packet_socket.specs.HostState.{HostState}
+use Rattle.host_calls.specs.InterruptCauses.{ReadsIcrFirst, TellsCauses}
+
+-- A host that is ready handles an interrupt over a lent bus: the answer tells of the causes at entry, and of what was played before ICR
+-- was read.
+abbrev pub AnswersTellCauses : Type 0
+AnswersTellCauses =
+    (a m : LentBus) (h h' : HostState) (result : Handled) → HostReady h (world_here a)
+    → (handles : HostHandles true world_here Retells a m h h' result)
+    → TellsCauses a.host handles.reads.told.steps handles.causes (world_here a).adapter.causes.recorded result
+
+-- So it does where the bus tells of more than that first part, as of the whole call.
+abbrev pub CallsTellCauses : Type 0
+CallsTellCauses =
+    (a m b : LentBus) (h h' : HostState) (result : Handled) (past : Past) (more : List Access) → HostReady h (world_here a)
+    → (handles : HostHandles true world_here Retells a m h h' result) → (told : Retells a b past)
+    → past.accesses ≡ Reads ICR handles.causes ∷ more
+    → TellsCauses a.host told.steps handles.causes (world_here a).adapter.causes.recorded result
+
+-- Whatever comes behind, the first access stays the first.
+abbrev pub FirstReadsStay : Type 0
+FirstReadsStay =
+    (caller : ℕ) (steps early more : List AtomicStep) (causes : ℕ) → ReadsIcrFirst caller steps early causes
+    → ReadsIcrFirst caller (steps ++ more) early causes
+
+-- an outcome that bears the number 0
+abbrev pub noted_first : AtomicStep → Numbered
+noted_first step = record { accesses = 0; outcome = outcome_of step }
+
+-- The outcomes of a call that bear the number 0 are those of its early steps.
+abbrev pub EarlyOutcomesBearZero : Type 0
+EarlyOutcomesBearZero =
+    (caller : ℕ) (steps early : List AtomicStep) (causes : ℕ) → ReadsIcrFirst caller steps early causes
+    → filter (λ (one : Numbered). one.accesses == 0) (noted_of 0 steps) ≡ map noted_first early

@@ -1,0 +1,155 @@
+// A host is drained, step by step.
+
+ghost use Rattle.std.specs.Prelude.{◌≡◌, ◌≢◌, ◌≤◌, ◌<◌, ◌+◌, [], None, IfNone, IfSome, false, length, ℕ};
+ghost use Rattle.registers.specs.Bits.{Meet};
+ghost use Rattle.packet_socket.specs.HostState.{HostState};
+ghost use Rattle.packet_socket.specs.SocketsState.{all_of, queue_at};
+ghost use Rattle.stations.specs.Stations.{world_at};
+ghost use Rattle.host_calls.specs.DrainedHosts.{CanBeDrained, DrainsInto, HoldsNothing, count_held};
+ghost use Rattle.host_calls.specs.DrainSteps.{StepsInto, StepsOn, steps_of};
+
+use crate::Outlet;
+use adapter::{StepKind, StepOutcome};
+use packet_socket::Host;
+use stations::{Outcomes, Station, line_at, step_at};
+
+/// Drains a host: gives all that it holds for its sockets to `sink`, and tells in how many steps. `place` is the
+/// host's number. No outcome is noted, as no tick is played inside its calls. What room `sink` had and didn't need is
+/// left.
+///
+/// Each step is the first of these that applies: its adapter ends the frame in work, where there is one; the host
+/// handles an interrupt, where the line is asserted; it gives the oldest frame of its first socket for which one
+/// waits; its adapter moves a frame out of the receive packet buffer, where there is one.
+pub fn drain<S: Outlet>(
+    host: &mut Host,
+    stations: &mut [Station],
+    place: usize,
+    outcomes: &mut Outcomes,
+    sink: &mut S,
+) -> u64
+    requires there { place < length stations.old }
+    requires stands { CanBeDrained host.old (world_at stations.old place) }
+    requires room { host.old.driver.counts.buffers + 24 ≤ S.places sink.old }
+    ensures drains { DrainsInto result place stations.old stations.new host.old host.new (S.frames sink.old)
+        (S.frames sink.new) }
+    ensures left { length (S.frames sink.old) + S.places sink.old ≤ length (S.frames sink.new) + S.places sink.new }
+{
+    // A look at the adapter, so that the frames that are held may be counted as those of every adapter.
+    let _line = line_at(stations, place);
+    let mut steps = 0;
+    while step(host, stations, place, outcomes, sink) {
+        steps += 1;
+    }
+    steps
+}
+
+/// The next step, if one applies: else nothing is held.
+fn step<S: Outlet>(
+    host: &mut Host,
+    stations: &mut [Station],
+    place: usize,
+    outcomes: &mut Outcomes,
+    sink: &mut S,
+) -> bool
+    requires there { place < length stations.old }
+    requires stands { CanBeDrained host.old (world_at stations.old place) }
+    requires room { count_held host.old (world_at stations.old place) ≤ S.places sink.old }
+    ensures steps { StepsInto (steps_of result) place stations.old stations.new host.old host.new
+        (S.frames sink.old) (S.frames sink.new) (S.places sink.old) (S.places sink.new) }
+    ensures ends { result ≡ false → HoldsNothing host.new (world_at stations.new place) }
+{
+    if finish(stations, place) {
+        return true;
+    }
+    if line_at(stations, place) {
+        handle(host, stations, place, outcomes);
+        return true;
+    }
+    if let Some(socket) = first_waiting(host) {
+        give(host, stations, place, socket, outcomes, sink);
+        return true;
+    }
+    move_frame(host, stations, place)
+}
+
+/// The adapter ends the frame in work, if there is one.
+fn finish(stations: &mut [Station], place: usize) -> bool
+    requires there { place < length stations.old }
+    ensures steps { (host : HostState) → CanBeDrained host (world_at stations.old place)
+        → StepsOn (steps_of result) place stations.old stations.new host host [] }
+    ensures free { (world_at stations.new place).adapter.receiver.work ≡ None }
+{
+    matches!(
+        step_at(stations, place, StepKind::RxDone),
+        StepOutcome::Done
+    )
+}
+
+/// The host handles an interrupt.
+fn handle(host: &mut Host, stations: &mut [Station], place: usize, outcomes: &mut Outcomes)
+    requires there { place < length stations.old }
+    requires stands { CanBeDrained host.old (world_at stations.old place) }
+    requires free { (world_at stations.old place).adapter.receiver.work ≡ None }
+    requires asserted { Meet (world_at stations.old place).adapter.causes.recorded
+        (world_at stations.old place).adapter.causes.mask }
+    ensures { StepsOn 1 place stations.old stations.new host.old host.new [] }
+{
+    crate::calls::interrupt(host, stations, place, &[], outcomes);
+}
+
+/// The first socket for which a frame waits.
+fn first_waiting(host: &Host) -> Option<usize>
+    ensures none { IfNone result (all_of host.now.queues ≡ []) }
+    ensures some { IfSome result (λ socket. (socket < length host.now.kinds) × (queue_at host.now.queues socket ≢ [])) }
+    ensures first { IfSome result (λ socket. (k : ℕ) → k < socket → queue_at host.now.queues k ≡ []) }
+{
+    for socket in 0..host.socket_count() {
+        if host.waiting(socket) > 0 {
+            return Some(socket);
+        }
+    }
+    None
+}
+
+/// The host gives the oldest frame that waits for a socket.
+fn give<S: Outlet>(
+    host: &mut Host,
+    stations: &mut [Station],
+    place: usize,
+    socket: usize,
+    outcomes: &mut Outcomes,
+    sink: &mut S,
+)
+    requires there { place < length stations.old }
+    requires stands { CanBeDrained host.old (world_at stations.old place) }
+    requires free { (world_at stations.old place).adapter.receiver.work ≡ None }
+    requires known { socket < length host.old.kinds }
+    requires waits { queue_at host.old.queues socket ≢ [] }
+    requires room { 0 < S.places sink.old }
+    ensures { StepsInto 1 place stations.old stations.new host.old host.new (S.frames sink.old) (S.frames sink.new)
+        (S.places sink.old) (S.places sink.new) }
+{
+    if let Ok(frame) = crate::calls::recv(host, stations, place, socket, &[], outcomes).answer {
+        sink.take(socket, &frame);
+    }
+}
+
+/// The adapter moves a frame out of the packet buffer, if there is one.
+fn move_frame(host: &Host, stations: &mut [Station], place: usize) -> bool
+    requires there { place < length stations.old }
+    requires stands { CanBeDrained host.now (world_at stations.old place) }
+    requires free { (world_at stations.old place).adapter.receiver.work ≡ None }
+    requires quiet { ¬ (Meet (world_at stations.old place).adapter.causes.recorded
+        (world_at stations.old place).adapter.causes.mask) }
+    requires given { all_of host.now.queues ≡ [] }
+    ensures steps { StepsOn (steps_of result) place stations.old stations.new host.now host.now [] }
+    ensures ends { result ≡ false → HoldsNothing host.now (world_at stations.new place) }
+{
+    // Calls of the layout, so that the clauses may rest on its sizes: a slot at least is offered.
+    let layout = host.layout();
+    let _sizes = (layout.rx(), layout.buffers());
+    matches!(
+        step_at(stations, place, StepKind::RxData),
+        StepOutcome::Moved
+    )
+}

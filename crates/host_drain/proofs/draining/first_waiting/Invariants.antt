@@ -1,7 +1,0 @@
-use Rattle.std.proofs.Common.{◌≡◌, ◌<◌, [], ℕ}
-use Rattle.packet_socket.specs.SocketsState.{queue_at}
-use Rattle.host_drain.proofs.draining.first_waiting.Given as goal
-
--- for the sockets before this one nothing waits
-abbrev pub invariant-loop-socket : goal.invariant-loop-socket
-invariant-loop-socket l = (k : ℕ) → k < l.socket → queue_at l.host.queues k ≡ []

@@ -1,2 +1,0 @@
-pub mod DrainedHosts
-pub mod DrainSteps

@@ -1,2 +1,0 @@
-pub mod InterruptCauses
-pub mod CausesLaws

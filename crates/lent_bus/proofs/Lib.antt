@@ -1,3 +1,0 @@
-pub mod TickLoops
-pub mod HostTrails
-pub mod LentAccesses

@@ -1,5 +1,0 @@
-pub mod AtomicRuns
-pub mod AtomicRunLaws
-pub mod PlayedTicks
-pub mod Retelling
-pub mod RetellingLaws

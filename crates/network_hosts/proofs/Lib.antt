@@ -1,5 +1,0 @@
-pub mod OwnTicks
-pub mod ArrivalsAlone
-pub mod PlansFilters
-pub mod HostsUp
-pub mod AllHosts

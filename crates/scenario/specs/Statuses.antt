@@ -1,0 +1,8 @@
+-- The exit status of a program whose scenario is refused (own: 1 for input that is refused, 4 for want of memory).
+use Rattle.std.specs.Prelude.{ℕ}
+use Rattle.scenario.specs.declared.refusal.Refusal.{Refusal}
+use Rattle.scenario.specs.declared.refusal.Refusal.TheVariants as refusal
+
+abbrev pub status_of : Refusal → ℕ
+status_of (refusal.Line line fault) = 1
+status_of refusal.Memory = 4

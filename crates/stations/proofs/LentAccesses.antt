@@ -1,0 +1,144 @@
+-- An access over a lent bus, behind what comes before it.
+use Rattle.std.proofs.Common.{◌≡◌, ◌<◌, ◌+◌, ◌++◌, ◌∷◌, [], ℕ, List, All, Bool, inl, inr, length, min}
+use Rattle.std.proofs.Common.{if◌then◌else◌, refl, sym, ap, subst, ◌∙◌, arith}
+use Rattle.std.proofs.lemmas.Bool.{eq-eqb}
+use Rattle.std.proofs.lemmas.List.{append-nil, map-append}
+use Rattle.std.proofs.lemmas.Option.{slice_get_cases}
+use Rattle.adapter.specs.State.{IsAdapter}
+use Rattle.adapter.specs.World.{World}
+use Rattle.bus.proofs.Trails.{trail_happens}
+use Rattle.bus.specs.Law.{Acts}
+use Rattle.bus.specs.PastOfStretch.{joined}
+use Rattle.bus.specs.TrailLaws.{past_of-append, same_past}
+use Rattle.bus.specs.Trails.{IsAnswered, IsStep, Trail, past_of, world_after_access}
+use Rattle.bus.specs.declared.event.Access.{Access}
+use Rattle.bus.specs.declared.event.Access.TheVariants.{Loads}
+use Rattle.bus.specs.declared.event.Event.{Event}
+use Rattle.bus.specs.declared.event.Event.TheVariants.{Accesses}
+use Rattle.solo_bus.proofs.SoloAccesses.{happens_accesses, no_access}
+use Rattle.stations.proofs.Places.{set-after, set-same}
+use Rattle.stations.specs.AtomicSteps.{At, OccursAt, tick_of}
+use Rattle.stations.specs.Stations.{StationState, stations_after, wire_of, world_at}
+use Rattle.stations.specs.declared.outcomes.Numbered.{Numbered}
+use Rattle.stations.specs.declared.tick.Tick.{Tick}
+use Rattle.stations.specs.declared.tick.Tick.TheVariants.{Go}
+use Rattle.stations.proofs.HostTrails.{steps-alone, trail-of, world-here}
+use Rattle.stations.proofs.TickLoops.{counted-ticks}
+use Rattle.stations.specs.AtomicRunLaws.{counted_join, leads_join, noted_join, past_join}
+use Rattle.stations.specs.AtomicRuns.{counted_of, events_at, most_accesses, noted_of, past_at}
+use Rattle.stations.specs.Retelling.{Prepared, Retells, SameLent, bytes_here, world_here}
+use Rattle.stations.specs.RetellingLaws.{same_lent_on}
+use Rattle.stations.specs.declared.lent_bus.LentBus.{LentBus}
+
+-- Steps, and then an access.
+past-with_access : (events : List Event) (access : Access) → All IsStep events
+    → record (past_of events) { accesses = access ∷ [] } ≡ past_of (events ++ Accesses access ∷ [])
+past-with_access events access are =
+    let past = past_of events in
+    same_past _ _ _ _ _ _ _ _ _ _ _ _ (sym (append-nil past.put)) (sym (append-nil past.stored)) (omega arith) (omega arith) (omega arith)
+    (ap (λ (accesses : List Access). accesses ++ access ∷ []) (sym (no_access events are)))
+    ∙ sym (past_of-append events (Accesses access ∷ []))
+
+past-here : (host : ℕ) (access : Access) → past_at host (At host (Accesses access) ∷ []) ≡ past_of (Accesses access ∷ [])
+past-here host access = ap (λ (b : Bool). past_of ((if b then Accesses access ∷ [] else []) ++ [])) (eq-eqb host host refl)
+
+-- An access can happen where the host is.
+occurs-access : (ss : List StationState) (host : ℕ) (access : Access) → host < length ss → IsAnswered access (world_at ss host)
+    → OccursAt host (Accesses access) ss
+occurs-access ss host access below answered =
+    elim ((slice_get_cases ss host).1) [
+      | inl found ↦ record { wire = found.0.wire; on_wire = ap wire_of found.2; occurs = answered; suits_wire = tt }
+      | inr none ↦ absurd (omega (arith, below, none.0))
+    ]
+
+-- What it leaves there.
+pub world-there : (ss new : List StationState) (host : ℕ) (access : Access) → host < length ss → IsAnswered access (world_at ss host)
+    → new ≡ stations_after host (Accesses access) ss → world_at new host ≡ world_after_access access (world_at ss host)
+world-there ss new host access below answered leaves =
+    ap (λ (list : List StationState). world_at list host) leaves
+    ∙ world-here ss host (Accesses access) (eq-eqb host host refl) (occurs-access ss host access below answered)
+
+-- A load changes nothing.
+pub load-leaves : (ss new : List StationState) (host address size : ℕ) → host < length ss → new ≡ ss
+    → new ≡ stations_after host (Accesses (Loads address size)) ss
+load-leaves ss new host address size below same =
+    elim ((slice_get_cases ss host).1) [
+      | inl found ↦ same ∙ sym (set-same ss host found.0 below found.2)
+          ∙ set-after host (Accesses (Loads address size)) ss found.0 found.0 below found.2 refl refl
+      | inr none ↦ absurd (omega (arith, below, none.0))
+    ]
+
+-- What the access leaves beside the stations.
+pub record LeavesRest (p b : LentBus) : Type 0 where
+  pub lent : SameLent p b
+  pub ticks : b.ticks.now ≡ p.ticks.now
+  pub accesses : b.accesses ≡ p.accesses
+  pub outcomes : b.outcomes.now.list ≡ p.outcomes.now.list
+
+abbrev pub never_lively : LentBus → Type 0
+never_lively bus = ⊥
+
+-- the calling host's trail up to the access
+trail-here : (a p : LentBus) (prepared : Prepared a p) → Trail (events_at a.host prepared.plays.steps) (world_here a) (world_here p)
+trail-here a p prepared =
+    subst (λ (h : ℕ). Trail (events_at a.host prepared.plays.steps) (world_here a) (world_at p.stations.now h)) (sym prepared.lent.host)
+    (trail-of a.host a.host prepared.plays.steps a.stations.now p.stations.now (prepared.plays.leads a.host))
+
+-- The size of memory stays while ticks are played.
+pub size-prepared : (a p : LentBus) → Prepared a p → bytes_here p ≡ bytes_here a
+size-prepared a p prepared =
+    let steps = prepared.plays.steps in
+    let happens = trail_happens (events_at a.host steps) (world_here a) (world_here p) (steps-alone a.host steps prepared.plays.are)
+    (trail-here a p prepared) in
+    happens.steady.size
+
+-- The access behind what comes before it is as the law says.
+pub acted : (a p b : LentBus) (access : Access) (effect : World → World → Type 0) → Prepared a p → LeavesRest p b
+    → p.host < length p.stations.now → b.stations.now ≡ stations_after p.host (Accesses access) p.stations.now
+    → IsAnswered access (world_here p) → IsAdapter (world_here p).adapter → effect (world_here p) (world_here b)
+    → Acts world_here Retells never_lively a b access effect
+acted a p b access effect prepared leaves below state answered adapter does =
+    let plays = prepared.plays in
+    let steps = plays.steps in
+    let events = events_at a.host steps in
+    let are = steps-alone a.host steps plays.are in
+    let last = At a.host (Accesses access) in
+    let host = prepared.lent.host in
+    let still = counted-ticks a.accesses steps plays.are in
+    let occurs : OccursAt a.host (Accesses access) p.stations.now =
+    subst (λ (h : ℕ). OccursAt h (Accesses access) p.stations.now) host (occurs-access p.stations.now p.host access below answered) in
+    let behind : b.stations.now ≡ stations_after a.host (Accesses access) p.stations.now =
+    state ∙ ap (λ (h : ℕ). stations_after h (Accesses access) p.stations.now) host in
+    let noted : noted_of a.accesses (steps ++ last ∷ []) ≡ noted_of a.accesses steps =
+    noted_join a.accesses steps (last ∷ []) ∙ append-nil (noted_of a.accesses steps) in
+    let count : counted_of a.accesses (steps ++ last ∷ []) ≡ min (a.accesses + 1) most_accesses =
+    counted_join a.accesses steps (last ∷ []) ∙ ap (λ (n : ℕ). min (n + 1) most_accesses) still in
+    record {
+      middle = world_here p;
+      past = record (past_of events) { accesses = access ∷ [] };
+      only = refl;
+      told = record {
+        lent = same_lent_on a p b prepared.lent leaves.lent;
+        steps = steps ++ last ∷ [];
+        leads = leads_join a.host steps (last ∷ []) a.stations.now p.stations.now b.stations.now (plays.leads a.host)
+            (occurs, refl, behind);
+        past_is =
+            past-with_access events access are
+            ∙ past_of-append events (Accesses access ∷ [])
+            ∙ ap (joined (past_of events)) (sym (past-here a.host access))
+            ∙ sym (past_join a.host steps (last ∷ []));
+        played =
+            map-append tick_of steps (last ∷ [])
+            ∙ ap (λ (list : List Tick). list ++ Go ∷ []) plays.played;
+        waiting = leaves.ticks ∙ prepared.waiting;
+        noted = leaves.outcomes ∙ plays.noted ∙ ap (λ (list : List Numbered). a.outcomes.now.list ++ list) (sym noted);
+        number = leaves.accesses ∙ prepared.count ∙ sym count;
+        count = omega (arith, leaves.accesses, prepared.count);
+      };
+      ticks = λ never. absurd never;
+      before =
+          happens_accesses (world_here a) (world_here p) (past_of events) (access ∷ [])
+          (trail_happens events (world_here a) (world_here p) are (trail-here a p prepared));
+      adapter = adapter;
+      effect_is = does;
+    }

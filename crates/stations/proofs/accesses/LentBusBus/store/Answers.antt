@@ -1,0 +1,31 @@
+use Rattle.std.proofs.Common.{length, ap, arith, refl, ◌∙◌}
+use Rattle.adapter.specs.World.{World}
+use Rattle.bus.specs.declared.event.Access.TheVariants.{Stores}
+use Rattle.dma_memory.specs.Laws.{length-with_bytes}
+use Rattle.stations.specs.Retelling.{world_here}
+use Rattle.stations.proofs.LentAccesses.{acted, size-prepared, world-there}
+use Rattle.stations.proofs.accesses.LentBusBus.store.Goals as goal
+
+pub store_at-requires-clause-lies : goal.store_at-requires-clause-lies
+store_at-requires-clause-lies c = omega (arith, c.requires, size-prepared c.args.self.now c.prepare.new.self c.prepare.ensures)
+
+pub returns-clause-extent : goal.returns-clause-extent
+returns-clause-extent c =
+    let p = c.prepare.new.self in
+    let there =
+    world-there p.stations.now c.store_at.new.stations p.host
+    (Stores c.args.address c.args.bytes.now) p.there tt c.store_at.ensures.state in
+    ap (λ (w : World). length w.memory) there
+    ∙ length-with_bytes (world_here p).memory c.args.bytes.now c.args.address
+    (omega (arith, c.requires, size-prepared c.args.self.now p c.prepare.ensures))
+    ∙ size-prepared c.args.self.now p c.prepare.ensures
+
+pub returns-clause-acts : goal.returns-clause-acts
+returns-clause-acts c = λ honest.
+    let p = c.prepare.new.self in
+    let there =
+    world-there p.stations.now c.store_at.new.stations p.host
+    (Stores c.args.address c.args.bytes.now) p.there tt c.store_at.ensures.state in
+    acted c.args.self.now p _ (Stores c.args.address c.args.bytes.now) _ c.prepare.ensures
+    (record { lent = record { stations = refl; outcomes = refl; host = refl }; ticks = refl; accesses = refl; outcomes = refl })
+    p.there c.store_at.ensures.state tt c.store_at.ensures.adapter there

@@ -1,0 +1,30 @@
+-- Two runs of atomic steps are one.
+use Rattle.std.proofs.Common.{◌≡◌, ℕ, List, [], ◌∷◌, ◌++◌, refl, sym, ap, subst, ◌∙◌, append_assoc}
+use Rattle.std.proofs.lemmas.Grind.{flat_map-append}
+use Rattle.bus.specs.PastOfStretch.{joined}
+use Rattle.bus.specs.TrailLaws.{past_of-append}
+use Rattle.bus.specs.Trails.{past_of}
+use Rattle.stations.specs.AtomicSteps.{AtomicStep, after}
+use Rattle.stations.specs.Stations.{StationState}
+use Rattle.stations.specs.declared.outcomes.Numbered.{Numbered}
+use Rattle.stations.specs.AtomicRuns.{LeadsTo, counted_by, counted_of, events_at, events_by, noted_by, noted_of, past_at}
+
+pub leads_join : (caller : ℕ) (first later : List AtomicStep) (a b c : List StationState) → LeadsTo caller first a b
+    → LeadsTo caller later b c
+    → LeadsTo caller (first ++ later) a c
+leads_join caller [] later a b c one two = subst (λ (ss : List StationState). LeadsTo caller later ss c) one two
+leads_join caller (step ∷ first) later a b c one two = (one.0, one.1, leads_join caller first later (after step a) b c one.2 two)
+
+pub noted_join : (n : ℕ) (first later : List AtomicStep) → noted_of n (first ++ later) ≡ noted_of n first
+    ++ noted_of (counted_of n first) later
+noted_join n [] later = refl
+noted_join n (step ∷ first) later =
+    ap (λ (list : List Numbered). noted_by n step ++ list) (noted_join (counted_by n step) first later)
+    ∙ sym (append_assoc (noted_by n step) (noted_of (counted_by n step) first) (noted_of (counted_of (counted_by n step) first) later))
+
+pub counted_join : (n : ℕ) (first later : List AtomicStep) → counted_of n (first ++ later) ≡ counted_of (counted_of n first) later
+counted_join n [] later = refl
+counted_join n (step ∷ first) later = counted_join (counted_by n step) first later
+
+pub past_join : (k : ℕ) (first later : List AtomicStep) → past_at k (first ++ later) ≡ joined (past_at k first) (past_at k later)
+past_join k first later = ap past_of (flat_map-append (events_by k) first later) ∙ past_of-append (events_at k first) (events_at k later)

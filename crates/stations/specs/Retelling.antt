@@ -1,0 +1,51 @@
+-- What a lent bus is, and what it tells of what happened.
+use Rattle.std.specs.Prelude.{◌≡◌, ◌+◌, ◌++◌, ℕ, List, [], length, map, min}
+use Rattle.adapter.specs.World.{World}
+use Rattle.bus.specs.PastOfStretch.{Past}
+use Rattle.bus.specs.TickGroups.{behind_group, group_of, played_in, waiting_after, without_go}
+use Rattle.stations.specs.AtomicSteps.{AtomicStep, tick_of}
+use Rattle.stations.specs.Stations.{world_at}
+use Rattle.stations.specs.declared.tick.Tick.TheVariants.{Go}
+use Rattle.stations.specs.AtomicRuns.{LeadsTo, counted_of, is_go, most_accesses, noted_of, past_at}
+use Rattle.stations.specs.PlayedTicks.{PlaysTicks}
+use Rattle.stations.specs.declared.lent_bus.LentBus.{LentBus}
+
+-- the world of the host whose call it is
+abbrev pub world_here : LentBus → World
+world_here bus = world_at bus.stations.now bus.host
+
+abbrev pub bytes_here : LentBus → ℕ
+bytes_here bus = length (world_here bus).memory
+
+-- The same stations and the same outcomes are lent, to the call of the same host.
+pub record SameLent (a b : LentBus) : Type 0 where
+  pub stations : b.stations.ghost_name ≡ a.stations.ghost_name
+  pub outcomes : b.outcomes.ghost_name ≡ a.outcomes.ghost_name
+  pub host : b.host ≡ a.host
+
+-- What happened from one state to another: these atomic steps, exactly those of the groups of ticks that belong to these accesses, each
+-- group before its access; and the outcome of each tick is noted in order, with the number of accesses before it.
+pub record Retells (a b : LentBus) (past : Past) : Type 0 where
+  pub lent : SameLent a b
+  pub steps : List AtomicStep
+  pub leads : LeadsTo a.host steps a.stations.now b.stations.now
+  pub past_is : past ≡ past_at a.host steps
+  pub played : map tick_of steps ≡ played_in is_go Go [] past.accesses a.ticks.now
+  pub waiting : b.ticks.now ≡ waiting_after is_go past.accesses a.ticks.now
+  pub noted : b.outcomes.now.list ≡ a.outcomes.now.list ++ noted_of a.accesses steps
+  pub number : b.accesses ≡ counted_of a.accesses steps
+  pub count : min b.accesses most_accesses ≡ min (a.accesses + length past.accesses) most_accesses
+
+-- What comes before an access: the next group of ticks is played, and the access is counted.
+pub record Prepared (a b : LentBus) : Type 0 where
+  pub lent : SameLent a b
+  pub plays : PlaysTicks a.stations.now (group_of is_go a.ticks.now) a.accesses a.outcomes.now b.outcomes.now b.stations.now
+  pub waiting : b.ticks.now ≡ behind_group is_go a.ticks.now
+  pub count : b.accesses ≡ min (a.accesses + 1) most_accesses
+
+-- What comes behind the last access: all ticks that are left are played.
+pub record Finished (a b : LentBus) : Type 0 where
+  pub lent : SameLent a b
+  pub plays : PlaysTicks a.stations.now (without_go is_go a.ticks.now) a.accesses a.outcomes.now b.outcomes.now b.stations.now
+  pub none : b.ticks.now ≡ []
+  pub count : b.accesses ≡ a.accesses

@@ -1,0 +1,75 @@
+-- What a lent bus tells of two stretches it tells of both together.
+use Rattle.std.proofs.Common.{◌≡◌, ◌+◌, ◌++◌, ℕ, List, [], length, map, min, refl, sym, ap, subst, ◌∙◌, append_assoc, arith, length-append}
+use Rattle.std.proofs.lemmas.List.{append-nil, map-append}
+use Rattle.bus.specs.PastOfStretch.{Past, joined, nothing}
+use Rattle.bus.specs.TickGroupLaws.{played_joins, waiting_joins}
+use Rattle.bus.specs.TickGroups.{played_in, waiting_after}
+use Rattle.stations.specs.AtomicSteps.{tick_of}
+use Rattle.stations.specs.declared.outcomes.Numbered.{Numbered}
+use Rattle.stations.specs.declared.tick.Tick.{Tick}
+use Rattle.stations.specs.declared.tick.Tick.TheVariants.{Go}
+use Rattle.stations.specs.AtomicRunLaws.{counted_join, leads_join, noted_join, past_join}
+use Rattle.stations.specs.AtomicRuns.{LeadsTo, counted_of, is_go, most_accesses, noted_of, past_at}
+use Rattle.stations.specs.Retelling.{Retells, SameLent}
+use Rattle.stations.specs.declared.lent_bus.LentBus.{LentBus}
+
+pub same_lent_here : (a : LentBus) → SameLent a a
+same_lent_here a = record { stations = refl; outcomes = refl; host = refl }
+
+pub same_lent_on : (a b c : LentBus) → SameLent a b → SameLent b c → SameLent a c
+same_lent_on a b c one two = record {
+  stations = two.stations ∙ one.stations;
+  outcomes = two.outcomes ∙ one.outcomes;
+  host = two.host ∙ one.host;
+}
+
+pub retells_none : (a : LentBus) → Retells a a nothing
+retells_none a = record {
+  lent = same_lent_here a;
+  steps = [];
+  leads = refl;
+  past_is = refl;
+  played = refl;
+  waiting = refl;
+  noted = sym (append-nil a.outcomes.now.list);
+  number = refl;
+  count = omega arith;
+}
+
+pub retells_join : (a b c : LentBus) (first later : Past) → Retells a b first → Retells b c later → Retells a c (joined first later)
+retells_join a b c first later one two =
+    let host = one.lent.host in
+    record {
+      lent = same_lent_on a b c one.lent two.lent;
+      steps = one.steps ++ two.steps;
+      leads =
+          leads_join a.host one.steps two.steps a.stations.now b.stations.now c.stations.now one.leads
+          (subst (λ (h : ℕ). LeadsTo h two.steps b.stations.now c.stations.now) host two.leads);
+      past_is =
+          ap (λ (p : Past). joined p later) one.past_is
+          ∙ ap (joined (past_at a.host one.steps)) (two.past_is ∙ ap (λ (h : ℕ). past_at h two.steps) host)
+          ∙ sym (past_join a.host one.steps two.steps);
+      played =
+          map-append tick_of one.steps two.steps
+          ∙ ap (λ (ticks : List Tick). ticks ++ map tick_of two.steps) one.played
+          ∙ ap (λ (ticks : List Tick). played_in is_go Go [] first.accesses a.ticks.now ++ ticks)
+          (two.played ∙ ap (played_in is_go Go [] later.accesses) one.waiting)
+          ∙ sym (played_joins is_go Go [] first.accesses later.accesses a.ticks.now);
+      waiting =
+          two.waiting ∙ ap (waiting_after is_go later.accesses) one.waiting
+          ∙ sym (waiting_joins is_go first.accesses later.accesses a.ticks.now);
+      noted =
+          two.noted
+          ∙ ap (λ (list : List Numbered). list ++ noted_of b.accesses two.steps) one.noted
+          ∙ append_assoc a.outcomes.now.list (noted_of a.accesses one.steps) (noted_of b.accesses two.steps)
+          ∙ ap (λ (list : List Numbered). a.outcomes.now.list ++ list)
+          (ap (λ (n : ℕ). noted_of a.accesses one.steps ++ noted_of n two.steps) one.number
+          ∙ sym (noted_join a.accesses one.steps two.steps));
+      number =
+          two.number ∙ ap (λ (n : ℕ). counted_of n two.steps) one.number ∙ sym (counted_join a.accesses one.steps two.steps);
+      count = omega (arith, one.count, two.count, length-append first.accesses later.accesses);
+    }
+
+pub retells_count : (a b : LentBus) (past : Past) → Retells a b past
+    → min b.accesses most_accesses ≡ min (min a.accesses most_accesses + length past.accesses) most_accesses
+retells_count a b past told = omega (arith, told.count)

@@ -1,0 +1,76 @@
+// The lent bus obeys the law.
+
+ghost use Rattle.std.specs.Prelude.{◌≡◌, length, min};
+
+use crate::lent_bus::LentBus;
+use crate::playing::{load_at, read_at, size_at, store_at, write_at};
+use bus::{Bus, HonestBus};
+
+impl<'a> Bus for LentBus<'a> {
+    ghost use Rattle.std.specs.Prelude.{◌≡◌, length, ⊤};
+    ghost use Rattle.std.proofs.Common.{refl};
+    ghost use Rattle.stations.specs.Retelling.{Retells, SameLent, bytes_here, world_here};
+    ghost use Rattle.stations.specs.RetellingLaws.{retells_join, retells_none, same_lent_here, same_lent_on};
+
+    ghost extent = { bytes_here };
+
+    ghost honest = { λ bus. ⊤ };
+
+    ghost lively = { λ bus. ⊥ };
+
+    ghost world = { world_here };
+
+    ghost happened = { Retells };
+
+    ghost lent_stays = { SameLent };
+
+    ghost stays = { retells_none };
+
+    ghost joins = { retells_join };
+
+    ghost lent_stays_here = { same_lent_here };
+
+    ghost lent_stays_on = { same_lent_on };
+
+    ghost sized = { λ bus honest. refl };
+
+    fn size(&self) -> u64 {
+        size_at(self.stations, self.host)
+    }
+
+    fn read(&mut self, offset: u32) -> u32 {
+        self.prepare();
+        read_at(self.stations, self.host, offset)
+    }
+
+    fn write(&mut self, offset: u32, value: u32) {
+        self.prepare();
+        write_at(self.stations, self.host, offset, value);
+    }
+
+    fn load(&mut self, address: u64, into: &mut [u8]) {
+        self.prepare();
+        load_at(self.stations, self.host, address, into);
+    }
+
+    fn store(&mut self, address: u64, bytes: &[u8]) {
+        self.prepare();
+        store_at(self.stations, self.host, address, bytes);
+    }
+}
+
+impl<'a> HonestBus for LentBus<'a> {
+    ghost use Rattle.std.specs.Prelude.{min};
+    ghost use Rattle.stations.specs.AtomicRuns.{most_accesses};
+    ghost use Rattle.stations.specs.RetellingLaws.{retells_count};
+
+    ghost counted = { λ bus. min bus.accesses most_accesses };
+
+    ghost always = { λ bus. tt };
+
+    ghost counts = { retells_count };
+
+    fn accesses(&self) -> u64 {
+        self.accesses
+    }
+}

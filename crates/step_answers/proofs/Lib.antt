@@ -1,6 +1,0 @@
-pub mod Rings
-pub mod HostSteps
-pub mod Answering
-pub mod Waiting
-pub mod Ticks
-pub mod TailWrites

@@ -1,5 +1,0 @@
-use Rattle.step_answers.proofs.Ticks.{counts-go, fault-never-comes, ticks-answered, waiting-goes}
-use Rattle.step_answers.proofs.law.ticks_are_answered_by_counting.Goals as goal
-
-pub returns : goal.returns
-returns c = record { answers = ticks-answered; counts = counts-go; waiting = waiting-goes; faultless = fault-never-comes }

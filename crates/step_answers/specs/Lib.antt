@@ -1,5 +1,0 @@
-pub mod Counts
-pub mod WaitingFrames
-pub mod CountedHosts
-pub mod StepAnswers
-pub mod Laws

@@ -1,0 +1,153 @@
+-- A host is brought up over a bus of its own.
+use Rattle.std.proofs.Common.{◌≡◌, ◌≢◌, ◌<◌, ◌-◌, [], true, false, ℕ, List, length, replicate, refl, sym, ap, subst, ◌∙◌, arith}
+use Rattle.dma_memory.specs.Layout.{Counts, size_of}
+use Rattle.descriptors.specs.Ring.{HasValidIndices, count_of}
+use Rattle.descriptors.specs.declared.ring.Ring.{Ring}
+use Rattle.registers.specs.Bits.{HasBit}
+use Rattle.registers.specs.Places.{tctl_en}
+use Rattle.eeprom.specs.Image.{HasRightSum, address_bytes}
+use Rattle.mdic_phy.specs.declared.phy.Link.{Link}
+use Rattle.mdic_phy.specs.declared.phy.Link.TheVariants.{Never}
+use Rattle.mdic_phy.specs.Phy.{PhyState, is_complete, link_is_up}
+use Rattle.rx_filter.specs.Addresses.{IsAddress}
+use Rattle.adapter.specs.Registers.{new_adapter}
+use Rattle.adapter.specs.State.{AdapterState}
+use Rattle.adapter.specs.World.{World, receive_ring, transmit_ring}
+use Rattle.bus.specs.Settings.{settings_of}
+use Rattle.bring_up.specs.Configuration.{CanBeHad, counts_of}
+use Rattle.bring_up.specs.ConfiguredAdapters.{IsConfigured, names_vlans}
+use Rattle.driver_law.specs.Beginnings.{new_driver}
+use Rattle.driver_law.specs.DriverState.{DriverState, with_owners}
+use Rattle.driver_law.specs.ReadyDrivers.{Ready}
+use Rattle.driver_law.specs.Stretches.{IsRefilled}
+use Rattle.driver.specs.Initialisation.{Initialises}
+use Rattle.packet_socket.specs.HeldFrames.{HostReady}
+use Rattle.packet_socket.specs.HostState.{HostState, new_host}
+use Rattle.packet_socket.specs.declared.socket_kind.SocketKind.{SocketKind}
+use Rattle.solo_bus.specs.SoloBuses.{Recounts, SoloState}
+use Rattle.stations.specs.Stations.{StationState}
+use Rattle.delivery.specs.CountedHosts.{CanAnswer}
+use Rattle.network_plan.specs.declared.plan.HostPlan.{HostPlan}
+use Rattle.wire.specs.HostsUp.{ComesUp, HasNoFrames}
+use Rattle.wire.proofs.ArrivalsAlone.{alone-stays}
+use Rattle.wire.proofs.OwnTicks.{IsAdapterOf, IsPhyOf}
+use Rattle.wire.proofs.PlansFilters.{Controls, controls, plans-filter}
+
+-- a host on a wire, at whose end nothing waits
+abbrev pub station_on : (wire : ℕ) → World → StationState
+station_on wire world = record { world = world; wire = wire; backlog = [] }
+
+pub same-parts : (world : World) (memory : List ℕ) (adapter : AdapterState) → adapter ≡ world.adapter → memory ≡ world.memory
+    → (let made : World = record { memory = memory; adapter = adapter } in made) ≡ world
+same-parts world memory adapter one two =
+    ap (λ (bytes : List ℕ). let made : World = record { memory = bytes; adapter = adapter } in made) two
+    ∙ ap (λ (state : AdapterState). let made : World = record { memory = world.memory; adapter = state } in made) one
+
+valid : (ring : Ring) (count tail : ℕ) → count_of ring ≡ count → ring.head < count → ring.tail ≡ tail → tail < count → HasValidIndices ring
+valid ring count tail slots head is below = record { head = omega (arith, slots, head); tail = omega (arith, slots, is, below) }
+
+-- Both sides are enabled, and heads and tails are slots.
+can-answer : (plan : HostPlan) (size : ℕ) (d : DriverState) (world : World) → CanBeHad plan.config size → d.counts ≡ counts_of plan.config
+    → Ready d world → IsConfigured plan.config (address_bytes plan.image) (settings_of world.adapter) → CanAnswer world.adapter
+can-answer plan size d world had counts ready configured =
+    let control = subst (Controls plan.config.promiscuous (names_vlans plan.config.vlans)) (sym configured.receive_control_is)
+    (controls plan.config.promiscuous (names_vlans plan.config.vlans)) in
+    let rx : d.counts.rx ≡ plan.config.rx = ap (λ (c : Counts). c.rx) counts in
+    let tx : d.counts.tx ≡ plan.config.tx = ap (λ (c : Counts). c.tx) counts in
+    record {
+      receives = control.receives;
+      transmits = subst (λ (word : ℕ). HasBit word tctl_en) (sym configured.transmit_control) refl;
+      receive =
+          valid (receive_ring world) d.counts.rx (plan.config.rx - 1) ready.receive.slots ready.receive.head_slot configured.receive_tail
+          (omega (arith, rx, had.counts.rx.least));
+      transmit =
+          valid (transmit_ring world) d.counts.tx 0 ready.transmit.knows.slots ready.transmit.knows.head_slot configured.transmit_tail
+          (omega (arith, tx, had.counts.tx.least));
+    }
+
+-- What bring-up begins with, and what is known behind it.
+pub record IsBroughtUp (plan : HostPlan) (old new : SoloState) (host : HostState) : Type 0 where
+  pub size : ℕ
+  pub had : CanBeHad plan.config size
+  pub address : IsAddress (address_bytes plan.image)
+  pub waiting : old.waiting ≡ []
+  pub adapter : old.world.adapter ≡ new_adapter plan.image plan.link
+  pub memory : length new.world.memory ≡ size_of (counts_of plan.config)
+  pub host_is : host ≡ new_host host.driver plan.sockets.items
+  pub fresh : host.driver ≡ with_owners (new_driver (counts_of plan.config) []) host.driver.buffers [] host.driver.pool []
+  pub refilled : IsRefilled host.driver
+  pub initialises : Initialises (λ (bus : SoloState). bus.world) (λ (a b : SoloState) past. Recounts a b past) old new plan.config
+      host.driver
+  pub ready : HostReady host new.world
+
+-- a link that is up isn't one that never comes up
+link-comes : (link : Link) (phy : PhyState) → IsPhyOf link phy → link_is_up phy ≡ true → link ≢ Never
+link-comes link phy is up = λ never.
+    let down : link_is_up phy ≡ false = ap is_complete (is.never never) in
+    cc
+
+-- What bring-up leaves of the adapter.
+left-alone : (plan : HostPlan) (old new : SoloState) (host : HostState) → IsBroughtUp plan old new host
+    → IsAdapterOf plan.link new.world.adapter
+left-alone plan old new host is =
+    let init = is.initialises in
+    let first = alone-stays old init.middle init.first is.waiting init.told_first in
+    let later = alone-stays init.middle new init.later first.waiting init.told_later in
+    later.leaves plan.link
+    (first.leaves plan.link
+    (subst (λ (adapter : AdapterState). IsAdapterOf plan.link adapter) (sym is.adapter) (
+      record { link_is = refl; never = λ never. refl },
+      record { no_descriptor = refl; none_received = refl; none_transmitted = refl },
+    )))
+
+no-frames : (plan : HostPlan) (old new : SoloState) (host : HostState) (wire : ℕ) → IsBroughtUp plan old new host
+    → HasNoFrames host (station_on wire new.world)
+no-frames plan old new host wire is =
+    let init = is.initialises in
+    let first = alone-stays old init.middle init.first is.waiting init.told_first in
+    let later = alone-stays init.middle new init.later first.waiting init.told_later in
+    let counts = (left-alone plan old new host is).1 in
+    record {
+      to_send = init.none_to_send;
+      held = init.held ∙ later.none.none_stored;
+      queues =
+          ap (λ (h : HostState). h.queues) is.host_is
+          ∙ ap (λ (kinds : List SocketKind). replicate (length kinds) []) (sym (ap (λ (h : HostState). h.kinds) is.host_is));
+      backlog = refl;
+      missed = ap (λ (d : DriverState). d.missed) is.fresh;
+      exact = ap (λ (d : DriverState). d.exact) is.fresh;
+      missed_packets = omega (arith, init.missed_most, later.none.none_missed);
+      without_descriptor = counts.no_descriptor;
+      received = counts.none_received;
+      transmitted = counts.none_transmitted;
+      unclaimed = ap (λ (h : HostState). h.unclaimed) is.host_is;
+    }
+
+pub comes-up : (plan : HostPlan) (old new : SoloState) (host : HostState) (wire : ℕ) → IsBroughtUp plan old new host
+    → ComesUp plan host (station_on wire new.world)
+comes-up plan old new host wire is =
+    let init = is.initialises in
+    let counts : host.driver.counts ≡ counts_of plan.config = ap (λ (d : DriverState). d.counts) is.fresh in
+    let phy = (left-alone plan old new host is).0 in
+    let image : old.world.adapter.image ≡ plan.image = ap (λ (adapter : AdapterState). adapter.image) is.adapter in
+    let configured : IsConfigured plan.config (address_bytes plan.image) (settings_of new.world.adapter) =
+    subst (λ (words : List ℕ). IsConfigured plan.config (address_bytes words) (settings_of new.world.adapter)) image
+    init.configured in
+    record {
+      ready = is.ready;
+      work = init.work;
+      refilled = is.refilled;
+      offered = ap (λ (d : DriverState). d.staged) is.fresh;
+      can = can-answer plan is.size host.driver new.world is.had counts init.ready configured;
+      counts = counts;
+      memory = is.memory;
+      kinds = ap (λ (h : HostState). h.kinds) is.host_is;
+      allocation = configured.allocation;
+      filter = plans-filter plan (settings_of new.world.adapter) is.address configured;
+      image = init.image ∙ image;
+      sum = subst HasRightSum image init.sum;
+      link_is = phy.link_is;
+      comes = link-comes plan.link new.world.adapter.phy phy init.up.up;
+      link = init.up;
+      no_frames = no-frames plan old new host wire is;
+    }

@@ -1,0 +1,112 @@
+-- What a host is when its network has brought it up (own).
+use Rattle.std.specs.Prelude.{⊤, ◌≡◌, ◌≢◌, ◌<◌, ◌*◌, ◌↔◌, ℕ, true, IsTrue, List, [], Some, String, length, replicate, slice_get, string_eq}
+use Rattle.std.specs.List.{position_or_len}
+use Rattle.std.specs.declared.alloc.Global.{Global}
+use Rattle.eeprom.specs.Image.{HasRightSum}
+use Rattle.mdic_phy.specs.declared.phy.Link.TheVariants.{Never}
+use Rattle.dma_memory.specs.Layout.{size_of}
+use Rattle.adapter.specs.HostFrames.{frames_held, frames_to_send}
+use Rattle.bus.specs.Link.{HasLink}
+use Rattle.bring_up.specs.Configuration.{counts_of}
+use Rattle.bring_up.specs.EepromReading.{most_reads}
+use Rattle.bring_up.specs.Link.{NeedsMoreThan}
+use Rattle.bring_up.specs.declared.init_error.InitError.{InitError}
+use Rattle.bring_up.specs.declared.init_error.InitError.TheVariants.{Checksum, Memory, NoLink}
+use Rattle.driver_law.specs.Stretches.{HasNoForgottenWork, IsRefilled}
+use Rattle.packet_socket.specs.HeldFrames.{HostReady}
+use Rattle.packet_socket.specs.HostState.{HostState}
+use Rattle.stations.specs.Stations.{StationState}
+use Rattle.delivery.specs.CountedHosts.{CanAnswer}
+use Rattle.network_plan.specs.declared.plan.HostPlan.{HostPlan}
+use Rattle.network_plan.specs.declared.plan_error.PlanError.{PlanError}
+use Rattle.network_plan.specs.declared.plan_error.PlanError.TheVariants as refused
+use Rattle.wire.specs.Filters.{HasPlansFilter}
+
+-- No frame is anywhere, and none was counted.
+pub record HasNoFrames (host : HostState) (station : StationState) : Type 0 where
+  pub to_send : frames_to_send station.world ≡ []
+  pub held : frames_held host.driver.oldest_receive station.world ≡ []
+  pub queues : host.queues ≡ replicate (length host.kinds) []
+  pub backlog : station.backlog ≡ []
+  pub missed : host.driver.missed ≡ 0
+  pub exact : host.driver.exact ≡ true
+  pub missed_packets : station.world.adapter.missed_packets ≡ 0
+  -- RNBC, GPRC and GPTC
+  pub without_descriptor : station.world.adapter.no_receive_buffers ≡ 0
+  pub received : station.world.adapter.received_packets ≡ 0
+  pub transmitted : station.world.adapter.transmitted_packets ≡ 0
+  pub unclaimed : host.unclaimed ≡ 0
+
+-- A host and its station are as its plan says.
+pub record ComesUp (plan : HostPlan) (host : HostState) (station : StationState) : Type 0 where
+  -- Its driver is ready, no work is forgotten, and the ring is refilled.
+  pub ready : HostReady host station.world
+  pub work : HasNoForgottenWork host.driver station.world
+  pub refilled : IsRefilled host.driver
+  pub offered : host.driver.staged ≡ []
+  pub can : CanAnswer station.world.adapter
+  -- its rings and buffers, and a memory that ends where they do
+  pub counts : host.driver.counts ≡ counts_of plan.config
+  pub memory : length station.world.memory ≡ size_of (counts_of plan.config)
+  pub kinds : host.kinds ≡ plan.sockets.items
+  pub allocation : station.world.adapter.receive_kilobytes ≡ plan.config.rxa
+  pub filter : HasPlansFilter plan station.world.adapter.filter
+  -- its EEPROM, whose sum is right, and its link: when that comes up is as the plan says, and now it is up
+  pub image : station.world.adapter.image ≡ plan.image
+  pub sum : HasRightSum plan.image
+  pub link_is : station.world.adapter.phy.link ≡ plan.link
+  pub comes : plan.link ≢ Never
+  pub link : HasLink station.world
+  pub no_frames : HasNoFrames host station
+
+-- Why a host doesn't come up, other than for want of memory: its EEPROM's sum is wrong; or that is right, and its link needs more than
+-- 2,000 ticks or never comes up.
+abbrev pub IsDevices : HostPlan → InitError → Type 0
+IsDevices plan Checksum = ¬ (HasRightSum plan.image)
+IsDevices plan NoLink = HasRightSum plan.image × NeedsMoreThan (2 * most_reads) plan.link
+IsDevices plan error = ⊥
+
+abbrev pub IsReason : HostPlan → InitError → Type 0
+IsReason plan Memory = ⊤
+IsReason plan error = IsDevices plan error
+
+-- All hosts.
+
+-- a wire's number is that of the first host that names it
+abbrev pub wire_number : List HostPlan → String Global → ℕ
+wire_number plans wire = position_or_len (λ (plan : HostPlan). string_eq plan.wire wire) plans
+
+-- The first so many hosts of a plan have come up, each on its wire.
+pub record AreUp (plans : List HostPlan) (count : ℕ) (hosts : List HostState) (stations : List StationState) : Type 0 where
+  pub host_count : length hosts ≡ count
+  pub station_count : length stations ≡ count
+  pub each :
+      (k : ℕ) (plan : HostPlan) (host : HostState) (station : StationState) → slice_get plans k ≡ Some plan → slice_get hosts k ≡ Some host
+      → slice_get stations k ≡ Some station → ComesUp plan host station
+  pub wires :
+      (k : ℕ) (plan : HostPlan) (station : StationState) → slice_get plans k ≡ Some plan → slice_get stations k ≡ Some station
+      → station.wire ≡ wire_number plans plan.wire
+
+-- Two hosts are on one wire exactly where they name the same.
+abbrev pub ShareWires : List HostPlan → List StationState → Type 0
+ShareWires plans stations =
+    (j k : ℕ) (one other : HostPlan) (a b : StationState) → slice_get plans j ≡ Some one → slice_get plans k ≡ Some other
+    → slice_get stations j ≡ Some a → slice_get stations k ≡ Some b
+    → (a.wire ≡ b.wire) ↔ IsTrue (string_eq one.wire other.wire)
+
+-- Each of the first so many hosts has a right sum, and a link that isn't one that never comes up. Of a link that comes up after some ticks
+-- it doesn't say after how many.
+abbrev pub CanComeUp : List HostPlan → ℕ → Type 0
+CanComeUp plans count =
+    (k : ℕ) (plan : HostPlan) → k < count → slice_get plans k ≡ Some plan → HasRightSum plan.image × (plan.link ≢ Never)
+
+-- This host of the plan doesn't come up, for this reason, and those before it can.
+abbrev pub IsNotUp : List HostPlan → ℕ → InitError → Type 0
+IsNotUp plans number error =
+    (plan : HostPlan) × (slice_get plans number ≡ Some plan) × IsDevices plan error × CanComeUp plans number
+
+-- Why the hosts of a plan don't come up.
+abbrev pub IsRefusal : List HostPlan → PlanError → Type 0
+IsRefusal plans refused.Memory = ⊤
+IsRefusal plans (refused.Init number error) = IsNotUp plans number error
+IsRefusal plans error = ⊥

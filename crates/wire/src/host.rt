@@ -1,0 +1,68 @@
+// A host is brought up by its plan.
+
+ghost use Rattle.std.specs.Prelude.{◌≡◌, ◌≤◌, IfErr, IfOk, length};
+ghost use Rattle.eeprom.specs.Image.{address_bytes};
+ghost use Rattle.rx_filter.specs.Addresses.{IsAddress};
+ghost use Rattle.network_plan.specs.Plans.{HasConfig};
+ghost use Rattle.wire.specs.HostsUp.{ComesUp, IsReason};
+
+use adapter::Adapter;
+use arrayvec::ArrayVec;
+use bring_up::InitError;
+use dma_memory::HostMemory;
+use eeprom::Image;
+use network_plan::{HostPlan, MOST_SOCKETS};
+use packet_socket::{Host, SocketKind};
+use solo_bus::SoloBus;
+use stations::Station;
+use std::alloc::Global;
+
+/// Makes a host's adapter and its memory, which ends where the configuration's layout ends, and brings the adapter up
+/// over them alone: before each access its EEPROM and its PHY tick, and no frame comes. Then the host is on its wire.
+///
+/// # Errors
+///
+/// [`Memory`](InitError::Memory), [`Checksum`](InitError::Checksum) where the EEPROM's sum is wrong, and
+/// [`NoLink`](InitError::NoLink) where the link needs more than 2,000 ticks, or never comes up.
+pub fn bring_up_host(
+    alloc: Global,
+    plan: &HostPlan,
+    wire: usize,
+) -> Result<(Host, Station), InitError>
+    requires { HasConfig plan.now }
+    ensures comes_up { IfOk result (λ made. ComesUp plan.now made.0 made.1) }
+    ensures wire { IfOk result (λ made. made.1.wire ≡ wire) }
+    ensures why { IfErr result (IsReason plan.now) }
+{
+    // The address has six bytes, so that `comes_up` may say what the filter does with it.
+    let _address = address_of(&plan.image);
+    let layout = plan.config.layout(u64::MAX)?;
+    let adapter = Adapter::new(alloc, &plan.image, plan.link)?;
+    let memory = HostMemory::new(alloc, layout.size())?;
+    let mut bus = SoloBus::new(alloc, adapter, memory, true)?;
+    let table = table_of(plan.sockets.as_slice());
+    let host = Host::new(alloc, &mut bus, &plan.config, table)?;
+    let (adapter, memory) = bus.into_parts();
+    let station = Station::new(alloc, adapter, memory, wire)?;
+    Ok((host, station))
+}
+
+/// The address that an EEPROM holds.
+fn address_of(image: &Image) -> [u8; 6]
+    ensures address { result ≡ address_bytes image.now }
+    ensures is { IsAddress result }
+{
+    image.address()
+}
+
+/// A table of these sockets.
+fn table_of(kinds: &[SocketKind]) -> ArrayVec<SocketKind, MOST_SOCKETS>
+    requires { length kinds.now ≤ MOST_SOCKETS }
+    ensures { result.items ≡ kinds.now }
+{
+    let mut table = ArrayVec::new();
+    for kind in kinds {
+        let _ = table.try_push(*kind);
+    }
+    table
+}

@@ -1,0 +1,106 @@
+// All hosts of a plan are brought up.
+
+ghost use Rattle.std.specs.Prelude.{◌≡◌, ◌≢◌, ◌<◌, ◌++◌, ◌∷◌, [], IfErr, IfOk, Some, length, position, slice_get};
+ghost use Rattle.std.specs.Prelude.{string_eq};
+ghost use Rattle.bring_up.specs.declared.init_error.InitError.TheVariants as InitError;
+ghost use Rattle.network_plan.specs.Plans.{HasConfigs};
+ghost use Rattle.network_plan.specs.declared.plan.HostPlan.{HostPlan};
+ghost use Rattle.network_plan.specs.declared.plan_error.PlanError.TheVariants as PlanError;
+ghost use Rattle.wire.specs.HostsUp.{AreUp, CanComeUp, ComesUp, IsRefusal, ShareWires};
+ghost use Rattle.wire.specs.HostsUp as up;
+
+use crate::host::bring_up_host;
+use bring_up::InitError;
+use network_plan::{HostPlan, Plan, PlanError};
+use packet_socket::Host;
+use stations::Station;
+use std::alloc::{AllocError, Global};
+
+/// Brings all hosts of a plan up, in its order, each over its own adapter and memory. Those that name one wire are on
+/// it: its number is that of the first host that names it.
+///
+/// # Errors
+///
+/// [`Memory`](PlanError::Memory) where memory is refused, and [`Init`](PlanError::Init) with the number of a host whose
+/// EEPROM's sum is wrong, or whose link needs more than 2,000 ticks or never comes up. Those before it have right sums
+/// and links that come up at some time.
+pub fn bring_up(alloc: Global, plan: &Plan) -> Result<(Vec<Host>, Vec<Station>), PlanError>
+    requires { HasConfigs plan.now.hosts.items }
+    ensures up { IfOk result (λ made.
+        AreUp plan.now.hosts.items (length plan.now.hosts.items) made.0.items made.1.items) }
+    ensures wires { IfOk result (λ made. ShareWires plan.now.hosts.items made.1.items) }
+    ensures refuses { IfErr result (IsRefusal plan.now.hosts.items) }
+{
+    let plans = plan.hosts.as_slice();
+    let mut hosts = Vec::new(alloc);
+    let mut stations = Vec::new(alloc);
+    for number in 0..plans.len() {
+        let made = bring_up_one(alloc, plans, number)?;
+        let Ok(()) = keep(made, &mut hosts, &mut stations) else {
+            return Err(PlanError::Memory);
+        };
+    }
+    Ok((hosts, stations))
+}
+
+/// Brings one host of a plan up, on its wire, where those before it can come up.
+fn bring_up_one(
+    alloc: Global,
+    plans: &[HostPlan],
+    number: usize,
+) -> Result<(Host, Station), PlanError>
+    requires there { number < length plans.now }
+    requires configs { HasConfigs plans.now }
+    requires earlier { CanComeUp plans.now number }
+    ensures up { (plan : HostPlan) → slice_get plans.now number ≡ Some plan
+        → IfOk result (λ made. ComesUp plan made.0 made.1) }
+    ensures wire { (plan : HostPlan) → slice_get plans.now number ≡ Some plan
+        → IfOk result (λ made. made.1.wire ≡ up.wire_number plans.now plan.wire) }
+    ensures refuses { IfErr result (IsRefusal plans.now) }
+{
+    let plan = &plans[number];
+    match bring_up_host(alloc, plan, wire_number(plans, &plan.wire)) {
+        Ok(made) => Ok(made),
+        Err(error) => Err(refusal(number, error)),
+    }
+}
+
+/// What is told of a host that wasn't brought up.
+fn refusal(number: usize, error: InitError) -> PlanError
+    ensures memory { error ≡ InitError.Memory → result ≡ PlanError.Memory }
+    ensures device { error ≢ InitError.Memory → result ≡ PlanError.Init number error }
+{
+    match error {
+        InitError::Memory => PlanError::Memory,
+        _ => PlanError::Init(number, error),
+    }
+}
+
+/// The first host that names a wire.
+fn first_on(plans: &[HostPlan], wire: &String) -> Option<usize>
+    ensures { result ≡ position (λ plan. string_eq plan.wire wire.now) plans.now }
+{
+    plans.iter().position(|plan| plan.wire == *wire)
+}
+
+/// The number of a wire: that of the first host that names it.
+fn wire_number(plans: &[HostPlan], wire: &String) -> usize
+    ensures { result ≡ up.wire_number plans.now wire.now }
+{
+    first_on(plans, wire).unwrap_or(plans.len())
+}
+
+/// Puts a host and its station behind the others.
+fn keep(
+    made: (Host, Station),
+    hosts: &mut Vec<Host>,
+    stations: &mut Vec<Station>,
+) -> Result<(), AllocError>
+    ensures host { IfOk result (λ done. hosts.new.items ≡ hosts.old.items ++ made.0 ∷ []) }
+    ensures station { IfOk result (λ done. stations.new.items ≡ stations.old.items ++ made.1 ∷ []) }
+{
+    let (host, station) = made;
+    hosts.push(host)?;
+    stations.push(station)?;
+    Ok(())
+}

@@ -1,0 +1,99 @@
+"""Builds the program without proof and with run-time checks, in about a minute and a half.
+
+This depends on how `rt try` works inside: it compiles a program for a test run and keeps nothing. So it is run from a
+folder of links to the toolchain in which `clang` is a script of ours. That script keeps the bitcode of the program and
+fails; then the toolchain's own clang and linker make the program from it. If any step fails, QuickBuildFailed says why,
+and the caller makes the proved build.
+"""
+
+import os
+import shutil
+import subprocess
+import tempfile
+
+import sources
+
+# The bitcode of a crate alone or of the runtime is smaller, that of the program is larger.
+LEAST_PROGRAM_BYTES = 4_000_000
+CLANG = """#!/bin/sh
+for word in "$@"; do
+  case $word in *module.bc)
+    if [ "$(stat -Lc %s "$word")" -gt {least} ]; then
+      cp "$word" "{work}/module.bc"
+      printf '%s\\n' "$@" >"{work}/flags"
+      exit 1
+    fi ;;
+  esac
+done
+exec "{kit}/toolchain/bin/clang" "$@"
+"""
+
+
+class QuickBuildFailed(Exception):
+    """There is no unproved program; the text says why."""
+
+
+def link_all(source, target, but):
+    """Links all entries of a folder, but those named, into a new one."""
+    os.makedirs(target)
+    for name in os.listdir(source):
+        if name not in but:
+            os.symlink(os.path.join(source, name), os.path.join(target, name))
+
+
+def links_to(kit, work):
+    """A folder of links to the toolchain, with copies of `rt` and its library, which look for the toolchain beside them."""
+    top = os.path.join(work, "kit")
+    link_all(kit, top, ("bin", "toolchain"))
+    link_all(os.path.join(kit, "bin"), os.path.join(top, "bin"), ("rt", "rtlib.py"))
+    for name in ("rt", "rtlib.py"):
+        shutil.copy(os.path.join(kit, "bin", name), os.path.join(top, "bin"))
+    link_all(os.path.join(kit, "toolchain"), os.path.join(top, "toolchain"), ("bin",))
+    tools = os.path.join(top, "toolchain", "bin")
+    link_all(os.path.join(kit, "toolchain", "bin"), tools, ("clang",))
+    clang = os.path.join(tools, "clang")
+    with open(clang, "w") as file:
+        file.write(CLANG.format(least=LEAST_PROGRAM_BYTES, work=work, kit=kit))
+    os.chmod(clang, 0o755)
+    return os.path.join(top, "bin", "rt")
+
+
+def run(words, log, cwd, env=None):
+    """Runs a command, and returns whether it ended well."""
+    with open(log, "ab") as file:
+        return subprocess.run(words, cwd=cwd, env=env, stdin=subprocess.DEVNULL, stdout=file, stderr=file).returncode == 0
+
+
+def last_line(log):
+    with open(log, errors="replace") as file:
+        return ([line.strip() for line in file if line.strip()] or ["nothing was printed"])[-1]
+
+
+def flags_of(work, kit):
+    """The flags of the toolchain's own call of clang, with optimization and without the sanitizer."""
+    with open(os.path.join(work, "flags")) as file:
+        flags = file.read().splitlines()
+    changed = [flag.replace(os.path.join(work, "kit"), kit) for flag in flags]
+    return ["-O1" if flag == "-O0" else flag for flag in changed if not flag.startswith("-fsanitize=")]
+
+
+def build(rt, target):
+    """Builds the program without proof as the file `target`."""
+    kit = os.path.dirname(os.path.dirname(os.path.realpath(rt)))
+    os.makedirs(os.path.dirname(target), exist_ok=True)
+    with tempfile.TemporaryDirectory() as work:
+        log = os.path.join(work, "log")
+        try:
+            own = links_to(kit, work)
+        except OSError as error:
+            raise QuickBuildFailed(f"the toolchain of {rt} isn't laid out as expected: {error}") from error
+        run([own, "try", "--", "--help"], log, os.path.join(sources.CRATES, sources.PROGRAM), {**os.environ, "TMPDIR": work})
+        if not os.path.exists(os.path.join(work, "module.bc")):
+            raise QuickBuildFailed(f"`rt try` compiled no program: {last_line(log)}")
+        libraries = [os.path.join(kit, "c", name) for name in ("libos_c.a", "liblibc_c.a")]
+        link = [os.path.join(kit, "bin", "rattle-link"), "--target", "x86_64-unknown-linux-gnu",
+                "--toolchain", os.path.join(kit, "toolchain"), "-o", f"{target}.new", "module.o", *libraries]
+        for command in ([os.path.join(kit, "toolchain", "bin", "clang"), *flags_of(work, kit)], link):
+            if not run(command, log, work):
+                raise QuickBuildFailed(f"{os.path.basename(command[0])} failed: {last_line(log)}")
+    os.replace(f"{target}.new", target)

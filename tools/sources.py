@@ -1,0 +1,50 @@
+"""The sources of the program: its crates, their files, and a sum of all that a build reads."""
+
+import hashlib
+import os
+
+TOP = os.path.dirname(os.path.dirname(os.path.realpath(__file__)))
+CRATES = os.path.join(TOP, "crates")
+BUILD = os.path.join(TOP, ".build")
+PROGRAM = "nicbench"
+# Folders of a crate that no build of the program reads.
+UNREAD = ("out", "must-fail")
+
+
+def crates():
+    """The crates that the program depends on, lowest first, itself last, each with its line of crates.txt."""
+    with open(os.path.join(TOP, "crates.txt")) as file:
+        lines = [line for line in file if ":" in line and not line.startswith("#")]
+    known = {line.split(":")[0].split()[0]: line for line in lines}
+    found = {}
+
+    def visit(name):
+        if name not in known or name in found:
+            return
+        for other in known[name].split(":")[1].split():
+            visit(other)
+        found[name] = known[name]
+
+    visit(PROGRAM)
+    return found
+
+
+def files_of(crate):
+    """The files of a crate that a build of the program reads, in order."""
+    for folder, folders, names in os.walk(os.path.join(CRATES, crate)):
+        folders[:] = sorted(name for name in folders if name not in UNREAD)
+        yield from (os.path.join(folder, name) for name in sorted(names) if name != "README.md")
+
+
+def all_files(names):
+    """All files that a build of the program reads."""
+    return [os.path.join(TOP, "crates.txt"), *(file for crate in names for file in files_of(crate))]
+
+
+def checksum(names):
+    """The sum of all that a build of the program reads."""
+    total = hashlib.sha256()
+    for path in all_files(names):
+        with open(path, "rb") as file:
+            total.update(f"{os.path.relpath(path, TOP)}\0{hashlib.sha256(file.read()).hexdigest()}\n".encode())
+    return total.hexdigest()
