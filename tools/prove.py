@@ -30,6 +30,8 @@ def copy_sources(crates):
     with open(os.path.join(WORK, "crates.txt"), "w") as file:
         file.writelines(crates.values())
     shutil.copy(os.path.join(sources.TOP, "HANDLES"), WORK)
+    # `rt` takes the nearest folder with a `.git` for the top of the repository.
+    os.makedirs(os.path.join(WORK, ".git"))
 
 
 class Progress:
