@@ -14,8 +14,8 @@ use Rattle.rx_engine.specs.Moving.{HasFrameToMove, CanMove, engine_after_data, i
 use Rattle.rx_engine.specs.declared.arrival.Fate.{Fate}
 use Rattle.rx_engine.specs.declared.arrival.Fate.TheVariants.{Off, Illegal, Filtered, Missed, Stored}
 use Rattle.rx_engine.specs.declared.data.Data.TheVariants as answers
-use Rattle.rx_filter.specs.Passing.{Passes}
-use Rattle.rx_filter.specs.Registers.{filter_of}
+use Rattle.rx_engine.specs.Passing.{Passes}
+use Rattle.rx_engine.specs.Registers.{filter_of}
 use Rattle.adapter.specs.declared.ring.RingRegisters.{RingRegisters}
 use Rattle.adapter.specs.declared.step.Stepped.{Stepped}
 use Rattle.adapter.specs.declared.step.Stepped.TheVariants.{Moved, Done, Nothing, Fault}

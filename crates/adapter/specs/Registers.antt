@@ -9,7 +9,7 @@ use Rattle.mdic_phy.specs.Phy.{PhyState, link_is_up, new_phy}
 use Rattle.registers.specs.Bits.{is_set, union, difference}
 use Rattle.registers.specs.Kept.{causes_of, status_of_link_up}
 use Rattle.registers.specs.Places.{ctrl_rst, ctrl_slu}
-use Rattle.rx_filter.specs.Registers.{FilterRegisters}
+use Rattle.rx_engine.specs.Registers.{FilterRegisters}
 use Rattle.rx_engine.specs.Receiver.{new_receiver}
 use Rattle.tx_engine.specs.Transmitter.{new_transmitter}
 use Rattle.adapter.specs.declared.register.Register.{Register}
@@ -19,7 +19,7 @@ use Rattle.adapter.specs.PacketBuffer.{allocation_shown, allocation_written}
 use Rattle.adapter.specs.Rings.{new_ring, ring_answer, with_ring}
 use Rattle.adapter.specs.State.{AdapterState}
 use Rattle.adapter.specs.Table.{row_of, register_at, address_low_at_reset, address_high_at_reset}
-use Rattle.rx_filter.specs.declared.filter.TheConstants.{VLAN_TYPE}
+use Rattle.rx_engine.specs.declared.filter.TheConstants.{VLAN_TYPE}
 
 -- After power-on and after a reset.
 

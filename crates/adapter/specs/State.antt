@@ -7,7 +7,7 @@ use Rattle.registers.specs.Bits.{IsSubset}
 use Rattle.registers.specs.Kept.{all_causes}
 use Rattle.registers.specs.Counting.{greatest_count}
 use Rattle.registers.specs.Interrupts.{Interrupts}
-use Rattle.rx_filter.specs.Registers.{FilterRegisters}
+use Rattle.rx_engine.specs.Registers.{FilterRegisters}
 use Rattle.rx_engine.specs.Receiver.{IsReceiver, Receiver}
 use Rattle.tx_engine.specs.Transmitter.{Transmitter}
 use Rattle.adapter.specs.declared.ring.RingRegisters.{RingRegisters}

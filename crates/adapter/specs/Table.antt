@@ -9,7 +9,7 @@ use Rattle.adapter.specs.declared.register.Register.TheVariants.{Receive, Transm
 use Rattle.adapter.specs.Rings.{ring_distance, ring_kept}
 use Rattle.registers.specs.Places.{alone, rah_av}
 use Rattle.registers.specs.Kept.{control_mask, receive_control_mask, transmit_control_mask}
-use Rattle.rx_filter.specs.Registers.{address_high_mask}
+use Rattle.rx_engine.specs.Registers.{address_high_mask}
 
 -- A line of the table.
 pub record Row : Type 0 where

@@ -9,7 +9,7 @@ use crate::ring::RingRegisters;
 use eeprom::{Eerd, Image};
 use mdic_phy::Mdic;
 use registers::{Causes, Counter, Ctrl, Tctl};
-use rx_filter::{Filter, VLAN_TYPE};
+use rx_engine::{Filter, VLAN_TYPE};
 
 /// The bits of a word of the EEPROM.
 const WORD_BITS: u32 = 16;

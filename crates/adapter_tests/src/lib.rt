@@ -18,6 +18,8 @@ mod eeprom_calls;
 #[cfg(test)]
 mod eeprom_readme;
 #[cfg(test)]
+mod filter_calls;
+#[cfg(test)]
 mod fixtures;
 #[cfg(test)]
 mod frame_queue_calls;
@@ -39,10 +41,6 @@ mod registers_readme;
 mod rx_engine_calls;
 #[cfg(test)]
 mod rx_engine_readme;
-#[cfg(test)]
-mod rx_filter_calls;
-#[cfg(test)]
-mod rx_filter_readme;
 #[cfg(test)]
 mod tx_engine_calls;
 #[cfg(test)]

@@ -1,8 +1,7 @@
 use descriptors::Ring;
 use dma_memory::{HostMemory, Layout};
 use registers::Rctl;
-use rx_engine::{Data, Done, Fate, RxEngine, arrive, rx_data, rx_done};
-use rx_filter::Filter;
+use rx_engine::{Data, Done, Fate, Filter, RxEngine, arrive, rx_data, rx_done};
 use std::fmt::Debug;
 use std::process::Abort;
 use std::test::Fail;

@@ -3,8 +3,8 @@ use Rattle.std.proofs.Common.{◌≡◌, ◌++◌, ◌∷◌, ◌+◌, ◌-◌, 
 use Rattle.std.proofs.lemmas.List.{length-replicate}
 use Rattle.mdic_phy.specs.Phy.{new_phy}
 use Rattle.mdic_phy.specs.declared.phy.Link.{Link}
-use Rattle.rx_filter.specs.Addresses.{IsAddress, high_word, low_word}
-use Rattle.rx_filter.specs.Registers.{FilterRegisters}
+use Rattle.rx_engine.specs.Addresses.{IsAddress, high_word, low_word}
+use Rattle.rx_engine.specs.Registers.{FilterRegisters}
 use Rattle.adapter.specs.Registers.{adapter_at_reset}
 use Rattle.adapter.specs.State.{AdapterState}
 use Rattle.adapter.specs.Table.{address_high_at_reset, address_low_at_reset}

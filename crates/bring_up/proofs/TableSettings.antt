@@ -4,8 +4,8 @@ use Rattle.std.proofs.Common.{append_assoc, ap, bit_and, length, refl, replicate
 use Rattle.std.proofs.lemmas.List.{length-append}
 use Rattle.std.proofs.lemmas.Nat.{and_block, and_mask}
 use Rattle.std.proofs.Math.Seq.{set-append_seam}
-use Rattle.rx_filter.specs.Addresses.{IsAddress, high_word, low_word}
-use Rattle.rx_filter.specs.Registers.{FilterRegisters}
+use Rattle.rx_engine.specs.Addresses.{IsAddress, high_word, low_word}
+use Rattle.rx_engine.specs.Registers.{FilterRegisters}
 use Rattle.adapter.specs.declared.register.Register.{Register}
 use Rattle.adapter.specs.declared.register.Register.TheVariants.{Mta, Vfta}
 use Rattle.adapter.specs.Registers.{left_by_write}

@@ -3,7 +3,7 @@ use Rattle.std.proofs.Common.{◌≡◌, ◌++◌, ◌∷◌, ◌+◌, ◌-◌, 
 use Rattle.std.proofs.Common.{ap, ◌∙◌, sym, subst, arith}
 use Rattle.std.specs.List.{All}
 use Rattle.std.proofs.lemmas.List.Elements.{All-append, All-cons}
-use Rattle.rx_filter.specs.Addresses.{high_word, low_word}
+use Rattle.rx_engine.specs.Addresses.{high_word, low_word}
 use Rattle.adapter.specs.declared.register.Register.{Register}
 use Rattle.adapter.specs.declared.register.Register.TheVariants.{Mta, Rah, Ral, Vfta}
 use Rattle.adapter.specs.Table.{array_register_at, register_at}

@@ -1,7 +1,7 @@
 -- Which configurations can be had (own, where the manual doesn't say).
 use Rattle.std.specs.Prelude.{◌≤◌, ◌<◌, ℕ, List, [], All, Option, None, Some}
 use Rattle.dma_memory.specs.Layout.{Counts, IsAllowed, size_of}
-use Rattle.rx_filter.specs.Addresses.{IsGroup}
+use Rattle.rx_engine.specs.Addresses.{IsGroup}
 use Rattle.adapter.specs.PacketBuffer.{IsAllocation}
 use Rattle.arrayvec.specs.declared.array_vec.ArrayVec.{ArrayVec}
 use Rattle.bring_up.specs.declared.config.Config.{Config}

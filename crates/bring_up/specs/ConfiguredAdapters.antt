@@ -4,7 +4,7 @@ use Rattle.std.specs.Prelude.{replicate}
 use Rattle.adapter.specs.declared.offsets.TheConstants.{MTA, RDBAL, RDT, TDBAL, VFTA}
 use Rattle.arrayvec.specs.declared.array_vec.ArrayVec.{ArrayVec}
 use Rattle.registers.specs.Places.{alone, rah_av}
-use Rattle.rx_filter.specs.Addresses.{IsAddress, high_word, low_word}
+use Rattle.rx_engine.specs.Addresses.{IsAddress, high_word, low_word}
 use Rattle.adapter.specs.Rings.{ring_of}
 use Rattle.descriptors.specs.Ring.{count_of}
 use Rattle.bus.specs.Link.{LeavesPhy}
@@ -16,7 +16,7 @@ use Rattle.bring_up.specs.SettingSteps.{IsAside}
 use Rattle.bring_up.specs.WrittenRegisters.{allocation_writes, handled_causes, link_control, link_writes, mask_writes, reset_writes}
 use Rattle.bring_up.specs.WrittenRegisters.{write_at}
 use Rattle.bring_up.specs.declared.config.Config.{Config}
-use Rattle.rx_filter.specs.declared.filter.TheConstants.{VLAN_TYPE}
+use Rattle.rx_engine.specs.declared.filter.TheConstants.{VLAN_TYPE}
 
 -- whether VLANs are named, an empty list among them
 abbrev pub names_vlans : Option (ArrayVec ℕ 32 (Unit {0})) → Bool

@@ -1,7 +1,7 @@
 -- The receive filter of a configuration is set up.
 use Rattle.std.specs.Prelude.{◌++◌, ℕ, List}
 use Rattle.adapter.specs.declared.offsets.TheConstants.{MTA, VFTA}
-use Rattle.rx_filter.specs.Addresses.{IsAddress}
+use Rattle.rx_engine.specs.Addresses.{IsAddress}
 use Rattle.adapter.specs.World.{World}
 use Rattle.bus.specs.PastOfStretch.{Past}
 use Rattle.bring_up.specs.Configuration.{vlans_of}

@@ -4,8 +4,8 @@ use Rattle.std.specs.Prelude.{◌≡◌, ◌<◌, ◌↔◌, ◌+◌, ◌*◌, �
 use Rattle.std.specs.List.{Contains}
 use Rattle.adapter.specs.declared.offsets.TheConstants.{RAL}
 use Rattle.registers.specs.Places.{alone, rah_av}
-use Rattle.rx_filter.specs.Addresses.{group_number, high_word, low_word}
-use Rattle.rx_filter.specs.Registers.{HasTableBit}
+use Rattle.rx_engine.specs.Addresses.{group_number, high_word, low_word}
+use Rattle.rx_engine.specs.Registers.{HasTableBit}
 use Rattle.bus.specs.Settings.{Write}
 use Rattle.bring_up.specs.WrittenRegisters.{write_at}
 

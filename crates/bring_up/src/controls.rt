@@ -52,9 +52,19 @@ pub fn set_link_up<B: Bus>(bus: &mut B)
     bus.write(CTRL, Ctrl::SLU.union(Ctrl::ASDE).bits());
 }
 
-/// Enables the causes that a driver handles: a frame was transmitted, or received, receive descriptors
-/// become few, or a frame found no room. A driver that is ready stays so, and no work is forgotten behind
-/// it, where no slot was finished before it or RXT0 was recorded.
+/// The causes that a driver handles: a frame was transmitted, or received, receive descriptors become few, or a frame
+/// found no room.
+pub fn handled_causes() -> Cause
+    ensures { result.0 ≡ handled_causes }
+{
+    Cause::TXDW
+        .union(Cause::RXDMT0)
+        .union(Cause::RXO)
+        .union(Cause::RXT0)
+}
+
+/// Enables the causes that a driver handles. A driver that is ready stays so, and no work is forgotten after
+/// it, if no slot was finished before it or RXT0 was recorded.
 pub fn enable_interrupts<B: Bus>(bus: &mut B)
     ensures extent { B.extent bus.new ≡ B.extent bus.old }
     ensures lent_stays { B.lent_stays bus.old bus.new }
@@ -64,9 +74,5 @@ pub fn enable_interrupts<B: Bus>(bus: &mut B)
     ensures enables { (d : DriverState) → B.honest bus.old → Ready d (B.world bus.old)
         → EnablesCauses B.world B.happened handled_causes bus.old bus.new d }
 {
-    let causes = Cause::TXDW
-        .union(Cause::RXDMT0)
-        .union(Cause::RXO)
-        .union(Cause::RXT0);
-    bus.write(IMS, causes.bits());
+    bus.write(IMS, handled_causes().bits());
 }

@@ -1,8 +1,8 @@
 //! The registers of the receive filter ("13.5.1 Multicast Table Array" and the sections behind it).
 
 ghost use Rattle.std.specs.Prelude.{◌≡◌, ◌<◌, ◌^◌, All, replicate};
-ghost use Rattle.rx_filter.specs.Addresses.{IsAddress};
-ghost use Rattle.rx_filter.specs.Writing.{with_number};
+ghost use Rattle.rx_engine.specs.Addresses.{IsAddress};
+ghost use Rattle.rx_engine.specs.Writing.{with_number};
 ghost use Rattle.bring_up.specs.ConfiguredAdapters.{AreWords};
 ghost use Rattle.bring_up.specs.FilterTables.{HasNumbers, address_writes, entry_writes, numbers_of_groups};
 ghost use Rattle.bring_up.specs.FilterTables.{table_writes};
@@ -11,7 +11,7 @@ ghost use Rattle.bring_up.specs.SettingSteps.{Sets};
 use adapter::offsets::{ADDRESS_PAIR_BYTES, MTA, RAL, REGISTER_BYTES, VFTA};
 use bus::Bus;
 use registers::GroupOffset;
-use rx_filter::{AddressWords, EXACT_ADDRESSES, TABLE_WORDS, TableBit, hash_of};
+use rx_engine::{AddressWords, EXACT_ADDRESSES, TABLE_WORDS, TableBit, hash_of};
 
 /// The group table with the bits of these groups, each by bits 47:36 of its address (RCTL.MO 00), all
 /// others 0.

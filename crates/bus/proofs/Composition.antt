@@ -6,7 +6,7 @@ use Rattle.std.specs.Fn.{iterate}
 use Rattle.eeprom.specs.Eerd as eeprom
 use Rattle.registers.specs.Bits.{HasBit, field}
 use Rattle.registers.specs.ReceiveControl.{buffer_size_of}
-use Rattle.rx_filter.specs.Registers.{FilterRegisters}
+use Rattle.rx_engine.specs.Registers.{FilterRegisters}
 use Rattle.adapter.specs.declared.ring.RingRegisters.{RingRegisters}
 use Rattle.adapter.specs.Slots.{finished, written_back}
 use Rattle.adapter.specs.HostAreas.{buffer_size}

@@ -4,7 +4,7 @@ use Rattle.std.specs.List.{All}
 use Rattle.dma_memory.specs.Areas.{AreApart, Area}
 use Rattle.registers.specs.Bits.{field}
 use Rattle.registers.specs.ReceiveControl.{buffer_size_of}
-use Rattle.rx_filter.specs.Registers.{FilterRegisters}
+use Rattle.rx_engine.specs.Registers.{FilterRegisters}
 use Rattle.descriptors.specs.declared.tx_desc.TxDesc.{TxDesc}
 use Rattle.adapter.specs.Rings.{ring_of}
 use Rattle.adapter.specs.declared.ring.RingRegisters.{RingRegisters}

@@ -4,7 +4,7 @@ use Rattle.registers.specs.Bits.{HasBit}
 use Rattle.mdic_phy.specs.Phy.{new_phy}
 use Rattle.mdic_phy.specs.declared.phy.Link.{Link}
 use Rattle.registers.specs.Places.{rctl_en}
-use Rattle.rx_filter.specs.Registers.{FilterRegisters}
+use Rattle.rx_engine.specs.Registers.{FilterRegisters}
 use Rattle.adapter.specs.declared.ring.RingRegisters.{RingRegisters}
 use Rattle.adapter.specs.Registers.{adapter_at_reset, after_write}
 use Rattle.adapter.specs.State.{AdapterState}

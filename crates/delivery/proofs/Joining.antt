@@ -4,7 +4,7 @@ use Rattle.std.proofs.Common.{append_assoc, arith, sym}
 use Rattle.std.proofs.lemmas.Grind.{flat_map-append}
 use Rattle.std.proofs.lemmas.List.Sums.{sum_by-append}
 use Rattle.rx_engine.specs.Arriving.{kept}
-use Rattle.rx_filter.specs.Registers.{FilterRegisters}
+use Rattle.rx_engine.specs.Registers.{FilterRegisters}
 use Rattle.delivery.specs.Fates.{AreRightByCounting, AreRightFates, Came, Left, Mark, left_in, mark_by, marks, stored_in}
 use Rattle.delivery.specs.Happenings.{Accepted, Given, Happening, Moved, Put, Reached, accepted, accepted_by, given, given_by, missed}
 use Rattle.delivery.specs.Happenings.{missed_of, put, put_by, reached, reached_by, share_wire, stored, stored_by, toward, toward_by}

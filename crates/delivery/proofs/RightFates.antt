@@ -10,7 +10,7 @@ use Rattle.mdic_phy.specs.Mdic as mdi
 use Rattle.mdic_phy.specs.declared.mdic.Ticked.{Ticked}
 use Rattle.rx_engine.specs.declared.arrival.Fate.{Fate}
 use Rattle.rx_engine.specs.declared.arrival.Fate.TheVariants.{Off, Illegal, Filtered, Missed, Stored}
-use Rattle.rx_filter.specs.Registers.{FilterRegisters}
+use Rattle.rx_engine.specs.Registers.{FilterRegisters}
 use Rattle.adapter.specs.Receiving.{IsFate, after_arrive, room}
 use Rattle.adapter.specs.Registers.{left_by_read, left_by_write, read_of, write_of}
 use Rattle.adapter.specs.State.{AdapterState}

@@ -2,7 +2,7 @@
 use Rattle.std.specs.Prelude.{◌≡◌, ◌⊎◌, ◌+◌, ◌++◌, ◌∷◌, [], ℕ, false, Option, List, All, length, map}
 use Rattle.registers.specs.Bits.{HasBit}
 use Rattle.registers.specs.Places.{rctl_en}
-use Rattle.rx_filter.specs.Registers.{FilterRegisters}
+use Rattle.rx_engine.specs.Registers.{FilterRegisters}
 use Rattle.adapter.specs.State.{AdapterState}
 use Rattle.adapter.specs.declared.offsets.TheConstants.{RDT, TDT}
 use Rattle.bus.specs.TickGroups.{played_in, waiting_after, without_go}

@@ -5,8 +5,8 @@ use Rattle.descriptors.specs.Frames.{IsLegal}
 use Rattle.rx_engine.specs.Arriving.{kept}
 use Rattle.rx_engine.specs.declared.arrival.Fate.{Fate}
 use Rattle.rx_engine.specs.declared.arrival.Fate.TheVariants.{Off, Illegal, Filtered, Missed, Stored}
-use Rattle.rx_filter.specs.Passing.{Passes}
-use Rattle.rx_filter.specs.Registers.{FilterRegisters, filter_of}
+use Rattle.rx_engine.specs.Passing.{Passes}
+use Rattle.rx_engine.specs.Registers.{FilterRegisters, filter_of}
 use Rattle.delivery.specs.Happenings.{Accepted, Given, Happening, Moved, Put, Reached, of_host}
 
 -- What comes to a receive packet buffer and leaves it.

@@ -8,7 +8,7 @@ use Rattle.arrayvec.specs.declared.array_vec.ArrayVec.{ArrayVec}
 use Rattle.registers.specs.Counting.{greatest_count}
 use Rattle.dma_memory.specs.Layout.{Counts}
 use Rattle.descriptors.specs.RingLaws.{place}
-use Rattle.rx_filter.specs.Addresses.{IsAddress}
+use Rattle.rx_engine.specs.Addresses.{IsAddress}
 use Rattle.eeprom.specs.Image.{HasRightSum, address_bytes}
 use Rattle.adapter.specs.HostFrames.{frames_held, frames_to_send}
 use Rattle.adapter.specs.Rings.{new_ring}

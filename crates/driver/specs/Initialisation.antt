@@ -6,7 +6,7 @@ use Rattle.registers.specs.Counting.{greatest_count}
 use Rattle.dma_memory.specs.Layout.{Counts}
 use Rattle.dma_memory.specs.Owners.{HaveSameNumbers}
 use Rattle.eeprom.specs.Image.{HasRightSum, address_bytes}
-use Rattle.rx_filter.specs.Addresses.{IsAddress}
+use Rattle.rx_engine.specs.Addresses.{IsAddress}
 use Rattle.adapter.specs.HostFrames.{frames_held, frames_to_send}
 use Rattle.adapter.specs.Slots.{finished}
 use Rattle.adapter.specs.World.{World}

@@ -2,7 +2,7 @@
 use Rattle.std.specs.Prelude.{◌≡◌, ◌≤◌, ◌<◌, ◌⊎◌, ◌+◌, ◌-◌, ◌^◌, ◌++◌, ◌∷◌, ℕ, Bool, List, [], All, length, map}
 use Rattle.descriptors.specs.Frames.{longest_frame, shortest_frame}
 use Rattle.dma_memory.specs.Owners.{HaveSameNumbers}
-use Rattle.rx_filter.specs.Addresses.{ether_type}
+use Rattle.rx_engine.specs.Addresses.{ether_type}
 use Rattle.adapter.specs.World.{World}
 use Rattle.bus.specs.PastOfStretch.{Past}
 use Rattle.bus.specs.declared.event.Access.{Access}

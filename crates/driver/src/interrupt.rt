@@ -15,10 +15,10 @@ ghost use Rattle.driver.specs.TakenFrames.{ShowsAll};
 
 use crate::{Driver, Receiver};
 use adapter::offsets::{ICR, MPC};
+use bitflags::Flags;
+use bring_up::handled_causes;
 use bus::Bus;
-
-/// The causes for which a driver does something: TXDW, RXDMT0, RXO and RXT0.
-const HANDLED_CAUSES: u32 = 0xD1;
+use registers::Cause;
 
 /// What became of an interrupt.
 #[derive(Clone, Copy, Debug, PartialEq, Eq)]
@@ -36,7 +36,7 @@ pub enum Handled {
 fn is_mine(causes: u32) -> bool
     ensures { IsTrue result ↔ Meet causes handled_causes }
 {
-    causes & HANDLED_CAUSES != 0
+    Cause(causes).intersects(handled_causes())
 }
 
 /// Whether a value that was read of MPC can be added to a sum without a loss.

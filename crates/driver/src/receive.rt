@@ -6,7 +6,7 @@ ghost use Rattle.dma_memory.specs.Owners.{HasNoSecondOwner, copies};
 ghost use Rattle.registers.specs.Bits.{HasBit, is_set};
 ghost use Rattle.descriptors.specs.RxStatus.{dd, eop, status_bits};
 ghost use Rattle.descriptors.specs.RingLaws.{place};
-ghost use Rattle.rx_filter.specs.Addresses.{ether_type};
+ghost use Rattle.rx_engine.specs.Addresses.{ether_type};
 ghost use Rattle.adapter.specs.Conditions.{IsWhole};
 ghost use Rattle.adapter.specs.Slots.{finished};
 ghost use Rattle.bus.specs.declared.event.Access.TheVariants.{Loads};

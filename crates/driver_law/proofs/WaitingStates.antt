@@ -2,7 +2,7 @@
 use Rattle.std.proofs.Common.{◌≡◌, ◌++◌, [], ℕ, List, Option, None, Some, map, refl, sym, ap, subst, ◌∙◌}
 use Rattle.std.proofs.lemmas.List.{append-nil}
 use Rattle.registers.specs.Bits.{HasBit}
-use Rattle.rx_filter.specs.Registers.{FilterRegisters}
+use Rattle.rx_engine.specs.Registers.{FilterRegisters}
 use Rattle.dma_memory.specs.Areas.{bytes_in}
 use Rattle.rx_engine.specs.Held.{held, in_work}
 use Rattle.rx_engine.specs.declared.engine.Work.{Work}

@@ -6,7 +6,7 @@ use Rattle.std.proofs.lemmas.List.Elements.{All-append}
 use Rattle.std.proofs.lemmas.Grind.{flat_map-append}
 use Rattle.registers.specs.Bits.{HasBit}
 use Rattle.registers.specs.Places.{rctl_en}
-use Rattle.rx_filter.specs.Registers.{FilterRegisters}
+use Rattle.rx_engine.specs.Registers.{FilterRegisters}
 use Rattle.bus.proofs.Lists.{all-none}
 use Rattle.bus.specs.declared.event.Event.{Event}
 use Rattle.stations.specs.AtomicSteps.{AtomicStep}

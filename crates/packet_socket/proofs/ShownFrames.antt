@@ -6,7 +6,7 @@ use Rattle.std.specs.Option.{is_some}
 use Rattle.std.proofs.lemmas.List.{length-map}
 use Rattle.std.proofs.lemmas.List.Elements.{filter_passes}
 use Rattle.std.proofs.lemmas.List.Sums.{sum_by-cons}
-use Rattle.rx_filter.specs.Addresses.{ether_type}
+use Rattle.rx_engine.specs.Addresses.{ether_type}
 use Rattle.bus.proofs.Lists.{all-head, all-tail, all-unmapped}
 use Rattle.driver_law.specs.DriverState.{HandedOut, numbers_of}
 use Rattle.driver.specs.TakenFrames.{IsPart, buffers_of, part_none, part_with, part_without, received_of}

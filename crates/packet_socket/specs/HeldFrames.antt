@@ -2,7 +2,7 @@
 use Rattle.std.specs.Prelude.{◌++◌, ℕ, Bool, true, List, count_by, filter, map}
 use Rattle.dma_memory.specs.HostMemory.{bytes_at}
 use Rattle.dma_memory.specs.Layout.{Counts}
-use Rattle.rx_filter.specs.Addresses.{ether_type}
+use Rattle.rx_engine.specs.Addresses.{ether_type}
 use Rattle.adapter.specs.HostFrames.{frames_held}
 use Rattle.adapter.specs.World.{World}
 use Rattle.driver_law.specs.DriverState.{DriverState, HandedOut, buffer_at, holding}

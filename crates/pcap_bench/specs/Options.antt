@@ -1,9 +1,9 @@
 -- The receive filter that the options of a pass ask for. (own)
 use Rattle.std.specs.Prelude.{◌≡◌, ◌≤◌, ℕ, List, Some, None, IfSome}
-use Rattle.rx_filter.specs.Addresses.{group_number}
-use Rattle.rx_filter.specs.Passing.{ReceiveFilter, Passes}
+use Rattle.rx_engine.specs.Addresses.{group_number}
+use Rattle.rx_engine.specs.Passing.{ReceiveFilter, Passes}
 use Rattle.command_line.specs.declared.job.PassFilter.{PassFilter}
-use Rattle.rx_filter.specs.declared.filter.TheConstants.{VLAN_TYPE}
+use Rattle.rx_engine.specs.declared.filter.TheConstants.{VLAN_TYPE}
 
 -- neither an address nor a group is given
 abbrev pub IsOpen : PassFilter → Type 0

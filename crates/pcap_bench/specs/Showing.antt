@@ -3,7 +3,7 @@ use Rattle.std.specs.Prelude.{◌+◌, ◌++◌, ℕ, List, [], ◌∷◌, lengt
 use Rattle.std.specs.List.{flat_map}
 use Rattle.hex.specs.Hex.{encode_lower}
 use Rattle.pcap_trace.specs.declared.trace.Trace.{Trace}
-use Rattle.rx_filter.specs.Addresses.{destination}
+use Rattle.rx_engine.specs.Addresses.{destination}
 use Rattle.pcap_bench.specs.Printing.{field, cut_word}
 
 -- a byte, as two lower-case hexadecimal digits

@@ -3,9 +3,9 @@ ghost use Rattle.std.specs.Prelude.{◌≡◌, ◌↔◌, ◌+◌, ◌*◌, ◌%
 ghost use Rattle.descriptors.specs.Frames.{padded, is_sendable, IsLegal};
 ghost use Rattle.descriptors.specs.RxStatus.{status_bits};
 ghost use Rattle.rx_engine.specs.Descriptors.{descriptor_at};
-ghost use Rattle.rx_filter.specs.Laws.{SameSets};
-ghost use Rattle.rx_filter.specs.Passing.{Passes};
-ghost use Rattle.rx_filter.specs.Registers.{filter_of};
+ghost use Rattle.rx_engine.specs.FilterLaws.{SameSets};
+ghost use Rattle.rx_engine.specs.Passing.{Passes};
+ghost use Rattle.rx_engine.specs.Registers.{filter_of};
 ghost use Rattle.adapter.specs.Receiving.{after_data, after_done, memory_after_data_step, memory_after_done_step};
 ghost use Rattle.adapter.specs.Receiving.{CanMoveFrame, HasFrameAndDescriptor};
 ghost use Rattle.adapter.specs.declared.step.Stepped.TheVariants.{Moved, Done};

@@ -1,8 +1,13 @@
+pub mod Addresses
 pub mod Arriving
 pub mod Descriptors
+pub mod FilterLaws
 pub mod Finishing
 pub mod Held
 pub mod Inside
 pub mod Laws
 pub mod Moving
+pub mod Passing
 pub mod Receiver
+pub mod Registers
+pub mod Writing

@@ -19,8 +19,8 @@ use Rattle.descriptors.specs.Frames.{IsLegal}
 use Rattle.mdic_phy.specs.declared.phy.Link.TheVariants.{Never}
 use Rattle.rx_engine.specs.declared.arrival.Fate.{Fate}
 use Rattle.rx_engine.specs.declared.arrival.Fate.TheVariants.{Off, Illegal, Filtered, Missed, Stored}
-use Rattle.rx_filter.specs.Passing.{AcceptsAddress, AcceptsVlan, Passes}
-use Rattle.rx_filter.specs.Registers.{filter_of}
+use Rattle.rx_engine.specs.Passing.{AcceptsAddress, AcceptsVlan, Passes}
+use Rattle.rx_engine.specs.Registers.{filter_of}
 use Rattle.rx_engine.specs.Descriptors as receive
 use Rattle.adapter.specs.Receiving.{CanMoveFrame, DataAnswers, DoneAnswers, HasFrameAndDescriptor, IsFate}
 use Rattle.adapter.specs.Steps.{Answers}

@@ -8,7 +8,7 @@ use Rattle.std.proofs.lemmas.List.Elements.{filter-append}
 use Rattle.std.proofs.lemmas.List.Sums.{sum_by-append}
 use Rattle.registers.specs.Bits.{HasBit}
 use Rattle.registers.specs.Places.{rctl_en}
-use Rattle.rx_filter.specs.Addresses.{ether_type}
+use Rattle.rx_engine.specs.Addresses.{ether_type}
 use Rattle.descriptors.specs.Frames.{padded}
 use Rattle.adapter.specs.HostFrames.{frames_to_send}
 use Rattle.adapter.specs.World.{World}

@@ -9,7 +9,7 @@ use Rattle.eeprom.specs.Image.{HasRightSum, address_bytes}
 use Rattle.mdic_phy.specs.declared.phy.Link.{Link}
 use Rattle.mdic_phy.specs.declared.phy.Link.TheVariants.{Never}
 use Rattle.mdic_phy.specs.Phy.{PhyState, is_complete, link_is_up}
-use Rattle.rx_filter.specs.Addresses.{IsAddress}
+use Rattle.rx_engine.specs.Addresses.{IsAddress}
 use Rattle.adapter.specs.Registers.{new_adapter}
 use Rattle.adapter.specs.State.{AdapterState}
 use Rattle.adapter.specs.World.{World, receive_ring, transmit_ring}

@@ -5,9 +5,9 @@ use Rattle.eeprom.specs.Image.{address_bytes}
 use Rattle.registers.specs.Bits.{HasBit, field}
 use Rattle.registers.specs.Places.{alone, rah_av, rctl_bam, rctl_en, rctl_mo, rctl_mpe, rctl_upe, rctl_vfe}
 use Rattle.registers.specs.ReceiveControl.{group_offset_of, shift_of}
-use Rattle.rx_filter.specs.Addresses.{IsAddress, high_word, low_word}
-use Rattle.rx_filter.specs.Laws.{HasEntry-added, HasEntry-zeros, SameSets}
-use Rattle.rx_filter.specs.Registers.{HasEntry, filter_of}
+use Rattle.rx_engine.specs.Addresses.{IsAddress, high_word, low_word}
+use Rattle.rx_engine.specs.FilterLaws.{HasEntry-added, HasEntry-zeros, SameSets}
+use Rattle.rx_engine.specs.Registers.{HasEntry, filter_of}
 use Rattle.bring_up.specs.ConfiguredAdapters.{IsConfigured, names_vlans}
 use Rattle.bring_up.specs.RingRegisters.{receive_control}
 use Rattle.bus.specs.Settings.{Settings}

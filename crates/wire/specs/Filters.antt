@@ -2,10 +2,10 @@
 use Rattle.std.specs.Prelude.{⊤, ◌≡◌, false, true}
 use Rattle.std.specs.List.{Contains}
 use Rattle.eeprom.specs.Image.{address_bytes}
-use Rattle.rx_filter.specs.Laws.{SameSets}
-use Rattle.rx_filter.specs.Passing.{ReceiveFilter}
-use Rattle.rx_filter.specs.Registers.{FilterRegisters, filter_of}
-use Rattle.rx_filter.specs.declared.filter.TheConstants.{VLAN_TYPE}
+use Rattle.rx_engine.specs.FilterLaws.{SameSets}
+use Rattle.rx_engine.specs.Passing.{ReceiveFilter}
+use Rattle.rx_engine.specs.Registers.{FilterRegisters, filter_of}
+use Rattle.rx_engine.specs.declared.filter.TheConstants.{VLAN_TYPE}
 use Rattle.bring_up.specs.Configuration.{vlans_of}
 use Rattle.bring_up.specs.ConfiguredAdapters.{names_vlans}
 use Rattle.bring_up.specs.FilterTables.{numbers_of_groups}

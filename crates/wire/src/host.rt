@@ -2,7 +2,7 @@
 
 ghost use Rattle.std.specs.Prelude.{◌≡◌, ◌≤◌, IfErr, IfOk, length};
 ghost use Rattle.eeprom.specs.Image.{address_bytes};
-ghost use Rattle.rx_filter.specs.Addresses.{IsAddress};
+ghost use Rattle.rx_engine.specs.Addresses.{IsAddress};
 ghost use Rattle.network_plan.specs.Plans.{HasConfig};
 ghost use Rattle.wire.specs.HostsUp.{ComesUp, IsReason};
 

@@ -1,5 +1,5 @@
 use Rattle.std.proofs.Common.{◌≡◌, ◌+◌, ◌-◌, ◌++◌, add-one, ℕ, refl, sym, ap, subst, ◌∙◌, arith}
-use Rattle.rx_filter.specs.Addresses.{high_word, low_word}
+use Rattle.rx_engine.specs.Addresses.{high_word, low_word}
 use Rattle.bring_up.specs.FilterTables.{empty_entries, entry_writes}
 use Rattle.bring_up.specs.SettingSteps.{Sets}
 use Rattle.bring_up.proofs.Steps.{sets-join, sets-nothing}

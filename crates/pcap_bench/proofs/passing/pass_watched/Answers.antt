@@ -3,8 +3,8 @@ use Rattle.std.specs.Io.KnownBytes.{Appends, append_known}
 use Rattle.std.proofs.lemmas.Result.{err_from_is_err_and}
 use Rattle.descriptors.specs.Frames.{padded}
 use Rattle.pcap_trace.specs.Format.{packet_of}
-use Rattle.rx_filter.specs.Laws.{SameSets}
-use Rattle.rx_filter.specs.Registers.{FilterRegisters, filter_of}
+use Rattle.rx_engine.specs.FilterLaws.{SameSets}
+use Rattle.rx_engine.specs.Registers.{FilterRegisters, filter_of}
 use Rattle.pcap_bench.specs.Lane.{slot_bytes, IsWaiting, LaneState}
 use Rattle.pcap_bench.specs.Options.{filter_for, KeptBy}
 use Rattle.pcap_bench.proofs.Choices.{kept, turned_away}

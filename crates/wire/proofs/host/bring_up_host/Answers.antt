@@ -1,7 +1,7 @@
 use Rattle.std.proofs.Common.{◌≡◌, ℕ, List, length, ap, sym, subst, ◌∙◌}
 use Rattle.std.proofs.lemmas.List.{length-replicate}
 use Rattle.dma_memory.specs.Layout.{size_of}
-use Rattle.rx_filter.specs.Addresses.{IsAddress}
+use Rattle.rx_engine.specs.Addresses.{IsAddress}
 use Rattle.solo_bus.specs.SoloBuses.{SoloState}
 use Rattle.packet_socket.specs.HostState.{new_host}
 use Rattle.packet_socket.specs.declared.socket_kind.SocketKind.{SocketKind}

@@ -2,7 +2,7 @@
 
 ghost use Rattle.std.specs.Prelude.{◌≡◌, ◌<◌, ◌/◌, ◌%◌, ◌^◌, ◌↔◌, IsTrue};
 ghost use Rattle.registers.specs.Bits.{HasBit};
-ghost use Rattle.rx_filter.specs.Registers.{HasTableBit};
+ghost use Rattle.rx_engine.specs.Registers.{HasTableBit};
 
 use crate::filter::TABLE_WORDS;
 

@@ -1,7 +1,7 @@
 use Rattle.std.proofs.Common.{rules}
-use Rattle.rx_filter.specs.Passing.{AcceptsAddress, AcceptsGroup}
-use Rattle.rx_filter.specs.Registers.{filter_of}
-use Rattle.rx_filter.proofs.filter.Filter.accepts_address.Goals as goal
+use Rattle.rx_engine.specs.Passing.{AcceptsAddress, AcceptsGroup}
+use Rattle.rx_engine.specs.Registers.{filter_of}
+use Rattle.rx_engine.proofs.filter.Filter.accepts_address.Goals as goal
 
 pub returns-then-accepted : goal.returns-then-accepted
 unfolding filter_of AcceptsAddress AcceptsGroup

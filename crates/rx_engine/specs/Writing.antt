@@ -2,8 +2,8 @@
 use Rattle.std.specs.Prelude.{◌≡◌, ◌+◌, ◌/◌, ◌%◌, ◌^◌, ◌<◌, ◌⊎◌, ◌↔◌, ℕ, List, length, replicate, slice_index, slice_set}
 use Rattle.registers.specs.Bits.{field, union}
 use Rattle.registers.specs.Places.{alone, rah_av}
-use Rattle.rx_filter.specs.Addresses.{IsAddress, low_word, high_word}
-use Rattle.rx_filter.specs.Registers.{HasEntry, HasTableBit}
+use Rattle.rx_engine.specs.Addresses.{IsAddress, low_word, high_word}
+use Rattle.rx_engine.specs.Registers.{HasEntry, HasTableBit}
 
 -- the table with this number's bit set
 abbrev pub with_number : List ℕ → ℕ → List ℕ

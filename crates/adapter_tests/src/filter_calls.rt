@@ -1,7 +1,7 @@
 // Worked examples, and each public call once.
 
 use registers::{GroupOffset, Rctl};
-use rx_filter::{AddressWords, Filter, TableBit, VLAN_TYPE, hash_of, sets_of_registers};
+use rx_engine::{AddressWords, Filter, TableBit, VLAN_TYPE, hash_of, sets_of_registers};
 use std::fmt::Debug;
 use std::process::Abort;
 

@@ -1,6 +1,6 @@
 -- The receive filter (3.2.1 "Packet Address Filtering" and chapter 9, "802.1q VLAN Support"), in sets.
 use Rattle.std.specs.Prelude.{◌≡◌, ◌≢◌, ◌⊎◌, ℕ, List}
-use Rattle.rx_filter.specs.Addresses.{destination, IsGroup, IsIndividual, broadcast, group_number, ether_type, vlan_number}
+use Rattle.rx_engine.specs.Addresses.{destination, IsGroup, IsIndividual, broadcast, group_number, ether_type, vlan_number}
 
 pub record ReceiveFilter : Type 1 where
   -- the exact addresses, of 6 bytes

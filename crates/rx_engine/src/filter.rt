@@ -2,9 +2,9 @@
 
 ghost use Rattle.std.specs.Prelude.{◌≡◌, ◌<◌, ◌≤◌, ◌↔◌, IsTrue, bit_and, length, replicate, slice_index, slice_set};
 ghost use Rattle.registers.specs.Kept.{receive_control_mask};
-ghost use Rattle.rx_filter.specs.Addresses.{destination};
-ghost use Rattle.rx_filter.specs.Passing.{AcceptsAddress, AcceptsGroup, AcceptsVlan, Passes};
-ghost use Rattle.rx_filter.specs.Registers.{filter_of, address_high_mask};
+ghost use Rattle.rx_engine.specs.Addresses.{destination};
+ghost use Rattle.rx_engine.specs.Passing.{AcceptsAddress, AcceptsGroup, AcceptsVlan, Passes};
+ghost use Rattle.rx_engine.specs.Registers.{filter_of, address_high_mask};
 
 use crate::address::{
     destination_of, ether_type_of, has_entry, hash_of, is_broadcast, is_group, vlan_number_of,
@@ -37,7 +37,7 @@ pub struct Filter {
 }
 
 impl Model for Filter {
-    ghost use Rattle.rx_filter.specs.Registers.{FilterRegisters};
+    ghost use Rattle.rx_engine.specs.Registers.{FilterRegisters};
 
     ghost Value = { FilterRegisters };
 

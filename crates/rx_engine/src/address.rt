@@ -4,9 +4,9 @@ ghost use Rattle.std.specs.Prelude.{◌≡◌, ◌+◌, ◌*◌, ◌/◌, ◌%�
 ghost use Rattle.registers.specs.Bits.{HasBit};
 ghost use Rattle.registers.specs.Places.{alone, rah_av};
 ghost use Rattle.registers.specs.ReceiveControl.{shift_of};
-ghost use Rattle.rx_filter.specs.Addresses.{destination, IsAddress, IsGroup, broadcast, group_number, low_word};
-ghost use Rattle.rx_filter.specs.Addresses.{high_word, ether_type, vlan_number};
-ghost use Rattle.rx_filter.specs.Registers.{HasEntry, HoldsAddress};
+ghost use Rattle.rx_engine.specs.Addresses.{destination, IsAddress, IsGroup, broadcast, group_number, low_word};
+ghost use Rattle.rx_engine.specs.Addresses.{high_word, ether_type, vlan_number};
+ghost use Rattle.rx_engine.specs.Registers.{HasEntry, HoldsAddress};
 
 use crate::filter::EXACT_ADDRESSES;
 use crate::table::{NUMBERS, has_bit};

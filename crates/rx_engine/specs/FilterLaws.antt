@@ -7,10 +7,10 @@ use Rattle.std.proofs.lemmas.Grind.{get_or-set_at}
 use Rattle.std.proofs.lemmas.Nat.Bits.{bit_at-pow_same, bit_at-pow_other}
 use Rattle.registers.specs.Bits.{HasBit, union}
 use Rattle.registers.specs.Laws.{HasBit-zero, HasBit-union}
-use Rattle.rx_filter.specs.Addresses.{destination, group_number, vlan_number, low_word, high_word, IsAddress}
-use Rattle.rx_filter.specs.Passing.{ReceiveFilter, AcceptsAddress, AcceptsVlan, Passes}
-use Rattle.rx_filter.specs.Registers.{HoldsAddress, entry_address}
-use Rattle.rx_filter.specs.Writing.{with_number, NoAddressAtFirst, AddressIsAdded, NoNumberAtFirst, NumberIsAdded}
+use Rattle.rx_engine.specs.Addresses.{destination, group_number, vlan_number, low_word, high_word, IsAddress}
+use Rattle.rx_engine.specs.Passing.{ReceiveFilter, AcceptsAddress, AcceptsVlan, Passes}
+use Rattle.rx_engine.specs.Registers.{HoldsAddress, entry_address}
+use Rattle.rx_engine.specs.Writing.{with_number, NoAddressAtFirst, AddressIsAdded, NoNumberAtFirst, NumberIsAdded}
 
 -- Filters of the same sets pass the same frames.
 

@@ -3,7 +3,7 @@ use Rattle.std.specs.Prelude.{◌≡◌, ◌<◌, ◌/◌, ◌%◌, ◌^◌, ℕ
 use Rattle.registers.specs.Bits.{HasBit, field}
 use Rattle.registers.specs.Places.{rah_av, rctl_bam, rctl_mo, rctl_mpe, rctl_upe, rctl_vfe}
 use Rattle.registers.specs.ReceiveControl.{group_offset_of, shift_of}
-use Rattle.rx_filter.specs.Passing.{ReceiveFilter}
+use Rattle.rx_engine.specs.Passing.{ReceiveFilter}
 
 pub record FilterRegisters : Type 0 where
   -- RAL(0) to RAL(15), receive address low (13.5.2)

@@ -1,7 +1,7 @@
 use Rattle.std.proofs.Common.{ℕ, List, subst}
-use Rattle.rx_filter.specs.Passing.{AcceptsAddress}
-use Rattle.rx_filter.specs.Registers.{filter_of}
-use Rattle.rx_filter.proofs.filter.Filter.passes.Goals as goal
+use Rattle.rx_engine.specs.Passing.{AcceptsAddress}
+use Rattle.rx_engine.specs.Registers.{filter_of}
+use Rattle.rx_engine.proofs.filter.Filter.passes.Goals as goal
 
 pub returns-then-accepts_address : goal.returns-then-accepts_address
 returns-then-accepts_address c =

@@ -1,5 +1,5 @@
-use Rattle.rx_filter.specs.Laws.{HasEntry-zeros, HasEntry-added, HasTableBit-zeros, HasTableBit-with_number}
-use Rattle.rx_filter.proofs.laws.sets_of_registers.Goals as goal
+use Rattle.rx_engine.specs.FilterLaws.{HasEntry-zeros, HasEntry-added, HasTableBit-zeros, HasTableBit-with_number}
+use Rattle.rx_engine.proofs.filter_laws.sets_of_registers.Goals as goal
 
 pub returns-clause-no_address : goal.returns-clause-no_address
 returns-clause-no_address c = HasEntry-zeros
