@@ -54,7 +54,7 @@ pub fn set_link_up<B: Bus>(bus: &mut B)
 
 /// The causes that a driver handles: a frame was transmitted, or received, receive descriptors become few, or a frame
 /// found no room.
-pub fn handled_causes() -> Cause
+pub fn interrupt_causes() -> Cause
     ensures { result.0 ≡ handled_causes }
 {
     Cause::TXDW
@@ -74,5 +74,5 @@ pub fn enable_interrupts<B: Bus>(bus: &mut B)
     ensures enables { (d : DriverState) → B.honest bus.old → Ready d (B.world bus.old)
         → EnablesCauses B.world B.happened handled_causes bus.old bus.new d }
 {
-    bus.write(IMS, handled_causes().bits());
+    bus.write(IMS, interrupt_causes().bits());
 }

@@ -21,7 +21,9 @@ mod ring_registers;
 
 pub use config::{Config, MOST_GROUPS, MOST_VLANS};
 pub use configured_law::writes_configure;
-pub use controls::{allocate_packet_buffer, enable_interrupts, reset_device, set_link_up};
+pub use controls::{
+    allocate_packet_buffer, enable_interrupts, interrupt_causes, reset_device, set_link_up,
+};
 pub use descriptors_clearing::{clear_descriptor, clear_descriptors};
 pub use device::find_device;
 pub use eeprom_reading::read_image;

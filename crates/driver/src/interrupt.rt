@@ -16,7 +16,7 @@ ghost use Rattle.driver.specs.TakenFrames.{ShowsAll};
 use crate::{Driver, Receiver};
 use adapter::offsets::{ICR, MPC};
 use bitflags::Flags;
-use bring_up::handled_causes;
+use bring_up::interrupt_causes;
 use bus::Bus;
 use registers::Cause;
 
@@ -36,7 +36,7 @@ pub enum Handled {
 fn is_mine(causes: u32) -> bool
     ensures { IsTrue result ↔ Meet causes handled_causes }
 {
-    Cause(causes).intersects(handled_causes())
+    Cause(causes).intersects(interrupt_causes())
 }
 
 /// Whether a value that was read of MPC can be added to a sum without a loss.
