@@ -25,20 +25,20 @@ use Rattle.wire.proofs.Tellings.{tells-steps}
 
 pub send-event : (old new : NetworkState) (host : ℕ) (frame : Vec ℕ Global) (ticks : Vec Tick Global) (reply : Reply)
     → CallPlayed host ticks.items (accepted_of host frame.items reply.answer ++ told ticks.items reply.outcomes.list) reply
-    (IsSendAnswer host frame.items) old new
+    (IsSendAnswer host frame.items) old new → NetworkStands old
     → EventRuns old (Send host frame ticks) reply new
-send-event old new host frame ticks reply played = search rules
+send-event old new host frame ticks reply played stood = search rules
 
 pub recv-event : (old new : NetworkState) (host socket : ℕ) (ticks : Vec Tick Global) (reply : Reply)
     → CallPlayed host ticks.items (told ticks.items reply.outcomes.list ++ given_of host socket reply.answer) reply
-    (IsRecvAnswer host socket) old new
+    (IsRecvAnswer host socket) old new → NetworkStands old
     → EventRuns old (Recv host socket ticks) reply new
-recv-event old new host socket ticks reply played = search rules
+recv-event old new host socket ticks reply played stood = search rules
 
 pub interrupt-event : (old new : NetworkState) (host : ℕ) (ticks : Vec Tick Global) (reply : Reply)
-    → CallPlayed host ticks.items (told ticks.items reply.outcomes.list) reply (IsInterruptAnswer host) old new
+    → CallPlayed host ticks.items (told ticks.items reply.outcomes.list) reply (IsInterruptAnswer host) old new → NetworkStands old
     → EventRuns old (Interrupt host ticks) reply new
-interrupt-event old new host ticks reply played = search rules
+interrupt-event old new host ticks reply played stood = search rules
 
 pub tick-event : (old : NetworkState) (stations : List StationState) (tick : Tick) (reply : Reply) → NetworkStands old
     → TickPlayed tick reply old.stations stations
@@ -48,6 +48,7 @@ tick-event old stations tick reply stands played =
     (λ k. subst (λ (list : List Happening). Rattle.wire.proofs.Delivering.Tells k list played.steps (wire_at old.stations) [] [])
     (sym played.said) (tells-steps k played.steps (wire_at old.stations))) in
     record {
+      stood = stands;
       steps = played.steps;
       leads = go.leads;
       played = played.played;

@@ -116,6 +116,8 @@ OthersStay (Alone tick) old new = new ≡ old
 
 -- An event and its reply lead from one state of a network to the next, by atomic steps.
 pub record EventRuns (old : NetworkState) (event : Event) (reply : Reply) (new : NetworkState) : Type 0 where
+  -- before it each host stands
+  pub stood : NetworkStands old
   pub steps : List AtomicStep
   pub leads : LeadsTo (caller_of event) steps old.stations new.stations
   -- those that aren't accesses are the event's ticks, in order
@@ -142,7 +144,7 @@ pub record EventRuns (old : NetworkState) (event : Event) (reply : Reply) (new :
   -- all outcomes applied.
   pub counts : (k : ℕ) (h : HostState) → IsHost old k h
       → counts_of (world_at new.stations k).adapter ≡ counts_at old.stations steps k
-  -- behind it each host stands: one owner, no forgotten work, refilled
+  -- after it each host stands: one owner, no forgotten work, refilled
   pub stands : NetworkStands new
 
 -- There is a list of states, one for each border between events.

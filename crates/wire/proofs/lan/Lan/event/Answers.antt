@@ -19,31 +19,34 @@ invariant_of-self-in-Tick c =
 pub returns-in_ok-outcomes-in-Send-clause-ok : goal.returns-in_ok-outcomes-in-Send-clause-ok
 returns-in_ok-outcomes-in-Send-clause-ok c =
     let old : NetworkState = record { hosts = c.as_mut_slice-hosts.result.now; stations = c.as_mut_slice-stations.result.now } in
+    let same : network_of c.self.inside ≡ old = search rules in
     let old_is : old ≡ c.args.self.now = search rules in
     send-told c.args.self.now old _ (written c.self.inside c.send.new.hosts c.send.new.stations) c.args.event.now c.in-Send.host
     c.in-Send.frame c.in-Send.ticks c.send.result c.as_slice-frame.result.now c.as_slice.result.now old_is c.in-Send.is
     c.as_slice-frame.ensures.value c.as_slice.ensures.value
     (network-now c.self.inside _ _ _ old _ c.send.ensures.go c.as_mut_slice-hosts.ensures.len c.as_mut_slice-stations.ensures.len)
-    c.send.ensures
+    c.send.ensures (subst NetworkStands same c.self.invariant.stands)
 
 pub returns-in_ok-with_room-in-Recv-clause-ok : goal.returns-in_ok-with_room-in-Recv-clause-ok
 returns-in_ok-with_room-in-Recv-clause-ok c =
     let old : NetworkState = record { hosts = c.as_mut_slice-hosts.result.now; stations = c.as_mut_slice-stations.result.now } in
+    let same : network_of c.self.inside ≡ old = search rules in
     let old_is : old ≡ c.args.self.now = search rules in
     recv-told c.args.self.now old _ (written c.self.inside c.recv.new.hosts c.recv.new.stations) c.args.event.now c.in-Recv.host
     c.in-Recv.socket c.in-Recv.ticks c.recv.result c.as_slice-ticks.result.now old_is c.in-Recv.is c.as_slice-ticks.ensures.value
     (network-now c.self.inside _ _ _ old _ c.recv.ensures.go c.as_mut_slice-hosts.ensures.len c.as_mut_slice-stations.ensures.len)
-    c.recv.ensures
+    c.recv.ensures (subst NetworkStands same c.self.invariant.stands)
 
 pub returns-in_ok-outcomes-in-Interrupt-clause-ok : goal.returns-in_ok-outcomes-in-Interrupt-clause-ok
 returns-in_ok-outcomes-in-Interrupt-clause-ok c =
     let old : NetworkState = record { hosts = c.as_mut_slice-hosts.result.now; stations = c.as_mut_slice-stations.result.now } in
+    let same : network_of c.self.inside ≡ old = search rules in
     let old_is : old ≡ c.args.self.now = search rules in
     interrupt-told c.args.self.now old _ (written c.self.inside c.interrupt.new.hosts c.interrupt.new.stations) c.args.event.now
     c.in-Interrupt.host c.in-Interrupt.ticks c.interrupt.result c.as_slice-in-Interrupt.result.now old_is c.in-Interrupt.is
     c.as_slice-in-Interrupt.ensures.value
     (network-now c.self.inside _ _ _ old _ c.interrupt.ensures.go c.as_mut_slice-hosts.ensures.len
-    c.as_mut_slice-stations.ensures.len) c.interrupt.ensures
+    c.as_mut_slice-stations.ensures.len) c.interrupt.ensures (subst NetworkStands same c.self.invariant.stands)
 
 pub returns-in_ok-outcomes-in-Tick-clause-ok : goal.returns-in_ok-outcomes-in-Tick-clause-ok
 returns-in_ok-outcomes-in-Tick-clause-ok c =
