@@ -1,18 +1,15 @@
-use Rattle.std.proofs.Common.{ℕ, ap, bit_or, ◌≡◌, ◌∙◌}
+use Rattle.std.proofs.Common.{◌≡◌, ◌∙◌}
 use Rattle.bring_up.proofs.DriverAccesses.{enables-causes}
 use Rattle.bring_up.proofs.Steps.{sets-word}
 use Rattle.bring_up.proofs.controls.enable_interrupts.Goals as goal
 
 pub returns-clause-sets : goal.returns-clause-sets
 returns-clause-sets g c honest =
-    sets-word g.B.Bus.world g.B.Bus.happened g.B.Bus.lively c.args.bus.now c.write.new.self 0x00D0 c.bits.result 0xD1 (c.bits.ensures tt
-    ∙ c.union-causes.ensures tt
-    ∙ ap (λ (bits : ℕ). bit_or bits 0x80) (c.union-2.ensures tt ∙ ap (λ (bits : ℕ). bit_or bits 0x40) (c.union.ensures tt)))
-    (c.write.ensures.acts honest)
+    sets-word g.B.Bus.world g.B.Bus.happened g.B.Bus.lively c.args.bus.now c.write.new.self 0x00D0 c.bits.result 0xD1
+    (c.bits.ensures tt ∙ c.interrupt_causes.ensures) (c.write.ensures.acts honest)
 
 pub returns-clause-enables : goal.returns-clause-enables
 returns-clause-enables g c d honest ready =
-    let causes : c.bits.result ≡ 0xD1 = c.bits.ensures tt ∙ c.union-causes.ensures tt
-    ∙ ap (λ (bits : ℕ). bit_or bits 0x80) (c.union-2.ensures tt ∙ ap (λ (bits : ℕ). bit_or bits 0x40) (c.union.ensures tt)) in
+    let causes : c.bits.result ≡ 0xD1 = c.bits.ensures tt ∙ c.interrupt_causes.ensures in
     enables-causes g.B.Bus.world g.B.Bus.happened g.B.Bus.lively c.args.bus.now c.write.new.self c.bits.result d causes
     (c.write.ensures.acts honest) ready
