@@ -64,7 +64,7 @@ fn run_command<'a>(alloc: Global) -> Result<Command<'a>, AllocError>
     let two = one.arg(file(
         alloc,
         "OUTDIR",
-        "The folder to write traces into; it must be there",
+        "The folder to write traces into; it must exist",
     ))?;
     Ok(two)
 }
