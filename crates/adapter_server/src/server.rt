@@ -1,6 +1,6 @@
 // The server.
 
-ghost use Rattle.std.specs.Prelude.{◌≡◌, ◌≤◌, IfErr, IfSome, OnOk, vec_capacity};
+ghost use Rattle.std.specs.Prelude.{◌≡◌, IfErr, IfSome, OnOk};
 ghost use Rattle.adapter_server.specs.Devices.{IsQuiet, StaysQuiet, Tells};
 ghost use Rattle.adapter_server.specs.Lines.{lines_of};
 ghost use Rattle.adapter_server.specs.Serving.{AnswersNext, Serves, ServesAll, ServesFront, ServesSome};
@@ -39,17 +39,16 @@ fn serve_lines<R: Read, W: Write>(
     alloc: Global,
     input: &mut R,
     output: &mut W,
-    line: &mut Vec<u8>,
 ) -> Result<(), ServeError>
-    requires room { MOST_LINE_BYTES ≤ vec_capacity line.old }
-    requires quiet { IsQuiet session.old.device.bus }
+    requires { IsQuiet session.old.device.bus }
     ensures ok { OnOk result (IfSome (R.remaining input.old) (λ bytes.
         Tells (W.contents output.old) (W.contents output.new) (Serves (lines_of bytes) session.old session.new))) }
     ensures read { IfErr result (λ error. error ≡ errors.Read → IfSome (R.remaining input.old) (λ bytes.
         Tells (W.contents output.old) (W.contents output.new) (ServesFront bytes session.old))) }
 {
+    let mut line = Vec::with_capacity(alloc, MOST_LINE_BYTES)?;
     for _count in 0..u64::MAX {
-        let next = next_line(input, line)?;
+        let next = next_line(input, &mut line)?;
         if let NextLine::End = next {
             return Ok(());
         }
@@ -86,6 +85,5 @@ pub fn serve<R: Read + Drop, W: Write>(
         (λ bytes. ServesSome options.now bytes (W.contents output.old) (W.contents output.new))) }
 {
     let mut session = Session::new(alloc, options)?;
-    let mut line = Vec::with_capacity(alloc, MOST_LINE_BYTES)?;
-    serve_lines(&mut session, alloc, &mut input, output, &mut line)
+    serve_lines(&mut session, alloc, &mut input, output)
 }

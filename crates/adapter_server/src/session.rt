@@ -44,7 +44,7 @@ pub struct Session {
 }
 
 /// What stands where an access goes.
-#[derive(Clone, Copy, Debug, PartialEq, Eq)]
+#[derive(Clone, Copy)]
 pub enum Place {
     /// The register at this offset.
     Register(u32),
@@ -93,8 +93,8 @@ fn bus_of(alloc: Global, options: &ServeOptions) -> Result<SoloBus, AllocError>
       accesses = 0;
     }) }
 {
-    let adapter = adapter_of(alloc, options)?;
     let memory = HostMemory::new(alloc, options.memory)?;
+    let adapter = adapter_of(alloc, options)?;
     let bus = SoloBus::new(alloc, adapter, memory, false)?;
     Ok(bus)
 }

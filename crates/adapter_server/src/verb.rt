@@ -7,7 +7,7 @@ use crate::request::Width;
 use adapter::StepKind;
 
 /// What a line asks for, by its first word.
-#[derive(Clone, Copy, Debug, PartialEq, Eq)]
+#[derive(Clone, Copy)]
 pub(crate) enum Verb {
     /// `readb`, `readw`, `readl`, `readq`.
     ReadNumber(Width),

@@ -1,11 +1,9 @@
-use Rattle.std.proofs.Common.{◌≡◌}
 use Rattle.std.proofs.lemmas.Result.{IfErr-weaker, on_ok_weaker}
-use Rattle.adapter_server.specs.declared.serve_error.ServeError.TheVariants as errors
 use Rattle.adapter_server.proofs.ServedLines.{serves_all, serves_some}
 use Rattle.adapter_server.proofs.server.serve.Goals as goal
 
-pub serve_lines-requires-clause-quiet : goal.serve_lines-requires-clause-quiet
-serve_lines-requires-clause-quiet g c = record {
+pub serve_lines-requires : goal.serve_lines-requires
+serve_lines-requires g c = record {
   lively = c.in_ok-session.ensures.lively;
   waiting = c.in_ok-session.ensures.waiting;
   wire = c.in_ok-session.ensures.wire;

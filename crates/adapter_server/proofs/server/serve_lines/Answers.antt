@@ -1,4 +1,4 @@
-use Rattle.std.proofs.Common.{◌≡◌, subst}
+use Rattle.std.proofs.Common.{◌≡◌, arith, subst}
 use Rattle.adapter_server.specs.LinesRead.{IsNextLine}
 use Rattle.adapter_server.specs.declared.line_reader.NextLine.{NextLine}
 use Rattle.adapter_server.specs.declared.serve_error.ServeError.TheVariants as errors
@@ -7,8 +7,8 @@ use Rattle.adapter_server.proofs.server.serve_lines.Goals as goal
 
 pub loop-count-init : goal.loop-count-init
 loop-count-init g c = record {
-  room = c.requires.room;
-  quiet = c.requires.quiet;
+  room = omega (arith, c.in_ok-line.ensures.capacity);
+  quiet = c.requires;
   so_far = serves_none (g.R.Read.remaining c.args.input.now) c.args.session.now (g.W.Write.contents c.args.output.now);
 }
 
@@ -36,7 +36,7 @@ returns-in-End-clause-ok g c =
 
 pub returns-in_err-next-clause-read : goal.returns-in_err-next-clause-read
 returns-in_err-next-clause-read g c =
-    whatever_error c.from_residual.result (λ error. error ≡ errors.Read) _
+    whatever_error c.from_residual-in_err-next.result (λ error. error ≡ errors.Read) _
     (serves_front (g.R.Read.remaining c.args.input.now) (g.R.Read.remaining c.loop-count.input) c.args.session.now
     c.loop-count.session (g.W.Write.contents c.args.output.now) (g.W.Write.contents c.loop-count.output)
     c.loop-count.invariant.so_far)
