@@ -99,36 +99,56 @@ pub record SettlesOn (left moved : ℕ) (a b : Device) (before now : Option (Lis
   pub settles : (later : ℕ) (c : Device) (rest : Text) → Settles left later b c rest → Settles most_rounds (moved + later) a c
       (text ++ rest)
 
+none_more : (later : ℕ) → later ≡ 0 + later
+none_more later = omega arith
+
 pub settle_none : (a : Device) (before : Option (List ℕ)) → SettlesOn most_rounds 0 a a before before
 settle_none a before = record {
   text = [];
   written = appends_none before;
-  settles = λ later c rest settled. subst (λ (n : ℕ). Settles most_rounds n a c rest) (omega arith) settled;
+  settles = λ later c rest settled. subst (λ (n : ℕ). Settles most_rounds n a c rest) (none_more later) settled;
 }
 
 some_no : (n : ℕ) → 0 < n → (n == 0) ≡ false
 some_no n some = grind (arith, nat_tests)
 
-settled_on : (left moved here later : ℕ) (a b d c : Device) (text first rest : Text)
-    → ((n : ℕ) (e : Device) (t : Text) → Settles (suc left) n b e t → Settles most_rounds (moved + n) a e (text ++ t))
-    → Round here b d first → 0 < here → Settles left later d c rest
-    → Settles most_rounds (moved + here + later) a c ((text ++ first) ++ rest)
+-- a round that did something, and what settles behind it
+one_round : (left here later : ℕ) (b d c : Device) (first rest : Text) → Round here b d first → 0 < here → Settles left later d c rest
+    → Settles (suc left) (here + later) b c (first ++ rest)
 unfolding Settles
-settled_on left moved here later a b d c text first rest settles played some settled =
-    let all : Settles (suc left) (here + later) b c (first ++ rest) = record {
-      here = here;
-      later = later;
-      middle = d;
-      first = first;
-      rest = rest;
-      round_is = played;
-      moved_is = refl;
-      text_is = refl;
-      goes_on = subst (λ (is : Bool). MatchBool is (Ends later d c rest) (Settles left later d c rest)) (sym (some_no here some)) settled;
-    } in
-    subst (λ (t : Text). Settles most_rounds (moved + here + later) a c t) (sym (append_assoc text first rest))
-    (subst (λ (n : ℕ). Settles most_rounds n a c (text ++ (first ++ rest))) (omega arith)
-    (settles (here + later) c (first ++ rest) all))
+one_round left here later b d c first rest played some settled = record {
+  here = here;
+  later = later;
+  middle = d;
+  first = first;
+  rest = rest;
+  round_is = played;
+  moved_is = refl;
+  text_is = refl;
+  goes_on = subst (λ (is : Bool). MatchBool is (Ends later d c rest) (Settles left later d c rest)) (sym (some_no here some)) settled;
+}
+
+-- a round that did nothing is the last
+last_round : (left : ℕ) (b c : Device) (first : Text) → Round 0 b c first → Settles (suc left) 0 b c first
+unfolding Settles
+last_round left b c first played = record {
+  here = 0;
+  later = 0;
+  middle = c;
+  first = first;
+  rest = [];
+  round_is = played;
+  moved_is = refl;
+  text_is = sym (append-nil first);
+  goes_on = record { moved_is = refl; after = refl; text_is = refl };
+}
+
+no_round : (b : Device) → Settles 0 0 b b []
+unfolding Settles
+no_round b = record { moved_is = refl; after = refl; text_is = refl }
+
+in_all : (moved here later : ℕ) → moved + (here + later) ≡ moved + here + later
+in_all moved here later = omega arith
 
 pub settle_more : (left moved more here : ℕ) (a b c : Device) (before now after : Option (List ℕ))
     → SettlesOn (suc left) moved a b before now → Tells now after (Round here b c) → 0 < here → more ≡ moved + here
@@ -137,41 +157,31 @@ settle_more left moved more here a b c before now after on played some count = r
   text = on.text ++ played.text;
   written = appends_then before now after on.text played.text on.written played.written;
   settles = λ later d rest settled.
-      subst (λ (n : ℕ). Settles most_rounds (n + later) a d ((on.text ++ played.text) ++ rest)) (sym count)
-      (settled_on left moved here later a b c d on.text played.text rest on.settles played.holds some settled);
+      subst (λ (t : Text). Settles most_rounds (more + later) a d t) (sym (append_assoc on.text played.text rest))
+      (subst (λ (n : ℕ). Settles most_rounds n a d (on.text ++ (played.text ++ rest)))
+      (in_all moved here later ∙ ap (λ (n : ℕ). n + later) (sym count))
+      (on.settles (here + later) d (played.text ++ rest) (one_round left here later b c d played.text rest played.holds some settled)));
 }
+
+and_none : (moved : ℕ) → moved + 0 ≡ moved
+and_none moved = omega arith
 
 -- A round that did nothing is the last.
 pub settle_idle : (left moved : ℕ) (a b c : Device) (before now after : Option (List ℕ))
     → SettlesOn (suc left) moved a b before now → Tells now after (Round 0 b c) → Tells before after (Settles most_rounds moved a c)
-unfolding Settles
-settle_idle left moved a b c before now after on played =
-    let last : Settles (suc left) 0 b c played.text = record {
-      here = 0;
-      later = 0;
-      middle = c;
-      first = played.text;
-      rest = [];
-      round_is = played.holds;
-      moved_is = refl;
-      text_is = sym (append-nil played.text);
-      goes_on = record { moved_is = refl; after = refl; text_is = refl };
-    } in
-    record {
-      text = on.text ++ played.text;
-      holds = subst (λ (n : ℕ). Settles most_rounds n a c (on.text ++ played.text)) (omega arith) (on.settles 0 c played.text last);
-      written = appends_then before now after on.text played.text on.written played.written;
-    }
+settle_idle left moved a b c before now after on played = record {
+  text = on.text ++ played.text;
+  holds = subst (λ (n : ℕ). Settles most_rounds n a c (on.text ++ played.text)) (and_none moved)
+      (on.settles 0 c played.text (last_round left b c played.text played.holds));
+  written = appends_then before now after on.text played.text on.written played.written;
+}
 
 -- No round is left.
 pub settle_full : (moved : ℕ) (a b : Device) (before now : Option (List ℕ)) → SettlesOn 0 moved a b before now
     → Tells before now (Settles most_rounds moved a b)
-unfolding Settles
-settle_full moved a b before now on =
-    let none : Settles 0 0 b b [] = record { moved_is = refl; after = refl; text_is = refl } in
-    record {
-      text = on.text;
-      holds = subst (λ (t : Text). Settles most_rounds moved a b t) (append-nil on.text)
-          (subst (λ (n : ℕ). Settles most_rounds n a b (on.text ++ [])) (omega arith) (on.settles 0 b [] none));
-      written = on.written;
-    }
+settle_full moved a b before now on = record {
+  text = on.text;
+  holds = subst (λ (t : Text). Settles most_rounds moved a b t) (append-nil on.text)
+      (subst (λ (n : ℕ). Settles most_rounds n a b (on.text ++ [])) (and_none moved) (on.settles 0 b [] (no_round b)));
+  written = on.written;
+}

@@ -3,18 +3,20 @@ use Rattle.std.proofs.Common.{◌≡◌, ◌≢◌, ◌<◌, ◌≤◌, ◌++◌
 use Rattle.std.proofs.Common.{ap, append_assoc, arith, refl, sym, subst, ◌∙◌}
 use Rattle.std.proofs.lemmas.Bool.Decides.{nat_tests}
 use Rattle.std.proofs.lemmas.List.{append-nil}
-use Rattle.std.specs.Prelude.{Err, IfErr, IfSome, MatchBool, Ok, Result}
+use Rattle.std.specs.Prelude.{Err, IfErr, IfSome, MatchBool, Ok, OnOk, Result}
 use Rattle.std.specs.Io.KnownBytes.{Appends, Keeps}
 use Rattle.adapter_server.specs.Answers.{AnswersLine, Refuses}
 use Rattle.adapter_server.specs.Devices.{Tells}
 use Rattle.adapter_server.specs.Lines.{behind_line, first_line, lines_of, most_line_bytes}
-use Rattle.adapter_server.specs.LinesRead.{AtEnd, BothKnown, IsLong, IsWhole}
-use Rattle.adapter_server.specs.Serving.{Serves, ServesAll, ServesSome, Turns}
+use Rattle.adapter_server.specs.LinesRead.{AtEnd, BothKnown, IsLong, IsNextLine, IsWhole}
+use Rattle.adapter_server.specs.Serving.{AnswersNext, Serves, ServesAll, ServesFront, ServesSome, Turns}
 use Rattle.adapter_server.specs.Sessions.{Begins}
 use Rattle.adapter_server.specs.Statuses.{ended_by}
 use Rattle.adapter_server.specs.Texts.{Text}
 use Rattle.adapter_server.specs.declared.answer_error.AnswerError.{AnswerError}
 use Rattle.adapter_server.specs.declared.answer_error.AnswerError.TheVariants as causes
+use Rattle.adapter_server.specs.declared.line_reader.NextLine.{NextLine}
+use Rattle.adapter_server.specs.declared.line_reader.NextLine.TheVariants.{End, Whole, Long}
 use Rattle.adapter_server.specs.declared.options.ServeOptions.{ServeOptions}
 use Rattle.adapter_server.specs.declared.refusal.Refusal.TheVariants as refusals
 use Rattle.adapter_server.specs.declared.serve_error.ServeError.TheVariants as errors
@@ -90,13 +92,12 @@ long_turn line a b text long refuses =
     subst (λ (is : Bool). MatchBool is (Refuses refusals.Long a b text) (AnswersLine line a b text)) (sym (is_long (length line) long))
     refuses
 
-pub serves_whole : (old new later : Option (List ℕ)) (begin now next : Session) (line : Text) (before middle after sent : Option (List ℕ))
+serves_whole : (old new later : Option (List ℕ)) (begin now next : Session) (line : Text) (before middle after : Option (List ℕ))
     → ServesOn old new begin now before middle → BothKnown new later (IsWhole line)
-    → Tells middle after (AnswersLine line now next) → Keeps after sent → ServesOn old later begin next before sent
-serves_whole old new later begin now next line before middle after sent on whole told kept = record {
+    → Tells middle after (AnswersLine line now next) → ServesOn old later begin next before after
+serves_whole old new later begin now next line before middle after on whole told = record {
   text = on.text ++ told.text;
-  written = appends_kept before after sent (on.text ++ told.text)
-      (appends_then before middle after on.text told.text on.written told.written) kept;
+  written = appends_then before middle after on.text told.text on.written told.written;
   goes = known_then old new later (Served begin now on.text) (IsWhole line) (Served begin next (on.text ++ told.text))
       (λ a b c goes is.
       more_served begin now next on.text told.text a b c goes is.some is.rest
@@ -105,13 +106,12 @@ serves_whole old new later begin now next line before middle after sent on whole
       on.goes whole;
 }
 
-pub serves_long : (old new later : Option (List ℕ)) (begin now next : Session) (before middle after sent : Option (List ℕ))
+serves_long : (old new later : Option (List ℕ)) (begin now next : Session) (before middle after : Option (List ℕ))
     → ServesOn old new begin now before middle → BothKnown new later IsLong
-    → Tells middle after (Refuses refusals.Long now next) → Keeps after sent → ServesOn old later begin next before sent
-serves_long old new later begin now next before middle after sent on long told kept = record {
+    → Tells middle after (Refuses refusals.Long now next) → ServesOn old later begin next before after
+serves_long old new later begin now next before middle after on long told = record {
   text = on.text ++ told.text;
-  written = appends_kept before after sent (on.text ++ told.text)
-      (appends_then before middle after on.text told.text on.written told.written) kept;
+  written = appends_then before middle after on.text told.text on.written told.written;
   goes = known_then old new later (Served begin now on.text) IsLong (Served begin next (on.text ++ told.text))
       (λ a b c goes is.
       more_served begin now next on.text told.text a b c goes is.some is.rest
@@ -119,38 +119,103 @@ serves_long old new later begin now next before middle after sent on long told k
       on.goes long;
 }
 
-pub serves_all : (options : ServeOptions) (old new later : Option (List ℕ)) (begin now : Session) (before after : Option (List ℕ))
-    → Begins options begin → ServesOn old new begin now before after → BothKnown new later AtEnd
-    → IfSome old (λ bytes. ServesAll options bytes before after)
-serves_all options None new later begin now before after begins on ends = tt
-serves_all options (Some old) None later begin now before after begins on ends = absurd on.goes
-serves_all options (Some old) (Some new) None begin now before after begins on ends = absurd ends
-serves_all options (Some old) (Some new) (Some later) begin now before after begins on ends =
+-- The end of the input is no line.
+serves_end : (old new later : Option (List ℕ)) (begin now next : Session) (before middle after : Option (List ℕ))
+    → ServesOn old new begin now before middle → BothKnown new later AtEnd
+    → Tells middle after (λ text. (next ≡ now) × (text ≡ [])) → ServesOn old later begin next before after
+serves_end old new later begin now next before middle after on ends told =
+    let same : on.text ≡ on.text ++ told.text = sym (ap (λ (t : Text). on.text ++ t) told.holds.1 ∙ append-nil on.text) in
+    record {
+      text = on.text ++ told.text;
+      written = appends_then before middle after on.text told.text on.written told.written;
+      goes = known_then old new later (Served begin now on.text) AtEnd (Served begin next (on.text ++ told.text))
+          (λ a b c goes end. record {
+            front = goes.front;
+            lines = goes.lines ∙ ap (λ (bytes : List ℕ). goes.front ++ lines_of bytes) (end.none ∙ sym end.still);
+            serves = subst (λ (t : Text). Serves goes.front begin next t) same
+                (subst (λ (s : Session). Serves goes.front begin s on.text) (sym told.holds.0) goes.serves);
+          }) on.goes ends;
+    }
+
+pub serves_next : (what : NextLine) (old new later : Option (List ℕ)) (begin now next : Session) (line : Text)
+    (before middle after : Option (List ℕ)) → ServesOn old new begin now before middle → IsNextLine what line new later
+    → Tells middle after (AnswersNext what line now next) → ServesOn old later begin next before after
+serves_next End old new later begin now next line before middle after on read told =
+    serves_end old new later begin now next before middle after on read told
+serves_next Whole old new later begin now next line before middle after on read told =
+    serves_whole old new later begin now next line before middle after on read told
+serves_next Long old new later begin now next line before middle after on read told =
+    serves_long old new later begin now next before middle after on read told
+
+pub serves_lines : (old new later : Option (List ℕ)) (begin now : Session) (before after : Option (List ℕ))
+    → ServesOn old new begin now before after → BothKnown new later AtEnd
+    → IfSome old (λ bytes. Tells before after (Serves (lines_of bytes) begin now))
+serves_lines None new later begin now before after on ends = tt
+serves_lines (Some old) None later begin now before after on ends = absurd on.goes
+serves_lines (Some old) (Some new) None begin now before after on ends = absurd ends
+serves_lines (Some old) (Some new) (Some later) begin now before after on ends =
     let all : lines_of old ≡ on.goes.front =
     on.goes.lines ∙ ap (λ (left : List ℕ). on.goes.front ++ lines_of left) ends.none ∙ append-nil on.goes.front in
     record {
-      begin = begin;
-      begins = begins;
-      last = now;
       text = on.text;
-      serves = subst (λ (lines : List Text). Serves lines begin now on.text) (sym all) on.goes.serves;
+      holds = subst (λ (lines : List Text). Serves lines begin now on.text) (sym all) on.goes.serves;
       written = on.written;
     }
 
-pub serves_some : (options : ServeOptions) (old new : Option (List ℕ)) (begin now : Session) (before after : Option (List ℕ))
-    → Begins options begin → ServesOn old new begin now before after → IfSome old (λ bytes. ServesSome options bytes before after)
-serves_some options None new begin now before after begins on = tt
-serves_some options (Some old) None begin now before after begins on = absurd on.goes
-serves_some options (Some old) (Some new) begin now before after begins on = record {
+pub serves_front : (old new : Option (List ℕ)) (begin now : Session) (before after : Option (List ℕ))
+    → ServesOn old new begin now before after → IfSome old (λ bytes. Tells before after (ServesFront bytes begin))
+serves_front None new begin now before after on = tt
+serves_front (Some old) None begin now before after on = absurd on.goes
+serves_front (Some old) (Some new) begin now before after on = record {
+  text = on.text;
+  holds = record {
+    answered = on.goes.front;
+    left = lines_of new;
+    lines = on.goes.lines;
+    last = now;
+    serves = on.goes.serves;
+  };
+  written = on.written;
+}
+
+-- From a new session on.
+
+pub serves_all : (options : ServeOptions) (input : Option (List ℕ)) (begin last : Session) (before after : Option (List ℕ))
+    → Begins options begin → IfSome input (λ bytes. Tells before after (Serves (lines_of bytes) begin last))
+    → IfSome input (λ bytes. ServesAll options bytes before after)
+serves_all options None begin last before after begins served = tt
+serves_all options (Some bytes) begin last before after begins served = record {
   begin = begin;
   begins = begins;
-  answered = on.goes.front;
-  left = lines_of new;
-  lines = on.goes.lines;
-  last = now;
-  text = on.text;
-  serves = on.goes.serves;
-  written = on.written;
+  last = last;
+  text = served.text;
+  serves = served.holds;
+  written = served.written;
+}
+
+pub serves_some : (options : ServeOptions) (input : Option (List ℕ)) (begin : Session) (before after : Option (List ℕ))
+    → Begins options begin → IfSome input (λ bytes. Tells before after (ServesFront bytes begin))
+    → IfSome input (λ bytes. ServesSome options bytes before after)
+serves_some options None begin before after begins served = tt
+serves_some options (Some bytes) begin before after begins served = record {
+  begin = begin;
+  begins = begins;
+  answered = served.holds.answered;
+  left = served.holds.left;
+  lines = served.holds.lines;
+  last = served.holds.last;
+  text = served.text;
+  serves = served.holds.serves;
+  written = served.written;
+}
+
+-- What is told stays told where nothing more is written.
+pub tells_sent : (before after sent : Option (List ℕ)) (Holds : Text → Type 0) → Tells before after Holds → Keeps after sent
+    → Tells before sent Holds
+tells_sent before after sent Holds told kept = record {
+  text = told.text;
+  holds = told.holds;
+  written = appends_kept before after sent told.text told.written kept;
 }
 
 -- While a line is answered nothing is read.
@@ -162,3 +227,7 @@ never_read causes.Write same = cc
 pub whatever_error : {T E : Type 0} (result : Result T E) (Q : E → Type 0) (P : Type 0) → P → IfErr result (λ error. Q error → P)
 whatever_error (Ok value) Q P holds = tt
 whatever_error (Err error) Q P holds = λ q. holds
+
+pub whatever_result : {T E : Type 0} (result : Result T E) (P : Type 0) → P → OnOk result P
+whatever_result (Ok value) P holds = holds
+whatever_result (Err error) P holds = tt

@@ -5,9 +5,17 @@ use Rattle.adapter_server.specs.Answers.{AnswersLine, Refuses}
 use Rattle.adapter_server.specs.Lines.{lines_of, most_line_bytes}
 use Rattle.adapter_server.specs.Sessions.{Begins}
 use Rattle.adapter_server.specs.Texts.{Text}
+use Rattle.adapter_server.specs.declared.line_reader.NextLine.{NextLine}
+use Rattle.adapter_server.specs.declared.line_reader.NextLine.TheVariants.{End, Whole, Long}
 use Rattle.adapter_server.specs.declared.options.ServeOptions.{ServeOptions}
 use Rattle.adapter_server.specs.declared.refusal.Refusal.TheVariants as refusals
 use Rattle.adapter_server.specs.declared.session.Session.{Session}
+
+-- What was read is answered: a line, or one that is too long; at the end of the input there is nothing.
+abbrev pub AnswersNext : NextLine → Text → Session → Session → Text → Type 0
+AnswersNext End line a b text = (b ≡ a) × (text ≡ [])
+AnswersNext Whole line a b text = AnswersLine line a b text
+AnswersNext Long line a b text = Refuses refusals.Long a b text
 
 -- A line is answered; one that is too long is refused.
 abbrev pub Turns : Text → Session → Session → Text → Type 0
@@ -46,3 +54,11 @@ pub record ServesSome (options : ServeOptions) (bytes : List ℕ) (before after 
   pub text : Text
   pub serves : Serves answered begin last text
   pub written : Appends before after text
+
+-- The first of the lines of these bytes are answered, each whole, in order.
+pub record ServesFront (bytes : List ℕ) (begin : Session) (text : Text) : Type 0 where
+  pub answered : List Text
+  pub left : List Text
+  pub lines : lines_of bytes ≡ answered ++ left
+  pub last : Session
+  pub serves : Serves answered begin last text

@@ -9,17 +9,10 @@ use Rattle.adapter_server.specs.declared.verb.Verb.{Verb}
 use Rattle.adapter_server.specs.declared.verb.Verb.TheVariants.{ReadNumber, WriteNumber, Read, Write, Memset, Endianness, Step, Arrive}
 use Rattle.adapter_server.specs.declared.verb.Verb.TheVariants.{Settle, Line, Interleave, Log}
 
-abbrev pub verb_named : Text → Option Verb
-verb_named word =
-    if bytes_eq word (codes "readb") then Some (ReadNumber width.Byte)
-    else if bytes_eq word (codes "readw") then Some (ReadNumber width.Word)
-    else if bytes_eq word (codes "readl") then Some (ReadNumber width.Long)
-    else if bytes_eq word (codes "readq") then Some (ReadNumber width.Quad)
-    else if bytes_eq word (codes "writeb") then Some (WriteNumber width.Byte)
-    else if bytes_eq word (codes "writew") then Some (WriteNumber width.Word)
-    else if bytes_eq word (codes "writel") then Some (WriteNumber width.Long)
-    else if bytes_eq word (codes "writeq") then Some (WriteNumber width.Quad)
-    else if bytes_eq word (codes "read") then Some Read
+-- those that read or write no number
+abbrev pub other_verb_named : Text → Option Verb
+other_verb_named word =
+    if bytes_eq word (codes "read") then Some Read
     else if bytes_eq word (codes "write") then Some Write
     else if bytes_eq word (codes "memset") then Some Memset
     else if bytes_eq word (codes "endianness") then Some Endianness
@@ -30,6 +23,18 @@ verb_named word =
     else if bytes_eq word (codes "interleave") then Some Interleave
     else if bytes_eq word (codes "log") then Some Log
     else None
+
+abbrev pub verb_named : Text → Option Verb
+verb_named word =
+    if bytes_eq word (codes "readb") then Some (ReadNumber width.Byte)
+    else if bytes_eq word (codes "readw") then Some (ReadNumber width.Word)
+    else if bytes_eq word (codes "readl") then Some (ReadNumber width.Long)
+    else if bytes_eq word (codes "readq") then Some (ReadNumber width.Quad)
+    else if bytes_eq word (codes "writeb") then Some (WriteNumber width.Byte)
+    else if bytes_eq word (codes "writew") then Some (WriteNumber width.Word)
+    else if bytes_eq word (codes "writel") then Some (WriteNumber width.Long)
+    else if bytes_eq word (codes "writeq") then Some (WriteNumber width.Quad)
+    else other_verb_named word
 
 -- how many words a line has
 abbrev pub word_count : Verb → ℕ

@@ -27,8 +27,7 @@ impl Session {
         ensures quiet { OnOk result (StaysQuiet self.old.device.bus self.new.device.bus) }
     {
         self.interleave(alloc, out)?;
-        let value = self.device.read(alloc, out, said, offset)?;
-        Ok(value)
+        self.device.read(alloc, out, said, offset)
     }
 
     /// Writes the register at an offset.
@@ -46,8 +45,7 @@ impl Session {
         ensures quiet { OnOk result (StaysQuiet self.old.device.bus self.new.device.bus) }
     {
         self.interleave(alloc, out)?;
-        self.device.write(alloc, out, said, offset, value)?;
-        Ok(())
+        self.device.write(alloc, out, said, offset, value)
     }
 
     /// Loads bytes that lie in memory.

@@ -6,7 +6,7 @@ ghost use Rattle.adapter_server.specs.declared.answer_error.AnswerError.TheVaria
 use std::alloc::AllocError;
 
 /// Why a line wasn't answered whole. Nothing is read while it is, so no read fails.
-#[derive(Clone, Copy, Debug, PartialEq, Eq)]
+#[derive(Clone, Copy)]
 pub(crate) enum AnswerError {
     /// Memory was refused.
     Memory,

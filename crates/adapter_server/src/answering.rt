@@ -6,12 +6,13 @@ ghost use Rattle.adapter_server.specs.Widths.{bytes_of, bytes_spelling, number_s
 ghost use Rattle.adapter_server.specs.Texts.{number_line, word_line};
 
 use crate::answer_error::AnswerError;
-use crate::output::say;
+use crate::line_reader::NextLine;
+use crate::output::{say, say_bytes, say_number, say_word};
 use crate::reading::read_line;
 use crate::refusal::{Refusal, Stop};
 use crate::request::{Request, Width};
 use crate::session::{Place, Session};
-use crate::text::{bytes_line, fate_word, number_line, outcome_word, word_line};
+use crate::text::{fate_word, outcome_word};
 use adapter::StepKind;
 use std::alloc::{AllocError, Global};
 use std::io::Write;
@@ -75,6 +76,7 @@ impl Session {
     ghost use Rattle.adapter_server.specs.Answers.{AnswersLine, Delivers, Does, ReadsBytes, ReadsNumber, Refuses};
     ghost use Rattle.adapter_server.specs.Answers.{Replies, Sets};
     ghost use Rattle.adapter_server.specs.Answers.{SettlesAll, TakesStep, WritesBytes, WritesNumber, line_number};
+    ghost use Rattle.adapter_server.specs.Serving.{AnswersNext};
     ghost use Rattle.adapter_server.specs.declared.refusal.Refusal.TheVariants as refusals;
 
     /// Writes a refusal. Nothing changes.
@@ -82,8 +84,7 @@ impl Session {
         ensures ok { OnOk result (Tells (W.contents out.old) (W.contents out.new) (Refuses refusal self.old self.new)) }
         ensures same { self.new ≡ self.old }
     {
-        say(out, refusal.text())?;
-        Ok(())
+        say(out, refusal.text())
     }
 
     /// `readb`, `readw`, `readl`, `readq`.
@@ -103,15 +104,11 @@ impl Session {
         match self.place_of(address, width.bytes() as u64) {
             Place::Register(offset) => {
                 let value = self.read_register(alloc, out, said, offset)?;
-                let line = number_line(alloc, u64::from(value))?;
-                say(out, line.as_slice())?;
-                Ok(())
+                say_number(alloc, out, u64::from(value))
             }
             Place::Memory => {
                 let bytes = self.load(alloc, out, said, address, width.bytes())?;
-                let line = number_line(alloc, number_of(bytes.as_slice()))?;
-                say(out, line.as_slice())?;
-                Ok(())
+                say_number(alloc, out, number_of(bytes.as_slice()))
             }
             Place::Nowhere => self.refuse(out, Refusal::Address),
         }
@@ -136,14 +133,12 @@ impl Session {
         match self.place_of(address, width.bytes() as u64) {
             Place::Register(offset) => {
                 self.write_register(alloc, out, said, offset, (value % REGISTER_VALUES) as u32)?;
-                say(out, b"OK\n")?;
-                Ok(())
+                say(out, b"OK\n")
             }
             Place::Memory => {
                 let bytes = bytes_spelling(alloc, width, value)?;
                 self.store(alloc, out, said, address, bytes.as_slice())?;
-                say(out, b"OK\n")?;
-                Ok(())
+                say(out, b"OK\n")
             }
             Place::Nowhere => self.refuse(out, Refusal::Address),
         }
@@ -166,15 +161,11 @@ impl Session {
         match self.place_of(address, size) {
             Place::Register(offset) => {
                 let value = self.read_register(alloc, out, said, offset)?;
-                let line = bytes_line(alloc, &value.to_le_bytes())?;
-                say(out, line.as_slice())?;
-                Ok(())
+                say_bytes(alloc, out, &value.to_le_bytes())
             }
             Place::Memory => {
                 let bytes = self.load(alloc, out, said, address, size as usize)?;
-                let line = bytes_line(alloc, bytes.as_slice())?;
-                say(out, line.as_slice())?;
-                Ok(())
+                say_bytes(alloc, out, bytes.as_slice())
             }
             Place::Nowhere => self.refuse(out, Refusal::Address),
         }
@@ -199,13 +190,11 @@ impl Session {
             Place::Register(offset) => {
                 let value = register_value(bytes);
                 self.write_register(alloc, out, said, offset, value)?;
-                say(out, b"OK\n")?;
-                Ok(())
+                say(out, b"OK\n")
             }
             Place::Memory => {
                 self.store(alloc, out, said, address, bytes)?;
-                say(out, b"OK\n")?;
-                Ok(())
+                say(out, b"OK\n")
             }
             Place::Nowhere => self.refuse(out, Refusal::Address),
         }
@@ -223,9 +212,7 @@ impl Session {
         ensures quiet { OnOk result (StaysQuiet self.old.device.bus self.new.device.bus) }
     {
         let outcome = self.device.step(alloc, out, kind)?;
-        let line = word_line(alloc, outcome_word(outcome))?;
-        say(out, line.as_slice())?;
-        Ok(())
+        say_word(alloc, out, outcome_word(outcome))
     }
 
     /// `arrive`.
@@ -242,9 +229,7 @@ impl Session {
         ensures quiet { OnOk result (StaysQuiet self.old.device.bus self.new.device.bus) }
     {
         let fate = self.device.arrive(alloc, out, said, frame)?;
-        let line = word_line(alloc, fate_word(fate))?;
-        say(out, line.as_slice())?;
-        Ok(())
+        say_word(alloc, out, fate_word(fate))
     }
 
     /// `settle`.
@@ -254,9 +239,7 @@ impl Session {
         ensures quiet { OnOk result (StaysQuiet self.old.device.bus self.new.device.bus) }
     {
         let moved = self.device.settle(alloc, out)?;
-        let line = number_line(alloc, moved)?;
-        say(out, line.as_slice())?;
-        Ok(())
+        say_number(alloc, out, moved)
     }
 
     /// `line`.
@@ -265,9 +248,7 @@ impl Session {
             (Replies (number_line (line_number self.old.device.bus)) self.old self.new)) }
         ensures same { self.new ≡ self.old }
     {
-        let line = number_line(alloc, u64::from(self.device.bus.line()))?;
-        say(out, line.as_slice())?;
-        Ok(())
+        say_number(alloc, out, u64::from(self.device.bus.line()))
     }
 
     /// `endianness`.
@@ -277,8 +258,7 @@ impl Session {
             (Replies (word_line (codes "little")) self.old self.new)) }
         ensures same { self.new ≡ self.old }
     {
-        say(out, b"OK little\n")?;
-        Ok(())
+        say(out, b"OK little\n")
     }
 
     /// `interleave`.
@@ -289,8 +269,7 @@ impl Session {
         ensures quiet { OnOk result (StaysQuiet self.old.device.bus self.new.device.bus) }
     {
         self.most_steps = count;
-        say(out, b"OK\n")?;
-        Ok(())
+        say(out, b"OK\n")
     }
 
     /// `log`.
@@ -301,8 +280,7 @@ impl Session {
         ensures quiet { OnOk result (StaysQuiet self.old.device.bus self.new.device.bus) }
     {
         self.device.log = on;
-        say(out, b"OK\n")?;
-        Ok(())
+        say(out, b"OK\n")
     }
 
     /// Answers a request.
@@ -367,5 +345,25 @@ impl Session {
         ensures same { self.new ≡ self.old }
     {
         self.refuse(out, Refusal::Long)
+    }
+
+    /// Answers what was read: a line, or one that is too long. At the end of the input there is nothing to answer.
+    pub(crate) fn answer_next<W: Write>(
+        &mut self,
+        alloc: Global,
+        out: &mut W,
+        next: NextLine,
+        line: &[u8],
+    ) -> Result<(), AnswerError>
+        requires { IsQuiet self.old.device.bus }
+        ensures ok { OnOk result
+            (Tells (W.contents out.old) (W.contents out.new) (AnswersNext next line.now self.old self.new)) }
+        ensures quiet { OnOk result (StaysQuiet self.old.device.bus self.new.device.bus) }
+    {
+        match next {
+            NextLine::End => Ok(()),
+            NextLine::Whole => self.answer_line(alloc, out, line),
+            NextLine::Long => self.refuse_long(out),
+        }
     }
 }

@@ -16,7 +16,7 @@ pub(crate) const MOST_LINE_BYTES: usize = 131_200;
 const LINE_FEED: u8 = 0x0A;
 
 /// What came of reading a line.
-#[derive(Clone, Copy, Debug, PartialEq, Eq)]
+#[derive(Clone, Copy)]
 pub(crate) enum NextLine {
     /// The input is at its end.
     End,

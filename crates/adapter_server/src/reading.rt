@@ -58,24 +58,69 @@ fn memset_of(alloc: Global, words: &[&str]) -> Result<Request, Stop>
     Ok(Request::WriteBytes(address, Payload { bytes }))
 }
 
+/// `readb ADDR`, `readw`, `readl`, `readq`.
+fn read_number_of(width: Width, words: &[&str]) -> Result<Request, Stop>
+    requires { length words.now ≡ 2 }
+    ensures { Gives result (reading.read_number_in width (texts words.now)) }
+{
+    let address = number_at(word_at(words, 1), u64::MAX)?;
+    Ok(Request::ReadNumber(width, address))
+}
+
+/// `writeb ADDR VALUE`, `writew`, `writel`, `writeq`.
+fn write_number_of(width: Width, words: &[&str]) -> Result<Request, Stop>
+    requires { length words.now ≡ 3 }
+    ensures { Gives result (reading.write_number_in width (texts words.now)) }
+{
+    let address = number_at(word_at(words, 1), u64::MAX)?;
+    let value = number_at(word_at(words, 2), width.greatest())?;
+    Ok(Request::WriteNumber(width, address, value))
+}
+
+/// `read ADDR SIZE`.
+fn read_of(words: &[&str]) -> Result<Request, Stop>
+    requires { length words.now ≡ 3 }
+    ensures { Gives result (reading.read_in (texts words.now)) }
+{
+    let address = number_at(word_at(words, 1), u64::MAX)?;
+    let size = size_at(word_at(words, 2))?;
+    Ok(Request::ReadBytes(address, size))
+}
+
+/// `arrive HEX`.
+fn arrive_of(alloc: Global, word: &str) -> Result<Request, Stop>
+    ensures { Gives result (reading.arrive_in word.now) }
+{
+    let frame = bytes_at(alloc, word)?;
+    Ok(Request::Arrive(frame))
+}
+
+/// `interleave COUNT`.
+fn interleave_of(word: &str) -> Result<Request, Stop>
+    ensures { Gives result (reading.interleave_in word.now) }
+{
+    let count = number_at(word, MOST_STEPS)?;
+    Ok(Request::Interleave(count as u16))
+}
+
 /// `log on`, `log off`.
-fn log_of(word: &str) -> Result<Request, Refusal>
-    ensures { result ≡ reading.log_in word.now }
+fn log_of(word: &str) -> Result<Request, Stop>
+    ensures { Gives result (reading.log_in word.now) }
 {
     match word {
         "on" => Ok(Request::Log(true)),
         "off" => Ok(Request::Log(false)),
-        _ => Err(Refusal::Value),
+        _ => Err(Stop::Refused(Refusal::Value)),
     }
 }
 
 /// `step KIND`.
-fn step_of(word: &str) -> Result<Request, Refusal>
-    ensures { result ≡ reading.step_in word.now }
+fn step_of(word: &str) -> Result<Request, Stop>
+    ensures { Gives result (reading.step_in word.now) }
 {
     match kind_of(word) {
         Some(kind) => Ok(Request::Step(kind)),
-        None => Err(Refusal::Value),
+        None => Err(Stop::Refused(Refusal::Value)),
     }
 }
 
@@ -85,32 +130,18 @@ fn request_with(alloc: Global, verb: Verb, words: &[&str]) -> Result<Request, St
     ensures { Gives result (reading.request_with verb (texts words.now)) }
 {
     match verb {
-        Verb::ReadNumber(width) => {
-            let address = number_at(word_at(words, 1), u64::MAX)?;
-            Ok(Request::ReadNumber(width, address))
-        }
-        Verb::WriteNumber(width) => {
-            let address = number_at(word_at(words, 1), u64::MAX)?;
-            let value = number_at(word_at(words, 2), width.greatest())?;
-            Ok(Request::WriteNumber(width, address, value))
-        }
-        Verb::Read => {
-            let address = number_at(word_at(words, 1), u64::MAX)?;
-            let size = size_at(word_at(words, 2))?;
-            Ok(Request::ReadBytes(address, size))
-        }
+        Verb::ReadNumber(width) => read_number_of(width, words),
+        Verb::WriteNumber(width) => write_number_of(width, words),
+        Verb::Read => read_of(words),
         Verb::Write => write_of(alloc, words),
         Verb::Memset => memset_of(alloc, words),
         Verb::Endianness => Ok(Request::Endianness),
-        Verb::Step => Ok(step_of(word_at(words, 1))?),
-        Verb::Arrive => Ok(Request::Arrive(bytes_at(alloc, word_at(words, 1))?)),
+        Verb::Step => step_of(word_at(words, 1)),
+        Verb::Arrive => arrive_of(alloc, word_at(words, 1)),
         Verb::Settle => Ok(Request::Settle),
         Verb::Line => Ok(Request::Line),
-        Verb::Interleave => {
-            let count = number_at(word_at(words, 1), MOST_STEPS)?;
-            Ok(Request::Interleave(count as u16))
-        }
-        Verb::Log => Ok(log_of(word_at(words, 1))?),
+        Verb::Interleave => interleave_of(word_at(words, 1)),
+        Verb::Log => log_of(word_at(words, 1)),
     }
 }
 

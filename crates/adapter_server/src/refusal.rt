@@ -7,7 +7,7 @@ ghost use Rattle.adapter_server.specs.Texts.{refusal_line};
 use std::alloc::AllocError;
 
 /// Why a line isn't answered by what it asks for. Nothing changes then.
-#[derive(Clone, Copy, Debug, PartialEq, Eq)]
+#[derive(Clone, Copy)]
 pub enum Refusal {
     /// `FAIL unknown`: its first word isn't known, or it has none.
     Unknown,
@@ -26,7 +26,7 @@ pub enum Refusal {
 }
 
 /// Why a line wasn't read.
-#[derive(Clone, Copy, Debug, PartialEq, Eq)]
+#[derive(Clone, Copy)]
 pub(crate) enum Stop {
     /// It is refused.
     Refused(Refusal),

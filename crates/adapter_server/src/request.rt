@@ -6,7 +6,7 @@ use adapter::StepKind;
 use std::marker::Model;
 
 /// How many bits a number has in an access.
-#[derive(Clone, Copy, Debug, PartialEq, Eq)]
+#[derive(Clone, Copy)]
 pub enum Width {
     /// 8 bits: `readb`, `writeb`.
     Byte,

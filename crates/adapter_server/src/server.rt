@@ -1,9 +1,12 @@
 // The server.
 
 ghost use Rattle.std.specs.Prelude.{◌≡◌, IfErr, IfSome, OnOk};
-ghost use Rattle.adapter_server.specs.Serving.{ServesAll, ServesSome};
+ghost use Rattle.adapter_server.specs.Devices.{IsQuiet, StaysQuiet, Tells};
+ghost use Rattle.adapter_server.specs.Lines.{lines_of};
+ghost use Rattle.adapter_server.specs.Serving.{AnswersNext, Serves, ServesAll, ServesFront, ServesSome};
 ghost use Rattle.adapter_server.specs.declared.serve_error.ServeError.TheVariants as errors;
 
+use crate::answer_error::AnswerError;
 use crate::line_reader::{MOST_LINE_BYTES, NextLine, next_line};
 use crate::options::ServeOptions;
 use crate::output::send;
@@ -11,6 +14,48 @@ use crate::serve_error::ServeError;
 use crate::session::Session;
 use std::alloc::Global;
 use std::io::{Read, Write};
+
+/// Answers a line that was read, and sends the answer.
+fn answer_and_send<W: Write>(
+    session: &mut Session,
+    alloc: Global,
+    output: &mut W,
+    next: NextLine,
+    line: &[u8],
+) -> Result<(), AnswerError>
+    requires { IsQuiet session.old.device.bus }
+    ensures ok { OnOk result (Tells (W.contents output.old) (W.contents output.new)
+        (AnswersNext next line.now session.old session.new)) }
+    ensures quiet { OnOk result (StaysQuiet session.old.device.bus session.new.device.bus) }
+{
+    session.answer_next(alloc, output, next, line)?;
+    send(output)
+}
+
+/// Reads the input line by line, and answers each line before the next is read.
+#[tactic(auto, using(crate::proofs::ServedLines::never_read))]
+fn serve_lines<R: Read, W: Write>(
+    session: &mut Session,
+    alloc: Global,
+    input: &mut R,
+    output: &mut W,
+) -> Result<(), ServeError>
+    requires { IsQuiet session.old.device.bus }
+    ensures ok { OnOk result (IfSome (R.remaining input.old) (λ bytes.
+        Tells (W.contents output.old) (W.contents output.new) (Serves (lines_of bytes) session.old session.new))) }
+    ensures read { IfErr result (λ error. error ≡ errors.Read → IfSome (R.remaining input.old) (λ bytes.
+        Tells (W.contents output.old) (W.contents output.new) (ServesFront bytes session.old))) }
+{
+    let mut line = Vec::with_capacity(alloc, MOST_LINE_BYTES)?;
+    for _count in 0..u64::MAX {
+        let next = next_line(input, &mut line)?;
+        if let NextLine::End = next {
+            return Ok(());
+        }
+        answer_and_send(session, alloc, output, next, line.as_slice())?;
+    }
+    Err(ServeError::Read)
+}
 
 /// Serves an adapter: reads requests from `input`, one a line, and answers each on `output`, which is flushed
 /// behind each answer, before more is read. It ends with the input.
@@ -31,7 +76,7 @@ use std::io::{Read, Write};
 pub fn serve<R: Read + Drop, W: Write>(
     alloc: Global,
     options: &ServeOptions,
-    input: R,
+    mut input: R,
     output: &mut W,
 ) -> Result<(), ServeError>
     ensures ok { OnOk result (IfSome (R.remaining input)
@@ -40,15 +85,5 @@ pub fn serve<R: Read + Drop, W: Write>(
         (λ bytes. ServesSome options.now bytes (W.contents output.old) (W.contents output.new))) }
 {
     let mut session = Session::new(alloc, options)?;
-    let mut input = input;
-    let mut line = Vec::with_capacity(alloc, MOST_LINE_BYTES)?;
-    for _count in 0..u64::MAX {
-        match next_line(&mut input, &mut line)? {
-            NextLine::End => return Ok(()),
-            NextLine::Whole => session.answer_line(alloc, output, line.as_slice())?,
-            NextLine::Long => session.refuse_long(output)?,
-        }
-        send(output)?;
-    }
-    Err(ServeError::Read)
+    serve_lines(&mut session, alloc, &mut input, output)
 }

@@ -1,6 +1,6 @@
 // What a server holds, and the steps before an access.
 
-ghost use Rattle.std.specs.Prelude.{◌≡◌, ◌%◌, ◌<◌, IfOk, OnOk};
+ghost use Rattle.std.specs.Prelude.{◌≡◌, ◌%◌, ◌<◌, [], IfOk, OnOk, false, replicate};
 ghost use Rattle.adapter.specs.Registers.{after_write, new_adapter};
 ghost use Rattle.eeprom.specs.Image.{image_with};
 ghost use Rattle.adapter_server.specs.Kinds.{kind_numbered};
@@ -44,7 +44,7 @@ pub struct Session {
 }
 
 /// What stands where an access goes.
-#[derive(Clone, Copy, Debug, PartialEq, Eq)]
+#[derive(Clone, Copy)]
 pub enum Place {
     /// The register at this offset.
     Register(u32),
@@ -79,6 +79,26 @@ fn adapter_of(alloc: Global, options: &ServeOptions) -> Result<Adapter, AllocErr
     Ok(adapter)
 }
 
+/// A bus that plays nothing by itself, with a new adapter and memory of zeros.
+fn bus_of(alloc: Global, options: &ServeOptions) -> Result<SoloBus, AllocError>
+    ensures { IfOk result (λ bus. bus ≡ record {
+      world = record {
+        memory = replicate options.now.memory 0;
+        adapter = after_write pba options.now.receive_kilobytes
+            (new_adapter (image_with options.now.address) options.now.link);
+      };
+      lively = false;
+      waiting = [];
+      wire = [];
+      accesses = 0;
+    }) }
+{
+    let memory = HostMemory::new(alloc, options.memory)?;
+    let adapter = adapter_of(alloc, options)?;
+    let bus = SoloBus::new(alloc, adapter, memory, false)?;
+    Ok(bus)
+}
+
 impl Session {
     ghost use Rattle.adapter_server.specs.Devices.{IsQuiet, StaysQuiet, Tells};
     ghost use Rattle.adapter_server.specs.Sessions.{Begins, Interleaves, drawn_count, drawn_kind, is_memory, place_in};
@@ -87,15 +107,13 @@ impl Session {
     pub(crate) fn new(alloc: Global, options: &ServeOptions) -> Result<Session, AnswerError>
         ensures { IfOk result (λ session. Begins options.now session) }
     {
-        let adapter = adapter_of(alloc, options)?;
-        let memory = HostMemory::new(alloc, options.memory)?;
-        let device = Device {
-            bus: SoloBus::new(alloc, adapter, memory, false)?,
-            log: false,
-            line: false,
-        };
+        let bus = bus_of(alloc, options)?;
         Ok(Session {
-            device,
+            device: Device {
+                bus,
+                log: false,
+                line: false,
+            },
             registers: options.registers,
             generator: Lcg64Xsh32::seed_from_u64(options.seed),
             most_steps: 0,

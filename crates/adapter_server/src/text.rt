@@ -126,11 +126,3 @@ pub(crate) fn word_line(alloc: Global, word: &[u8]) -> Result<Vec<u8>, AllocErro
     text.extend_from_slice(b"\n")?;
     Ok(text)
 }
-
-/// The line of an answer with a number.
-#[tactic(auto, unfolding(crate::specs::Texts::number_line))]
-pub(crate) fn number_line(alloc: Global, number: u64) -> Result<Vec<u8>, AllocError>
-    ensures { IfOk result (λ text. text.items ≡ texts.number_line number) }
-{
-    bytes_line(alloc, &number.to_be_bytes())
-}

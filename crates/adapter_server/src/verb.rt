@@ -1,13 +1,13 @@
 // What a line asks for, by its first word.
 
 ghost use Rattle.std.specs.Prelude.{◌≡◌};
-ghost use Rattle.adapter_server.specs.Verbs.{kind_named, verb_named, word_count};
+ghost use Rattle.adapter_server.specs.Verbs.{kind_named, other_verb_named, verb_named, word_count};
 
 use crate::request::Width;
 use adapter::StepKind;
 
 /// What a line asks for, by its first word.
-#[derive(Clone, Copy, Debug, PartialEq, Eq)]
+#[derive(Clone, Copy)]
 pub(crate) enum Verb {
     /// `readb`, `readw`, `readl`, `readq`.
     ReadNumber(Width),
@@ -62,6 +62,15 @@ pub(crate) fn verb_of(word: &str) -> Option<Verb>
         "writew" => Some(Verb::WriteNumber(Width::Word)),
         "writel" => Some(Verb::WriteNumber(Width::Long)),
         "writeq" => Some(Verb::WriteNumber(Width::Quad)),
+        _ => other_verb_of(word),
+    }
+}
+
+/// What lines with this first word ask for, if not for a number to be read or written.
+fn other_verb_of(word: &str) -> Option<Verb>
+    ensures { result ≡ other_verb_named word.now }
+{
+    match word {
         "read" => Some(Verb::Read),
         "write" => Some(Verb::Write),
         "memset" => Some(Verb::Memset),

@@ -1,5 +1,4 @@
-use Rattle.std.proofs.Common.{◌≡◌, ℕ, arith, length, rules, subst}
-use Rattle.std.proofs.lemmas.Grind.{common_steps}
+use Rattle.std.proofs.Common.{◌≡◌, ◌∙◌, ℕ, length, subst}
 use Rattle.adapter_server.specs.Devices.{Accesses, Tells}
 use Rattle.bus.specs.declared.event.Access.TheVariants.{Loads}
 use Rattle.adapter_server.proofs.Playing.{quiet_on}
@@ -9,8 +8,7 @@ use Rattle.adapter_server.proofs.session.Session.load.Goals as goal
 pub returns-clause-ok : goal.returns-clause-ok
 returns-clause-ok g c =
     let contents = g.W.Write.contents in
-    let count : length c.as_mut_slice.result.now ≡ c.args.count =
-    first_of (omega (arith, c.as_mut_slice.ensures.len), search rules, grind (arith, common_steps)) in
+    let count : length c.as_mut_slice.result.now ≡ c.args.count = c.as_mut_slice.ensures.len ∙ c.in_ok-bytes.ensures.len in
     let told = subst
     (λ (n : ℕ). Tells (contents c.interleave.new.out) (contents c.load.new.out)
     (Accesses (Loads c.args.address n) c.args.said.now c.interleave.new.self.device c.load.new.self)) count c.in_ok-load.ensures.ok in

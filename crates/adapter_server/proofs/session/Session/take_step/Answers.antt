@@ -1,4 +1,5 @@
-use Rattle.std.proofs.Common.{◌∙◌, ap}
+use Rattle.std.proofs.Common.{ap}
+use Rattle.std.proofs.lemmas.Result.{on_ok_weaker}
 use Rattle.adapter_server.specs.Answers.{TakesStep}
 use Rattle.adapter_server.specs.Devices.{Steps}
 use Rattle.adapter_server.specs.Texts.{outcome_word, word_line}
@@ -11,9 +12,10 @@ returns-clause-ok g c =
     let outcome = c.in_ok-outcome.outcome in
     let before = contents c.args.out.now in
     let now = contents c.step.new.out in
-    let after = contents c.say.new.out in
+    let after = contents c.say_word.new.out in
     let told = on_device (Steps c.args.kind outcome) c.args.self.now c.step.new.self before now c.in_ok-outcome.ensures.ok in
-    tells_more _ (TakesStep c.args.kind c.args.self.now (record c.args.self.now { device = c.step.new.self })) before after
+    on_ok_weaker c.say_word.result
+    (λ written. tells_more _ (TakesStep c.args.kind c.args.self.now (record c.args.self.now { device = c.step.new.self })) before after
     (λ text answer. record { outcome = outcome; answered = answer })
     (answered _ (word_line (outcome_word outcome)) before now after told
-    (said_line now after _ _ c.in_ok-say.ensures (c.as_slice.ensures.value ∙ c.in_ok-line.ensures ∙ ap word_line c.outcome_word.ensures)))
+    (said_line now after _ _ written (ap word_line c.outcome_word.ensures)))) c.say_word.ensures

@@ -1,4 +1,5 @@
 use Rattle.std.proofs.Common.{◌∙◌, ℕ, List, ap, refl, subst, sym}
+use Rattle.std.proofs.lemmas.Result.{on_ok_weaker}
 use Rattle.bus.specs.declared.event.Access.TheVariants.{Stores}
 use Rattle.adapter_server.specs.Answers.{Accessed, WritesNumber}
 use Rattle.adapter_server.specs.Devices.{Tells}
@@ -8,22 +9,23 @@ use Rattle.adapter_server.specs.declared.session.Place.{Place}
 use Rattle.adapter_server.proofs.Told.{answered, said_line}
 use Rattle.adapter_server.proofs.session.Session.write_number.Goals as goal
 
-pub returns-in_ok-say-in-Register-clause-ok : goal.returns-in_ok-say-in-Register-clause-ok
-returns-in_ok-say-in-Register-clause-ok g c =
+pub returns-in_ok-write_register-in-Register-clause-ok : goal.returns-in_ok-write_register-in-Register-clause-ok
+returns-in_ok-write_register-in-Register-clause-ok g c =
     let contents = g.W.Write.contents in
     let before = contents c.args.out.now in
     let now = contents c.write_register.new.out in
     let after = contents c.say.new.out in
     let place = ap (λ (n : ℕ). place_in c.args.self.now c.args.address n) (sym c.bytes.ensures) ∙ sym c.place_of.ensures
     ∙ c.in-Register.is in
-    let told = answered _ ok_line before now after c.in_ok-write_register-in-Register.ensures.ok
-    (said_line now after _ ok_line c.in_ok-say-in-Register.ensures refl) in
-    subst
+    on_ok_weaker c.say.result
+    (λ written. subst
     (λ (p : Place). Tells before after
-    (WritesNumber p c.args.width c.args.address c.args.value c.args.said.now c.args.self.now c.write_register.new.self)) (sym place) told
+    (WritesNumber p c.args.width c.args.address c.args.value c.args.said.now c.args.self.now c.write_register.new.self)) (sym place)
+    (answered _ ok_line before now after c.in_ok-write_register-in-Register.ensures.ok (said_line now after _ ok_line written refl)))
+    c.say.ensures
 
-pub returns-in_ok-say-in-Memory-clause-ok : goal.returns-in_ok-say-in-Memory-clause-ok
-returns-in_ok-say-in-Memory-clause-ok g c =
+pub returns-in_ok-store-in-Memory-clause-ok : goal.returns-in_ok-store-in-Memory-clause-ok
+returns-in_ok-store-in-Memory-clause-ok g c =
     let contents = g.W.Write.contents in
     let before = contents c.args.out.now in
     let now = contents c.store.new.out in
@@ -33,7 +35,8 @@ returns-in_ok-say-in-Memory-clause-ok g c =
     let stored = subst
     (λ (all : List ℕ). Tells before now (Accessed (Stores c.args.address all) c.args.said.now c.args.self.now c.store.new.self)) bytes
     c.in_ok-store-in-Memory.ensures.ok in
-    let told = answered _ ok_line before now after stored (said_line now after _ ok_line c.in_ok-say-in-Memory.ensures refl) in
-    subst
+    on_ok_weaker c.say-in-Memory.result
+    (λ written. subst
     (λ (p : Place). Tells before after
-    (WritesNumber p c.args.width c.args.address c.args.value c.args.said.now c.args.self.now c.store.new.self)) (sym place) told
+    (WritesNumber p c.args.width c.args.address c.args.value c.args.said.now c.args.self.now c.store.new.self)) (sym place)
+    (answered _ ok_line before now after stored (said_line now after _ ok_line written refl))) c.say-in-Memory.ensures

@@ -3,7 +3,7 @@ use Rattle.std.specs.Prelude.{vec_capacity}
 use Rattle.adapter_server.specs.Devices.{IsQuiet}
 use Rattle.adapter_server.specs.Lines.{most_line_bytes}
 use Rattle.adapter_server.proofs.ServedLines.{ServesOn}
-use Rattle.adapter_server.proofs.server.serve.Given as goal
+use Rattle.adapter_server.proofs.server.serve_lines.Given as goal
 
 abbrev pub invariant-loop-count : goal.invariant-loop-count
 invariant-loop-count g l = record {

@@ -1,0 +1,48 @@
+use Rattle.std.proofs.Common.{◌≡◌, arith, subst}
+use Rattle.adapter_server.specs.LinesRead.{IsNextLine}
+use Rattle.adapter_server.specs.declared.line_reader.NextLine.{NextLine}
+use Rattle.adapter_server.specs.declared.serve_error.ServeError.TheVariants as errors
+use Rattle.adapter_server.proofs.ServedLines.{serves_front, serves_lines, serves_next, serves_none, whatever_error}
+use Rattle.adapter_server.proofs.server.serve_lines.Goals as goal
+
+pub loop-count-init : goal.loop-count-init
+loop-count-init g c = record {
+  room = omega (arith, c.in_ok-line.ensures.capacity);
+  quiet = c.requires;
+  so_far = serves_none (g.R.Read.remaining c.args.input.now) c.args.session.now (g.W.Write.contents c.args.output.now);
+}
+
+pub loop-count-preserved : goal.loop-count-preserved
+loop-count-preserved g c =
+    let left = g.R.Read.remaining in
+    let contents = g.W.Write.contents in
+    record {
+      room = c.in_ok-next.ensures.room;
+      quiet = c.in_ok-answer_and_send.ensures.quiet.quiet;
+      so_far = serves_next c.in_ok-next.next (left c.args.input.now) (left c.loop-count.input) (left c.next_line.new.reader)
+          c.args.session.now c.loop-count.session c.answer_and_send.new.session c.next_line.new.line.items (contents c.args.output.now)
+          (contents c.loop-count.output) (contents c.answer_and_send.new.output) c.loop-count.invariant.so_far
+          c.in_ok-next.ensures.next (rw c.as_slice.ensures.value at c.in_ok-answer_and_send.ensures.ok);
+    }
+
+pub returns-in-End-clause-ok : goal.returns-in-End-clause-ok
+returns-in-End-clause-ok g c =
+    let left = g.R.Read.remaining in
+    let contents = g.W.Write.contents in
+    serves_lines (left c.args.input.now) (left c.loop-count.input) (left c.next_line.new.reader) c.args.session.now
+    c.loop-count.session (contents c.args.output.now) (contents c.loop-count.output) c.loop-count.invariant.so_far
+    (subst (λ (next : NextLine). IsNextLine next c.next_line.new.line.items (left c.loop-count.input) (left c.next_line.new.reader))
+    c.in-End.is c.in_ok-next.ensures.next)
+
+pub returns-in_err-next-clause-read : goal.returns-in_err-next-clause-read
+returns-in_err-next-clause-read g c =
+    whatever_error c.from_residual-in_err-next.result (λ error. error ≡ errors.Read) _
+    (serves_front (g.R.Read.remaining c.args.input.now) (g.R.Read.remaining c.loop-count.input) c.args.session.now
+    c.loop-count.session (g.W.Write.contents c.args.output.now) (g.W.Write.contents c.loop-count.output)
+    c.loop-count.invariant.so_far)
+
+pub returns-clause-read : goal.returns-clause-read
+returns-clause-read g c = λ same.
+    serves_front (g.R.Read.remaining c.args.input.now) (g.R.Read.remaining c.loop-count.input) c.args.session.now
+    c.loop-count.session (g.W.Write.contents c.args.output.now) (g.W.Write.contents c.loop-count.output)
+    c.loop-count.invariant.so_far
