@@ -1,7 +1,8 @@
-//! The commands that the program has, as clap is told them.
-ghost use Rattle.std.specs.Prelude.{◌≡◌, IfOk, false};
-ghost use Rattle.clap.specs.Words.{app_of, rule_of};
+//! The commands of the program, built with clap.
+ghost use Rattle.std.specs.Prelude.{◌≡◌, IfOk, IsOkAnd, false, map};
+ghost use Rattle.clap.specs.Words.{app_of, rule_of, with_subcommand};
 ghost use Rattle.clap.specs.declared.builder.command.Command.TheViews.{out-Command as fields_of};
+ghost use Rattle.command_line.specs.Arguments.{rule_for, with_rules};
 ghost use Rattle.command_line.specs.Shape.{file_rule, option_rule, pass_app, program_app, run_app, serve_app};
 ghost use Rattle.command_line.specs.Shape.{show_app};
 
@@ -13,7 +14,16 @@ use crate::help::{
 use clap::{Arg, ArgAction, Command};
 use std::alloc::{AllocError, Global};
 
-/// An option `--NAME VALUE`, which may stand once.
+/// An argument of a command.
+#[derive(Clone, Copy)]
+enum Argument<'a> {
+    /// An option `--NAME VALUE`, which may be used once: its name, the name of its value in help, and its help.
+    Value(&'a str, &'a str, &'a str),
+    /// A file, which is required: its name and its help.
+    File(&'a str, &'a str),
+}
+
+/// An option `--NAME VALUE`, which may be used once.
 fn value_option<'a>(alloc: Global, name: &'a str, value: &'a str, help: &'a str) -> Arg<'a>
     ensures rule { rule_of result ≡ option_rule name.entry.now }
     ensures local { result.global ≡ false }
@@ -25,7 +35,7 @@ fn value_option<'a>(alloc: Global, name: &'a str, value: &'a str, help: &'a str)
         .action(ArgAction::Set)
 }
 
-/// A file, which must be there.
+/// A file, which is required.
 fn file<'a>(alloc: Global, name: &'a str, help: &'a str) -> Arg<'a>
     ensures rule { rule_of result ≡ file_rule name.entry.now }
     ensures local { result.global ≡ false }
@@ -36,66 +46,121 @@ fn file<'a>(alloc: Global, name: &'a str, help: &'a str) -> Arg<'a>
         .action(ArgAction::Set)
 }
 
+/// An argument in the form that clap takes.
+fn clap_argument<'a>(alloc: Global, argument: &Argument<'a>) -> Arg<'a>
+    ensures rule { rule_of result ≡ rule_for argument.now }
+    ensures local { result.global ≡ false }
+{
+    match *argument {
+        Argument::Value(name, value, help) => value_option(alloc, name, value, help),
+        Argument::File(name, help) => file(alloc, name, help),
+    }
+}
+
+/// The command with these arguments added.
+fn with_arguments<'a>(
+    alloc: Global,
+    command: Command<'a>,
+    arguments: &[Argument<'a>],
+) -> Result<Command<'a>, AllocError>
+    requires { (fields_of command).has_globals ≡ false }
+    ensures app { IfOk result
+        (λ more. app_of more ≡ with_rules (app_of command.entry) (map rule_for arguments.now)) }
+    ensures local { IfOk result (λ more. (fields_of more).has_globals ≡ false) }
+{
+    let mut command = command;
+    for argument in arguments {
+        command = command.arg(clap_argument(alloc, argument))?;
+    }
+    Ok(command)
+}
+
+/// The command with the texts of its help: what it does, and what follows its options.
+fn described<'a>(command: Command<'a>, about: &'a str, note: &'a str) -> Command<'a>
+    ensures app { app_of result ≡ app_of command.entry }
+    ensures local { (fields_of result).has_globals ≡ (fields_of command.entry).has_globals }
+{
+    command.about(about).after_help(note)
+}
+
+const PASS_ARGUMENTS: [Argument<'static>; 5] = [
+    Argument::Value("address", "A", ADDRESS_HELP),
+    Argument::Value("group", "G", GROUP_HELP),
+    Argument::Value("vlan", "N", VLAN_HELP),
+    Argument::File("IN", "The trace to read, a pcap file"),
+    Argument::File("OUT", "The trace to write, a pcap file"),
+];
+
 /// `pass [--address A] [--group G] [--vlan N] IN OUT`.
 fn pass_command<'a>(alloc: Global) -> Result<Command<'a>, AllocError>
     ensures app { IfOk result (λ command. app_of command ≡ pass_app) }
     ensures local { IfOk result (λ command. (fields_of command).has_globals ≡ false) }
 {
-    let pass = Command::new(alloc, "pass")
-        .about(PASS_ABOUT)
-        .after_help(PASS_NOTE);
-    let one = pass.arg(value_option(alloc, "address", "A", ADDRESS_HELP))?;
-    let two = one.arg(value_option(alloc, "group", "G", GROUP_HELP))?;
-    let three = two.arg(value_option(alloc, "vlan", "N", VLAN_HELP))?;
-    let four = three.arg(file(alloc, "IN", "The trace to read, a pcap file"))?;
-    let five = four.arg(file(alloc, "OUT", "The trace to write, a pcap file"))?;
-    Ok(five)
+    let pass = described(Command::new(alloc, "pass"), PASS_ABOUT, PASS_NOTE);
+    with_arguments(alloc, pass, &PASS_ARGUMENTS)
 }
+
+const RUN_ARGUMENTS: [Argument<'static>; 2] = [
+    Argument::File("SCENARIO", "The scenario to run, a text file"),
+    Argument::File(
+        "OUTDIR",
+        "The folder to write traces into; it must exist",
+    ),
+];
 
 /// `run SCENARIO OUTDIR`.
 fn run_command<'a>(alloc: Global) -> Result<Command<'a>, AllocError>
     ensures app { IfOk result (λ command. app_of command ≡ run_app) }
     ensures local { IfOk result (λ command. (fields_of command).has_globals ≡ false) }
 {
-    let run = Command::new(alloc, "run")
-        .about(RUN_ABOUT)
-        .after_help(RUN_NOTE);
-    let one = run.arg(file(alloc, "SCENARIO", "The scenario to run, a text file"))?;
-    let two = one.arg(file(
-        alloc,
-        "OUTDIR",
-        "The folder to write traces into; it must exist",
-    ))?;
-    Ok(two)
+    let run = described(Command::new(alloc, "run"), RUN_ABOUT, RUN_NOTE);
+    with_arguments(alloc, run, &RUN_ARGUMENTS)
 }
+
+const SHOW_ARGUMENTS: [Argument<'static>; 1] = [Argument::File(
+    "TRACE",
+    "The trace to read, a pcap file",
+)];
 
 /// `show TRACE`.
 fn show_command<'a>(alloc: Global) -> Result<Command<'a>, AllocError>
     ensures app { IfOk result (λ command. app_of command ≡ show_app) }
     ensures local { IfOk result (λ command. (fields_of command).has_globals ≡ false) }
 {
-    let show = Command::new(alloc, "show")
-        .about(SHOW_ABOUT)
-        .after_help(SHOW_NOTE);
-    let show = show.arg(file(alloc, "TRACE", "The trace to read, a pcap file"))?;
-    Ok(show)
+    let show = described(Command::new(alloc, "show"), SHOW_ABOUT, SHOW_NOTE);
+    with_arguments(alloc, show, &SHOW_ARGUMENTS)
 }
+
+const SERVE_ARGUMENTS: [Argument<'static>; 6] = [
+    Argument::Value("memory", "BYTES", MEMORY_HELP),
+    Argument::Value("registers", "ADDRESS", REGISTERS_HELP),
+    Argument::Value("address", "A", IMAGE_HELP),
+    Argument::Value("link", "N|never", LINK_HELP),
+    Argument::Value("rxa", "N", RXA_HELP),
+    Argument::Value("seed", "N", SEED_HELP),
+];
 
 /// `serve [--memory BYTES] [--registers ADDRESS] [--address A] [--link N|never] [--rxa N] [--seed N]`.
 fn serve_command<'a>(alloc: Global) -> Result<Command<'a>, AllocError>
     ensures app { IfOk result (λ command. app_of command ≡ serve_app) }
     ensures local { IfOk result (λ command. (fields_of command).has_globals ≡ false) }
 {
-    let serve = Command::new(alloc, "serve")
-        .about(SERVE_ABOUT)
-        .after_help(SERVE_NOTE);
-    let one = serve.arg(value_option(alloc, "memory", "BYTES", MEMORY_HELP))?;
-    let two = one.arg(value_option(alloc, "registers", "ADDRESS", REGISTERS_HELP))?;
-    let three = two.arg(value_option(alloc, "address", "A", IMAGE_HELP))?;
-    let four = three.arg(value_option(alloc, "link", "N|never", LINK_HELP))?;
-    let five = four.arg(value_option(alloc, "rxa", "N", RXA_HELP))?;
-    let six = five.arg(value_option(alloc, "seed", "N", SEED_HELP))?;
-    Ok(six)
+    let serve = described(Command::new(alloc, "serve"), SERVE_ABOUT, SERVE_NOTE);
+    with_arguments(alloc, serve, &SERVE_ARGUMENTS)
+}
+
+/// The program with one more command, if there was memory for both.
+fn with_command<'a>(
+    program: Result<Command<'a>, AllocError>,
+    command: Result<Command<'a>, AllocError>,
+) -> Result<Command<'a>, AllocError>
+    requires program { IfOk program (λ program. (fields_of program).has_globals ≡ false) }
+    requires command { IfOk command (λ command. (fields_of command).has_globals ≡ false) }
+    ensures app { IfOk result (λ more. IsOkAnd program.entry (λ program. IsOkAnd command.entry
+        (λ command. app_of more ≡ with_subcommand (app_of program) (app_of command).top))) }
+    ensures local { IfOk result (λ more. (fields_of more).has_globals ≡ false) }
+{
+    program?.subcommand(command?)
 }
 
 /// The command line of the program.
@@ -103,18 +168,12 @@ pub(crate) fn program<'a>(alloc: Global) -> Result<Command<'a>, AllocError>
     ensures app { IfOk result (λ command. app_of command ≡ program_app) }
     ensures local { IfOk result (λ command. (fields_of command).has_globals ≡ false) }
 {
-    let pass = pass_command(alloc)?;
-    let run = run_command(alloc)?;
-    let show = show_command(alloc)?;
-    let serve = serve_command(alloc)?;
-    let program = Command::new(alloc, "nicbench")
-        .about("A bench for a driver of the Intel 82540EM and a model of that adapter")
-        .after_help(PROGRAM_NOTE)
+    let about = "A bench for a driver of the Intel 82540EM and a model of that adapter";
+    let bare = described(Command::new(alloc, "nicbench"), about, PROGRAM_NOTE)
         .subcommand_required(true)
         .arg_required_else_help(true);
-    let with_pass = program.subcommand(pass)?;
-    let with_run = with_pass.subcommand(run)?;
-    let with_show = with_run.subcommand(show)?;
-    let with_serve = with_show.subcommand(serve)?;
-    Ok(with_serve)
+    let with_pass = with_command(Ok(bare), pass_command(alloc));
+    let with_run = with_command(with_pass, run_command(alloc));
+    let with_show = with_command(with_run, show_command(alloc));
+    with_command(with_show, serve_command(alloc))
 }

@@ -90,19 +90,24 @@ impl<'a> From<InvalidValue<'a>> for LineError<'a> {
 
 impl fmt::Display for InvalidValue<'_> {
     fn fmt<W: fmt::Write>(&self, f: &mut fmt::Formatter<W>) -> fmt::Result {
-        let (option, form) = match self.option {
-            ValueOption::Address => ("--address <A>", ADDRESS_FORM),
-            ValueOption::Group => ("--group <G>", GROUP_FORM),
-            ValueOption::Vlan => ("--vlan <N>", VLAN_FORM),
-            ValueOption::Memory => ("--memory <BYTES>", MEMORY_FORM),
-            ValueOption::Registers => ("--registers <ADDRESS>", REGISTERS_FORM),
-            ValueOption::Link => ("--link <N|never>", LINK_FORM),
-            ValueOption::Rxa => ("--rxa <N>", RXA_FORM),
-            ValueOption::Seed => ("--seed <N>", SEED_FORM),
-        };
+        let (option, form) = shown(self.option);
         let text = self.text;
         write!(f, "error: invalid value '{text}' for '{option}': {form}\n")?;
         write!(f, "\nFor more information, try '--help'.\n")
+    }
+}
+
+/// An option as help shows it, and the form of its values.
+fn shown(option: ValueOption) -> (&'static str, &'static str) {
+    match option {
+        ValueOption::Address => ("--address <A>", ADDRESS_FORM),
+        ValueOption::Group => ("--group <G>", GROUP_FORM),
+        ValueOption::Vlan => ("--vlan <N>", VLAN_FORM),
+        ValueOption::Memory => ("--memory <BYTES>", MEMORY_FORM),
+        ValueOption::Registers => ("--registers <ADDRESS>", REGISTERS_FORM),
+        ValueOption::Link => ("--link <N|never>", LINK_FORM),
+        ValueOption::Rxa => ("--rxa <N>", RXA_FORM),
+        ValueOption::Seed => ("--seed <N>", SEED_FORM),
     }
 }
 

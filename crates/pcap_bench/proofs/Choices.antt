@@ -249,15 +249,11 @@ same_sets options regs is fits chosen =
       broadcasts = subst (λ (r : ℕ). HasBit r 15 ↔ Unit {0}) (sym chosen.rctl) m.broadcasts;
     }
 
--- ---- the code's answer
+-- ---- what such registers pass
 
-pub kept : (options : PassFilter) (regs : FilterRegisters) (frame : List ℕ) (b : Bool) → SameSets (filter_of regs) (filter_for options)
-    → IsTrue b ↔ Passes (filter_of regs) frame → b ≡ true → KeptBy options frame
-kept options regs frame b same asked is = Passes-same (filter_of regs) (filter_for options) frame same (asked.0 is)
-
-pub turned_away : (options : PassFilter) (regs : FilterRegisters) (frame : List ℕ) (b : Bool)
-    → SameSets (filter_of regs) (filter_for options) → IsTrue b ↔ Passes (filter_of regs) frame → b ≡ false → KeptBy options frame → ⊥
-turned_away options regs frame b same asked is keep =
-    let yes = asked.1 (Passes-same (filter_for options) (filter_of regs) frame
-    (SameSets-sym (filter_of regs) (filter_for options) same) keep) in
-    cc
+pub passes_kept : (options : PassFilter) (regs : FilterRegisters) → SameSets (filter_of regs) (filter_for options) → (frame : List ℕ)
+    → Passes (filter_of regs) frame ↔ KeptBy options frame
+passes_kept options regs same frame = (
+  Passes-same (filter_of regs) (filter_for options) frame same,
+  Passes-same (filter_for options) (filter_of regs) frame (SameSets-sym (filter_of regs) (filter_for options) same),
+)

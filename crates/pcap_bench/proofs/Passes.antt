@@ -1,7 +1,7 @@
 -- Frames that pass, one after the other.
 use Rattle.std.proofs.Common.{◌≡◌, ◌+◌, ℕ, List, [], ◌∷◌, ◌++◌, true, false, cond, length, take, Bool, Option}
 use Rattle.std.proofs.Common.{refl, sym, ap, subst, ◌∙◌, append_assoc, append-nil, arith}
-use Rattle.std.specs.Prelude.{count_by}
+use Rattle.std.specs.Prelude.{◌↔◌, count_by}
 use Rattle.std.specs.Io.KnownBytes.{Appends, append_known}
 use Rattle.std.proofs.KnownBytes.{Appends-nil, Appends-trans}
 use Rattle.std.proofs.lemmas.List.{length-append, take_at}
@@ -12,7 +12,8 @@ use Rattle.pcap_trace.specs.Format.{Timed, packet_of, written}
 use Rattle.pcap_trace.proofs.Flushed.{flushed_front}
 use Rattle.pcap_trace.proofs.Packets.{written-push}
 use Rattle.pcap_bench.specs.Passing.{Filter, Fate, illegal, filtered, kept, IsFate, HaveFates, is_illegal, is_filtered, is_kept, kept_from}
-use Rattle.pcap_bench.specs.Passing.{StopsAmong}
+use Rattle.pcap_bench.specs.Passing.{StopsAmong, WritesKept}
+use Rattle.pcap_bench.specs.declared.counts.PassCounts.{PassCounts}
 
 -- ---- one more frame
 
@@ -42,6 +43,42 @@ kept_from-push keeps n (g ∷ gs) (kept ∷ us) f t right =
 
 count_by-push : (p : Fate → Bool) (ts : List Fate) (t : Fate) → count_by p (ts ++ t ∷ []) ≡ count_by p ts + cond (p t) 1 0
 count_by-push p ts t = sum_by_push (λ x. cond (p x) 1 0) ts t
+
+-- ---- two filters that keep the same frames
+
+IsFate-same : (keeps others : Filter) (f : List ℕ) (t : Fate) → ((g : List ℕ) → keeps g ↔ others g) → IsFate keeps f t → IsFate others f t
+IsFate-same keeps others f illegal both is = is
+IsFate-same keeps others f filtered both is = (is.0, λ kept. is.1 ((both (padded f)).1 kept))
+IsFate-same keeps others f kept both is = (is.0, (both (padded f)).0 is.1)
+
+HaveFates-same : (keeps others : Filter) (fs : List (List ℕ)) (ts : List Fate) → ((g : List ℕ) → keeps g ↔ others g)
+    → HaveFates keeps fs ts → HaveFates others fs ts
+HaveFates-same keeps others [] [] both right = right
+HaveFates-same keeps others [] (t ∷ ts) both right = right
+HaveFates-same keeps others (f ∷ fs) [] both right = right
+HaveFates-same keeps others (f ∷ fs) (t ∷ ts) both right =
+    (IsFate-same keeps others f t both right.0, HaveFates-same keeps others fs ts both right.1)
+
+pub WritesKept-same : (keeps others : Filter) (frames : List (List ℕ)) (counts : PassCounts) (before after : Option (List ℕ))
+    → ((g : List ℕ) → keeps g ↔ others g) → WritesKept keeps frames counts before after → WritesKept others frames counts before after
+WritesKept-same keeps others frames counts before after both all = record {
+  fates = all.fates;
+  right = HaveFates-same keeps others frames all.fates both all.right;
+  went = all.went;
+  read_is = all.read_is;
+  illegal_is = all.illegal_is;
+  filtered_is = all.filtered_is;
+  written_is = all.written_is;
+}
+
+pub StopsAmong-same : (keeps others : Filter) (frames : List (List ℕ)) (before after : Option (List ℕ))
+    → ((g : List ℕ) → keeps g ↔ others g) → StopsAmong keeps frames before after → StopsAmong others frames before after
+StopsAmong-same keeps others frames before after both stops = record {
+  count = stops.count;
+  fates = stops.fates;
+  right = HaveFates-same keeps others (take stops.count frames) stops.fates both stops.right;
+  went = stops.went;
+}
 
 -- ---- the loop of a call
 

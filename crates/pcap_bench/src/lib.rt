@@ -7,12 +7,8 @@ mod lane;
 mod passing;
 mod printing;
 mod program_error;
-#[cfg(test)]
-mod readme;
 mod showing;
 mod slots;
-#[cfg(test)]
-mod tests;
 
 pub use command_line::PassFilter;
 pub use counts::PassCounts;

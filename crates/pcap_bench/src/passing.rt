@@ -3,7 +3,9 @@ ghost use Rattle.std.specs.Prelude.{◌≡◌, ◌<◌, ◌≤◌, length, IfOk,
 ghost use Rattle.std.specs.Io.KnownBytes.{Appends, append_known};
 ghost use Rattle.descriptors.specs.Frames.{padded, is_sendable};
 ghost use Rattle.pcap_trace.specs.Devices.{AppendsFront, CountsFailures, Grows};
-ghost use Rattle.pcap_trace.specs.Format.{packet_of};
+ghost use Rattle.pcap_trace.specs.Format.{file_header, packet_of};
+ghost use Rattle.rx_engine.specs.Passing.{Passes};
+ghost use Rattle.rx_engine.specs.Registers.{filter_of};
 ghost use Rattle.pcap_bench.specs.Options.{HasVlanNumber, KeptBy};
 ghost use Rattle.pcap_bench.specs.Passing.{WritesKept, StopsAmong, StopsBy};
 ghost use Rattle.pcap_bench.specs.Lane.{slot_bytes, HasFrame, IsWaiting};
@@ -23,24 +25,8 @@ fn is_sendable(frame: &[u8]) -> bool
     SHORTEST_SENDABLE <= frame.len() && frame.len() <= LONGEST_SENDABLE
 }
 
-/// Who looks on while a frame stands finished in the ring, before it is read: a test does, the program doesn't.
-pub trait Watch {
-    /// The frame at the driver's slot is about to be read.
-    fn look(&mut self, lane: &ReceiveLane)
-        requires { HasFrame lane.now (slot_bytes lane.now) };
-}
-
-/// Nobody.
-#[derive(Drop)]
-pub struct Unwatched;
-
-impl Watch for Unwatched {
-    fn look(&mut self, _lane: &ReceiveLane) {}
-}
-
 /// Writes the frame that stands finished at the driver's slot, and offers its buffer again.
-fn write_received<W: Sink, L: Watch>(
-    watch: &mut L,
+fn write_received<W: Sink>(
     lane: &mut ReceiveLane,
     writer: &mut RecordWriter,
     sink: &mut W,
@@ -58,35 +44,28 @@ fn write_received<W: Sink, L: Watch>(
     ensures waiting { OnOk result (IsWaiting lane.new) }
     ensures filter { OnOk result (lane.new.adapter.filter ≡ lane.old.adapter.filter) }
 {
-    watch.look(lane);
     writer.write(sink, number, lane.received())?;
     lane.offer();
     Ok(())
 }
 
-/// The same as [`pass`], with somebody who looks on.
-///
-/// # Errors
-///
-/// Those of [`pass`].
-pub fn pass_watched<W: Sink, L: Watch>(
-    watch: &mut L,
-    alloc: Global,
+/// Puts the frames of a trace on the wire of a lane, and writes those that its receive filter passes. Nothing but the
+/// file header waits in the writer.
+fn pass_frames<W: Sink>(
+    lane: &mut ReceiveLane,
+    writer: &mut RecordWriter,
     trace: &Trace,
-    filter: &PassFilter,
     sink: &mut W,
-) -> Result<PassCounts, PassError>
+) -> Result<PassCounts, WriteError>
     requires countable { W.failures sink.old < u64.MAX }
-    requires vlan { HasVlanNumber filter.now }
-    ensures ok { IfOk result
-        (λ counts. WritesKept (KeptBy filter.now) trace.now.frames counts (W.taken sink.old) (W.taken sink.new)) }
-    ensures quiet { OnOk result (W.failures sink.new ≡ W.failures sink.old) }
-    ensures err { OnErr result (StopsAmong (KeptBy filter.now) trace.now.frames (W.taken sink.old) (W.taken sink.new)) }
-    ensures fault { IfErr result
-        (λ e. StopsBy e (W.taken sink.old) (W.taken sink.new) (W.failures sink.old) (W.failures sink.new)) }
+    requires waiting { IsWaiting lane.old }
+    requires begun { writer.old ≡ file_header }
+    ensures ok { IfOk result (λ counts. WritesKept (Passes (filter_of lane.old.adapter.filter)) trace.now.frames counts
+        (W.taken sink.old) (W.taken sink.new)) }
+    ensures err { OnErr result (StopsAmong (Passes (filter_of lane.old.adapter.filter)) trace.now.frames
+        (W.taken sink.old) (W.taken sink.new)) }
+    ensures failures { CountsFailures result (W.failures sink.old) (W.failures sink.new) }
 {
-    let mut lane = ReceiveLane::new(alloc, filter)?;
-    let mut writer = RecordWriter::new(alloc)?;
     let mut counts = PassCounts {
         read: trace.frames.len() as u64,
         ..PassCounts::default()
@@ -103,7 +82,7 @@ pub fn pass_watched<W: Sink, L: Watch>(
             counts.filtered += 1;
             continue;
         }
-        write_received(watch, &mut lane, &mut writer, sink, number)?;
+        write_received(lane, writer, sink, number)?;
         counts.written += 1;
     }
     writer.flush(sink)?;
@@ -140,5 +119,8 @@ pub fn pass<W: Sink>(
     ensures fault { IfErr result
         (λ e. StopsBy e (W.taken sink.old) (W.taken sink.new) (W.failures sink.old) (W.failures sink.new)) }
 {
-    pass_watched(&mut Unwatched, alloc, trace, filter, sink)
+    let mut lane = ReceiveLane::new(alloc, filter)?;
+    let mut writer = RecordWriter::new(alloc)?;
+    let counts = pass_frames(&mut lane, &mut writer, trace, sink)?;
+    Ok(counts)
 }

@@ -1,13 +1,14 @@
-use Rattle.std.proofs.Common.{ap, ap₂, ◌≡◌, ◌∙◌, codes}
-use Rattle.clap.specs.Simple.{app_of_fields}
-use Rattle.clap.specs.Words.{app_of, new_app, with_rule}
-use Rattle.command_line.specs.Shape.{run_app}
+use Rattle.std.proofs.Common.{ap, ◌≡◌, ◌∙◌, ◌∷◌, [], List, codes}
+use Rattle.std.proofs.lemmas.Result.{IfOk-weaker}
+use Rattle.clap.specs.Words.{App, Rule, app_of}
+use Rattle.command_line.specs.Arguments.{with_rules}
+use Rattle.command_line.specs.Shape.{file_rule, run_app}
 use Rattle.command_line.proofs.command.run_command.Goals as goal
 
 pub returns-clause-app : goal.returns-clause-app
 unfolding run_app
 returns-clause-app c =
-    let named : app_of c.after_help-run.result ≡ new_app (codes "run") =
-    ap app_of_fields c.after_help-run.ensures ∙ ap app_of_fields c.about.ensures ∙ c.new.ensures.app in
-    c.in_ok-two.ensures.shape c.file-2.ensures.local ∙ ap₂ with_rule (
-    c.in_ok-one.ensures.shape c.file.ensures.local ∙ ap₂ with_rule named c.file.ensures.rule) c.file-2.ensures.rule
+    let rules : List Rule = file_rule (codes "SCENARIO") ∷ file_rule (codes "OUTDIR") ∷ [] in
+    let bare = c.described-run.ensures.app ∙ c.new.ensures.app in
+    IfOk-weaker c.with_arguments.result (λ command. app_of command ≡ with_rules (app_of c.described-run.result) rules)
+    (λ command. app_of command ≡ run_app) (λ command e. e ∙ ap (λ (a : App). with_rules a rules) bare) c.with_arguments.ensures.app

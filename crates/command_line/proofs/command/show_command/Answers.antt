@@ -1,12 +1,14 @@
-use Rattle.std.proofs.Common.{ap, ap₂, ◌≡◌, ◌∙◌, codes}
-use Rattle.clap.specs.Simple.{app_of_fields}
-use Rattle.clap.specs.Words.{app_of, new_app, with_rule}
-use Rattle.command_line.specs.Shape.{show_app}
+use Rattle.std.proofs.Common.{ap, ◌≡◌, ◌∙◌, ◌∷◌, [], List, codes}
+use Rattle.std.proofs.lemmas.Result.{IfOk-weaker}
+use Rattle.clap.specs.Words.{App, Rule, app_of}
+use Rattle.command_line.specs.Arguments.{with_rules}
+use Rattle.command_line.specs.Shape.{file_rule, show_app}
 use Rattle.command_line.proofs.command.show_command.Goals as goal
 
 pub returns-clause-app : goal.returns-clause-app
 unfolding show_app
 returns-clause-app c =
-    let named : app_of c.after_help-show.result ≡ new_app (codes "show") =
-    ap app_of_fields c.after_help-show.ensures ∙ ap app_of_fields c.about.ensures ∙ c.new.ensures.app in
-    c.in_ok-show.ensures.shape c.file.ensures.local ∙ ap₂ with_rule named c.file.ensures.rule
+    let rules : List Rule = file_rule (codes "TRACE") ∷ [] in
+    let bare = c.described-show.ensures.app ∙ c.new.ensures.app in
+    IfOk-weaker c.with_arguments.result (λ command. app_of command ≡ with_rules (app_of c.described-show.result) rules)
+    (λ command. app_of command ≡ show_app) (λ command e. e ∙ ap (λ (a : App). with_rules a rules) bare) c.with_arguments.ensures.app

@@ -1,10 +1,10 @@
-//! The code of README.md, word for word.
+//! The code of a README, word for word.
 
-use crate::{Frames, PassFilter, Trace, VecSink, pass, print_pass};
+use pcap_bench::{Frames, PassFilter, Trace, VecSink, pass, print_pass};
 use std::test::Fail;
 
 #[test]
-fn the_code_of_the_readme(rt: HostRuntime) -> Result<(), Fail> {
+fn the_code_of_the_readme_of_pcap_bench(rt: HostRuntime) -> Result<(), Fail> {
     // One of two frames goes to the address that is asked for.
     let mut frames = Frames::new(rt.alloc());
     frames.push(&[0x02, 0, 0, 0, 0, 0x01, 0x02, 0, 0, 0, 0, 0x09, 0x08, 0])?;

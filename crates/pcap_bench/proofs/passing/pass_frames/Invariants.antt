@@ -1,20 +1,19 @@
 use Rattle.std.proofs.Common.{◌≡◌, length}
 use Rattle.std.specs.Io.KnownBytes.{append_known}
 use Rattle.pcap_trace.specs.Devices.{Grows}
-use Rattle.rx_engine.specs.FilterLaws.{SameSets}
+use Rattle.rx_engine.specs.Passing.{Passes}
 use Rattle.rx_engine.specs.Registers.{filter_of}
 use Rattle.pcap_bench.specs.Lane.{IsWaiting}
-use Rattle.pcap_bench.specs.Options.{filter_for, KeptBy}
 use Rattle.pcap_bench.proofs.Passes.{SoFar}
-use Rattle.pcap_bench.proofs.passing.pass_watched.Given as goal
+use Rattle.pcap_bench.proofs.passing.pass_frames.Given as goal
 
 abbrev pub invariant-loop-frame : goal.invariant-loop-frame
 invariant-loop-frame g l = record {
   quiet : g.W.Sink.failures l.sink ≡ g.W.Sink.failures l.fn.sink;
   waiting : IsWaiting l.lane;
-  filter : SameSets (filter_of l.lane.adapter.filter) (filter_for l.fn.filter);
+  filter : l.lane.adapter.filter ≡ l.fn.lane.adapter.filter;
   read : l.counts.read ≡ length l.fn.trace.frames;
   grows : Grows (g.W.Sink.taken l.fn.sink) (g.W.Sink.taken l.sink);
-  so_far : SoFar (KeptBy l.fn.filter) l.fn.trace.frames l.frame-iterator l.next l.counts.illegal l.counts.filtered l.counts.written
-      (g.W.Sink.taken l.fn.sink) (append_known (g.W.Sink.taken l.sink) l.writer);
+  so_far : SoFar (Passes (filter_of l.fn.lane.adapter.filter)) l.fn.trace.frames l.frame-iterator l.next l.counts.illegal
+      l.counts.filtered l.counts.written (g.W.Sink.taken l.fn.sink) (append_known (g.W.Sink.taken l.sink) l.writer);
 }

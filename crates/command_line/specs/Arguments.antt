@@ -1,0 +1,15 @@
+-- The arguments that the code gives a command, as clap's contracts see them (own).
+use Rattle.std.specs.Prelude.{List, [], ◌∷◌}
+use Rattle.clap.specs.Words.{App, Rule, with_rule}
+use Rattle.command_line.specs.Shape.{file_rule, option_rule}
+use Rattle.command_line.specs.declared.command.Argument.{Argument}
+use Rattle.command_line.specs.declared.command.Argument.TheVariants.{Value, File}
+
+abbrev pub rule_for : Argument → Rule
+rule_for (Value name value help) = option_rule name.now
+rule_for (File name help) = file_rule name.now
+
+-- a command with these rules more, in this order
+abbrev pub with_rules : App → List Rule → App
+with_rules app [] = app
+with_rules app (rule ∷ others) = with_rules (with_rule app rule) others

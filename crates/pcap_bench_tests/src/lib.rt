@@ -1,0 +1,13 @@
+//! Tests of traces that pass a filter, and of what is shown of them, over the public calls of `pcap_bench` alone.
+#![tactic(auto)]
+
+#[cfg(test)]
+mod failing;
+#[cfg(test)]
+mod fixtures;
+#[cfg(test)]
+mod passing;
+#[cfg(test)]
+mod readme;
+#[cfg(test)]
+mod showing;
