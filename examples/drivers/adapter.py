@@ -4,8 +4,8 @@ import subprocess
 
 # Where the registers begin.
 REGISTERS = 0xFEB00000
-# How many bytes of requests are sent before answers are read. No pipe holds fewer, so that sending them never waits for
-# the server, which may wait for its answers to be read.
+# The most bytes of requests that are sent before answers are read. Every pipe holds at least this many. So sending them
+# never waits for the server, which may itself wait until its answers are read.
 MOST_AT_ONCE = 4096
 
 
@@ -26,13 +26,13 @@ class Adapter:
         return self
 
     def __exit__(self, *_):
-        """Ends the input, and with it the server."""
+        """Ends the input, which ends the server."""
         self.process.communicate()
 
     # Requests and answers
 
     def ask(self, *requests):
-        """The answers to requests, each what stands behind OK. Many are sent before the first is answered; a long one alone."""
+        """Returns the answers to requests, each without its OK. Sends many before it reads the first answer, but a long one alone."""
         answers, some, size = [], [], 0
         for request in requests:
             if some and size + len(request) + 1 > MOST_AT_ONCE:
@@ -43,7 +43,7 @@ class Adapter:
         return answers + self.ask_at_once(some)
 
     def ask_at_once(self, requests):
-        """The answers to these requests, which are sent before the first is read."""
+        """Sends these requests, then reads and returns their answers."""
         try:
             self.process.stdin.write("".join(f"{request}\n" for request in requests).encode())
             self.process.stdin.flush()
@@ -52,7 +52,7 @@ class Adapter:
         return [self.answer(request) for request in requests]
 
     def answer(self, request):
-        """The next answer. Lines before it tell what happened."""
+        """Returns the next answer. Lines before it report what happened."""
         for line in self.process.stdout:
             word, _, rest = line.decode().rstrip("\n").partition(" ")
             if word == "OK":
@@ -80,27 +80,27 @@ class Adapter:
         return bytes.fromhex(self.ask(f"read {address:#x} {size}")[0][2:])
 
     def store(self, *pairs):
-        """Stores bytes, each pair an address and what stands there, in order."""
+        """Stores bytes, each pair an address and the bytes for it, in order."""
         self.ask(*(f"write {address:#x} {len(data)} 0x{data.hex()}" for address, data in pairs))
 
-    # What happens beside it
+    # What the adapter and the wire do
 
     def step(self, kind):
-        """A step of the adapter, and what came of it."""
+        """Plays a step of the adapter, and returns its outcome."""
         return self.ask(f"step {kind}")[0]
 
     def arrive(self, frame):
-        """A frame comes from the wire: its fate."""
+        """Lets a frame arrive from the wire, and returns its fate."""
         return self.ask(f"arrive {frame.hex()}")[0]
 
     def settle(self):
-        """Steps until nothing is left to do: how many did something."""
+        """Plays steps until nothing is left to do, and returns the number of steps that did something."""
         return int(self.ask("settle")[0], 0)
 
     def interleave(self, count):
-        """Up to so many steps are played before each access from here on."""
+        """From now on plays up to `count` steps before each access."""
         self.ask(f"interleave {count}")
 
     def log(self, on):
-        """From here on each step, access and arrival is told, or no longer."""
+        """Turns the log of steps, accesses and arrivals on or off."""
         self.ask(f"log {'on' if on else 'off'}")

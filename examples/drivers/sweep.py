@@ -4,9 +4,9 @@
 usage: sweep.py PROGRAM [SEEDS]          seeds 1 to SEEDS (default 100)
        sweep.py PROGRAM --bug BUG SEED   one run, with its whole log
 
-PROGRAM is `nicbench`. Each run brings an adapter up, and then lets frames come and sends some. A seed says which steps the adapter
-takes between the accesses of the driver, so a seed that fails fails each time. The exit status is 0 where the right driver passes and
-each bug is found, and of one run where it passes.
+PROGRAM is `nicbench`. Each run initializes an adapter, then lets frames arrive and sends some. A seed decides which steps the adapter
+takes between the accesses of the driver, so a seed that fails fails each time. The exit status of a sweep is 0 if the right driver
+passes and each bug is found. That of one run is 0 if it passes.
 """
 
 import sys
@@ -16,26 +16,26 @@ from adapter import Adapter, Refused  # noqa: E402
 from driver import BUGS, DeviceError, Driver  # noqa: E402
 
 ROUNDS = 8
-# How many frames are sent behind these without a pause.
+# The number of frames that are sent after these without a pause.
 BURST = 12
-# How many steps are played before an access at most.
+# The most steps that are played before an access.
 STEPS = 3
 SELF, OTHER = bytes.fromhex("020000000001"), bytes.fromhex("020000000009")
 
 
 def frame_of(number, to, source):
-    """A frame of its own length and bytes."""
+    """Returns a frame whose length and bytes depend on the number."""
     return to + source + b"\x88\xb5" + bytes([number]) * (46 + number)
 
 
 def handle(adapter, driver):
-    """The handler is called as long as the interrupt line is asserted."""
+    """Calls the handler while the interrupt line is asserted."""
     while adapter.line:
         driver.interrupt()
 
 
 def fault_of(name, wanted, got):
-    """What is wrong with a list of frames, or None."""
+    """Returns what is wrong with a list of frames, or None."""
     for number, frame in enumerate(wanted):
         if number == len(got):
             return f"frame {number} was never {name}"
@@ -45,7 +45,7 @@ def fault_of(name, wanted, got):
 
 
 def exchange(adapter, driver):
-    """Rounds of frames that come and are sent, and then a burst. What was wrong behind one, or None."""
+    """Runs rounds of frames that arrive and are sent, and then a burst. Returns the first fault, or None."""
     came, sent = [], []
     for number in range(ROUNDS):
         for frame in (frame_of(2 * number + n, SELF, OTHER) for n in range(2)):
@@ -55,7 +55,7 @@ def exchange(adapter, driver):
         if driver.send(frame):
             sent.append(frame)
         handle(adapter, driver)
-        # Now the adapter does all that is left. Where it doesn't call the driver for that, nobody does.
+        # Now the adapter does all that is left. If it doesn't interrupt the driver for that, nothing else does.
         adapter.settle()
         handle(adapter, driver)
         fault = fault_of("received", came, driver.received) or fault_of("sent", sent, adapter.wire)
@@ -65,7 +65,7 @@ def exchange(adapter, driver):
 
 
 def burst(adapter, driver, sent):
-    """Frames are sent one behind the other, behind those that were. What was wrong, or None."""
+    """Sends frames one after the other, after those already sent. Returns the first fault, or None."""
     for number in range(BURST):
         frame = frame_of(ROUNDS + number, OTHER, SELF)
         if driver.send(frame):
@@ -78,7 +78,7 @@ def burst(adapter, driver, sent):
 
 
 def run(program, seed, bug=None):
-    """A run: what was wrong, or None, and its log. What a driver raises is what was wrong."""
+    """Runs the driver once. Returns the fault, or None, and the log. An error that the driver raises is the fault."""
     with Adapter(program, "--seed", str(seed)) as adapter:
         try:
             adapter.log(True)
@@ -92,7 +92,7 @@ def run(program, seed, bug=None):
 
 
 def sweep(program, seeds, name, bug=None):
-    """Prints the first seed that fails, and gives it with the log of its run; None where all pass."""
+    """Prints the first seed that fails, and returns it with the log of its run, or None if all pass."""
     for seed in range(1, seeds + 1):
         fault, log = run(program, seed, bug)
         if fault:
@@ -103,7 +103,7 @@ def sweep(program, seeds, name, bug=None):
 
 
 def sweep_all(program, seeds):
-    """Prints the sweep of each driver, and then the logs. Whether the right one passes, and each bug is found."""
+    """Prints the sweep of each driver, and then the logs. Returns whether the right one passes and each bug is found."""
     found = {name: sweep(program, seeds, name, None if name == "right" else name) for name in ("right", *BUGS)}
     for name, failed in found.items():
         if failed:
