@@ -95,6 +95,13 @@ after_kind None before words = before
 abbrev pub after_words : SoFar → List Text → SoFar
 after_words before words = if is_skipped words then before else after_kind (kind_named (word 0 words)) before words
 
+-- what comes of the words of a line
+abbrev pub IsWordsAnswer : SoFar → List Text → Result (Unit {0}) Stop → SoFar → Type 0
+IsWordsAnswer before words (Ok u) after =
+    (is_skipped words ≡ false → IsSomeAnd (kind_named (word 0 words)) (λ kind. IsGood kind before words))
+    × (after ≡ after_words before words)
+IsWordsAnswer before words (Err stop) after = IfFault stop (λ one. (is_skipped words ≡ false) × IsFaultySaying before words one)
+
 -- what comes of a line
 abbrev pub IsLineAnswer : SoFar → Text → Result (Unit {0}) Stop → SoFar → Type 0
 IsLineAnswer before line (Ok u) after = IsGoodLine before line × (after ≡ after_words before (words_of line))

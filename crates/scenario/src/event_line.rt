@@ -3,11 +3,12 @@
 ghost use Rattle.std.specs.Prelude.{◌≡◌, IfErr, IfOk, OnOk, true};
 ghost use Rattle.std.specs.Option.{SomeIff};
 ghost use Rattle.std.specs.Str.Parse.{digits_value};
-ghost use Rattle.scenario.specs.Answers.{IsAnswer, IsCall};
+ghost use Rattle.scenario.specs.Answers.{IsAnswer, IsCall, IsFaulty};
 ghost use Rattle.scenario.specs.Meanings as meanings;
-ghost use Rattle.scenario.specs.SoFar.{hosts_of, said_of, so_far};
+ghost use Rattle.scenario.specs.SoFar.{SoFar, hosts_of, said_of, so_far};
+ghost use Rattle.scenario.specs.Spellings.{frame_in};
 ghost use Rattle.scenario.specs.Stops.{IfFault};
-ghost use Rattle.scenario.specs.Words.{texts};
+ghost use Rattle.scenario.specs.Words.{texts, word};
 ghost use Rattle.scenario.specs.declared.line_kind.LineKind.TheVariants as line;
 ghost use Rattle.scenario.specs.declared.refusal.Fault.TheVariants as faults;
 
@@ -80,50 +81,88 @@ fn say(scenario: &mut Scenario, command: Command) -> Result<(), AllocError>
     Ok(())
 }
 
-/// `send HOST HEX`, and ticks.
-pub(crate) fn read_send(alloc: Global, scenario: &mut Scenario, words: &[&str]) -> Result<(), Stop>
-    ensures { IsAnswer line.Send (so_far scenario.old) (texts words.now) result (so_far scenario.new) }
+/// The frame of a `send` line. Its words are as many as they are to be, and read.
+fn frame_sent(alloc: Global, words: &[&str]) -> Result<Vec<u8>, Stop>
+    ensures count { OnOk result (meanings.HasCount line.Send (texts words.now)) }
+    ensures values { OnOk result (meanings.HasValues line.Send (texts words.now)) }
+    ensures frame { IfOk result (λ frame. frame.items ≡ frame_in (word 2 (meanings.call_words (texts words.now)))) }
+    ensures err { (before : SoFar) →
+        IfErr result (λ stop. IfFault stop (IsFaulty line.Send before (texts words.now))) }
 {
     let call = call_words(words);
-    let ticks = tick_words(words);
     if call.len() != 3 {
         return Err(Stop::Fault(Fault::Count));
     }
     let frame = frame_of(alloc, word_at(call, 2))?;
-    if !are_ticks(ticks) {
+    if !are_ticks(tick_words(words)) {
         return Err(Stop::Fault(Fault::Value));
     }
+    Ok(frame)
+}
+
+/// `send HOST HEX`, and ticks.
+pub(crate) fn read_send(alloc: Global, scenario: &mut Scenario, words: &[&str]) -> Result<(), Stop>
+    ensures { IsAnswer line.Send (so_far scenario.old) (texts words.now) result (so_far scenario.new) }
+{
+    let frame = frame_sent(alloc, words)?;
     let hosts = scenario.plan.hosts.as_slice();
-    let (host, ticks) = call_of(alloc, hosts, word_at(call, 1), ticks)?;
+    let name = word_at(call_words(words), 1);
+    let (host, ticks) = call_of(alloc, hosts, name, tick_words(words))?;
     let event = Event::Send { host, frame, ticks };
     say(scenario, Command::Event(event))?;
     Ok(())
+}
+
+/// The socket of a `recv` line. Its words are as many as they are to be, and read.
+fn socket_asked(words: &[&str]) -> Result<u64, Fault>
+    ensures count { OnOk result (meanings.HasCount line.Recv (texts words.now)) }
+    ensures values { OnOk result (meanings.HasValues line.Recv (texts words.now)) }
+    ensures socket { IfOk result (λ socket.
+        socket ≡ meanings.number_read (word 2 (meanings.call_words (texts words.now)))) }
+    ensures err { (before : SoFar) → IfErr result (IsFaulty line.Recv before (texts words.now)) }
+{
+    let call = call_words(words);
+    if call.len() != 3 {
+        return Err(Fault::Count);
+    }
+    let Some(socket) = number_of(word_at(call, 2)) else {
+        return Err(Fault::Value);
+    };
+    if !are_ticks(tick_words(words)) {
+        return Err(Fault::Value);
+    }
+    Ok(socket)
 }
 
 /// `recv HOST S`, and ticks.
 pub(crate) fn read_recv(alloc: Global, scenario: &mut Scenario, words: &[&str]) -> Result<(), Stop>
     ensures { IsAnswer line.Recv (so_far scenario.old) (texts words.now) result (so_far scenario.new) }
 {
-    let call = call_words(words);
-    let ticks = tick_words(words);
-    if call.len() != 3 {
-        return Err(Stop::Fault(Fault::Count));
-    }
-    let Some(socket) = number_of(word_at(call, 2)) else {
-        return Err(Stop::Fault(Fault::Value));
-    };
-    if !are_ticks(ticks) {
-        return Err(Stop::Fault(Fault::Value));
-    }
+    let socket = socket_asked(words)? as usize;
     let hosts = scenario.plan.hosts.as_slice();
-    let (host, ticks) = call_of(alloc, hosts, word_at(call, 1), ticks)?;
-    let socket = socket as usize;
+    let name = word_at(call_words(words), 1);
+    let (host, ticks) = call_of(alloc, hosts, name, tick_words(words))?;
     let event = Event::Recv {
         host,
         socket,
         ticks,
     };
     say(scenario, Command::Event(event))?;
+    Ok(())
+}
+
+/// Looks whether the words of an `interrupt` line are as many as they are to be, and read.
+fn check_interrupt(words: &[&str]) -> Result<(), Fault>
+    ensures count { OnOk result (meanings.HasCount line.Interrupt (texts words.now)) }
+    ensures values { OnOk result (meanings.HasValues line.Interrupt (texts words.now)) }
+    ensures err { (before : SoFar) → IfErr result (IsFaulty line.Interrupt before (texts words.now)) }
+{
+    if call_words(words).len() != 2 {
+        return Err(Fault::Count);
+    }
+    if !are_ticks(tick_words(words)) {
+        return Err(Fault::Value);
+    }
     Ok(())
 }
 
@@ -135,16 +174,10 @@ pub(crate) fn read_interrupt(
 ) -> Result<(), Stop>
     ensures { IsAnswer line.Interrupt (so_far scenario.old) (texts words.now) result (so_far scenario.new) }
 {
-    let call = call_words(words);
-    let ticks = tick_words(words);
-    if call.len() != 2 {
-        return Err(Stop::Fault(Fault::Count));
-    }
-    if !are_ticks(ticks) {
-        return Err(Stop::Fault(Fault::Value));
-    }
+    check_interrupt(words)?;
     let hosts = scenario.plan.hosts.as_slice();
-    let (host, ticks) = call_of(alloc, hosts, word_at(call, 1), ticks)?;
+    let name = word_at(call_words(words), 1);
+    let (host, ticks) = call_of(alloc, hosts, name, tick_words(words))?;
     let event = Event::Interrupt { host, ticks };
     say(scenario, Command::Event(event))?;
     Ok(())

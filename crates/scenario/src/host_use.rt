@@ -9,7 +9,7 @@ use mdic_phy::Link;
 use std::alloc::{AllocError, Global};
 
 /// The options of a `host` line.
-#[derive(Clone, Copy, Debug, PartialEq, Eq)]
+#[derive(Clone, Copy, PartialEq)]
 pub(crate) enum OptionKind {
     /// `rx N`: how many receive descriptors there are.
     Rx,
@@ -26,7 +26,7 @@ pub(crate) enum OptionKind {
 }
 
 /// A word of a `host` line behind the wire, with the value that follows it.
-#[derive(Clone, Copy, Debug, PartialEq, Eq)]
+#[derive(Clone, Copy)]
 pub(crate) enum HostUse {
     /// No option.
     Unknown,
@@ -49,7 +49,7 @@ pub(crate) enum HostUse {
 }
 
 /// What the options of a `host` line ask for.
-#[derive(Clone, Copy, Debug, PartialEq, Eq)]
+#[derive(Clone, Copy)]
 pub(crate) struct HostOptions {
     pub(crate) rx: u16,
     pub(crate) tx: u16,

@@ -1,7 +1,7 @@
 // The reading of one line.
 
 ghost use Rattle.std.specs.Prelude.{◌≡◌};
-ghost use Rattle.scenario.specs.Answers.{IsAnswer, IsLineAnswer};
+ghost use Rattle.scenario.specs.Answers.{IsAnswer, IsLineAnswer, IsWordsAnswer};
 ghost use Rattle.scenario.specs.SoFar.{so_far};
 ghost use Rattle.scenario.specs.Words.{texts};
 
@@ -43,6 +43,22 @@ fn read_kind(
     }
 }
 
+/// Reads the words of a line.
+fn read_words(alloc: Global, scenario: &mut Scenario, words: &[&str]) -> Result<(), Stop>
+    ensures { IsWordsAnswer (so_far scenario.old) (texts words.now) result (so_far scenario.new) }
+{
+    let Some(first) = words.first() else {
+        return Ok(());
+    };
+    if first.starts_with('#') {
+        return Ok(());
+    }
+    let Some(kind) = kind_of(first) else {
+        return Err(Stop::Fault(Fault::Word));
+    };
+    read_kind(alloc, scenario, kind, words)
+}
+
 /// Reads a line.
 pub(crate) fn read_line(alloc: Global, scenario: &mut Scenario, line: &[u8]) -> Result<(), Stop>
     ensures { IsLineAnswer (so_far scenario.old) line.now result (so_far scenario.new) }
@@ -54,14 +70,5 @@ pub(crate) fn read_line(alloc: Global, scenario: &mut Scenario, line: &[u8]) -> 
         return Err(Stop::Fault(Fault::Text));
     };
     let words = words_in(alloc, line)?;
-    let Some(first) = words.first() else {
-        return Ok(());
-    };
-    if first.starts_with('#') {
-        return Ok(());
-    }
-    let Some(kind) = kind_of(first) else {
-        return Err(Stop::Fault(Fault::Word));
-    };
-    read_kind(alloc, scenario, kind, words.as_slice())
+    read_words(alloc, scenario, words.as_slice())
 }

@@ -1,10 +1,10 @@
 // What a line says, by its first word.
 
 ghost use Rattle.std.specs.Prelude.{◌≡◌};
-ghost use Rattle.scenario.specs.Kinds.{kind_named};
+ghost use Rattle.scenario.specs.Kinds.{event_kind_named, kind_named, plain_kind_named};
 
 /// The kinds of lines. Those of the first four set up, the others are events.
-#[derive(Clone, Copy, Debug, PartialEq, Eq)]
+#[derive(Clone, Copy)]
 pub(crate) enum LineKind {
     /// `host`: a host is there.
     Host,
@@ -30,6 +30,31 @@ pub(crate) enum LineKind {
     Drain,
 }
 
+/// The kind of the lines that this word begins, of the events that are no calls.
+fn plain_kind_of(word: &str) -> Option<LineKind>
+    ensures { result ≡ plain_kind_named word.now }
+{
+    match word {
+        "tick" => Some(LineKind::Tick),
+        "feed" => Some(LineKind::Feed),
+        "auto" => Some(LineKind::Auto),
+        "drain" => Some(LineKind::Drain),
+        _ => None,
+    }
+}
+
+/// The kind of the lines that this word begins, of the events.
+fn event_kind_of(word: &str) -> Option<LineKind>
+    ensures { result ≡ event_kind_named word.now }
+{
+    match word {
+        "send" => Some(LineKind::Send),
+        "recv" => Some(LineKind::Recv),
+        "interrupt" => Some(LineKind::Interrupt),
+        _ => plain_kind_of(word),
+    }
+}
+
 /// The kind of the lines that this word begins.
 pub(crate) fn kind_of(word: &str) -> Option<LineKind>
     ensures { result ≡ kind_named word.now }
@@ -39,13 +64,6 @@ pub(crate) fn kind_of(word: &str) -> Option<LineKind>
         "group" => Some(LineKind::Group),
         "vlan" => Some(LineKind::Vlan),
         "socket" => Some(LineKind::Socket),
-        "send" => Some(LineKind::Send),
-        "recv" => Some(LineKind::Recv),
-        "interrupt" => Some(LineKind::Interrupt),
-        "tick" => Some(LineKind::Tick),
-        "feed" => Some(LineKind::Feed),
-        "auto" => Some(LineKind::Auto),
-        "drain" => Some(LineKind::Drain),
-        _ => None,
+        _ => event_kind_of(word),
     }
 }

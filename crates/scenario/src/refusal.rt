@@ -71,7 +71,7 @@ impl Refusal {
 }
 
 /// Why a line wasn't read.
-#[derive(Clone, Copy, Debug, PartialEq, Eq)]
+#[derive(Clone, Copy)]
 pub(crate) enum Stop {
     /// It is faulty.
     Fault(Fault),

@@ -2,16 +2,18 @@
 
 ghost use Rattle.std.specs.Prelude.{◌≡◌, IfErr, IfOk, OnOk, length};
 ghost use Rattle.scenario.specs.Answers.{IsAnswer, IsFaulty, IsGood};
-ghost use Rattle.scenario.specs.Meanings.{new_host};
-ghost use Rattle.scenario.specs.SoFar.{host_of, so_far};
+ghost use Rattle.scenario.specs.HostOptions.{options_asked, uses_in};
+ghost use Rattle.scenario.specs.Meanings.{HasCount, HasValues, new_host, option_words};
+ghost use Rattle.scenario.specs.SoFar.{SoFar, host_of, so_far};
+ghost use Rattle.scenario.specs.Spellings.{address_in};
 ghost use Rattle.scenario.specs.Stops.{IfFault};
-ghost use Rattle.scenario.specs.Words.{texts};
+ghost use Rattle.scenario.specs.Words.{texts, word};
 ghost use Rattle.scenario.specs.declared.line_kind.LineKind.TheVariants as line;
 ghost use Rattle.scenario.specs.declared.refusal.Fault.TheVariants as fault;
 
 use crate::command::Scenario;
 use crate::host_change::{add_group, add_socket, add_vlan, new_host};
-use crate::host_use::{are_counted, are_read, options_of, uses_of};
+use crate::host_use::{HostOptions, HostUse, are_counted, are_read, options_of, uses_of};
 use crate::refusal::{Fault, Stop};
 use crate::spelling::{address_of, number16_of, socket_of};
 use crate::text::{HOST_WORDS, option_words, word_at};
@@ -34,11 +36,12 @@ fn check_order(scenario: &Scenario) -> Result<(), Fault>
     }
 }
 
-/// The host of a line `host NAME ADDRESS WIRE`, and options.
-fn host_in(alloc: Global, scenario: &Scenario, words: &[&str]) -> Result<HostPlan, Stop>
-    ensures good { OnOk result (IsGood line.Host (so_far scenario.now) (texts words.now)) }
-    ensures host { IfOk result (λ host. host_of host ≡ new_host (texts words.now)) }
-    ensures err { IfErr result (λ stop. IfFault stop (IsFaulty line.Host (so_far scenario.now) (texts words.now))) }
+/// What the options of a `host` line use. The line has its words, and no option twice.
+fn host_uses(alloc: Global, words: &[&str]) -> Result<Vec<HostUse>, Stop>
+    ensures count { OnOk result (HasCount line.Host (texts words.now)) }
+    ensures uses { IfOk result (λ uses. uses.items ≡ uses_in (option_words (texts words.now))) }
+    ensures err { (before : SoFar) →
+        IfErr result (λ stop. IfFault stop (IsFaulty line.Host before (texts words.now))) }
 {
     if words.len() < HOST_WORDS {
         return Err(Stop::Fault(Fault::Count));
@@ -47,17 +50,65 @@ fn host_in(alloc: Global, scenario: &Scenario, words: &[&str]) -> Result<HostPla
     if !are_counted(uses.as_slice()) {
         return Err(Stop::Fault(Fault::Count));
     }
+    Ok(uses)
+}
+
+/// The address and the options of a `host` line whose options use these.
+fn host_read(words: &[&str], uses: &[HostUse]) -> Result<([u8; 6], HostOptions), Stop>
+    requires count { HasCount line.Host (texts words.now) }
+    requires uses { uses.now ≡ uses_in (option_words (texts words.now)) }
+    ensures count { OnOk result (HasCount line.Host (texts words.now)) }
+    ensures values { OnOk result (HasValues line.Host (texts words.now)) }
+    ensures address { IfOk result (λ read. read.0 ≡ address_in (word 2 (texts words.now))) }
+    ensures options { IfOk result (λ read. read.1 ≡ options_asked (uses_in (option_words (texts words.now)))) }
+    ensures err { (before : SoFar) →
+        IfErr result (λ stop. IfFault stop (IsFaulty line.Host before (texts words.now))) }
+{
+    if !are_read(uses) {
+        return Err(Stop::Fault(Fault::Value));
+    }
     let Some(address) = address_of(word_at(words, 2)) else {
         return Err(Stop::Fault(Fault::Value));
     };
-    if !are_read(uses.as_slice()) {
-        return Err(Stop::Fault(Fault::Value));
+    Ok((address, options_of(uses)))
+}
+
+/// The address and the options of a `host` line.
+fn host_values(alloc: Global, words: &[&str]) -> Result<([u8; 6], HostOptions), Stop>
+    ensures count { OnOk result (HasCount line.Host (texts words.now)) }
+    ensures values { OnOk result (HasValues line.Host (texts words.now)) }
+    ensures address { IfOk result (λ read. read.0 ≡ address_in (word 2 (texts words.now))) }
+    ensures options { IfOk result (λ read. read.1 ≡ options_asked (uses_in (option_words (texts words.now)))) }
+    ensures err { (before : SoFar) →
+        IfErr result (λ stop. IfFault stop (IsFaulty line.Host before (texts words.now))) }
+{
+    match host_uses(alloc, words) {
+        Ok(uses) => host_read(words, uses.as_slice()),
+        Err(stop) => Err(stop),
     }
+}
+
+/// Checks that the name of a new host is free, and that hosts may still be set up.
+fn check_host(scenario: &Scenario, words: &[&str]) -> Result<(), Fault>
+    requires count { HasCount line.Host (texts words.now) }
+    requires values { HasValues line.Host (texts words.now) }
+    ensures ok { OnOk result (IsGood line.Host (so_far scenario.now) (texts words.now)) }
+    ensures err { IfErr result (IsFaulty line.Host (so_far scenario.now) (texts words.now)) }
+{
     if host_named(scenario.plan.hosts.as_slice(), word_at(words, 1)).is_some() {
-        return Err(Stop::Fault(Fault::Name));
+        return Err(Fault::Name);
     }
-    check_order(scenario)?;
-    let options = options_of(uses.as_slice());
+    check_order(scenario)
+}
+
+/// The host of a line `host NAME ADDRESS WIRE`, and options.
+fn host_in(alloc: Global, scenario: &Scenario, words: &[&str]) -> Result<HostPlan, Stop>
+    ensures good { OnOk result (IsGood line.Host (so_far scenario.now) (texts words.now)) }
+    ensures host { IfOk result (λ host. host_of host ≡ new_host (texts words.now)) }
+    ensures err { IfErr result (λ stop. IfFault stop (IsFaulty line.Host (so_far scenario.now) (texts words.now))) }
+{
+    let (address, options) = host_values(alloc, words)?;
+    check_host(scenario, words)?;
     let host = new_host(
         alloc,
         word_at(words, 1),

@@ -9,7 +9,7 @@ use network_plan::HostPlan;
 use stations::Tick;
 
 /// The kinds of a host's ticks.
-#[derive(Clone, Copy, Debug, PartialEq, Eq)]
+#[derive(Clone, Copy)]
 pub(crate) enum TickKind {
     /// Its adapter takes this step.
     Step(StepKind),
