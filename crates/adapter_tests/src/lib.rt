@@ -1,47 +1,33 @@
-//! Tests of the adapter and of its parts, over their public calls alone.
+//! Tests of the adapter, of its parts, and of a bus with one adapter, over their public calls alone.
 #![tactic(auto)]
 
 #[cfg(test)]
-mod accesses;
-#[cfg(test)]
-mod bus_events;
-#[cfg(test)]
-mod descriptors_calls;
+mod descriptor_bytes;
 #[cfg(test)]
 mod descriptors_readme;
 #[cfg(test)]
-mod dma_memory_calls;
-#[cfg(test)]
 mod dma_memory_readme;
-#[cfg(test)]
-mod eeprom_calls;
 #[cfg(test)]
 mod eeprom_readme;
 #[cfg(test)]
-mod filter_calls;
-#[cfg(test)]
-mod fixtures;
-#[cfg(test)]
-mod frame_queue_calls;
+mod events;
 #[cfg(test)]
 mod frame_queue_readme;
 #[cfg(test)]
-mod frames;
-#[cfg(test)]
-mod mdic_phy_calls;
+mod laws;
 #[cfg(test)]
 mod mdic_phy_readme;
 #[cfg(test)]
-mod readme;
+mod memory;
 #[cfg(test)]
-mod registers_calls;
+mod readme;
 #[cfg(test)]
 mod registers_readme;
 #[cfg(test)]
-mod rx_engine_calls;
-#[cfg(test)]
 mod rx_engine_readme;
 #[cfg(test)]
-mod tx_engine_calls;
+mod solo_bus_readme;
+#[cfg(test)]
+mod sound_buses;
 #[cfg(test)]
 mod tx_engine_readme;

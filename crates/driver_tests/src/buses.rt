@@ -1,60 +1,79 @@
-//! What the tests bring up: a new adapter on a solo bus, and a bus that has none. No function here promises anything, so
-//! that the proofs of tests are short.
+//! Buses to play on: a lively one with a new adapter, and one without an adapter, on which all reads are alike.
 
 use adapter::Adapter;
+use arrayvec::ArrayVec;
+use bring_up::Config;
 use bus::Bus;
 use dma_memory::HostMemory;
 use eeprom::Image;
 use mdic_phy::Link;
 use solo_bus::SoloBus;
-use std::alloc::Global;
-use std::test::Fail;
+use std::alloc::{AllocError, Global};
 
-/// A bus with a new adapter and so many bytes of memory.
-pub(crate) fn new_bus(
-    alloc: Global,
-    image: &Image,
-    link: Link,
-    bytes: u64,
-    lively: bool,
-) -> Result<SoloBus, Fail> {
+/// The bytes that rings of 8 slots and 16 receive buffers need.
+pub(crate) const NEEDED: u64 = 51_200;
+
+/// The adapter's Ethernet address.
+pub(crate) const ADDRESS: [u8; 6] = [0x02, 0, 0, 0, 0, 0x01];
+
+/// Rings of 8 slots, 16 receive buffers, and no groups or VLANs.
+pub(crate) fn config() -> Config {
+    Config {
+        rx: 8,
+        tx: 8,
+        buffers: 16,
+        rxa: 48,
+        promiscuous: false,
+        groups: ArrayVec::new(),
+        vlans: None,
+    }
+}
+
+/// A lively bus with a new adapter, which has this image and this link.
+pub(crate) fn lively_bus(alloc: Global, image: &Image, link: Link) -> Result<SoloBus, AllocError> {
     let adapter = Adapter::new(alloc, image, link)?;
-    let memory = HostMemory::new(alloc, bytes)?;
-    Ok(SoloBus::new(alloc, adapter, memory, lively)?)
+    let memory = HostMemory::new(alloc, NEEDED)?;
+    SoloBus::new(alloc, adapter, memory, true)
 }
 
-/// A bus without an adapter and without memory, on which every register reads the same. It counts its reads and
-/// its writes, and keeps the last write.
+/// A lively bus on which an adapter can be brought up.
+pub(crate) fn good_bus(alloc: Global) -> Result<SoloBus, AllocError> {
+    lively_bus(alloc, &Image::with_address(ADDRESS), Link::After(1))
+}
+
+/// A bus without an adapter, and it may lie: its registers all read one value, and its descriptors are all alike. All
+/// its other bytes are ones. It keeps nothing, and counts its accesses.
 #[derive(Drop)]
-pub(crate) struct FixedBus {
-    answer: u32,
+pub(crate) struct FakeBus {
+    register: u32,
+    descriptor: [u8; 16],
+    /// How many registers were read.
     pub(crate) reads: u32,
+    /// How many were written.
     pub(crate) writes: u32,
-    /// Where the last write went.
-    pub(crate) offset: u32,
-    /// What the last write gave.
-    pub(crate) value: u32,
+    /// How many accesses of memory there were.
+    pub(crate) moves: u32,
 }
 
-impl FixedBus {
+impl FakeBus {
     /// A bus that had no access.
-    pub(crate) fn new(answer: u32) -> FixedBus {
-        FixedBus {
-            answer,
+    pub(crate) fn new(register: u32, descriptor: [u8; 16]) -> FakeBus {
+        FakeBus {
+            register,
+            descriptor,
             reads: 0,
             writes: 0,
-            offset: 0,
-            value: 0,
+            moves: 0,
         }
     }
 }
 
-impl Bus for FixedBus {
+impl Bus for FakeBus {
     ghost use Rattle.std.specs.Prelude.{⊤, []};
     ghost use Rattle.adapter.specs.Registers.{new_adapter};
     ghost use Rattle.mdic_phy.specs.declared.phy.Link.TheVariants.{Never};
 
-    ghost extent = { λ bus. 0 };
+    ghost extent = { λ bus. 51200 };
 
     ghost honest = { λ bus. ⊥ };
 
@@ -77,21 +96,27 @@ impl Bus for FixedBus {
     ghost sized = { λ bus honest. absurd honest };
 
     fn size(&self) -> u64 {
-        0
+        NEEDED
     }
 
     fn read(&mut self, _offset: u32) -> u32 {
         self.reads = self.reads.saturating_add(1);
-        self.answer
+        self.register
     }
 
-    fn write(&mut self, offset: u32, value: u32) {
+    fn write(&mut self, _offset: u32, _value: u32) {
         self.writes = self.writes.saturating_add(1);
-        self.offset = offset;
-        self.value = value;
     }
 
-    fn load(&mut self, _address: u64, _into: &mut [u8]) {}
+    fn load(&mut self, _address: u64, into: &mut [u8]) {
+        self.moves = self.moves.saturating_add(1);
+        into.fill(0xFF);
+        if into.len() == self.descriptor.len() {
+            into.copy_from_slice(&self.descriptor);
+        }
+    }
 
-    fn store(&mut self, _address: u64, _bytes: &[u8]) {}
+    fn store(&mut self, _address: u64, _bytes: &[u8]) {
+        self.moves = self.moves.saturating_add(1);
+    }
 }

@@ -1,130 +1,113 @@
-//! Worked examples of bring-up over a lively bus, and over buses whose registers all read one value.
+//! Bring-up over a lively bus, and over buses without an adapter, whose registers all read one value.
 
-use crate::fixtures::{ADDRESS, NEEDED, config, good_bus, new_bus};
-use crate::schedule::{Act, Rig};
+use crate::buses::{ADDRESS, FakeBus, NEEDED, config, good_bus, lively_bus};
 use adapter::Adapter;
 use adapter::offsets::*;
 use arrayvec::ArrayVec;
-use bring_up::{Config, InitError};
+use bring_up::{
+    Config, InitError, await_link, drivers_begin_at_rest, negotiate, read_image, writes_configure,
+};
 use bus::{Bus, HonestBus};
 use dma_memory::HostMemory;
 use driver::Driver;
 use eeprom::Image;
 use mdic_phy::Link;
+use packet_socket::{Host, SocketKind};
 use solo_bus::SoloBus;
 use std::alloc::Global;
 use std::process::Abort;
 use std::test::Fail;
 
-/// What a driver tells, and what registers read, once an adapter is brought up with [`config`], but for its
-/// address.
-const BROUGHT_UP: [Act; 24] = [
-    Act::Received(0, 0, 7, 0),
-    Act::Sending(0),
-    Act::Missed(0, true),
-    Act::Needs(NEEDED),
-    Act::Read(RDLEN, 128),
-    Act::Read(TDLEN, 128),
-    Act::Read(RDBAL, 0),
-    Act::Read(RDBAH, 0),
-    Act::Read(TDBAL, 0x80),
-    Act::Read(TDBAH, 0),
-    Act::Read(RDH, 0),
-    Act::Read(RDT, 7),
-    Act::Read(TDH, 0),
-    Act::Read(TDT, 0),
-    Act::Read(RCTL, 0x0400_8002),
-    Act::Read(TCTL, 0x0004_00FA),
-    Act::Read(CTRL, 0x0000_0060),
-    Act::Read(STATUS, 0x0000_0083),
-    Act::Read(PBA, 0x0010_0030),
-    Act::Read(RAL, 0x0000_0002),
-    Act::Read(RAL + 8, 0),
-    Act::Read(RAL + 12, 0),
+/// What registers read once an adapter is brought up with [`config`], but for its address.
+const BROUGHT_UP: [(u32, u32); 20] = [
+    (RDLEN, 128),
+    (TDLEN, 128),
+    (RDBAL, 0),
+    (RDBAH, 0),
+    (TDBAL, 0x80),
+    (TDBAH, 0),
+    (RDH, 0),
+    (RDT, 7),
+    (TDH, 0),
+    (TDT, 0),
+    (RCTL, 0x0400_8002),
+    (TCTL, 0x0004_00FA),
+    (CTRL, 0x0000_0060),
+    (STATUS, 0x0000_0083),
+    (PBA, 0x0010_0030),
+    (VET, 0x0000_8100),
+    (RAL, 0x0000_0002),
+    (RAL + 8, 0),
     // The link's coming is recorded, and not in the mask: the interrupt line is off.
-    Act::Read(ICR, 0x04),
-    Act::Read(IMS, 0xD1),
+    (ICR, 0x04),
+    (IMS, 0xD1),
 ];
 
 /// Why an adapter can't be brought up, if so.
-fn error_of<B: Bus>(alloc: Global, bus: &mut B, config: &Config) -> Option<InitError> {
-    Driver::init(alloc, bus, config).err()
+fn error_of<B: Bus>(alloc: Global, bus: &mut B) -> Option<InitError> {
+    Driver::init(alloc, bus, &config()).err()
 }
 
-/// Tries to bring an adapter up. It is refused so, behind so many accesses, or not at all.
-fn attempt(
-    rt: &impl Abort,
-    alloc: Global,
-    bus: &mut SoloBus,
-    config: &Config,
-    want: Option<(InitError, u64)>,
-) {
-    let before = bus.accesses();
-    let error = error_of(alloc, bus, config);
-    let accesses = bus.accesses().wrapping_sub(before);
-    assert_eq!(rt; error.map(|error| (error, accesses)), want);
-}
-
-/// Tries to bring an adapter up, once.
-fn attempt_on(rt: &impl Abort, alloc: Global, mut bus: SoloBus, want: Option<(InitError, u64)>) {
-    attempt(rt, alloc, &mut bus, &config(), want);
-}
-
-/// Brings up an adapter whose address has this last byte, and asserts what registers read, this among them.
-fn check_registers(rt: &impl Abort, alloc: Global, last: u8, high: u32) -> Result<(), Fail> {
-    let image = Image::with_address([0x02, 0, 0, 0, 0, last]);
-    let bus = new_bus(alloc, &image, Link::After(1), NEEDED)?;
-    play_on(rt, alloc, bus, &BROUGHT_UP, &[Act::Read(RAL + 4, high)])
-}
-
-/// Brings an adapter up on this bus, and plays two schedules.
-fn play_on(
-    rt: &impl Abort,
-    alloc: Global,
-    bus: SoloBus,
-    first: &[Act],
-    later: &[Act],
-) -> Result<(), Fail> {
-    let mut rig = Rig::init(alloc, bus, &config(), false)?;
-    rig.play(rt, first);
-    rig.play(rt, later);
-    Ok(())
+/// Asserts what registers read.
+fn check(rt: &impl Abort, bus: &mut SoloBus, registers: &[(u32, u32)]) {
+    for (offset, wanted) in registers {
+        let answer = bus.read(*offset);
+        assert_eq!(rt; answer, *wanted, "at {offset:#06X}");
+    }
 }
 
 #[test]
 fn registers_stand_as_brought_up(rt: HostRuntime) -> Result<(), Fail> {
-    check_registers(&rt, rt.alloc(), 0x01, 0x8000_0100)?;
-    check_registers(&rt, rt.alloc(), 0x02, 0x8000_0200)
+    for (last, high) in [(0x01, 0x8000_0100), (0x02, 0x8000_0200)] {
+        let image = Image::with_address([0x02, 0, 0, 0, 0, last]);
+        let mut bus = lively_bus(rt.alloc(), &image, Link::After(1))?;
+        assert!(rt; error_of(rt.alloc(), &mut bus).is_none());
+        check(&rt, &mut bus, &BROUGHT_UP);
+        check(&rt, &mut bus, &[(RAL + 4, high)]);
+    }
+    Ok(())
 }
 
-#[test]
-fn a_wrong_image_is_told(rt: HostRuntime) -> Result<(), Fail> {
+/// An image whose words add up to one more than they have to.
+fn wrong_image() -> Image {
     let mut words = [0; 64];
     words[0] = 0x0002;
     words[2] = 0x0100;
     words[63] = 0xB9B9;
-    // They add up to 0xBABB, one too many.
-    let image = Image::from_words(words);
-    let bus = new_bus(rt.alloc(), &image, Link::After(1), NEEDED)?;
-    // CTRL, IMC, ICR, and two accesses for each of 64 words.
-    attempt_on(&rt, rt.alloc(), bus, Some((InitError::Checksum, 3 + 128)));
+    Image::from_words(words)
+}
+
+/// Tries to bring an adapter up, and asserts why that is refused, and behind how many accesses.
+fn attempt(
+    rt: &impl Abort,
+    alloc: Global,
+    image: &Image,
+    link: Link,
+    wanted: Option<(InitError, u64)>,
+) -> Result<(), Fail> {
+    let mut bus = lively_bus(alloc, image, link)?;
+    let error = error_of(alloc, &mut bus);
+    assert_eq!(rt; error.map(|error| (error, bus.accesses())), wanted);
     Ok(())
 }
 
-/// How many accesses there are before a bring-up is refused where no link comes: the EEPROM's words are behind 131;
-/// PBA, CTRL, and two of the start of negotiation follow.
-const WITHOUT_LINK: u64 = 131 + 4 + 2000;
+/// A wrong image is told behind CTRL, IMC, ICR, and two accesses for each of 64 words.
+#[test]
+fn a_wrong_image_is_told(rt: HostRuntime) -> Result<(), Fail> {
+    let wanted = Some((InitError::Checksum, 131));
+    attempt(&rt, rt.alloc(), &wrong_image(), Link::After(1), wanted)
+}
 
+/// A link is awaited by 2,000 accesses, behind those of the image, PBA, CTRL, and two of the start of negotiation.
 #[test]
 fn links_come_in_time_or_not(rt: HostRuntime) -> Result<(), Fail> {
-    for (link, want) in [
-        (Link::Never, Some((InitError::NoLink, WITHOUT_LINK))),
-        (Link::After(2001), Some((InitError::NoLink, WITHOUT_LINK))),
+    let refused = Some((InitError::NoLink, 131 + 4 + 2000));
+    for (link, wanted) in [
+        (Link::Never, refused),
+        (Link::After(2001), refused),
         (Link::After(2000), None),
-        (Link::After(1), None),
     ] {
-        let bus = new_bus(rt.alloc(), &Image::with_address(ADDRESS), link, NEEDED)?;
-        attempt_on(&rt, rt.alloc(), bus, want);
+        attempt(&rt, rt.alloc(), &Image::with_address(ADDRESS), link, wanted)?;
     }
     Ok(())
 }
@@ -136,100 +119,95 @@ fn a_refused_allocation_is_memory(rt: HostRuntime) {
     let Ok(mut bus) = good_bus(rt.alloc()) else {
         return;
     };
-    if let Some(error) = error_of(rt.alloc(), &mut bus, &config()) {
-        assert_eq!(rt; (error, bus.accesses()), (InitError::Memory, 0));
-        attempt(&rt, rt.alloc(), &mut bus, &config(), None);
+    if let Some(error) = error_of(rt.alloc(), &mut bus) {
+        assert!(rt; error == InitError::Memory && bus.accesses() == 0);
+        assert!(rt; error_of(rt.alloc(), &mut bus).is_none());
     }
 }
 
-/// A bus without an adapter, on which every register reads the same, and which keeps nothing. It counts its
-/// accesses, and the reads of EERD among them.
-#[derive(Debug, Drop, PartialEq, Eq)]
-struct FixedBus {
-    answer: u32,
-    reads: u32,
-    eeprom_reads: u32,
-    writes: u32,
-    moves: u32,
+/// Why a host with a socket for all frames can't be made, if so.
+fn error_of_host(alloc: Global, bus: &mut SoloBus) -> Option<InitError> {
+    let mut table = ArrayVec::new();
+    let _ = table.try_push(SocketKind::All);
+    Host::new(alloc, bus, &config(), table).err()
 }
 
-impl Bus for FixedBus {
-    ghost use Rattle.std.specs.Prelude.{⊤, []};
-    ghost use Rattle.adapter.specs.Registers.{new_adapter};
-    ghost use Rattle.mdic_phy.specs.declared.phy.Link.TheVariants.{Never};
-
-    ghost extent = { λ bus. 51200 };
-
-    ghost honest = { λ bus. ⊥ };
-
-    ghost lively = { λ bus. ⊥ };
-
-    ghost world = { λ bus. record { memory = []; adapter = new_adapter [] Never } };
-
-    ghost happened = { λ a b past. ⊤ };
-
-    ghost lent_stays = { λ a b. ⊤ };
-
-    ghost stays = { λ bus. tt };
-
-    ghost joins = { λ a b c first later one two. tt };
-
-    ghost lent_stays_here = { λ bus. tt };
-
-    ghost lent_stays_on = { λ a b c one two. tt };
-
-    ghost sized = { λ bus honest. absurd honest };
-
-    fn size(&self) -> u64 {
-        NEEDED
+/// The same of a host.
+#[test]
+fn a_refused_allocation_of_a_host_is_memory(rt: HostRuntime) {
+    let Ok(mut bus) = good_bus(rt.alloc()) else {
+        return;
+    };
+    if let Some(error) = error_of_host(rt.alloc(), &mut bus) {
+        assert!(rt; error == InitError::Memory && bus.accesses() == 0);
+        assert!(rt; error_of_host(rt.alloc(), &mut bus).is_none());
     }
+}
 
-    fn read(&mut self, offset: u32) -> u32 {
-        self.reads = self.reads.saturating_add(1);
-        if offset == EERD {
-            self.eeprom_reads = self.eeprom_reads.saturating_add(1);
-        }
-        self.answer
-    }
+/// Asserts why a call on a bus without an adapter failed, and that it read and wrote so many registers.
+fn tried(
+    rt: &impl Abort,
+    bus: &FakeBus,
+    shown: Option<InitError>,
+    wanted: (Option<InitError>, u32, u32),
+) {
+    assert_eq!(rt; (shown, bus.reads, bus.writes), wanted);
+    assert!(rt; bus.moves == 0);
+}
 
-    fn write(&mut self, _offset: u32, _value: u32) {
-        self.writes = self.writes.saturating_add(1);
-    }
+/// ICR is read, and EERD for one word in vain, or once for each of 64. CTRL, IMC and EERD are written.
+#[test]
+fn registers_that_all_read_the_same_are_no_adapter(rt: HostRuntime) {
+    let timeout = InitError::EepromTimeout;
+    let mut bus = FakeBus::new(0, [0; 16]);
+    let error = error_of(rt.alloc(), &mut bus);
+    tried(&rt, &bus, error, (Some(timeout), 1 + 1000, 2 + 1));
+    let mut bus = FakeBus::new(u32::MAX, [0; 16]);
+    let error = error_of(rt.alloc(), &mut bus);
+    tried(
+        &rt,
+        &bus,
+        error,
+        (Some(InitError::Checksum), 1 + 64, 2 + 64),
+    );
+    let mut bus = FakeBus::new(0, [0; 16]);
+    let error = read_image(&mut bus).err();
+    tried(&rt, &bus, error, (Some(timeout), 1000, 1));
+}
 
-    fn load(&mut self, _address: u64, _into: &mut [u8]) {
-        self.moves = self.moves.saturating_add(1);
-    }
+/// Negotiation over registers that all read this answer: why it fails, and by how many reads and writes.
+fn negotiates(rt: &impl Abort, answer: u32, wanted: (Option<InitError>, u32, u32)) {
+    let mut bus = FakeBus::new(answer, [0; 16]);
+    let error = negotiate(&mut bus).err();
+    tried(rt, &bus, error, wanted);
+}
 
-    fn store(&mut self, _address: u64, _bytes: &[u8]) {
-        self.moves = self.moves.saturating_add(1);
+/// The same of the wait for a link.
+fn awaits(rt: &impl Abort, answer: u32, wanted: (Option<InitError>, u32, u32)) {
+    let mut bus = FakeBus::new(answer, [0; 16]);
+    let error = await_link(&mut bus).err();
+    tried(rt, &bus, error, wanted);
+}
+
+/// A command that doesn't end, or that ends in an error, is given up; and both bits of the status are asked.
+#[test]
+fn commands_of_mdic_end_or_are_given_up(rt: HostRuntime) {
+    let timeout = Some(InitError::PhyTimeout);
+    for (answer, reads) in [(0, 1000), (0x4821_0024, 1000), (0x5821_0024, 1)] {
+        negotiates(&rt, answer, (timeout, reads, 1));
+        awaits(&rt, answer, (timeout, reads, 1));
     }
+    for answer in [0x1821_0000, 0x1821_0004, 0x1821_0020] {
+        negotiates(&rt, answer, (None, 1, 1));
+        awaits(&rt, answer, (Some(InitError::NoLink), 1000, 1000));
+    }
+    awaits(&rt, 0x1821_0024, (None, 1, 1));
 }
 
 #[test]
-fn registers_that_all_read_the_same_are_no_adapter(rt: HostRuntime) {
-    // ICR is read, and EERD for one word in vain, or once for each of 64. CTRL, IMC and EERD are written.
-    for (answer, want, eeprom_reads, writes) in [
-        (0, InitError::EepromTimeout, 1000, 2 + 1),
-        (u32::MAX, InitError::Checksum, 64, 2 + 64),
-    ] {
-        let mut bus = FixedBus {
-            answer,
-            reads: 0,
-            eeprom_reads: 0,
-            writes: 0,
-            moves: 0,
-        };
-        let error = error_of(rt.alloc(), &mut bus, &config());
-        assert_eq!(rt; error, Some(want));
-        let counted = FixedBus {
-            answer,
-            reads: 1 + eeprom_reads,
-            eeprom_reads,
-            writes,
-            moves: 0,
-        };
-        assert_eq!(rt; bus, counted);
-    }
+fn laws_can_be_called(_rt: HostRuntime) {
+    writes_configure();
+    drivers_begin_at_rest();
 }
 
 #[test]

@@ -2,18 +2,12 @@
 #![tactic(auto)]
 
 #[cfg(test)]
-mod drain_tests;
+mod drains;
 #[cfg(test)]
 mod memory_tests;
 #[cfg(test)]
 mod outlet;
 #[cfg(test)]
-mod plans;
-#[cfg(test)]
 mod readme;
 #[cfg(test)]
-mod samples;
-#[cfg(test)]
-mod schedule;
-#[cfg(test)]
-mod tests;
+mod texts;

@@ -1,188 +1,137 @@
-//! Memory is refused, one allocation in each run of these tests.
+//! Memory is refused, one allocation in each run of this test.
 
 use crate::outlet::Taken;
-use crate::plans::{Change, plan};
-use crate::samples::Sample;
-use crate::schedule::{
-    A, Act, B, Comes, DATA, DONE, NOTHING, PUT, TAKE, check, check_counts, check_inside,
-    check_taken,
-};
-use adapter::Fate;
+use crate::texts::events_of;
+use adapter::StepKind;
 use network_plan::{Plan, PlanError};
-use packet_socket::RecvError;
+use scenario::Scenario;
 use stations::Tick;
 use std::alloc::{AllocError, Global};
 use std::process::Abort;
 use wire::{Counts, Event, Lan, Reply};
 
-/// Frames to b, each with a mark of its own.
-const FIRST: Sample = Sample::Behind([0x88, 0xB5, 1, 0]);
+/// Two frames go from a to b, whose socket gives the first; the second waits in b's ring. Ticks are played inside sends,
+/// an interrupt, and calls of a socket.
+const TEXT: &str = "host a 02:00:00:00:00:01 w
+host b 02:00:00:00:00:02 w
+socket b all
+send a 02000000000202000000000188b501 / txtake:a go go go txtake:a
+tick txput:a
+tick deliver:b
+send a 02000000000202000000000188b502 / go rxdata:b
+tick txtake:a
+interrupt b / rxdone:b go go txput:a
+recv b 0 / deliver:b go rxdata:b
+recv b 0 / rxdone:b go
+";
 
-const SECOND: Sample = Sample::Behind([0x88, 0xB5, 2, 0]);
+/// At each border between the events: how many accesses the one before it made, and how many of its ticks had an outcome;
+/// how many frames a has put by then, and how many b has received.
+const BORDERS: [(u64, usize, u32, u32); 10] = [
+    (0, 0, 0, 0),
+    (3, 2, 0, 0),
+    (0, 1, 1, 0),
+    (0, 1, 1, 0),
+    (4, 1, 1, 0),
+    (0, 1, 1, 0),
+    (7, 2, 2, 1),
+    (1, 2, 2, 1),
+    (0, 1, 2, 2),
+    (0, 1, 2, 2),
+];
 
-/// What is played inside an event; how many accesses that makes; and what comes of its ticks, each behind so many.
-#[derive(Clone, Copy)]
-struct Inside {
-    ticks: &'static [Tick],
-    accesses: u64,
-    came: &'static [(u64, Comes)],
+/// The plan and the events of the text, and a call of a host that isn't there, with a tick inside.
+fn prepared(alloc: Global) -> Result<(Plan, Vec<Event>), AllocError> {
+    let scenario = Scenario::read(alloc, TEXT.as_bytes()).map_err(|_| AllocError)?;
+    let mut events = events_of(alloc, scenario.commands)?;
+    let ticks = [Tick::Go, Tick::Step(1, StepKind::RxData)].to_vec(alloc)?;
+    events.push(Event::Interrupt { host: 9, ticks })?;
+    Ok((scenario.plan, events))
 }
 
-/// Two frames go from a to b, whose socket gives the first; the second waits in b's ring. Ticks are played inside a
-/// send, an interrupt, a call of a socket, and a call for a host that isn't there.
-const EVENTS: [Act; 8] = [
-    Act::Send(A, FIRST, Ok(())),
-    Act::NoHost(9),
-    Act::Send(A, SECOND, Ok(())),
-    Act::Tick(TAKE, Comes::Took),
-    Act::Tick(PUT, Comes::Put(SECOND)),
-    Act::Take(B, 1),
-    Act::Recv(B, 0, Ok(FIRST)),
-    Act::Recv(B, 0, Err(RecvError::Empty)),
-];
-
-/// What is played inside each of these events.
-const INSIDE: [Inside; 8] = [
-    Inside {
-        ticks: &[TAKE, Tick::Go, Tick::Go, Tick::Go, TAKE],
-        accesses: 3,
-        came: &[(0, Comes::Nothing), (3, Comes::Took)],
-    },
-    Inside {
-        ticks: &[PUT, Tick::Go, Tick::Deliver(B)],
-        accesses: 0,
-        came: &[
-            (0, Comes::Put(FIRST)),
-            (0, Comes::Delivered(FIRST, Fate::Stored)),
-        ],
-    },
-    Inside {
-        ticks: &[Tick::Go, DATA],
-        accesses: 4,
-        came: &[(1, Comes::Moved)],
-    },
-    Inside {
-        ticks: &[],
-        accesses: 0,
-        came: &[(0, Comes::Took)],
-    },
-    Inside {
-        ticks: &[],
-        accesses: 0,
-        came: &[(0, Comes::Put(SECOND))],
-    },
-    Inside {
-        ticks: &[DONE, Tick::Go, Tick::Go, Tick::Deliver(B)],
-        accesses: 7,
-        came: &[
-            (0, Comes::Done),
-            (2, Comes::Delivered(SECOND, Fate::Stored)),
-        ],
-    },
-    Inside {
-        ticks: &[DATA, Tick::Go, DONE],
-        accesses: 1,
-        came: &[(0, Comes::Moved), (1, Comes::Done)],
-    },
-    Inside {
-        ticks: &[DATA, Tick::Go],
-        accesses: 0,
-        came: &[(0, Comes::Nothing)],
-    },
-];
-
-/// How many frames a has put, and b has received, at each border between these events.
-const COUNTED: [(u32, u32); 9] = [
-    (0, 0),
-    (0, 0),
-    (1, 0),
-    (1, 0),
-    (1, 0),
-    (2, 0),
-    (2, 1),
-    (2, 2),
-    (2, 2),
-];
-
-/// The events.
-fn events(alloc: Global) -> Result<Vec<Event>, AllocError> {
-    let mut events = Vec::with_capacity(alloc, EVENTS.len())?;
-    for (act, inside) in EVENTS.iter().zip(&INSIDE) {
-        for event in act.event(alloc, inside.ticks)? {
-            events.push(event)?;
+/// A network, made by the second call if memory is refused in the first.
+fn new_lan(rt: &impl Abort, alloc: Global, plan: &Plan) -> Lan {
+    match Lan::new(alloc, plan) {
+        Ok(lan) => lan,
+        Err(error) => {
+            assert!(rt; error == PlanError::Memory);
+            Lan::new(alloc, plan).expect(rt, "a network is made")
         }
     }
-    Ok(events)
 }
 
-/// A plan of two hosts, and the events.
-fn prepared(alloc: Global) -> Result<(Plan, Vec<Event>), AllocError> {
-    Ok((plan(alloc, 2, Change::None)?, events(alloc)?))
-}
-
-/// Asserts the replies to the first so many events.
-fn check_replies(rt: &impl Abort, replies: &[Reply], done: usize) {
-    check(rt, replies.len() as u64, done as u64, done);
-    for (act, reply) in EVENTS.iter().zip(replies) {
-        act.check(rt, reply, done);
-    }
-    for (inside, reply) in INSIDE.iter().zip(replies) {
-        check_inside(rt, reply, inside.accesses, inside.came, done);
-    }
-}
-
-/// Asserts the replies and the counts at the border behind so many events.
+/// Asserts what was counted of both hosts behind so many events, to which there are so many replies.
 fn check_border(rt: &impl Abort, lan: &Lan, replies: &[Reply], done: usize) {
-    check_replies(rt, replies, done);
-    let (transmitted, received) = COUNTED.get(done).copied().unwrap_or_default();
-    let of_a = Counts {
-        transmitted,
-        ..NOTHING
-    };
-    let of_b = Counts {
+    assert!(rt; replies.len() == done);
+    let (_, _, put, received) = BORDERS.get(done).copied().unwrap_or_default();
+    let counts = |transmitted, received| Counts {
+        missed: 0,
+        exact: true,
+        without_descriptor: 0,
         received,
-        ..NOTHING
+        transmitted,
+        unclaimed: 0,
     };
-    check_counts(rt, lan, A, Some(of_a), done);
-    check_counts(rt, lan, B, Some(of_b), done);
+    assert!(rt; lan.counts(0) == Some(counts(put, 0)), "behind {done}");
+    assert!(rt; lan.counts(1) == Some(counts(0, received)), "behind {done}");
 }
 
-/// Asserts what both hosts hold behind the events: a has to handle that it sent, and b that the second frame came,
-/// which its socket gives then. Room for that may be refused too, and then nothing is asserted.
-fn check_held(rt: &impl Abort, alloc: Global, lan: &mut Lan) {
-    if let Ok(mut taken) = Taken::with_room(alloc, lan.drain_room(A)) {
-        check(rt, lan.drain(A, &mut taken), 1, EVENTS.len());
-        check_taken(rt, &taken, &[], EVENTS.len());
+/// Runs the events, and where memory is refused those that weren't done once more.
+fn run_all(rt: &impl Abort, alloc: Global, lan: &mut Lan, events: &[Event]) -> Vec<Reply> {
+    let mut replies = Vec::new(alloc);
+    if let Err(stopped) = lan.run(alloc, events, &mut replies) {
+        assert!(rt; stopped.done < events.len());
+        check_border(rt, lan, &replies, stopped.done);
+        let rest = lan.run(alloc, &events[stopped.done..], &mut replies);
+        assert!(rt; rest.is_ok());
     }
-    if let Ok(mut taken) = Taken::with_room(alloc, lan.drain_room(B)) {
-        check(rt, lan.drain(B, &mut taken), 2, EVENTS.len());
-        check_taken(rt, &taken, &[(0, SECOND)], EVENTS.len());
+    check_border(rt, lan, &replies, events.len());
+    replies
+}
+
+/// Asserts that two networks replied alike, with as many accesses and outcomes as there have to be.
+fn check_replies(rt: &impl Abort, replies: &[Reply], others: &[Reply]) {
+    for ((reply, other), border) in replies.iter().zip(others).zip(&BORDERS[1..]) {
+        let outcomes = reply.outcomes.as_slice();
+        assert!(rt;
+            reply.accesses == border.0 && outcomes.len() == border.1,
+            "{border:?}"
+        );
+        assert!(rt; reply.answer == other.answer && reply.accesses == other.accesses);
+        assert!(rt; outcomes == other.outcomes.as_slice());
     }
 }
 
-/// Want of memory is the one refusal that is allowed here, so that each allocation can be made to fail in turn. A
-/// network can be made behind it, and the events that weren't done can be run. What the hosts hold then is as if
-/// nothing had been refused.
+/// Asserts how many frames a host gives when it is drained, and by how many steps. Room for them may be refused, too, and
+/// then nothing is asserted.
+fn check_held(
+    rt: &impl Abort,
+    alloc: Global,
+    lan: &mut Lan,
+    host: usize,
+    frames: usize,
+    steps: u64,
+) {
+    if let Ok(mut taken) = Taken::with_room(alloc, lan.drain_room(host)) {
+        assert!(rt; lan.drain(host, &mut taken) == steps);
+        assert!(rt; taken.list.len() == frames);
+    }
+}
+
+/// Want of memory is the one refusal that is allowed here, so that each allocation can be made to fail in turn. A network
+/// can be made behind it, and the events that weren't done can be run: all is as in another network, in which nothing is
+/// refused then. a has to handle that it sent, and b has the second frame.
 #[test]
 fn a_refused_allocation_is_memory(rt: HostRuntime) {
     let alloc = rt.alloc();
     let Ok((plan, events)) = prepared(alloc) else {
         return;
     };
-    let mut lan = match Lan::new(alloc, &plan) {
-        Ok(lan) => lan,
-        Err(error) => {
-            assert_eq!(rt; error, PlanError::Memory);
-            Lan::new(alloc, &plan).expect(&rt, "a network is made")
-        }
-    };
-    let mut replies = Vec::new(alloc);
-    if let Err(stopped) = lan.run(alloc, &events, &mut replies) {
-        assert!(rt; stopped.done < events.len());
-        check_border(&rt, &lan, &replies, stopped.done);
-        let rest = lan.run(alloc, &events[stopped.done..], &mut replies);
-        assert!(rt; rest.is_ok());
-    }
-    check_border(&rt, &lan, &replies, events.len());
-    check_held(&rt, alloc, &mut lan);
+    let mut lan = new_lan(&rt, alloc, &plan);
+    let replies = run_all(&rt, alloc, &mut lan, &events);
+    let mut other = new_lan(&rt, alloc, &plan);
+    let others = run_all(&rt, alloc, &mut other, &events);
+    check_replies(&rt, &replies, &others);
+    check_held(&rt, alloc, &mut lan, 0, 0, 1);
+    check_held(&rt, alloc, &mut lan, 1, 1, 2);
 }

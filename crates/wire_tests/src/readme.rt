@@ -1,7 +1,7 @@
 //! The code of READMEs, word for word.
 
 use crate::outlet::Taken;
-use crate::plans::{Change, plan};
+use crate::texts::two_hosts;
 use adapter::offsets::EERD;
 use adapter::{Adapter, StepKind};
 use arrayvec::ArrayVec;
@@ -19,7 +19,7 @@ use wire::{Answer, Event, Lan, bring_up};
 #[test]
 fn the_code_of_the_readme_of_wire(rt: HostRuntime) -> Result<(), Fail> {
     // Hosts 0 and 1 on one wire, each with a socket for all frames.
-    let plan = plan(rt.alloc(), 2, Change::None)?;
+    let plan = two_hosts(rt.alloc())?;
     let mut lan = Lan::new(rt.alloc(), &plan)?;
     // A frame of host 0 is delivered to host 1, whose adapter finishes it just before its handler reads ICR.
     let frame = [0xFF; 60]; // to all
@@ -62,7 +62,7 @@ fn the_code_of_the_readme_of_wire(rt: HostRuntime) -> Result<(), Fail> {
 #[test]
 fn the_code_of_the_readme_of_wire_where_hosts_are_brought_up(rt: HostRuntime) -> Result<(), Fail> {
     // Hosts 0 and 1 on one wire.
-    let plan = plan(rt.alloc(), 2, Change::None)?;
+    let plan = two_hosts(rt.alloc())?;
     plan.check()?;
     let (hosts, stations) = bring_up(rt.alloc(), &plan)?;
     assert_eq!(rt; (hosts.len(), stations.len()), (2, 2));

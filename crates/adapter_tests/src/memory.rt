@@ -1,0 +1,44 @@
+//! Memory that may be refused, and the texts of refusals.
+
+use dma_memory::{HostMemory, LayoutError, OutOfRange, Pool};
+use std::process::Abort;
+use std::test::Fail;
+
+/// Asserts that a text is as it has to be.
+fn same(rt: &impl Abort, shown: &str, wanted: &str) {
+    assert!(rt; shown == wanted, "{shown}");
+}
+
+/// A refused allocation is the one failure that is allowed here, so that each can be made to fail in turn.
+#[test]
+fn a_new_memory_is_zeros(rt: HostRuntime) {
+    if let Ok(memory) = HostMemory::new(rt.alloc(), 51_200) {
+        assert!(rt; memory.size() == 51_200);
+        assert!(rt; memory.view(51_196, 4) == Ok([0; 4].as_slice()));
+    }
+}
+
+/// A refused allocation is the one failure that is allowed here, too.
+#[test]
+fn a_new_pool_has_all_numbers(rt: HostRuntime) {
+    if let Ok(pool) = Pool::new(rt.alloc(), u16::MAX) {
+        assert!(rt; pool.len() == u16::MAX);
+    }
+}
+
+#[test]
+fn texts_of_refusals(rt: HostRuntime) -> Result<(), Fail> {
+    let alloc = rt.alloc();
+    same(
+        &rt,
+        format!(in alloc; "{OutOfRange}")?.as_str(),
+        "E1 OutOfRange",
+    );
+    for (error, wanted) in [
+        (LayoutError::RingSize, "E2 RingSize"),
+        (LayoutError::BufferCount, "E3 BufferCount"),
+    ] {
+        same(&rt, format!(in alloc; "{error}")?.as_str(), wanted);
+    }
+    Ok(())
+}

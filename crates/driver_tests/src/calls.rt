@@ -1,0 +1,190 @@
+//! A driver's interrupts and sends: over its adapter, and over a device that lies. There each call ends, no buffer is lost,
+//! and what can't be a frame is handed to nobody.
+
+use crate::buses::{FakeBus, config, good_bus};
+use adapter::StepKind;
+use adapter::offsets::ICS;
+use bring_up::InitError;
+use bus::{Bus, HonestBus};
+use dma_memory::BufId;
+use driver::{Driver, Handled, Received, Receiver, SendError};
+use packet_socket::RecvError;
+use solo_bus::SoloBus;
+use std::process::Abort;
+use std::test::Fail;
+
+/// Counts the frames that it is shown and their bytes. It may keep the first, and gives the buffers of all others back.
+#[derive(Drop)]
+struct Keeper {
+    keeps: bool,
+    first: Option<Received>,
+    frames: u32,
+    bytes: u32,
+}
+
+impl Receiver for Keeper {
+    ghost use Rattle.std.specs.Prelude.{⊤};
+
+    ghost took = { λ old new shown kept. ⊤ };
+
+    fn take(&mut self, received: Received) -> Option<BufId> {
+        self.frames = self.frames.saturating_add(1);
+        self.bytes = self.bytes.saturating_add(u32::from(received.length));
+        if !self.keeps || self.first.is_some() {
+            return Some(received.buffer);
+        }
+        self.first = Some(received);
+        None
+    }
+
+    ghost stays = { λ receiver. tt };
+
+    ghost joins = { λ a b c shown kept later more one two. tt };
+}
+
+/// A keeper that was shown nothing.
+fn new_keeper(keeps: bool) -> Keeper {
+    Keeper {
+        keeps,
+        first: None,
+        frames: 0,
+        bytes: 0,
+    }
+}
+
+/// Handles an interrupt, and asserts what it answers.
+fn interrupt<B: Bus>(
+    rt: &impl Abort,
+    driver: &mut Driver,
+    bus: &mut B,
+    keeper: &mut Keeper,
+    wanted: Handled,
+) {
+    assert!(rt; driver.layout().size() <= bus.size());
+    let handled = driver.interrupt(bus, keeper);
+    assert_eq!(rt; handled, wanted);
+}
+
+/// Handles an interrupt, and asserts what it answers, by how many accesses.
+fn interrupt_by(
+    rt: &impl Abort,
+    driver: &mut Driver,
+    bus: &mut SoloBus,
+    wanted: Handled,
+    accesses: u64,
+) {
+    let before = bus.accesses();
+    interrupt(rt, driver, bus, &mut new_keeper(false), wanted);
+    assert_eq!(rt; bus.accesses().wrapping_sub(before), accesses);
+}
+
+/// For a cause of which the driver doesn't ask, as that the link came up, ICR is read, and nothing else. No call of the
+/// handler brings another.
+#[test]
+fn interrupts_are_the_drivers_or_not(rt: HostRuntime) -> Result<(), Fail> {
+    let mut bus = good_bus(rt.alloc())?;
+    let mut driver = Driver::init(rt.alloc(), &mut bus, &config())?;
+    bus.write(ICS, 0x0000_0004);
+    interrupt_by(&rt, &mut driver, &mut bus, Handled::NotMine, 1);
+    bus.arrive(&[0xFF; 70]);
+    bus.step(StepKind::RxData);
+    bus.step(StepKind::RxDone);
+    // ICR, MPC, descriptor and EtherType of the frame, the next descriptor, that of the slot that is offered, and RDT.
+    interrupt_by(&rt, &mut driver, &mut bus, Handled::Handled { taken: 1 }, 7);
+    interrupt_by(&rt, &mut driver, &mut bus, Handled::NotMine, 1);
+    Ok(())
+}
+
+/// A receive descriptor with DD and EOP, and this length.
+fn finished(length: u8) -> [u8; 16] {
+    [0, 0, 0, 0, 0, 0, 0, 0, length, 0, 0, 0, 0x03, 0, 0, 0]
+}
+
+/// Asserts what an interrupt over a device that lies left: so many frames were handed out, and so many slots were bad.
+fn handed_out(rt: &impl Abort, driver: &Driver, keeper: &Keeper, frames: u32, bad: u64) {
+    assert_eq!(rt;
+        (keeper.frames, keeper.bytes, driver.bad()),
+        (frames, 60 * frames, bad)
+    );
+    assert!(rt; driver.receiving() == 7);
+}
+
+/// Registers are all ones, so that MPC is at its greatest, and every descriptor is done for ever: each of seven slots is
+/// taken once. Ones have errors, too, and a length that no frame has.
+#[test]
+fn lengths_that_no_frame_has_are_bad(rt: HostRuntime) -> Result<(), Fail> {
+    let mut bus = good_bus(rt.alloc())?;
+    let mut driver = Driver::init(rt.alloc(), &mut bus, &config())?;
+    let mut keeper = new_keeper(true);
+    for (descriptor, frames, bad) in [
+        ([0xFF; 16], 0, 7),
+        (finished(0), 0, 14),
+        (finished(59), 0, 21),
+        (finished(60), 7, 21),
+        (finished(60), 14, 21),
+    ] {
+        let mut lying = FakeBus::new(u32::MAX, descriptor);
+        let handled = Handled::Handled { taken: 7 };
+        interrupt(&rt, &mut driver, &mut lying, &mut keeper, handled);
+        handed_out(&rt, &driver, &keeper, frames, bad);
+    }
+    assert_eq!(rt; driver.missed(), (5 * 0xFFFF_FFFF, false));
+    Ok(())
+}
+
+/// Sends a frame over a device whose descriptors are all this one, and asserts the answer.
+fn send(rt: &impl Abort, driver: &mut Driver, descriptor: [u8; 16], wanted: Result<(), SendError>) {
+    let mut lying = FakeBus::new(0, descriptor);
+    assert!(rt; driver.layout().size() <= lying.size());
+    let sent = driver.transmit(&mut lying, &[0xFF; 70]);
+    assert_eq!(rt; sent, wanted);
+}
+
+/// No transmit slot is ever done: the ring runs full. Or each is done for ever: then a call frees each once.
+#[test]
+fn sending_ends_where_all_or_nothing_is_done(rt: HostRuntime) -> Result<(), Fail> {
+    let mut bus = good_bus(rt.alloc())?;
+    let mut driver = Driver::init(rt.alloc(), &mut bus, &config())?;
+    for _ in 0..7 {
+        send(&rt, &mut driver, [0; 16], Ok(()));
+    }
+    send(&rt, &mut driver, [0; 16], Err(SendError::RingFull));
+    assert_eq!(rt; driver.sending(), 7);
+    send(&rt, &mut driver, [0xFF; 16], Ok(()));
+    assert_eq!(rt; driver.sending(), 1);
+    Ok(())
+}
+
+/// Asserts that a text is as it has to be.
+fn same(rt: &impl Abort, shown: &str, wanted: &str) {
+    assert!(rt; shown == wanted, "{shown}");
+}
+
+#[test]
+fn refusals_have_texts(rt: HostRuntime) -> Result<(), Fail> {
+    let alloc = rt.alloc();
+    for (error, wanted) in [
+        (InitError::Memory, "E10 Memory"),
+        (InitError::EepromTimeout, "E11 EepromTimeout"),
+        (InitError::Checksum, "E12 Checksum"),
+        (InitError::PhyTimeout, "E13 PhyTimeout"),
+        (InitError::NoLink, "E14 NoLink"),
+        (InitError::Config, "E15 Config"),
+    ] {
+        same(&rt, format!(in alloc; "{error}")?.as_str(), wanted);
+    }
+    for (error, wanted) in [
+        (SendError::TooShort, "E20 TooShort"),
+        (SendError::TooLong, "E21 TooLong"),
+        (SendError::RingFull, "E22 RingFull"),
+    ] {
+        same(&rt, format!(in alloc; "{error}")?.as_str(), wanted);
+    }
+    for (error, wanted) in [
+        (RecvError::Empty, "E30 Empty"),
+        (RecvError::NoSocket, "E31 NoSocket"),
+    ] {
+        same(&rt, format!(in alloc; "{error}")?.as_str(), wanted);
+    }
+    Ok(())
+}

@@ -1,0 +1,165 @@
+//! Traces over devices that give or take little at a time, or fail, and over the system's readers and writers.
+ghost use Rattle.std.specs.Prelude.{◌≡◌, ◌<◌};
+
+use crate::slow_devices::{SlowSink, SlowSource};
+use descriptors::Frame;
+use pcap_trace::{
+    DeviceError, ReadError, ReaderSource, RecordWriter, Sink, Source, Trace, VecSink, WriteError,
+    WriterSink, written_is_trace,
+};
+use std::alloc::Global;
+use std::io;
+use std::process::Abort;
+use std::test::Fail;
+
+/// Writes a trace of two frames of 60 bytes, which has 176 bytes.
+fn record<W: Sink>(writer: &mut RecordWriter, sink: &mut W) -> Result<(), WriteError>
+    requires { W.failures sink.old < u64.MAX }
+{
+    writer.write(sink, 0, &[0xA5; 60])?;
+    writer.write(sink, 1_000_001, &[0x5A; 60])?;
+    writer.flush(sink)
+}
+
+/// That trace.
+fn two_frames(alloc: Global) -> Result<VecSink, Fail> {
+    let mut sink = VecSink::new(alloc);
+    record(&mut RecordWriter::new(alloc)?, &mut sink)?;
+    Ok(sink)
+}
+
+/// How many frames are read from a source, or why it is refused.
+fn count<S: Source>(alloc: Global, source: &mut S) -> Result<usize, ReadError>
+    requires { S.failures source.old < u64.MAX }
+{
+    Ok(Trace::read(alloc, source)?.frames.len())
+}
+
+/// Asserts what is read from a source that gives so many bytes a read, and fails at this read.
+fn reads(
+    rt: &impl Abort,
+    alloc: Global,
+    bytes: &[u8],
+    most: usize,
+    failing: u64,
+    wanted: (Result<usize, ReadError>, u64),
+) {
+    let mut source = SlowSource {
+        bytes,
+        most,
+        failing,
+        reads: 0,
+        failures: 0,
+        limit: 1_000,
+    };
+    let answer = count(alloc, &mut source);
+    assert_eq!(rt;
+        (answer, source.failures()),
+        wanted,
+        "read {failing} of {most} bytes"
+    );
+}
+
+/// Each read in turn fails. The trace takes a read for each piece, and one more tells its end.
+#[test]
+fn each_read_fails(rt: HostRuntime) -> Result<(), Fail> {
+    let whole = two_frames(rt.alloc())?;
+    for failing in 1..=177 {
+        reads(
+            &rt,
+            rt.alloc(),
+            whole.bytes(),
+            1,
+            failing,
+            (Err(ReadError::Read), 1),
+        );
+    }
+    for (most, failing, wanted) in [
+        (1, 178, (Ok(2), 0)),
+        (7, 1, (Err(ReadError::Read), 1)),
+        (7, 27, (Err(ReadError::Read), 1)),
+        (7, 28, (Ok(2), 0)),
+        (65_536, 2, (Err(ReadError::Read), 1)),
+    ] {
+        reads(&rt, rt.alloc(), whole.bytes(), most, failing, wanted);
+    }
+    Ok(())
+}
+
+/// Each write in turn fails. What went out then is a beginning of the text: one byte less than writes.
+#[test]
+fn each_write_fails(rt: HostRuntime) -> Result<(), Fail> {
+    let whole = two_frames(rt.alloc())?;
+    for failing in 1..=177 {
+        let mut sink = SlowSink::new(rt.alloc(), failing);
+        let answer = record(&mut RecordWriter::new(rt.alloc())?, &mut sink);
+        let fails = failing <= 176;
+        assert_eq!(rt;
+            (answer.is_err(), sink.failures()),
+            (fails, u64::from(fails))
+        );
+        assert!(rt; sink.text.len() as u64 + 1 == failing && whole.bytes().starts_with(&sink.text));
+    }
+    Ok(())
+}
+
+/// A reader that fails.
+#[derive(Drop)]
+struct Broken;
+
+impl io::Read for Broken {
+    fn read(&mut self, _buf: &mut [u8]) -> io::Result<usize> {
+        Err(io::Error::from(io::ErrorKind::TimedOut))
+    }
+}
+
+#[test]
+fn readers_of_the_system(rt: HostRuntime) -> Result<(), Fail> {
+    let mut source = ReaderSource::new(Broken, 1_000);
+    assert_eq!(rt; count(rt.alloc(), &mut source), Err(ReadError::Read));
+    assert_eq!(rt; (source.failures(), source.limit()), (1, 1_000));
+    let whole = two_frames(rt.alloc())?;
+    let mut source = ReaderSource::new(whole.bytes(), 100);
+    assert_eq!(rt; count(rt.alloc(), &mut source), Ok(1));
+    assert_eq!(rt; (source.failures(), source.limit()), (0, 0));
+    Ok(())
+}
+
+/// A slice of 100 bytes takes no more.
+#[test]
+fn writers_of_the_system(rt: HostRuntime) -> Result<(), Fail> {
+    let whole = two_frames(rt.alloc())?;
+    let mut text = Vec::new(rt.alloc());
+    let mut sink = WriterSink::new(&mut text);
+    record(&mut RecordWriter::new(rt.alloc())?, &mut sink)?;
+    assert!(rt; text.as_slice() == whole.bytes());
+    let mut room = [0; 100];
+    let mut sink = WriterSink::new(&mut room[..]);
+    let answer = record(&mut RecordWriter::new(rt.alloc())?, &mut sink);
+    assert_eq!(rt; (answer, sink.failures()), (Err(WriteError::Write), 1));
+    assert!(rt; whole.bytes().starts_with(&room));
+    Ok(())
+}
+
+/// The seconds have 32 bits: their higher bits are lost. 2^64 - 1 is 18,446,744,073,709 seconds, 4,294 times 2^32 and
+/// 0xF7A0_B5ED more, and 551,615 (0x86ABF) microseconds.
+#[test]
+fn the_greatest_time(rt: HostRuntime) -> Result<(), Fail> {
+    let mut packets = Vec::new(rt.alloc());
+    packets.push((u64::MAX, Frame::from_slice(&[])))?;
+    let mut sink = VecSink::new(rt.alloc());
+    Trace::write(&mut sink, &packets)?;
+    let wanted = [
+        0xED, 0xB5, 0xA0, 0xF7, 0xBF, 0x6A, 0x08, 0, 0, 0, 0, 0, 0, 0, 0, 0,
+    ];
+    assert!(rt; sink.bytes().ends_with(&wanted) && sink.bytes().len() == 40);
+    Ok(())
+}
+
+#[test]
+fn a_device_that_failed_has_a_text_and_the_law_can_be_called(rt: HostRuntime) -> Result<(), Fail> {
+    let text = format!(in rt.alloc(); "{DeviceError}")?;
+    assert!(rt; text.as_str() == "the device failed");
+    written_is_trace();
+    Ok(())
+}

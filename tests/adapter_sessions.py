@@ -1,0 +1,256 @@
+"""Sessions of `nicbench serve` that show the adapter alone: registers, causes, EEPROM, PHY, filter, and both engines.
+
+The tables are written by hand, from the manual. A row is a request and what is answered, with IRQ lines before it.
+"""
+
+import random
+
+BASE = 0xFEB00000
+CTRL, STATUS, EERD, MDIC, VET = 0x0000, 0x0008, 0x0014, 0x0020, 0x0038
+ICR, ICS, IMS, IMC, RCTL, TCTL, PBA = 0x00C0, 0x00C8, 0x00D0, 0x00D8, 0x0100, 0x0400, 0x1000
+RDBAL, RDBAH, RDLEN, RDH, RDT = 0x2800, 0x2804, 0x2808, 0x2810, 0x2818
+TDBAL, TDBAH, TDLEN, TDH, TDT = 0x3800, 0x3804, 0x3808, 0x3810, 0x3818
+MPC, GPRC, GPTC, RNBC, MTA, RAL, RAH, VFTA = 0x4010, 0x4074, 0x4080, 0x40A0, 0x5200, 0x5400, 0x5404, 0x5600
+RESET, RECEIVE, TRANSMIT = 0x04000000, 0x8002, 0x000A
+EN, UPE, MPE, BAM, VFE = 1 << 1, 1 << 3, 1 << 4, 1 << 15, 1 << 18
+# The registers that have kept bits alone for a rule: kept bits, and the value after a reset.
+PLAIN = {
+    CTRL: (0x40000061, 0), VET: (0x0000FFFF, 0x8100), RCTL: (0x0607B33A, 0), TCTL: (0x003FFFFA, 0),
+    RDBAL: (0xFFFFFFF0, 0), RDBAH: (0xFFFFFFFF, 0), RDLEN: (0x000FFF80, 0), RDH: (0x0000FFFF, 0), RDT: (0x0000FFFF, 0),
+    TDBAL: (0xFFFFFFF0, 0), TDBAH: (0xFFFFFFFF, 0), TDLEN: (0x000FFF80, 0), TDH: (0x0000FFFF, 0), TDT: (0x0000FFFF, 0),
+    **{place: (0xFFFFFFFF, 0) for place in [*range(0x5200, 0x5400, 4), *range(0x5600, 0x5800, 4), *range(0x5408, 0x5480, 8)]},
+    **{place: (0x8000FFFF, 0) for place in range(0x540C, 0x5480, 8)},
+    RAL: (0xFFFFFFFF, 0x00000002), RAH: (0x8000FFFF, 0x80000100),
+}
+# The registers with rules of their own: the value after a reset.
+RULED = {place: 0 for place in [STATUS, EERD, MDIC, ICR, ICS, IMS, IMC, MPC, GPRC, GPTC, RNBC]} | {PBA: 0x00100030}
+BROADCAST = "ff" * 60
+
+
+def reads(offset, value, told=""):
+    return f"readl {BASE + offset:#x}", f"{told}OK 0x{value:016x}"
+
+
+def writes(offset, value, told=""):
+    return f"writel {BASE + offset:#x} {value:#x}", f"{told}OK"
+
+
+def steps(*kinds_and_outcomes):
+    return [(f"step {kind}", f"OK {outcome}") for kind, outcome in kinds_and_outcomes]
+
+
+def arrives(fate, frame=BROADCAST):
+    return f"arrive {frame}", f"OK {fate}"
+
+
+def stores(address, data):
+    return f"write {address:#x} {len(data) // 2} 0x{data}", "OK"
+
+
+def loads(address, data):
+    return f"read {address:#x} {len(data) // 2}", f"OK 0x{data}"
+
+
+def registers(server):
+    """Every register at power-on, with what it kept and after a reset; no register between them."""
+    places = range(0, 0x5810, 4)
+    server.talks("adapter: registers at power-on", [reads(place, PLAIN[place][1] if place in PLAIN else RULED.get(place, 0)) for place in places])
+    words = random.Random(0)
+    rows = []
+    for place, (kept, _) in PLAIN.items():
+        for word in (words.getrandbits(32), 0xFFFFFFFF):
+            word &= ~RESET if place == CTRL else 0xFFFFFFFF
+            rows += [writes(place, word), reads(place, word & kept)]
+    server.talks("adapter: registers read what they kept", [*rows, writes(CTRL, RESET), *(reads(place, reset) for place, (_, reset) in PLAIN.items())])
+    none = [place for place in places if place not in PLAIN and place not in RULED] + [0x3FFC, 0x1FFFC]
+    server.talks("adapter: no register", [row for place in none for row in (writes(place, words.getrandbits(32)), reads(place, 0))])
+    server.talks("adapter: kept bits of control registers", [row for place, word, kept in [
+        (CTRL, 0xFBFFFFFF, 0x40000061), (RCTL, 0xFFFFFFFF, 0x0607B33A), (PBA, 6, 0x003A0006), (PBA, 7, 0x003A0006), (PBA, 50, 0x003A0006),
+        (PBA, 0, 0x003A0006), (PBA, 0xABCD0030, 0x00100030), (PBA, 2, 0x003E0002)] for row in (writes(place, word), reads(place, kept))])
+    server.talks("adapter: a reset leaves packet buffer and PHY", [
+        writes(PBA, 6), writes(VET, 0x1234), writes(IMS, 0xFFFFFFFF), writes(ICS, 0xFFFFFFFF, "IRQ raise 0\n"), writes(EERD, 0x201),
+        writes(MDIC, 0x04201200), *steps(("phy", "ticked")), writes(MDIC, 0x08210000), writes(CTRL, 0xFFFFFFFF, "IRQ lower 0\n"), reads(CTRL, 0),
+        reads(PBA, 0x003A0006), reads(VET, 0x8100), reads(IMS, 0), reads(ICR, 0), reads(EERD, 0), reads(MDIC, 0),
+        *steps(("eeprom", "nothing"), ("phy", "ticked")), reads(STATUS, 0), writes(CTRL, 0x40), reads(STATUS, 0x83), reads(ICR, 0x4)])
+
+
+def causes(server):
+    """Causes and their mask are set and cleared by ones, and the interrupt line follows both."""
+    server.talks("adapter: mask and causes", [
+        writes(IMS, 0xFFFFFFFF), reads(IMS, 0x2D7), writes(IMC, 0x40), reads(IMS, 0x297), reads(IMC, 0), writes(ICS, 0x84, "IRQ raise 0\n"), reads(ICS, 0),
+        writes(ICR, 0x04), reads(ICR, 0x80, "IRQ lower 0\n"), reads(ICR, 0)])
+    server.talks("adapter: the interrupt line", [
+        writes(ICS, 0x84), ("line", "OK 0x0000000000000000"), writes(IMS, 0x80, "IRQ raise 0\n"), ("line", "OK 0x0000000000000001"),
+        reads(ICR, 0x84, "IRQ lower 0\n"), reads(ICR, 0), ("line", "OK 0x0000000000000000"), writes(ICS, 0x80, "IRQ raise 0\n"),
+        writes(IMC, 0x80, "IRQ lower 0\n"), reads(ICR, 0x80)])
+
+
+def eeprom(server):
+    """Words of the EEPROM, of which 64 add up to 0xBABA; a later request replaces one that is pending, and a write without START is none."""
+    ticked, nothing = steps(("eeprom", "ticked"), ("eeprom", "nothing"))
+    rows = [nothing]
+    for written, pending, word in [([0x201], 0x200, 0x01000210), ([0x4001], 0x4000, 0xFFFF4010), ([0x0001, 0x0201], 0x200, 0x01000210),
+                                   ([0x0001, 0x0201, 0x3F00], 0x200, 0x01000210)]:
+        rows += [*(writes(EERD, one) for one in written), reads(EERD, pending), ticked, reads(EERD, word), nothing, reads(EERD, word)]
+    server.talks("adapter: words of the EEPROM", rows)
+    for address, words in [("02:00:00:00:00:01", {0: 0x0002, 2: 0x0100, 63: 0xB9B8}), ("02:00:00:00:00:02", {0: 0x0002, 2: 0x0200, 63: 0xB8B8}),
+                           ("02:1b:21:3c:4d:fe", {0: 0x1B02, 1: 0x3C21, 2: 0xFE4D, 63: 0x654A})]:
+        server.check(f"adapter: the words of {address} add up", sum(words.values()) & 0xFFFF, 0xBABA)
+        whole = {**{place: 0 for place in range(64)}, **words, 64: 0xFFFF, 255: 0xFFFF}
+        server.talks(f"adapter: the EEPROM of {address}", [
+            row for place, word in whole.items() for row in (writes(EERD, place << 8 | 1), ticked, reads(EERD, word << 16 | place << 8 | 0x10))],
+            "--address", address)
+
+
+def command(written, answered, causes_after=0):
+    """A command of MDIC, which a tick ends."""
+    return [writes(MDIC, written), reads(MDIC, written & ~0x10000000), *steps(("phy", "ticked")), reads(MDIC, answered), reads(ICR, causes_after)]
+
+
+def phy(server):
+    """MDIC's commands, negotiation, the link and its latch."""
+    server.talks("adapter: commands of MDIC", [row for words in [
+        (0x08410000, 0x58410000), (0x08220000, 0x18220141), (0x08230000, 0x18230C20), (0x28210000, 0x38210000, 0x200), (0x08200000, 0x18201000),
+        (0x0824FFFF, 0x18240000)] for row in command(*words)])
+    server.talks("adapter: a write of MDIC without a command", [
+        writes(MDIC, 0x04201200), writes(MDIC, 0xF2211234), reads(MDIC, 0x22211234), *steps(("phy", "nothing")), reads(MDIC, 0x22211234)])
+    server.talks("adapter: the link comes up", [
+        writes(CTRL, 0x60), *steps(("phy", "nothing")), *command(0x04201200, 0x14201200), reads(STATUS, 0), *steps(("phy", "ticked")), reads(ICR, 0x4),
+        *command(0x08210000, 0x18210020), *command(0x08210000, 0x18210024), reads(STATUS, 0x83), *steps(("phy", "nothing")), writes(CTRL, 0x20),
+        reads(STATUS, 0)])
+    server.talks("adapter: negotiation begins and ends", [
+        *command(0x04201200, 0x14201200), *command(0x08210000, 0x18210000), *steps(("phy", "ticked"), ("phy", "nothing")), reads(ICR, 4),
+        *command(0x08210000, 0x18210024), *command(0x04200200, 0x14200200), *command(0x08200000, 0x18200000), *command(0x08210000, 0x18210024),
+        *command(0x04209200, 0x14209200), *command(0x08200000, 0x18201000), *command(0x08210000, 0x18210000), *steps(("phy", "nothing"))], "--link", "2")
+    server.talks("adapter: a link that never comes up", [
+        writes(CTRL, 0x40), *command(0x04201200, 0x14201200), *steps(("phy", "nothing")), *command(0x08210000, 0x18210000), reads(STATUS, 0)], "--link", "never")
+
+
+def to(destination, behind="08000000"):
+    """A frame of 60 bytes with this destination, and with these bytes from 12 on."""
+    return f"{destination}{'00' * 6}{behind}".ljust(120, "0")
+
+
+def fate(passes, destination, behind="08000000"):
+    return arrives("stored" if passes else "filtered", to(destination, behind))
+
+
+def filters(server):
+    """The receive filter: exact addresses, the group table by each of its offsets, modes, and VLANs."""
+    groups = {0x341: 0, 0x682: 1, 0xD04: 2, 0x412: 3}
+    for bit in groups:
+        server.talks(f"adapter: number {bit:#x} of the group table", [
+            writes(MTA + bit // 32 * 4, 1 << bit % 32),
+            *(row for place, offset in groups.items() for row in (writes(RCTL, EN | offset << 12), fate(place == bit, "010000001234"), fate(False, "010000003412")))])
+    server.talks("adapter: the first and the last number of the group table", [
+        writes(RCTL, EN), writes(MTA, 1), writes(MTA + 508, 1 << 31), fate(True, "010000000000"), fate(True, "01000000f0ff"), fate(False, "010000001000")])
+    server.talks("adapter: the group table is asked for groups alone", [
+        writes(RCTL, EN), writes(MTA, 1 << 16), reads(MTA, 1 << 16), fate(True, "01005e000001"), fate(True, "01005f000001"), fate(False, "01005e000002"),
+        fate(False, "02005e000001"), fate(False, "ffffffffffff")])
+    server.talks("adapter: an exact address is that of a valid entry", [
+        writes(RCTL, EN), writes(RAL, 0), writes(RAH, 0), fate(False, "020000000001"), writes(RAL + 15 * 8, 2), writes(RAH + 15 * 8, 0x7FFF0100),
+        reads(RAH + 15 * 8, 0x0100), fate(False, "020000000001"), writes(RAH + 15 * 8, 0x80000100), fate(True, "020000000001"),
+        fate(False, "020000000100"), fate(False, "000000020001")])
+    for mode, individual, group, broadcast in [(0, False, False, False), (UPE, True, False, False), (MPE, False, True, True), (BAM, False, False, True),
+                                               (UPE | MPE | BAM, True, True, True)]:
+        server.talks(f"adapter: the filter with {mode:#x} in RCTL", [
+            writes(RCTL, EN | mode), fate(individual, "020000000009"), fate(group, "01005e000001"), fate(broadcast, "ffffffffffff")])
+    server.talks("adapter: VLANs of tagged frames", [
+        writes(VFTA, 1 << 5), writes(VFTA + 508, 1 << 31), writes(RCTL, EN | UPE | VFE),
+        *(fate(passes, "020000000002", behind) for behind, passes in [
+            ("81000005", True), ("81000006", False), ("81002005", True), ("81000fff", True), ("81000ffe", False), ("08000006", True)]),
+        writes(VET, 0x9100), fate(True, "020000000002", "81000006"), fate(False, "020000000002", "91000006"),
+        writes(RCTL, EN | UPE), fate(True, "020000000002", "91000006")])
+
+
+# Eight receive descriptors at 0, whose buffers begin at 0x4800, and the registers of a ring of which seven are offered.
+SLOTS = [stores(16 * slot, f"00{0x48 + 8 * slot:02x}") for slot in range(8)]
+OFFERED = [writes(RDLEN, 128), writes(RDT, 7), writes(RCTL, RECEIVE)]
+RECEIVED = [arrives("stored"), *steps(("rxdata", "moved"), ("rxdone", "done"))]
+
+
+def arrivals(server):
+    """What becomes of a frame that arrives, and what is counted of it."""
+    server.talks("adapter: misses are counted", [
+        writes(PBA, 2), writes(RCTL, RECEIVE), arrives("stored"), arrives("missed"), arrives("missed"), reads(MPC, 2), reads(MPC, 0), reads(RNBC, 3),
+        reads(RNBC, 0), reads(ICR, 0x40)])
+    server.talks("adapter: the first fate that applies", [
+        arrives("off"), arrives("off", "ff" * 59), writes(RCTL, RECEIVE), arrives("illegal", "ff" * 59), arrives("illegal", "ff" * 1519),
+        arrives("filtered", "04" * 60), reads(RNBC, 0), reads(MPC, 0), reads(ICR, 0), arrives("stored"), arrives("stored", "ff" * 1518), reads(RNBC, 2)])
+
+
+def receiving(server):
+    """The receive engine, step by step."""
+    server.talks("adapter: frames go into memory", [
+        *SLOTS, *OFFERED, *steps(("rxdata", "nothing")), *RECEIVED, reads(ICR, 0x80), *RECEIVED, reads(ICR, 0x80), *RECEIVED, reads(ICR, 0x90),
+        loads(0x4800, BROADCAST + "00" * 4), loads(0, "00480000000000003c00000003000000"), reads(RDH, 3), reads(GPRC, 3), reads(GPRC, 0), reads(RNBC, 0)])
+    server.talks("adapter: one frame is in work, and a reset ends it", [
+        *SLOTS, *OFFERED, *steps(("rxdone", "nothing")), arrives("stored"), arrives("stored"), *steps(("rxdata", "moved"), ("rxdata", "nothing")),
+        writes(CTRL, RESET), *steps(("rxdone", "nothing")), *OFFERED, *steps(("rxdata", "nothing")), reads(GPRC, 0)])
+    server.talks("adapter: a missing descriptor is no miss", [
+        *SLOTS, *OFFERED, *RECEIVED * 7, reads(RDH, 7), arrives("stored"), reads(RNBC, 1), reads(MPC, 0), *steps(("rxdata", "nothing")), writes(RDT, 0),
+        *steps(("rxdata", "moved"))])
+    for tail, recorded in [(6, 0), (5, 0x10), (4, 0)]:
+        server.talks(f"adapter: half of the descriptors are free, tail {tail}", [
+            *SLOTS, *OFFERED, writes(RDT, tail), arrives("stored"), *steps(("rxdata", "moved")), reads(ICR, recorded)])
+    high = [writes(RDBAL, 0xFFFFFFF0), writes(RDBAH, 0xFFFFFFFF), writes(RDH, 1)]
+    for name, changed, size, outcome in [
+        ("none is offered", [writes(RDH, 7)], 60, "nothing"), ("it is turned off", [writes(RCTL, 0x8000)], 60, "nothing"),
+        ("the descriptor lies past 2^64", high, 60, "fault"), ("the head is no slot", [writes(RDH, 8)], 60, "fault"),
+        ("the tail is no slot", [writes(RDT, 8)], 60, "fault"), ("the descriptor lies past the memory", [writes(RDBAL, 0x100000)], 60, "fault"),
+        ("the buffer lies past the memory", [stores(0, "c4ff0f")], 61, "fault"), ("the buffer ends with the memory", [stores(0, "c4ff0f")], 60, "moved"),
+        ("buffers of another unit", [writes(RCTL, 0x02008002)], 60, "fault"), ("a buffer of 256 bytes is filled", [writes(RCTL, 0x00038002)], 256, "moved"),
+        ("a buffer of 256 bytes is too small", [writes(RCTL, 0x00038002)], 257, "fault"),
+    ]:
+        server.talks(f"adapter: a frame's place: {name}", [*SLOTS, *OFFERED, arrives("stored", "ff" * size), *changed, *steps(("rxdata", outcome))])
+    server.talks("adapter: a fault stops reception", [
+        *SLOTS, writes(RCTL, RECEIVE), writes(RDLEN, 100), writes(RDT, 1), arrives("stored"), *steps(("rxdata", "fault"), ("rxdata", "nothing")),
+        loads(0, "0048" + "00" * 14), loads(0x4800, "00" * 60), reads(RDH, 0), *OFFERED, *steps(("rxdata", "nothing")), writes(CTRL, RESET), *OFFERED,
+        arrives("stored"), *steps(("rxdata", "moved"))])
+
+
+def slot(length, told, number=0):
+    """A transmit descriptor, whose buffer is at 0x800 or 2,048 bytes on."""
+    return stores(0x80 + 16 * number, f"00{8 + 8 * number:02x}{'00' * 6}{length.to_bytes(2, 'little').hex()}00{told:02x}00000000")
+
+
+# A transmit ring of eight slots at 0x80, and buffers whose bytes are all 7.
+RING = [("memset 0x800 16384 7", "OK"), writes(TDBAL, 0x80), writes(TDLEN, 128), writes(TCTL, TRANSMIT)]
+
+
+def put(frame, told=""):
+    return "step txput", f"frame {frame}\n{told}OK put"
+
+
+def sending(server):
+    """The transmit engine, step by step."""
+    two = [*RING, slot(14, 0x0B), slot(14, 0x03, 1), writes(TDT, 2)]
+    padded = ("07" * 14).ljust(120, "0")
+    server.talks("adapter: frames are taken and put", [
+        *two, *steps(("txput", "nothing"), ("txtake", "took")), reads(ICR, 0), *steps(("txtake", "took")), reads(ICR, 2), *steps(("txtake", "nothing")),
+        reads(TDH, 2), put(padded), loads(0x8C, "01000000"), reads(ICR, 1), put(padded), loads(0x9C, "00000000"), reads(ICR, 0), reads(GPTC, 2), reads(GPTC, 0),
+        *steps(("txput", "nothing"))])
+    server.talks("adapter: a reset drops frames that were taken", [*two, *steps(("txtake", "took")), writes(CTRL, RESET), *steps(("txput", "nothing"))])
+    server.talks("adapter: four frames wait for the wire at most", [
+        *RING, *(slot(1518, 0x0B, number) for number in range(8)), writes(TDT, 7), *steps(*[("txtake", "took")] * 4, ("txtake", "nothing")), reads(TDH, 4),
+        put("07" * 1518), *steps(("txtake", "took"), ("txtake", "nothing"))])
+    server.talks("adapter: a short frame without padding", [*RING, writes(TCTL, 2), slot(14, 0x0B), writes(TDT, 1), *steps(("txtake", "took")), put("07" * 14)])
+    server.talks("adapter: it is turned off", [*RING, writes(TCTL, 8), slot(14, 0x0B), writes(TDT, 1), *steps(("txtake", "nothing"))])
+    for name, length, told, changed, outcome in [
+        ("one byte", 1, 0x01, [], "took"), ("no byte", 0, 0x01, [], "fault"), ("the longest", 1518, 0x01, [], "took"), ("1,519 bytes", 1519, 0x01, [], "fault"),
+        ("no end of a packet", 14, 0x0A, [], "fault"), ("a descriptor of another kind", 14, 0x2B, [], "fault"),
+        ("the tail is no slot", 14, 0x0B, [writes(TDT, 8)], "fault"), ("a ring of 64 bytes, which are kept as 0", 14, 0x0B, [writes(TDLEN, 64)], "fault"),
+        ("the descriptor lies past the memory", 14, 0x0B, [writes(TDBAL, 0x100000)], "fault"),
+        ("the descriptor lies past 2^64", 14, 0x0B, [writes(TDBAL, 0xFFFFFFF0), writes(TDBAH, 0xFFFFFFFF), writes(TDH, 1), writes(TDT, 2)], "fault"),
+        ("the buffer lies past the memory", 14, 0x0B, [stores(0x80, "f3ff0f")], "fault"), ("the buffer ends with the memory", 14, 0x0B,
+                                                                                          [stores(0x80, "f2ff0f")], "took"),
+    ]:
+        server.talks(f"adapter: a frame to be sent: {name}", [*RING, slot(length, told), writes(TDT, 1), *changed, *steps(("txtake", outcome))])
+    server.talks("adapter: a fault stops transmission", [
+        *two, writes(TDT, 8), *steps(("txtake", "fault")), reads(TDH, 0), writes(TDT, 2), *steps(("txtake", "nothing")), writes(CTRL, RESET), *RING[1:],
+        writes(TDT, 2), *steps(("txtake", "took"))])
+
+
+def all_cases(server):
+    for part in [registers, causes, eeprom, phy, filters, arrivals, receiving, sending]:
+        part(server)
