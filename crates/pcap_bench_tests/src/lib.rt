@@ -4,10 +4,6 @@
 #[cfg(test)]
 mod failing;
 #[cfg(test)]
-mod fixtures;
-#[cfg(test)]
-mod passing;
+mod printing;
 #[cfg(test)]
 mod readme;
-#[cfg(test)]
-mod showing;
