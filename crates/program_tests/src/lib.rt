@@ -1,4 +1,4 @@
-//! Tests of what the program is made of: its words, scenarios, traces, and the server of an adapter.
+//! Tests of the parts of the program: its command line, scenarios, traces, and the server of an adapter.
 #![tactic(auto)]
 
 #[cfg(test)]
@@ -6,7 +6,13 @@ mod command_line_readme;
 #[cfg(test)]
 mod devices;
 #[cfg(test)]
+mod failing_sinks;
+#[cfg(test)]
+mod pcap_bench_readme;
+#[cfg(test)]
 mod pcap_trace_readme;
+#[cfg(test)]
+mod printed_counts;
 #[cfg(test)]
 mod scenario_calls;
 #[cfg(test)]
