@@ -1,7 +1,7 @@
 //! The events that a command of a scenario stands for.
 ghost use Rattle.std.specs.Prelude.{◌≡◌, ◌<◌, ◌++◌, [], IfOk, OnOk, length, map};
 ghost use Rattle.eeprom.specs.Image.{address_bytes};
-ghost use Rattle.scenario.specs.SoFar.{Receives, Sends, Ticks, event_of, hosts_of};
+ghost use Rattle.scenario.specs.SoFar.{Interrupts, Receives, Sends, Ticks, event_of, hosts_of};
 ghost use Rattle.scenario_bench.specs.EventLists as lists;
 ghost use Rattle.stations.specs.declared.tick.Tick.TheVariants as ticks;
 
@@ -134,6 +134,16 @@ fn late_frame(alloc: Global, host: usize) -> Result<Vec<Tick>, AllocError>
     Ok(ticks)
 }
 
+/// An interrupt with these ticks.
+fn late_interrupt(alloc: Global, host: usize) -> Result<Event, AllocError>
+    ensures { IfOk result (λ event. event_of event ≡ Interrupts host (lists.late_frame host)) }
+{
+    Ok(Event::Interrupt {
+        host,
+        ticks: late_frame(alloc, host)?,
+    })
+}
+
 /// The event that a word draws: its low three bits choose the kind, the others the host.
 pub(crate) fn drawn(alloc: Global, plans: &[HostPlan], word: u32) -> Result<Event, AllocError>
     requires { 0 < length plans.now }
@@ -147,17 +157,14 @@ pub(crate) fn drawn(alloc: Global, plans: &[HostPlan], word: u32) -> Result<Even
 fn event_of_kind(alloc: Global, kind: u32, host: usize, image: &Image) -> Result<Event, AllocError>
     ensures { IfOk result (λ event. event_of event ≡ lists.event_of_kind kind host (address_bytes image.now)) }
 {
-    Ok(match kind {
-        0 => step(host, StepKind::TxTake),
-        1 => step(host, StepKind::TxPut),
-        2 => step(host, StepKind::RxData),
-        3 => step(host, StepKind::RxDone),
-        4 => Event::Tick(Tick::Deliver(host)),
-        5 => Event::Interrupt {
-            host,
-            ticks: late_frame(alloc, host)?,
-        },
-        6 => recv(alloc, host, 0),
-        _ => send(alloc, host, &broadcast_of(image))?,
-    })
+    match kind {
+        0 => Ok(step(host, StepKind::TxTake)),
+        1 => Ok(step(host, StepKind::TxPut)),
+        2 => Ok(step(host, StepKind::RxData)),
+        3 => Ok(step(host, StepKind::RxDone)),
+        4 => Ok(Event::Tick(Tick::Deliver(host))),
+        5 => late_interrupt(alloc, host),
+        6 => Ok(recv(alloc, host, 0)),
+        _ => send(alloc, host, &broadcast_of(image)),
+    }
 }

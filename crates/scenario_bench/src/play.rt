@@ -135,16 +135,14 @@ impl Play {
         ensures err { IfErr result IsWanting }
     {
         match command {
-            Command::Event(event) => self.run(alloc, std::slice::from_ref(event))?,
-            Command::Feed { host, trace } => {
-                if let Some(trace) = traces.get(*trace) {
-                    self.feed(alloc, plans, *host, trace)?;
-                }
-            }
-            Command::Auto { count, start } => self.draw(alloc, plans, *count, *start)?,
-            Command::Drain { host } => self.drain(alloc, *host)?,
+            Command::Event(event) => self.run(alloc, std::slice::from_ref(event)),
+            Command::Feed { host, trace } => match traces.get(*trace) {
+                Some(trace) => self.feed(alloc, plans, *host, trace),
+                None => Ok(()),
+            },
+            Command::Auto { count, start } => self.draw(alloc, plans, *count, *start),
+            Command::Drain { host } => self.drain(alloc, *host),
         }
-        Ok(())
     }
 
     /// The events and drains of these commands, in order.

@@ -79,6 +79,29 @@ fn add_sockets(
     Ok(())
 }
 
+/// No frame was counted yet of so many hosts.
+#[tactic(auto, using(crate::proofs::EmptySockets::replicate_more))]
+fn no_tallies(alloc: Global, count: usize) -> Result<Vec<Tally>, AllocError>
+    ensures { IfOk result (λ tallies. tallies.items ≡ replicate count no_tally) }
+{
+    let mut tallies = Vec::new(alloc);
+    for _host in 0..count {
+        tallies.push(Tally::default())?;
+    }
+    Ok(tallies)
+}
+
+/// No socket of these hosts gave a frame yet.
+fn no_given(alloc: Global, plans: &[HostPlan]) -> Result<Vec<GivenFrames>, AllocError>
+    ensures { IfOk result (λ sockets. sockets.items ≡ empty_sockets (sockets_from 0 (hosts_of plans.now))) }
+{
+    let mut sockets = Vec::new(alloc);
+    for (number, plan) in plans.iter().enumerate() {
+        add_sockets(alloc, number, plan.sockets.len(), &mut sockets)?;
+    }
+    Ok(sockets)
+}
+
 /// A frame passed at a host.
 #[tactic(auto, using(crate::proofs::Noting::counts_there, crate::proofs::Noting::counts_nowhere))]
 fn count(hosts: &mut [Tally], host: usize, passage: Passage)
@@ -228,12 +251,8 @@ impl Record {
         ensures sockets { IfOk result
             (λ noted. noted.sockets.items ≡ empty_sockets (sockets_from 0 (hosts_of plans.now))) }
     {
-        let mut hosts = Vec::new(alloc);
-        let mut sockets = Vec::new(alloc);
-        for (number, plan) in plans.iter().enumerate() {
-            hosts.push(Tally::default())?;
-            add_sockets(alloc, number, plan.sockets.len(), &mut sockets)?;
-        }
+        let hosts = no_tallies(alloc, plans.len())?;
+        let sockets = no_given(alloc, plans)?;
         Ok(Record {
             number: 0,
             hosts,

@@ -3,7 +3,7 @@ ghost use Rattle.std.specs.Prelude.{◌≡◌};
 ghost use Rattle.scenario_bench.specs.Tallies.{counted_once};
 
 /// How many frames of a host were accepted, put and so on, each up to the greatest `u64`.
-#[derive(Clone, Copy, Debug, Default, PartialEq, Eq)]
+#[derive(Clone, Copy, Default)]
 pub(crate) struct Tally {
     pub(crate) accepted: u64,
     pub(crate) put: u64,
@@ -13,7 +13,7 @@ pub(crate) struct Tally {
 }
 
 /// What happened to a frame at a host.
-#[derive(Clone, Copy, Debug, PartialEq, Eq)]
+#[derive(Clone, Copy)]
 pub(crate) enum Passage {
     /// It was accepted.
     Accepted,
