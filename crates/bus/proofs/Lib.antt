@@ -32,3 +32,4 @@ pub mod Settings
 pub mod AdaptersAtRest
 pub mod LinkSettings
 pub mod Links
+pub mod Keeping

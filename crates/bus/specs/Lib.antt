@@ -22,3 +22,4 @@ pub mod RegisterSetting
 pub mod Settings
 pub mod AdaptersAtRest
 pub mod Link
+pub mod Keeping

@@ -1,5 +1,6 @@
 -- Transmit slots are freed over a bus, one load each.
-use Rattle.std.proofs.Common.{true, false, ◌≡◌, ◌≤◌, ◌<◌, ◌+◌, ◌-◌, ◌%◌, ◌++◌, ◌∷◌, [], ℕ, zero, suc, List, min, slice_index, map, refl}
+use Rattle.std.proofs.Common.{Bool, true, false, ◌≡◌, ◌≤◌, ◌<◌, ◌+◌, ◌-◌, ◌%◌, ◌++◌, ◌∷◌, [], ℕ, zero, suc, List, min, slice_index}
+use Rattle.std.proofs.Common.{map, refl}
 use Rattle.std.proofs.Common.{sym, ap, subst, ◌∙◌, arith}
 use Rattle.std.proofs.lemmas.List.{map-append}
 use Rattle.registers.specs.Bits.{is_set}
@@ -11,18 +12,22 @@ use Rattle.adapter.specs.Slots.{written_back}
 use Rattle.adapter.specs.World.{World}
 use Rattle.bus.specs.Law.{Acts}
 use Rattle.bus.specs.PastOfStretch.{Past, joined, nothing}
+use Rattle.bus.specs.Keeping.{Keeps}
+use Rattle.bus.specs.declared.bus.Bus.{Ghosts}
 use Rattle.bus.specs.declared.event.Access.{Access}
 use Rattle.bus.specs.declared.event.Access.TheVariants.{Loads}
-use Rattle.driver_law.proofs.Accesses.{ran_by-join, ran_by-stays}
+use Rattle.driver_law.proofs.Accesses.{ran_by-stays}
+use Rattle.driver_law.proofs.Calls.{ran-on, ready-on}
 use Rattle.driver_law.proofs.Places.{place-next}
 use Rattle.driver_law.proofs.RunsWith.{RanWith}
 use Rattle.driver_law.proofs.TransmitRuns.{run-frees, run-waits}
-use Rattle.driver_law.specs.DriverState.{DriverState, HandedOut, holding, transmit_slot, transmit_tail}
+use Rattle.driver_law.specs.DriverState.{DriverState, holding, transmit_slot, transmit_tail}
+use Rattle.driver_law.specs.Calls.{Moment, Ran, WhereUp, held_at, only}
 use Rattle.driver_law.specs.Stretches.{RanBy}
 use Rattle.driver_law.specs.ReadyDrivers.{Ready}
 use Rattle.driver_law.specs.TransmitSteps.{transmit_loads, with_freed}
 use Rattle.driver.specs.InsideDriver.{IsSending}
-use Rattle.driver.specs.SendSteps.{Reclaims, slots_looked_at, with_sending}
+use Rattle.driver.specs.SendSteps.{FreesOldest, LooksBack, Reclaims, oldest_loads, slots_looked_at, with_sending}
 
 -- How many loads.
 
@@ -101,24 +106,22 @@ waits-oldest world happened lively old new d address bytes at some clear acts re
     (run-waits world happened lively old new d bytes clear (subst (LoadsAt world happened lively old new bytes) at acts) ready)
 
 -- Some slots, and then the oldest of those that are left.
-frees-more : {B : Type 0} (world : B → World) (happened : B → B → Past → Type 0)
-    → ((a b c : B) (first later : Past) → happened a b first → happened b c later → happened a c (joined first later))
-    → (a b c : B) (d1 d2 d3 : DriverState) (k total : ℕ) → d2.counts ≡ d1.counts → d2.oldest_transmit
-    ≡ place d1.counts.tx d1.oldest_transmit k
-    → k + min d2.sending 1 ≡ total
-    → RanBy true world happened (transmit_loads d1.counts d1.oldest_transmit k) a b d1 d2 [] []
-    → RanBy true world happened (transmit_loads d2.counts d2.oldest_transmit (min d2.sending 1)) b c d2 d3 [] []
-    → RanBy true world happened (transmit_loads d1.counts d1.oldest_transmit total) a c d1 d3 [] []
-frees-more world happened joins a b c d1 d2 d3 k total counts walked sum one two =
-    let xs = transmit_loads d1.counts d1.oldest_transmit k in
-    let ys = transmit_loads d2.counts d2.oldest_transmit (min d2.sending 1) in
-    let both = ran_by-join world happened joins xs ys a b c d1 d2 d3 [] [] [] [] one two in
-    let same : xs ++ ys ≡ transmit_loads d1.counts d1.oldest_transmit total =
+frees-more : {B : Type 0} (bus : Ghosts B)
+    → ((a b c : B) (first later : Past) → bus.happened a b first → bus.happened b c later → bus.happened a c (joined first later))
+    → (a b c : Moment B) (k total : ℕ) → b.driver.counts ≡ a.driver.counts
+    → b.driver.oldest_transmit ≡ place a.driver.counts.tx a.driver.oldest_transmit k → k + min b.driver.sending 1 ≡ total
+    → Ran bus true (only (oldest_loads a.driver k)) a b → Ran bus true (only (oldest_loads b.driver (min b.driver.sending 1))) b c
+    → Ran bus true (only (oldest_loads a.driver total)) a c
+frees-more bus joins a b c k total counts walked sum one two =
+    let d1 = a.driver in
+    let d2 = b.driver in
+    let xs = oldest_loads d1 k in
+    let same : xs ++ oldest_loads d2 (min d2.sending 1) ≡ oldest_loads d1 total =
     ap (λ (other : Counts). xs ++ transmit_loads other d2.oldest_transmit (min d2.sending 1)) counts
     ∙ ap (λ (slot : ℕ). xs ++ transmit_loads d1.counts slot (min d2.sending 1)) walked
     ∙ loads-join d1.counts d1.oldest_transmit k (min d2.sending 1)
-    ∙ ap (transmit_loads d1.counts d1.oldest_transmit) sum in
-    subst (λ (accesses : List Access). RanBy true world happened accesses a c d1 d3 [] []) same both
+    ∙ ap (oldest_loads d1) sum in
+    subst (λ (accesses : List Access). Ran bus true (only accesses) a c) same (ran-on bus joins one two)
 
 -- The driver's own state as slots are freed: some of its outstanding slots are left, and the place behind them stays.
 pub record IsFreeing (d d' : DriverState) : Type 0 where
@@ -154,77 +157,54 @@ freeing-more d1 d2 d3 freeing some freed =
     }
 
 -- Some slots were freed over a bus, by one load each.
-pub record HasFreed {B : Type 0} (honest : B → Type 0) (world : B → World) (happened : B → B → Past
-    → Type 0) (old new : B) (d d' : DriverState) : Type 0 where
-  pub freeing : IsFreeing d d'
-  pub ran :
-      (held : List HandedOut) → honest old → Ready (holding held d) (world old)
-      → RanBy true world happened (transmit_loads d.counts d.oldest_transmit (d.sending - d'.sending)) old new (holding held d)
-      (holding held d') [] []
+pub record HasFreed {B : Type 0} (bus : Ghosts B) (old new : Moment B) : Type 0 where
+  pub freeing : IsFreeing old.driver new.driver
+  pub ran : WhereUp bus old new (Ran bus true (only (oldest_loads old.driver (old.driver.sending - new.driver.sending))))
 
-pub has_freed-none : {B : Type 0} (honest : B → Type 0) (world : B → World) (happened : B → B → Past → Type 0)
-    → ((b : B) → happened b b nothing) → (b : B) (d : DriverState)
-    → HasFreed honest world happened b b d d
-has_freed-none honest world happened stays b d =
+pub has_freed-none : {B : Type 0} (bus : Ghosts B) → ((b : B) → bus.happened b b nothing) → (now : Moment B) → HasFreed bus now now
+has_freed-none bus stays now =
+    let d = now.driver in
     let none : d.sending - d.sending ≡ 0 = omega arith in
     record {
       freeing = freeing-none d;
-      ran = λ held honest_b ready.
-          subst (λ (k : ℕ). RanBy true world happened (transmit_loads d.counts d.oldest_transmit k) b b (holding held d)
-          (holding held d) [] [])
-          (sym none)
-          (ran_by-stays world happened stays b (holding held d) ready);
+      ran = λ held is.
+          subst (λ (k : ℕ). Ran bus true (only (oldest_loads d k)) (held_at held now) (held_at held now)) (sym none)
+          (ran_by-stays bus.world bus.happened stays now.bus (holding held d) is.ready);
     }
 
--- What one turn does, from any state.
-abbrev pub Turns : {B : Type 0} (honest : B → Type 0) (world : B → World) (happened : B → B → Past
-    → Type 0) (old new : B) (d d' : DriverState) → Type 0
-Turns honest world happened old new d d' =
-    (held : List HandedOut) → honest old → Ready (holding held d) (world old)
-    → RanBy true world happened (transmit_loads d.counts d.oldest_transmit (min d.sending 1)) old new (holding held d)
-    (holding held d') [] []
-
 -- One more turn, and how many loads there are then.
-frees-turn : {B : Type 0} (honest : B → Type 0) (world : B → World) (happened : B → B → Past → Type 0)
-    → ((a b c : B) (first later : Past) → happened a b first → happened b c later → happened a c (joined first later))
-    → (a b c : B) (d1 d2 d3 : DriverState) (total : ℕ)
-    → (honest a → honest b) → HasFreed honest world happened a b d1 d2 → Turns honest world happened b c d2 d3
-    → d1.sending - d2.sending + min d2.sending 1 ≡ total
-    → (held : List HandedOut) → honest a → Ready (holding held d1) (world a)
-    → RanBy true world happened (transmit_loads d1.counts d1.oldest_transmit total) a c (holding held d1) (holding held d3) [] []
-frees-turn honest world happened joins a b c d1 d2 d3 total still freed turn sum held honest_a ready =
-    let before = freed.ran held honest_a ready in
-    frees-more world happened joins a b c (holding held d1) (holding held d2) (holding held d3) (d1.sending - d2.sending) total
+frees-turn : {B : Type 0} (bus : Ghosts B)
+    → ((a b c : B) (first later : Past) → bus.happened a b first → bus.happened b c later → bus.happened a c (joined first later))
+    → (a b c : Moment B) (total : ℕ) (freed : Bool) → Keeps bus a.bus b.bus → HasFreed bus a b → WhereUp bus b c (LooksBack bus freed)
+    → a.driver.sending - b.driver.sending + min b.driver.sending 1 ≡ total
+    → WhereUp bus a c (Ran bus true (only (oldest_loads a.driver total)))
+frees-turn bus joins a b c total found keeps freed turn sum held is =
+    let before = freed.ran held is in
+    frees-more bus joins (held_at held a) (held_at held b) (held_at held c) (a.driver.sending - b.driver.sending) total
     (ap (λ (d : DriverState). d.counts) freed.freeing.others) freed.freeing.walked sum before
-    (turn held (still honest_a) before.goes.flows.ready)
+    (turn held (ready-on bus _ _ keeps is before)).ran
 
-pub has_freed-more : {B : Type 0} (honest : B → Type 0) (world : B → World) (happened : B → B → Past → Type 0)
-    → ((a b c : B) (first later : Past) → happened a b first → happened b c later → happened a c (joined first later))
-    → (a b c : B) (d1 d2 d3 : DriverState)
-    → (honest a → honest b) → HasFreed honest world happened a b d1 d2 → Turns honest world happened b c d2 d3 → 0 < d2.sending
-    → d3 ≡ with_freed d2
-    → HasFreed honest world happened a c d1 d3
-has_freed-more honest world happened joins a b c d1 d2 d3 still freed turn some is =
-    let left = ap (λ (d : DriverState). d.sending) is in
+pub has_freed-more : {B : Type 0} (bus : Ghosts B)
+    → ((a b c : B) (first later : Past) → bus.happened a b first → bus.happened b c later → bus.happened a c (joined first later))
+    → (a b c : Moment B) → Keeps bus a.bus b.bus → HasFreed bus a b → WhereUp bus b c (LooksBack bus true)
+    → FreesOldest b.driver c.driver → HasFreed bus a c
+has_freed-more bus joins a b c keeps freed turn frees =
+    let left = ap (λ (d : DriverState). d.sending) frees.freed in
     record {
-      freeing = freeing-more d1 d2 d3 freed.freeing some is;
-      ran = frees-turn honest world happened joins a b c d1 d2 d3 (d1.sending - d3.sending) still freed turn
-          (omega (arith, freed.freeing.fewer, left, some));
+      freeing = freeing-more a.driver b.driver c.driver freed.freeing frees.some frees.freed;
+      ran = frees-turn bus joins a b c (a.driver.sending - c.driver.sending) true keeps freed turn
+          (omega (arith, freed.freeing.fewer, left, frees.some));
     }
 
 -- The turn that frees none is the last.
-pub has_freed-all : {B : Type 0} (honest : B → Type 0) (world : B → World) (happened : B → B → Past → Type 0)
-    → ((a b c : B) (first later : Past) → happened a b first → happened b c later → happened a c (joined first later))
-    → (a b c : B) (d1 d2 d3 : DriverState)
-    → (honest a → honest b) → HasFreed honest world happened a b d1 d2 → Turns honest world happened b c d2 d3 → d3 ≡ d2
-    → ((held : List HandedOut) → honest b → Ready (holding held d2) (world b) → written_back d3.oldest_transmit (world c) ≡ [])
-    → (held : List HandedOut) → honest a → Ready (holding held d1) (world a)
-    → Reclaims world happened a c (holding held d1) (holding held d3)
-has_freed-all honest world happened joins a b c d1 d2 d3 still freed turn is none held honest_a ready =
-    let left = ap (λ (d : DriverState). d.sending) is in
-    let before = freed.ran held honest_a ready in
+pub has_freed-all : {B : Type 0} (bus : Ghosts B)
+    → ((a b c : B) (first later : Past) → bus.happened a b first → bus.happened b c later → bus.happened a c (joined first later))
+    → (a b c : Moment B) → Keeps bus a.bus b.bus → HasFreed bus a b → WhereUp bus b c (LooksBack bus false) → c.driver ≡ b.driver
+    → WhereUp bus a c (Reclaims bus)
+has_freed-all bus joins a b c keeps freed turn still held is =
+    let left = ap (λ (d : DriverState). d.sending) still in
     record {
-      ran = frees-turn honest world happened joins a b c d1 d2 d3 (slots_looked_at d1.sending d3.sending) still freed turn
-          (omega (arith, left)) held honest_a ready;
-      none = none held (still honest_a) before.goes.flows.ready;
+      ran = frees-turn bus joins a b c (slots_looked_at a.driver.sending c.driver.sending) false keeps freed turn
+          (omega (arith, left)) held is;
+      none = (turn held (ready-on bus _ _ keeps is (freed.ran held is))).none;
     }

@@ -1,27 +1,27 @@
 -- A driver handles an interrupt: it reads MPC, takes slots, and refills.
-use Rattle.std.proofs.Common.{Bool, inl, ◌≡◌, ◌+◌, ◌++◌, ◌∷◌, [], ◌<◌, ◌^◌, ℕ, List, length, map, refl, sym, ap, subst, ◌∙◌, length-append}
+use Rattle.std.proofs.Common.{Bool, inl, ◌≡◌, ◌+◌, ◌++◌, ◌∷◌, [], ◌<◌, ◌^◌, ℕ, List, length, refl, sym, ap, subst, ◌∙◌, length-append}
 use Rattle.std.proofs.Common.{arith}
 use Rattle.std.proofs.lemmas.List.{append-nil, length-map}
 use Rattle.registers.specs.Bits.{HasBit, Meet}
 use Rattle.registers.specs.Laws.{Meet-places}
 use Rattle.descriptors.specs.RingLaws.{place}
-use Rattle.adapter.specs.Slots.{finished}
-use Rattle.adapter.specs.World.{World}
 use Rattle.bus.specs.PastOfStretch.{Past, joined}
 use Rattle.bus.specs.declared.event.Access.{Access}
 use Rattle.bus.specs.declared.event.Access.TheVariants.{Reads}
-use Rattle.driver_law.proofs.Accesses.{ran_by-join, ran_by-same}
+use Rattle.driver_law.proofs.Calls.{ran-on}
 use Rattle.driver_law.proofs.Places.{place-add}
 use Rattle.driver_law.proofs.Stretches.{flows_join, work_kept}
 use Rattle.driver_law.specs.Accesses.{last_load, stores_from, tail_write, takes_from}
+use Rattle.bus.specs.declared.bus.Bus.{Ghosts}
+use Rattle.driver_law.specs.Calls.{Moment, Ran, held_at, only}
 use Rattle.driver_law.specs.DriverState.{DriverState, HandedOut, holding, next_receive, numbers_of, with_owners}
-use Rattle.driver_law.specs.Stretches.{HasNoForgottenWork, RanBy}
+use Rattle.driver_law.specs.Stretches.{HasNoForgottenWork}
 use Rattle.driver_law.specs.RegisterReadings.{ReadsCauses, with_missed}
 use Rattle.driver.specs.HandlerSteps.{HandlesIt, Works, handled_accesses}
 use Rattle.bring_up.specs.WrittenRegisters.{handled_causes}
 use Rattle.driver.specs.RefillSteps.{Refills}
-use Rattle.driver.specs.TakenFrames.{Takes}
-use Rattle.driver.specs.declared.receiver.Received.{Received}
+use Rattle.driver.specs.TakenFrames.{Scene, Takes, TakesAll, frames_of, held_in, moment}
+use Rattle.driver.specs.declared.receiver.Receiver.{Ghosts as OfReceiver}
 
 -- RXT0 is one of its causes.
 pub handled-timer : (causes : ℕ) → causes < 2 ^ 32 → HasBit causes 7 → Meet causes handled_causes
@@ -59,18 +59,30 @@ next-same {misses} {n} d1 d2 d3 d4 numbers follows many oldest =
     ∙ sym (place-add d1.counts.rx d1.oldest_receive n (length d3.buffers + length d1.staged))
     ∙ ap (place d1.counts.rx d1.oldest_receive) sum
 
-pub works : {up : Bool} {B R : Type 0} (world : B → World) (happened : B → B → Past → Type 0) (took : R → R → List Received → List Received
-    → Type 0)
-    → ((a b c : B) (first later : Past) → happened a b first → happened b c later → happened a c (joined first later))
-    → (a b c e : B) (r s : R) (d1 d2 d3 d4 : DriverState) (misses n : ℕ) (held : List HandedOut) → Follows misses n d1 d2 d3 d4
-    → RanBy up world happened (Reads 0x4010 misses ∷ []) a b (holding held d1) (holding held d2) [] []
-    → (takes : Takes up world happened took (last_load d3.oldest_receive d3.buffers) b c r s (holding held d2) (holding held d3) n)
-    → Refills up world happened c e (holding (held ++ takes.handed_out) d3) (holding (held ++ takes.handed_out) d4)
-    → Works up world happened took a e r s (holding held d1) (holding held d4) n
-works {up} world happened took joins a b c e r s d1 d2 d3 d4 misses n held follows counts takes refills =
+-- The same, told otherwise.
+ran-same : {B : Type 0} (bus : Ghosts B) {up : Bool} {xs ys : List Access} {t1 t2 accepted : List (List ℕ)} {a b : Moment B}
+    → xs ≡ ys → t1 ≡ t2 → Ran bus up (record { accesses = xs; taken = t1; accepted = accepted }) a b
+    → Ran bus up (record { accesses = ys; taken = t2; accepted = accepted }) a b
+ran-same bus {up} {xs} {ys} {t1} {t2} {accepted} {a} {b} accesses frames ran =
+    subst (λ (list : List Access). Ran bus up (record { accesses = list; taken = t2; accepted = accepted }) a b) accesses
+    (subst (λ (list : List (List ℕ)). Ran bus up (record { accesses = xs; taken = list; accepted = accepted }) a b) frames ran)
+
+pub works : {up : Bool} {B R : Type 0} (bus : Ghosts B) (receivers : OfReceiver R)
+    → ((a b c : B) (first later : Past) → bus.happened a b first → bus.happened b c later → bus.happened a c (joined first later))
+    → (a b c e : Scene B R) (misses n : ℕ) (held : List HandedOut) → Follows misses n a.driver b.driver c.driver e.driver
+    → Ran bus up (only (Reads 0x4010 misses ∷ [])) (held_at held (moment a)) (held_at held (moment b))
+    → (takes : Takes bus receivers (last_load c.driver.oldest_receive c.driver.buffers) n up
+    (held_in held (record b { receiver = a.receiver }))
+    (held_in held (record c { receiver = e.receiver })))
+    → Refills bus up (held_at (held ++ takes.handed_out) (moment c)) (held_at (held ++ takes.handed_out) (moment e))
+    → Works bus receivers n up (held_in held a) (held_in held e)
+works {up} bus receivers joins a b c e misses n held follows counts takes refills =
+    let d1 = a.driver in
+    let d2 = b.driver in
+    let d3 = c.driver in
+    let d4 = e.driver in
     let numbers = numbers_of takes.taken in
     let xs = refills.numbers in
-    let held2 = held ++ takes.handed_out in
     let same = changed d1 d2 d3 d4 follows in
     let many : length numbers ≡ n = length-map takes.taken (λ (x : HandedOut). x.number) ∙ takes.count in
     let oldest : d1.buffers ≡ numbers ++ d3.buffers = ap (λ (d : DriverState). d.buffers) (sym follows.counted) ∙ takes.oldest in
@@ -79,10 +91,6 @@ works {up} world happened took joins a b c e r s d1 d2 d3 d4 misses n held follo
     ∙ ap (λ (d : DriverState). place d.counts.rx d2.oldest_receive n) same
     ∙ ap (λ (d : DriverState). place d1.counts.rx d.oldest_receive n) follows.counted
     ∙ ap (place d1.counts.rx d1.oldest_receive) (sym many) in
-    let two = ran_by-join world happened joins _ _ a b c (holding held d1) (holding held d2)
-    (holding held2 d3) [] _ [] [] counts takes.ran in
-    let three = ran_by-join world happened joins _ _ a c e (holding held d1) (holding held2 d3)
-    (holding held2 d4) _ [] [] [] two refills.ran in
     let tail : List Access = stores_from d3.counts (next_receive d3) xs ++ tail_write (next_receive d4) (d3.staged ++ xs) in
     let head : List Access = Reads 0x4010 misses
     ∷ (takes_from d1.counts d1.oldest_receive numbers ++ last_load (place d1.counts.rx d1.oldest_receive (length numbers)) d3.buffers)
@@ -96,6 +104,7 @@ works {up} world happened took joins a b c e r s d1 d2 d3 d4 misses n held follo
     ∙ ap (λ (d : DriverState). head ++ (stores_from d.counts (next_receive d3) xs ++ tail_write (next_receive d4) (d.staged ++ xs))) same
     ∙ ap (λ (slot : ℕ). head ++ (stores_from d1.counts slot xs ++ tail_write (next_receive d4) (d1.staged ++ xs)))
     (next-same d1 d2 d3 d4 numbers follows many oldest) in
+    let all = ran-on bus joins (ran-on bus joins counts takes.ran) refills.ran in
     record {
       misses = misses;
       taken = takes.taken;
@@ -110,26 +119,25 @@ works {up} world happened took joins a b c e r s d1 d2 d3 d4 misses n held follo
       missed = ap (λ (d : DriverState). d.missed) follows.refilled ∙ ap (λ (d : DriverState). d.missed) same;
       exact = ap (λ (d : DriverState). d.exact) follows.refilled ∙ ap (λ (d : DriverState). d.exact) same;
       bad = ap (λ (d : DriverState). d.bad) follows.refilled ∙ takes.bad ∙ ap (λ (d : DriverState). d.bad) follows.counted;
-      ran = ran_by-same world happened _ _ a e (holding held d1) (holding held2 d4) (holding held2 d4) _ _ [] accesses refl
-          (append-nil _) three;
+      ran = ran-same bus accesses (append-nil _) all;
     }
 
 -- Behind ICR, where it had a cause.
-pub handles-it : {up : Bool} {B R : Type 0} (world : B → World) (happened : B → B → Past → Type 0) (took : R → R → List Received
-    → List Received → Type 0)
-    → ((a b c : B) (first later : Past) → happened a b first → happened b c later → happened a c (joined first later))
-    → (o a b c e : B) (r s : R) (d1 d2 d3 d4 : DriverState) (causes misses n : ℕ) (held : List HandedOut) → Follows misses n d1 d2 d3 d4
+pub handles-it : {up : Bool} {B R : Type 0} (bus : Ghosts B) (receivers : OfReceiver R)
+    → ((a b c : B) (first later : Past) → bus.happened a b first → bus.happened b c later → bus.happened a c (joined first later))
+    → (o : B) (a b c e : Scene B R) (causes misses n : ℕ) (held : List HandedOut) → Follows misses n a.driver b.driver c.driver e.driver
     → Meet causes handled_causes
-    → (reads : ReadsCauses up world happened o a (holding held d1) causes)
-    → RanBy up world happened (Reads 0x4010 misses ∷ []) a b (holding held d1) (holding held d2) [] []
-    → (takes : Takes up world happened took (last_load d3.oldest_receive d3.buffers) b c r s (holding held d2) (holding held d3) n)
-    → finished d3.oldest_receive (world c) ≡ []
-    → Refills up world happened c e (holding (held ++ takes.handed_out) d3) (holding (held ++ takes.handed_out) d4)
-    → HandlesIt up world happened took o a e reads.past r s (holding held d1) (holding held d4) causes n
-handles-it {up} world happened took joins o a b c e r s d1 d2 d3 d4 causes misses n held follows some reads counts takes none refills =
+    → (reads : ReadsCauses up bus.world bus.happened o a.bus (holding held a.driver) causes)
+    → Ran bus up (only (Reads 0x4010 misses ∷ [])) (held_at held (moment a)) (held_at held (moment b))
+    → (all : TakesAll bus receivers n up (held_in held (record b { receiver = a.receiver }))
+    (held_in held (record c { receiver = e.receiver })))
+    → Refills bus up (held_at (held ++ all.takes.handed_out) (moment c)) (held_at (held ++ all.takes.handed_out) (moment e))
+    → HandlesIt bus receivers n (held_in held (record a { bus = o })) (held_in held e)
+    (record { causes = causes; behind = a.bus; reads = reads })
+handles-it {up} bus receivers joins o a b c e causes misses n held follows some reads counts taking refills =
+    let takes = taking.takes in
     let held2 = held ++ takes.handed_out in
-    let frame_of : HandedOut → List ℕ = λ x. x.frame in
-    let all = works world happened took joins a b c e r s d1 d2 d3 d4 misses n held follows counts takes refills in
+    let all = works bus receivers joins a b c e misses n held follows counts takes refills in
     record {
       some = some;
       works = all;
@@ -139,18 +147,20 @@ handles-it {up} world happened took joins o a b c e r s d1 d2 d3 d4 causes misse
             reads.flows.least,
             counts.goes.flows.least,
             takes.ran.goes.flows.least,
-            ap length none,
-            length-map takes.taken frame_of,
+            ap length taking.none_left,
+            length-map takes.taken (λ (x : HandedOut). x.frame),
             takes.count,
           );
       work = λ enabled.
           let mask = takes.ran.goes.flows.mask ∙ counts.goes.flows.mask ∙ reads.flows.mask in
-          let before : HasNoForgottenWork (holding held2 d3) (world c) = record
-          { enabled = subst (λ (m : ℕ). HasBit m 7) (sym mask) enabled; asked = inl none } in
-          let behind = work_kept (holding held2 d3) (holding held2 d4) (world c) (world e) [] [] refills.ran.past refills.ran.goes before in
+          let before : HasNoForgottenWork (holding held2 c.driver) (bus.world c.bus) = record
+          { enabled = subst (λ (m : ℕ). HasBit m 7) (sym mask) enabled; asked = inl taking.none_left } in
+          let behind = work_kept (holding held2 c.driver) (holding held2 e.driver) (bus.world c.bus) (bus.world e.bus) [] []
+          refills.ran.past refills.ran.goes before in
           record { enabled = behind.enabled; asked = behind.asked };
       flows =
-          flows_join (holding held d1) (holding held d1) (holding (held ++ all.handed_out) d4) (world o) (world a) (world e) []
-          (map frame_of all.taken) [] [] reads.past all.ran.past
+          flows_join (holding held a.driver) (holding held a.driver) (holding (held ++ all.handed_out) e.driver) (bus.world o)
+          (bus.world a.bus) (bus.world e.bus) []
+          (frames_of all.taken) [] [] reads.past all.ran.past
           reads.flows all.ran.goes.flows;
     }

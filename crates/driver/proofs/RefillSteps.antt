@@ -18,6 +18,8 @@ use Rattle.driver_law.specs.Accesses.{stores_from, tail_write}
 use Rattle.driver_law.specs.DriverState.{DriverState, HandedOut, holding, next_receive, numbers_of, owners, with_owners}
 use Rattle.driver_law.specs.Stretches.{RanBy}
 use Rattle.driver_law.specs.ReadyDrivers.{ReadyWith, Stands}
+use Rattle.bus.specs.declared.bus.Bus.{Ghosts}
+use Rattle.driver_law.specs.Calls.{at}
 use Rattle.driver.specs.RefillSteps.{Refills, Stages}
 
 -- No slot is staged.
@@ -73,15 +75,15 @@ stages-join honest world happened joins a b c goes_on d1 d2 d3 xs ys one two = r
 }
 
 -- And then they are offered.
-pub refills : {B : Type 0} (honest : B → Type 0) (world : B → World) (happened : B → B → Past → Type 0)
-    → ((a b c : B) (first later : Past) → happened a b first → happened b c later → happened a c (joined first later))
+pub refills : {B : Type 0} (bus : Ghosts B)
+    → ((a b c : B) (first later : Past) → bus.happened a b first → bus.happened b c later → bus.happened a c (joined first later))
     → (a b c : B) (d1 d2 d3 : DriverState) (xs : List ℕ)
-    → Stages honest world happened a b d1 d2 xs → d3 ≡ with_owners d2 (d2.buffers ++ d2.staged) [] d2.pool []
-    → (up : Bool) (held : List HandedOut) → honest a → ReadyWith up (holding held d1) (world a)
-    → (ReadyWith up (holding held d2) (world b)
-    → RanBy up world happened (tail_write (next_receive d2) d2.staged) b c (holding held d2) (holding held d3) [] [])
-    → Refills up world happened a c (holding held d1) (holding held d3)
-refills honest world happened joins a b c d1 d2 d3 xs stages offered up held obeys ready offers =
+    → Stages bus.honest bus.world bus.happened a b d1 d2 xs → d3 ≡ with_owners d2 (d2.buffers ++ d2.staged) [] d2.pool []
+    → (up : Bool) (held : List HandedOut) → bus.honest a → ReadyWith up (holding held d1) (bus.world a)
+    → (ReadyWith up (holding held d2) (bus.world b)
+    → RanBy up bus.world bus.happened (tail_write (next_receive d2) d2.staged) b c (holding held d2) (holding held d3) [] [])
+    → Refills bus up (at a (holding held d1)) (at c (holding held d3))
+refills bus joins a b c d1 d2 d3 xs stages offered up held obeys ready offers =
     let first = stages.ran up held obeys ready in
     let count : length d2.buffers + length d2.staged
     ≡ length (d2.buffers ++ d2.staged) + 0 = omega (arith, length-append d2.buffers d2.staged) in
@@ -94,8 +96,8 @@ refills honest world happened joins a b c d1 d2 d3 xs stages offered up held obe
       numbers = xs;
       offered = ap (λ (d : DriverState). d.buffers) offered ∙ ap (λ (d : DriverState). d.buffers ++ d.staged) stages.others;
       ran =
-          subst (λ (list : List Access). RanBy up world happened list a c (holding held d1) (holding held d3) [] []) accesses
-          (ran_by-join world happened joins _ _ a b c (holding held d1) (holding held d2) (holding held d3) [] [] [] [] first
+          subst (λ (list : List Access). RanBy up bus.world bus.happened list a c (holding held d1) (holding held d3) [] []) accesses
+          (ran_by-join bus.world bus.happened joins _ _ a b c (holding held d1) (holding held d2) (holding held d3) [] [] [] [] first
           (offers first.goes.flows.ready));
     }
 
@@ -109,20 +111,20 @@ owners-staged honest world happened a b d d' xs stages k =
     ∙ ap (λ (s : DriverState). copies k (owners s)) (sym stages.others)
 
 -- A buffer comes back, and then slots are offered.
-pub gives : {B : Type 0} (world : B → World) (happened : B → B → Past → Type 0) → ((b : B) → happened b b nothing)
-    → ((a b c : B) (first later : Past) → happened a b first → happened b c later → happened a c (joined first later))
+pub gives : {B : Type 0} (bus : Ghosts B) → ((b : B) → bus.happened b b nothing)
+    → ((a b c : B) (first later : Past) → bus.happened a b first → bus.happened b c later → bus.happened a c (joined first later))
     → (a c : B) (d1 d2 d3 : DriverState) (m : ℕ)
     → d2 ≡ record d1 { pool = d2.pool } → HaveSameNumbers (m ∷ d1.pool) d2.pool
     → (up : Bool) (first later : List HandedOut) (one : HandedOut) → one.number ≡ m
-    → ReadyWith up (holding (first ++ one ∷ later) d1) (world a)
-    → (ReadyWith up (holding (first ++ later) d2) (world a)
-    → Refills up world happened a c (holding (first ++ later) d2) (holding (first ++ later) d3))
-    → Refills up world happened a c (holding (first ++ one ∷ later) d1) (holding (first ++ later) d3)
-gives {B} world happened stays joins a c d1 d2 d3 m others back up first later one is ready refilling =
+    → ReadyWith up (holding (first ++ one ∷ later) d1) (bus.world a)
+    → (ReadyWith up (holding (first ++ later) d2) (bus.world a)
+    → Refills bus up (at a (holding (first ++ later) d2)) (at c (holding (first ++ later) d3)))
+    → Refills bus up (at a (holding (first ++ one ∷ later) d1)) (at c (holding (first ++ later) d3))
+gives {B} bus stays joins a c d1 d2 d3 m others back up first later one is ready refilling =
     let before = first ++ one ∷ later in
     let left = first ++ later in
     let number : HandedOut → ℕ = λ x. x.number in
-    let P = Stands d1.counts (world a).memory in
+    let P = Stands d1.counts (bus.world a).memory in
     let stand : All P left = all-without P first one later ready.stand in
     let moves : (k : ℕ) → copies k d2.pool + copies k (numbers_of left) ≡ copies k d1.pool + copies k (numbers_of before) = λ k.
     omega (
@@ -137,10 +139,10 @@ gives {B} world happened stays joins a c d1 d2 d3 m others back up first later o
       ap (λ (x : ℕ). copies k (x ∷ numbers_of later)) is,
     ) in
     let d2' : DriverState = record d1 { pool = d2.pool } in
-    let comes = ran_by-itself world happened stays a (holding before d1) (holding left d2') [] []
-    (buffers_can_come_back up (holding before d1) d2.pool left (world a) ready moves stand) in
+    let comes = ran_by-itself bus.world bus.happened stays a (holding before d1) (holding left d2') [] []
+    (buffers_can_come_back up (holding before d1) d2.pool left (bus.world a) ready moves stand) in
     let back_is : holding left d2' ≡ holding left d2 = ap (holding left) (sym others) in
-    let came = ran_by-same world happened [] [] a a (holding before d1) (holding left d2')
+    let came = ran_by-same bus.world bus.happened [] [] a a (holding before d1) (holding left d2')
     (holding left d2) [] [] [] refl back_is refl comes in
     let refilled = refilling came.goes.flows.ready in
     let accesses : stores_from d2.counts (next_receive d2) refilled.numbers
@@ -152,7 +154,7 @@ gives {B} world happened stays joins a c d1 d2 d3 m others back up first later o
       numbers = refilled.numbers;
       offered = refilled.offered ∙ ap (λ (d : DriverState). d.buffers ++ (d.staged ++ refilled.numbers)) others;
       ran =
-          subst (λ (list : List Access). RanBy up world happened list a c (holding before d1) (holding left d3) [] []) accesses
-          (ran_by-join world happened joins [] _ a a c (holding before d1) (holding left d2)
+          subst (λ (list : List Access). RanBy up bus.world bus.happened list a c (holding before d1) (holding left d3) [] []) accesses
+          (ran_by-join bus.world bus.happened joins [] _ a a c (holding before d1) (holding left d2)
           (holding left d3) [] [] [] [] came refilled.ran);
     }

@@ -1,20 +1,19 @@
 -- A frame is sent over a bus.
-use Rattle.std.proofs.Common.{true, ◌≡◌, ◌<◌, ◌+◌, ◌-◌, ◌%◌, ◌++◌, ◌∷◌, [], ℕ, List, length, refl, sym, ap, subst, ◌∙◌, arith}
+use Rattle.std.proofs.Common.{true, ◌≡◌, ◌<◌, ◌+◌, ◌-◌, Ok, ◌%◌, ◌++◌, ◌∷◌, [], ℕ, List, length, refl, sym, ap, subst, ◌∙◌, arith}
 use Rattle.dma_memory.specs.Layout.{Counts}
-use Rattle.descriptors.specs.Frames.{padded}
 use Rattle.adapter.specs.Slots.{written_back}
 use Rattle.adapter.specs.World.{World}
 use Rattle.bus.specs.PastOfStretch.{Past, joined}
+use Rattle.bus.specs.declared.bus.Bus.{Ghosts}
 use Rattle.bus.specs.declared.event.Access.{Access}
 use Rattle.bus.specs.declared.event.Access.TheVariants.{Stores, Writes}
-use Rattle.driver_law.proofs.Accesses.{ran_by-join}
+use Rattle.driver_law.proofs.Calls.{ran-on}
 use Rattle.driver_law.proofs.Places.{place-below, place-next}
 use Rattle.driver_law.specs.DriverState.{DriverState, transmit_slot, transmit_tail}
-use Rattle.driver_law.specs.Stretches.{RanBy}
-use Rattle.driver_law.specs.ReadyDrivers.{Ready}
-use Rattle.driver_law.specs.TransmitSteps.{send_accesses, transmit_buffer, transmit_loads, whole_descriptor}
+use Rattle.driver_law.specs.Calls.{IsReady, Moment, Ran}
+use Rattle.driver_law.specs.TransmitSteps.{send_accesses, transmit_buffer, whole_descriptor}
 use Rattle.driver.specs.InsideDriver.{IsSending}
-use Rattle.driver.specs.SendSteps.{Reclaims, slots_looked_at}
+use Rattle.driver.specs.SendSteps.{Reclaims, Sends, accesses_by, loads_to_free, sent_now}
 
 -- The place that is sent by.
 
@@ -35,14 +34,15 @@ pub record WasFull (d : DriverState) (world : World) : Type 0 where
   pub all : d.sending + 1 ≡ d.counts.tx
   pub none : written_back d.oldest_transmit world ≡ []
 
-pub was-full : {B : Type 0} (world : B → World) (happened : B → B → Past → Type 0) (old new : B) (d d' : DriverState) → Ready d (world old)
-    → Reclaims world happened old new d d' → d'.sending + 1 ≡ d.counts.tx → WasFull d (world old)
-was-full world happened old new d d' ready reclaims full =
-    let room = ready.transmit.room in
+pub was-full : {B : Type 0} (bus : Ghosts B) (old new : Moment B) → IsReady bus true old → Reclaims bus old new
+    → new.driver.sending + 1 ≡ old.driver.counts.tx → WasFull old.driver (bus.world old.bus)
+was-full bus old new is reclaims full =
+    let room = is.ready.transmit.room in
     let count = reclaims.ran.goes.flows.frees in
     record {
       all = omega (arith, full, count, room, ap length reclaims.none);
-      none = none-of (written_back d.oldest_transmit (world old)) (omega (arith, full, count, room, ap length reclaims.none));
+      none = none-of (written_back old.driver.oldest_transmit (bus.world old.bus))
+          (omega (arith, full, count, room, ap length reclaims.none));
     }
   where
     none-of : (slots : List ℕ) → length slots ≡ 0 → slots ≡ []
@@ -59,20 +59,19 @@ sends-same d d' frame counts tail =
     ap (λ (layout : Counts). at layout (transmit_tail d')) counts ∙ ap (at d.counts) tail
 
 -- Slots are freed, and then it is sent.
-pub frees-and-sends : {B : Type 0} (world : B → World) (happened : B → B → Past → Type 0)
-    → ((a b c : B) (first later : Past) → happened a b first → happened b c later → happened a c (joined first later))
-    → (a b c : B) (d1 d2 d3 : DriverState) (frame : List ℕ) → d2.counts ≡ d1.counts → transmit_tail d2 ≡ transmit_tail d1
-    → d3.sending ≡ d2.sending + 1
-    → Reclaims world happened a b d1 d2 → RanBy true world happened (send_accesses d2 frame) b c d2 d3 [] (padded frame ∷ [])
-    → RanBy true world happened
-    (transmit_loads d1.counts d1.oldest_transmit (slots_looked_at d1.sending (d3.sending - 1)) ++ send_accesses d1 frame) a c
-    d1 d3 [] (padded frame ∷ [])
-frees-and-sends world happened joins a b c d1 d2 d3 frame counts tail more reclaims sends =
-    let xs = transmit_loads d1.counts d1.oldest_transmit (slots_looked_at d1.sending d2.sending) in
-    let left : d2.sending ≡ d3.sending - 1 = omega (arith, more) in
-    let same : xs ++ send_accesses d2 frame ≡ transmit_loads d1.counts d1.oldest_transmit (slots_looked_at d1.sending (d3.sending - 1))
-    ++ send_accesses d1 frame =
-    ap (λ (list : List Access). xs ++ list) (sends-same d1 d2 frame counts tail)
-    ∙ ap (λ (k : ℕ). transmit_loads d1.counts d1.oldest_transmit (slots_looked_at d1.sending k) ++ send_accesses d1 frame) left in
-    subst (λ (accesses : List Access). RanBy true world happened accesses a c d1 d3 [] (padded frame ∷ [])) same
-    (ran_by-join world happened joins xs (send_accesses d2 frame) a b c d1 d2 d3 [] [] [] (padded frame ∷ []) reclaims.ran sends)
+pub frees-and-sends : {B : Type 0} (bus : Ghosts B)
+    → ((a b c : B) (first later : Past) → bus.happened a b first → bus.happened b c later → bus.happened a c (joined first later))
+    → (a b c : Moment B) (frame : List ℕ) → b.driver.counts ≡ a.driver.counts → transmit_tail b.driver ≡ transmit_tail a.driver
+    → c.driver.sending ≡ b.driver.sending + 1 → Reclaims bus a b → Ran bus true (sent_now b.driver frame) b c
+    → Sends bus frame (Ok tt) a c
+frees-and-sends bus joins a b c frame counts tail more reclaims sends =
+    let xs = loads_to_free a.driver b.driver.sending in
+    let left : b.driver.sending ≡ c.driver.sending - 1 = omega (arith, more) in
+    let same : xs ++ send_accesses b.driver frame ≡ accesses_by (Ok tt) a.driver c.driver frame =
+    ap (λ (list : List Access). xs ++ list) (sends-same a.driver b.driver frame counts tail)
+    ∙ ap (λ (k : ℕ). loads_to_free a.driver k ++ send_accesses a.driver frame) left in
+    record {
+      ran = subst (λ (accesses : List Access). Ran bus true (record (sent_now a.driver frame) { accesses = accesses }) a c) same
+          (ran-on bus joins reclaims.ran sends);
+      answer = tt;
+    }

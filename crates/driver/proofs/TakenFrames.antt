@@ -8,7 +8,6 @@ use Rattle.dma_memory.specs.Layout.{Counts}
 use Rattle.dma_memory.specs.Owners.{copies}
 use Rattle.dma_memory.specs.OwnersLaws.{copies-append, copies-cons}
 use Rattle.descriptors.specs.RingLaws.{place}
-use Rattle.adapter.specs.World.{World}
 use Rattle.bus.specs.PastOfStretch.{Past, joined, nothing}
 use Rattle.bus.specs.declared.event.Access.{Access}
 use Rattle.bus.specs.declared.event.Access.TheVariants.{Loads}
@@ -27,22 +26,26 @@ use Rattle.driver_law.specs.ReceiveSteps.{behind_oldest}
 use Rattle.driver.specs.TakenFrames.{GrowsBy, IsPart, part_none, part_with, part_without, HandsOn, HandsOver, IsFrameSize, ShowsAll, Takes}
 use Rattle.driver.specs.TakenFrames.{buffers_of, received_of}
 use Rattle.driver.specs.declared.receiver.Received.{Received}
+use Rattle.driver.specs.declared.receiver.Receiver.{Ghosts as OfReceiver}
+use Rattle.bus.specs.declared.bus.Bus.{Ghosts}
+use Rattle.driver.specs.TakenFrames.{Scene, WhereReadyIn, scene}
 
 -- So many slots were taken, and their frames shown to the receiver.
-pub record Walks {B R : Type 0} (honest : B → Type 0) (world : B → World) (happened : B → B → Past → Type 0) (took : R → R → List Received
-    → List Received → Type 0) (old new : B) (before after : R) (d d' : DriverState) (n : ℕ) : Type 0 where
-  pub others : d' ≡ record d { oldest_receive = place d.counts.rx d.oldest_receive n; buffers = d'.buffers; pool = d'.pool; bad = d'.bad }
-  pub count : n + length d'.buffers ≡ length d.buffers
-  pub shows : ShowsAll took before after d d' n
-  pub takes :
-      (up : Bool) (held : List HandedOut) → honest old → ReadyWith up (holding held d) (world old)
-      → Takes up world happened took [] old new before after (holding held d) (holding held d') n
+pub record Walks {B R : Type 0} (bus : Ghosts B) (receivers : OfReceiver R) (n : ℕ) (old new : Scene B R) : Type 0 where
+  pub others : new.driver ≡ record old.driver {
+    oldest_receive = place old.driver.counts.rx old.driver.oldest_receive n;
+    buffers = new.driver.buffers;
+    pool = new.driver.pool;
+    bad = new.driver.bad;
+  }
+  pub count : n + length new.driver.buffers ≡ length old.driver.buffers
+  pub shows : ShowsAll receivers.took old.receiver new.receiver old.driver new.driver n
+  pub takes : WhereReadyIn bus old new (Takes bus receivers [] n)
 
-pub walks-none : {B R : Type 0} (honest : B → Type 0) (world : B → World) (happened : B → B → Past → Type 0) (took : R → R → List Received
-    → List Received → Type 0)
-    → ((b : B) → happened b b nothing) → ((r : R) → took r r [] []) → (b : B) (r : R) (d : DriverState)
-    → Walks honest world happened took b b r r d d 0
-walks-none honest world happened took stays waits b r d = record {
+pub walks-none : {B R : Type 0} (bus : Ghosts B) (receivers : OfReceiver R)
+    → ((b : B) → bus.happened b b nothing) → ((r : R) → receivers.took r r [] []) → (b : B) (r : R) (d : DriverState)
+    → Walks bus receivers 0 (scene b d r) (scene b d r)
+walks-none bus receivers stays waits b r d = record {
   others = refl;
   count = omega arith;
   shows = record {
@@ -56,7 +59,7 @@ walks-none honest world happened took stays waits b r d = record {
     buffers = λ k. ap (copies k)
         (sym (append-nil (owners d)));
   };
-  takes = λ up held obeys ready. record {
+  takes = λ up held is. record {
     taken = [];
     handed_out = [];
     told = waits r;
@@ -64,8 +67,9 @@ walks-none honest world happened took stays waits b r d = record {
     count = refl;
     oldest = refl;
     bad = refl;
-    ran = subst (λ (list : List HandedOut). RanBy up world happened [] b b (holding held d) (holding list d) [] []) (sym (append-nil held))
-        (ran_by-stays world happened stays b (holding held d) ready);
+    ran = subst (λ (list : List HandedOut). RanBy up bus.world bus.happened [] b b (holding held d) (holding list d) [] [])
+        (sym (append-nil held))
+        (ran_by-stays bus.world bus.happened stays b (holding held d) is.ready);
   };
 }
 
@@ -158,33 +162,32 @@ shows-next took also r s t d1 d2 d3 d4 n m all first behind given hands =
     }
 
 -- Over a bus that obeys the law it is shown.
-takes-next : {up : Bool} {B R : Type 0} (world : B → World) (happened : B → B → Past → Type 0) (took : R → R → List Received → List Received
-    → Type 0)
-    → ((b : B) → happened b b nothing)
-    → ((a b c : B) (first later : Past) → happened a b first → happened b c later → happened a c (joined first later))
-    → ((a b c : R) (shown kept later more : List Received) → took a b shown kept → took b c later more
-    → took a c (shown ++ later) (kept ++ more))
+takes-next : {up : Bool} {B R : Type 0} (bus : Ghosts B) (receivers : OfReceiver R)
+    → ((b : B) → bus.happened b b nothing)
+    → ((a b c : B) (first later : Past) → bus.happened a b first → bus.happened b c later → bus.happened a c (joined first later))
+    → ((a b c : R) (shown kept later more : List Received) → receivers.took a b shown kept → receivers.took b c later more
+    → receivers.took a c (shown ++ later) (kept ++ more))
     → (a b c e : B) (r s t : R) (d1 d2 d3 d4 : DriverState) (n m size : ℕ) (held : List HandedOut)
     → d2.oldest_receive ≡ place d1.counts.rx d1.oldest_receive n → d2.counts ≡ d1.counts → d2.bad ≡ d1.bad → d2.buffers ≡ m ∷ d3.buffers
     → d3 ≡ behind_oldest d2 d3.buffers d2.handed_out
     → d4 ≡ record d3 { pool = d4.pool; bad = d4.bad }
-    → (before : Takes up world happened took [] a b r s (holding held d1) (holding held d2) n)
-    → (take : TakesOldest up world happened b c (holding (held ++ before.handed_out) d2) m size d3.buffers)
-    → ((one : HandedOut) → ReadyWith up (holding ((held ++ before.handed_out) ++ one ∷ []) d3) (world c) → one.number ≡ m
+    → (before : Takes bus receivers [] n up (scene a (holding held d1) r) (scene b (holding held d2) s))
+    → (take : TakesOldest up bus.world bus.happened b c (holding (held ++ before.handed_out) d2) m size d3.buffers)
+    → ((one : HandedOut) → ReadyWith up (holding ((held ++ before.handed_out) ++ one ∷ []) d3) (bus.world c) → one.number ≡ m
     → length one.frame ≡ size
-    → HandsOver up world happened took c e s t one (holding ((held ++ before.handed_out) ++ one ∷ []) d3)
+    → HandsOver up bus.world bus.happened receivers.took c e s t one (holding ((held ++ before.handed_out) ++ one ∷ []) d3)
     (holding ((held ++ before.handed_out) ++ one ∷ []) d4))
-    → Takes up world happened took [] a e r t (holding held d1) (holding held d4) (suc n)
-takes-next {up} world happened took stays joins also a b c e r s t d1 d2 d3 d4 n m size held at known clean first behind given before take
+    → Takes bus receivers [] (suc n) up (scene a (holding held d1) r) (scene e (holding held d4) t)
+takes-next {up} bus receivers stays joins also a b c e r s t d1 d2 d3 d4 n m size held at known clean first behind given before take
     over =
     let held2 = held ++ before.handed_out in
     let one : HandedOut = record { number = m; frame = take.frame } in
     let held3 = held2 ++ one ∷ [] in
     let end : behind_oldest (holding held2 d2) d3.buffers held3 ≡ holding held3 d3 = ap (holding held3) (sym behind) in
-    let taking = ran_by-same world happened _ _ b c (holding held2 d2) _ (holding held3 d3) _ _ [] refl end refl take.ran in
+    let taking = ran_by-same bus.world bus.happened _ _ b c (holding held2 d2) _ (holding held3 d3) _ _ [] refl end refl take.ran in
     let hands = over one taking.goes.flows.ready refl take.long in
     let looked = hands.ran in
-    let kept = is-kept (Stands d3.counts (world e).memory) held2 one
+    let kept = is-kept (Stands d3.counts (bus.world e).memory) held2 one
     (received_of one) hands.shows.kept refl hands.shows.whether looked.goes.flows.ready.stand in
     let held4 = held2 ++ kept.entries in
     let number_of : HandedOut → ℕ = λ x. x.number in
@@ -201,12 +204,13 @@ takes-next {up} world happened took stays joins also a b c e r s t d1 d2 d3 d4 n
       copies-append k (numbers_of held2) (m ∷ []),
       copies-cons k m [],
     ) in
-    let comes = ran_by-itself world happened stays e (holding held3 d3) _ [] []
-    (buffers_can_come_back up (holding held3 d3) d4.pool held4 (world e) looked.goes.flows.ready moves kept.stand) in
-    let two = ran_by-join world happened joins _ _ a b c (holding held d1) (holding held2 d2)
+    let comes = ran_by-itself bus.world bus.happened stays e (holding held3 d3) _ [] []
+    (buffers_can_come_back up (holding held3 d3) d4.pool held4 (bus.world e) looked.goes.flows.ready moves kept.stand) in
+    let two = ran_by-join bus.world bus.happened joins _ _ a b c (holding held d1) (holding held2 d2)
     (holding held3 d3) _ _ [] [] before.ran taking in
-    let three = ran_by-join world happened joins _ _ a c e (holding held d1) (holding held3 d3) (holding held3 d3) _ _ [] [] two looked in
-    let four = ran_by-join world happened joins _ _ a e e (holding held d1) (holding held3 d3) _ _ _ [] [] three comes in
+    let three = ran_by-join bus.world bus.happened joins _ _ a c e (holding held d1) (holding held3 d3) (holding held3 d3) _ _ [] [] two
+    looked in
+    let four = ran_by-join bus.world bus.happened joins _ _ a e e (holding held d1) (holding held3 d3) _ _ _ [] [] three comes in
     let load : Access = Loads (buffer_at d3.counts m + 12) 2 in
     let numbers = numbers_of before.taken in
     let many : length numbers ≡ n = length-map before.taken number_of ∙ before.count in
@@ -240,8 +244,8 @@ takes-next {up} world happened took stays joins also a b c e r s t d1 d2 d3 d4 n
       taken = before.taken ++ one ∷ [];
       handed_out = before.handed_out ++ kept.entries;
       told =
-          subst (λ (list : List Received). took r t list (map received_of (before.handed_out ++ kept.entries))) shown
-          (subst (λ (list : List Received). took r t (map received_of before.taken ++ received_of one ∷ []) list) has
+          subst (λ (list : List Received). receivers.took r t list (map received_of (before.handed_out ++ kept.entries))) shown
+          (subst (λ (list : List Received). receivers.took r t (map received_of before.taken ++ received_of one ∷ []) list) has
           (also r s t (map received_of before.taken) (map received_of before.handed_out)
           (received_of one ∷ []) hands.shows.kept before.told hands.shows.told));
       part = part-append before.part kept.part;
@@ -252,27 +256,26 @@ takes-next {up} world happened took stays joins also a b c e r s t d1 d2 d3 d4 n
           ∙ sym (append_assoc numbers (m ∷ []) d4.buffers)
           ∙ ap (λ (list : List ℕ). list ++ d4.buffers) (sym (map-append number_of before.taken (one ∷ [])));
       bad = hands.bad ∙ ap (λ (d : DriverState). d.bad) behind ∙ clean;
-      ran = ran_by-same world happened _ _ a e (holding held d1) (holding held4 (shape d3.bad)) _ _ _ [] accesses last frames four;
+      ran = ran_by-same bus.world bus.happened _ _ a e (holding held d1) (holding held4 (shape d3.bad)) _ _ _ [] accesses last frames four;
     }
 
-pub walks-next : {B R : Type 0} (honest : B → Type 0) (world : B → World) (happened : B → B → Past → Type 0) (took : R → R → List Received
-    → List Received → Type 0)
-    → ((b : B) → happened b b nothing)
-    → ((a b c : B) (first later : Past) → happened a b first → happened b c later → happened a c (joined first later))
-    → ((a b c : R) (shown kept later more : List Received) → took a b shown kept → took b c later more
-    → took a c (shown ++ later) (kept ++ more))
-    → (a b c e : B) → (honest a → honest b) → (r s t : R) (d1 d2 d3 d4 : DriverState) (n m size : ℕ)
-    → Walks honest world happened took a b r s d1 d2 n
+pub walks-next : {B R : Type 0} (bus : Ghosts B) (receivers : OfReceiver R)
+    → ((b : B) → bus.happened b b nothing)
+    → ((a b c : B) (first later : Past) → bus.happened a b first → bus.happened b c later → bus.happened a c (joined first later))
+    → ((a b c : R) (shown kept later more : List Received) → receivers.took a b shown kept → receivers.took b c later more
+    → receivers.took a c (shown ++ later) (kept ++ more))
+    → (a b c e : B) → (bus.honest a → bus.honest b) → (r s t : R) (d1 d2 d3 d4 : DriverState) (n m size : ℕ)
+    → Walks bus receivers n (scene a d1 r) (scene b d2 s)
     → d2.buffers ≡ m ∷ d3.buffers → d3 ≡ behind_oldest d2 d3.buffers d2.handed_out
-    → ((up : Bool) (held : List HandedOut) → honest b → ReadyWith up (holding held d2) (world b)
-    → TakesOldest up world happened b c (holding held d2) m size d3.buffers)
-    → d4 ≡ record d3 { pool = d4.pool; bad = d4.bad } → HandsOn took s t m d3 d4
-    → ((up : Bool) (held before : List HandedOut) (one : HandedOut) → honest b → ReadyWith up (holding before d2) (world b)
-    → ReadyWith up (holding (held ++ one ∷ []) d3) (world c)
+    → ((up : Bool) (held : List HandedOut) → bus.honest b → ReadyWith up (holding held d2) (bus.world b)
+    → TakesOldest up bus.world bus.happened b c (holding held d2) m size d3.buffers)
+    → d4 ≡ record d3 { pool = d4.pool; bad = d4.bad } → HandsOn receivers.took s t m d3 d4
+    → ((up : Bool) (held before : List HandedOut) (one : HandedOut) → bus.honest b → ReadyWith up (holding before d2) (bus.world b)
+    → ReadyWith up (holding (held ++ one ∷ []) d3) (bus.world c)
     → one.number ≡ m → length one.frame ≡ size
-    → HandsOver up world happened took c e s t one (holding (held ++ one ∷ []) d3) (holding (held ++ one ∷ []) d4))
-    → Walks honest world happened took a e r t d1 d4 (suc n)
-walks-next honest world happened took stays joins also a b c e goes_on r s t d1 d2 d3 d4 n m size walks first behind takes given hands
+    → HandsOver up bus.world bus.happened receivers.took c e s t one (holding (held ++ one ∷ []) d3) (holding (held ++ one ∷ []) d4))
+    → Walks bus receivers (suc n) (scene a d1 r) (scene e d4 t)
+walks-next bus receivers stays joins also a b c e goes_on r s t d1 d2 d3 d4 n m size walks first behind takes given hands
     over =
     let n1 = d1.counts.rx in
     let o1 = d1.oldest_receive in
@@ -291,25 +294,25 @@ walks-next honest world happened took stays joins also a b c e goes_on r s t d1 
           ∙ ap (λ (oldest : ℕ). shape oldest d3.buffers) (sym at)
           ∙ ap (shape (place n1 o1 (suc n))) (sym left);
       count = omega (arith, walks.count, ap length first, ap length left);
-      shows = shows-next took also r s t d1 d2 d3 d4 n m walks.shows first behind given hands;
-      takes = λ up held obeys ready.
-          let before = walks.takes up held obeys ready in
-          takes-next world happened took stays joins also a b c e r s t d1 d2 d3 d4 n m size held
+      shows = shows-next receivers.took also r s t d1 d2 d3 d4 n m walks.shows first behind given hands;
+      takes = λ up held is.
+          let before = walks.takes up held is in
+          takes-next bus receivers stays joins also a b c e r s t d1 d2 d3 d4 n m size held
           (ap (λ (d : DriverState). d.oldest_receive) walks.others) (ap (λ (d : DriverState). d.counts) walks.others)
-          before.bad first behind given before (takes up (held ++ before.handed_out) (goes_on obeys) before.ran.goes.flows.ready)
+          before.bad first behind given before (takes up (held ++ before.handed_out) (goes_on is.honest) before.ran.goes.flows.ready)
           (λ one standing. over up (held ++ before.handed_out) (held ++ before.handed_out) one
-          (goes_on obeys) before.ran.goes.flows.ready standing);
+          (goes_on is.honest) before.ran.goes.flows.ready standing);
     }
 
 -- A last look, at a slot that isn't finished.
-pub walks-look : {up : Bool} {B R : Type 0} (world : B → World) (happened : B → B → Past → Type 0) (took : R → R → List Received
-    → List Received → Type 0)
-    → ((a b c : B) (first later : Past) → happened a b first → happened b c later → happened a c (joined first later))
+pub walks-look : {up : Bool} {B R : Type 0} (bus : Ghosts B) (receivers : OfReceiver R)
+    → ((a b c : B) (first later : Past) → bus.happened a b first → bus.happened b c later → bus.happened a c (joined first later))
     → (ys : List Access) (a b c : B) (r s : R) (d d' : DriverState) (n : ℕ)
-    → (takes : Takes up world happened took [] a b r s d d' n)
-    → RanBy up world happened ys b c (holding (d.handed_out ++ takes.handed_out) d') (holding (d.handed_out ++ takes.handed_out) d') [] []
-    → Takes up world happened took ys a c r s d d' n
-walks-look world happened took joins ys a b c r s d d' n takes looks =
+    → (takes : Takes bus receivers [] n up (scene a d r) (scene b d' s))
+    → RanBy up bus.world bus.happened ys b c (holding (d.handed_out ++ takes.handed_out) d')
+    (holding (d.handed_out ++ takes.handed_out) d') [] []
+    → Takes bus receivers ys n up (scene a d r) (scene c d' s)
+walks-look bus receivers joins ys a b c r s d d' n takes looks =
     let held = d.handed_out ++ takes.handed_out in
     record {
       taken = takes.taken;
@@ -320,6 +323,6 @@ walks-look world happened took joins ys a b c r s d d' n takes looks =
       oldest = takes.oldest;
       bad = takes.bad;
       ran =
-          ran_by-same world happened _ _ a c d (holding held d') _ _ _ [] (append_assoc _ [] ys) refl (append-nil _)
-          (ran_by-join world happened joins _ ys a b c d (holding held d') (holding held d') _ _ [] [] takes.ran looks);
+          ran_by-same bus.world bus.happened _ _ a c d (holding held d') _ _ _ [] (append_assoc _ [] ys) refl (append-nil _)
+          (ran_by-join bus.world bus.happened joins _ ys a b c d (holding held d') (holding held d') _ _ [] [] takes.ran looks);
     }

@@ -1,24 +1,26 @@
 -- What a driver does in its interrupt handler.
 use Rattle.std.specs.Prelude.{◌≡◌, ◌≤◌, ◌++◌, ◌∷◌, ℕ, Bool, List, [], length, map}
 use Rattle.adapter.specs.declared.offsets.TheConstants.{MPC}
+use Rattle.dma_memory.specs.Owners.{HasNoSecondOwner}
+use Rattle.bus.specs.declared.bus.Bus.{Ghosts}
 use Rattle.registers.specs.Bits.{HasBit, Meet}
 use Rattle.registers.specs.Places.{rxt0}
 use Rattle.descriptors.specs.RingLaws.{place}
 use Rattle.adapter.specs.Slots.{finished}
-use Rattle.adapter.specs.World.{World}
-use Rattle.bus.specs.PastOfStretch.{Past, joined}
+use Rattle.bus.specs.PastOfStretch.{joined}
 use Rattle.bus.specs.declared.event.Access.{Access}
 use Rattle.bus.specs.declared.event.Access.TheVariants.{Reads}
 use Rattle.bring_up.specs.WrittenRegisters.{handled_causes}
 use Rattle.driver_law.specs.Accesses.{last_load, stores_from, tail_write, takes_from}
-use Rattle.driver_law.specs.DriverState.{DriverState, HandedOut, holding, next_receive, numbers_of}
-use Rattle.driver_law.specs.Stretches.{FlowsTo, HasNoForgottenWork, RanBy}
+use Rattle.driver_law.specs.Calls.{Moment, Ran, held_at}
+use Rattle.driver_law.specs.DriverState.{DriverState, HandedOut, holding, next_receive, numbers_of, owners}
+use Rattle.driver_law.specs.Stretches.{FlowsTo, HasNoForgottenWork, IsRefilled}
 use Rattle.driver_law.specs.RegisterReadings.{ReadsCauses, with_missed}
-use Rattle.driver.specs.TakenFrames.{IsPart, received_of}
+use Rattle.driver.specs.TakenFrames.{IsPart, Scene, ShowsAll, frames_of, moment, received_of}
 use Rattle.driver.specs.declared.interrupt.Handled.{Handled}
 use Rattle.driver.specs.declared.interrupt.Handled.TheVariants.{NotMine}
 use Rattle.driver.specs.declared.interrupt.Handled.TheVariants as answers
-use Rattle.driver.specs.declared.receiver.Received.{Received}
+use Rattle.driver.specs.declared.receiver.Receiver.{Ghosts as OfReceiver}
 
 -- what holds where the handler did something, by how many slots it took
 abbrev pub OnTaken : Handled → (ℕ → Type 0) → Type 0
@@ -39,58 +41,74 @@ handled_accesses d misses taken rest offered last =
     ++ (stores_from d.counts (next_receive d) offered ++ tail_write last (d.staged ++ offered))
 
 -- So many slots are taken, and their frames shown to the receiver, who has those of them that are handed out then.
-pub record Works (up : Bool) {B R : Type 0} (world : B → World) (happened : B → B → Past → Type 0)
-    (took : R → R → List Received → List Received → Type 0) (old new : B) (before after : R) (d d' : DriverState) (n : ℕ) : Type 0 where
+pub record Works {B R : Type 0} (bus : Ghosts B) (receivers : OfReceiver R) (n : ℕ) (up : Bool) (old new : Scene B R) : Type 0 where
   pub misses : ℕ
   pub taken : List HandedOut
   pub handed_out : List HandedOut
   pub rest : List ℕ
   pub offered : List ℕ
-  pub told : took before after (map received_of taken) (map received_of handed_out)
+  pub told : receivers.took old.receiver new.receiver (map received_of taken) (map received_of handed_out)
   pub part : IsPart handed_out taken
   pub count : length taken ≡ n
-  pub oldest : d.buffers ≡ numbers_of taken ++ rest
-  pub newest : d'.buffers ≡ rest ++ (d.staged ++ offered)
-  pub missed : d'.missed ≡ (with_missed misses d).missed
-  pub exact : d'.exact ≡ (with_missed misses d).exact
-  pub bad : d'.bad ≡ d.bad
+  pub oldest : old.driver.buffers ≡ numbers_of taken ++ rest
+  pub newest : new.driver.buffers ≡ rest ++ (old.driver.staged ++ offered)
+  pub missed : new.driver.missed ≡ (with_missed misses old.driver).missed
+  pub exact : new.driver.exact ≡ (with_missed misses old.driver).exact
+  pub bad : new.driver.bad ≡ old.driver.bad
   pub ran :
-      RanBy up world happened (handled_accesses d misses (numbers_of taken) rest offered (next_receive d')) old new d
-      (holding (d.handed_out ++ handed_out) d')
-      (map (λ (one : HandedOut). one.frame) taken) []
+      Ran bus up (record {
+        accesses = handled_accesses old.driver misses (numbers_of taken) rest offered (next_receive new.driver);
+        taken = frames_of taken;
+        accepted = [];
+      }) (moment old) (held_at (old.driver.handed_out ++ handed_out) (moment new))
+
+-- ICR was read, alone: what it said, and where that left the bus.
+pub record Asked {B : Type 0} (bus : Ghosts B) (up : Bool) (old : Moment B) : Type 0 where
+  pub causes : ℕ
+  pub behind : B
+  pub reads : ReadsCauses up bus.world bus.happened old.bus behind old.driver causes
 
 -- It does nothing: ICR had none of its causes.
-pub record LeavesIt {B : Type 0} (world : B → World) (old middle new : B) (d d' : DriverState) (causes : ℕ) : Type 0 where
-  pub none : ¬ Meet causes handled_causes
-  pub still : new ≡ middle
-  pub work : HasNoForgottenWork d (world old) → HasNoForgottenWork d' (world new)
+pub record LeavesIt {B : Type 0} (bus : Ghosts B) {up : Bool} (old new : Moment B) (asked : Asked bus up old) : Type 0 where
+  pub none : ¬ Meet asked.causes handled_causes
+  pub still : new.bus ≡ asked.behind
+  pub work : HasNoForgottenWork old.driver (bus.world old.bus) → HasNoForgottenWork new.driver (bus.world new.bus)
 
 -- It does its work.
-pub record HandlesIt (up : Bool) {B R : Type 0} (world : B → World) (happened : B → B → Past → Type 0)
-    (took : R → R → List Received → List Received → Type 0) (old middle new : B) (first : Past) (before after : R) (d d' : DriverState)
-    (causes n : ℕ) : Type 0 where
-  pub some : Meet causes handled_causes
-  pub works : Works up world happened took middle new before after d d' n
+pub record HandlesIt {B R : Type 0} (bus : Ghosts B) (receivers : OfReceiver R) (n : ℕ) {up : Bool} (old new : Scene B R)
+    (asked : Asked bus up (moment old)) : Type 0 where
+  pub some : Meet asked.causes handled_causes
+  pub works : Works bus receivers n up (record old { bus = asked.behind }) new
   -- It takes at least what was finished at the beginning, and no work is forgotten.
-  pub least : length (finished d.oldest_receive (world old)) ≤ n
-  pub work : HasBit (world old).adapter.causes.mask rxt0 → HasNoForgottenWork d' (world new)
+  pub least : length (finished old.driver.oldest_receive (bus.world old.bus)) ≤ n
+  pub work : HasBit (bus.world old.bus).adapter.causes.mask rxt0 → HasNoForgottenWork new.driver (bus.world new.bus)
   -- both parts together
-  pub flows : FlowsTo up d (world old) (holding (d.handed_out ++ works.handed_out) d') (world new)
-      (map (λ (one : HandedOut). one.frame) works.taken) [] (joined first works.ran.past)
+  pub flows : FlowsTo up old.driver (bus.world old.bus) (holding (old.driver.handed_out ++ works.handed_out) new.driver)
+      (bus.world new.bus) (frames_of works.taken) [] (joined asked.reads.past works.ran.past)
 
 -- by the answer
-abbrev pub HandlesBy : Handled → Bool → {B R : Type 0} → (B → World) → (B → B → Past → Type 0)
-    → (R → R → List Received → List Received → Type 0) → (old middle new : B) → Past → (before after : R) → (d d' : DriverState)
-    → (causes : ℕ) → Type 0
-HandlesBy NotMine up world happened took old middle new first before after d d' causes = LeavesIt world old middle new d d' causes
-HandlesBy (answers.Handled taken) up world happened took old middle new first before after d d' causes = HandlesIt up world happened took
-    old middle new first before after d d' causes taken
+abbrev pub HandlesBy : {B R : Type 0} (bus : Ghosts B) → OfReceiver R → Handled → {up : Bool} → (old new : Scene B R)
+    → Asked bus up (moment old) → Type 0
+HandlesBy bus receivers NotMine old new asked = LeavesIt bus (moment old) (moment new) asked
+HandlesBy bus receivers (answers.Handled taken) old new asked = HandlesIt bus receivers taken old new asked
 
--- First it reads ICR, alone. What it does behind that is by the causes that were read.
-pub record Handles (up : Bool) {B R : Type 0} (world : B → World) (happened : B → B → Past → Type 0)
-    (took : R → R → List Received → List Received → Type 0) (old new : B) (before after : R) (d d' : DriverState)
-    (result : Handled) : Type 0 where
-  pub middle : B
-  pub causes : ℕ
-  pub reads : ReadsCauses up world happened old middle d causes
-  pub behind : HandlesBy result up world happened took old middle new reads.past before after d d' causes
+-- First it reads ICR. What it does behind that is by the causes that were read.
+pub record Handles {B R : Type 0} (bus : Ghosts B) (receivers : OfReceiver R) (result : Handled) (up : Bool) (old new : Scene B R) : Type 0
+  where
+    pub asked : Asked bus up (moment old)
+    pub behind : HandlesBy bus receivers result old new asked
+
+-- Over any bus.
+
+-- The transmit side stays, and where things stand.
+pub record OnlyReceives (d d' : DriverState) : Type 0 where
+  pub counts : d'.counts ≡ d.counts
+  pub oldest : d'.oldest_transmit ≡ d.oldest_transmit
+  pub sending : d'.sending ≡ d.sending
+
+-- So many slots are taken, and then all that can be are offered.
+pub record Serves {R : Type 0} (receivers : OfReceiver R) (before after : R) (d d' : DriverState) (n : ℕ) : Type 0 where
+  pub shows : ShowsAll receivers.took before after d d' n
+  pub refilled : IsRefilled d'
+  pub offered : d'.staged ≡ []
+  pub one_owner : HasNoSecondOwner d'.counts.buffers (owners d')

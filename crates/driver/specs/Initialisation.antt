@@ -4,7 +4,7 @@ use Rattle.std.specs.Prelude.{◌≡◌, ◌≤◌, ◌<◌, ◌+◌, ◌-◌, �
 use Rattle.adapter.specs.declared.offsets.TheConstants.{RDBAL, RDT, TDBAL}
 use Rattle.registers.specs.Counting.{greatest_count}
 use Rattle.dma_memory.specs.Layout.{Counts}
-use Rattle.dma_memory.specs.Owners.{HaveSameNumbers}
+use Rattle.dma_memory.specs.Owners.{HasOneOwner, HaveSameNumbers}
 use Rattle.eeprom.specs.Image.{HasRightSum, address_bytes}
 use Rattle.rx_engine.specs.Addresses.{IsAddress}
 use Rattle.adapter.specs.HostFrames.{frames_held, frames_to_send}
@@ -16,7 +16,7 @@ use Rattle.bus.specs.Settings.{settings_after_all, settings_of}
 use Rattle.bus.specs.declared.event.Access.{Access}
 use Rattle.bus.specs.declared.event.Access.TheVariants.{Writes}
 use Rattle.bring_up.specs.ClearedDescriptors.{clears, clears_from}
-use Rattle.bring_up.specs.Configuration.{vlans_of}
+use Rattle.bring_up.specs.Configuration.{counts_of, vlans_of}
 use Rattle.bring_up.specs.ConfiguredAdapters.{AreWords, IsConfigured, names_vlans, writes_before_rings}
 use Rattle.bring_up.specs.Device.{IsErrorOf, IsErrorOfLively}
 use Rattle.bring_up.specs.DriverSteps.{accesses_of}
@@ -29,8 +29,9 @@ use Rattle.bring_up.specs.declared.init_error.InitError.{InitError}
 use Rattle.bring_up.specs.declared.init_error.InitError.TheVariants.{Memory}
 use Rattle.bring_up.specs.declared.init_error.InitError.TheVariants as errors
 use Rattle.driver_law.specs.Accesses.{stores_from}
-use Rattle.driver_law.specs.DriverState.{DriverState, receive_slot, with_owners}
-use Rattle.driver_law.specs.Stretches.{HasNoForgottenWork, RanBy}
+use Rattle.driver_law.specs.Beginnings.{new_driver}
+use Rattle.driver_law.specs.DriverState.{DriverState, owners, receive_slot, with_owners}
+use Rattle.driver_law.specs.Stretches.{HasNoForgottenWork, IsRefilled, RanBy}
 use Rattle.driver_law.specs.ReadyDrivers.{Ready, ReadyWith}
 
 -- Its refusals.
@@ -133,3 +134,11 @@ pub record Initialises {B : Type 0} (world : B → World) (happened : B → B �
   -- Where no frame was stored, no slot is finished, and RDH is 0.
   pub none_finished : later.stored ≡ [] → finished d.oldest_receive (world new) ≡ []
   pub head : later.stored ≡ [] → (world new).adapter.receive_ring.head ≡ 0
+
+-- The driver of an adapter that was brought up, over any bus.
+pub record IsFresh (config : Config) (driver : DriverState) : Type 0 where
+  pub counts : driver.counts ≡ counts_of config
+  pub new : driver ≡ with_owners (new_driver (counts_of config) []) driver.buffers [] driver.pool []
+  pub one_owner : HasOneOwner driver.counts.buffers (owners driver)
+  pub none_out : driver.handed_out ≡ []
+  pub refilled : IsRefilled driver

@@ -1,11 +1,13 @@
 -- What a driver does to offer receive slots.
-use Rattle.std.specs.Prelude.{◌≡◌, ◌++◌, ℕ, Bool, List, []}
-use Rattle.dma_memory.specs.Owners.{HaveSameNumbers}
+use Rattle.std.specs.Prelude.{◌≡◌, ◌++◌, ◌∷◌, ℕ, Bool, List, []}
+use Rattle.dma_memory.specs.Owners.{HasNoSecondOwner, HaveSameNumbers}
 use Rattle.adapter.specs.World.{World}
 use Rattle.bus.specs.PastOfStretch.{Past}
 use Rattle.driver_law.specs.Accesses.{stores_from, tail_write}
-use Rattle.driver_law.specs.DriverState.{DriverState, HandedOut, holding, next_receive, with_owners}
-use Rattle.driver_law.specs.Stretches.{RanBy}
+use Rattle.bus.specs.declared.bus.Bus.{Ghosts}
+use Rattle.driver_law.specs.Calls.{IsReady, Moment, Ran, held_at, only}
+use Rattle.driver_law.specs.DriverState.{DriverState, HandedOut, holding, next_receive, owners, with_owners}
+use Rattle.driver_law.specs.Stretches.{IsRefilled, RanBy}
 use Rattle.driver_law.specs.ReadyDrivers.{ReadyWith}
 
 -- The next slots are staged with these buffers of the pool: over a bus that obeys the law, by storing their descriptors one after the
@@ -26,10 +28,21 @@ pub record StagesSome {B : Type 0} (honest : B → Type 0) (world : B → World)
 
 -- The next slots are offered with these buffers, behind those that were staged before: their descriptors are stored, and then RDT is
 -- written once, where there are any.
-pub record Refills (up : Bool) {B : Type 0} (world : B → World) (happened : B → B → Past → Type 0) (old new : B)
-    (d d' : DriverState) : Type 0 where
+pub record Refills {B : Type 0} (bus : Ghosts B) (up : Bool) (old new : Moment B) : Type 0 where
   pub numbers : List ℕ
-  pub offered : d'.buffers ≡ d.buffers ++ (d.staged ++ numbers)
+  pub offered : new.driver.buffers ≡ old.driver.buffers ++ (old.driver.staged ++ numbers)
   pub ran :
-      RanBy up world happened (stores_from d.counts (next_receive d) numbers ++ tail_write (next_receive d') (d.staged ++ numbers))
-      old new d d' [] []
+      Ran bus up (only (stores_from old.driver.counts (next_receive old.driver) numbers
+      ++ tail_write (next_receive new.driver) (old.driver.staged ++ numbers))) old new
+
+-- Over any bus: all slots are offered for which there is a buffer, and nothing else changes.
+pub record OffersAll (d d' : DriverState) : Type 0 where
+  pub others : d' ≡ with_owners d d'.buffers [] d'.pool []
+  pub refilled : IsRefilled d'
+  pub one_owner : HasNoSecondOwner d'.counts.buffers (owners d')
+
+-- What holds of a call that takes back the buffer of this number, over a bus that obeys the law, by a driver that is ready.
+abbrev pub WhereHeld : {B : Type 0} → Ghosts B → ℕ → (old new : Moment B) → (Bool → Moment B → Moment B → Type 0) → Type 0
+WhereHeld bus number old new Holds =
+    (up : Bool) (first later : List HandedOut) (one : HandedOut) → one.number ≡ number
+    → IsReady bus up (held_at (first ++ one ∷ later) old) → Holds up (held_at (first ++ one ∷ later) old) (held_at (first ++ later) new)

@@ -1,13 +1,14 @@
 -- What a driver does to send a frame.
-use Rattle.std.specs.Prelude.{⊤, ◌≡◌, ◌+◌, ◌-◌, ◌++◌, ◌∷◌, ℕ, true, List, [], Result, Ok, Err, min}
+use Rattle.std.specs.Prelude.{⊤, Bool, ◌≡◌, ◌<◌, ◌+◌, ◌-◌, ◌++◌, ◌∷◌, ℕ, true, List, [], Result, Ok, Err, min}
+use Rattle.std.specs.Bool.{OnFalse}
 use Rattle.descriptors.specs.Frames.{padded}
 use Rattle.adapter.specs.Slots.{written_back}
 use Rattle.adapter.specs.World.{World}
-use Rattle.bus.specs.PastOfStretch.{Past}
+use Rattle.bus.specs.declared.bus.Bus.{Ghosts}
 use Rattle.bus.specs.declared.event.Access.{Access}
 use Rattle.driver_law.specs.DriverState.{DriverState}
-use Rattle.driver_law.specs.Stretches.{RanBy}
-use Rattle.driver_law.specs.TransmitSteps.{send_accesses, transmit_loads}
+use Rattle.driver_law.specs.Calls.{Did, Moment, Ran, WhereUp, only}
+use Rattle.driver_law.specs.TransmitSteps.{send_accesses, transmit_loads, with_freed}
 use Rattle.driver.specs.declared.transmit.SendError.{SendError}
 use Rattle.driver.specs.declared.transmit.SendError.TheVariants.{TooShort, TooLong, RingFull}
 
@@ -15,15 +16,33 @@ use Rattle.driver.specs.declared.transmit.SendError.TheVariants.{TooShort, TooLo
 abbrev pub with_sending : DriverState → (oldest sending : ℕ) → DriverState
 with_sending d oldest sending = record d { oldest_transmit = oldest; sending = sending }
 
+-- the descriptors of so many of its slots are loaded, from the oldest on
+abbrev pub oldest_loads : DriverState → ℕ → List Access
+oldest_loads d k = transmit_loads d.counts d.oldest_transmit k
+
+-- The oldest slot is freed.
+pub record FreesOldest (d d' : DriverState) : Type 0 where
+  pub some : 0 < d.sending
+  pub freed : d' ≡ with_freed d
+
+-- It is looked at by one load, if there is one; where it isn't freed, none is written back.
+pub record LooksBack {B : Type 0} (bus : Ghosts B) (freed : Bool) (old new : Moment B) : Type 0 where
+  pub ran : Ran bus true (only (oldest_loads old.driver (min old.driver.sending 1))) old new
+  pub none : OnFalse freed (written_back new.driver.oldest_transmit (bus.world new.bus) ≡ [])
+
 -- how many descriptors are loaded until so many slots are left outstanding: that of each slot that is freed, and of the first that isn't,
 -- if any is left
 abbrev pub slots_looked_at : (before left : ℕ) → ℕ
 slots_looked_at before left = before - left + min left 1
 
+-- the loads of their descriptors
+abbrev pub loads_to_free : DriverState → (left : ℕ) → List Access
+loads_to_free d left = oldest_loads d (slots_looked_at d.sending left)
+
 -- The oldest slots are freed, by one load each, up to the first that isn't done, or until none is left.
-pub record Reclaims {B : Type 0} (world : B → World) (happened : B → B → Past → Type 0) (old new : B) (d d' : DriverState) : Type 0 where
-  pub ran : RanBy true world happened (transmit_loads d.counts d.oldest_transmit (slots_looked_at d.sending d'.sending)) old new d d' [] []
-  pub none : written_back d'.oldest_transmit (world new) ≡ []
+pub record Reclaims {B : Type 0} (bus : Ghosts B) (old new : Moment B) : Type 0 where
+  pub ran : Ran bus true (only (loads_to_free old.driver new.driver.sending)) old new
+  pub none : written_back new.driver.oldest_transmit (bus.world new.bus) ≡ []
 
 abbrev pub Answer : Type 0
 Answer = Result (Unit {0}) SendError
@@ -36,10 +55,10 @@ accepted_by (Err error) frame = []
 -- The accesses, by the answer.
 abbrev pub accesses_by : Answer → (d d' : DriverState) → List ℕ → List Access
 accesses_by (Ok u) d d' frame =
-    transmit_loads d.counts d.oldest_transmit (slots_looked_at d.sending (d'.sending - 1)) ++ send_accesses d frame
+    loads_to_free d (d'.sending - 1) ++ send_accesses d frame
 accesses_by (Err TooShort) d d' frame = []
 accesses_by (Err TooLong) d d' frame = []
-accesses_by (Err RingFull) d d' frame = transmit_loads d.counts d.oldest_transmit (slots_looked_at d.sending d'.sending)
+accesses_by (Err RingFull) d d' frame = loads_to_free d d'.sending
 
 -- The ring is full only where all slots but one had a frame at entry, none of them written back.
 abbrev pub IsAnswer : Answer → DriverState → World → Type 0
@@ -52,7 +71,18 @@ IsRefused (Err TooShort) = ⊤
 IsRefused (Err TooLong) = ⊤
 IsRefused answer = ⊥
 
-pub record Transmits {B : Type 0} (world : B → World) (happened : B → B → Past → Type 0) (old new : B) (d d' : DriverState) (frame : List ℕ)
-    (result : Answer) : Type 0 where
-  pub ran : RanBy true world happened (accesses_by result d d' frame) old new d d' [] (accepted_by result frame)
-  pub answer : IsAnswer result d (world old)
+-- The frame is sent by the slot at the tail.
+abbrev pub sent_now : DriverState → List ℕ → Did
+sent_now d frame = record { accesses = send_accesses d frame; taken = []; accepted = padded frame ∷ [] }
+
+-- What it does, by the answer.
+abbrev pub sent_by : Answer → (d d' : DriverState) → List ℕ → Did
+sent_by result d d' frame = record { accesses = accesses_by result d d' frame; taken = []; accepted = accepted_by result frame }
+
+pub record Sends {B : Type 0} (bus : Ghosts B) (frame : List ℕ) (result : Answer) (old new : Moment B) : Type 0 where
+  pub ran : Ran bus true (sent_by result old.driver new.driver frame) old new
+  pub answer : IsAnswer result old.driver (bus.world old.bus)
+
+-- So it is wherever the driver is ready.
+abbrev pub Transmits : {B : Type 0} → Ghosts B → List ℕ → Answer → (old new : Moment B) → Type 0
+Transmits bus frame result old new = WhereUp bus old new (Sends bus frame result)

@@ -1,16 +1,25 @@
 -- What a driver takes off its receive ring, and who has it then.
 use Rattle.std.specs.Prelude.{◌≡◌, ◌≤◌, ◌<◌, ◌⊎◌, ◌+◌, ◌-◌, ◌^◌, ◌++◌, ◌∷◌, ℕ, Bool, List, [], All, length, map}
+use Rattle.std.specs.Prelude.{IsTrue, None, Option, Some}
 use Rattle.descriptors.specs.Frames.{longest_frame, shortest_frame}
-use Rattle.dma_memory.specs.Owners.{HaveSameNumbers}
+use Rattle.dma_memory.specs.Owners.{HaveSameNumbers, copies}
 use Rattle.rx_engine.specs.Addresses.{ether_type}
+use Rattle.descriptors.specs.RingLaws.{place}
+use Rattle.adapter.specs.Slots.{finished}
 use Rattle.adapter.specs.World.{World}
+use Rattle.bus.specs.declared.bus.Bus.{Ghosts}
 use Rattle.bus.specs.PastOfStretch.{Past}
 use Rattle.bus.specs.declared.event.Access.{Access}
 use Rattle.bus.specs.declared.event.Access.TheVariants.{Loads}
-use Rattle.driver_law.specs.Accesses.{takes_from}
+use Rattle.driver_law.specs.Accesses.{last_load, takes_from}
+use Rattle.driver_law.specs.Calls.{IsReady, Moment, Ran, held_at, only}
 use Rattle.driver_law.specs.DriverState.{DriverState, HandedOut, buffer_at, holding, numbers_of, owners}
 use Rattle.driver_law.specs.Stretches.{RanBy}
+use Rattle.driver_law.specs.OldestSlot.{TakesOldest}
+use Rattle.driver_law.specs.ReceiveSteps.{behind_oldest}
+use Rattle.driver.specs.declared.receive.Finished.{Finished}
 use Rattle.driver.specs.declared.receiver.Received.{Received}
+use Rattle.driver.specs.declared.receiver.Receiver.{Ghosts as OfReceiver}
 
 -- what a receiver is told of a frame that is handed out
 abbrev pub received_of : HandedOut → Received
@@ -79,19 +88,89 @@ pub record ShowsAll {R : Type 0} (took : R → R → List Received → List Rece
   pub bad : GrowsBy d.bad d'.bad (n - length shown)
   pub buffers : HaveSameNumbers (owners d) (owners d' ++ buffers_of kept)
 
+-- The oldest slot.
+
+-- It left the ring: the first of the buffers is nobody's then.
+pub record LeavesRing (slot : Finished) (d d' : DriverState) : Type 0 where
+  pub first : d.buffers ≡ slot.buffer ∷ d'.buffers
+  pub behind : d' ≡ behind_oldest d d'.buffers d.handed_out
+  pub known : slot.buffer < d'.counts.buffers
+  pub out : copies slot.buffer (owners d') ≡ 0
+  pub size : IsTrue slot.whole → IsFrameSize slot.length
+
+-- Over a bus that obeys the law, it isn't done, so that none is finished;
+pub record FindsNone {B : Type 0} (bus : Ghosts B) (up : Bool) (old new : Moment B) : Type 0 where
+  pub none : finished old.driver.oldest_receive (bus.world new.bus) ≡ []
+  pub ran : Ran bus up (only (last_load old.driver.oldest_receive old.driver.buffers)) old new
+
+-- or it is, and its frame is handed out.
+pub record FindsOne {B : Type 0} (bus : Ghosts B) (slot : Finished) (up : Bool) (old new : Moment B) : Type 0 where
+  pub whole : IsTrue slot.whole
+  pub takes : TakesOldest up bus.world bus.happened old.bus new.bus old.driver slot.buffer slot.length new.driver.buffers
+
+abbrev pub LooksAt : {B : Type 0} → Ghosts B → Option Finished → Bool → (old new : Moment B) → Type 0
+LooksAt bus None = FindsNone bus
+LooksAt bus (Some slot) = FindsOne bus slot
+
+-- With a receiver.
+
+-- A moment of a driver's run, and of who takes its frames.
+pub record Scene (B R : Type 0) : Type 0 where
+  pub bus : B
+  pub driver : DriverState
+  pub receiver : R
+
+abbrev pub scene : {B R : Type 0} → B → DriverState → R → Scene B R
+scene bus driver receiver = record { bus = bus; driver = driver; receiver = receiver }
+
+abbrev pub moment : {B R : Type 0} → Scene B R → Moment B
+moment now = record { bus = now.bus; driver = now.driver }
+
+-- the same, while others hold these frames
+abbrev pub held_in : {B R : Type 0} → List HandedOut → Scene B R → Scene B R
+held_in held now = record now { driver = holding held now.driver }
+
+-- What holds of a call over a bus that obeys the law, by a driver that is ready, whichever frames others hold.
+abbrev pub WhereReadyIn : {B R : Type 0} → Ghosts B → (old new : Scene B R) → (Bool → Scene B R → Scene B R → Type 0) → Type 0
+WhereReadyIn bus old new Holds =
+    (up : Bool) (held : List HandedOut) → IsReady bus up (held_at held (moment old)) → Holds up (held_in held old) (held_in held new)
+
+-- the frames of slots that were taken
+abbrev pub frames_of : List HandedOut → List (List ℕ)
+frames_of taken = map (λ (one : HandedOut). one.frame) taken
+
 -- So many frames were taken off the ring, the oldest first, and all shown to the receiver, who has those of them that are handed out then.
 -- Some accesses follow.
-pub record Takes (up : Bool) {B R : Type 0} (world : B → World) (happened : B → B → Past → Type 0)
-    (took : R → R → List Received → List Received → Type 0) (later : List Access) (old new : B) (before after : R) (d d' : DriverState)
-    (n : ℕ) : Type 0 where
+pub record Takes {B R : Type 0} (bus : Ghosts B) (receivers : OfReceiver R) (later : List Access) (n : ℕ) (up : Bool)
+    (old new : Scene B R) : Type 0 where
   pub taken : List HandedOut
   pub handed_out : List HandedOut
-  pub told : took before after (map received_of taken) (map received_of handed_out)
+  pub told : receivers.took old.receiver new.receiver (map received_of taken) (map received_of handed_out)
   pub part : IsPart handed_out taken
   pub count : length taken ≡ n
-  pub oldest : d.buffers ≡ numbers_of taken ++ d'.buffers
-  pub bad : d'.bad ≡ d.bad
+  pub oldest : old.driver.buffers ≡ numbers_of taken ++ new.driver.buffers
+  pub bad : new.driver.bad ≡ old.driver.bad
   pub ran :
-      RanBy up world happened (takes_from d.counts d.oldest_receive (numbers_of taken) ++ later) old new d
-      (holding (d.handed_out ++ handed_out) d')
-      (map (λ (one : HandedOut). one.frame) taken) []
+      Ran bus up (record {
+        accesses = takes_from old.driver.counts old.driver.oldest_receive (numbers_of taken) ++ later;
+        taken = frames_of taken;
+        accepted = [];
+      }) (moment old) (held_at (old.driver.handed_out ++ handed_out) (moment new))
+
+-- So many slots left the ring, over any bus, and their frames were shown.
+pub record TakesSlots {R : Type 0} (receivers : OfReceiver R) (n : ℕ) (before after : R) (d d' : DriverState) : Type 0 where
+  pub others : d' ≡ record d { oldest_receive = d'.oldest_receive; buffers = d'.buffers; pool = d'.pool; bad = d'.bad }
+  pub next : d'.oldest_receive ≡ place d'.counts.rx d.oldest_receive n
+  pub count : n + length d'.buffers ≡ length d.buffers
+  pub shows : ShowsAll receivers.took before after d d' n
+
+-- Over one that obeys the law they were all that was finished.
+pub record TakesAll {B R : Type 0} (bus : Ghosts B) (receivers : OfReceiver R) (n : ℕ) (up : Bool) (old new : Scene B R) : Type 0 where
+  pub none_left : finished new.driver.oldest_receive (bus.world new.bus) ≡ []
+  pub takes : Takes bus receivers (last_load new.driver.oldest_receive new.driver.buffers) n up old new
+
+-- The bytes of a frame that is held, as they are read over a bus that obeys the law.
+abbrev pub ReadsHeld : {B : Type 0} → Ghosts B → Received → Moment B → List ℕ → Type 0
+ReadsHeld bus received now bytes =
+    (up : Bool) (first later : List HandedOut) (one : HandedOut) → IsReady bus up (held_at (first ++ one ∷ later) now)
+    → one.number ≡ received.buffer → length one.frame ≡ received.length → bytes ≡ one.frame

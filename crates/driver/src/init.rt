@@ -8,11 +8,12 @@ ghost use Rattle.bring_up.specs.Configuration.{CanBeHad, counts_of};
 ghost use Rattle.bring_up.specs.ConfiguredAdapters.{names_vlans};
 ghost use Rattle.bring_up.specs.Device.{IsBeforeAccess};
 ghost use Rattle.bring_up.specs.declared.init_error.InitError.TheVariants as InitError;
+ghost use Rattle.bus.specs.Keeping.{Keeps};
 ghost use Rattle.driver_law.specs.Beginnings.{new_driver};
-ghost use Rattle.driver_law.specs.DriverState.{DriverState, owners, with_owners};
-ghost use Rattle.driver_law.specs.Stretches.{IsRefilled, RanBy};
+ghost use Rattle.driver_law.specs.DriverState.{DriverState};
+ghost use Rattle.driver_law.specs.Stretches.{RanBy};
 ghost use Rattle.driver_law.specs.ReadyDrivers.{ReadyWith};
-ghost use Rattle.driver.specs.Initialisation.{FindsRing, Initialises, OffersFirst, Refuses, transmit_accesses};
+ghost use Rattle.driver.specs.Initialisation.{FindsRing, Initialises, IsFresh, OffersFirst, Refuses, transmit_accesses};
 
 use crate::Driver;
 use crate::refill::receive_slot;
@@ -34,10 +35,7 @@ use std::alloc::{AllocError, Global};
 fn find_ring<B: Bus>(bus: &mut B, config: &Config, layout: Layout) -> Result<(), InitError>
     requires counts { layout ≡ counts_of config.now }
     requires had { CanBeHad config.now (B.extent bus.old) }
-    ensures extent { B.extent bus.new ≡ B.extent bus.old }
-    ensures lent_stays { B.lent_stays bus.old bus.new }
-    ensures honest { B.honest bus.old → B.honest bus.new }
-    ensures lively { B.lively bus.old → B.lively bus.new }
+    ensures keeps { Keeps B.Bus bus.old bus.new }
     ensures errors { IfErr result (λ error. ¬ (IsBeforeAccess error)) }
     ensures finds { B.honest bus.old → FindsRing B.world B.happened B.lively bus.old bus.new config.now result }
 {
@@ -61,10 +59,7 @@ fn place_of(base: u64, slots: u16) -> RingPlace
 fn set_up_transmitter<B: Bus>(bus: &mut B, layout: Layout)
     requires allowed { IsAllowed layout }
     requires memory { size_of layout ≤ B.extent bus.old }
-    ensures extent { B.extent bus.new ≡ B.extent bus.old }
-    ensures lent_stays { B.lent_stays bus.old bus.new }
-    ensures honest { B.honest bus.old → B.honest bus.new }
-    ensures lively { B.lively bus.old → B.lively bus.new }
+    ensures keeps { Keeps B.Bus bus.old bus.new }
     ensures ran { (d : DriverState) → B.honest bus.old → ReadyWith false d (B.world bus.old) → d.counts ≡ layout
         → d.oldest_transmit ≡ 0 → d.sending ≡ 0 → (B.world bus.old).adapter.transmit_ring ≡ new_ring
         → RanBy true B.world B.happened (transmit_accesses layout) bus.old bus.new d d [] [] }
@@ -103,10 +98,7 @@ impl Driver {
         requires new { self.old ≡ new_driver self.old.counts self.old.pool }
         requires one_owner { HasOneOwner self.old.counts.buffers self.old.pool }
         requires enough { self.old.counts.rx ≤ self.old.counts.buffers }
-        ensures extent { B.extent bus.new ≡ B.extent bus.old }
-        ensures lent_stays { B.lent_stays bus.old bus.new }
-        ensures honest { B.honest bus.old → B.honest bus.new }
-        ensures lively { B.lively bus.old → B.lively bus.new }
+        ensures keeps { Keeps B.Bus bus.old bus.new }
         ensures offers { OffersFirst B.honest B.world B.happened bus.old bus.new self.old self.new }
     {
         self.stage_all(bus);
@@ -124,20 +116,12 @@ impl Driver {
     ///
     /// [`Config`](InitError::Config), else [`Memory`](InitError::Memory), else those of [`find_device`].
     pub fn init<B: Bus>(alloc: Global, bus: &mut B, config: &Config) -> Result<Driver, InitError>
-        ensures extent { B.extent bus.new ≡ B.extent bus.old }
-        ensures lent_stays { B.lent_stays bus.old bus.new }
-        ensures honest { B.honest bus.old → B.honest bus.new }
-        ensures lively { B.lively bus.old → B.lively bus.new }
+        ensures keeps { Keeps B.Bus bus.old bus.new }
 
         // What it does over any bus.
         ensures config { (result ≡ Err InitError.Config) ↔ ¬ CanBeHad config.now (B.extent bus.old) }
         ensures unasked { IfErr result (λ error. IsBeforeAccess error → bus.new ≡ bus.old) }
-        ensures counts { IfOk result (λ driver. driver.counts ≡ counts_of config.now) }
-        ensures new { IfOk result (λ driver. driver
-            ≡ with_owners (new_driver (counts_of config.now) []) driver.buffers [] driver.pool []) }
-        ensures one_owner { IfOk result (λ driver. HasOneOwner driver.counts.buffers (owners driver)) }
-        ensures none_out { IfOk result (λ driver. driver.handed_out ≡ []) }
-        ensures refilled { IfOk result IsRefilled }
+        ensures fresh { IfOk result (IsFresh config.now) }
 
         // And over one that obeys the law.
         ensures initialises { B.honest bus.old

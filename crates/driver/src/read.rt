@@ -1,11 +1,12 @@
 // A driver reads a frame that was handed out.
 
-ghost use Rattle.std.specs.Prelude.{◌≡◌, ◌≤◌, ◌<◌, ◌++◌, ◌∷◌, Bool, List, [], length, take, drop};
+ghost use Rattle.std.specs.Prelude.{◌≡◌, ◌≤◌, ◌<◌, ◌∷◌, [], take, drop};
 ghost use Rattle.dma_memory.specs.Layout.{size_of};
+ghost use Rattle.bus.specs.Keeping.{Keeps};
 ghost use Rattle.bus.specs.declared.event.Access.TheVariants.{Loads};
-ghost use Rattle.driver_law.specs.DriverState.{HandedOut, buffer_at, holding};
-ghost use Rattle.driver_law.specs.Stretches.{RanBy};
-ghost use Rattle.driver_law.specs.ReadyDrivers.{ReadyWith};
+ghost use Rattle.driver_law.specs.Calls.{Runs, at, only};
+ghost use Rattle.driver_law.specs.DriverState.{buffer_at};
+ghost use Rattle.driver.specs.TakenFrames.{ReadsHeld};
 
 use crate::{Driver, Received};
 use bus::Bus;
@@ -17,23 +18,14 @@ impl Driver {
         requires memory { size_of self.now.counts ≤ B.extent bus.old }
         requires known { received.now.buffer < self.now.counts.buffers }
         requires size { received.now.length ≤ 1518 }
-        ensures extent { B.extent bus.new ≡ B.extent bus.old }
-        ensures lent_stays { B.lent_stays bus.old bus.new }
-        ensures honest { B.honest bus.old → B.honest bus.new }
-        ensures lively { B.lively bus.old → B.lively bus.new }
+        ensures keeps { Keeps B.Bus bus.old bus.new }
         ensures length { result ≡ received.now.length }
         ensures rest { drop result into.new ≡ drop result into.old }
 
         // And over a bus that obeys the law.
-        ensures ran { (up : Bool) (held : List HandedOut) → B.honest bus.old
-            → ReadyWith up (holding held self.now) (B.world bus.old)
-            → RanBy up B.world B.happened
-            (Loads (buffer_at self.now.counts received.now.buffer) result ∷ []) bus.old bus.new
-            (holding held self.now) (holding held self.now) [] [] }
-        ensures frame { (up : Bool) (first later : List HandedOut) (one : HandedOut) → B.honest bus.old
-            → ReadyWith up (holding (first ++ one ∷ later) self.now) (B.world bus.old)
-            → one.number ≡ received.now.buffer → length one.frame ≡ received.now.length
-            → take result into.new ≡ one.frame }
+        ensures ran { Runs B.Bus (only (Loads (buffer_at self.now.counts received.now.buffer) result ∷ []))
+            (at bus.old self.now) (at bus.new self.now) }
+        ensures frame { ReadsHeld B.Bus received.now (at bus.old self.now) (take result into.new) }
     {
         let size = usize::from(received.length);
         let buffer = self.layout.receive_buffer(received.buffer.number());

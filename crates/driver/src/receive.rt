@@ -5,18 +5,16 @@ ghost use Rattle.dma_memory.specs.Layout.{size_of};
 ghost use Rattle.dma_memory.specs.Owners.{HasNoSecondOwner, copies};
 ghost use Rattle.registers.specs.Bits.{HasBit, is_set};
 ghost use Rattle.descriptors.specs.RxStatus.{dd, eop, status_bits};
-ghost use Rattle.descriptors.specs.RingLaws.{place};
 ghost use Rattle.rx_engine.specs.Addresses.{ether_type};
 ghost use Rattle.adapter.specs.Conditions.{IsWhole};
-ghost use Rattle.adapter.specs.Slots.{finished};
+ghost use Rattle.bus.specs.Keeping.{Keeps};
 ghost use Rattle.bus.specs.declared.event.Access.TheVariants.{Loads};
-ghost use Rattle.driver_law.specs.Accesses.{last_load};
+ghost use Rattle.driver_law.specs.Calls.{WhereReady, at};
 ghost use Rattle.driver_law.specs.DriverState.{HandedOut, buffer_at, holding, owners};
 ghost use Rattle.driver_law.specs.Stretches.{RanBy};
-ghost use Rattle.driver_law.specs.OldestSlot.{TakesOldest};
 ghost use Rattle.driver_law.specs.ReadyDrivers.{ReadyWith};
-ghost use Rattle.driver_law.specs.ReceiveSteps.{behind_oldest};
-ghost use Rattle.driver.specs.TakenFrames.{HandsOn, HandsOver, IsFrameSize, Shows, ShowsAll, Takes};
+ghost use Rattle.driver.specs.TakenFrames.{HandsOn, HandsOver, IsFrameSize, LeavesRing, LooksAt, Shows};
+ghost use Rattle.driver.specs.TakenFrames.{TakesAll, TakesSlots, WhereReadyIn, scene};
 
 use crate::refill::receive_slot;
 use crate::{Driver, Received, Receiver};
@@ -72,33 +70,10 @@ impl Driver {
     /// is done. Length and done bit are of the same load.
     fn take_next<B: Bus>(&mut self, bus: &mut B) -> Option<Finished>
         requires memory { size_of self.old.counts ≤ B.extent bus.old }
-        ensures extent { B.extent bus.new ≡ B.extent bus.old }
-        ensures lent_stays { B.lent_stays bus.old bus.new }
-        ensures honest { B.honest bus.old → B.honest bus.new }
-        ensures lively { B.lively bus.old → B.lively bus.new }
+        ensures keeps { Keeps B.Bus bus.old bus.new }
         ensures stays { IfNone result (self.new ≡ self.old) }
-        ensures first { IfSome result (λ finished. self.old.buffers ≡ finished.buffer ∷ self.new.buffers) }
-        ensures behind { IfSome result
-            (λ finished. self.new ≡ behind_oldest self.old self.new.buffers self.old.handed_out) }
-        ensures known { IfSome result (λ finished. finished.buffer < self.new.counts.buffers) }
-        ensures out { IfSome result (λ finished. copies finished.buffer (owners self.new) ≡ 0) }
-        ensures size { IfSome result (λ finished. IsTrue finished.whole → IsFrameSize finished.length) }
-        ensures whole { (up : Bool) (held : List HandedOut) → B.honest bus.old
-            → ReadyWith up (holding held self.old) (B.world bus.old)
-            → IfSome result (λ finished. IsTrue finished.whole) }
-        ensures none { (up : Bool) (held : List HandedOut) → B.honest bus.old
-            → ReadyWith up (holding held self.old) (B.world bus.old)
-            → IfNone result (finished self.old.oldest_receive (B.world bus.new) ≡ []) }
-        ensures looks { (up : Bool) (held : List HandedOut) → B.honest bus.old
-            → ReadyWith up (holding held self.old) (B.world bus.old)
-            → IfNone result
-            (RanBy up B.world B.happened (last_load self.old.oldest_receive self.old.buffers) bus.old bus.new
-            (holding held self.old) (holding held self.old) [] []) }
-        ensures takes { (up : Bool) (held : List HandedOut) → B.honest bus.old
-            → ReadyWith up (holding held self.old) (B.world bus.old)
-            → IfSome result
-            (λ finished. TakesOldest up B.world B.happened bus.old bus.new
-            (holding held self.old) finished.buffer finished.length self.new.buffers) }
+        ensures leaves { IfSome result (λ slot. LeavesRing slot self.old self.new) }
+        ensures looks { WhereReady B.Bus (at bus.old self.old) (at bus.new self.new) (LooksAt B.Bus result) }
     {
         if self.buffers.len() == usize::from(self.staged) {
             return None;
@@ -124,10 +99,7 @@ impl Driver {
     fn ether_type<B: Bus>(&self, bus: &mut B, buffer: u16) -> u16
         requires memory { size_of self.now.counts ≤ B.extent bus.old }
         requires known { buffer < self.now.counts.buffers }
-        ensures extent { B.extent bus.new ≡ B.extent bus.old }
-        ensures lent_stays { B.lent_stays bus.old bus.new }
-        ensures honest { B.honest bus.old → B.honest bus.new }
-        ensures lively { B.lively bus.old → B.lively bus.new }
+        ensures keeps { Keeps B.Bus bus.old bus.new }
         ensures ran { (up : Bool) (held : List HandedOut) → B.honest bus.old
             → ReadyWith up (holding held self.now) (B.world bus.old)
             → RanBy up B.world B.happened (Loads (buffer_at self.now.counts buffer + 12) 2 ∷ []) bus.old bus.new
@@ -160,10 +132,7 @@ impl Driver {
         requires known { finished.buffer < self.old.counts.buffers }
         requires out { copies finished.buffer (owners self.old) ≡ 0 }
         requires size { IsTrue finished.whole → IsFrameSize finished.length }
-        ensures extent { B.extent bus.new ≡ B.extent bus.old }
-        ensures lent_stays { B.lent_stays bus.old bus.new }
-        ensures honest { B.honest bus.old → B.honest bus.new }
-        ensures lively { B.lively bus.old → B.lively bus.new }
+        ensures keeps { Keeps B.Bus bus.old bus.new }
         ensures others { self.new ≡ record self.old { pool = self.new.pool; bad = self.new.bad } }
         ensures hands { HandsOn R.took receiver.old receiver.new finished.buffer self.old self.new }
         ensures over { (up : Bool) (held : List HandedOut) (one : HandedOut) → B.honest bus.old
@@ -191,33 +160,11 @@ impl Driver {
     /// descriptor, and behind it bytes 12 and 13 of its frame are loaded.
     pub fn take_finished<B: Bus, R: Receiver>(&mut self, bus: &mut B, receiver: &mut R) -> usize
         requires memory { size_of self.old.counts ≤ B.extent bus.old }
-        ensures extent { B.extent bus.new ≡ B.extent bus.old }
-        ensures lent_stays { B.lent_stays bus.old bus.new }
-        ensures honest { B.honest bus.old → B.honest bus.new }
-        ensures lively { B.lively bus.old → B.lively bus.new }
-
-        // What it does to its slots and buffers, over any bus.
-        ensures others { self.new
-            ≡ record self.old {
-              oldest_receive = self.new.oldest_receive;
-              buffers = self.new.buffers;
-              pool =
-                  self.new.pool;
-              bad = self.new.bad;
-            } }
-        ensures next { self.new.oldest_receive ≡ place self.new.counts.rx self.old.oldest_receive result }
-        ensures count { result + length self.new.buffers ≡ length self.old.buffers }
-        ensures shows { ShowsAll R.took receiver.old receiver.new self.old self.new result }
+        ensures keeps { Keeps B.Bus bus.old bus.new }
+        ensures slots { TakesSlots R.Receiver result receiver.old receiver.new self.old self.new }
         ensures one_owner { HasNoSecondOwner self.new.counts.buffers (owners self.new) }
-
-        // And over one that obeys the law.
-        ensures none_left { (up : Bool) (held : List HandedOut) → B.honest bus.old
-            → ReadyWith up (holding held self.old) (B.world bus.old)
-            → finished self.new.oldest_receive (B.world bus.new) ≡ [] }
-        ensures takes { (up : Bool) (held : List HandedOut) → B.honest bus.old
-            → ReadyWith up (holding held self.old) (B.world bus.old)
-            → Takes up B.world B.happened R.took (last_load self.new.oldest_receive self.new.buffers)
-            bus.old bus.new receiver.old receiver.new (holding held self.old) (holding held self.new) result }
+        ensures takes { WhereReadyIn B.Bus (scene bus.old self.old receiver.old) (scene bus.new self.new receiver.new)
+            (TakesAll B.Bus R.Receiver result) }
     {
         let before = self.receiving();
         while let Some(finished) = self.take_next(bus) {

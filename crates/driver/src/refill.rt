@@ -1,15 +1,16 @@
 // A driver offers receive slots.
 
-ghost use Rattle.std.specs.Prelude.{◌≡◌, ◌⊎◌, ◌+◌, ◌*◌, ◌<◌, ◌≤◌, ◌++◌, ◌∷◌, ℕ, Bool, List, [], length};
+ghost use Rattle.std.specs.Prelude.{◌≡◌, ◌⊎◌, ◌+◌, ◌*◌, ◌<◌, ◌≤◌, ◌++◌, ◌∷◌, ℕ, [], length};
 ghost use Rattle.std.specs.Bool.{OnFalse, OnTrue};
 ghost use Rattle.dma_memory.specs.Layout.{size_of};
 ghost use Rattle.dma_memory.specs.Owners.{HasNoSecondOwner, HaveSameNumbers, copies};
 ghost use Rattle.descriptors.specs.RxDesc.{rx_desc_bytes};
+ghost use Rattle.bus.specs.Keeping.{Keeps};
 ghost use Rattle.driver_law.specs.Accesses.{tail_write};
-ghost use Rattle.driver_law.specs.DriverState.{HandedOut, holding, next_receive, owners, with_owners};
-ghost use Rattle.driver_law.specs.Stretches.{IsRefilled, RanBy};
-ghost use Rattle.driver_law.specs.ReadyDrivers.{ReadyWith, empty_descriptor};
-ghost use Rattle.driver.specs.RefillSteps.{Refills, Stages, StagesSome};
+ghost use Rattle.driver_law.specs.DriverState.{next_receive, owners, with_owners};
+ghost use Rattle.driver_law.specs.Calls.{Runs, WhereReady, at, only};
+ghost use Rattle.driver_law.specs.ReadyDrivers.{empty_descriptor};
+ghost use Rattle.driver.specs.RefillSteps.{OffersAll, Refills, Stages, StagesSome, WhereHeld};
 
 use crate::Driver;
 use adapter::offsets::RDT;
@@ -44,10 +45,7 @@ impl Driver {
     /// slot more would still be left. Tells whether it did.
     fn stage<B: Bus>(&mut self, bus: &mut B) -> bool
         requires memory { size_of self.old.counts ≤ B.extent bus.old }
-        ensures extent { B.extent bus.new ≡ B.extent bus.old }
-        ensures lent_stays { B.lent_stays bus.old bus.new }
-        ensures honest { B.honest bus.old → B.honest bus.new }
-        ensures lively { B.lively bus.old → B.lively bus.new }
+        ensures keeps { Keeps B.Bus bus.old bus.new }
         ensures stages { OnTrue result ((number : ℕ)
             × Stages B.honest B.world B.happened bus.old bus.new self.old self.new (number ∷ [])) }
         ensures room { length self.new.buffers + length self.new.staged < self.new.counts.rx }
@@ -74,10 +72,7 @@ impl Driver {
     /// Stages slots as long as there is a free buffer, and room: one slot always stays the driver's.
     pub(crate) fn stage_all<B: Bus>(&mut self, bus: &mut B)
         requires memory { size_of self.old.counts ≤ B.extent bus.old }
-        ensures extent { B.extent bus.new ≡ B.extent bus.old }
-        ensures lent_stays { B.lent_stays bus.old bus.new }
-        ensures honest { B.honest bus.old → B.honest bus.new }
-        ensures lively { B.lively bus.old → B.lively bus.new }
+        ensures keeps { Keeps B.Bus bus.old bus.new }
         ensures stages { StagesSome B.honest B.world B.happened bus.old bus.new self.old self.new }
         ensures room { length self.new.buffers + length self.new.staged < self.new.counts.rx }
         ensures full { (self.new.pool ≡ [])
@@ -88,17 +83,12 @@ impl Driver {
 
     /// Offers all staged slots by one write of RDT, where there are any.
     pub(crate) fn offer<B: Bus>(&mut self, bus: &mut B)
-        ensures extent { B.extent bus.new ≡ B.extent bus.old }
-        ensures lent_stays { B.lent_stays bus.old bus.new }
-        ensures honest { B.honest bus.old → B.honest bus.new }
-        ensures lively { B.lively bus.old → B.lively bus.new }
+        ensures keeps { Keeps B.Bus bus.old bus.new }
         ensures others { self.new ≡ with_owners self.old (self.old.buffers ++ self.old.staged) [] self.old.pool [] }
         ensures owners { HaveSameNumbers (owners self.old) (owners self.new) }
         ensures one_owner { HasNoSecondOwner self.new.counts.buffers (owners self.new) }
-        ensures ran { (up : Bool) (held : List HandedOut) → B.honest bus.old
-            → ReadyWith up (holding held self.old) (B.world bus.old)
-            → RanBy up B.world B.happened (tail_write (next_receive self.old) self.old.staged) bus.old bus.new
-            (holding held self.old) (holding held self.new) [] [] }
+        ensures ran { Runs B.Bus (only (tail_write (next_receive self.old) self.old.staged))
+            (at bus.old self.old) (at bus.new self.new) }
     {
         if self.staged == 0 {
             return;
@@ -122,21 +112,10 @@ impl Driver {
     /// stays the driver's. It stores their descriptors, and then writes RDT once, where any were stored.
     pub fn refill<B: Bus>(&mut self, bus: &mut B)
         requires memory { size_of self.old.counts ≤ B.extent bus.old }
-        ensures extent { B.extent bus.new ≡ B.extent bus.old }
-        ensures lent_stays { B.lent_stays bus.old bus.new }
-        ensures honest { B.honest bus.old → B.honest bus.new }
-        ensures lively { B.lively bus.old → B.lively bus.new }
-
-        // What it does to its slots and buffers, over any bus.
-        ensures others { self.new ≡ with_owners self.old self.new.buffers [] self.new.pool [] }
-        ensures refilled { IsRefilled self.new }
+        ensures keeps { Keeps B.Bus bus.old bus.new }
+        ensures offers { OffersAll self.old self.new }
         ensures owners { HaveSameNumbers (owners self.old) (owners self.new) }
-        ensures one_owner { HasNoSecondOwner self.new.counts.buffers (owners self.new) }
-
-        // And over one that obeys the law.
-        ensures ran { (up : Bool) (held : List HandedOut) → B.honest bus.old
-            → ReadyWith up (holding held self.old) (B.world bus.old)
-            → Refills up B.world B.happened bus.old bus.new (holding held self.old) (holding held self.new) }
+        ensures refills { WhereReady B.Bus (at bus.old self.old) (at bus.new self.new) (Refills B.Bus) }
     {
         self.stage_all(bus);
         self.offer(bus);
@@ -147,22 +126,10 @@ impl Driver {
         requires memory { size_of self.old.counts ≤ B.extent bus.old }
         requires known { buffer < self.old.counts.buffers }
         requires out { copies buffer (owners self.old) ≡ 0 }
-        ensures extent { B.extent bus.new ≡ B.extent bus.old }
-        ensures lent_stays { B.lent_stays bus.old bus.new }
-        ensures honest { B.honest bus.old → B.honest bus.new }
-        ensures lively { B.lively bus.old → B.lively bus.new }
-
-        // What it does to its slots and buffers, over any bus.
-        ensures others { self.new ≡ with_owners self.old self.new.buffers [] self.new.pool [] }
-        ensures refilled { IsRefilled self.new }
+        ensures keeps { Keeps B.Bus bus.old bus.new }
+        ensures offers { OffersAll self.old self.new }
         ensures owners { HaveSameNumbers (buffer ∷ owners self.old) (owners self.new) }
-        ensures one_owner { HasNoSecondOwner self.new.counts.buffers (owners self.new) }
-
-        // And over one that obeys the law: the frame in that buffer isn't handed out any more.
-        ensures ran { (up : Bool) (first later : List HandedOut) (one : HandedOut) → one.number ≡ buffer
-            → B.honest bus.old → ReadyWith up (holding (first ++ one ∷ later) self.old) (B.world bus.old)
-            → Refills up B.world B.happened bus.old bus.new (holding (first ++ one ∷ later) self.old)
-            (holding (first ++ later) self.new) }
+        ensures gives { WhereHeld B.Bus buffer (at bus.old self.old) (at bus.new self.new) (Refills B.Bus) }
     {
         self.put_back(buffer);
         self.refill(bus);

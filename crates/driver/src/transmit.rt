@@ -1,17 +1,16 @@
 // A driver sends frames.
 
-ghost use Rattle.std.specs.Prelude.{◌≡◌, ◌↔◌, ◌+◌, ◌<◌, ◌≤◌, ◌∷◌, ℕ, true, List, [], Err, length, min, slice_index};
+ghost use Rattle.std.specs.Prelude.{◌≡◌, ◌↔◌, ◌+◌, ◌<◌, ◌≤◌, true, Err, length, slice_index};
 ghost use Rattle.std.specs.Bool.{OnFalse, OnTrue};
 ghost use Rattle.registers.specs.Bits.{is_set};
 ghost use Rattle.dma_memory.specs.Layout.{size_of};
-ghost use Rattle.descriptors.specs.Frames.{padded};
 ghost use Rattle.descriptors.specs.TxFields.{tx_dd};
-ghost use Rattle.adapter.specs.Slots.{written_back};
-ghost use Rattle.driver_law.specs.DriverState.{HandedOut, holding, transmit_slot, transmit_tail};
-ghost use Rattle.driver_law.specs.Stretches.{RanBy};
-ghost use Rattle.driver_law.specs.ReadyDrivers.{Ready};
-ghost use Rattle.driver_law.specs.TransmitSteps.{send_accesses, transmit_loads, whole_descriptor, with_freed};
-ghost use Rattle.driver.specs.SendSteps.{IsRefused, Reclaims, Transmits, with_sending};
+ghost use Rattle.bus.specs.Keeping.{Keeps};
+ghost use Rattle.driver_law.specs.Calls.{Ran, WhereUp, at};
+ghost use Rattle.driver_law.specs.DriverState.{transmit_slot, transmit_tail};
+ghost use Rattle.driver_law.specs.TransmitSteps.{whole_descriptor};
+ghost use Rattle.driver.specs.SendSteps.{FreesOldest, IsRefused, LooksBack, Reclaims, Transmits};
+ghost use Rattle.driver.specs.SendSteps.{sent_now, with_sending};
 
 use crate::Driver;
 use adapter::offsets::TDT;
@@ -79,19 +78,10 @@ impl Driver {
     /// Frees the oldest transmit slot where its descriptor is done, and tells whether it was.
     fn free_oldest<B: Bus>(&mut self, bus: &mut B) -> bool
         requires memory { size_of self.old.counts ≤ B.extent bus.old }
-        ensures extent { B.extent bus.new ≡ B.extent bus.old }
-        ensures lent_stays { B.lent_stays bus.old bus.new }
-        ensures honest { B.honest bus.old → B.honest bus.new }
-        ensures lively { B.lively bus.old → B.lively bus.new }
-        ensures some { OnTrue result (0 < self.old.sending) }
-        ensures freed { OnTrue result (self.new ≡ with_freed self.old) }
+        ensures keeps { Keeps B.Bus bus.old bus.new }
+        ensures freed { OnTrue result (FreesOldest self.old self.new) }
         ensures stays { OnFalse result (self.new ≡ self.old) }
-        ensures ran { (held : List HandedOut) → B.honest bus.old → Ready (holding held self.old) (B.world bus.old)
-            → RanBy true B.world B.happened
-            (transmit_loads self.old.counts self.old.oldest_transmit (min self.old.sending 1)) bus.old bus.new
-            (holding held self.old) (holding held self.new) [] [] }
-        ensures none { (held : List HandedOut) → B.honest bus.old → Ready (holding held self.old) (B.world bus.old)
-            → OnFalse result (written_back self.new.oldest_transmit (B.world bus.new) ≡ []) }
+        ensures looks { WhereUp B.Bus (at bus.old self.old) (at bus.new self.new) (LooksBack B.Bus result) }
     {
         if self.sending == 0 {
             return false;
@@ -113,14 +103,10 @@ impl Driver {
     /// is left.
     pub(crate) fn reclaim<B: Bus>(&mut self, bus: &mut B)
         requires memory { size_of self.old.counts ≤ B.extent bus.old }
-        ensures extent { B.extent bus.new ≡ B.extent bus.old }
-        ensures lent_stays { B.lent_stays bus.old bus.new }
-        ensures honest { B.honest bus.old → B.honest bus.new }
-        ensures lively { B.lively bus.old → B.lively bus.new }
+        ensures keeps { Keeps B.Bus bus.old bus.new }
         ensures others { self.new ≡ with_sending self.old self.new.oldest_transmit self.new.sending }
         ensures tail { transmit_tail self.new ≡ transmit_tail self.old }
-        ensures ran { (held : List HandedOut) → B.honest bus.old → Ready (holding held self.old) (B.world bus.old)
-            → Reclaims B.world B.happened bus.old bus.new (holding held self.old) (holding held self.new) }
+        ensures reclaims { WhereUp B.Bus (at bus.old self.old) (at bus.new self.new) (Reclaims B.Bus) }
     {
         while self.free_oldest(bus) {}
     }
@@ -132,15 +118,10 @@ impl Driver {
         requires room { self.old.sending + 1 < self.old.counts.tx }
         requires least { 14 ≤ length frame.now }
         requires most { length frame.now ≤ 1518 }
-        ensures extent { B.extent bus.new ≡ B.extent bus.old }
-        ensures lent_stays { B.lent_stays bus.old bus.new }
-        ensures honest { B.honest bus.old → B.honest bus.new }
-        ensures lively { B.lively bus.old → B.lively bus.new }
+        ensures keeps { Keeps B.Bus bus.old bus.new }
         ensures others { self.new ≡ with_sending self.old self.old.oldest_transmit (self.old.sending + 1) }
-        ensures ran { (held : List HandedOut) → B.honest bus.old → Ready (holding held self.old) (B.world bus.old)
-            → RanBy true B.world B.happened (send_accesses self.old frame.now) bus.old bus.new (holding held self.old)
-            (holding held self.new)
-            [] (padded frame.now ∷ []) }
+        ensures sends { WhereUp B.Bus (at bus.old self.old) (at bus.new self.new)
+            (Ran B.Bus true (sent_now self.old frame.now)) }
     {
         let layout = self.layout;
         let buffer = layout.transmit_buffer(self.next_transmit);
@@ -163,10 +144,7 @@ impl Driver {
     /// [`RingFull`](SendError::RingFull) where all slots of the ring but one are outstanding still.
     pub fn transmit<B: Bus>(&mut self, bus: &mut B, frame: &[u8]) -> Result<(), SendError>
         requires memory { size_of self.old.counts ≤ B.extent bus.old }
-        ensures extent { B.extent bus.new ≡ B.extent bus.old }
-        ensures lent_stays { B.lent_stays bus.old bus.new }
-        ensures honest { B.honest bus.old → B.honest bus.new }
-        ensures lively { B.lively bus.old → B.lively bus.new }
+        ensures keeps { Keeps B.Bus bus.old bus.new }
 
         // What it does over any bus.
         ensures others { self.new ≡ with_sending self.old self.new.oldest_transmit self.new.sending }
@@ -175,9 +153,7 @@ impl Driver {
         ensures nothing { IsRefused result → (bus.new ≡ bus.old) × (self.new ≡ self.old) }
 
         // And over one that obeys the law.
-        ensures ran { (held : List HandedOut) → B.honest bus.old → Ready (holding held self.old) (B.world bus.old)
-            → Transmits B.world B.happened bus.old bus.new (holding held self.old)
-            (holding held self.new) frame.now result }
+        ensures transmits { Transmits B.Bus frame.now result (at bus.old self.old) (at bus.new self.new) }
     {
         if frame.len() < SHORTEST_SENT {
             return Err(SendError::TooShort);

@@ -25,3 +25,4 @@ pub mod RegisterWrites
 pub mod WaitingStates
 pub mod RegisterAccesses
 pub mod FramesCounted
+pub mod Calls

@@ -8,3 +8,4 @@ pub mod Accesses
 pub mod ReceiveSteps
 pub mod OldestSlot
 pub mod ControlWrites
+pub mod Calls

@@ -27,11 +27,13 @@ use Rattle.driver.specs.declared.interrupt.Handled.{Handled}
 use Rattle.driver.specs.declared.interrupt.Handled.TheVariants.{NotMine}
 use Rattle.driver.specs.declared.interrupt.Handled.TheVariants as answers
 use Rattle.packet_socket.specs.HeldFrames.{HostReady}
-use Rattle.packet_socket.specs.HostCalls.{HostHandles, HostHandlesBy}
+use Rattle.driver.specs.HandlerSteps.{Asked}
+use Rattle.packet_socket.specs.HostCalls.{HostHandles, HostHandlesBy, driver_at, host_at}
 use Rattle.packet_socket.specs.HostState.{HostState}
 use Rattle.host_calls.proofs.FirstAccess.{first-access}
 use Rattle.host_calls.proofs.QuietEvents.{common, leaves-alone, meets, quiet-events, quiet-steps}
 use Rattle.host_calls.proofs.SilentEvents.{did-or_silent, silent-events}
+use Rattle.host_calls.specs.LentCalls.{lent}
 use Rattle.host_calls.specs.InterruptCauses.{AnswersCauses, DidSomething, ReadsIcrFirst, TellsCauses}
 
 -- A read of ICR answers the recorded causes.
@@ -91,28 +93,29 @@ mine-answer caller early a b causes run some =
       ]
     ]
 
-by-answer : (a middle m : LentBus) (past : Past) (h h' : HostState) (result : Handled) (causes : ℕ) (early : List AtomicStep)
-    (b : List StationState)
-    → HostReady h (world_here a) → HostHandlesBy result true world_here Retells a middle m past h h' causes
-    → EarlyRun a.host early a.stations.now b causes
+by-answer : (a m : LentBus) (h h' : HostState) (asked : Asked lent true (driver_at lent (host_at a h))) (result : Handled)
+    (early : List AtomicStep) (b : List StationState)
+    → HostReady h (world_here a) → HostHandlesBy lent result (host_at a h) (host_at m h') asked
+    → EarlyRun a.host early a.stations.now b asked.causes
     → AnswersCauses result a.host (world_here a).adapter.causes.recorded early
-by-answer a middle m past h h' NotMine causes early b ready behind run =
-    quiet-answer a.host early a.stations.now b causes _ _ run ready.ready.sound behind.leaves.none
-by-answer a middle m past h h' (answers.Handled taken) causes early b ready behind run =
-    mine-answer a.host early a.stations.now b causes run behind.some
+by-answer a m h h' asked NotMine early b ready behind run =
+    quiet-answer a.host early a.stations.now b asked.causes _ _ run ready.ready.sound behind.leaves.none
+by-answer a m h h' asked (answers.Handled taken) early b ready behind run =
+    mine-answer a.host early a.stations.now b asked.causes run behind.some
 
 pub calls-tell_causes : (a m b : LentBus) (h h' : HostState) (result : Handled) (past : Past) (more : List Access)
-    → HostReady h (world_here a) → (handles : HostHandles true world_here Retells a m h h' result) → (told : Retells a b past)
-    → past.accesses ≡ Reads ICR handles.causes ∷ more
-    → TellsCauses a.host told.steps handles.causes (world_here a).adapter.causes.recorded result
+    → HostReady h (world_here a) → (handles : HostHandles lent result true (host_at a h) (host_at m h')) → (told : Retells a b past)
+    → past.accesses ≡ Reads ICR handles.asked.causes ∷ more
+    → TellsCauses a.host told.steps handles.asked.causes (world_here a).adapter.causes.recorded result
 calls-tell_causes a m b h h' result past more ready handles told reads =
     let only = sym (ap (λ (p : Past). p.accesses) told.past_is) ∙ reads in
-    let first = first-access a.host told.steps a.stations.now b.stations.now (Reads ICR handles.causes) more told.leads only in
+    let causes = handles.asked.causes in
+    let first = first-access a.host told.steps a.stations.now b.stations.now (Reads ICR causes) more told.leads only in
     record {
       early = first.early;
       first = record { later = first.later; split = first.split; ticks = first.ticks };
       answer =
-          by-answer a handles.middle m handles.reads.past h h' result handles.causes first.early first.middle ready handles.behind
+          by-answer a m h h' handles.asked result first.early first.middle ready handles.behind
           (record {
             ticks = first.ticks;
             leads = first.leads;
@@ -121,11 +124,11 @@ calls-tell_causes a m b h h' result past more ready handles told reads =
     }
 
 pub answers-tell_causes : (a m : LentBus) (h h' : HostState) (result : Handled) → HostReady h (world_here a)
-    → (handles : HostHandles true world_here Retells a m h h' result)
-    → TellsCauses a.host handles.reads.told.steps handles.causes (world_here a).adapter.causes.recorded result
+    → (handles : HostHandles lent result true (host_at a h) (host_at m h'))
+    → TellsCauses a.host handles.asked.reads.told.steps handles.asked.causes (world_here a).adapter.causes.recorded result
 answers-tell_causes a m h h' result ready handles =
-    let reads = handles.reads in
-    calls-tell_causes a m handles.middle h h' result reads.past [] ready handles reads.told reads.only
+    let reads = handles.asked.reads in
+    calls-tell_causes a m handles.asked.behind h h' result reads.past [] ready handles reads.told reads.only
 
 pub first-reads_stay : (caller : ℕ) (steps early more : List AtomicStep) (causes : ℕ) → ReadsIcrFirst caller steps early causes
     → ReadsIcrFirst caller (steps ++ more) early causes

@@ -16,13 +16,13 @@ use Rattle.driver_law.proofs.Places.{place-below}
 use Rattle.driver_law.specs.DriverState.{HandedOut, next_receive, numbers_of}
 use Rattle.driver_law.specs.Stretches.{IsRefilled}
 use Rattle.driver.specs.HandlerSteps.{OnTaken}
-use Rattle.driver.specs.TakenFrames.{GrowsBy, received_of}
+use Rattle.driver.specs.TakenFrames.{GrowsBy, frames_of, received_of}
 use Rattle.driver.specs.declared.receiver.Received.{Received}
 use Rattle.driver.specs.declared.interrupt.Handled.{Handled}
 use Rattle.driver.specs.declared.interrupt.Handled.TheVariants.{NotMine}
 use Rattle.driver.specs.declared.interrupt.Handled.TheVariants as answers
 use Rattle.packet_socket.specs.HeldFrames.{HostReady, without_socket}
-use Rattle.packet_socket.specs.HostCalls.{HostHandles, frames_taken}
+use Rattle.packet_socket.specs.HostCalls.{HostHandles, HostServes, host_at}
 use Rattle.packet_socket.specs.HostState.{HostState}
 use Rattle.packet_socket.specs.SocketKinds.{has_none}
 use Rattle.packet_socket.specs.SocketsState.{unclaimed_of}
@@ -32,6 +32,7 @@ use Rattle.host_calls.specs.CallsOfHosts.{IsOfDriver, OnlyLastWrites}
 use Rattle.dma_memory.specs.Layout.{Counts}
 use Rattle.host_calls.proofs.Answering.{calls-tell_causes, first-reads_stay}
 use Rattle.host_calls.specs.InterruptCauses.{TellsCauses}
+use Rattle.host_calls.specs.LentCalls.{lent}
 use Rattle.stations.specs.AtomicSteps.{AtomicStep}
 use Rattle.stations.specs.Outcomes.{OutcomeList}
 use Rattle.stations.specs.Stations.{StationState}
@@ -41,16 +42,16 @@ use Rattle.host_calls.proofs.DriversAccesses.{causes-of_driver, handles-last, ha
 
 -- Frames without a socket are counted as they are taken.
 same-count : (kinds : List SocketKind) (taken : List HandedOut) → unclaimed_of kinds (map received_of taken)
-    ≡ without_socket kinds (frames_taken taken)
+    ≡ without_socket kinds (frames_of taken)
 same-count kinds [] = refl
 same-count kinds (one ∷ later) =
     let shown = sum_by-cons (λ (r : Received). cond (has_none kinds r.ether_type) 1 0) (received_of one) (map received_of later) in
-    let frames = sum_by-cons (λ (frame : List ℕ). cond (has_none kinds (ether_type frame)) 1 0) one.frame (frames_taken later) in
+    let frames = sum_by-cons (λ (frame : List ℕ). cond (has_none kinds (ether_type frame)) 1 0) one.frame (frames_of later) in
     let rest = same-count kinds later in
     omega (arith, shown, frames, rest)
 
 taken-unclaimed : (kinds : List SocketKind) (taken : List HandedOut) (before behind : ℕ)
-    → GrowsBy before behind (unclaimed_of kinds (map received_of taken)) → GrowsBy before behind (without_socket kinds (frames_taken taken))
+    → GrowsBy before behind (unclaimed_of kinds (map received_of taken)) → GrowsBy before behind (without_socket kinds (frames_of taken))
 taken-unclaimed kinds taken before behind grows = subst (GrowsBy before behind) (same-count kinds taken) grows
 
 -- What the whole call tells of causes, where its first part does.
@@ -61,38 +62,39 @@ tells-on caller first last steps causes recorded result tells is =
     (record { early = tells.early; first = first-reads_stay caller first tells.early last causes tells.first; answer = tells.answer })
 
 leaves-runs : (a m b : LentBus) (h h' : HostState) → a.accesses ≡ 0 → HostReady h (world_here a)
-    → HostHandles true world_here Retells a m h h' NotMine → Finished m b
+    → HostHandles lent NotMine true (host_at a h) (host_at m h') → Finished m b
     → InterruptRuns NotMine a.host a.ticks.now a.stations.now b.stations.now a.outcomes.now b.outcomes.now b.accesses h h'
 leaves-runs a m b h h' zero ready handles finished =
     let leaves = handles.behind in
-    let past = handles.reads.past in
-    let only = handles.reads.only in
-    let told = subst (λ (bus : LentBus). Retells a bus past) (sym leaves.leaves.still) handles.reads.told in
+    let past = handles.asked.reads.past in
+    let only = handles.asked.reads.only in
+    let told = subst (λ (bus : LentBus). Retells a bus past) (sym leaves.leaves.still) handles.asked.reads.told in
     let made = call-runs_by a m b past h h' [] [] [] (MakesInterrupt NotMine h h') zero told leaves.flows
     (subst (λ (accesses : List Access). All (IsOfDriver h.driver.counts) accesses) (sym only)
-    (causes-of_driver h.driver.counts handles.causes))
+    (causes-of_driver h.driver.counts handles.asked.causes))
     (subst OnlyLastWrites (sym only) tt)
-    (handles.causes, only)
-    leaves.leaves.work
+    (handles.asked.causes, only)
+    (λ before. let behind = leaves.leaves.work (record { enabled = before.enabled; asked = before.asked }) in record
+    { enabled = behind.enabled; asked = behind.asked })
     (subst (λ (host : HostState). IsRefilled h.driver → IsRefilled host.driver) (sym leaves.stays) (λ refilled. refilled))
     (subst (λ (host : HostState). h.driver.staged ≡ [] → host.driver.staged ≡ []) (sym leaves.stays) (λ offered. offered))
     finished in
     record {
       taken = [];
       runs = made.0;
-      causes = handles.causes;
-      tells = tells-on a.host told.steps finished.plays.steps made.0.steps handles.causes (world_here a).adapter.causes.recorded NotMine
-          (calls-tell_causes a m m h h' NotMine past [] ready handles told only) made.1;
+      causes = handles.asked.causes;
+      tells = tells-on a.host told.steps finished.plays.steps made.0.steps handles.asked.causes (world_here a).adapter.causes.recorded
+          NotMine (calls-tell_causes a m m h h' NotMine past [] ready handles told only) made.1;
       answer = record { stays = leaves.stays; none = refl };
     }
 
 works-runs : (a m b : LentBus) (h h' : HostState) (n : ℕ) → a.accesses ≡ 0 → HostReady h (world_here a) → IsRefilled h'.driver
-    → h'.driver.staged ≡ [] → HostHandles true world_here Retells a m h h' (answers.Handled n) → Finished m b
+    → h'.driver.staged ≡ [] → HostHandles lent (answers.Handled n) true (host_at a h) (host_at m h') → Finished m b
     → InterruptRuns (answers.Handled n) a.host a.ticks.now a.stations.now b.stations.now a.outcomes.now b.outcomes.now b.accesses h h'
 works-runs a m b h h' n zero ready refilled offered handles finished =
     let works = handles.behind in
-    let past = handles.reads.past in
-    let only = handles.reads.only in
+    let past = handles.asked.reads.past in
+    let only = handles.asked.reads.only in
     let own = h.driver.counts in
     let counts = works.flows.flows.counts in
     let driver = works.flows.flows.ready.driver_is in
@@ -100,17 +102,17 @@ works-runs a m b h h' n zero ready refilled offered handles finished =
     place-below h'.driver.counts.rx h'.driver.oldest_receive (length h'.driver.buffers + length h'.driver.staged) driver.oldest_slot in
     let driver_accesses = handles-of_driver own h.driver works.misses (numbers_of works.taken) works.rest works.offered
     (next_receive h'.driver) (subst (λ (c : Counts). next_receive h'.driver < c.rx) counts below) in
-    let told = retells_join a handles.middle m past works.ran.past handles.reads.told works.ran.told in
-    let made = call-runs_by a m b (joined past works.ran.past) h h' (frames_taken works.taken) [] []
+    let told = retells_join a handles.asked.behind m past works.ran.past handles.asked.reads.told works.ran.told in
+    let made = call-runs_by a m b (joined past works.ran.past) h h' (frames_of works.taken) [] []
     (MakesInterrupt (answers.Handled n) h h') zero told works.flows
     (All-append (IsOfDriver own) past.accesses works.ran.past.accesses
-    (subst (λ (accesses : List Access). All (IsOfDriver own) accesses) (sym only) (causes-of_driver own handles.causes))
+    (subst (λ (accesses : List Access). All (IsOfDriver own) accesses) (sym only) (causes-of_driver own handles.asked.causes))
     (subst (λ (accesses : List Access). All (IsOfDriver own) accesses) (sym works.ran.only) driver_accesses))
     (subst OnlyLastWrites (ap (λ (accesses : List Access). accesses ++ works.ran.past.accesses) (sym only))
     (subst OnlyLastWrites (sym works.ran.only)
     (handles-last h.driver works.misses (numbers_of works.taken) works.rest works.offered (next_receive h'.driver))))
     (record {
-      causes = handles.causes;
+      causes = handles.asked.causes;
       misses = works.misses;
       taken = numbers_of works.taken;
       count = length-map works.taken (λ (one : HandedOut). one.number) ∙ works.count;
@@ -120,15 +122,15 @@ works-runs a m b h h' n zero ready refilled offered handles finished =
       newest = works.newest;
       exact =
           ap (λ (accesses : List Access). accesses ++ works.ran.past.accesses) only
-          ∙ ap (λ (accesses : List Access). Reads ICR handles.causes ∷ accesses) works.ran.only;
+          ∙ ap (λ (accesses : List Access). Reads ICR handles.asked.causes ∷ accesses) works.ran.only;
     })
     (λ work. works.work work.enabled)
     (λ before. refilled) (λ before. offered) finished in
     record {
-      taken = frames_taken works.taken;
+      taken = frames_of works.taken;
       runs = made.0;
-      causes = handles.causes;
-      tells = tells-on a.host told.steps finished.plays.steps made.0.steps handles.causes (world_here a).adapter.causes.recorded
+      causes = handles.asked.causes;
+      tells = tells-on a.host told.steps finished.plays.steps made.0.steps handles.asked.causes (world_here a).adapter.causes.recorded
           (answers.Handled n)
           (calls-tell_causes a m m h h' (answers.Handled n) (joined past works.ran.past) works.ran.past.accesses ready handles told
           (ap (λ (accesses : List Access). accesses ++ works.ran.past.accesses) only)) made.1;
@@ -140,12 +142,12 @@ works-runs a m b h h' n zero ready refilled offered handles finished =
     }
 
 pub interrupt-runs : (a m b : LentBus) (h h' : HostState) (result : Handled) → a.accesses ≡ 0 → HostReady h (world_here a)
-    → OnTaken result (λ taken. IsRefilled h'.driver) → OnTaken result (λ taken. h'.driver.staged ≡ [])
-    → HostHandles true world_here Retells a m h h' result → Finished m b
+    → OnTaken result (HostServes h h')
+    → HostHandles lent result true (host_at a h) (host_at m h') → Finished m b
     → InterruptRuns result a.host a.ticks.now a.stations.now b.stations.now a.outcomes.now b.outcomes.now b.accesses h h'
-interrupt-runs a m b h h' NotMine zero ready refilled offered handles finished = leaves-runs a m b h h' zero ready handles finished
-interrupt-runs a m b h h' (answers.Handled n) zero ready refilled offered handles finished =
-    works-runs a m b h h' n zero ready refilled offered handles finished
+interrupt-runs a m b h h' NotMine zero ready serves handles finished = leaves-runs a m b h h' zero ready handles finished
+interrupt-runs a m b h h' (answers.Handled n) zero ready serves handles finished =
+    works-runs a m b h h' n zero ready serves.refilled serves.offered handles finished
 
 -- What was lent comes back.
 pub interrupt-back : (result : Handled) (place : ℕ) (ticks : List Tick) (old new new' : List StationState)

@@ -9,7 +9,7 @@ use Rattle.bus.proofs.Composition.{happens_none}
 use Rattle.bus.proofs.Lists.{all-none}
 use Rattle.bus.specs.PastOfStretch.{nothing}
 use Rattle.bus.specs.declared.event.Access.{Access}
-use Rattle.stations.specs.Retelling.{Finished, Retells, world_here}
+use Rattle.stations.specs.Retelling.{Finished, world_here}
 use Rattle.stations.specs.RetellingLaws.{retells_none}
 use Rattle.stations.specs.declared.lent_bus.LentBus.{LentBus}
 use Rattle.driver_law.proofs.Places.{place-below}
@@ -17,7 +17,7 @@ use Rattle.driver_law.specs.DriverState.{next_receive}
 use Rattle.driver_law.specs.Stretches.{IsRefilled}
 use Rattle.packet_socket.proofs.Stretches.{host-happens}
 use Rattle.packet_socket.specs.HeldFrames.{HostReady, waiting_frames}
-use Rattle.packet_socket.specs.HostCalls.{LeavesSome, Receives, receive_accesses}
+use Rattle.packet_socket.specs.HostCalls.{Gives, GivesBy, LeavesSome, Receives, host_at, receive_accesses}
 use Rattle.packet_socket.specs.HostState.{HostState}
 use Rattle.packet_socket.specs.HostStretches.{HostGoesTo}
 use Rattle.packet_socket.specs.SocketsState.{queue_at}
@@ -25,14 +25,15 @@ use Rattle.packet_socket.specs.declared.receive.RecvError.{RecvError}
 use Rattle.packet_socket.specs.declared.receive.RecvError.TheVariants.{Empty, NoSocket}
 use Rattle.driver.specs.TakenFrames.{IsFrameSize}
 use Rattle.driver.specs.declared.receiver.Received.{Received}
+use Rattle.host_calls.specs.LentCalls.{lent}
 use Rattle.host_calls.specs.CallAnswers.{AnswersRecv, LeavesRecv, MakesRecv, frame_in, given_by}
 use Rattle.host_calls.specs.CallsOfHosts.{CallRuns, IsOfDriver, OnlyLastWrites}
 use Rattle.host_calls.proofs.Calling.{call-runs, flows-of, work-goes}
 use Rattle.host_calls.proofs.DriversAccesses.{receives-last, receives-of_driver}
 
 pub recv-runs : (a m b : LentBus) (h h' : HostState) (socket size : ℕ) (bytes : List ℕ) → a.accesses ≡ 0 → HostReady h (world_here a)
-    → length bytes ≡ size → Receives true world_here Retells a m h h' socket size bytes → IsRefilled h'.driver → h'.driver.staged ≡ []
-    → Finished m b
+    → length bytes ≡ size → Receives lent (record { socket = socket; frame = bytes }) size true (host_at a h) (host_at m h')
+    → IsRefilled h'.driver → h'.driver.staged ≡ [] → Finished m b
     → CallRuns a.host a.ticks.now a.stations.now b.stations.now a.outcomes.now b.outcomes.now b.accesses h h' []
     (given_by socket (Ok bytes)) [] (MakesRecv (Ok bytes) socket h h')
 recv-runs a m b h h' socket size bytes zero ready long receives refilled offered finished =
@@ -44,7 +45,8 @@ recv-runs a m b h h' socket size bytes zero ready long receives refilled offered
     let driver = ran.goes.flows.ready.driver_is in
     let below : next_receive h'.driver < h'.driver.counts.rx =
     place-below h'.driver.counts.rx h'.driver.oldest_receive (length h'.driver.buffers + length h'.driver.staged) driver.oldest_slot in
-    call-runs a m b ran.past h h' [] given [] (MakesRecv (Ok bytes) socket h h') zero ran.told (flows-of h (world_here a) h' (world_here m) [] given [] ran.past goes)
+    call-runs a m b ran.past h h' [] given [] (MakesRecv (Ok bytes) socket h h') zero ran.told
+    (flows-of h (world_here a) h' (world_here m) [] given [] ran.past goes)
     (subst (λ (accesses : List Access). All (IsOfDriver h.driver.counts) accesses) (sym ran.only)
     (receives-of_driver h.driver.counts h.driver h'.driver receives.received.buffer size receives.offered
     (subst (λ (c : Rattle.dma_memory.specs.Layout.Counts). next_receive h'.driver < c.rx) counts below)))
@@ -71,7 +73,8 @@ none-runs a m b h h' socket error zero ready same stays finished =
     subst (λ (host : HostState). CallRuns a.host a.ticks.now a.stations.now b.stations.now a.outcomes.now b.outcomes.now b.accesses
     h host [] [] [] (λ (accesses : List Access). accesses ≡ []))
     (sym stays)
-    (call-runs a a b nothing h h [] [] [] (λ (accesses : List Access). accesses ≡ []) zero (retells_none a) (flows-of h (world_here a) h (world_here a) [] [] [] nothing goes)
+    (call-runs a a b nothing h h [] [] [] (λ (accesses : List Access). accesses ≡ []) zero (retells_none a)
+    (flows-of h (world_here a) h (world_here a) [] [] [] nothing goes)
     (all-none (IsOfDriver h.driver.counts)) tt refl (λ work. work) (λ refilled. refilled) (λ offered. offered)
     (subst (λ (bus : LentBus). Finished bus b) same finished))
 
@@ -87,7 +90,7 @@ queue-empty h socket world queue is = (
 )
 
 pub ok-answers : (a m : LentBus) (h h' : HostState) (socket size : ℕ) (bytes : List ℕ)
-    → Receives true world_here Retells a m h h' socket size bytes
+    → Receives lent (record { socket = socket; frame = bytes }) size true (host_at a h) (host_at m h')
     → socket < length h.kinds
     → AnswersRecv (Ok bytes) socket h (world_here a)
 ok-answers a m h h' socket size bytes receives there = record {
@@ -144,21 +147,19 @@ err-leaves a m b h h' socket error zero same stays finished =
 
 -- By the answer.
 
-pub any-runs : (a m b : LentBus) (h h' : HostState) (socket : ℕ) (result : Result ℕ RecvError) (into : List ℕ) → a.accesses ≡ 0
-    → length into ≡ 1518 → IfOk result IsFrameSize → HostReady h (world_here a)
-    → IfOk result (λ size. Receives true world_here Retells a m h h' socket size (take size into))
-    → IfOk result (λ size. IsRefilled h'.driver) → IfOk result (λ size. h'.driver.staged ≡ [])
-    → IfErr result (λ error. (m ≡ a) × (h' ≡ h)) → Finished m b
+pub any-runs : (a m b : LentBus) (h h' : HostState) (socket : ℕ) (result : Result ℕ RecvError) (before into : List ℕ) → a.accesses ≡ 0
+    → length into ≡ 1518 → HostReady h (world_here a) → GivesBy lent socket into result true (host_at a h) (host_at m h')
+    → IfOk result (Gives h h' socket before into) → IfErr result (λ error. (m ≡ a) × (h' ≡ h) × (into ≡ before)) → Finished m b
     → CallRuns a.host a.ticks.now a.stations.now b.stations.now a.outcomes.now b.outcomes.now b.accesses h h' []
     (given_by socket (frame_in into result)) [] (MakesRecv (frame_in into result) socket h h')
-any-runs a m b h h' socket (Ok size) into zero long sized ready receives refilled offered unasked finished =
+any-runs a m b h h' socket (Ok size) before into zero long ready receives ok err finished =
     recv-runs a m b h h' socket size (take size into) zero ready
-    (front-long size into (let most = sized.most in omega (arith, long, most))) receives refilled offered finished
-any-runs a m b h h' socket (Err error) into zero long sized ready receives refilled offered unasked finished =
-    none-runs a m b h h' socket error zero ready unasked.0 unasked.1 finished
+    (front-long size into (let most = ok.legal.most in omega (arith, long, most))) receives ok.refilled ok.offered finished
+any-runs a m b h h' socket (Err error) before into zero long ready receives ok err finished =
+    none-runs a m b h h' socket error zero ready err.0 err.1 finished
 
 pub any-answers : (a m : LentBus) (h h' : HostState) (socket : ℕ) (result : Result ℕ RecvError) (into : List ℕ)
-    → IfOk result (λ size. Receives true world_here Retells a m h h' socket size (take size into))
+    → GivesBy lent socket into result true (host_at a h) (host_at m h')
     → ((result ≡ Err NoSocket) ↔ (length h.kinds ≤ socket))
     → ((result ≡ Err Empty) ↔ ((socket < length h.kinds) × (queue_at h.queues socket ≡ [])))
     → AnswersRecv (frame_in into result) socket h (world_here a)
@@ -167,10 +168,17 @@ any-answers a m h h' socket (Ok size) into receives none empty =
 any-answers a m h h' socket (Err error) into receives none empty =
     err-answers (Err error) error socket h (world_here a) refl none empty
 
-pub any-leaves : (a m b : LentBus) (h h' : HostState) (socket : ℕ) (result : Result ℕ RecvError) (into : List ℕ) → a.accesses ≡ 0
-    → length into ≡ 1518 → IfOk result IsFrameSize → IfOk result (LeavesSome h h' socket) → IfErr result (λ error. (m ≡ a) × (h' ≡ h))
+pub any-leaves : (a m b : LentBus) (h h' : HostState) (socket : ℕ) (result : Result ℕ RecvError) (before into : List ℕ) → a.accesses ≡ 0
+    → length into ≡ 1518 → IfOk result (Gives h h' socket before into)
+    → IfErr result (λ error. (m ≡ a) × (h' ≡ h) × (into ≡ before))
     → Finished m b → LeavesRecv (frame_in into result) socket h h' b.accesses
-any-leaves a m b h h' socket (Ok size) into zero long sized leaves unasked finished =
-    ok-leaves h h' socket size b.accesses into (let most = sized.most in omega (arith, long, most)) leaves
-any-leaves a m b h h' socket (Err error) into zero long sized leaves unasked finished =
-    err-leaves a m b h h' socket error zero unasked.0 unasked.1 finished
+any-leaves a m b h h' socket (Ok size) before into zero long ok err finished =
+    ok-leaves h h' socket size b.accesses into (let most = ok.legal.most in omega (arith, long, most)) ok.leaves
+any-leaves a m b h h' socket (Err error) before into zero long ok err finished =
+    err-leaves a m b h h' socket error zero err.0 err.1 finished
+
+-- What is given is a legal frame.
+pub any-legal : (h h' : HostState) (socket : ℕ) (result : Result ℕ RecvError) (before into : List ℕ)
+    → IfOk result (Gives h h' socket before into) → IfOk result IsFrameSize
+any-legal h h' socket (Ok size) before into ok = ok.legal
+any-legal h h' socket (Err error) before into ok = tt

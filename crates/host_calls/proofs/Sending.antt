@@ -5,7 +5,7 @@ use Rattle.std.specs.Prelude.{Err, Ok, ◌↔◌}
 use Rattle.adapter.specs.HostFrames.{frames_to_send}
 use Rattle.adapter.specs.World.{World}
 use Rattle.bus.specs.declared.event.Access.{Access}
-use Rattle.stations.specs.Retelling.{Finished, Retells, world_here}
+use Rattle.stations.specs.Retelling.{Finished, world_here}
 use Rattle.stations.specs.declared.lent_bus.LentBus.{LentBus}
 use Rattle.driver_law.proofs.FramesCounted.{slots_have_frames}
 use Rattle.driver_law.specs.DriverState.{DriverState}
@@ -13,9 +13,10 @@ use Rattle.driver_law.specs.Stretches.{IsRefilled}
 use Rattle.driver.specs.SendSteps.{Answer, IsAnswer, IsRefused, accepted_by, accesses_by, with_sending}
 use Rattle.driver.specs.declared.transmit.SendError.TheVariants.{RingFull, TooLong, TooShort}
 use Rattle.packet_socket.specs.HeldFrames.{HostReady, driver_of}
-use Rattle.packet_socket.specs.HostCalls.{HostTransmits}
+use Rattle.packet_socket.specs.HostCalls.{HostSends, host_at}
 use Rattle.packet_socket.specs.HostState.{HostState}
 use Rattle.packet_socket.specs.HostStretches.{HostGoesTo}
+use Rattle.host_calls.specs.LentCalls.{lent}
 use Rattle.host_calls.specs.CallAnswers.{AnswersSend, LeavesSend, MakesSend}
 use Rattle.host_calls.specs.CallsOfHosts.{CallRuns, IsOfDriver, OnlyLastWrites}
 use Rattle.host_calls.proofs.Calling.{call-runs, work-goes}
@@ -31,7 +32,7 @@ sends-as (Err RingFull) h h' a b frame = refl
 
 pub send-runs : (a m b : LentBus) (h h' : HostState) (frame : List ℕ) (result : Answer) → a.accesses ≡ 0 → HostReady h (world_here a)
     → h' ≡ record h { driver = with_sending h.driver h'.driver.oldest_transmit h'.driver.sending }
-    → HostTransmits world_here Retells a m h h' frame result → Finished m b
+    → HostSends lent frame result (host_at a h) (host_at m h') → Finished m b
     → CallRuns a.host a.ticks.now a.stations.now b.stations.now a.outcomes.now b.outcomes.now b.accesses h h' [] []
     (accepted_by result frame) (MakesSend result frame h h')
 send-runs a m b h h' frame result zero ready others sent finished =

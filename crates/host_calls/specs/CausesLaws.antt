@@ -11,25 +11,26 @@ use Rattle.stations.specs.Retelling.{Retells, world_here}
 use Rattle.stations.specs.declared.lent_bus.LentBus.{LentBus}
 use Rattle.driver.specs.declared.interrupt.Handled.{Handled}
 use Rattle.packet_socket.specs.HeldFrames.{HostReady}
-use Rattle.packet_socket.specs.HostCalls.{HostHandles}
+use Rattle.packet_socket.specs.HostCalls.{HostHandles, host_at}
 use Rattle.packet_socket.specs.HostState.{HostState}
 use Rattle.host_calls.specs.InterruptCauses.{ReadsIcrFirst, TellsCauses}
+use Rattle.host_calls.specs.LentCalls.{lent}
 
 -- A host that is ready handles an interrupt over a lent bus: the answer tells of the causes at entry, and of what was played before ICR
 -- was read.
 abbrev pub AnswersTellCauses : Type 0
 AnswersTellCauses =
     (a m : LentBus) (h h' : HostState) (result : Handled) → HostReady h (world_here a)
-    → (handles : HostHandles true world_here Retells a m h h' result)
-    → TellsCauses a.host handles.reads.told.steps handles.causes (world_here a).adapter.causes.recorded result
+    → (handles : HostHandles lent result true (host_at a h) (host_at m h'))
+    → TellsCauses a.host handles.asked.reads.told.steps handles.asked.causes (world_here a).adapter.causes.recorded result
 
 -- So it does where the bus tells of more than that first part, as of the whole call.
 abbrev pub CallsTellCauses : Type 0
 CallsTellCauses =
     (a m b : LentBus) (h h' : HostState) (result : Handled) (past : Past) (more : List Access) → HostReady h (world_here a)
-    → (handles : HostHandles true world_here Retells a m h h' result) → (told : Retells a b past)
-    → past.accesses ≡ Reads ICR handles.causes ∷ more
-    → TellsCauses a.host told.steps handles.causes (world_here a).adapter.causes.recorded result
+    → (handles : HostHandles lent result true (host_at a h) (host_at m h')) → (told : Retells a b past)
+    → past.accesses ≡ Reads ICR handles.asked.causes ∷ more
+    → TellsCauses a.host told.steps handles.asked.causes (world_here a).adapter.causes.recorded result
 
 -- Whatever comes behind, the first access stays the first.
 abbrev pub FirstReadsStay : Type 0

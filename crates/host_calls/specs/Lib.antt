@@ -1,6 +1,7 @@
 pub mod CallsOfHosts
 pub mod CallAnswers
 pub mod InterruptCauses
+pub mod LentCalls
 pub mod CausesLaws
 pub mod DrainedHosts
 pub mod DrainSteps

@@ -13,13 +13,13 @@ use Rattle.adapter.specs.World.{World}
 use Rattle.bus.proofs.Lists.{all-head, all-none, all-right, all-without}
 use Rattle.driver_law.specs.DriverState.{DriverState, HandedOut, holding, owners}
 use Rattle.driver_law.specs.ReadyDrivers.{ReadyWith}
-use Rattle.driver.specs.HandlerSteps.{OnNotMine, OnTaken}
+use Rattle.driver.specs.HandlerSteps.{OnNotMine, OnTaken, Serves}
 use Rattle.driver.specs.TakenFrames.{AreFrames, IsFrameSize, ShowsAll, buffers_of}
 use Rattle.driver.specs.declared.interrupt.Handled.{Handled}
 use Rattle.driver.specs.declared.interrupt.Handled.TheVariants.{NotMine}
 use Rattle.driver.specs.declared.interrupt.Handled.TheVariants as answers
 use Rattle.driver.specs.declared.receiver.Received.{Received}
-use Rattle.packet_socket.specs.HostCalls.{SortsAll}
+use Rattle.packet_socket.specs.HostCalls.{HostServes}
 use Rattle.packet_socket.specs.HeldFrames.{HostReadyWith, driver_of, waiting_entry}
 use Rattle.packet_socket.specs.InsideHost.{IsHost, host_with}
 use Rattle.packet_socket.specs.SocketKinds.{has_socket}
@@ -185,12 +185,12 @@ shown-host driver driver' before after n host shows counts =
     }
 
 pub handled-host : (result : Handled) (driver driver' : DriverState) (before after : SocketsState) → IsHost driver before
-    → OnNotMine result (driver' ≡ driver) → OnNotMine result (after ≡ before)
-    → OnTaken result (ShowsAll Sorts before after driver driver') → driver'.counts ≡ driver.counts → IsHost driver' after
-handled-host NotMine driver driver' before after host stays unasked shows counts = subst (λ (s : SocketsState). IsHost driver' s)
-    (sym unasked) (subst (λ (d : DriverState). IsHost d before) (sym stays) host)
-handled-host (answers.Handled taken) driver driver' before after host stays unasked shows counts = shown-host driver driver' before after
-    taken host shows counts
+    → OnNotMine result ((driver' ≡ driver) × (after ≡ before))
+    → OnTaken result (Serves (record { took = Sorts }) before after driver driver') → driver'.counts ≡ driver.counts → IsHost driver' after
+handled-host NotMine driver driver' before after host stays serves counts = subst (λ (s : SocketsState). IsHost driver' s)
+    (sym stays.1) (subst (λ (d : DriverState). IsHost d before) (sym stays.0) host)
+handled-host (answers.Handled taken) driver driver' before after host stays serves counts = shown-host driver driver' before after
+    taken host serves.shows counts
 
 -- At first nothing waits.
 pub new-host : (driver : DriverState) (sockets : SocketsState) (kinds : List SocketKind) (room : ℕ)
@@ -215,18 +215,22 @@ new-host driver sockets kinds room is size owns =
 
 -- What the handler does to sockets.
 pub sorts-all : (result : Handled) (driver driver' : DriverState) (before after : SocketsState) → IsHost driver before
-    → OnTaken result (ShowsAll Sorts before after driver driver')
-    → OnTaken result (SortsAll (host_with driver before) (host_with driver' after))
-sorts-all NotMine driver driver' before after host shows = tt
-sorts-all (answers.Handled taken) driver driver' before after host shows = record {
-  shown = shows.shown;
-  count = shows.count;
-  sizes = shows.sizes;
-  kinds = shows.told.kinds;
-  queues = subst (Queues before.kinds before.queues after.queues) shows.told.claimed
-      (shown-queues driver driver' before after taken host shows);
-  unclaimed = shows.told.unclaimed;
-  bad = shows.bad;
+    → OnTaken result (Serves (record { took = Sorts }) before after driver driver')
+    → OnTaken result (HostServes (host_with driver before) (host_with driver' after))
+sorts-all NotMine driver driver' before after host serves = tt
+sorts-all (answers.Handled taken) driver driver' before after host serves = record {
+  sorts = record {
+    shown = serves.shows.shown;
+    count = serves.shows.count;
+    sizes = serves.shows.sizes;
+    kinds = serves.shows.told.kinds;
+    queues = subst (Queues before.kinds before.queues after.queues) serves.shows.told.claimed
+        (shown-queues driver driver' before after taken host serves.shows);
+    unclaimed = serves.shows.told.unclaimed;
+    bad = serves.shows.bad;
+  };
+  refilled = serves.refilled;
+  offered = serves.offered;
 }
 
 pub new-ready : {up : Bool} (driver : DriverState) (sockets : SocketsState) (kinds : List SocketKind) (room : ℕ) (world : World)

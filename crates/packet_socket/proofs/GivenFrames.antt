@@ -6,12 +6,13 @@ use Rattle.std.specs.List.{All}
 use Rattle.std.proofs.lemmas.Bool.Decides.{eqb_tells}
 use Rattle.std.proofs.lemmas.List.{append-nil, get_or-set_other, map-append}
 use Rattle.dma_memory.specs.Layout.{Counts}
-use Rattle.adapter.specs.World.{World}
 use Rattle.bus.proofs.Lists.{all-head, all-right, all-without}
 use Rattle.bus.specs.PastOfStretch.{Past, joined}
+use Rattle.bus.specs.declared.bus.Bus.{Ghosts}
 use Rattle.bus.specs.declared.event.Access.{Access}
 use Rattle.bus.specs.declared.event.Access.TheVariants.{Loads}
 use Rattle.driver_law.proofs.Accesses.{ran_by-join}
+use Rattle.driver_law.specs.Calls.{at}
 use Rattle.driver_law.specs.Accesses.{stores_from, tail_write}
 use Rattle.driver_law.specs.DriverState.{DriverState, HandedOut, buffer_at, holding, next_receive}
 use Rattle.driver_law.specs.Stretches.{RanBy}
@@ -19,10 +20,9 @@ use Rattle.driver_law.specs.ReadyDrivers.{ReadyWith, Stands}
 use Rattle.driver.specs.RefillSteps.{Refills}
 use Rattle.driver.specs.TakenFrames.{AreFrames, IsFrameSize}
 use Rattle.driver.specs.declared.receiver.Received.{Received}
-use Rattle.packet_socket.specs.HostCalls.{Leaves, Receives, receive_accesses}
+use Rattle.packet_socket.specs.HostCalls.{HostMoment, IsReadyHost, Leaves, Receives, driver_at, receive_accesses}
 use Rattle.packet_socket.specs.HostStretches.{Given, given_for}
-use Rattle.packet_socket.specs.HeldFrames.{HostReadyWith, driver_of, waiting_frame, waiting_frames, waiting_entry}
-use Rattle.packet_socket.specs.HostState.{HostState}
+use Rattle.packet_socket.specs.HeldFrames.{driver_of, waiting_frame, waiting_frames, waiting_entry}
 use Rattle.packet_socket.specs.SocketsState.{all_of, queue_at}
 use Rattle.packet_socket.proofs.Accounts.{accounts}
 use Rattle.packet_socket.proofs.QueueParts.{Splits}
@@ -42,48 +42,53 @@ given-here socket frame other goes is =
     by-cases true = refl
     by-cases false = refl
 
-pub host-receives : {up : Bool} {B : Type 0} (world : B → World) (happened : B → B → Past → Type 0)
-    → ((a b c : B) (first later : Past) → happened a b first → happened b c later → happened a c (joined first later))
-    → (a b c : B) (h h' : HostState) (socket size : ℕ) (received : Received) (bytes : List ℕ) → HostReadyWith up h (world a)
-    → Splits h.queues socket received (queue_at h'.queues socket) → Leaves h h' socket size received
-    → RanBy up world happened (Loads (buffer_at h.driver.counts received.buffer) size ∷ []) a b (driver_of h (world a))
-    (driver_of h (world a)) [] []
-    → ((first later : List HandedOut) (one : HandedOut) → ReadyWith up (holding (first ++ one ∷ later) h.driver) (world a)
+pub host-receives : {up : Bool} {B : Type 0} (bus : Ghosts B)
+    → ((a b c : B) (first later : Past) → bus.happened a b first → bus.happened b c later → bus.happened a c (joined first later))
+    → (old new : HostMoment B) (b : B) (socket size : ℕ) (received : Received) (bytes : List ℕ) → IsReadyHost bus up old
+    → Splits old.host.queues socket received (queue_at new.host.queues socket) → Leaves old.host new.host socket size received
+    → RanBy up bus.world bus.happened (Loads (buffer_at old.host.driver.counts received.buffer) size ∷ []) old.bus b
+    (driver_at bus old).driver (driver_at bus old).driver [] []
+    → ((first later : List HandedOut) (one : HandedOut) → ReadyWith up (holding (first ++ one ∷ later) old.host.driver) (bus.world old.bus)
     → one.number ≡ received.buffer → length one.frame ≡ received.length → bytes ≡ one.frame)
     → ((first later : List HandedOut) (one : HandedOut) → one.number ≡ received.buffer
-    → ReadyWith up (holding (first ++ one ∷ later) h.driver) (world b)
-    → Refills up world happened b c (holding (first ++ one ∷ later) h.driver) (holding (first ++ later) h'.driver))
-    → Receives up world happened a c h h' socket size bytes
-host-receives {up} world happened joins a b c h h' socket size received bytes host parts leaves reads shows gives =
-    let d = driver_of h (world a) in
+    → ReadyWith up (holding (first ++ one ∷ later) old.host.driver) (bus.world b)
+    → Refills bus up (at b (holding (first ++ one ∷ later) old.host.driver)) (at new.bus (holding (first ++ later) new.host.driver)))
+    → Receives bus (record { socket = socket; frame = bytes }) size up old new
+host-receives {up} bus joins old new b socket size received bytes is parts leaves reads shows gives =
+    let a = old.bus in
+    let c = new.bus in
+    let h = old.host in
+    let h' = new.host in
+    let host = is.ready in
+    let d = driver_of h (bus.world a) in
     let counts = h.driver.counts in
-    let m = (world a).memory in
-    let mc = (world c).memory in
+    let m = (bus.world a).memory in
+    let mc = (bus.world c).memory in
     let waiting : Received → HandedOut = waiting_entry counts m in
     let frame : Received → List ℕ = waiting_frame counts m in
     let first = map waiting parts.first in
     let later = map waiting parts.last in
     let one = waiting received in
     let long : AreLong counts m (parts.first ++ received ∷ parts.last) = subst (AreLong counts m) parts.before
-    (all-long h (world a) host) in
+    (all-long h (bus.world a) host) in
     let Long : Received → Type 0 = λ r. length (waiting_frame counts m r) ≡ r.length in
     let whole : Long received = all-head Long received parts.last (all-right Long parts.first (received ∷ parts.last) long) in
     let split : d ≡ holding (first ++ one ∷ later) h.driver =
     ap (λ (list : List HandedOut). holding list h.driver) (ap (map waiting) parts.before
     ∙ map-append waiting parts.first (received ∷ parts.last)) in
     let d2 = holding (first ++ one ∷ later) h.driver in
-    let ready : ReadyWith up d2 (world a) = subst (λ (s : DriverState). ReadyWith up s (world a)) split host.ready in
+    let ready : ReadyWith up d2 (bus.world a) = subst (λ (s : DriverState). ReadyWith up s (bus.world a)) split host.ready in
     let loads : List Access = Loads (buffer_at counts received.buffer) size ∷ [] in
-    let reads2 : RanBy up world happened loads a b d2 d2 [] [] = subst
-    (λ (s : DriverState). RanBy up world happened loads a b s s [] []) split reads in
+    let reads2 : RanBy up bus.world bus.happened loads a b d2 d2 [] [] = subst
+    (λ (s : DriverState). RanBy up bus.world bus.happened loads a b s s [] []) split reads in
     let refills = gives first later one refl reads2.goes.flows.ready in
     let e = holding (first ++ later) h'.driver in
     let stores : List Access = stores_from counts (next_receive h.driver) refills.numbers
     ++ tail_write (next_receive h'.driver) (h.driver.staged ++ refills.numbers) in
-    let both : RanBy up world happened (loads ++ stores) a c d2 e [] [] = ran_by-join world happened joins loads stores a b c d2 d2
-    e [] [] [] [] reads2 refills.ran in
-    let from : RanBy up world happened (loads ++ stores) a c d e [] [] = subst
-    (λ (s : DriverState). RanBy up world happened (loads ++ stores) a c s e [] []) (sym split) both in
+    let both : RanBy up bus.world bus.happened (loads ++ stores) a c d2 e [] [] =
+    ran_by-join bus.world bus.happened joins loads stores a b c d2 d2 e [] [] [] [] reads2 refills.ran in
+    let from : RanBy up bus.world bus.happened (loads ++ stores) a c d e [] [] = subst
+    (λ (s : DriverState). RanBy up bus.world bus.happened (loads ++ stores) a c s e [] []) (sym split) both in
     let size_is : h'.driver.counts ≡ counts = from.goes.flows.counts in
     let left = parts.first ++ parts.last in
     let all : all_of h'.queues ≡ left = ap all_of leaves.others ∙ parts.behind in
@@ -92,32 +97,32 @@ host-receives {up} world happened joins a b c h h' socket size received bytes ho
     (subst (λ (list : List HandedOut). All (Stands h'.driver.counts mc) list)
     (sym (map-append waiting parts.first parts.last)) from.goes.flows.ready.stand) in
     let same : AreSame counts m mc left = all-same counts m mc left (all-without Long parts.first received parts.last long) stand in
-    let end : e ≡ driver_of h' (world c) =
-    sym (ends-as h' (world c) counts m left all size_is same
+    let end : e ≡ driver_of h' (bus.world c) =
+    sym (ends-as h' (bus.world c) counts m left all size_is same
     ∙ ap (λ (list : List HandedOut). holding list h'.driver) (map-append waiting parts.first parts.last)) in
-    let queue_frames : (s : ℕ) → waiting_frames h' s (world c) ≡ map frame (queue_at h'.queues s) = λ s.
+    let queue_frames : (s : ℕ) → waiting_frames h' s (bus.world c) ≡ map frame (queue_at h'.queues s) = λ s.
     ap (λ (k : Counts). map (waiting_frame k mc) (queue_at h'.queues s)) size_is
     ∙ queue-frames-same counts m mc h'.queues (subst (AreSame counts m mc) (sym all) same) s in
     let shown : bytes ≡ frame received = shows first later one ready refl whole in
-    let front : waiting_frames h socket (world a) ≡ bytes ∷ waiting_frames h' socket (world c) =
+    let front : waiting_frames h socket (bus.world a) ≡ bytes ∷ waiting_frames h' socket (bus.world c) =
     ap (map frame) leaves.oldest
     ∙ ap (λ (list : List (List ℕ)). frame received ∷ list) (sym (queue_frames socket))
-    ∙ ap (λ (list : List ℕ). list ∷ waiting_frames h' socket (world c)) (sym shown) in
+    ∙ ap (λ (list : List ℕ). list ∷ waiting_frames h' socket (bus.world c)) (sym shown) in
     let given : List Given = record { socket = socket; frame = bytes } ∷ [] in
-    let others : (s : ℕ) → s ≢ socket → waiting_frames h' s (world c) ≡ waiting_frames h s (world a) = λ s differ.
+    let others : (s : ℕ) → s ≢ socket → waiting_frames h' s (bus.world c) ≡ waiting_frames h s (bus.world a) = λ s differ.
     queue_frames s
     ∙ ap (λ (queues : List (List Received)). map frame (queue_at queues s)) leaves.others
     ∙ ap (map frame) (get_or-set_other h.queues socket s (queue_at h'.queues socket) [] differ) in
-    let moved : (s : ℕ) → given_for s given ++ waiting_frames h' s (world c) ≡ waiting_frames h s (world a) ++ [] = λ s.
+    let moved : (s : ℕ) → given_for s given ++ waiting_frames h' s (bus.world c) ≡ waiting_frames h s (bus.world a) ++ [] = λ s.
     elim (eqb_tells socket s) [
       | inl is ↦
-          ap (λ (list : List (List ℕ)). list ++ waiting_frames h' s (world c)) (given-here socket bytes s true is.0)
-          ∙ subst (λ (t : ℕ). bytes ∷ waiting_frames h' t (world c) ≡ waiting_frames h t (world a)) is.1 (sym front)
-          ∙ sym (append-nil (waiting_frames h s (world a)))
+          ap (λ (list : List (List ℕ)). list ++ waiting_frames h' s (bus.world c)) (given-here socket bytes s true is.0)
+          ∙ subst (λ (t : ℕ). bytes ∷ waiting_frames h' t (bus.world c) ≡ waiting_frames h t (bus.world a)) is.1 (sym front)
+          ∙ sym (append-nil (waiting_frames h s (bus.world a)))
       | inr not ↦
-          ap (λ (list : List (List ℕ)). list ++ waiting_frames h' s (world c)) (given-here socket bytes s false not.0)
+          ap (λ (list : List (List ℕ)). list ++ waiting_frames h' s (bus.world c)) (given-here socket bytes s false not.0)
           ∙ others s (λ is. not.1 (sym is))
-          ∙ sym (append-nil (waiting_frames h s (world a)))
+          ∙ sym (append-nil (waiting_frames h s (bus.world a)))
     ] in
     record {
       received = received;
@@ -129,10 +134,10 @@ host-receives {up} world happened joins a b c h h' socket size received bytes ho
         sizes = subst AreFrames (sym all)
             (all-without (λ (r : Received). IsFrameSize r.length) parts.first received parts.last
             (subst AreFrames parts.before host.sizes));
-        ran = ran-as world happened (loads ++ stores) (receive_accesses h.driver h'.driver received.buffer size refills.numbers) a c d e
-            (driver_of h' (world c)) [] [] refl end from;
+        ran = ran-as bus.world bus.happened (loads ++ stores) (receive_accesses h.driver h'.driver received.buffer size refills.numbers)
+            a c d e (driver_of h' (bus.world c)) [] [] refl end from;
         accounts =
-            accounts h (world a) h' (world c) given [] from.past.stored leaves.kinds from.goes.flows.holds moved
+            accounts h (bus.world a) h' (bus.world c) given [] from.past.stored leaves.kinds from.goes.flows.holds moved
             (record {
               least = omega (arith, leaves.unclaimed);
               most = omega (arith, leaves.unclaimed);

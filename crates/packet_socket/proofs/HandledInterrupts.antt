@@ -11,20 +11,21 @@ use Rattle.dma_memory.specs.Owners.{HasNoSecondOwner, copies}
 use Rattle.dma_memory.specs.OwnersLaws.{copies-append, length-no_second}
 use Rattle.adapter.specs.World.{World}
 use Rattle.bus.proofs.Lists.{all-left, all-right}
-use Rattle.bus.specs.PastOfStretch.{Past, joined}
+use Rattle.bus.specs.PastOfStretch.{joined}
 use Rattle.driver_law.proofs.Owners.{owners-count}
 use Rattle.driver_law.proofs.TakenSlots.{buffers_can_come_back}
+use Rattle.bus.specs.declared.bus.Bus.{Ghosts}
+use Rattle.driver_law.specs.Calls.{at}
 use Rattle.driver_law.specs.DriverState.{DriverState, HandedOut, buffer_at, holding, numbers_of}
 use Rattle.driver_law.specs.Stretches.{FlowsTo}
-use Rattle.driver_law.specs.RegisterReadings.{ReadsCauses}
 use Rattle.driver_law.specs.ReadyDrivers.{ReadyWith, Stands}
-use Rattle.driver.specs.HandlerSteps.{Handles, HandlesIt, LeavesIt, OnNotMine}
-use Rattle.driver.specs.TakenFrames.{GrowsBy, IsPart, buffers_of, received_of}
+use Rattle.driver.specs.HandlerSteps.{Asked, Handles, HandlesIt, LeavesIt, OnNotMine, OnTaken}
+use Rattle.driver.specs.TakenFrames.{GrowsBy, IsPart, Scene, buffers_of, frames_of as frames_of_slots, held_in, received_of}
 use Rattle.driver.specs.declared.interrupt.Handled.{Handled}
 use Rattle.driver.specs.declared.interrupt.Handled.TheVariants.{NotMine}
 use Rattle.driver.specs.declared.interrupt.Handled.TheVariants as answers
 use Rattle.driver.specs.declared.receiver.Received.{Received}
-use Rattle.packet_socket.specs.HostCalls.{HostHandles, HostLeaves, HostWorks, frames_taken}
+use Rattle.packet_socket.specs.HostCalls.{HostHandles, HostLeaves, HostMoment, HostWorks, IsReadyHost, driver_at, host_at}
 use Rattle.packet_socket.specs.HeldFrames.{HostReadyWith, driver_of, waiting_frame, socket_frames, waiting_frames, waiting_entry}
 use Rattle.packet_socket.specs.HeldFrames.{without_socket}
 use Rattle.packet_socket.specs.HostState.{HostState}
@@ -36,30 +37,33 @@ use Rattle.packet_socket.proofs.ConsistentHosts.{kept-copies}
 use Rattle.packet_socket.proofs.WaitingFrames.{AreLong, AreSame, all-long, queue-frames-same}
 use Rattle.packet_socket.proofs.Stretches.{accounts-stay, driver-stays, flows-hold, goes-hold, queues-stand}
 
+-- a host's moment, of its driver and its sockets
+abbrev pub host_in : {B : Type 0} → Scene B SocketsState → HostMoment B
+host_in now = record { bus = now.bus; host = host_with now.driver now.receiver }
+
 -- It does nothing.
-leaves : {up : Bool} {B : Type 0} (world : B → World) (happened : B → B → Past → Type 0) (old middle new : B) (h : HostState) (causes : ℕ)
-    → HostReadyWith up h (world old)
-    → (reads : ReadsCauses up world happened old middle (driver_of h (world old)) causes)
-    → LeavesIt world old middle new (driver_of h (world old)) (driver_of h (world old)) causes
-    → HostLeaves up world old middle new reads.past h h causes
-leaves {up} {B} world happened old middle new h causes host reads it =
-    let d = driver_of h (world old) in
-    let flows : FlowsTo up d (world old) d (world new) [] [] reads.past = subst
-    (λ (b : B). FlowsTo up d (world old) d (world b) [] [] reads.past) (sym it.still) reads.flows in
+leaves : {up : Bool} {B : Type 0} (bus : Ghosts B) (old : HostMoment B) (new : B) (asked : Asked bus up (driver_at bus old))
+    → IsReadyHost bus up old → LeavesIt bus (driver_at bus old) (at new (driver_at bus old).driver) asked
+    → HostLeaves bus old (host_at new old.host) asked
+leaves {up} {B} bus old new asked is it =
+    let h = old.host in
+    let past = asked.reads.past in
+    let d = (driver_at bus old).driver in
+    let flows : FlowsTo up d (bus.world old.bus) d (bus.world new) [] [] past = subst
+    (λ (b : B). FlowsTo up d (bus.world old.bus) d (bus.world b) [] [] past) (sym it.still) asked.reads.flows in
     let stand = flows.ready.stand in
     record {
       stays = refl;
       leaves = record {
         none = it.none;
         still = it.still;
-        work = λ before. let behind = it.work (record { enabled = before.enabled; asked = before.asked }) in record
-            { enabled = behind.enabled; asked = behind.asked };
+        work = λ before. let behind = it.work before in record { enabled = behind.enabled; asked = behind.asked };
       };
       flows = record {
-        sizes = host.sizes;
-        flows = subst (λ (end : DriverState). FlowsTo up d (world old) end (world new) [] [] reads.past)
-            (sym (driver-stays h h.driver (world old) (world new) host refl stand)) flows;
-        accounts = accounts-stay h h.driver (world old) (world new) reads.past.stored host refl stand flows.holds;
+        sizes = is.ready.sizes;
+        flows = subst (λ (end : DriverState). FlowsTo up d (bus.world old.bus) end (bus.world new) [] [] past)
+            (sym (driver-stays h h.driver (bus.world old.bus) (bus.world new) is.ready refl stand)) flows;
+        accounts = accounts-stay h h.driver (bus.world old.bus) (bus.world new) past.stored is.ready refl stand flows.holds;
       };
     }
 
@@ -92,7 +96,7 @@ pub record Sorted (up : Bool) (driver driver' : DriverState) (before after : Soc
   pub ready : ReadyWith up (driver_of (host_with driver' after) b) b
   pub frames : (socket : ℕ)
       → waiting_frames (host_with driver' after) socket b ≡ waiting_frames (host_with driver before) socket a
-      ++ socket_frames before.kinds socket (frames_taken taken)
+      ++ socket_frames before.kinds socket (frames_of_slots taken)
 
 pub sorted : {up : Bool} (driver driver' : DriverState) (before after : SocketsState) (a b : World) (taken handed_out : List HandedOut)
     → IsHost driver before → IsHost driver' after
@@ -160,24 +164,29 @@ sorted {up} driver driver' before after a b taken handed_out sound sound' host c
     }
 
 -- It does its work.
-works : {up : Bool} {B : Type 0} (world : B → World) (happened : B → B → Past
-    → Type 0) (old middle new : B) (first : Past) (driver driver' : DriverState) (before after : SocketsState) (causes n : ℕ)
-    → IsHost driver before → IsHost driver' after → HostReadyWith up (host_with driver before) (world old)
-    → HandlesIt up world happened Sorts old middle new first before after (driver_of (host_with driver before) (world old))
-    (holding (driver_of (host_with driver before) (world old)).handed_out driver') causes n
-    → HostWorks up world happened old middle new first (host_with driver before) (host_with driver' after) causes n
-works {up} world happened old middle new first driver driver' before after causes n sound sound' host it =
-    let h = host_with driver before in
-    let h' = host_with driver' after in
-    let d = driver_of h (world old) in
+works : {up : Bool} {B : Type 0} (bus : Ghosts B) (old new : Scene B SocketsState) (n : ℕ)
+    → IsHost old.driver old.receiver → IsHost new.driver new.receiver → IsReadyHost bus up (host_in old)
+    → (asked : Asked bus up (driver_at bus (host_in old)))
+    → HandlesIt bus (record { took = Sorts }) n (held_in (driver_at bus (host_in old)).driver.handed_out old)
+    (held_in (driver_at bus (host_in old)).driver.handed_out new) asked
+    → HostWorks bus n (host_in old) (host_in new) asked
+works {up} bus old new n sound sound' is asked it =
+    let before = old.receiver in
+    let after = new.receiver in
+    let driver' = new.driver in
+    let h = (host_in old).host in
+    let h' = (host_in new).host in
+    let a = bus.world old.bus in
+    let b = bus.world new.bus in
+    let d = driver_of h a in
     let e = holding d.handed_out driver' in
     let w = it.works in
     let last = holding (d.handed_out ++ w.handed_out) e in
-    let frames = frames_taken w.taken in
-    let past = joined first w.ran.past in
-    let all = sorted driver driver' before after (world old)
-    (world new) w.taken w.handed_out sound sound' host it.flows.counts w.ran.goes.flows.ready w.part w.told in
-    let list = (driver_of h' (world new)).handed_out in
+    let frames = frames_of_slots w.taken in
+    let past = joined asked.reads.past w.ran.past in
+    let all = sorted old.driver driver' before after a b w.taken w.handed_out sound sound' is.ready it.flows.counts
+    w.ran.goes.flows.ready w.part w.told in
+    let list = (driver_of h' b).handed_out in
     let grows : GrowsBy before.unclaimed after.unclaimed (without_socket before.kinds frames) = subst
     (GrowsBy before.unclaimed after.unclaimed) (unclaimed-frames before.kinds w.taken) w.told.unclaimed in
     record {
@@ -198,7 +207,7 @@ works {up} world happened old middle new first driver driver' before after cause
         past = w.ran.past;
         told = w.ran.told;
         only = w.ran.only;
-        goes = goes-hold d (world middle) last (world new) frames [] w.ran.past list w.ran.goes all.ready;
+        goes = goes-hold d (bus.world asked.behind) last b frames [] w.ran.past list w.ran.goes all.ready;
         set = w.ran.set;
         off = w.ran.off;
         link = w.ran.link;
@@ -207,34 +216,34 @@ works {up} world happened old middle new first driver driver' before after cause
       work = λ enabled. let behind = it.work enabled in record { enabled = behind.enabled; asked = behind.asked };
       flows = record {
         sizes = sound'.sizes;
-        flows = flows-hold d (world old) last (world new) frames [] past list it.flows all.ready;
-        accounts = accounts h (world old) h' (world new) [] frames past.stored w.told.kinds it.flows.holds all.frames grows;
+        flows = flows-hold d a last b frames [] past list it.flows all.ready;
+        accounts = accounts h a h' b [] frames past.stored w.told.kinds it.flows.holds all.frames grows;
       };
     }
 
-pub host-handles : {up : Bool} {B : Type 0} (world : B → World) (happened : B → B → Past
-    → Type 0) (old new : B) (driver driver' : DriverState) (before after : SocketsState) (result : Handled)
-    → IsHost driver before → IsHost driver' after → HostReadyWith up (host_with driver before) (world old)
-    → OnNotMine result (driver' ≡ driver) → OnNotMine result (after ≡ before)
-    → Handles up world happened Sorts old new before after (driver_of (host_with driver before) (world old))
-    (holding (driver_of (host_with driver before) (world old)).handed_out driver') result
-    → HostHandles up world happened old new (host_with driver before) (host_with driver' after) result
-host-handles {up} world happened old new driver driver' before after NotMine sound sound' host stays unasked it =
-    let h = host_with driver before in
-    let d = driver_of h (world old) in
-    let same : host_with driver' after ≡ h = ap (λ (s : DriverState). host_with s after) stays ∙ ap (host_with driver) unasked in
-    let left : LeavesIt world old it.middle new d d it.causes = subst
-    (λ (s : DriverState). LeavesIt world old it.middle new d (holding d.handed_out s) it.causes) stays it.behind in
+pub host-handles : {up : Bool} {B : Type 0} (bus : Ghosts B) (old new : Scene B SocketsState) (result : Handled)
+    → IsHost old.driver old.receiver → IsHost new.driver new.receiver → IsReadyHost bus up (host_in old)
+    → OnNotMine result ((new.driver ≡ old.driver) × (new.receiver ≡ old.receiver))
+    → Handles bus (record { took = Sorts }) result up (held_in (driver_at bus (host_in old)).driver.handed_out old)
+    (held_in (driver_at bus (host_in old)).driver.handed_out new)
+    → HostHandles bus result up (host_in old) (host_in new)
+host-handles {up} {B} bus old new NotMine sound sound' is stays it =
+    let d = (driver_at bus (host_in old)).driver in
+    let same : host_with new.driver new.receiver ≡ (host_in old).host = ap (λ (s : DriverState). host_with s new.receiver) stays.0
+    ∙ ap (host_with old.driver) stays.1 in
+    let left : LeavesIt bus (driver_at bus (host_in old)) (at new.bus d) it.asked = subst
+    (λ (s : DriverState). LeavesIt bus (driver_at bus (host_in old)) (at new.bus (holding d.handed_out s)) it.asked) stays.0 it.behind in
     record {
-      middle = it.middle;
-      causes = it.causes;
-      reads = it.reads;
-      behind = subst (λ (end : HostState). HostLeaves up world old it.middle new it.reads.past h end it.causes) (sym same)
-          (leaves world happened old it.middle new h it.causes host it.reads left);
+      asked = it.asked;
+      behind = subst (λ (end : HostState). HostLeaves bus (host_in old) (host_at new.bus end) it.asked) (sym same)
+          (leaves bus (host_in old) new.bus it.asked is left);
     }
-host-handles {up} world happened old new driver driver' before after (answers.Handled taken) sound sound' host stays unasked it = record {
-  middle = it.middle;
-  causes = it.causes;
-  reads = it.reads;
-  behind = works world happened old it.middle new it.reads.past driver driver' before after it.causes taken sound sound' host it.behind;
+host-handles {up} {B} bus old new (answers.Handled taken) sound sound' is stays it = record {
+  asked = it.asked;
+  behind = works bus old new taken sound sound' is it.asked it.behind;
 }
+
+-- What holds where slots were taken says less, too.
+pub taken-less : (result : Handled) (P Q : ℕ → Type 0) → ((n : ℕ) → P n → Q n) → OnTaken result P → OnTaken result Q
+taken-less NotMine P Q less holds = tt
+taken-less (answers.Handled taken) P Q less holds = less taken holds

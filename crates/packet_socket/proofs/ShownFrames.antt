@@ -11,7 +11,7 @@ use Rattle.bus.proofs.Lists.{all-head, all-tail, all-unmapped}
 use Rattle.driver_law.specs.DriverState.{HandedOut, numbers_of}
 use Rattle.driver.specs.TakenFrames.{IsPart, buffers_of, part_none, part_with, part_without, received_of}
 use Rattle.driver.specs.declared.receiver.Received.{Received}
-use Rattle.packet_socket.specs.HostCalls.{frames_taken}
+use Rattle.driver.specs.TakenFrames.{frames_of as frames_taken}
 use Rattle.packet_socket.specs.HeldFrames.{socket_frames, without_socket}
 use Rattle.packet_socket.specs.SocketKinds.{goes_to, has_none, has_socket, is_at, socket_of}
 use Rattle.packet_socket.specs.SocketsState.{claimed_of, frames_of, unclaimed_of}

@@ -1,5 +1,5 @@
 -- Stretches of a host's run.
-use Rattle.std.proofs.Common.{Bool, ◌≡◌, ◌++◌, [], ℕ, List, map, refl, sym, ap, subst, ◌∙◌, arith}
+use Rattle.std.proofs.Common.{Bool, true, ◌≡◌, ◌++◌, [], ℕ, List, map, refl, sym, ap, subst, ◌∙◌, arith}
 use Rattle.std.specs.List.{All}
 use Rattle.std.proofs.lemmas.List.{append-nil}
 use Rattle.dma_memory.specs.Layout.{Counts}
@@ -10,13 +10,15 @@ use Rattle.bus.specs.PastOfStretch.{Past, joined}
 use Rattle.bus.specs.declared.event.Access.{Access}
 use Rattle.driver_law.proofs.Steps.{goes-happens}
 use Rattle.driver_law.proofs.Stretches.{flows_join, goes_join}
+use Rattle.bus.specs.declared.bus.Bus.{Ghosts}
+use Rattle.driver_law.specs.Calls.{Moment, held_at}
 use Rattle.driver_law.specs.DriverState.{DriverState, HandedOut, holding}
 use Rattle.driver_law.specs.Stretches.{FlowsTo, GoesTo, RanBy}
 use Rattle.driver_law.specs.ReadyDrivers.{ReadyWith, Stands}
-use Rattle.driver.specs.SendSteps.{Answer, Transmits, accesses_by, accepted_by}
-use Rattle.packet_socket.specs.HostCalls.{HostTransmits}
+use Rattle.driver.specs.SendSteps.{Answer, Sends, accesses_by, accepted_by}
+use Rattle.packet_socket.specs.HostCalls.{HostMoment, HostSends, IsReadyHost, driver_at, host_at}
 use Rattle.packet_socket.specs.HostStretches.{Accounts, Given, HostFlowsTo, HostGoesTo}
-use Rattle.packet_socket.specs.HeldFrames.{HostReady, HostReadyWith, driver_of, waiting_frame, waiting_frames}
+use Rattle.packet_socket.specs.HeldFrames.{HostReadyWith, driver_of, waiting_frame, waiting_frames}
 use Rattle.packet_socket.specs.HostState.{HostState}
 use Rattle.packet_socket.specs.SocketsState.{all_of, queue_at}
 use Rattle.packet_socket.proofs.Accounts.{accounts, accounts-join}
@@ -99,25 +101,26 @@ ran-as {up} world happened xs ys old new d e e' taken sent accesses last ran = r
 }
 
 -- A frame is sent.
-pub host-transmits : {B : Type 0} (world : B → World) (happened : B → B → Past
-    → Type 0) (old new : B) (h : HostState) (d' : DriverState) (frame : List ℕ) (result : Answer) → HostReady h (world old)
-    → Transmits world happened old new (driver_of h (world old)) (holding (driver_of h (world old)).handed_out d') frame result
-    → HostTransmits world happened old new h (with_driver d' h) frame result
-host-transmits world happened old new h d' frame result host transmits =
-    let d = driver_of h (world old) in
-    let e = holding d.handed_out d' in
-    let e' = driver_of (with_driver d' h) (world new) in
-    let flows = transmits.ran.goes.flows in
-    let end : e ≡ e' = sym (driver-stays h d' (world old) (world new) host flows.counts flows.ready.stand) in
+pub host-transmits : {B : Type 0} (bus : Ghosts B) (old : HostMoment B) (new : Moment B) (frame : List ℕ) (result : Answer)
+    → IsReadyHost bus true old → Sends bus frame result (driver_at bus old) (held_at (driver_at bus old).driver.handed_out new)
+    → HostSends bus frame result old (host_at new.bus (with_driver new.driver old.host))
+host-transmits bus old new frame result is sends =
+    let h = old.host in
+    let d = (driver_at bus old).driver in
+    let e = holding d.handed_out new.driver in
+    let e' = driver_of (with_driver new.driver h) (bus.world new.bus) in
+    let flows = sends.ran.goes.flows in
+    let end : e ≡ e' = sym (driver-stays h new.driver (bus.world old.bus) (bus.world new.bus) is.ready flows.counts flows.ready.stand) in
     record {
       ran = record {
-        sizes = host.sizes;
-        ran = ran-as world happened (accesses_by result d e frame) (accesses_by result d e' frame) old new d e e' []
+        sizes = is.ready.sizes;
+        ran = ran-as bus.world bus.happened (accesses_by result d e frame) (accesses_by result d e' frame) old.bus new.bus d e e' []
             (accepted_by result frame)
-            (ap (λ (s : DriverState). accesses_by result d s frame) end) end transmits.ran;
-        accounts = accounts-stay h d' (world old) (world new) transmits.ran.past.stored host flows.counts flows.ready.stand flows.holds;
+            (ap (λ (s : DriverState). accesses_by result d s frame) end) end sends.ran;
+        accounts = accounts-stay h new.driver (bus.world old.bus) (bus.world new.bus) sends.ran.past.stored is.ready flows.counts
+            flows.ready.stand flows.holds;
       };
-      answer = transmits.answer;
+      answer = sends.answer;
     }
 
 -- Whatever happens between two calls.

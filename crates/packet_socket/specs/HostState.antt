@@ -1,6 +1,8 @@
 -- A host, as plain data: its driver, the table of its sockets, and the frames that wait for them (own).
-use Rattle.std.specs.Prelude.{ℕ, List, [], length, replicate}
+use Rattle.std.specs.Prelude.{◌≡◌, ℕ, List, [], length, replicate}
 use Rattle.driver.specs.declared.receiver.Received.{Received}
+use Rattle.bring_up.specs.declared.config.Config.{Config}
+use Rattle.driver.specs.Initialisation.{IsFresh}
 use Rattle.driver_law.specs.DriverState.{DriverState}
 use Rattle.packet_socket.specs.declared.socket_kind.SocketKind.{SocketKind}
 
@@ -16,3 +18,8 @@ pub record HostState : Type 0 where
 -- one for which nothing waits, and that has counted nothing
 abbrev pub new_host : DriverState → List SocketKind → HostState
 new_host driver kinds = record { driver = driver; kinds = kinds; queues = replicate (length kinds) []; unclaimed = 0 }
+
+-- That of an adapter that was brought up.
+pub record IsNewHost (config : Config) (kinds : List SocketKind) (host : HostState) : Type 0 where
+  pub new : host ≡ new_host host.driver kinds
+  pub fresh : IsFresh config host.driver

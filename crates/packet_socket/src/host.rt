@@ -1,22 +1,21 @@
 // A host: a driver with sockets above it.
 
-ghost use Rattle.std.specs.Prelude.{◌≡◌, ◌↔◌, ◌≤◌, ◌<◌, ◌++◌, [], Err, IfErr, IfOk, IsTrue, length};
+ghost use Rattle.std.specs.Prelude.{◌≡◌, ◌↔◌, ◌≤◌, ◌<◌, ◌++◌, Err, IfErr, IfOk, IsTrue, length};
 ghost use Rattle.dma_memory.specs.Layout.{size_of};
 ghost use Rattle.dma_memory.specs.Owners.{HasNoSecondOwner};
-ghost use Rattle.bring_up.specs.Configuration.{CanBeHad, counts_of};
+ghost use Rattle.bring_up.specs.Configuration.{CanBeHad};
 ghost use Rattle.bring_up.specs.Device.{IsBeforeAccess};
 ghost use Rattle.bring_up.specs.declared.init_error.InitError.TheVariants as InitError;
 ghost use Rattle.registers.specs.Counting.{greatest_count};
-ghost use Rattle.driver_law.specs.Beginnings.{new_driver};
-ghost use Rattle.driver_law.specs.DriverState.{owners, with_owners};
-ghost use Rattle.driver_law.specs.Stretches.{IsRefilled};
+ghost use Rattle.bus.specs.Keeping.{Keeps};
+ghost use Rattle.driver_law.specs.DriverState.{owners};
 ghost use Rattle.driver.specs.Initialisation.{Initialises, Refuses};
 ghost use Rattle.driver.specs.SendSteps.{IsRefused, with_sending};
 ghost use Rattle.driver.specs.TakenFrames.{AreFrames, buffers_of};
 ghost use Rattle.driver.specs.declared.transmit.SendError.TheVariants as SendError;
-ghost use Rattle.packet_socket.specs.HostCalls.{HostTransmits};
+ghost use Rattle.packet_socket.specs.HostCalls.{HostTransmits, host_at};
 ghost use Rattle.packet_socket.specs.HeldFrames.{HostReady};
-ghost use Rattle.packet_socket.specs.HostState.{new_host};
+ghost use Rattle.packet_socket.specs.HostState.{IsNewHost};
 ghost use Rattle.packet_socket.specs.SocketsState.{all_of, queue_at};
 
 use crate::SocketKind;
@@ -62,20 +61,13 @@ impl Host {
         config: &Config,
         kinds: ArrayVec<SocketKind, MOST_SOCKETS>,
     ) -> Result<Host, InitError>
-        ensures extent { B.extent bus.new ≡ B.extent bus.old }
-        ensures lent_stays { B.lent_stays bus.old bus.new }
-        ensures honest { B.honest bus.old → B.honest bus.new }
-        ensures lively { B.lively bus.old → B.lively bus.new }
+        ensures keeps { Keeps B.Bus bus.old bus.new }
 
         // What it does over any bus.
         ensures config { (result ≡ Err InitError.Config) ↔ ¬ CanBeHad config.now (B.extent bus.old) }
         ensures unasked { IfErr result (λ error. IsBeforeAccess error → bus.new ≡ bus.old) }
-        ensures new { IfOk result (λ host. host ≡ new_host host.driver kinds.items) }
-        ensures counts { IfOk result (λ host. host.driver.counts ≡ counts_of config.now) }
-        ensures fresh { IfOk result (λ host. host.driver
-            ≡ with_owners (new_driver (counts_of config.now) []) host.driver.buffers [] host.driver.pool []) }
+        ensures ok { IfOk result (IsNewHost config.now kinds.items) }
         ensures had { IfOk result (λ host. CanBeHad config.now (B.extent bus.old)) }
-        ensures refilled { IfOk result (λ host. IsRefilled host.driver) }
 
         // And over one that obeys the law.
         ensures initialises { B.honest bus.old
@@ -139,10 +131,7 @@ impl Host {
     /// Those of the driver.
     pub fn send<B: Bus>(&mut self, bus: &mut B, frame: &[u8]) -> Result<(), SendError>
         requires memory { size_of self.old.driver.counts ≤ B.extent bus.old }
-        ensures extent { B.extent bus.new ≡ B.extent bus.old }
-        ensures lent_stays { B.lent_stays bus.old bus.new }
-        ensures honest { B.honest bus.old → B.honest bus.new }
-        ensures lively { B.lively bus.old → B.lively bus.new }
+        ensures keeps { Keeps B.Bus bus.old bus.new }
 
         // What it does over any bus.
         ensures others { self.new ≡ record self.old
@@ -152,8 +141,7 @@ impl Host {
         ensures nothing { IsRefused result → (bus.new ≡ bus.old) × (self.new ≡ self.old) }
 
         // And over one that obeys the law.
-        ensures ran { B.honest bus.old → HostReady self.old (B.world bus.old)
-            → HostTransmits B.world B.happened bus.old bus.new self.old self.new frame.now result }
+        ensures transmits { HostTransmits B.Bus frame.now result (host_at bus.old self.old) (host_at bus.new self.new) }
     {
         self.driver.transmit(bus, frame)
     }

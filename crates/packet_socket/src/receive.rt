@@ -1,11 +1,9 @@
 // A host gives a frame to who asks for it.
 
-ghost use Rattle.std.specs.Prelude.{◌≡◌, ◌↔◌, ◌≤◌, ◌<◌, [], Bool, Err, IfErr, IfOk, drop, length, take};
+ghost use Rattle.std.specs.Prelude.{◌≡◌, ◌↔◌, ◌≤◌, ◌<◌, [], Err, IfErr, IfOk, length};
 ghost use Rattle.dma_memory.specs.Layout.{size_of};
-ghost use Rattle.driver_law.specs.Stretches.{IsRefilled};
-ghost use Rattle.driver.specs.TakenFrames.{IsFrameSize};
-ghost use Rattle.packet_socket.specs.HostCalls.{LeavesSome, Receives};
-ghost use Rattle.packet_socket.specs.HeldFrames.{HostReadyWith};
+ghost use Rattle.bus.specs.Keeping.{Keeps};
+ghost use Rattle.packet_socket.specs.HostCalls.{Gives, GivesBy, WhereReadyHost, host_at};
 ghost use Rattle.packet_socket.specs.SocketsState.{queue_at};
 ghost use Rattle.packet_socket.specs.declared.receive.RecvError.TheVariants as RecvError;
 
@@ -39,28 +37,19 @@ impl Host {
         into: &mut [u8; 1518],
     ) -> Result<usize, RecvError>
         requires memory { size_of self.old.driver.counts ≤ B.extent bus.old }
-        ensures extent { B.extent bus.new ≡ B.extent bus.old }
-        ensures lent_stays { B.lent_stays bus.old bus.new }
-        ensures honest { B.honest bus.old → B.honest bus.new }
-        ensures lively { B.lively bus.old → B.lively bus.new }
+        ensures keeps { Keeps B.Bus bus.old bus.new }
 
         // What it does over any bus.
         ensures no_socket { (result ≡ Err RecvError.NoSocket) ↔ (length self.old.kinds ≤ socket) }
         ensures empty { (result ≡ Err RecvError.Empty)
             ↔ ((socket < length self.old.kinds) × (queue_at self.old.queues socket ≡ [])) }
-        ensures unasked { IfErr result (λ error. (bus.new ≡ bus.old) × (self.new ≡ self.old)) }
-        ensures untouched { IfErr result (λ error. into.new ≡ into.old) }
+        ensures err { IfErr result (λ error. (bus.new ≡ bus.old) × (self.new ≡ self.old) × (into.new ≡ into.old)) }
         ensures counts { self.new.driver.counts ≡ self.old.driver.counts }
-        ensures leaves { IfOk result (LeavesSome self.old self.new socket) }
-        ensures refilled { IfOk result (λ size. IsRefilled self.new.driver) }
-        ensures offered { IfOk result (λ size. self.new.driver.staged ≡ []) }
-        ensures size { IfOk result IsFrameSize }
-        ensures rest { IfOk result (λ size. drop size into.new ≡ drop size into.old) }
+        ensures ok { IfOk result (Gives self.old self.new socket into.old into.new) }
 
         // And over one that obeys the law.
-        ensures receives { (up : Bool) → B.honest bus.old → HostReadyWith up self.old (B.world bus.old)
-            → IfOk result (λ size. Receives up B.world B.happened bus.old bus.new self.old self.new socket size
-            (take size into.new)) }
+        ensures receives { WhereReadyHost B.Bus (host_at bus.old self.old) (host_at bus.new self.new)
+            (GivesBy B.Bus socket into.new result) }
     {
         if socket >= self.sockets.len() {
             return Err(RecvError::NoSocket);

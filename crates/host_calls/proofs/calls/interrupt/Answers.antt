@@ -8,5 +8,5 @@ returns c =
     c.args.outcomes.now c.finish.new.self.outcomes.now _ c.finish.new.self.accesses c.args.host.now c.interrupt-answer.new.self
     (search rules) (search rules)
     (interrupt-runs _ c.interrupt-answer.new.bus c.finish.new.self c.args.host.now c.interrupt-answer.new.self
-    c.interrupt-answer.result refl c.requires.ready c.interrupt-answer.ensures.refilled c.interrupt-answer.ensures.offered
-    (c.interrupt-answer.ensures.handles true tt c.requires.ready) c.finish.ensures)
+    c.interrupt-answer.result refl c.requires.ready c.interrupt-answer.ensures.serves
+    (c.interrupt-answer.ensures.handles true (record { honest = tt; ready = c.requires.ready })) c.finish.ensures)

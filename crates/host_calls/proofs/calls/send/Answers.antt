@@ -7,7 +7,7 @@ use Rattle.host_calls.proofs.calls.send.Goals as goal
 
 pub returns-clause-runs : goal.returns-clause-runs
 returns-clause-runs c =
-    let sent = c.send-answer.ensures.ran tt c.requires.ready in
+    let sent = c.send-answer.ensures.transmits (record { honest = tt; ready = c.requires.ready }) in
     call-back c.args.place c.args.ticks.now c.args.stations.now c.finish.new.self.stations.now _ c.args.outcomes.now
     c.finish.new.self.outcomes.now _ c.finish.new.self.accesses c.args.host.now c.send-answer.new.self [] []
     (accepted_by c.send-answer.result c.args.frame.now)
@@ -17,7 +17,7 @@ returns-clause-runs c =
 
 pub returns-clause-answers : goal.returns-clause-answers
 returns-clause-answers c =
-    let sent = c.send-answer.ensures.ran tt c.requires.ready in
+    let sent = c.send-answer.ensures.transmits (record { honest = tt; ready = c.requires.ready }) in
     send-answers c.args.host.now _ c.args.frame.now c.send-answer.result c.requires.ready c.send-answer.ensures.too_short
     c.send-answer.ensures.too_long sent.answer
 

@@ -28,17 +28,17 @@ returns-clause-comes_up c =
       waiting = ap (λ (bus : SoloState). bus.waiting) c.in_ok-bus.ensures;
       adapter = ap (λ (bus : SoloState). bus.world.adapter) c.in_ok-bus.ensures ∙ c.in_ok-adapter.ensures;
       memory =
-          c.in_ok-host.ensures.extent
+          c.in_ok-host.ensures.keeps.extent
           ∙ ap (λ (bus : SoloState). length bus.world.memory) c.in_ok-bus.ensures
           ∙ ap (λ (bytes : List ℕ). length bytes) c.in_ok-memory.ensures.zeros
           ∙ length-replicate c.size.result 0
           ∙ c.size.ensures.end
           ∙ ap size_of c.in_ok-layout.ensures.counts;
       host_is =
-          c.in_ok-host.ensures.new
+          c.in_ok-host.ensures.ok.new
           ∙ ap (λ (kinds : List SocketKind). new_host host.driver kinds) (c.table_of-table.ensures ∙ c.as_slice.ensures.value);
-      fresh = c.in_ok-host.ensures.fresh;
-      refilled = c.in_ok-host.ensures.refilled;
+      fresh = c.in_ok-host.ensures.ok.fresh.new;
+      refilled = c.in_ok-host.ensures.ok.fresh.refilled;
       initialises = c.in_ok-host.ensures.initialises tt;
       ready = c.in_ok-host.ensures.ready tt;
     }))

@@ -34,11 +34,11 @@ pub returns-clause-others : goal.returns-clause-others
 returns-clause-others g c = rw (← c.self.view_is) (left g c)
 
 pub returns-clause-ran : goal.returns-clause-ran
-returns-clause-ran g c = rw (← c.self.view_is) (λ up held honest ready.
+returns-clause-ran g c = rw (← c.self.view_is) (λ up held is.
     let d = holding held (state_of c.self.inside) in
     let new = c.read-value.new.self in
     let below : c.self.inside.missed < 2 ^ 64 = omega arith in
     subst (λ (s : DriverState). RanBy up g.B.Bus.world g.B.Bus.happened (Reads 0x4010 c.read-value.result ∷ []) c.args.bus.now new d
     (holding held s) [] []) (sym (left g c))
     (ran_by-misses g.B.Bus.world g.B.Bus.happened g.B.Bus.lively c.args.bus.now new d c.read-value.result below
-    (c.read-value.ensures.acts honest) ready))
+    (c.read-value.ensures.acts is.honest) is.ready))

@@ -1,43 +1,34 @@
 -- The oldest transmit slot is freed where the load shows that it is done.
-use Rattle.std.proofs.Common.{◌≡◌, ◌+◌, ◌-◌, ◌%◌, ℕ, [], sym, ap, subst, ◌∙◌, arith}
+use Rattle.std.proofs.Common.{◌≡◌, ◌+◌, ◌-◌, ◌%◌, ℕ, sym, ap, subst, ◌∙◌, arith}
 use Rattle.driver_law.proofs.OfferedAndFreedSlots.{none_is_written_back}
 use Rattle.std.proofs.Common.{inl, min, true}
 use Rattle.driver_law.specs.DriverState.{DriverState, holding, transmit_slot}
-use Rattle.driver_law.specs.Stretches.{RanBy}
-use Rattle.driver_law.specs.TransmitSteps.{transmit_loads, with_freed}
+use Rattle.driver_law.specs.Calls.{Ran, at, only}
+use Rattle.driver_law.specs.TransmitSteps.{with_freed}
 use Rattle.driver.proofs.FreedSlots.{frees-none, frees-oldest, sending-freed, waits-oldest}
+use Rattle.driver.specs.SendSteps.{oldest_loads}
 use Rattle.driver.specs.InsideDriver.{IsSending, state_of}
 use Rattle.driver.proofs.driver.Driver.free_oldest.Goals as goal
 
-pub returns-then-self-eq0-clause-ran : goal.returns-then-self-eq0-clause-ran
-returns-then-self-eq0-clause-ran g c held honest ready =
-    let none : c.args.self.now.sending ≡ 0 = sym (ap (λ (d : DriverState). d.sending) c.self.view_is) ∙ c.if-self-eq0.true in
-    frees-none g.B.Bus.world g.B.Bus.happened g.met.B.Bus.stays c.args.bus.now (holding held c.args.self.now) none ready
+pub returns-then-self-eq0-clause-looks : goal.returns-then-self-eq0-clause-looks
+returns-then-self-eq0-clause-looks g c held is =
+    let d = holding held c.args.self.now in
+    let none : d.sending ≡ 0 = sym (ap (λ (s : DriverState). s.sending) c.self.view_is) ∙ c.if-self-eq0.true in
+    record {
+      ran = frees-none g.B.Bus.world g.B.Bus.happened g.met.B.Bus.stays c.args.bus.now d none is.ready;
+      none = none_is_written_back d (g.B.Bus.world c.args.bus.now) is.ready (inl none);
+    }
 
-pub returns-then-self-eq0-clause-none : goal.returns-then-self-eq0-clause-none
-returns-then-self-eq0-clause-none g c held honest ready =
-    let none : c.args.self.now.sending ≡ 0 = sym (ap (λ (d : DriverState). d.sending) c.self.view_is) ∙ c.if-self-eq0.true in
-    none_is_written_back (holding held c.args.self.now) (g.B.Bus.world c.args.bus.now) ready (inl none)
-
-pub returns-then-not-shows_done-clause-ran : goal.returns-then-not-shows_done-clause-ran
-returns-then-not-shows_done-clause-ran g c held honest ready =
+pub returns-then-not-shows_done-clause-looks : goal.returns-then-not-shows_done-clause-looks
+returns-then-not-shows_done-clause-looks g c held is =
     let d = holding held c.args.self.now in
     let same = ap (λ (s : DriverState). s.sending) c.self.view_is in
     let at : c.descriptor_address.result ≡ transmit_slot d.counts d.oldest_transmit = c.descriptor_address.ensures.start
     ∙ ap (λ (s : DriverState). transmit_slot s.counts s.oldest_transmit) c.self.view_is in
-    (waits-oldest g.B.Bus.world g.B.Bus.happened g.B.Bus.lively c.args.bus.now c.load.new.self d c.descriptor_address.result c.load.new.into
-    at (omega (arith, same, c.if-self-eq0.false)) (sym c.shows_done.ensures
-    ∙ c.if-not-shows_done.true) (c.load.ensures.acts honest) ready).ran
-
-pub returns-then-not-shows_done-clause-none : goal.returns-then-not-shows_done-clause-none
-returns-then-not-shows_done-clause-none g c held honest ready =
-    let d = holding held c.args.self.now in
-    let same = ap (λ (s : DriverState). s.sending) c.self.view_is in
-    let at : c.descriptor_address.result ≡ transmit_slot d.counts d.oldest_transmit = c.descriptor_address.ensures.start
-    ∙ ap (λ (s : DriverState). transmit_slot s.counts s.oldest_transmit) c.self.view_is in
-    (waits-oldest g.B.Bus.world g.B.Bus.happened g.B.Bus.lively c.args.bus.now c.load.new.self d c.descriptor_address.result c.load.new.into
-    at (omega (arith, same, c.if-self-eq0.false)) (sym c.shows_done.ensures
-    ∙ c.if-not-shows_done.true) (c.load.ensures.acts honest) ready).behind
+    let waits = waits-oldest g.B.Bus.world g.B.Bus.happened g.B.Bus.lively c.args.bus.now c.load.new.self d c.descriptor_address.result
+    c.load.new.into at (omega (arith, same, c.if-self-eq0.false)) (sym c.shows_done.ensures
+    ∙ c.if-not-shows_done.true) (c.load.ensures.acts is.honest) is.ready in
+    record { ran = waits.ran; none = waits.behind }
 
 pub invariant_of-self : goal.invariant_of-self
 invariant_of-self g c =
@@ -50,18 +41,21 @@ invariant_of-self g c =
           (sending-freed s.layout s.oldest_transmit s.next_transmit s.sending (omega (arith, c.if-self-eq0.false)) c.self.invariant.sends);
     }
 
-pub returns-clause-ran : goal.returns-clause-ran
-returns-clause-ran g c held honest ready =
+pub returns-clause-looks : goal.returns-clause-looks
+returns-clause-looks g c held is =
     let d = holding held c.args.self.now in
     let s = c.self.inside in
     let same = ap (λ (state : DriverState). state.sending) c.self.view_is in
-    let at : c.descriptor_address.result ≡ transmit_slot d.counts d.oldest_transmit = c.descriptor_address.ensures.start
+    let slot : c.descriptor_address.result ≡ transmit_slot d.counts d.oldest_transmit = c.descriptor_address.ensures.start
     ∙ ap (λ (state : DriverState). transmit_slot state.counts state.oldest_transmit) c.self.view_is in
     let ran = frees-oldest g.B.Bus.world g.B.Bus.happened g.B.Bus.lively c.args.bus.now c.load.new.self d c.descriptor_address.result
-    c.load.new.into at (omega (arith, same, c.if-self-eq0.false)) (sym c.shows_done.ensures
-    ∙ c.if-not-shows_done.false) (c.load.ensures.acts honest) ready in
+    c.load.new.into slot (omega (arith, same, c.if-self-eq0.false)) (sym c.shows_done.ensures
+    ∙ c.if-not-shows_done.false) (c.load.ensures.acts is.honest) is.ready in
     let freed = sym (ap (λ (state : DriverState). with_freed (holding held state)) c.self.view_is)
     ∙ ap (λ (n : ℕ). let state : DriverState = record (holding held (state_of s))
     { oldest_transmit = (s.oldest_transmit + 1) % n; sending = s.sending - 1 } in state) (sym c.tx.ensures.count) in
-    subst (λ (state : DriverState). RanBy true g.B.Bus.world g.B.Bus.happened
-    (transmit_loads d.counts d.oldest_transmit (min d.sending 1)) c.args.bus.now c.load.new.self d state [] []) freed ran
+    record {
+      ran = subst (λ (state : DriverState). Ran g.B.Bus true (only (oldest_loads d (min d.sending 1))) (at c.args.bus.now d)
+          (at c.load.new.self state)) freed ran;
+      none = tt;
+    }

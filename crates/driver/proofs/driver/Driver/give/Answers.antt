@@ -1,4 +1,4 @@
-use Rattle.std.proofs.Common.{arith, ap}
+use Rattle.std.proofs.Common.{◌++◌, arith, ap}
 use Rattle.dma_memory.specs.Owners.{copies}
 use Rattle.dma_memory.specs.OwnersLaws.{copies-cons}
 use Rattle.driver_law.proofs.Owners.{owners-count}
@@ -22,8 +22,9 @@ returns-clause-owners g c k =
       c.refill.ensures.owners k,
     )
 
-pub returns-clause-ran : goal.returns-clause-ran
-returns-clause-ran g c up first later one is honest ready =
-    gives g.B.Bus.world g.B.Bus.happened g.met.B.Bus.stays g.met.B.Bus.joins c.args.bus.now c.refill.new.bus c.args.self.now
+pub returns-clause-gives : goal.returns-clause-gives
+returns-clause-gives g c up first later one number is =
+    gives g.B.Bus g.met.B.Bus.stays g.met.B.Bus.joins c.args.bus.now c.refill.new.bus c.args.self.now
     c.put_back.new.self c.refill.new.self c.args.buffer
-    c.put_back.ensures.others c.put_back.ensures.back up first later one is ready (c.refill.ensures.ran up _ honest)
+    c.put_back.ensures.others c.put_back.ensures.back up first later one number is.ready
+    (λ ready. c.refill.ensures.refills up (first ++ later) (record { honest = is.honest; ready = ready }))

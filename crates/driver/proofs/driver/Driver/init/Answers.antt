@@ -1,4 +1,4 @@
-use Rattle.std.proofs.Common.{List, ℕ, ◌≡◌, ◌≤◌, [], Bool, true, Err, IfErr, length, ap, refl, sym, subst, ◌∙◌, arith}
+use Rattle.std.proofs.Common.{List, ℕ, ◌≡◌, ◌≤◌, [], Bool, true, Err, IfErr, length, ap, refl, sym, subst, ◌∙◌, arith, inr}
 use Rattle.std.proofs.lemmas.Result.{err_from_is_err_and}
 use Rattle.dma_memory.specs.Layout.{Counts, size_of}
 use Rattle.dma_memory.specs.Owners.{HasOneOwner}
@@ -50,15 +50,21 @@ owner : (g : Over) (c : goal.After-enable_interrupts g) → HasOneOwner c.args.c
 owner g c = subst (λ (layout : Counts). HasOneOwner layout.buffers c.in_ok-driver.driver.pool) c.in_ok-layout.ensures.counts
     c.in_ok-driver.ensures.one_owner
 
-pub returns-clause-one_owner : goal.returns-clause-one_owner
-returns-clause-one_owner g c =
+pub returns-clause-fresh : goal.returns-clause-fresh
+returns-clause-fresh g c =
     let o = offered g c in
     let counts = counts_of c.args.config.now in
-    subst (λ (d : DriverState). HasOneOwner d.counts.buffers (owners d)) (sym o.others)
-    (owners-offered counts.buffers counts c.in_ok-driver.driver.pool o.numbers c.offer_first.new.self.pool (owner g c) o.pool)
-
-pub returns-clause-none_out : goal.returns-clause-none_out
-returns-clause-none_out g c = ap (λ (d : DriverState). d.handed_out) (offered g c).others
+    let d = c.offer_first.new.self in
+    record {
+      counts = ap (λ (s : DriverState). s.counts) o.others;
+      new = o.others ∙ ap (λ (numbers : List ℕ). offering counts [] numbers d.pool) (sym (ap (λ (s : DriverState). s.buffers) o.others));
+      one_owner = subst (λ (d : DriverState). HasOneOwner d.counts.buffers (owners d)) (sym o.others)
+          (owners-offered counts.buffers counts c.in_ok-driver.driver.pool o.numbers d.pool (owner g c) o.pool);
+      none_out = ap (λ (s : DriverState). s.handed_out) o.others;
+      refilled = let size = ap (λ (s : DriverState). length s.buffers) o.others in
+          let rx = ap (λ (s : DriverState). s.counts.rx) o.others in
+          inr (omega (arith, o.count, size, rx));
+    }
 
 pub returns-clause-initialises : goal.returns-clause-initialises
 returns-clause-initialises g c honest =
@@ -77,12 +83,12 @@ returns-clause-initialises g c honest =
     let size : c.size.result ≡ g.B.Bus.extent b0 = c.size.ensures in
     let had : CanBeHad config (g.B.Bus.extent b0) = subst (CanBeHad config) size (c.in_ok-layout.ensures.ok.0 refl) in
     let finds = c.in_ok-find_ring.ensures.finds honest in
-    let h1 = c.in_ok-find_ring.ensures.honest honest in
-    let h2 = c.offer_first.ensures.honest h1 in
+    let h1 = c.in_ok-find_ring.ensures.keeps.honest honest in
+    let h2 = c.offer_first.ensures.keeps.honest h1 in
     let h3 = c.enable_receiver.ensures.honest h2 in
-    let h4 = c.set_up_transmitter.ensures.honest h3 in
+    let h4 = c.set_up_transmitter.ensures.keeps.honest h3 in
     let lies : size_of counts ≤ length (world b1).memory = omega
-    (arith, had.room, g.met.B.Bus.sized b1 h1, c.in_ok-find_ring.ensures.extent) in
+    (arith, had.room, g.met.B.Bus.sized b1 h1, c.in_ok-find_ring.ensures.keeps.extent) in
     let begins = drivers_begin_at_rest counts pool (world b1) had.counts (owner g c) lies finds.found.ring in
     let first = o.ran h1 begins.ready in
     let still = stays-quiet counts o.numbers (new_driver counts pool) d (world b1) (world b2) first.past first.only first.goes first.set
@@ -101,10 +107,3 @@ returns-clause-initialises g c honest =
     initialises world happened g.met.B.Bus.joins b0 b1 b2 b3 b4 c.enable_interrupts.new.bus config (g.B.Bus.extent b0) pool o.numbers d
     finds.past had finds.told finds.found o.count o.others
     first still.0 still.1.1 lets sends (c.enable_interrupts.ensures.enables d h4 sends.goes.flows.ready)
-
-pub returns-clause-new : goal.returns-clause-new
-returns-clause-new g c =
-    let o = offered g c in
-    let d = c.offer_first.new.self in
-    o.others ∙ ap (λ (numbers : List ℕ). offering (counts_of c.args.config.now) [] numbers d.pool)
-    (sym (ap (λ (s : DriverState). s.buffers) o.others))

@@ -12,14 +12,14 @@ use Rattle.driver.proofs.BufferQueue.{tail_write-some}
 use Rattle.driver.proofs.driver.Driver.offer.Goals as goal
 
 pub returns-then-self-eq0-clause-ran : goal.returns-then-self-eq0-clause-ran
-returns-then-self-eq0-clause-ran g c up held honest ready =
+returns-then-self-eq0-clause-ran g c up held is =
     let d = c.args.self.now in
     let bus = c.args.bus.now in
     let none : length d.staged ≡ 0 = ap (λ (s : DriverState). length s.staged) (sym c.self.view_is)
     ∙ (queue-split c.self.inside c.self.invariant.receives).staged ∙ c.if-self-eq0.true in
     subst (λ (list : List Access). RanBy up g.B.Bus.world g.B.Bus.happened list bus bus (holding held d) (holding held d) [] [])
     (sym (tail_write-none (next_receive d) d.staged none))
-    (ran_by-stays g.B.Bus.world g.B.Bus.happened g.met.B.Bus.stays bus (holding held d) ready)
+    (ran_by-stays g.B.Bus.world g.B.Bus.happened g.met.B.Bus.stays bus (holding held d) is.ready)
 
 pub returns-clause-ran : goal.returns-clause-ran
 returns-clause-ran g c =
@@ -29,7 +29,7 @@ returns-clause-ran g c =
     let receives = c.self.invariant.receives in
     let split = queue-split d receives in
     let at = next_receive (state_of d) in
-    rw (← c.self.view_is) (λ up held honest ready.
+    rw (← c.self.view_is) (λ up held is.
     let some : tail_write at (state_of d).staged ≡ Writes 0x2818 at
     ∷ [] = tail_write-some at (state_of d).staged (λ none. c.if-self-eq0.false (sym split.staged ∙ none)) in
     subst (λ (list : List Access). RanBy up g.B.Bus.world g.B.Bus.happened list old new (holding held (state_of d))
@@ -37,7 +37,7 @@ returns-clause-ran g c =
     (subst (λ (s : DriverState). RanBy up g.B.Bus.world g.B.Bus.happened (Writes 0x2818 at ∷ []) old new (holding held (state_of d))
     (holding held s) [] []) (sym (offered-inside d receives))
     (ran_by-offers g.B.Bus.world g.B.Bus.happened g.B.Bus.lively old new (holding held (state_of d)) c.from.result (c.from.ensures
-    ∙ split.next) (c.write.ensures.acts honest) ready)))
+    ∙ split.next) (c.write.ensures.acts is.honest) is.ready)))
 
 pub returns-then-self-eq0-clause-one_owner : goal.returns-then-self-eq0-clause-one_owner
 returns-then-self-eq0-clause-one_owner g c = rw (← c.self.view_is) (no_second-inside c.self.inside c.self.invariant.receives)

@@ -8,13 +8,6 @@ use Rattle.driver.specs.RefillSteps.{Stages}
 use Rattle.driver.proofs.FirstSlots.{offers-first}
 use Rattle.driver.proofs.driver.Driver.offer_first.Goals as goal
 
-pub returns-clause-lent_stays : goal.returns-clause-lent_stays
-returns-clause-lent_stays g c =
-    g.met.B.Bus.lent_stays_on c.args.bus.now c.clear_descriptor.new.bus c.offer.new.bus
-    (g.met.B.Bus.lent_stays_on c.args.bus.now c.stage_all.new.bus c.clear_descriptor.new.bus c.stage_all.ensures.lent_stays
-    c.clear_descriptor.ensures.lent_stays)
-    c.offer.ensures.lent_stays
-
 pub returns-clause-offers : goal.returns-clause-offers
 returns-clause-offers g c =
     let d = c.args.self.now in
@@ -38,5 +31,5 @@ returns-clause-offers g c =
     d.counts d.pool staged.numbers c.stage_all.new.self c.offer.new.self c.requires.one_owner c.requires.enough some
     (subst (λ (s : DriverState). Stages honest world happened c.args.bus.now c.stage_all.new.bus s c.stage_all.new.self staged.numbers)
     c.requires.new staged.stages)
-    c.stage_all.ensures.room c.stage_all.ensures.full c.offer.ensures.others c.stage_all.ensures.honest c.clear_descriptor.ensures.honest
-    clearing (c.offer.ensures.ran false []))
+    c.stage_all.ensures.room c.stage_all.ensures.full c.offer.ensures.others c.stage_all.ensures.keeps.honest
+    c.clear_descriptor.ensures.honest clearing (λ honest ready. c.offer.ensures.ran false [] (record { honest = honest; ready = ready })))

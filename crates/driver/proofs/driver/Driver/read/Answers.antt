@@ -17,7 +17,7 @@ at : (g : Over) (c : goal.After-load g) → c.receive_buffer-buffer.result ≡ b
 at g c = rw (← c.self.view_is) (c.receive_buffer-buffer.ensures.start ∙ ap (buffer_at c.self.inside.layout) c.number.ensures)
 
 pub returns-clause-ran : goal.returns-clause-ran
-returns-clause-ran g c up held honest ready =
+returns-clause-ran g c up held is =
     let d = holding held c.args.self.now in
     let access : Loads c.receive_buffer-buffer.result (length (take c.from-size.result c.args.into.now))
     ≡ Loads (buffer_at c.args.self.now.counts c.args.received.now.buffer) c.from-size.result =
@@ -25,21 +25,21 @@ returns-clause-ran g c up held honest ready =
     subst (λ (one : Access). RanBy up g.B.Bus.world g.B.Bus.happened (one ∷ []) c.args.bus.now c.load.new.self d d [] []) access
     (ran_by-reads g.B.Bus.world g.B.Bus.happened g.B.Bus.lively c.args.bus.now c.load.new.self d c.receive_buffer-buffer.result
     (length (take c.from-size.result c.args.into.now)) c.load.new.into
-    (c.load.ensures.acts honest) ready)
+    (c.load.ensures.acts is.honest) is.ready)
 
 pub returns-clause-frame : goal.returns-clause-frame
-returns-clause-frame g c up first later one honest ready is long =
+returns-clause-frame g c up first later one is number long =
     let d = holding (first ++ one ∷ later) c.args.self.now in
     let n = length (take c.from-size.result c.args.into.now) in
     let whole : n ≡ length one.frame = omega (arith, part g c, c.from-size.ensures, long) in
     let place : c.receive_buffer-buffer.result ≡ buffer_at c.args.self.now.counts one.number + 0 = omega (
       arith,
       at g c
-          ∙ ap (buffer_at c.args.self.now.counts) (sym is),
+          ∙ ap (buffer_at c.args.self.now.counts) (sym number),
     ) in
     let bytes : c.load.new.into ≡ take n (drop 0 one.frame) =
     frame-read g.B.Bus.world g.B.Bus.happened g.B.Bus.lively c.args.bus.now c.load.new.self d first later one c.receive_buffer-buffer.result
-    0 n c.load.new.into (c.load.ensures.acts honest) ready refl
+    0 n c.load.new.into (c.load.ensures.acts is.honest) is.ready refl
     place (omega (arith, whole)) in
     take_at c.load.new.into _ c.from-size.result (c.load.ensures.length ∙ part g c) ∙ bytes
     ∙ ap (λ (i : ℕ). take i (drop 0 one.frame)) whole ∙ take-length one.frame

@@ -1,15 +1,13 @@
 -- Each turn frees one slot, and the last finds that none is left to be freed.
-use Rattle.std.proofs.Common.{refl, ◌∙◌}
+use Rattle.bus.proofs.Keeping.{keeps-here, keeps-on}
+use Rattle.driver_law.specs.Calls.{at}
 use Rattle.driver.proofs.FreedSlots.{has_freed-all, has_freed-more, has_freed-none}
 use Rattle.driver.proofs.driver.Driver.reclaim.Goals as goal
 
 pub loop-init : goal.loop-init
 loop-init g c = record {
-  extent = refl;
-  lent_stays = g.met.B.Bus.lent_stays_here c.args.bus.now;
-  honest = λ honest. honest;
-  lively = λ lively. lively;
-  freed = has_freed-none g.B.Bus.honest g.B.Bus.world g.B.Bus.happened g.met.B.Bus.stays c.args.bus.now c.args.self.now;
+  keeps = keeps-here g.B.Bus g.met.B.Bus.lent_stays_here c.args.bus.now;
+  freed = has_freed-none g.B.Bus g.met.B.Bus.stays (at c.args.bus.now c.args.self.now);
 }
 
 pub loop-preserved : goal.loop-preserved
@@ -17,20 +15,12 @@ loop-preserved g c =
     let l = c.loop.invariant in
     let turn = c.loop-test.ensures in
     record {
-      extent = turn.extent ∙ l.extent;
-      lent_stays = g.met.B.Bus.lent_stays_on c.args.bus.now c.loop.bus c.free_oldest.new.bus l.lent_stays turn.lent_stays;
-      honest = λ honest. turn.honest (l.honest honest);
-      lively = λ lively. turn.lively (l.lively lively);
-      freed =
-          has_freed-more g.B.Bus.honest g.B.Bus.world g.B.Bus.happened g.met.B.Bus.joins c.args.bus.now c.loop.bus c.free_oldest.new.bus
-          c.args.self.now c.loop.self
-          c.free_oldest.new.self l.honest l.freed turn.ran turn.some turn.freed;
+      keeps = keeps-on g.B.Bus g.met.B.Bus.lent_stays_on _ _ _ l.keeps turn.keeps;
+      freed = has_freed-more g.B.Bus g.met.B.Bus.joins _ _ _ l.keeps l.freed turn.looks turn.freed;
     }
 
-pub returns-clause-ran : goal.returns-clause-ran
-returns-clause-ran g c =
+pub returns-clause-reclaims : goal.returns-clause-reclaims
+returns-clause-reclaims g c =
     let l = c.loop.invariant in
     let turn = c.loop-test.ensures in
-    has_freed-all g.B.Bus.honest g.B.Bus.world g.B.Bus.happened g.met.B.Bus.joins c.args.bus.now c.loop.bus c.free_oldest.new.bus
-    c.args.self.now c.loop.self
-    c.free_oldest.new.self l.honest l.freed turn.ran turn.stays turn.none
+    has_freed-all g.B.Bus g.met.B.Bus.joins _ _ _ l.keeps l.freed turn.looks turn.stays

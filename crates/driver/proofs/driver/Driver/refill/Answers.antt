@@ -6,12 +6,9 @@ pub returns-clause-owners : goal.returns-clause-owners
 returns-clause-owners g c k =
     owners-staged g.B.Bus.honest g.B.Bus.world g.B.Bus.happened _ _ _ _ _ c.stage_all.ensures.stages.stages k ∙ c.offer.ensures.owners k
 
-pub returns-clause-one_owner : goal.returns-clause-one_owner
-returns-clause-one_owner g c = c.offer.ensures.one_owner
-
-pub returns-clause-ran : goal.returns-clause-ran
-returns-clause-ran g c up held honest ready =
+pub returns-clause-refills : goal.returns-clause-refills
+returns-clause-refills g c up held is =
     let staged = c.stage_all.ensures.stages in
-    refills g.B.Bus.honest g.B.Bus.world g.B.Bus.happened g.met.B.Bus.joins c.args.bus.now c.stage_all.new.bus c.offer.new.bus
-    c.args.self.now c.stage_all.new.self c.offer.new.self staged.numbers staged.stages c.offer.ensures.others up held honest ready
-    (c.offer.ensures.ran up held (c.stage_all.ensures.honest honest))
+    refills g.B.Bus g.met.B.Bus.joins c.args.bus.now c.stage_all.new.bus c.offer.new.bus
+    c.args.self.now c.stage_all.new.self c.offer.new.self staged.numbers staged.stages c.offer.ensures.others up held is.honest is.ready
+    (λ ready. c.offer.ensures.ran up held (record { honest = c.stage_all.ensures.keeps.honest is.honest; ready = ready }))

@@ -1,11 +1,11 @@
 -- The slot is the one behind the outstanding ones, as the driver keeps it.
-use Rattle.std.proofs.Common.{◌≡◌, ◌+◌, ◌%◌, ◌∷◌, [], ℕ, length, true, sym, ap, subst, ◌∙◌, arith}
-use Rattle.descriptors.specs.Frames.{padded}
+use Rattle.std.proofs.Common.{◌≡◌, ◌+◌, ◌%◌, ℕ, length, true, sym, ap, subst, ◌∙◌, arith}
 use Rattle.driver_law.proofs.TransmitRuns.{run-sends}
 use Rattle.driver_law.specs.DriverState.{DriverState, holding, transmit_slot, transmit_tail}
-use Rattle.driver_law.specs.Stretches.{RanBy}
-use Rattle.driver_law.specs.TransmitSteps.{send_accesses, transmit_buffer, whole_descriptor}
+use Rattle.driver_law.specs.Calls.{Ran, at}
+use Rattle.driver_law.specs.TransmitSteps.{transmit_buffer, whole_descriptor}
 use Rattle.driver.proofs.SentFrames.{next-slot, sending-more}
+use Rattle.driver.specs.SendSteps.{sent_now}
 use Rattle.driver.specs.InsideDriver.{IsSending}
 use Rattle.driver.proofs.driver.Driver.send.Goals as goal
 
@@ -31,13 +31,13 @@ invariant_of-self g c =
           (omega (arith, c.requires.room, count, sending)) c.self.invariant.sends);
     }
 
-pub returns-clause-ran : goal.returns-clause-ran
-returns-clause-ran g c held honest ready =
+pub returns-clause-sends : goal.returns-clause-sends
+returns-clause-sends g c held is =
     let s = c.self.inside in
     let d = holding held c.args.self.now in
     let frame = c.args.frame.now in
     let next = c.self.invariant.sends.next_slot in
-    let first = c.store.ensures.honest honest in
+    let first = c.store.ensures.honest is.honest in
     let second = c.store-2.ensures.honest first in
     let buffer : c.transmit_buffer-buffer.result ≡ transmit_buffer d.counts (transmit_tail d) =
     c.transmit_buffer-buffer.ensures.start ∙ ap (transmit_buffer s.layout) next
@@ -54,8 +54,7 @@ returns-clause-ran g c held honest ready =
     run-sends g.B.Bus.world g.B.Bus.happened g.B.Bus.lively g.met.B.Bus.joins c.args.bus.now c.store.new.self c.store-2.new.self
     c.write.new.self d frame c.requires.room c.requires.least c.requires.most
     c.transmit_buffer-buffer.result c.descriptor_address.result c.from.result c.whole_packet-descriptor.result buffer slot bytes tail
-    (c.store.ensures.acts honest) (c.store-2.ensures.acts first) (c.write.ensures.acts second) ready in
+    (c.store.ensures.acts is.honest) (c.store-2.ensures.acts first) (c.write.ensures.acts second) is.ready in
     let sent = ap (λ (state : DriverState). let more : DriverState = record (holding held state) { sending = state.sending + 1 } in more)
     (sym c.self.view_is) in
-    subst (λ (state : DriverState). RanBy true g.B.Bus.world g.B.Bus.happened
-    (send_accesses d frame) c.args.bus.now c.write.new.self d state [] (padded frame ∷ [])) sent ran
+    subst (λ (state : DriverState). Ran g.B.Bus true (sent_now d frame) (at c.args.bus.now d) (at c.write.new.self state)) sent ran

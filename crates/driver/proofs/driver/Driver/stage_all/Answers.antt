@@ -1,13 +1,11 @@
-use Rattle.std.proofs.Common.{◌∷◌, [], refl, ◌∙◌}
+use Rattle.std.proofs.Common.{◌∷◌, []}
+use Rattle.bus.proofs.Keeping.{keeps-here, keeps-on}
 use Rattle.driver.proofs.RefillSteps.{stages-join, stages-none}
 use Rattle.driver.proofs.driver.Driver.stage_all.Goals as goal
 
 pub loop-init : goal.loop-init
 loop-init g c = record {
-  extent = refl;
-  lent_stays = g.met.B.Bus.lent_stays_here c.args.bus.now;
-  honest = λ honest. honest;
-  lively = λ lively. lively;
+  keeps = keeps-here g.B.Bus g.met.B.Bus.lent_stays_here c.args.bus.now;
   stages = record {
     numbers = [];
     stages = stages-none g.B.Bus.honest g.B.Bus.world g.B.Bus.happened g.met.B.Bus.stays c.args.bus.now
@@ -21,15 +19,12 @@ loop-preserved g c =
     let s = c.stage.ensures in
     let one = c.loop-test.ensures.stages in
     record {
-      extent = s.extent ∙ l.extent;
-      lent_stays = g.met.B.Bus.lent_stays_on c.args.bus.now c.loop.bus c.stage.new.bus l.lent_stays s.lent_stays;
-      honest = λ honest. s.honest (l.honest honest);
-      lively = λ lively. s.lively (l.lively lively);
+      keeps = keeps-on g.B.Bus g.met.B.Bus.lent_stays_on _ _ _ l.keeps s.keeps;
       stages = record {
         numbers = _;
         stages =
-            stages-join g.B.Bus.honest g.B.Bus.world g.B.Bus.happened g.met.B.Bus.joins c.args.bus.now c.loop.bus c.stage.new.bus l.honest
-            c.args.self.now c.loop.self c.stage.new.self
+            stages-join g.B.Bus.honest g.B.Bus.world g.B.Bus.happened g.met.B.Bus.joins c.args.bus.now c.loop.bus c.stage.new.bus
+            l.keeps.honest c.args.self.now c.loop.self c.stage.new.self
             l.stages.numbers (one.0 ∷ []) l.stages.stages one.1;
       };
     }

@@ -1,13 +1,11 @@
-use Rattle.std.proofs.Common.{◌≡◌, ◌+◌, ◌-◌, length}
+use Rattle.std.proofs.Common.{◌+◌, ◌-◌, length}
+use Rattle.bus.specs.Keeping.{Keeps}
 use Rattle.driver.specs.RefillSteps.{StagesSome}
 use Rattle.driver.proofs.driver.Driver.stage_all.Given as goal
 
 abbrev pub invariant-loop : goal.invariant-loop
 invariant-loop g l = record {
-  extent : g.B.Bus.extent l.bus ≡ g.B.Bus.extent l.initial.bus;
-  lent_stays : g.B.Bus.lent_stays l.initial.bus l.bus;
-  honest : g.B.Bus.honest l.initial.bus → g.B.Bus.honest l.bus;
-  lively : g.B.Bus.lively l.initial.bus → g.B.Bus.lively l.bus;
+  keeps : Keeps g.B.Bus l.initial.bus l.bus;
   stages : StagesSome g.B.Bus.honest g.B.Bus.world g.B.Bus.happened l.initial.bus l.bus l.initial.self l.self;
 }
 

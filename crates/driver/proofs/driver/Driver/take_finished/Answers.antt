@@ -1,20 +1,19 @@
-use Rattle.std.proofs.Common.{◌≡◌, ◌+◌, ◌-◌, ◌++◌, ℕ, length, refl, sym, ap, subst, ◌∙◌, arith}
+use Rattle.std.proofs.Common.{◌≡◌, ◌+◌, ◌-◌, ◌++◌, ℕ, length, sym, ap, subst, arith}
+use Rattle.bus.proofs.Keeping.{keeps-here, keeps-on}
 use Rattle.driver_law.specs.Accesses.{last_load}
+use Rattle.driver_law.specs.Calls.{Ran, at, only}
 use Rattle.driver_law.specs.DriverState.{DriverState, holding}
-use Rattle.driver.specs.TakenFrames.{Takes}
+use Rattle.driver.specs.TakenFrames.{TakesAll, scene}
 use Rattle.driver.proofs.TakenFrames.{walks-look, walks-next, walks-none}
 use Rattle.driver.proofs.driver.Driver.take_finished.Given.{Over}
 use Rattle.driver.proofs.driver.Driver.take_finished.Goals as goal
 
 pub loop-finished-init : goal.loop-finished-init
 loop-finished-init g c = record {
-  extent = refl;
-  lent_stays = g.met.B.Bus.lent_stays_here c.args.bus.now;
-  honest = λ honest. honest;
-  lively = λ lively. lively;
+  keeps = keeps-here g.B.Bus g.met.B.Bus.lent_stays_here c.args.bus.now;
   walks = (
     0,
-    walks-none g.B.Bus.honest g.B.Bus.world g.B.Bus.happened g.R.Receiver.took g.met.B.Bus.stays g.met.R.Receiver.stays
+    walks-none g.B.Bus g.R.Receiver g.met.B.Bus.stays g.met.R.Receiver.stays
         c.args.bus.now c.args.receiver.now c.args.self.now,
   );
 }
@@ -23,31 +22,24 @@ pub loop-finished-preserved : goal.loop-finished-preserved
 loop-finished-preserved g c =
     let l = c.loop-finished.invariant in
     let t = c.take_next.ensures in
-    let s = c.in-Some.ensures in
+    let s = c.in-Some.ensures.leaves in
+    let looks = c.in-Some.ensures.looks in
     let h = c.hand_on.ensures in
     record {
-      extent = h.extent ∙ t.extent ∙ l.extent;
-      lent_stays = g.met.B.Bus.lent_stays_on c.args.bus.now c.take_next.new.bus c.hand_on.new.bus
-          (g.met.B.Bus.lent_stays_on c.args.bus.now c.loop-finished.bus c.take_next.new.bus l.lent_stays t.lent_stays) h.lent_stays;
-      honest = λ honest. h.honest (t.honest (l.honest honest));
-      lively = λ lively. h.lively (t.lively (l.lively lively));
+      keeps = keeps-on g.B.Bus g.met.B.Bus.lent_stays_on _ _ _ l.keeps
+          (keeps-on g.B.Bus g.met.B.Bus.lent_stays_on _ _ _ t.keeps h.keeps);
       walks = (
         _,
-        walks-next g.B.Bus.honest g.B.Bus.world g.B.Bus.happened g.R.Receiver.took g.met.B.Bus.stays g.met.B.Bus.joins
-            g.met.R.Receiver.joins c.args.bus.now c.loop-finished.bus c.take_next.new.bus c.hand_on.new.bus l.honest
+        walks-next g.B.Bus g.R.Receiver g.met.B.Bus.stays g.met.B.Bus.joins
+            g.met.R.Receiver.joins c.args.bus.now c.loop-finished.bus c.take_next.new.bus c.hand_on.new.bus l.keeps.honest
             c.args.receiver.now c.loop-finished.receiver c.hand_on.new.receiver c.args.self.now c.loop-finished.self c.take_next.new.self
             c.hand_on.new.self l.walks.0 c.in-Some.finished.buffer c.in-Some.finished.length l.walks.1
-            s.first s.behind s.takes c.hand_on.ensures.others c.hand_on.ensures.hands
-            (λ up held before one honest ready standing number long. h.over up held one (t.honest honest) standing number long
-            (s.whole up before honest ready)),
+            s.first s.behind (λ up held honest ready. (looks up held (record { honest = honest; ready = ready })).takes)
+            c.hand_on.ensures.others c.hand_on.ensures.hands
+            (λ up held before one honest ready standing number long. h.over up held one (t.keeps.honest honest) standing number long
+            (looks up before (record { honest = honest; ready = ready })).whole),
       );
     }
-
-pub returns-clause-none_left : goal.returns-clause-none_left
-returns-clause-none_left g c up held honest ready =
-    let l = c.loop-finished.invariant in
-    let before = l.walks.1.takes up held honest ready in
-    rw c.in_default.ensures.stays (c.in_default.ensures.none up (held ++ before.handed_out) (l.honest honest) before.ran.goes.flows.ready)
 
 -- How many slots were taken is how many fewer are outstanding.
 number : (g : Over) (c : goal.After-receiving g) → c.loop-finished.invariant.walks.0 ≡ c.receiving-before.result - c.receiving.result
@@ -64,18 +56,21 @@ number g c =
     )
 
 pub returns-clause-takes : goal.returns-clause-takes
-returns-clause-takes g c up held honest ready =
+returns-clause-takes g c up held is =
     let l = c.loop-finished.invariant in
     let d = c.args.self.now in
     let n = l.walks.0 in
-    let before = l.walks.1.takes up held honest ready in
-    let look = c.in_default.ensures.looks up (held ++ before.handed_out) (l.honest honest) before.ran.goes.flows.ready in
-    let all = walks-look g.B.Bus.world g.B.Bus.happened g.R.Receiver.took g.met.B.Bus.joins _ c.args.bus.now c.loop-finished.bus
-    c.take_next.new.bus c.args.receiver.now c.loop-finished.receiver (holding held d)
-    (holding held c.loop-finished.self) n before look in
+    let before = l.walks.1.takes up held is in
+    let look = c.in_default.ensures.looks up (held ++ before.handed_out)
+    (record { honest = l.keeps.honest is.honest; ready = before.ran.goes.flows.ready }) in
+    let still = c.in_default.ensures.stays in
+    let all = walks-look g.B.Bus g.R.Receiver g.met.B.Bus.joins _ c.args.bus.now c.loop-finished.bus
+    c.take_next.new.bus c.args.receiver.now c.loop-finished.receiver (holding held d) (holding held c.loop-finished.self) n before
+    (subst (λ (last : DriverState). Ran g.B.Bus up (only (last_load c.loop-finished.self.oldest_receive c.loop-finished.self.buffers))
+    (at c.loop-finished.bus (holding (held ++ before.handed_out) c.loop-finished.self))
+    (at c.take_next.new.bus (holding (held ++ before.handed_out) last))) still look.ran) in
     let Taken : ℕ → DriverState → Type 0 = λ k last.
-    Takes up g.B.Bus.world g.B.Bus.happened g.R.Receiver.took
-    (last_load last.oldest_receive last.buffers) c.args.bus.now c.take_next.new.bus c.args.receiver.now c.loop-finished.receiver
-    (holding held d) (holding held last) k in
-    subst (λ (last : DriverState). Taken (c.receiving-before.result - c.receiving.result) last) (sym c.in_default.ensures.stays)
-    (subst (λ (k : ℕ). Taken k c.loop-finished.self) (number g c) all)
+    TakesAll g.B.Bus g.R.Receiver k up (scene c.args.bus.now (holding held d) c.args.receiver.now)
+    (scene c.take_next.new.bus (holding held last) c.loop-finished.receiver) in
+    subst (λ (last : DriverState). Taken (c.receiving-before.result - c.receiving.result) last) (sym still)
+    (subst (λ (k : ℕ). Taken k c.loop-finished.self) (number g c) (record { none_left = look.none; takes = all }))

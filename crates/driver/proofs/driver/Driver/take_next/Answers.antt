@@ -1,4 +1,4 @@
-use Rattle.std.proofs.Common.{◌≡◌, ◌+◌, ◌%◌, [], true, false, Bool, ℕ, List, slice_index, sym, ap, subst, ◌∙◌}
+use Rattle.std.proofs.Common.{◌≡◌, ◌+◌, ◌%◌, true, false, Bool, ℕ, List, slice_index, sym, ap, subst, ◌∙◌}
 use Rattle.registers.specs.Bits.{is_set}
 use Rattle.descriptors.specs.RxDesc.{rx_desc_of}
 use Rattle.descriptors.specs.RxStatus.{status_bits}
@@ -9,10 +9,9 @@ use Rattle.driver_law.proofs.ReceiveAccesses.{ran_by-leaves, ran_by-takes, takes
 use Rattle.driver_law.proofs.Stores.{status-bits}
 use Rattle.driver_law.proofs.TakenSlots.{finished-empty}
 use Rattle.driver_law.specs.Accesses.{last_load}
-use Rattle.driver_law.specs.DriverState.{HandedOut, holding}
-use Rattle.driver_law.specs.Stretches.{RanBy}
-use Rattle.driver_law.specs.OldestSlot.{LeavesOldest, TakesOldest}
-use Rattle.driver_law.specs.ReadyDrivers.{ReadyWith}
+use Rattle.driver_law.specs.DriverState.{holding}
+use Rattle.driver_law.specs.Calls.{Ran, at, only}
+use Rattle.driver_law.specs.OldestSlot.{TakesOldest}
 use Rattle.driver.specs.InsideDriver.{state_of}
 use Rattle.driver.proofs.BufferQueue.{HasTaken, none-outstanding, some-outstanding, taken-inside, without_oldest}
 use Rattle.driver.proofs.driver.Driver.take_next.Given.{Over}
@@ -26,42 +25,35 @@ done-bit bytes desc done is bit = ap (λ (status : ℕ). is_set status 0) (sym (
 
 -- No slot is outstanding.
 
-pub returns-then-len-from-clause-none : goal.returns-then-len-from-clause-none
-returns-then-len-from-clause-none g c = rw (← c.self.view_is) (λ up held honest ready.
-    finished-empty (holding held (state_of c.self.inside)) (g.B.Bus.world c.args.bus.now)
-    (none-outstanding c.self.inside c.self.invariant.receives (sym c.len.ensures.len ∙ c.if-len-from.true ∙ c.from.ensures)) ready)
-
 pub returns-then-len-from-clause-looks : goal.returns-then-len-from-clause-looks
-returns-then-len-from-clause-looks g c = rw (← c.self.view_is) (λ up held honest ready.
+returns-then-len-from-clause-looks g c = rw (← c.self.view_is) (λ up held is.
     let d = holding held (state_of c.self.inside) in
     let bus = c.args.bus.now in
     let none = none-outstanding c.self.inside c.self.invariant.receives (sym c.len.ensures.len ∙ c.if-len-from.true ∙ c.from.ensures) in
-    subst (λ (list : List ℕ). RanBy up g.B.Bus.world g.B.Bus.happened (last_load d.oldest_receive list) bus bus d d [] []) (sym none)
-    (ran_by-stays g.B.Bus.world g.B.Bus.happened g.met.B.Bus.stays bus d ready))
+    record {
+      none = finished-empty d (g.B.Bus.world bus) none is.ready;
+      ran = subst (λ (list : List ℕ). Ran g.B.Bus up (only (last_load d.oldest_receive list)) (at bus d) (at bus d)) (sym none)
+          (ran_by-stays g.B.Bus.world g.B.Bus.happened g.met.B.Bus.stays bus d is.ready);
+    })
 
 -- It isn't done.
 
-leaves : (g : Over) (c : goal.Then-not-is_done g) (up : Bool) (held : List HandedOut) → g.B.Bus.honest c.args.bus.now
-    → ReadyWith up (holding held (state_of c.self.inside)) (g.B.Bus.world c.args.bus.now)
-    → LeavesOldest up g.B.Bus.world g.B.Bus.happened c.args.bus.now c.load.new.self (holding held (state_of c.self.inside))
-leaves g c up held honest ready =
-    let some = some-outstanding c.self.inside c.self.invariant.receives
-    (λ none. c.if-len-from.false (c.len.ensures.len ∙ none ∙ sym c.from.ensures)) in
-    ran_by-leaves g.B.Bus.world g.B.Bus.happened g.B.Bus.lively c.args.bus.now c.load.new.self
-    (holding held (state_of c.self.inside)) some.0 c.receive_slot.result some.1 c.load.new.into some.2 c.receive_slot.ensures
-    (done-bit c.load.new.into c.from_bytes-descriptor.result false c.from_bytes-descriptor.ensures c.if-not-is_done.ensures)
-    (c.load.ensures.acts honest) ready
-
-pub returns-then-not-is_done-clause-none : goal.returns-then-not-is_done-clause-none
-returns-then-not-is_done-clause-none g c = rw (← c.self.view_is) (λ up held honest ready. (leaves g c up held honest ready).none)
-
 pub returns-then-not-is_done-clause-looks : goal.returns-then-not-is_done-clause-looks
-returns-then-not-is_done-clause-looks g c = rw (← c.self.view_is) (λ up held honest ready.
+returns-then-not-is_done-clause-looks g c = rw (← c.self.view_is) (λ up held is.
     let d = holding held (state_of c.self.inside) in
+    let old = c.args.bus.now in
+    let new = c.load.new.self in
     let some = some-outstanding c.self.inside c.self.invariant.receives
     (λ none. c.if-len-from.false (c.len.ensures.len ∙ none ∙ sym c.from.ensures)) in
-    subst (λ (list : List ℕ). RanBy up g.B.Bus.world g.B.Bus.happened
-    (last_load d.oldest_receive list) c.args.bus.now c.load.new.self d d [] []) (sym some.2) (leaves g c up held honest ready).ran)
+    let leaves = ran_by-leaves g.B.Bus.world g.B.Bus.happened g.B.Bus.lively old new d some.0 c.receive_slot.result some.1 c.load.new.into
+    some.2 c.receive_slot.ensures
+    (done-bit c.load.new.into c.from_bytes-descriptor.result false c.from_bytes-descriptor.ensures c.if-not-is_done.ensures)
+    (c.load.ensures.acts is.honest) is.ready in
+    record {
+      none = leaves.none;
+      ran = subst (λ (list : List ℕ). Ran g.B.Bus up (only (last_load d.oldest_receive list)) (at old d) (at new d))
+          (sym some.2) leaves.ran;
+    })
 
 -- It is done.
 
@@ -75,38 +67,31 @@ taken g c =
 pub invariant_of-self-2 : goal.invariant_of-self-2
 invariant_of-self-2 g c = record { receives = (taken g c).receives; sends = c.self.invariant.sends; sums = c.self.invariant.sums }
 
-pub returns-clause-first : goal.returns-clause-first
-returns-clause-first g c = rw (← c.self.view_is) (taken g c).first
+pub returns-clause-leaves : goal.returns-clause-leaves
+returns-clause-leaves g c = rw (← c.self.view_is) (record {
+  first = (taken g c).first;
+  behind = (taken g c).view;
+  known = (taken g c).known;
+  out = (taken g c).out;
+  size = λ whole. let is = c.is_whole.ensures.0 whole in record { least = is.least; most = is.most };
+})
 
-pub returns-clause-behind : goal.returns-clause-behind
-returns-clause-behind g c = rw (← c.self.view_is) (taken g c).view
-
-pub returns-clause-known : goal.returns-clause-known
-returns-clause-known g c = (taken g c).known
-
-pub returns-clause-out : goal.returns-clause-out
-returns-clause-out g c = (taken g c).out
-
-pub returns-clause-whole : goal.returns-clause-whole
-returns-clause-whole g c = rw (← c.self.view_is) (λ up held honest ready.
-    let whole = takes-whole g.B.Bus.world g.B.Bus.happened g.B.Bus.lively c.args.bus.now c.load.new.self
-    (holding held (state_of c.self.inside)) c.in-Some.buffer c.receive_slot.result _ c.load.new.into
-    (taken g c).first c.receive_slot.ensures
-    (done-bit c.load.new.into c.from_bytes-descriptor.result true c.from_bytes-descriptor.ensures c.if-not-is_done.ensures)
-    (c.load.ensures.acts honest) ready in
-    c.is_whole.ensures.1 (subst IsWhole (sym c.from_bytes-descriptor.ensures) whole))
-
-pub returns-clause-size : goal.returns-clause-size
-returns-clause-size g c whole = let is = c.is_whole.ensures.0 whole in record { least = is.least; most = is.most }
-
-pub returns-clause-takes : goal.returns-clause-takes
-returns-clause-takes g c = rw (← c.self.view_is) (λ up held honest ready.
-    subst (λ (size : ℕ). TakesOldest up g.B.Bus.world g.B.Bus.happened c.args.bus.now c.load.new.self
-    (holding held (state_of c.self.inside)) c.in-Some.buffer size
-    (state_of (without_oldest c.self.inside ((c.self.inside.oldest_receive + 1) % c.rx.result) c.pop_front.new.self)).buffers)
-    (ap (λ (desc : RxDesc). desc.length) (sym c.from_bytes-descriptor.ensures))
-    (ran_by-takes g.B.Bus.world g.B.Bus.happened g.B.Bus.lively c.args.bus.now c.load.new.self
-    (holding held (state_of c.self.inside)) c.in-Some.buffer c.receive_slot.result _ c.load.new.into
-    (taken g c).first c.receive_slot.ensures
-    (done-bit c.load.new.into c.from_bytes-descriptor.result true c.from_bytes-descriptor.ensures c.if-not-is_done.ensures)
-    (c.load.ensures.acts honest) ready))
+pub returns-clause-looks : goal.returns-clause-looks
+returns-clause-looks g c = rw (← c.self.view_is) (λ up held is.
+    let d = holding held (state_of c.self.inside) in
+    let old = c.args.bus.now in
+    let new = c.load.new.self in
+    let first = (taken g c).first in
+    let later = (state_of (without_oldest c.self.inside ((c.self.inside.oldest_receive + 1) % c.rx.result) c.pop_front.new.self)).buffers in
+    let done = done-bit c.load.new.into c.from_bytes-descriptor.result true c.from_bytes-descriptor.ensures c.if-not-is_done.ensures in
+    let acts = c.load.ensures.acts is.honest in
+    let whole = takes-whole g.B.Bus.world g.B.Bus.happened g.B.Bus.lively old new d c.in-Some.buffer c.receive_slot.result _
+    c.load.new.into first c.receive_slot.ensures done acts is.ready in
+    record {
+      whole = c.is_whole.ensures.1 (subst IsWhole (sym c.from_bytes-descriptor.ensures) whole);
+      takes =
+          subst (λ (size : ℕ). TakesOldest up g.B.Bus.world g.B.Bus.happened old new d c.in-Some.buffer size later)
+          (ap (λ (desc : RxDesc). desc.length) (sym c.from_bytes-descriptor.ensures))
+          (ran_by-takes g.B.Bus.world g.B.Bus.happened g.B.Bus.lively old new d c.in-Some.buffer c.receive_slot.result _
+          c.load.new.into first c.receive_slot.ensures done acts is.ready);
+    })

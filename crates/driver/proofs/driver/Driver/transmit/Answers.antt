@@ -1,51 +1,42 @@
 -- Slots are freed, and then the frame is sent where there is room.
 use Rattle.std.proofs.Common.{◌≡◌, ◌+◌, ap, arith}
 use Rattle.driver_law.proofs.Accesses.{ran_by-stays}
+use Rattle.driver_law.proofs.Calls.{ready-on}
+use Rattle.driver_law.specs.Calls.{at, held_at}
 use Rattle.driver_law.specs.DriverState.{DriverState, holding}
 use Rattle.driver.proofs.SentFrames.{frees-and-sends, was-full}
 use Rattle.driver.proofs.driver.Driver.transmit.Goals as goal
 
-pub returns-then-frame-lt-SHORTEST_SENT-clause-ran : goal.returns-then-frame-lt-SHORTEST_SENT-clause-ran
-returns-then-frame-lt-SHORTEST_SENT-clause-ran g c held honest ready =
-    record {
-      ran = ran_by-stays g.B.Bus.world g.B.Bus.happened g.met.B.Bus.stays c.args.bus.now
-          (holding held c.args.self.now) ready;
-      answer = tt;
-    }
+pub returns-then-frame-lt-SHORTEST_SENT-clause-transmits : goal.returns-then-frame-lt-SHORTEST_SENT-clause-transmits
+returns-then-frame-lt-SHORTEST_SENT-clause-transmits g c held is = record {
+  ran = ran_by-stays g.B.Bus.world g.B.Bus.happened g.met.B.Bus.stays c.args.bus.now (holding held c.args.self.now) is.ready;
+  answer = tt;
+}
 
-pub returns-then-frame-gt-LONGEST_SENT-clause-ran : goal.returns-then-frame-gt-LONGEST_SENT-clause-ran
-returns-then-frame-gt-LONGEST_SENT-clause-ran g c held honest ready =
-    record {
-      ran = ran_by-stays g.B.Bus.world g.B.Bus.happened g.met.B.Bus.stays c.args.bus.now
-          (holding held c.args.self.now) ready;
-      answer = tt;
-    }
+pub returns-then-frame-gt-LONGEST_SENT-clause-transmits : goal.returns-then-frame-gt-LONGEST_SENT-clause-transmits
+returns-then-frame-gt-LONGEST_SENT-clause-transmits g c held is = record {
+  ran = ran_by-stays g.B.Bus.world g.B.Bus.happened g.met.B.Bus.stays c.args.bus.now (holding held c.args.self.now) is.ready;
+  answer = tt;
+}
 
-pub returns-then-self-tx-clause-ran : goal.returns-then-self-tx-clause-ran
-returns-then-self-tx-clause-ran g c held honest ready =
-    let d = holding held c.args.self.now in
-    let d' = holding held c.reclaim.new.self in
-    let reclaims = c.reclaim.ensures.ran held honest ready in
+pub returns-then-self-tx-clause-transmits : goal.returns-then-self-tx-clause-transmits
+returns-then-self-tx-clause-transmits g c held is =
+    let reclaims = c.reclaim.ensures.reclaims held is in
     let count = ap (λ (state : DriverState). state.counts.tx) c.reclaim.ensures.others in
     let inside = ap (λ (state : DriverState). state.counts.tx) c.self.view_is in
     let sending = ap (λ (state : DriverState). state.sending) c.self.view_is in
-    let full : d'.sending + 1 ≡ d.counts.tx = omega (arith, c.if-self-tx.true, c.tx.ensures.count, count, inside, sending) in
-    let was = was-full g.B.Bus.world g.B.Bus.happened c.args.bus.now c.reclaim.new.bus d d' ready reclaims full in
+    let full : c.reclaim.new.self.sending + 1 ≡ c.args.self.now.counts.tx =
+    omega (arith, c.if-self-tx.true, c.tx.ensures.count, count, inside, sending) in
+    let was = was-full g.B.Bus _ _ is reclaims full in
     record { ran = reclaims.ran; answer = (was.all, was.none) }
 
-pub returns-clause-ran : goal.returns-clause-ran
-returns-clause-ran g c held honest ready =
-    let d1 = holding held c.args.self.now in
-    let d2 = holding held c.reclaim.new.self in
-    let d3 = holding held c.send.new.self in
-    let reclaims = c.reclaim.ensures.ran held honest ready in
-    let counts : d2.counts ≡ d1.counts = ap (λ (state : DriverState). state.counts) c.reclaim.ensures.others in
-    let more : d3.sending ≡ d2.sending + 1 = ap (λ (state : DriverState). state.sending) c.send.ensures.others in
-    let sends = c.send.ensures.ran held (c.reclaim.ensures.honest honest) reclaims.ran.goes.flows.ready in
-    record {
-      ran =
-          frees-and-sends g.B.Bus.world g.B.Bus.happened g.met.B.Bus.joins c.args.bus.now c.reclaim.new.bus c.send.new.bus d1 d2 d3
-          c.args.frame.now counts c.reclaim.ensures.tail more
-          reclaims sends;
-      answer = tt;
-    }
+pub returns-clause-transmits : goal.returns-clause-transmits
+returns-clause-transmits g c held is =
+    let d = c.args.self.now in
+    let freed = c.reclaim.new.self in
+    let reclaims = c.reclaim.ensures.reclaims held is in
+    let counts : freed.counts ≡ d.counts = ap (λ (state : DriverState). state.counts) c.reclaim.ensures.others in
+    let more : c.send.new.self.sending ≡ freed.sending + 1 = ap (λ (state : DriverState). state.sending) c.send.ensures.others in
+    let sends = c.send.ensures.sends held (ready-on g.B.Bus _ _ c.reclaim.ensures.keeps is reclaims.ran) in
+    frees-and-sends g.B.Bus g.met.B.Bus.joins (held_at held (at c.args.bus.now d)) (held_at held (at c.reclaim.new.bus freed))
+    (held_at held (at c.send.new.bus c.send.new.self)) c.args.frame.now counts c.reclaim.ensures.tail more reclaims sends

@@ -29,13 +29,13 @@ pub invariant_of-result : goal.invariant_of-result
 invariant_of-result g c =
     new-host c.in_ok-driver.driver c.in_ok-sockets.sockets c.args.kinds.items c.from.result c.in_ok-sockets.ensures.new
     (c.from.ensures ∙ c.buffers.ensures.count
-    ∙ ap (λ (counts : Counts). counts.buffers) (c.in_ok-layout.ensures.counts ∙ sym c.in_ok-driver.ensures.counts))
-    (no_second_from_one c.in_ok-driver.driver.counts.buffers (owners c.in_ok-driver.driver) c.in_ok-driver.ensures.one_owner)
+    ∙ ap (λ (counts : Counts). counts.buffers) (c.in_ok-layout.ensures.counts ∙ sym c.in_ok-driver.ensures.fresh.counts))
+    (no_second_from_one c.in_ok-driver.driver.counts.buffers (owners c.in_ok-driver.driver) c.in_ok-driver.ensures.fresh.one_owner)
 
 pub returns-clause-ready : goal.returns-clause-ready
 returns-clause-ready g c honest =
     new-ready c.in_ok-driver.driver c.in_ok-sockets.sockets c.args.kinds.items c.from.result
-    (g.B.Bus.world c.init.new.bus) c.in_ok-sockets.ensures.new c.in_ok-driver.ensures.none_out
+    (g.B.Bus.world c.init.new.bus) c.in_ok-sockets.ensures.new c.in_ok-driver.ensures.fresh.none_out
     (c.in_ok-driver.ensures.initialises honest).ready
 
 pub returns-clause-had : goal.returns-clause-had
