@@ -102,10 +102,7 @@ fn pass_command<'a>(alloc: Global) -> Result<Command<'a>, AllocError>
 
 const RUN_ARGUMENTS: [Argument<'static>; 2] = [
     Argument::File("SCENARIO", "The scenario to run, a text file"),
-    Argument::File(
-        "OUTDIR",
-        "The folder to write traces into; it must exist",
-    ),
+    Argument::File("OUTDIR", "The folder to write traces into; it must exist"),
 ];
 
 /// `run SCENARIO OUTDIR`.
