@@ -1,7 +1,7 @@
 //! Traces read from a source.
 ghost use Rattle.std.specs.Prelude.{◌≡◌, ◌<◌, ◌≤◌, ◌+◌, length, IfOk, IfErr, IfSome, IfNone, OnOk, OnSome};
 ghost use Rattle.std.specs.Io.KnownBytes.{IsAtEnd, prepend_known};
-ghost use Rattle.pcap_trace.specs.Format.{IsBody, ending_of, captured_length, original_length};
+ghost use Rattle.pcap_trace.specs.Format.{IsBody, ending_of, captured_length, number_in, original_length};
 ghost use Rattle.pcap_trace.specs.Reading.{IsAnswer, IsOnlyAnswer, IsBodyFault, TellsFailure};
 
 use crate::block::Block;
@@ -89,6 +89,29 @@ fn read_body<T: ByteOrder, S: Source>(
     })
 }
 
+/// The same in this byte order.
+fn read_body_in<S: Source>(
+    order: Endianness,
+    alloc: Global,
+    block: &mut Block,
+    source: &mut S,
+) -> Result<Trace, ReadError>
+    requires countable { S.failures source.old < u64.MAX }
+    requires small { length block.old ≤ 327696 }
+    ensures ok { IfOk result
+        (λ t. IfSome (prepend_known block.old (S.left source.old))
+        (λ bytes. IsBody (number_in order) bytes t.frames t.skipped (ending_of t.cut))) }
+    ensures fault { IfErr result
+        (λ e. IfSome (prepend_known block.old (S.left source.old)) (λ bytes. IsBodyFault (number_in order) bytes e)) }
+    ensures failure { TellsFailure result (S.failures source.old) (S.failures source.new) }
+    ensures end { OnOk result (IsAtEnd (S.left source.new)) }
+{
+    match order {
+        Endianness::Big => read_body::<BigEndian, S>(alloc, block, source),
+        Endianness::Little => read_body::<LittleEndian, S>(alloc, block, source),
+    }
+}
+
 impl Trace {
     /// Reads the trace that a source has left, up to its end: a trace file of libpcap version 2.4 (its manual page
     /// "pcap-savefile"), big-endian or little-endian, with times in microseconds or nanoseconds, of link type
@@ -117,9 +140,6 @@ impl Trace {
         block.fill(source, FILE_HEADER)?;
         let order = byte_order(block.held())?;
         block.skip(FILE_HEADER);
-        match order {
-            Endianness::Big => read_body::<BigEndian, S>(alloc, &mut block, source),
-            Endianness::Little => read_body::<LittleEndian, S>(alloc, &mut block, source),
-        }
+        read_body_in(order, alloc, &mut block, source)
     }
 }

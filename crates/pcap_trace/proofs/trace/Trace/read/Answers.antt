@@ -1,8 +1,5 @@
 use Rattle.std.proofs.Common.{◌≡◌, List, ℕ, [], None, ap, subst, sym, ◌∙◌}
 use Rattle.std.proofs.lemmas.Result.{err_from_is_err_and}
-use Rattle.byteorder.specs.Endian.{big_number, little_number}
-use Rattle.pcap_trace.specs.declared.header.Endianness.{Endianness}
-use Rattle.pcap_trace.specs.declared.header.Endianness.TheVariants.{Big, Little}
 use Rattle.pcap_trace.specs.Devices.{Receives}
 use Rattle.pcap_trace.specs.Format.{number_in}
 use Rattle.pcap_trace.specs.Reading.{header_fault, IsHeaderFault}
@@ -25,22 +22,6 @@ pub returns-in_err-order-clause-only : goal.returns-in_err-order-clause-only
 returns-in_err-order-clause-only g c = only_from_fits (g.S.Source.left c.args.source.now) c.from_residual-in_err-order.result
     (returns-in_err-order-clause-fits g c)
 
-pub returns-in-Big-clause-fits : goal.returns-in-Big-clause-fits
-returns-in-Big-clause-fits g c =
-    let before = g.S.Source.left c.args.source.now in
-    let left = g.S.Source.left c.fill.new.source in
-    let held = c.fill.new.self in
-    let received : Receives [] held before left = subst (λ (old : List ℕ). Receives old held before left) c.in_ok-block.ensures
-    c.in_ok-fill.ensures.received in
-    let passed : header_fault big_number held ≡ None =
-    ap (header_fault big_number) (sym c.held.ensures)
-    ∙ subst (λ (o : Endianness). header_fault (number_in o) c.held.result.now ≡ None) c.in-Big.is c.in_ok-order.ensures.ok in
-    fits_body Big before left held c.read_body.result received c.in_ok-fill.ensures.filled passed
-    (rw c.skip.ensures at c.read_body.ensures.ok) (rw c.skip.ensures at c.read_body.ensures.fault)
-
-pub returns-in-Big-clause-only : goal.returns-in-Big-clause-only
-returns-in-Big-clause-only g c = only_from_fits (g.S.Source.left c.args.source.now) c.read_body.result (returns-in-Big-clause-fits g c)
-
 pub returns-clause-fits : goal.returns-clause-fits
 returns-clause-fits g c =
     let before = g.S.Source.left c.args.source.now in
@@ -48,11 +29,11 @@ returns-clause-fits g c =
     let held = c.fill.new.self in
     let received : Receives [] held before left = subst (λ (old : List ℕ). Receives old held before left) c.in_ok-block.ensures
     c.in_ok-fill.ensures.received in
-    let passed : header_fault little_number held ≡ None =
-    ap (header_fault little_number) (sym c.held.ensures)
-    ∙ subst (λ (o : Endianness). header_fault (number_in o) c.held.result.now ≡ None) c.in-Little.is c.in_ok-order.ensures.ok in
-    fits_body Little before left held c.read_body-in-Little.result received c.in_ok-fill.ensures.filled passed
-    (rw c.skip.ensures at c.read_body-in-Little.ensures.ok) (rw c.skip.ensures at c.read_body-in-Little.ensures.fault)
+    let order = c.in_ok-order.order in
+    let passed : header_fault (number_in order) held ≡ None =
+    ap (header_fault (number_in order)) (sym c.held.ensures) ∙ c.in_ok-order.ensures.ok in
+    fits_body order before left held c.read_body_in.result received c.in_ok-fill.ensures.filled passed
+    (rw c.skip.ensures at c.read_body_in.ensures.ok) (rw c.skip.ensures at c.read_body_in.ensures.fault)
 
 pub returns-clause-only : goal.returns-clause-only
-returns-clause-only g c = only_from_fits (g.S.Source.left c.args.source.now) c.read_body-in-Little.result (returns-clause-fits g c)
+returns-clause-only g c = only_from_fits (g.S.Source.left c.args.source.now) c.read_body_in.result (returns-clause-fits g c)
