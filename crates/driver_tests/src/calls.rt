@@ -101,7 +101,8 @@ fn finished(length: u8) -> [u8; 16] {
 }
 
 /// Asserts what an interrupt over a device that lies left: so many frames were handed out, and so many slots were bad.
-fn handed_out(rt: &impl Abort, driver: &Driver, keeper: &Keeper, frames: u32, bad: u64) {
+fn handed_out(rt: &impl Abort, driver: &Driver, keeper: &Keeper, frames: u8, bad: u64) {
+    let frames = u32::from(frames);
     assert_eq!(rt;
         (keeper.frames, keeper.bytes, driver.bad()),
         (frames, 60 * frames, bad)
