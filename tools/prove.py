@@ -1,6 +1,7 @@
 """Proves and builds the program, by `rt ci` over a copy of the crates that it depends on, without tests and must-fail edits.
 
-What one run proves is kept by `rt` for the next one, also if it is interrupted.
+What one run proves is kept by `rt` for the next one, also if it is interrupted. The copy is removed at the end: `rt ci`
+refuses a repository that has another one in it.
 """
 
 import os
@@ -82,20 +83,28 @@ def last_lines():
         return "".join(log.readlines()[-20:])
 
 
-def build(rt, crates, tell):
-    """Proves and builds the program, and returns its path."""
-    copy_sources(crates)
-    progress = Progress(crates, tell)
+def prove(rt, progress):
+    """Runs `rt ci` over the copy, and returns its exit status."""
     with open(LOG, "wb") as log:
         process = subprocess.Popen([rt, "ci"], cwd=WORK, stdin=subprocess.DEVNULL, stdout=log, stderr=subprocess.STDOUT)
     try:
-        status = follow(process, progress)
+        return follow(process, progress)
     except BaseException:
         process.terminate()
         process.wait()
         raise
-    program = os.path.join(WORK, "crates", sources.PROGRAM, "out", sources.PROGRAM)
-    if status != 0 or not os.access(program, os.X_OK):
-        raise ProofFailed(f"{last_lines()}the program was not proved; all that was printed is in {LOG}")
+
+
+def build(rt, crates, tell, keep):
+    """Proves and builds the program. `keep` is called with its path, and must copy it."""
+    progress = Progress(crates, tell)
+    try:
+        copy_sources(crates)
+        status = prove(rt, progress)
+        program = os.path.join(WORK, "crates", sources.PROGRAM, "out", sources.PROGRAM)
+        if status != 0 or not os.access(program, os.X_OK):
+            raise ProofFailed(f"{last_lines()}the program was not proved; all that was printed is in {LOG}")
+        keep(program)
+    finally:
+        shutil.rmtree(WORK, ignore_errors=True)
     tell(f"proved and built in {progress.minutes()}")
-    return program
