@@ -1,10 +1,9 @@
--- What each call over a bus leaves of the bus itself.
-use Rattle.std.specs.Prelude.{◌≡◌}
+-- What no call over a bus changes of the bus itself. `bus : Ghosts B` has the ghost members of `Bus` (src/bus.rt): `world`, `happened`,
+-- and the others. In a clause it is `B.Bus`.
+use Rattle.bus.specs.BusMembers.{StaysWhole}
 use Rattle.bus.specs.declared.bus.Bus.{Ghosts}
 
--- Its memory is as large as before, and what it was lent is the same; it obeys the law, and plays ticks, where it did.
-pub record Keeps {B : Type 0} (bus : Ghosts B) (old new : B) : Type 0 where
-  pub extent : bus.extent new ≡ bus.extent old
-  pub lent_stays : bus.lent_stays old new
-  pub honest : bus.honest old → bus.honest new
-  pub lively : bus.lively old → bus.lively new
+-- The size of its memory doesn't change, nor do the values that a caller lent to it. If it obeyed the law, it still does. If it played a
+-- tick of EEPROM and PHY before each access, it still does. The fields are `extent`, `lent_stays`, `honest` and `lively`.
+abbrev pub Keeps : {B : Type 0} → Ghosts B → B → B → Type 0
+Keeps bus old new = StaysWhole bus.extent bus.lent_stays bus.honest bus.lively old new

@@ -22,4 +22,5 @@ pub mod RegisterSetting
 pub mod Settings
 pub mod AdaptersAtRest
 pub mod Link
+pub mod BusMembers
 pub mod Keeping

@@ -2,8 +2,9 @@
 
 ghost use Rattle.std.specs.Prelude.{◌≡◌, ◌+◌, ◌-◌, ◌^◌, ◌≤◌, ℕ, length, min};
 ghost use Rattle.adapter.specs.Registers.{answer_at};
+ghost use Rattle.bus.specs.BusMembers.{Composes, StaysWhole};
 ghost use Rattle.bus.specs.Law.{Acts};
-ghost use Rattle.bus.specs.PastOfStretch.{Past, joined, nothing};
+ghost use Rattle.bus.specs.PastOfStretch.{Past};
 ghost use Rattle.bus.specs.declared.event.Access.TheVariants.{Loads, Reads, Stores, Writes};
 ghost use Rattle.adapter.specs.World.{World, world_after_read, world_after_store, world_after_write};
 ghost use Rattle.dma_memory.specs.HostMemory.{bytes_at};
@@ -11,9 +12,10 @@ ghost use Rattle.dma_memory.specs.HostMemory.{bytes_at};
 /// What a driver reaches its adapter and its memory by. Each call but [`size`](Bus::size) is one
 /// access.
 ///
-/// Any implementation may stand behind it: of a bus that isn't `honest` nothing is known but its size.
-/// An honest one is an adapter and a memory. Before an access steps of the adapter and deliveries may
-/// happen, and nothing else; the access itself is then what the adapter's registers and memory say.
+/// Any type may implement it. Of a bus that isn't `honest` only this is known: its size and the values that it
+/// was lent don't change, and if it was lively it still is. An honest bus has one adapter and one memory.
+/// Before an access, only steps of the adapter and deliveries may happen. Then the access itself has exactly
+/// the effect that adapter and memory define.
 pub trait Bus {
     /// How many bytes of memory there are.
     ghost extent: { Self → ℕ };
@@ -27,10 +29,10 @@ pub trait Bus {
     /// The memory and the adapter.
     ghost world: { Self → World };
 
-    /// The bus's own word on what happened from one of its states to another.
+    /// What the bus reports of an interval, from one of its states to another.
     ghost happened: { Self → Self → Past → Type 0 };
 
-    /// What it was lent, if anything, is the same in both states.
+    /// The values that it was lent, if any, are the same in both states.
     ghost lent_stays: { Self → Self → Type 0 };
 
     /// How many bytes the memory has, which never changes.
@@ -39,55 +41,33 @@ pub trait Bus {
 
     /// Reads the register at an offset in bytes.
     fn read(&mut self, offset: u32) -> u32
-        ensures extent { extent self.new ≡ extent self.old }
-        ensures lent_stays { lent_stays self.old self.new }
-        ensures honest { honest self.old → honest self.new }
-        ensures lively { lively self.old → lively self.new }
+        ensures keeps { StaysWhole extent lent_stays honest lively self.old self.new }
         ensures acts { honest self.old → Acts world happened lively self.old self.new (Reads offset result)
             (λ before after. (result ≡ answer_at offset before.adapter) × (after ≡ world_after_read offset before)) };
 
     /// Writes the register at an offset in bytes.
     fn write(&mut self, offset: u32, value: u32)
-        ensures extent { extent self.new ≡ extent self.old }
-        ensures lent_stays { lent_stays self.old self.new }
-        ensures honest { honest self.old → honest self.new }
-        ensures lively { lively self.old → lively self.new }
+        ensures keeps { StaysWhole extent lent_stays honest lively self.old self.new }
         ensures acts { honest self.old → Acts world happened lively self.old self.new (Writes offset value)
             (λ before after. after ≡ world_after_write offset value before) };
 
-    /// Loads the bytes from `address` on, which lie below [`size`](Bus::size), into the whole of `into`.
+    /// Loads the bytes from `address` on, which must lie below [`size`](Bus::size), into the whole of `into`.
     fn load(&mut self, address: u64, into: &mut [u8])
         requires { address + length into.old ≤ extent self.old }
-        ensures extent { extent self.new ≡ extent self.old }
-        ensures lent_stays { lent_stays self.old self.new }
-        ensures honest { honest self.old → honest self.new }
-        ensures lively { lively self.old → lively self.new }
+        ensures keeps { StaysWhole extent lent_stays honest lively self.old self.new }
         ensures length { length into.new ≡ length into.old }
         ensures acts { honest self.old → Acts world happened lively self.old self.new (Loads address (length into.old))
             (λ before after. (into.new ≡ bytes_at before.memory address (length into.old)) × (after ≡ before)) };
 
-    /// Stores bytes from `address` on, where they lie below [`size`](Bus::size).
+    /// Stores bytes from `address` on, which must lie below [`size`](Bus::size).
     fn store(&mut self, address: u64, bytes: &[u8])
         requires { address + length bytes.now ≤ extent self.old }
-        ensures extent { extent self.new ≡ extent self.old }
-        ensures lent_stays { lent_stays self.old self.new }
-        ensures honest { honest self.old → honest self.new }
-        ensures lively { lively self.old → lively self.new }
+        ensures keeps { StaysWhole extent lent_stays honest lively self.old self.new }
         ensures acts { honest self.old → Acts world happened lively self.old self.new (Stores address bytes.now)
             (λ before after. after ≡ world_after_store address bytes.now before) };
 
-    /// Nothing happens from a state to itself.
-    ghost stays: { (b : Self) → happened b b nothing };
-
-    /// What happens in two stretches happens in both together.
-    ghost joins: { (a b c : Self) (first later : Past) → happened a b first → happened b c later
-        → happened a c (joined first later) };
-
-    /// So it is from a state to itself.
-    ghost lent_stays_here: { (b : Self) → lent_stays b b };
-
-    /// And over two stretches.
-    ghost lent_stays_on: { (a b c : Self) → lent_stays a b → lent_stays b c → lent_stays a c };
+    /// Reports join over consecutive intervals, and so does what `lent_stays` states.
+    ghost composes: { Composes happened lent_stays };
 
     /// The memory of an honest bus is as large as it says.
     ghost sized: { (b : Self) → honest b → length (world b).memory ≡ extent b };

@@ -1,7 +1,9 @@
 -- An access over a solo bus, behind what comes before it.
 use Rattle.std.proofs.Common.{◌≡◌, ◌+◌, ◌++◌, ◌∷◌, [], Bool, true, List, length, if◌then◌else◌, refl, sym, ap, ◌∙◌, arith}
+use Rattle.std.specs.Bool.{⊤}
 use Rattle.std.specs.List.{All}
 use Rattle.std.proofs.lemmas.List.{append-nil, map-append}
+use Rattle.bus.specs.BusMembers.{StaysWhole}
 use Rattle.bus.specs.Law.{Acts, Happens}
 use Rattle.bus.specs.PastOfStretch.{Past}
 use Rattle.bus.specs.declared.event.Access.{Access}
@@ -141,3 +143,16 @@ acts_on a p b access effect prepared after answered adapter does =
 -- The size of memory stays while ticks are played.
 pub size_prepared : (a p : SoloState) → Prepared a p → length p.world.memory ≡ length a.world.memory
 size_prepared a p prepared = (trail_happens prepared.plays.events a.world p.world prepared.plays.are prepared.plays.trail).steady.size
+
+-- What an access leaves of the bus itself, after the ticks before it.
+pub access_keeps : (a p b : SoloState) (w : World) → Prepared a p → b ≡ record p { world = w } → length w.memory ≡ length p.world.memory
+    → StaysWhole (λ (bus : SoloState). length bus.world.memory) (λ (old new : SoloState). new.lively ≡ old.lively)
+    (λ (bus : SoloState). ⊤) (λ (bus : SoloState). bus.lively ≡ true) a b
+access_keeps a p b w prepared state size =
+    let lively : b.lively ≡ a.lively = ap (λ (bus : SoloState). bus.lively) state ∙ prepared.plays.lively in
+    record {
+      extent = ap (λ (bus : SoloState). length bus.world.memory) state ∙ size ∙ size_prepared a p prepared;
+      lent_stays = lively;
+      honest = λ honest. honest;
+      lively = λ is. lively ∙ is;
+    }

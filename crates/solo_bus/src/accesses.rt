@@ -23,13 +23,12 @@ impl Bus for SoloBus {
 
     ghost lent_stays = { λ a b. b.lively ≡ a.lively };
 
-    ghost stays = { λ bus. recounts_none bus };
-
-    ghost joins = { λ a b c first later one two. recounts_join a b c first later one two };
-
-    ghost lent_stays_here = { λ bus. refl };
-
-    ghost lent_stays_on = { λ a b c one two. two ∙ one };
+    ghost composes = { record {
+      stays = recounts_none;
+      joins = recounts_join;
+      lent_stays_here = λ bus. refl;
+      lent_stays_on = λ a b c one two. two ∙ one;
+    } };
 
     ghost sized = { λ bus honest. refl };
 

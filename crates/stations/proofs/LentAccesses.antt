@@ -1,12 +1,14 @@
 -- An access over a lent bus, behind what comes before it.
 use Rattle.std.proofs.Common.{◌≡◌, ◌<◌, ◌+◌, ◌++◌, ◌∷◌, [], ℕ, List, All, Bool, inl, inr, length, min}
 use Rattle.std.proofs.Common.{if◌then◌else◌, refl, sym, ap, subst, ◌∙◌, arith}
+use Rattle.std.specs.Bool.{⊤}
 use Rattle.std.proofs.lemmas.Bool.{eq-eqb}
 use Rattle.std.proofs.lemmas.List.{append-nil, map-append}
 use Rattle.std.proofs.lemmas.Option.{slice_get_cases}
 use Rattle.adapter.specs.State.{IsAdapter}
 use Rattle.adapter.specs.World.{World}
 use Rattle.bus.proofs.Trails.{trail_happens}
+use Rattle.bus.specs.BusMembers.{StaysWhole}
 use Rattle.bus.specs.Law.{Acts}
 use Rattle.bus.specs.PastOfStretch.{joined}
 use Rattle.bus.specs.TrailLaws.{past_of-append, same_past}
@@ -91,6 +93,16 @@ size-prepared a p prepared =
     let happens = trail_happens (events_at a.host steps) (world_here a) (world_here p) (steps-alone a.host steps prepared.plays.are)
     (trail-here a p prepared) in
     happens.steady.size
+
+-- What the access leaves of the bus itself, after the ticks before it.
+pub access-keeps : (a p b : LentBus) → Prepared a p → SameLent p b → bytes_here b ≡ bytes_here p
+    → StaysWhole bytes_here SameLent (λ (bus : LentBus). ⊤) never_lively a b
+access-keeps a p b prepared same size = record {
+  extent = size ∙ size-prepared a p prepared;
+  lent_stays = same_lent_on a p b prepared.lent same;
+  honest = λ honest. honest;
+  lively = λ lively. lively;
+}
 
 -- The access behind what comes before it is as the law says.
 pub acted : (a p b : LentBus) (access : Access) (effect : World → World → Type 0) → Prepared a p → LeavesRest p b

@@ -108,7 +108,14 @@ pub plays-no_delivery : (ss : List StationState) (host : ℕ) (s new : StationSt
     → s.backlog ≡ [] → Plays ss (Deliver host) Nothing (slice_set ss host new)
 plays-no_delivery ss host s new below there same none =
     let stays : slice_set ss host new ≡ ss = ap (slice_set ss host) same ∙ set-same ss host s below there in
-    record { step = Idles (Deliver host); tick_is = refl; outcome_is = refl; no_access = tt; happens = ap backlog_of there ∙ none; leaves = stays }
+    record {
+      step = Idles (Deliver host);
+      tick_is = refl;
+      outcome_is = refl;
+      no_access = tt;
+      happens = ap backlog_of there ∙ none;
+      leaves = stays;
+    }
 
 -- a step whose frame, if it put one, then waits at each other end
 pub plays-step : (ss final : List StationState) (host wire : ℕ) (s new : StationState) (kind : StepKind) (free : Bool) (answer : Stepped)

@@ -24,13 +24,12 @@ impl<'a> Bus for LentBus<'a> {
 
     ghost lent_stays = { SameLent };
 
-    ghost stays = { retells_none };
-
-    ghost joins = { retells_join };
-
-    ghost lent_stays_here = { same_lent_here };
-
-    ghost lent_stays_on = { same_lent_on };
+    ghost composes = { record {
+      stays = retells_none;
+      joins = retells_join;
+      lent_stays_here = same_lent_here;
+      lent_stays_on = same_lent_on;
+    } };
 
     ghost sized = { λ bus honest. refl };
 

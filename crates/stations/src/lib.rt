@@ -2,7 +2,8 @@
 //! all of them, one step of one adapter or one delivery at a time; and the bus that lends them to a call of one host.
 //!
 //! A wire has no time of its own: a frame that a host puts onto it waits at each other end until it is delivered there.
-//! Before each access of a call ticks are played on all hosts, as its caller chose them, and what came of each is noted.
+//! Before each access of a call ticks are played on all hosts, as its caller chose them, and what came of each is
+//! noted.
 #![tactic(auto)]
 
 mod accesses;

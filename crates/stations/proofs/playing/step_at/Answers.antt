@@ -15,7 +15,8 @@ returns-clause-state c =
     let s = slice_index_or ss c.args.host c.index-stations-host.result in
     let answer = stepped_of c.step.result s.world.adapter in
     let none = put-none c.args.kind true s.world.memory s.world.adapter answer c.requires.stays c.step.ensures.answer in
-    subst (λ (w : World). slice_set ss c.args.host c.step.new.self ≡ stations_after c.args.host (Steps c.args.kind true (stepped_of c.step.result w.adapter)) ss)
+    subst (λ (w : World). slice_set ss c.args.host c.step.new.self
+    ≡ stations_after c.args.host (Steps c.args.kind true (stepped_of c.step.result w.adapter)) ss)
     (sym (ap world_of (slice_get-get_or ss c.args.host c.index-stations-host.result c.requires.there)))
     (here-after c.args.host (Steps c.args.kind true answer) ss c.index-stations-host.result c.step.new.self c.requires.there
     c.step.ensures.state (sym (put-is c.args.kind true s.world.memory s.world.adapter answer c.step.ensures.answer) ∙ none))

@@ -1,12 +1,12 @@
-use Rattle.std.proofs.Common.{ap, ◌∙◌, length}
+use Rattle.std.proofs.Common.{ap, refl}
 use Rattle.bus.specs.declared.event.Access.TheVariants.{Reads}
 use Rattle.solo_bus.specs.SoloBuses.{SoloState}
-use Rattle.solo_bus.proofs.SoloAccesses.{acts_on, size_prepared}
+use Rattle.solo_bus.proofs.SoloAccesses.{access_keeps, acts_on}
 use Rattle.solo_bus.proofs.accesses.SoloBusBus.read.Goals as goal
 
-pub returns-clause-extent : goal.returns-clause-extent
-returns-clause-extent c = ap (λ (s : SoloState). length s.world.memory) c.read_now.ensures.state
-    ∙ size_prepared c.args.self.now c.prepare.new.self c.prepare.ensures
+pub returns-clause-keeps : goal.returns-clause-keeps
+returns-clause-keeps c =
+    access_keeps c.args.self.now c.prepare.new.self c.read_now.new.self _ c.prepare.ensures c.read_now.ensures.state refl
 
 pub returns-clause-acts : goal.returns-clause-acts
 returns-clause-acts c honest =

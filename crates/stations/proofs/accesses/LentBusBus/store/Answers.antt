@@ -3,22 +3,22 @@ use Rattle.adapter.specs.World.{World}
 use Rattle.bus.specs.declared.event.Access.TheVariants.{Stores}
 use Rattle.dma_memory.specs.Laws.{length-with_bytes}
 use Rattle.stations.specs.Retelling.{world_here}
-use Rattle.stations.proofs.LentAccesses.{acted, size-prepared, world-there}
+use Rattle.stations.proofs.LentAccesses.{access-keeps, acted, size-prepared, world-there}
 use Rattle.stations.proofs.accesses.LentBusBus.store.Goals as goal
 
 pub store_at-requires-clause-lies : goal.store_at-requires-clause-lies
 store_at-requires-clause-lies c = omega (arith, c.requires, size-prepared c.args.self.now c.prepare.new.self c.prepare.ensures)
 
-pub returns-clause-extent : goal.returns-clause-extent
-returns-clause-extent c =
+pub returns-clause-keeps : goal.returns-clause-keeps
+returns-clause-keeps c =
     let p = c.prepare.new.self in
     let there =
     world-there p.stations.now c.store_at.new.stations p.host
     (Stores c.args.address c.args.bytes.now) p.there tt c.store_at.ensures.state in
-    ap (λ (w : World). length w.memory) there
+    access-keeps c.args.self.now p _ c.prepare.ensures (record { stations = refl; outcomes = refl; host = refl })
+    (ap (λ (w : World). length w.memory) there
     ∙ length-with_bytes (world_here p).memory c.args.bytes.now c.args.address
-    (omega (arith, c.requires, size-prepared c.args.self.now p c.prepare.ensures))
-    ∙ size-prepared c.args.self.now p c.prepare.ensures
+    (omega (arith, c.requires, size-prepared c.args.self.now p c.prepare.ensures)))
 
 pub returns-clause-acts : goal.returns-clause-acts
 returns-clause-acts c = λ honest.
