@@ -20,7 +20,8 @@ use Rattle.bus.specs.RegisterSetting.{with_transmit_ring}
 use Rattle.bus.specs.Law.{Acts}
 use Rattle.bus.specs.WritableSlots.{CanBeWritten}
 use Rattle.bus.specs.DriversStores.{IsDriversArea}
-use Rattle.bus.specs.PastOfStretch.{Past, nothing}
+use Rattle.bus.specs.PastOfStretch.{nothing}
+use Rattle.bus.specs.declared.bus.Bus.{Ghosts}
 use Rattle.bus.specs.declared.event.Access.TheVariants.{Stores}
 use Rattle.bus.proofs.IdleRings.{offered-none, outstanding-none}
 use Rattle.bus.proofs.Lists.{all-head, all-none, all-tail, pairs-head, pairs-tail}
@@ -165,35 +166,33 @@ clears-last {up} d world ready oldest =
 
 -- Over a bus.
 
-abbrev pub StoreActs : {B : Type 0} (world : B → World) (happened : B → B → Past → Type 0) (lively : B → Type 0) (old new : B) (address : ℕ)
-    → Type 0
-StoreActs world happened lively old new address = Acts world happened lively old new (Stores address (replicate 16 0))
+abbrev pub StoreActs : {B : Type 0} (bus : Ghosts B) (old new : B) (address : ℕ) → Type 0
+StoreActs bus old new address = Acts bus.world bus.happened bus.lively old new (Stores address (replicate 16 0))
     (λ before after. after ≡ world_after_store address (replicate 16 0) before)
 
-ran_by-clears : {up : Bool} {B : Type 0} (world : B → World) (happened : B → B → Past → Type 0) (lively : B
-    → Type 0) (old new : B) (d : DriverState) (address place : ℕ) → address ≡ place
-    → StoreActs world happened lively old new address → ReadyWith up d (world old)
+ran_by-clears : {up : Bool} {B : Type 0} (bus : Ghosts B) (old new : B) (d : DriverState) (address place : ℕ) → address ≡ place
+    → StoreActs bus old new address → ReadyWith up d (bus.world old)
     → ((middle : World) → ReadyWith up d middle → GoesTo up d middle d (world_after_store place zeros middle) [] [] nothing)
-    → RanBy up world happened (clears address ∷ []) old new d d [] []
-ran_by-clears {up} world happened lively old new d address place at acts ready goes =
-    ran_by-acts world happened lively old new (Stores address zeros)
-    (λ before after. after ≡ world_after_store address zeros before) d d [] [] acts (store-sets address zeros (world new)) ready
+    → RanBy up bus.world bus.happened (clears address ∷ []) old new d d [] []
+ran_by-clears {up} bus old new d address place at acts ready goes =
+    ran_by-acts bus.world bus.happened bus.lively old new (Stores address zeros)
+    (λ before after. after ≡ world_after_store address zeros before) d d [] [] acts (store-sets address zeros (bus.world new)) ready
     (λ middle there stored.
     subst (λ (w : World). GoesTo up d middle d w [] [] nothing) (sym (stored ∙ ap (λ (x : ℕ). world_after_store x zeros middle) at))
     (goes middle there))
 
-pub ran_by-clears_sent : {B : Type 0} (world : B → World) (happened : B → B → Past → Type 0) (lively : B
-    → Type 0) (old new : B) (d : DriverState) (slot address : ℕ) → slot < d.counts.tx → address ≡ transmit_slot d.counts slot
-    → StoreActs world happened lively old new address → ReadyWith false d (world old)
-    → RanBy false world happened (clears address ∷ []) old new d d [] []
-ran_by-clears_sent world happened lively old new d slot address below at acts ready =
-    ran_by-clears world happened lively old new d address (transmit_slot d.counts slot) at acts ready
+pub ran_by-clears_sent : {B : Type 0} (bus : Ghosts B) (old new : B) (d : DriverState) (slot address : ℕ)
+    → slot < d.counts.tx → address ≡ transmit_slot d.counts slot
+    → StoreActs bus old new address → ReadyWith false d (bus.world old)
+    → RanBy false bus.world bus.happened (clears address ∷ []) old new d d [] []
+ran_by-clears_sent bus old new d slot address below at acts ready =
+    ran_by-clears bus old new d address (transmit_slot d.counts slot) at acts ready
     (λ middle there. clears-sent d slot middle there below)
 
-pub ran_by-clears_received : {up : Bool} {B : Type 0} (world : B → World) (happened : B → B → Past → Type 0) (lively : B
-    → Type 0) (old new : B) (d : DriverState) (address : ℕ) → d.oldest_receive ≡ 0 → address ≡ receive_slot (d.counts.rx - 1)
-    → StoreActs world happened lively old new address → ReadyWith up d (world old)
-    → RanBy up world happened (clears address ∷ []) old new d d [] []
-ran_by-clears_received world happened lively old new d address oldest at acts ready =
-    ran_by-clears world happened lively old new d address (receive_slot (d.counts.rx - 1)) at acts ready
+pub ran_by-clears_received : {up : Bool} {B : Type 0} (bus : Ghosts B) (old new : B) (d : DriverState) (address : ℕ)
+    → d.oldest_receive ≡ 0 → address ≡ receive_slot (d.counts.rx - 1)
+    → StoreActs bus old new address → ReadyWith up d (bus.world old)
+    → RanBy up bus.world bus.happened (clears address ∷ []) old new d d [] []
+ran_by-clears_received bus old new d address oldest at acts ready =
+    ran_by-clears bus old new d address (receive_slot (d.counts.rx - 1)) at acts ready
     (λ middle there. clears-last d middle there oldest)

@@ -6,7 +6,8 @@ use Rattle.adapter.specs.Registers.{after_write}
 use Rattle.adapter.specs.State.{AdapterState}
 use Rattle.adapter.specs.World.{World, world_after_read, world_after_write}
 use Rattle.bus.specs.Law.{Acts}
-use Rattle.bus.specs.PastOfStretch.{Past, joined}
+use Rattle.bus.specs.PastOfStretch.{joined}
+use Rattle.bus.specs.declared.bus.Bus.{Ghosts}
 use Rattle.bus.specs.declared.event.Access.{Access}
 use Rattle.bus.specs.declared.event.Access.TheVariants.{Reads, Writes}
 use Rattle.bus.specs.AdaptersAtRest.{IsAtRest}
@@ -15,29 +16,25 @@ use Rattle.bus.proofs.Lists.{all-none}
 use Rattle.bus.proofs.AdaptersAtRest.{accesses_keep_rest, happenings_keep_rest}
 use Rattle.bus.proofs.Settings.{happenings_leave_settings, reads-leave, writes-append}
 use Rattle.bring_up.specs.SettingSteps.{Asks, IsAside}
-
--- What happens in two stretches happens in both together: the bus's own law.
-abbrev pub StretchesJoin : {B : Type 0} → (B → B → Past → Type 0) → Type 0
-StretchesJoin {B} happened =
-    (a b c : B) (first later : Past) → happened a b first → happened b c later → happened a c (joined first later)
+use Rattle.bring_up.proofs.Steps.{StretchesJoin}
 
 -- the write is of this register
 abbrev pub IsOf : ℕ → Write → Type 0
 IsOf offset write = write.offset ≡ offset
 
-module _ {B : Type 0} (world : B → World) (happened : B → B → Past → Type 0) where
+module _ {B : Type 0} (bus : Ghosts B) where
   -- A step asks, in so many accesses at least.
   pub record AsksAtLeast (old new : B) (offset count : ℕ) : Type 0 where
-    pub asks : Asks world happened old new offset
+    pub asks : Asks bus offset old new
     pub count_is : count ≤ length asks.past.accesses
 
   -- It leaves the image of the EEPROM.
-  pub asks-image : (old new : B) (offset : ℕ) → Asks world happened old new offset
-      → (world new).adapter.image ≡ (world old).adapter.image
+  pub asks-image : (old new : B) (offset : ℕ) → Asks bus offset old new
+      → (bus.world new).adapter.image ≡ (bus.world old).adapter.image
   asks-image old new offset asks = ap (λ (settings : Settings). settings.image) asks.settings
 
   -- Two such steps are one.
-  pub asks-more : StretchesJoin happened → (a b c : B) (offset first later : ℕ) → AsksAtLeast a b offset first
+  pub asks-more : StretchesJoin bus → (a b c : B) (offset first later : ℕ) → AsksAtLeast a b offset first
       → AsksAtLeast b c offset later → AsksAtLeast a c offset (first + later)
   asks-more joins a b c offset first later one two =
       let before : List Access = one.asks.past.accesses in
@@ -65,42 +62,42 @@ module _ {B : Type 0} (world : B → World) (happened : B → B → Past → Typ
       }
 
   -- An access that writes no register but the one asked, and leaves the settings, behind whatever happens before it.
-  asks-access : (lively : B → Type 0) (old new : B) (access : Access) (effect : World → World → Type 0) (offset : ℕ)
-      → (acts : Acts world happened lively old new access effect) → All (IsOf offset) (writes_in (access ∷ []))
-      → settings_of (world new).adapter ≡ settings_of acts.middle.adapter → (IsAtRest acts.middle → IsAtRest (world new))
+  asks-access : (old new : B) (access : Access) (effect : World → World → Type 0) (offset : ℕ)
+      → (acts : Acts bus.world bus.happened bus.lively old new access effect) → All (IsOf offset) (writes_in (access ∷ []))
+      → settings_of (bus.world new).adapter ≡ settings_of acts.middle.adapter → (IsAtRest acts.middle → IsAtRest (bus.world new))
       → AsksAtLeast old new offset 1
-  asks-access lively old new access effect offset acts only same rests = record {
+  asks-access old new access effect offset acts only same rests = record {
     asks = record {
       past = acts.past;
       told = acts.told;
       only = subst (λ (accesses : List Access). All (IsOf offset) (writes_in accesses)) (sym acts.only) only;
-      settings = same ∙ happenings_leave_settings (world old) acts.middle acts.past acts.before;
+      settings = same ∙ happenings_leave_settings (bus.world old) acts.middle acts.past acts.before;
       rests = λ rest.
-          let waits = happenings_keep_rest (world old) acts.middle acts.past acts.before rest in
+          let waits = happenings_keep_rest (bus.world old) acts.middle acts.past acts.before rest in
           (rests waits.0, waits.1);
     };
     count_is = omega (arith, ap (length {A = Access}) acts.only);
   }
 
   -- A read of any register asks,
-  pub asks-read : (lively : B → Type 0) (old new : B) (asked offset value : ℕ) (answer : World → Type 0)
-      → Acts world happened lively old new (Reads offset value)
+  pub asks-read : (old new : B) (asked offset value : ℕ) (answer : World → Type 0)
+      → Acts bus.world bus.happened bus.lively old new (Reads offset value)
       (λ before after. answer before × (after ≡ world_after_read offset before))
       → AsksAtLeast old new asked 1
-  asks-read lively old new asked offset value answer acts =
-      asks-access lively old new (Reads offset value) _ asked acts
+  asks-read old new asked offset value answer acts =
+      asks-access old new (Reads offset value) _ asked acts
       (all-none (IsOf asked))
       (ap (λ (w : World). settings_of w.adapter) acts.effect_is.1 ∙ reads-leave offset acts.middle.adapter)
       (λ rest. subst IsAtRest (sym acts.effect_is.1) (accesses_keep_rest (Reads offset value) acts.middle tt refl rest))
 
   -- and so does a write of a register that is no part of the settings.
-  pub asks-write : (lively : B → Type 0) (old new : B) (offset value : ℕ) → IsAside (record { offset = offset; value = value })
+  pub asks-write : (old new : B) (offset value : ℕ) → IsAside (record { offset = offset; value = value })
       → ((adapter : AdapterState) → settings_of (after_write offset value adapter) ≡ settings_of adapter)
-      → Acts world happened lively old new (Writes offset value) (λ before after. after ≡ world_after_write offset value before)
+      → Acts bus.world bus.happened bus.lively old new (Writes offset value) (λ before after. after ≡ world_after_write offset value before)
       → AsksAtLeast old new offset 1
-  asks-write lively old new offset value aside same acts =
+  asks-write old new offset value aside same acts =
       let write : Write = record { offset = offset; value = value } in
-      asks-access lively old new (Writes offset value) _ offset acts
+      asks-access old new (Writes offset value) _ offset acts
       (All-cons (IsOf offset) write [] refl (all-none (IsOf offset)))
       (ap (λ (w : World). settings_of w.adapter) acts.effect_is ∙ same acts.middle.adapter)
       (λ rest. subst IsAtRest (sym acts.effect_is) (accesses_keep_rest (Writes offset value) acts.middle aside refl rest))

@@ -2,25 +2,26 @@
 use Rattle.std.proofs.Common.{◌≡◌, ◌++◌, ℕ, List, sym, ap, ◌∙◌}
 use Rattle.adapter.specs.World.{World}
 use Rattle.bus.specs.PastOfStretch.{Past, joined}
+use Rattle.bus.specs.declared.bus.Bus.{Ghosts}
 use Rattle.bus.specs.AdaptersAtRest.{IsAtRest}
 use Rattle.bus.specs.Settings.{Settings, Write, settings_after_all, settings_of}
 use Rattle.bus.proofs.Settings.{image-stays, link-stays, settings-append}
+use Rattle.bring_up.proofs.Steps.{StretchesJoin}
 use Rattle.bring_up.proofs.WritesAtRest.{allocation-aside, link-aside}
 use Rattle.bring_up.specs.SettingSteps.{Asks, Sets}
 use Rattle.bring_up.specs.WrittenRegisters.{allocation_writes, link_writes, reset_writes}
 
 -- The image was read: the device is at rest, as it is behind a reset.
-pub record IsRead {B : Type 0} (world : B → World) (happened : B → B → Past → Type 0) (old new : B) : Type 0 where
+pub record IsRead {B : Type 0} (bus : Ghosts B) (old new : B) : Type 0 where
   pub past : Past
-  pub told : happened old new past
-  pub rests : IsAtRest (world new)
-  pub settings : settings_of (world new).adapter ≡ settings_after_all reset_writes (settings_of (world old).adapter)
+  pub told : bus.happened old new past
+  pub rests : IsAtRest (bus.world new)
+  pub settings : settings_of (bus.world new).adapter ≡ settings_after_all reset_writes (settings_of (bus.world old).adapter)
 
-pub is-read : {B : Type 0} (world : B → World) (happened : B → B → Past → Type 0)
-    → ((a b c : B) (s t : Past) → happened a b s → happened b c t → happened a c (joined s t))
-    → (old middle new : B) → Sets world happened old middle reset_writes → IsAtRest (world middle) → Asks world happened middle new 0x0014
-    → IsRead world happened old new
-is-read world happened joins old middle new resets rest asks = record {
+pub is-read : {B : Type 0} (bus : Ghosts B) → StretchesJoin bus
+    → (old middle new : B) → Sets bus reset_writes old middle → IsAtRest (bus.world middle) → Asks bus 0x0014 middle new
+    → IsRead bus old new
+is-read bus joins old middle new resets rest asks = record {
   past = joined resets.past asks.past;
   told = joins old middle new resets.past asks.past resets.told asks.told;
   rests = (asks.rests rest).0;
@@ -28,12 +29,12 @@ is-read world happened joins old middle new resets rest asks = record {
 }
 
 -- And the packet buffer is shared out, and the link let come up.
-pub record IsReady {B : Type 0} (world : B → World) (happened : B → B → Past → Type 0) (old new : B) (kilobytes : ℕ) : Type 0 where
+pub record IsPrepared {B : Type 0} (bus : Ghosts B) (old new : B) (kilobytes : ℕ) : Type 0 where
   pub past : Past
-  pub told : happened old new past
-  pub rests : IsAtRest (world new)
-  pub settings : settings_of (world new).adapter
-      ≡ settings_after_all (reset_writes ++ (allocation_writes kilobytes ++ link_writes)) (settings_of (world old).adapter)
+  pub told : bus.happened old new past
+  pub rests : IsAtRest (bus.world new)
+  pub settings : settings_of (bus.world new).adapter
+      ≡ settings_after_all (reset_writes ++ (allocation_writes kilobytes ++ link_writes)) (settings_of (bus.world old).adapter)
 
 -- The EEPROM, and how the link comes up, are those of before.
 pub device-image : (a b : World) (writes : List Write) → settings_of b.adapter ≡ settings_after_all writes (settings_of a.adapter)
@@ -45,12 +46,11 @@ pub device-link : (a b : World) (writes : List Write) → settings_of b.adapter 
 device-link a b writes set = ap (λ (settings : Settings). settings.link) set ∙ link-stays writes (settings_of a.adapter)
 
 -- The packet buffer was shared out, and the link let come up, behind that.
-pub is-set : {B : Type 0} (world : B → World) (happened : B → B → Past → Type 0)
-    → ((a b c : B) (s t : Past) → happened a b s → happened b c t → happened a c (joined s t))
-    → (old read shared new : B) (kilobytes : ℕ) → IsRead world happened old read
-    → Sets world happened read shared (allocation_writes kilobytes) → Sets world happened shared new link_writes
-    → IsReady world happened old new kilobytes
-is-set world happened joins old read shared new kilobytes is shares links = record {
+pub is-set : {B : Type 0} (bus : Ghosts B) → StretchesJoin bus
+    → (old read shared new : B) (kilobytes : ℕ) → IsRead bus old read
+    → Sets bus (allocation_writes kilobytes) read shared → Sets bus link_writes shared new
+    → IsPrepared bus old new kilobytes
+is-set bus joins old read shared new kilobytes is shares links = record {
   past = joined is.past (joined shares.past links.past);
   told = joins old read new is.past (joined shares.past links.past) is.told
       (joins read shared new shares.past links.past shares.told links.told);
@@ -58,16 +58,16 @@ is-set world happened joins old read shared new kilobytes is shares links = reco
   settings =
       links.settings
       ∙ ap (settings_after_all link_writes) (shares.settings ∙ ap (settings_after_all (allocation_writes kilobytes)) is.settings)
-      ∙ sym (settings-append (allocation_writes kilobytes) link_writes (settings_after_all reset_writes (settings_of (world old).adapter)))
-      ∙ sym (settings-append reset_writes (allocation_writes kilobytes ++ link_writes) (settings_of (world old).adapter));
+      ∙ sym (settings-append (allocation_writes kilobytes) link_writes
+      (settings_after_all reset_writes (settings_of (bus.world old).adapter)))
+      ∙ sym (settings-append reset_writes (allocation_writes kilobytes ++ link_writes) (settings_of (bus.world old).adapter));
 }
 
 -- A register of the PHY was asked behind that.
-pub still-ready : {B : Type 0} (world : B → World) (happened : B → B → Past → Type 0)
-    → ((a b c : B) (s t : Past) → happened a b s → happened b c t → happened a c (joined s t))
-    → (old middle new : B) (kilobytes : ℕ) → IsReady world happened old middle kilobytes → Asks world happened middle new 0x0020
-    → IsReady world happened old new kilobytes
-still-ready world happened joins old middle new kilobytes is asks = record {
+pub still-ready : {B : Type 0} (bus : Ghosts B) → StretchesJoin bus
+    → (old middle new : B) (kilobytes : ℕ) → IsPrepared bus old middle kilobytes → Asks bus 0x0020 middle new
+    → IsPrepared bus old new kilobytes
+still-ready bus joins old middle new kilobytes is asks = record {
   past = joined is.past asks.past;
   told = joins old middle new is.past asks.past is.told asks.told;
   rests = (asks.rests is.rests).0;

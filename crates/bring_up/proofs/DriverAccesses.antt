@@ -20,6 +20,7 @@ use Rattle.bus.specs.RegisterSetting.{with_receive_control, with_transmit_contro
 use Rattle.bus.specs.Law.{Acts}
 use Rattle.bus.specs.PastOfStretch.{Past, nothing}
 use Rattle.bus.specs.Settings.{IsOff}
+use Rattle.bus.specs.declared.bus.Bus.{Ghosts}
 use Rattle.bus.specs.declared.event.Access.{Access}
 use Rattle.bus.specs.declared.event.Access.TheVariants.{Writes}
 use Rattle.bus.proofs.KnownRings.{known_transmit_ring_stays}
@@ -39,29 +40,28 @@ use Rattle.bring_up.specs.DriverSteps.{LeavesDriver, LetsFramesIn, EnablesCauses
 use Rattle.bring_up.specs.RingRegisters.{receive_control, receive_writes, transmit_writes}
 
 -- One access, from the very world in which it begins.
-unfoldable pub ran_by-begins : {first_up up : Bool} {B : Type 0} (world : B → World) (happened : B → B → Past → Type 0) (lively : B
-    → Type 0) (old new : B) (access : Access) (effect : World → World → Type 0)
-    (d : DriverState) (acts : Acts world happened lively old new access effect) → SetsBy access effect (world new)
-    → ReadyWith first_up d (world old)
-    → (ReadyWith first_up d acts.middle → GoesTo up d acts.middle d (world new) [] [] nothing)
-    → RanBy up world happened (access ∷ []) old new d d [] []
-ran_by-begins {first_up} {up} world happened lively old new access effect d acts sets ready step =
-    let first = goes-happens d (world old) acts.middle acts.past ready acts.before in
+unfoldable pub ran_by-begins : {first_up up : Bool} {B : Type 0} (bus : Ghosts B) (old new : B) (access : Access)
+    (effect : World → World → Type 0) (d : DriverState) (acts : Acts bus.world bus.happened bus.lively old new access effect)
+    → SetsBy access effect (bus.world new)
+    → ReadyWith first_up d (bus.world old)
+    → (ReadyWith first_up d acts.middle → GoesTo up d acts.middle d (bus.world new) [] [] nothing)
+    → RanBy up bus.world bus.happened (access ∷ []) old new d d [] []
+ran_by-begins {first_up} {up} bus old new access effect d acts sets ready step =
+    let first = goes-happens d (bus.world old) acts.middle acts.past ready acts.before in
     record {
       past = acts.past;
       told = acts.told;
       only = acts.only;
       goes =
-          subst (GoesTo up d (world old) d (world new) [] []) (joined-nothing acts.past)
-          (goes_join d d d (world old) acts.middle (world new) [] [] [] [] acts.past nothing first (step first.flows.ready));
-      set = access-set world happened lively old new access effect acts sets;
-      off = λ off leaves. happens-off (world old) acts.middle acts.past acts.before off;
-      link = access-link world happened lively old new access effect acts sets;
+          subst (GoesTo up d (bus.world old) d (bus.world new) [] []) (joined-nothing acts.past)
+          (goes_join d d d (bus.world old) acts.middle (bus.world new) [] [] [] [] acts.past nothing first (step first.flows.ready));
+      set = access-set bus.world bus.happened bus.lively old new access effect acts sets;
+      off = λ off leaves. happens-off (bus.world old) acts.middle acts.past acts.before off;
+      link = access-link bus.world bus.happened bus.lively old new access effect acts sets;
     }
 
-abbrev pub WriteActs : {B : Type 0} (world : B → World) (happened : B → B → Past → Type 0) (lively : B
-    → Type 0) (old new : B) (offset value : ℕ) → Type 0
-WriteActs world happened lively old new offset value = Acts world happened lively old new (Writes offset value)
+abbrev pub WriteActs : {B : Type 0} (bus : Ghosts B) (old new : B) (offset value : ℕ) → Type 0
+WriteActs bus old new offset value = Acts bus.world bus.happened bus.lively old new (Writes offset value)
     (λ before after. after ≡ world_after_write offset value before)
 
 -- RCTL.
@@ -94,38 +94,37 @@ big-buffers true false world = refl
 big-buffers false true world = refl
 big-buffers false false world = refl
 
-pub lets-frames-in : {B : Type 0} (world : B → World) (happened : B → B → Past → Type 0) (lively : B
-    → Type 0) (old new : B) (promiscuous by_vlan : Bool) (value : ℕ) (d : DriverState)
-    → value ≡ receive_control promiscuous by_vlan → WriteActs world happened lively old new 0x0100 value → ReadyWith false d (world old)
-    → frames_held d.oldest_receive (world old) ≡ [] → IsOff (world old)
-    → LetsFramesIn world happened (receive_writes promiscuous by_vlan) old new d
+pub lets-frames-in : {B : Type 0} (bus : Ghosts B) (old new : B) (promiscuous by_vlan : Bool) (value : ℕ) (d : DriverState)
+    → value ≡ receive_control promiscuous by_vlan → WriteActs bus old new 0x0100 value → ReadyWith false d (bus.world old)
+    → frames_held d.oldest_receive (bus.world old) ≡ [] → IsOff (bus.world old)
+    → LetsFramesIn bus (receive_writes promiscuous by_vlan) d old new
 unfolding ran_by-begins
-lets-frames-in world happened lively old new promiscuous by_vlan value d is written ready none off =
+lets-frames-in bus old new promiscuous by_vlan value d is written ready none off =
     let control = receive_control promiscuous by_vlan in
     let o = d.oldest_receive in
-    let acts = subst (WriteActs world happened lively old new 0x0100) is written in
+    let acts = subst (WriteActs bus old new 0x0100) is written in
     let middle = acts.middle in
-    let within : o < count_of (receive_ring (world old)) = omega (arith, ready.driver_is.oldest_slot, ready.receive.slots) in
-    let waits = offers_wait o d.oldest_transmit (world old) middle acts.past ready.sound within off none acts.before in
+    let within : o < count_of (receive_ring (bus.world old)) = omega (arith, ready.driver_is.oldest_slot, ready.receive.slots) in
+    let waits = offers_wait o d.oldest_transmit (bus.world old) middle acts.past ready.sound within off none acts.before in
     let arrives = acts.before.steady.off off in
     let between = acts.before.between o d.oldest_transmit ready.sound in
     let empty : frames_held o middle ≡ [] = between.holds ∙ ap (λ (frames : List (List ℕ)). frames ++ acts.past.stored) none ∙ arrives.0 in
-    let done : world new ≡ with_receive_control control middle = acts.effect_is ∙ receive_control-written promiscuous by_vlan middle in
-    let ready_there = (goes-happens d (world old) middle acts.past ready acts.before).flows.ready in
-    let goes : GoesTo false d middle d (world new) [] [] nothing =
+    let done : bus.world new ≡ with_receive_control control middle = acts.effect_is ∙ receive_control-written promiscuous by_vlan middle in
+    let ready_there = (goes-happens d (bus.world old) middle acts.past ready acts.before).flows.ready in
+    let goes : GoesTo false d middle d (bus.world new) [] [] nothing =
     subst (λ (w : World). GoesTo false d middle d w [] [] nothing) (sym done)
     (receiver_is_enabled d control middle ready_there waits.none_finished waits.no_work (not-extended promiscuous by_vlan)
     (big-buffers promiscuous by_vlan middle)) in
-    let none_held : frames_held o (world new) ≡ [] = goes.flows.holds ∙ append-nil (frames_held o middle) ∙ empty in
+    let none_held : frames_held o (bus.world new) ≡ [] = goes.flows.holds ∙ append-nil (frames_held o middle) ∙ empty in
     let parts = append-empty
-    (map (λ (descriptor : ℕ). bytes_in (world new).memory (named (world new).memory descriptor)) (finished o (world new)))
-    (held (world new).memory (world new).adapter.receiver) none_held in
+    (map (λ (descriptor : ℕ). bytes_in (bus.world new).memory (named (bus.world new).memory descriptor)) (finished o (bus.world new)))
+    (held (bus.world new).memory (bus.world new).adapter.receiver) none_held in
     record {
-      ran = ran_by-begins world happened lively old new (Writes 0x0100 control) _ d acts (write-sets 0x0100 control (world new)) ready
+      ran = ran_by-begins bus old new (Writes 0x0100 control) _ d acts (write-sets 0x0100 control (bus.world new)) ready
           (λ there. goes);
       none_held = none_held;
-      none_finished = map-empty (λ (descriptor : ℕ). bytes_in (world new).memory (named (world new).memory descriptor))
-          (finished o (world new)) parts.0;
+      none_finished = map-empty (λ (descriptor : ℕ). bytes_in (bus.world new).memory (named (bus.world new).memory descriptor))
+          (finished o (bus.world new)) parts.0;
       no_arrival = record { none_stored = arrives.0; none_missed = arrives.1 };
     }
 
@@ -136,18 +135,17 @@ transmit_control-written world =
     ap (λ (register : Option Register). let after : World = record world
     { adapter = left_by_write register 0x000400FA world.adapter } in after) (register_at-there Tctl tt)
 
-pub lets-frames-out : {B : Type 0} (world : B → World) (happened : B → B → Past → Type 0) (lively : B
-    → Type 0) (old new : B) (value : ℕ) (d : DriverState)
-    → value ≡ 0x000400FA → WriteActs world happened lively old new 0x0400 value → ReadyWith false d (world old)
+pub lets-frames-out : {B : Type 0} (bus : Ghosts B) (old new : B) (value : ℕ) (d : DriverState)
+    → value ≡ 0x000400FA → WriteActs bus old new 0x0400 value → ReadyWith false d (bus.world old)
     → d.oldest_transmit < d.counts.tx
-    → KnowsRing (transmit_ring (world old)) (16 * d.counts.rx) d.counts.tx (transmit_tail d)
-    → LeavesDriver true world happened transmit_writes old new d
-lets-frames-out world happened lively old new value d is written ready below knows =
-    let acts = subst (WriteActs world happened lively old new 0x0400) is written in
+    → KnowsRing (transmit_ring (bus.world old)) (16 * d.counts.rx) d.counts.tx (transmit_tail d)
+    → LeavesDriver bus transmit_writes true d old new
+lets-frames-out bus old new value d is written ready below knows =
+    let acts = subst (WriteActs bus old new 0x0400) is written in
     let middle = acts.middle in
-    let still = known_transmit_ring_stays (world old) middle acts.past _ _ _ acts.before.steady knows in
-    let done : world new ≡ with_transmit_control 0x000400FA middle = acts.effect_is ∙ transmit_control-written middle in
-    ran_by-begins world happened lively old new (Writes 0x0400 0x000400FA) _ d acts (write-sets 0x0400 0x000400FA (world new)) ready
+    let still = known_transmit_ring_stays (bus.world old) middle acts.past _ _ _ acts.before.steady knows in
+    let done : bus.world new ≡ with_transmit_control 0x000400FA middle = acts.effect_is ∙ transmit_control-written middle in
+    ran_by-begins bus old new (Writes 0x0400 0x000400FA) _ d acts (write-sets 0x0400 0x000400FA (bus.world new)) ready
     (λ there. subst (λ (w : World). Goes d middle d w [] [] nothing) (sym done)
     (transmitter_is_enabled d 0x000400FA middle there below still refl))
 
@@ -171,26 +169,27 @@ asked-still d a b past goes asked =
     (λ (bit : HasBit b.adapter.causes.recorded 7). inr bit)
     goes.told
 
-pub enables-causes : {B : Type 0} (world : B → World) (happened : B → B → Past → Type 0) (lively : B
-    → Type 0) (old new : B) (value : ℕ) (d : DriverState)
-    → value ≡ 0xD1 → WriteActs world happened lively old new 0x00D0 value → Ready d (world old)
-    → EnablesCauses world happened 0xD1 old new d
-enables-causes world happened lively old new value d is written ready =
-    let acts = subst (WriteActs world happened lively old new 0x00D0) is written in
+pub enables-causes : {B : Type 0} (bus : Ghosts B) (old new : B) (value : ℕ) (d : DriverState)
+    → value ≡ 0xD1 → WriteActs bus old new 0x00D0 value → Ready d (bus.world old)
+    → EnablesCauses bus 0xD1 d old new
+enables-causes bus old new value d is written ready =
+    let acts = subst (WriteActs bus old new 0x00D0) is written in
     let middle = acts.middle in
-    let goes = goes-happens d (world old) middle acts.past ready acts.before in
-    let sets = write-sets 0x00D0 0xD1 (world new) in
-    let enabled : Enabled true d 0xD1 middle (world new) =
+    let goes = goes-happens d (bus.world old) middle acts.past ready acts.before in
+    let sets = write-sets 0x00D0 0xD1 (bus.world new) in
+    let enabled : Enabled true d 0xD1 middle (bus.world new) =
     subst (Enabled true d 0xD1 middle) (sym acts.effect_is) (causes_are_enabled true d 0xD1 middle goes.flows.ready) in
-    let mask : HasBit (world new).adapter.causes.mask 7 =
+    let mask : HasBit (bus.world new).adapter.causes.mask 7 =
     subst (λ (bits : ℕ). HasBit bits 7) (sym enabled.mask) ((HasBit-union middle.adapter.causes.mask 0xD1 7).1 (inr refl)) in
     record {
-      past = acts.past;
-      told = acts.told;
-      only = acts.only;
-      set = access-set world happened lively old new (Writes 0x00D0 0xD1) _ acts sets;
-      off = λ off leaves. happens-off (world old) middle acts.past acts.before off;
-      link = access-link world happened lively old new (Writes 0x00D0 0xD1) _ acts sets;
+      accessed = record {
+        past = acts.past;
+        told = acts.told;
+        only = acts.only;
+        set = access-set bus.world bus.happened bus.lively old new (Writes 0x00D0 0xD1) _ acts sets;
+        off = λ off leaves. happens-off (bus.world old) middle acts.past acts.before off;
+        link = access-link bus.world bus.happened bus.lively old new (Writes 0x00D0 0xD1) _ acts sets;
+      };
       middle = middle;
       goes = goes;
       enabled = enabled;
@@ -204,6 +203,6 @@ enables-causes world happened lively old new value d is written ready =
                 ⊎_elim
                 (λ (none : finished d.oldest_receive middle ≡ []). inl (enabled.finished_same ∙ none))
                 (λ (bit : HasBit middle.adapter.causes.recorded 7). inr (subst (λ (bits : ℕ). HasBit bits 7) (sym enabled.recorded) bit))
-                (asked-still d (world old) middle acts.past goes asked);
+                (asked-still d (bus.world old) middle acts.past goes asked);
           };
     }

@@ -17,13 +17,14 @@ use Rattle.adapter.specs.World.{World, world_after_read, world_after_write}
 use Rattle.adapter.specs.declared.register.Register.{Register}
 use Rattle.adapter.specs.declared.register.Register.TheVariants.{Eerd}
 use Rattle.bus.specs.Law.{Acts}
-use Rattle.bus.specs.PastOfStretch.{Past}
+use Rattle.bus.specs.declared.bus.Bus.{Ghosts}
 use Rattle.bus.specs.declared.event.Access.TheVariants.{Reads, Writes}
 use Rattle.bus.specs.AdaptersAtRest.{IsElsewhere}
 use Rattle.bus.specs.Settings.{settings_of}
 use Rattle.bring_up.specs.EepromReading.{ReadsWord}
 use Rattle.bring_up.specs.declared.init_error.InitError.TheVariants.{EepromTimeout}
-use Rattle.bring_up.proofs.CountedSteps.{AsksAtLeast, StretchesJoin, asks-image, asks-more, asks-read, asks-write}
+use Rattle.bring_up.proofs.CountedSteps.{AsksAtLeast, asks-image, asks-more, asks-read, asks-write}
+use Rattle.bring_up.proofs.Steps.{StretchesJoin}
 
 -- The register behind ticks.
 
@@ -126,26 +127,26 @@ start-with address given is small =
 
 -- Over a bus.
 
-module _ {B : Type 0} (world : B → World) (happened : B → B → Past → Type 0) where
+module _ {B : Type 0} (bus : Ghosts B) where
   -- A word was asked for, in so many accesses at least, and the adapter has 64 words.
   pub record Awaits (start now : B) (address count : ℕ) : Type 0 where
-    pub asks : AsksAtLeast world happened start now 0x0014 count
-    pub size : length (world start).adapter.image ≡ 64
-    pub state : IsAsked (world start).adapter.image address (world now).adapter.eerd
+    pub asks : AsksAtLeast bus start now 0x0014 count
+    pub size : length (bus.world start).adapter.image ≡ 64
+    pub state : IsAsked (bus.world start).adapter.image address (bus.world now).adapter.eerd
 
-  -- A read tells of it, and over a lively bus it tells the word.
-  pub record ReadTells (lively : B → Type 0) (start now next : B) (address count value : ℕ) : Type 0 where
+  -- A read shows it, and over a lively bus it shows the word.
+  pub record ReadTells (start now next : B) (address count value : ℕ) : Type 0 where
     pub awaits : Awaits start next address count
-    pub shows : IsShown (world start).adapter.image address value
-    pub soon : lively now → value ≡ shown_after address (word_at (world start).adapter.image address)
+    pub shows : IsShown (bus.world start).adapter.image address value
+    pub soon : bus.lively now → value ≡ shown_after address (word_at (bus.world start).adapter.image address)
 
   -- The write that asks for it.
-  pub awaits-write : (lively : B → Type 0) (old new : B) (address value : ℕ) → address < 256 → value ≡ address * 256 + 1
-      → Acts world happened lively old new (Writes 0x0014 value) (λ before after. after ≡ world_after_write 0x0014 value before)
+  pub awaits-write : (old new : B) (address value : ℕ) → address < 256 → value ≡ address * 256 + 1
+      → Acts bus.world bus.happened bus.lively old new (Writes 0x0014 value) (λ before after. after ≡ world_after_write 0x0014 value before)
       → Awaits old new address 1
-  awaits-write lively old new address value small is acts = record {
+  awaits-write old new address value small is acts = record {
     asks =
-        asks-write world happened lively old new 0x0014 value
+        asks-write bus old new 0x0014 value
         (subst IsElsewhere (sym at-eerd) tt)
         (λ adapter. ap settings_of (write-changes value adapter))
         acts;
@@ -158,29 +159,29 @@ module _ {B : Type 0} (world : B → World) (happened : B → B → Past → Typ
   }
 
   -- A read behind it.
-  pub awaits-read : StretchesJoin happened → (lively : B → Type 0) (start now next : B) (address count value : ℕ)
+  pub awaits-read : StretchesJoin bus → (start now next : B) (address count value : ℕ)
       → Awaits start now address count
-      → Acts world happened lively now next (Reads 0x0014 value)
+      → Acts bus.world bus.happened bus.lively now next (Reads 0x0014 value)
       (λ before after. (value ≡ answer_at 0x0014 before.adapter) × (after ≡ world_after_read 0x0014 before))
-      → ReadTells lively start now next address (count + 1) value
-  awaits-read joins lively start now next address count value awaits acts =
-      let image : List ℕ = (world start).adapter.image in
+      → ReadTells start now next address (count + 1) value
+  awaits-read joins start now next address count value awaits acts =
+      let image : List ℕ = (bus.world start).adapter.image in
       let ticks : ℕ = acts.past.eeprom_ticks in
-      let found : ReadState = (world now).adapter.eerd in
+      let found : ReadState = (bus.world now).adapter.eerd in
       let state : ReadState = acts.middle.adapter.eerd in
-      let same : (world now).adapter.image ≡ image = asks-image world happened start now 0x0014 awaits.asks.asks in
+      let same : (bus.world now).adapter.image ≡ image = asks-image bus start now 0x0014 awaits.asks.asks in
       let moved : state ≡ after_ticks image ticks found =
       subst (λ (words : List ℕ). state ≡ after_ticks words ticks found) same acts.before.steady.eerd in
       let answer : value ≡ shown state = acts.effect_is.0 ∙ answer-is acts.middle.adapter in
       let asked : IsAsked image address state =
       subst (IsAsked image address) (sym moved) (still-asked image address ticks found awaits.state) in
-      let after : (world next).adapter.eerd ≡ state =
+      let after : (bus.world next).adapter.eerd ≡ state =
       ap (λ (w : World). w.adapter.eerd) acts.effect_is.1
       ∙ ap (λ (adapter : AdapterState). adapter.eerd) (read-leaves acts.middle.adapter) in
-      let read = asks-read world happened lively now next 0x0014 0x0014 value _ acts in
+      let read = asks-read bus now next 0x0014 0x0014 value _ acts in
       record {
         awaits = record {
-          asks = asks-more world happened joins start now next 0x0014 count 1 awaits.asks read;
+          asks = asks-more bus joins start now next 0x0014 count 1 awaits.asks read;
           size = awaits.size;
           state = subst (IsAsked image address) (sym after) asked;
         };
@@ -191,11 +192,11 @@ module _ {B : Type 0} (world : B → World) (happened : B → B → Past → Typ
       }
 
   -- Where DONE is shown, the word was read,
-  pub word-read : (lively : B → Type 0) (start now next : B) (address count value : ℕ) → address < 256 → value < 2 ^ 32
-      → bit_and value 16 ≢ 0 → ReadTells lively start now next address count value
-      → ReadsWord world happened start next address (Ok (value / 65536))
-  word-read lively start now next address count value small fits done tells =
-      let image : List ℕ = (world start).adapter.image in
+  pub word-read : (start now next : B) (address count value : ℕ) → address < 256 → value < 2 ^ 32
+      → bit_and value 16 ≢ 0 → ReadTells start now next address count value
+      → ReadsWord bus address (Ok (value / 65536)) start next
+  word-read start now next address count value small fits done tells =
+      let image : List ℕ = (bus.world start).adapter.image in
       record {
         asks = tells.awaits.asks.asks;
         word = data-is address (word_at image address) value small fits (done-shows image address value done tells.shows);
@@ -204,16 +205,16 @@ module _ {B : Type 0} (world : B → World) (happened : B → B → Past → Typ
       }
 
   -- a lively bus shows it at once,
-  pub never-slow : (lively : B → Type 0) (start now next : B) (address count value : ℕ) → lively now → bit_and value 16 ≡ 0
-      → ReadTells lively start now next address count value → ⊥
-  never-slow lively start now next address count value alive none tells =
-      let word : ℕ = word_at (world start).adapter.image address in
+  pub never-slow : (start now next : B) (address count value : ℕ) → bus.lively now → bit_and value 16 ≡ 0
+      → ReadTells start now next address count value → ⊥
+  never-slow start now next address count value alive none tells =
+      let word : ℕ = word_at (bus.world start).adapter.image address in
       let set : bit_and value 16 ≡ 16 = ap (λ (v : ℕ). bit_and v 16) (tells.soon alive) ∙ is-done address word in
       omega arith
 
   -- and where it was never shown, so many accesses were made in vain.
   pub gave-up : (start now : B) (address count : ℕ) → 1000 ≤ count → Awaits start now address count
-      → ReadsWord world happened start now address (Err EepromTimeout)
+      → ReadsWord bus address (Err EepromTimeout) start now
   gave-up start now address count many awaits = record {
     asks = awaits.asks.asks;
     word = tt;

@@ -45,13 +45,13 @@ pub negotiating : (lively : Type 0) (all : ℕ) (a : Management) (adapter : Adap
     → (begun : IsNegotiating adapter) × (begun.ticks < all)
 negotiating lively all a adapter answer ends =
     let link : adapter.phy.link ≡ ends.phy.link = ap (λ (p : PhyState). p.link) ends.leaves
-    ∙ link-iterate ends.later (started ends.phy.link) in
+    ∙ link-iterate ends.ticks.later (started ends.phy.link) in
     let begun : IsNegotiating adapter = record {
-      ticks = ends.later;
-      phy = ends.leaves ∙ ap (λ (l : Link). iterate after_tick ends.later (started l)) (sym link);
+      ticks = ends.ticks.later;
+      phy = ends.leaves ∙ ap (λ (l : Link). iterate after_tick ends.ticks.later (started l)) (sym link);
       no_command = ap (λ (l : MdicState). l.pending) ends.mdic;
     } in
-    let all_are = ends.all_are in
+    let all_are = ends.ticks.all_are in
     (begun, omega arith)
 
 -- At least so many ticks of its count have fallen.
@@ -162,7 +162,7 @@ up-of lively all a world answer ends set =
     let up : link_is_up at
     ≡ true = shows-up (link_is_up at) at.latched_low (λ unset. set (ap (λ (v : ℕ). bit_and v 0x04) ends.answers ∙ unset)) in
     record {
-      up = ap link_is_up ends.leaves ∙ up-iterate ends.later (record at { latched_low = false }) up;
+      up = ap link_is_up ends.leaves ∙ up-iterate ends.ticks.later (record at { latched_low = false }) up;
       no_command = ap (λ (l : MdicState). l.pending) ends.mdic;
     }
 
@@ -187,25 +187,27 @@ pub one-round : (lively : Type 0) (all : ℕ) (a b : Management) (rounds answer 
     → NotBoth answer → Rounds rounds a → Rounds (rounds + 1) b
 one-round lively all a b rounds answer alive ends down before =
     let at = ends.phy in
-    let ticked = ends.ticked alive in
-    let is : at ≡ after_tick (iterate after_tick ends.ticks a.phy) = ends.counted
-    ∙ ap after_tick (ticks-none ends.ticks a before.no_command) in
-    let link : at.link ≡ a.phy.link = ap (λ (p : PhyState). p.link) is ∙ link-iterate ends.ticks a.phy in
-    let at_latch : at.latched_low ≡ a.phy.latched_low = ap (λ (p : PhyState). p.latched_low) is ∙ latch-iterate ends.ticks a.phy in
-    let has_ticked : HasCounted (2 * rounds + ends.ticks) (iterate after_tick ends.ticks a.phy) = counted-ticks ends.ticks
-    (2 * rounds + ends.ticks) (2 * rounds) a.phy (omega arith) before.counted in
+    let ticked = ends.ticks.some alive in
+    let is : at ≡ after_tick (iterate after_tick ends.ticks.before a.phy) = ends.counted
+    ∙ ap after_tick (ticks-none ends.ticks.before a before.no_command) in
+    let link : at.link ≡ a.phy.link = ap (λ (p : PhyState). p.link) is ∙ link-iterate ends.ticks.before a.phy in
+    let at_latch : at.latched_low ≡ a.phy.latched_low = ap (λ (p : PhyState). p.latched_low) is ∙ latch-iterate ends.ticks.before a.phy in
+    let has_ticked : HasCounted (2 * rounds + ends.ticks.before) (iterate after_tick ends.ticks.before a.phy) =
+    counted-ticks ends.ticks.before (2 * rounds + ends.ticks.before) (2 * rounds) a.phy (omega arith) before.counted in
     let here : HasCounted (2 * (rounds + 1)) at = subst (HasCounted (2 * (rounds + 1))) (sym is)
-    (counted-ticks 1 (2 * (rounds + 1)) (2 * rounds + ends.ticks) (iterate after_tick ends.ticks a.phy) (omega arith) has_ticked) in
+    (counted-ticks 1 (2 * (rounds + 1)) (2 * rounds + ends.ticks.before) (iterate after_tick ends.ticks.before a.phy) (omega arith)
+    has_ticked) in
     let after : PhyState = record at { latched_low = false } in
     record {
       no_command = ap (λ (l : MdicState). l.pending) ends.mdic;
       counted = subst (HasCounted (2 * (rounds + 1))) (sym ends.leaves)
-          (counted-ticks ends.later (2 * (rounds + 1)) (2 * (rounds + 1)) after (omega arith) here);
-      latch = λ some. ap (λ (p : PhyState). p.latched_low) ends.leaves ∙ latch-iterate ends.later after;
+          (counted-ticks ends.ticks.later (2 * (rounds + 1)) (2 * (rounds + 1)) after (omega arith) here);
+      latch = λ some. ap (λ (p : PhyState). p.latched_low) ends.leaves ∙ latch-iterate ends.ticks.later after;
       needs = λ some.
           let free : at.latched_low ≡ false = at_latch ∙ before.latch (omega arith) in
           let shown : NotBoth (shown_status (link_is_up at) at.latched_low) = subst NotBoth ends.answers down in
           let needs = down-needs (2 * (rounds + 1)) at.link at.negotiation (omega arith) here
           (shows-down (link_is_up at) at.latched_low free shown) in
-          subst (NeedsMoreThan (2 * (rounds + 1))) (sym (ap (λ (p : PhyState). p.link) ends.leaves ∙ link-iterate ends.later after)) needs;
+          subst (NeedsMoreThan (2 * (rounds + 1)))
+          (sym (ap (λ (p : PhyState). p.link) ends.leaves ∙ link-iterate ends.ticks.later after)) needs;
     }

@@ -8,6 +8,7 @@ use Rattle.adapter.specs.Table.{register_at}
 use Rattle.adapter.specs.World.{World, world_after_read, world_after_write}
 use Rattle.bus.specs.Law.{Acts}
 use Rattle.bus.specs.PastOfStretch.{Past, joined, nothing}
+use Rattle.bus.specs.declared.bus.Bus.{Ghosts}
 use Rattle.bus.specs.declared.event.Access.{Access}
 use Rattle.bus.specs.declared.event.Access.TheVariants.{Reads, Writes}
 use Rattle.bus.specs.AdaptersAtRest.{IsAtRest, IsElsewhere, NoFrame}
@@ -16,52 +17,50 @@ use Rattle.bus.proofs.Lists.{all-none}
 use Rattle.bus.proofs.AdaptersAtRest.{accesses_keep_rest, happenings_keep_rest}
 use Rattle.bus.proofs.Settings.{happenings_leave_settings, reads-leave, writes-append}
 use Rattle.bring_up.specs.SettingSteps.{Asks}
-use Rattle.bring_up.proofs.Steps.{asks-nothing}
+use Rattle.bring_up.proofs.Steps.{StretchesJoin, asks-nothing}
 
-pub record AsksTimes {B : Type 0} (world : B → World) (happened : B → B → Past → Type 0) (old new : B) (offset times : ℕ) : Type 0 where
-  pub asks : Asks world happened old new offset
+pub record AsksTimes {B : Type 0} (bus : Ghosts B) (old new : B) (offset times : ℕ) : Type 0 where
+  pub asks : Asks bus offset old new
   pub often : times ≤ length asks.past.accesses
 
-pub asks-fewer : {B : Type 0} (world : B → World) (happened : B → B → Past → Type 0) (old new : B) (offset many few : ℕ)
-    → few ≤ many → AsksTimes world happened old new offset many → AsksTimes world happened old new offset few
-asks-fewer world happened old new offset many few fewer times = record { asks = times.asks; often = let often = times.often in omega arith }
+pub asks-fewer : {B : Type 0} (bus : Ghosts B) (old new : B) (offset many few : ℕ)
+    → few ≤ many → AsksTimes bus old new offset many → AsksTimes bus old new offset few
+asks-fewer bus old new offset many few fewer times = record { asks = times.asks; often = let often = times.often in omega arith }
 
 -- An access that leaves the settings, behind whatever happens before it.
-abbrev asks-access : {B : Type 0} (world : B → World) (happened : B → B → Past → Type 0) (lively : B
-    → Type 0) (old new : B) (access : Access) (effect : World → World → Type 0) (offset : ℕ)
-    → (acts : Acts world happened lively old new access effect) → All (λ write. write.offset ≡ offset) (writes_in (access ∷ []))
-    → settings_of (world new).adapter ≡ settings_of acts.middle.adapter → (IsAtRest acts.middle → IsAtRest (world new))
-    → AsksTimes world happened old new offset 1
-asks-access world happened lively old new access effect offset acts only left rests = record {
+abbrev asks-access : {B : Type 0} (bus : Ghosts B) (old new : B) (access : Access) (effect : World → World → Type 0) (offset : ℕ)
+    → (acts : Acts bus.world bus.happened bus.lively old new access effect) → All (λ write. write.offset ≡ offset) (writes_in (access ∷ []))
+    → settings_of (bus.world new).adapter ≡ settings_of acts.middle.adapter → (IsAtRest acts.middle → IsAtRest (bus.world new))
+    → AsksTimes bus old new offset 1
+asks-access bus old new access effect offset acts only left rests = record {
   asks = record {
     past = acts.past;
     told = acts.told;
     only = subst (λ (accesses : List Access). All (λ write. write.offset ≡ offset) (writes_in accesses)) (sym acts.only) only;
-    settings = left ∙ happenings_leave_settings (world old) acts.middle acts.past acts.before;
+    settings = left ∙ happenings_leave_settings (bus.world old) acts.middle acts.past acts.before;
     rests = λ rest.
-        let waits = happenings_keep_rest (world old) acts.middle acts.past acts.before rest in
+        let waits = happenings_keep_rest (bus.world old) acts.middle acts.past acts.before rest in
         (rests waits.0, waits.1);
   };
   often = let one : length acts.past.accesses ≡ 1 = ap length acts.only in omega arith;
 }
 
-abbrev pub asks-read : {B : Type 0} (world : B → World) (happened : B → B → Past → Type 0) (lively : B
-    → Type 0) (old new : B) (offset value : ℕ) (answer : World → Type 0)
-    → Acts world happened lively old new (Reads offset value) (λ before after. answer before × (after ≡ world_after_read offset before))
-    → AsksTimes world happened old new offset 1
-asks-read world happened lively old new offset value answer acts =
-    asks-access world happened lively old new (Reads offset value) _ offset acts (all-none (λ write. write.offset ≡ offset))
+abbrev pub asks-read : {B : Type 0} (bus : Ghosts B) (old new : B) (offset value : ℕ) (answer : World → Type 0)
+    → Acts bus.world bus.happened bus.lively old new (Reads offset value)
+    (λ before after. answer before × (after ≡ world_after_read offset before))
+    → AsksTimes bus old new offset 1
+asks-read bus old new offset value answer acts =
+    asks-access bus old new (Reads offset value) _ offset acts (all-none (λ write. write.offset ≡ offset))
     (ap (λ (w : World). settings_of w.adapter) acts.effect_is.1 ∙ reads-leave offset acts.middle.adapter)
     (λ rest. subst IsAtRest (sym acts.effect_is.1) (accesses_keep_rest (Reads offset value) acts.middle tt refl rest))
 
-abbrev pub asks-write : {B : Type 0} (world : B → World) (happened : B → B → Past → Type 0) (lively : B
-    → Type 0) (old new : B) (offset value : ℕ)
+abbrev pub asks-write : {B : Type 0} (bus : Ghosts B) (old new : B) (offset value : ℕ)
     → IsElsewhere (register_at offset) → ((adapter : AdapterState) → settings_of (after_write offset value adapter) ≡ settings_of adapter)
-    → Acts world happened lively old new (Writes offset value) (λ before after. after ≡ world_after_write offset value before)
-    → AsksTimes world happened old new offset 1
-asks-write world happened lively old new offset value elsewhere leaves acts =
+    → Acts bus.world bus.happened bus.lively old new (Writes offset value) (λ before after. after ≡ world_after_write offset value before)
+    → AsksTimes bus old new offset 1
+asks-write bus old new offset value elsewhere leaves acts =
     let write : Write = record { offset = offset; value = value } in
-    asks-access world happened lively old new (Writes offset value) _ offset acts
+    asks-access bus old new (Writes offset value) _ offset acts
     (All-cons (λ write. write.offset ≡ offset) write [] refl (all-none (λ write. write.offset ≡ offset)))
     (ap (λ (w : World). settings_of w.adapter) acts.effect_is ∙ leaves acts.middle.adapter)
     (λ rest. subst IsAtRest (sym acts.effect_is) (accesses_keep_rest (Writes offset value) acts.middle elsewhere refl rest))
@@ -74,11 +73,10 @@ no-frames first later one two = record {
   none_missed = rw (one.none_missed, two.none_missed) refl;
 }
 
-abbrev pub asks-both : {B : Type 0} (world : B → World) (happened : B → B → Past → Type 0)
-    → ((a b c : B) (s t : Past) → happened a b s → happened b c t → happened a c (joined s t))
-    → (a b c : B) (offset m n : ℕ) → AsksTimes world happened a b offset m → AsksTimes world happened b c offset n
-    → AsksTimes world happened a c offset (m + n)
-asks-both world happened joins a b c offset m n first later =
+abbrev pub asks-both : {B : Type 0} (bus : Ghosts B) → StretchesJoin bus
+    → (a b c : B) (offset m n : ℕ) → AsksTimes bus a b offset m → AsksTimes bus b c offset n
+    → AsksTimes bus a c offset (m + n)
+asks-both bus joins a b c offset m n first later =
     let one = first.asks in
     let two = later.asks in
     record {
@@ -103,6 +101,6 @@ asks-both world happened joins a b c offset m n first later =
     }
 
 -- Nothing is asked.
-pub asks-none : {B : Type 0} (world : B → World) (happened : B → B → Past → Type 0) → ((b : B) → happened b b nothing)
-    → (b : B) (offset : ℕ) → AsksTimes world happened b b offset 0
-asks-none world happened stays b offset = record { asks = asks-nothing world happened stays b offset; often = omega arith }
+pub asks-none : {B : Type 0} (bus : Ghosts B) → ((b : B) → bus.happened b b nothing)
+    → (b : B) (offset : ℕ) → AsksTimes bus b b offset 0
+asks-none bus stays b offset = record { asks = asks-nothing bus stays b offset; often = omega arith }

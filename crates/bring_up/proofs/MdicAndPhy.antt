@@ -136,10 +136,7 @@ ends-of lively words (suc n) ticks all total command a b ticked is set =
     let end = is ∙ ticks-end words n command middle in
     let value = ap (λ (l : Management). l.mdic.value) end in
     record {
-      ticks = ticks;
-      later = n;
-      all_are = omega arith;
-      ticked = ticked;
+      ticks = record { before = ticks; later = n; all_are = omega arith; some = ticked };
       phy = after_tick middle.phy;
       counted = refl;
       answers = value;

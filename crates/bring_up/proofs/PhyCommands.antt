@@ -5,12 +5,13 @@ use Rattle.adapter.specs.Registers.{answer_at}
 use Rattle.adapter.specs.Table.{register_at}
 use Rattle.adapter.specs.World.{World, world_after_read, world_after_write}
 use Rattle.bus.specs.Law.{Acts, Management, management_of, phy_ticked}
-use Rattle.bus.specs.PastOfStretch.{Past, joined}
+use Rattle.bus.specs.declared.bus.Bus.{Ghosts}
 use Rattle.bus.specs.declared.event.Access.TheVariants.{Reads, Writes}
 use Rattle.bring_up.specs.declared.init_error.InitError.TheVariants.{PhyTimeout}
 use Rattle.bring_up.specs.Link.{Commands, Ends, IsCommand}
 use Rattle.bring_up.proofs.MdicAccesses.{AsksTimes, asks-both, asks-read, asks-write}
 use Rattle.bring_up.proofs.MdicAndPhy.{commanded, ends-of, error_bit, not-ended, ready_bit, right-then}
+use Rattle.bring_up.proofs.Steps.{StretchesJoin}
 use Rattle.bus.proofs.LinkSettings.{link-ticks}
 
 abbrev pub management_behind : World → Management
@@ -22,13 +23,13 @@ pub record Finds (lively : Type 0) (ticks : ℕ) (a b : Management) (value : ℕ
   pub management : b ≡ iterate phy_ticked ticks a
   pub shown : value ≡ b.mdic.value
 
-pub finds : {B : Type 0} (world : B → World) (happened : B → B → Past → Type 0) (lively : B → Type 0) (old new : B) (value : ℕ)
-    → (acts : Acts world happened lively old new (Reads 0x0020 value) (λ before after. (value ≡ answer_at 0x0020 before.adapter)
+pub finds : {B : Type 0} (bus : Ghosts B) (old new : B) (value : ℕ)
+    → (acts : Acts bus.world bus.happened bus.lively old new (Reads 0x0020 value) (λ before after. (value ≡ answer_at 0x0020 before.adapter)
     × (after ≡ world_after_read 0x0020 before)))
-    → Finds (lively old) acts.past.phy_ticks (management_behind (world old)) (management_behind (world new)) value
+    → Finds (bus.lively old) acts.past.phy_ticks (management_behind (bus.world old)) (management_behind (bus.world new)) value
 unfolding register_at
-finds world happened lively old new value acts =
-    let after : management_behind (world new) ≡ management_behind acts.middle = ap management_behind acts.effect_is.1 in
+finds bus old new value acts =
+    let after : management_behind (bus.world new) ≡ management_behind acts.middle = ap management_behind acts.effect_is.1 in
     record {
       ticked = λ ticks. (acts.ticks ticks).phy;
       management = after ∙ acts.before.steady.management;
@@ -36,21 +37,20 @@ finds world happened lively old new value acts =
     }
 
 -- The command is given, and so many reads didn't show R.
-pub record Waits {B : Type 0} (world : B → World) (happened : B → B → Past → Type 0) (lively : B
-    → Type 0) (old now : B) (words reads : ℕ) : Type 0 where
-  pub asked : AsksTimes world happened old now 0x0020 (reads + 1)
+pub record Waits {B : Type 0} (bus : Ghosts B) (old now : B) (words reads : ℕ) : Type 0 where
+  pub asked : AsksTimes bus old now 0x0020 (reads + 1)
   pub ticks : ℕ
   pub ticks_are : asked.asks.past.phy_ticks ≡ ticks
-  pub ticked : lively old → 1 ≤ ticks
-  pub management : management_behind (world now) ≡ commanded words (iterate phy_ticked ticks (management_behind (world old)))
-  pub none_in_vain : lively old → reads ≡ 0
+  pub ticked : bus.lively old → 1 ≤ ticks
+  pub management : management_behind (bus.world now) ≡ commanded words (iterate phy_ticked ticks (management_behind (bus.world old)))
+  pub none_in_vain : bus.lively old → reads ≡ 0
 
-pub gives : {B : Type 0} (world : B → World) (happened : B → B → Past → Type 0) (lively : B → Type 0) (old new : B) (words : ℕ)
-    → Acts world happened lively old new (Writes 0x0020 words) (λ before after. after ≡ world_after_write 0x0020 words before)
-    → Waits world happened lively old new words 0
+pub gives : {B : Type 0} (bus : Ghosts B) (old new : B) (words : ℕ)
+    → Acts bus.world bus.happened bus.lively old new (Writes 0x0020 words) (λ before after. after ≡ world_after_write 0x0020 words before)
+    → Waits bus old new words 0
 unfolding register_at
-gives world happened lively old new words acts = record {
-  asked = asks-write world happened lively old new 0x0020 words tt (λ adapter. refl) acts;
+gives bus old new words acts = record {
+  asked = asks-write bus old new 0x0020 words tt (λ adapter. refl) acts;
   ticks = acts.past.phy_ticks;
   ticks_are = refl;
   ticked = λ ticks. (acts.ticks ticks).phy;
@@ -58,25 +58,24 @@ gives world happened lively old new words acts = record {
   none_in_vain = λ ticks. refl;
 }
 
-pub waits-on : {B : Type 0} (world : B → World) (happened : B → B → Past → Type 0) (lively : B → Type 0)
-    → ((a b c : B) (s t : Past) → happened a b s → happened b c t → happened a c (joined s t))
-    → (old now new : B) (words reads value : ℕ) → IsCommand words → (lively old → lively now)
-    → Waits world happened lively old now words reads
-    → Acts world happened lively now new (Reads 0x0020 value) (λ before after. (value ≡ answer_at 0x0020 before.adapter)
+pub waits-on : {B : Type 0} (bus : Ghosts B) → StretchesJoin bus
+    → (old now new : B) (words reads value : ℕ) → IsCommand words → (bus.lively old → bus.lively now)
+    → Waits bus old now words reads
+    → Acts bus.world bus.happened bus.lively now new (Reads 0x0020 value) (λ before after. (value ≡ answer_at 0x0020 before.adapter)
     × (after ≡ world_after_read 0x0020 before))
-    → bit_and value ready_bit ≡ 0 → Waits world happened lively old new words (reads + 1)
-waits-on world happened lively joins old now new words reads value command alive waits acts unset =
-    let found = finds world happened lively now new value acts in
-    let given = commanded words (iterate phy_ticked waits.ticks (management_behind (world old))) in
-    let management : management_behind (world new) ≡ iterate phy_ticked acts.past.phy_ticks given = found.management
+    → bit_and value ready_bit ≡ 0 → Waits bus old new words (reads + 1)
+waits-on bus joins old now new words reads value command alive waits acts unset =
+    let found = finds bus now new value acts in
+    let given = commanded words (iterate phy_ticked waits.ticks (management_behind (bus.world old))) in
+    let management : management_behind (bus.world new) ≡ iterate phy_ticked acts.past.phy_ticks given = found.management
     ∙ ap (iterate phy_ticked acts.past.phy_ticks) waits.management in
     let none : acts.past.phy_ticks ≡ 0 =
-    not-ended words acts.past.phy_ticks command (iterate phy_ticked waits.ticks (management_behind (world old)))
-    (management_behind (world new)) management
+    not-ended words acts.past.phy_ticks command (iterate phy_ticked waits.ticks (management_behind (bus.world old)))
+    (management_behind (bus.world new)) management
     (ap (λ (v : ℕ). bit_and v ready_bit) (sym found.shown) ∙ unset) in
     record {
-      asked = asks-both world happened joins old now new 0x0020 (reads + 1) 1 waits.asked
-          (asks-read world happened lively now new 0x0020 value _ acts);
+      asked = asks-both bus joins old now new 0x0020 (reads + 1) 1 waits.asked
+          (asks-read bus now new 0x0020 value _ acts);
       ticks = waits.ticks;
       ticks_are = let before = waits.ticks_are in omega arith;
       ticked = waits.ticked;
@@ -90,35 +89,33 @@ link-stays a b n words ticks is =
     ap (λ (l : Management). l.phy.link) is ∙ link-ticks n (commanded words (iterate phy_ticked ticks a)) ∙ link-ticks ticks a
 
 -- What holds where a read shows R.
-pub record Answered {B : Type 0} (world : B → World) (happened : B → B → Past → Type 0) (lively : B
-    → Type 0) (old new : B) (words value : ℕ) : Type 0 where
-  pub commands : Commands world happened lively old new words (Ok value)
+pub record Answered {B : Type 0} (bus : Ghosts B) (old new : B) (words value : ℕ) : Type 0 where
+  pub commands : Commands bus words (Ok value) old new
   pub right : bit_and value error_bit ≡ 0
 
-pub answered : {B : Type 0} (world : B → World) (happened : B → B → Past → Type 0) (lively : B → Type 0)
-    → ((a b c : B) (s t : Past) → happened a b s → happened b c t → happened a c (joined s t))
-    → (old now new : B) (words reads value : ℕ) → IsCommand words → Waits world happened lively old now words reads
-    → Acts world happened lively now new (Reads 0x0020 value) (λ before after. (value ≡ answer_at 0x0020 before.adapter)
+pub answered : {B : Type 0} (bus : Ghosts B) → StretchesJoin bus
+    → (old now new : B) (words reads value : ℕ) → IsCommand words → Waits bus old now words reads
+    → Acts bus.world bus.happened bus.lively now new (Reads 0x0020 value) (λ before after. (value ≡ answer_at 0x0020 before.adapter)
     × (after ≡ world_after_read 0x0020 before))
-    → bit_and value ready_bit ≢ 0 → Answered world happened lively old new words value
-answered world happened lively joins old now new words reads value command waits acts set =
-    let found = finds world happened lively now new value acts in
-    let a : Management = management_behind (world old) in
-    let b : Management = management_behind (world new) in
+    → bit_and value ready_bit ≢ 0 → Answered bus old new words value
+answered bus joins old now new words reads value command waits acts set =
+    let found = finds bus now new value acts in
+    let a : Management = management_behind (bus.world old) in
+    let b : Management = management_behind (bus.world new) in
     let management : b ≡ iterate phy_ticked acts.past.phy_ticks (commanded words (iterate phy_ticked waits.ticks a)) = found.management
     ∙ ap (iterate phy_ticked acts.past.phy_ticks) waits.management in
-    let both = asks-both world happened joins old now new 0x0020 (reads + 1) 1 waits.asked
-    (asks-read world happened lively now new 0x0020 value _ acts) in
+    let both = asks-both bus joins old now new 0x0020 (reads + 1) 1 waits.asked
+    (asks-read bus now new 0x0020 value _ acts) in
     let shown : bit_and b.mdic.value ready_bit ≢ 0 = λ unset. set (ap (λ (v : ℕ). bit_and v ready_bit) found.shown ∙ unset) in
     let all = both.asks.past.phy_ticks in
     let total : waits.ticks + acts.past.phy_ticks ≡ all = let before = waits.ticks_are in omega arith in
-    let ends = ends-of (lively old) words acts.past.phy_ticks waits.ticks all total command a b waits.ticked management shown in
+    let ends = ends-of (bus.lively old) words acts.past.phy_ticks waits.ticks all total command a b waits.ticked management shown in
     record {
       commands = record {
         asks = both.asks;
         accesses = let often = both.often in omega arith;
         link = link-stays a b acts.past.phy_ticks words waits.ticks management;
-        ends = subst (Ends (lively old) words all a b) (sym found.shown) ends;
+        ends = subst (Ends (bus.lively old) words all a b) (sym found.shown) ends;
         late = tt;
         in_time = λ ticks. refl;
       };
@@ -126,15 +123,15 @@ answered world happened lively joins old now new words reads value command waits
     }
 
 -- What holds where none of 1,000 reads did.
-pub unanswered : {B : Type 0} (world : B → World) (happened : B → B → Past → Type 0) (lively : B → Type 0) (old now : B) (words reads : ℕ)
+pub unanswered : {B : Type 0} (bus : Ghosts B) (old now : B) (words reads : ℕ)
     → 1000 ≤ reads
-    → Waits world happened lively old now words reads → Commands world happened lively old now words (Err PhyTimeout)
-unanswered world happened lively old now words reads many waits =
+    → Waits bus old now words reads → Commands bus words (Err PhyTimeout) old now
+unanswered bus old now words reads many waits =
     let often = waits.asked.often in
     record {
       asks = waits.asked.asks;
       accesses = omega arith;
-      link = link-stays (management_behind (world old)) (management_behind (world now)) 0 words waits.ticks waits.management;
+      link = link-stays (management_behind (bus.world old)) (management_behind (bus.world now)) 0 words waits.ticks waits.management;
       ends = tt;
       late = omega arith;
       in_time = λ ticks. absurd (let none = waits.none_in_vain ticks in omega arith);

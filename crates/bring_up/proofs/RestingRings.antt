@@ -25,9 +25,9 @@ use Rattle.adapter.specs.World.{World, receive_ring, transmit_ring}
 use Rattle.adapter.specs.declared.register.RingRegister.{RingRegister}
 use Rattle.adapter.specs.declared.register.RingRegister.TheVariants.{BaseHigh, BaseLow, Head, Length, Tail}
 use Rattle.adapter.specs.declared.ring.RingRegisters.{RingRegisters}
-use Rattle.bus.specs.PastOfStretch.{Past, joined}
 use Rattle.bus.specs.AdaptersAtRest.{IsAtRest}
 use Rattle.bus.specs.Settings.{Write}
+use Rattle.bus.specs.declared.bus.Bus.{Ghosts}
 use Rattle.bus.proofs.IdleRings.{outstanding-none}
 use Rattle.bus.proofs.Lists.{all-none, pairs-none}
 use Rattle.bus.proofs.AdaptersAtRest.{happenings_keep_rest, rest_is_idle}
@@ -39,7 +39,7 @@ use Rattle.bring_up.specs.RingRegisters.{ring_writes}
 use Rattle.bring_up.proofs.DriverAccesses.{WriteActs}
 use Rattle.bring_up.proofs.RingWrites.{IsRingPlace, high-written, length-written, low-written, receive-written, ring-known, ring_at}
 use Rattle.bring_up.proofs.RingWrites.{still-ring, with_receive_ring}
-use Rattle.bring_up.proofs.Steps.{no-frames, sets-access, sets-join, sets-write}
+use Rattle.bring_up.proofs.Steps.{StretchesJoin, no-frames, sets-access, sets-join, sets-write}
 
 -- At rest, with these registers of the receive ring.
 record HasRing (receives : RingRegisters) (rx : ℕ) (world : World) : Type 0 where
@@ -63,30 +63,28 @@ alone memory rx ring room first short =
     }
 
 -- One register is written.
-rests-write : {B : Type 0} (world : B → World) (happened : B → B → Past → Type 0) (lively : B
-    → Type 0) (old new : B) (part : RingRegister) (value word rx : ℕ) (before after : RingRegisters)
+rests-write : {B : Type 0} (bus : Ghosts B) (old new : B) (part : RingRegister) (value word rx : ℕ) (before after : RingRegisters)
     → value ≡ word → ring_written part word before ≡ after → after.head ≡ after.tail → (ring_of after).base ≡ 0
     → count_of (ring_of after) ≤ rx
-    → WriteActs world happened lively old new (0x2800 + ring_distance part) value
-    → SetsAtRest world happened old new (record { offset = 0x2800 + ring_distance part; value = word } ∷ []) (HasRing before rx)
-    (HasRing after rx)
+    → WriteActs bus old new (0x2800 + ring_distance part) value
+    → SetsAtRest bus (record { offset = 0x2800 + ring_distance part; value = word } ∷ []) (HasRing before rx) (HasRing after rx) old new
 unfolding sets-access sets-write
-rests-write world happened lively old new part value word rx before after is written idle first short acted =
-    let acts = subst (WriteActs world happened lively old new (0x2800 + ring_distance part)) is acted in
+rests-write bus old new part value word rx before after is written idle first short acted =
+    let acts = subst (WriteActs bus old new (0x2800 + ring_distance part)) is acted in
     let middle = acts.middle in
     let steady = acts.before.steady in
     record {
-      sets = sets-write world happened lively old new (0x2800 + ring_distance part) word acts;
-      behind_is = λ state.
-          let rest = (happenings_keep_rest (world old) middle acts.past acts.before state.rest).0 in
+      sets = sets-write bus old new (0x2800 + ring_distance part) word acts;
+      after_is = λ state.
+          let rest = (happenings_keep_rest (bus.world old) middle acts.past acts.before state.rest).0 in
           let receives : middle.adapter.receive_ring ≡ before =
-          still-ring (world old).adapter.receive_ring middle.adapter.receive_ring steady.receive_ring state.rest.rings.receive
+          still-ring (bus.world old).adapter.receive_ring middle.adapter.receive_ring steady.receive_ring state.rest.rings.receive
           rest.rings.receive ∙ state.receives_is in
           let transmits : middle.adapter.transmit_ring ≡ new_ring =
-          still-ring (world old).adapter.transmit_ring middle.adapter.transmit_ring steady.transmit_ring state.rest.rings.transmit
+          still-ring (bus.world old).adapter.transmit_ring middle.adapter.transmit_ring steady.transmit_ring state.rest.rings.transmit
           rest.rings.transmit ∙ state.transmits in
           let room : 16 * rx ≤ length middle.memory = omega (arith, state.room, steady.size) in
-          let done : world new ≡ with_receive_ring after middle =
+          let done : bus.world new ≡ with_receive_ring after middle =
           acts.effect_is ∙ receive-written part word middle
           ∙ ap (λ (ring : RingRegisters). with_receive_ring (ring_written part word ring) middle) receives
           ∙ ap (λ (ring : RingRegisters). with_receive_ring ring middle) written in
@@ -106,32 +104,30 @@ rests-write world happened lively old new part value word rx before after is wri
             transmits = transmits;
             room = room;
           });
-      no_frame = λ state. (happenings_keep_rest (world old) middle acts.past acts.before state.rest).1;
+      no_frame = λ state. (happenings_keep_rest (bus.world old) middle acts.past acts.before state.rest).1;
     }
 
 -- One step, and then another.
-rests-join : {B : Type 0} (world : B → World) (happened : B → B → Past → Type 0)
-    → ((a b c : B) (s t : Past) → happened a b s → happened b c t → happened a c (joined s t))
-    → (a b c : B) (first later : List Write) (P Q R : World → Type 0) → SetsAtRest world happened a b first P Q
-    → SetsAtRest world happened b c later Q R
-    → SetsAtRest world happened a c (first ++ later) P R
+rests-join : {B : Type 0} (bus : Ghosts B) → StretchesJoin bus
+    → (a b c : B) (first later : List Write) (P Q R : World → Type 0) → SetsAtRest bus first P Q a b
+    → SetsAtRest bus later Q R b c
+    → SetsAtRest bus (first ++ later) P R a c
 unfolding sets-join
-rests-join world happened joins a b c first later P Q R one two = record {
-  sets = sets-join world happened joins a b c first later one.sets two.sets;
-  behind_is = λ before. two.behind_is (one.behind_is before);
-  no_frame = λ before. no-frames one.sets.past two.sets.past (one.no_frame before) (two.no_frame (one.behind_is before));
+rests-join bus joins a b c first later P Q R one two = record {
+  sets = sets-join bus joins a b c first later one.sets two.sets;
+  after_is = λ before. two.after_is (one.after_is before);
+  no_frame = λ before. no-frames one.sets.past two.sets.past (one.no_frame before) (two.no_frame (one.after_is before));
 }
 
 -- All five.
-pub rests-ring : {B : Type 0} (world : B → World) (happened : B → B → Past → Type 0) (lively : B → Type 0)
-    → ((a b c : B) (s t : Past) → happened a b s → happened b c t → happened a c (joined s t))
+pub rests-ring : {B : Type 0} (bus : Ghosts B) → StretchesJoin bus
     → (b0 b1 b2 b3 b4 b5 : B) (low high base bytes rx : ℕ) → low ≡ base % 2 ^ 32 → high ≡ base / 2 ^ 32 → base ≡ 0 → bytes ≡ 16 * rx
     → IsRingSize rx
-    → WriteActs world happened lively b0 b1 0x2800 low → WriteActs world happened lively b1 b2 0x2804 high
-    → WriteActs world happened lively b2 b3 0x2808 bytes
-    → WriteActs world happened lively b3 b4 0x2810 0 → WriteActs world happened lively b4 b5 0x2818 0
-    → SetsAtRest world happened b0 b5 (ring_writes 0x2800 base bytes) (HasNewRings rx) (HasReceiveRing rx)
-rests-ring world happened lively joins b0 b1 b2 b3 b4 b5 low high base bytes rx low_is high_is first long size one two three four five =
+    → WriteActs bus b0 b1 0x2800 low → WriteActs bus b1 b2 0x2804 high
+    → WriteActs bus b2 b3 0x2808 bytes
+    → WriteActs bus b3 b4 0x2810 0 → WriteActs bus b4 b5 0x2818 0
+    → SetsAtRest bus (ring_writes 0x2800 base bytes) (HasNewRings rx) (HasReceiveRing rx) b0 b5
+rests-ring bus joins b0 b1 b2 b3 b4 b5 low high base bytes rx low_is high_is first long size one two three four five =
     let place : IsRingPlace base rx = record { sixteens = omega (arith, first); below = omega (arith, first); size = size } in
     let most = size.most in
     let start : (n : ℕ) → (ring_of (ring_at base n)).base ≡ 0 = λ n. omega (arith, first) in
@@ -139,22 +135,22 @@ rests-ring world happened lively joins b0 b1 b2 b3 b4 b5 low high base bytes rx 
     let P = λ (ring : RingRegisters). HasRing ring rx in
     let r0 = ring_at base 0 in
     let r1 = ring_at base bytes in
-    let all = rests-join world happened joins b0 b1 b5 _ _ (P new_ring) (P r0) (P r1)
-    (rests-write world happened lively b0 b1 BaseLow low (base % 2 ^ 32) rx new_ring r0 low_is (low-written base rx place) refl (start 0)
+    let all = rests-join bus joins b0 b1 b5 _ _ (P new_ring) (P r0) (P r1)
+    (rests-write bus b0 b1 BaseLow low (base % 2 ^ 32) rx new_ring r0 low_is (low-written base rx place) refl (start 0)
     (omega arith) one)
-    (rests-join world happened joins b1 b2 b5 _ _ (P r0) (P r0) (P r1)
-    (rests-write world happened lively b1 b2 BaseHigh high (base / 2 ^ 32) rx r0 r0 high_is (high-written base rx place) refl (start 0)
+    (rests-join bus joins b1 b2 b5 _ _ (P r0) (P r0) (P r1)
+    (rests-write bus b1 b2 BaseHigh high (base / 2 ^ 32) rx r0 r0 high_is (high-written base rx place) refl (start 0)
     (omega arith) two)
-    (rests-join world happened joins b2 b3 b5 _ _ (P r0) (P r1) (P r1)
-    (rests-write world happened lively b2 b3 Length bytes bytes rx r0 r1 refl (length-written base rx bytes place long) refl
+    (rests-join bus joins b2 b3 b5 _ _ (P r0) (P r1) (P r1)
+    (rests-write bus b2 b3 Length bytes bytes rx r0 r1 refl (length-written base rx bytes place long) refl
     (start bytes) short three)
-    (rests-join world happened joins b3 b4 b5 _ _ (P r1) (P r1) (P r1)
-    (rests-write world happened lively b3 b4 Head 0 0 rx r1 r1 refl refl refl (start bytes) short four)
-    (rests-write world happened lively b4 b5 Tail 0 0 rx r1 r1 refl refl refl (start bytes) short five)))) in
+    (rests-join bus joins b3 b4 b5 _ _ (P r1) (P r1) (P r1)
+    (rests-write bus b3 b4 Head 0 0 rx r1 r1 refl refl refl (start bytes) short four)
+    (rests-write bus b4 b5 Tail 0 0 rx r1 r1 refl refl refl (start bytes) short five)))) in
     record {
       sets = all.sets;
-      behind_is = λ state.
-          let behind = all.behind_is
+      after_is = λ state.
+          let behind = all.after_is
           (record { rest = state.rest; receives_is = state.receives; transmits = state.transmits; room = state.room }) in
           record {
             rest = behind.rest;

@@ -6,6 +6,7 @@ use Rattle.adapter.specs.World.{World, world_after_read, world_after_write}
 use Rattle.bus.specs.Law.{Acts}
 use Rattle.bus.specs.Link.{HasLink, LeavesPhy}
 use Rattle.bus.specs.PastOfStretch.{Past, joined, nothing}
+use Rattle.bus.specs.declared.bus.Bus.{Ghosts}
 use Rattle.bus.specs.declared.event.Access.{Access}
 use Rattle.bus.specs.declared.event.Access.TheVariants.{Reads, Writes}
 use Rattle.bus.specs.AdaptersAtRest.{IsAtRest, NoFrame}
@@ -16,10 +17,14 @@ use Rattle.bus.proofs.AdaptersAtRest.{accesses_keep_rest, happenings_keep_rest}
 use Rattle.bus.proofs.Settings.{happenings_leave_settings, reads-leave, settings-append, writes-append, writes-set}
 use Rattle.bring_up.specs.SettingSteps.{Asks, IsAside, Sets}
 
+-- What happens in two intervals happens in both together: a law of the bus.
+abbrev pub StretchesJoin : {B : Type 0} → Ghosts B → Type 0
+StretchesJoin {B} bus =
+    (a b c : B) (first later : Past) → bus.happened a b first → bus.happened b c later → bus.happened a c (joined first later)
+
 -- Nothing is done.
-pub sets-nothing : {B : Type 0} (world : B → World) (happened : B → B → Past → Type 0) → ((b : B) → happened b b nothing) → (b : B)
-    → Sets world happened b b []
-sets-nothing world happened stays b = record {
+pub sets-nothing : {B : Type 0} (bus : Ghosts B) → ((b : B) → bus.happened b b nothing) → (b : B) → Sets bus [] b b
+sets-nothing bus stays b = record {
   past = nothing;
   told = stays b;
   writes_are = refl;
@@ -37,15 +42,15 @@ no-frames first later one two = record {
 }
 
 -- Two steps are one.
-unfoldable pub sets-join : {B : Type 0} (world : B → World) (happened : B → B → Past → Type 0)
-    → ((a b c : B) (s t : Past) → happened a b s → happened b c t → happened a c (joined s t))
-    → (a b c : B) (first later : List Write) → Sets world happened a b first → Sets world happened b c later
-    → Sets world happened a c (first ++ later)
-sets-join world happened joins a b c first later one two = record {
+unfoldable pub sets-join : {B : Type 0} (bus : Ghosts B) → StretchesJoin bus
+    → (a b c : B) (first later : List Write) → Sets bus first a b → Sets bus later b c
+    → Sets bus (first ++ later) a c
+sets-join bus joins a b c first later one two = record {
   past = joined one.past two.past;
   told = joins a b c one.past two.past one.told two.told;
   writes_are = writes-append one.past.accesses two.past.accesses ∙ rw (one.writes_are, two.writes_are) refl;
-  settings = two.settings ∙ ap (settings_after_all later) one.settings ∙ sym (settings-append first later (settings_of (world a).adapter));
+  settings =
+      two.settings ∙ ap (settings_after_all later) one.settings ∙ sym (settings-append first later (settings_of (bus.world a).adapter));
   rests = λ aside rest.
       let middle = one.rests (all-left IsAside first later aside) rest in
       let end = two.rests (all-right IsAside first later aside) middle.0 in
@@ -54,60 +59,57 @@ sets-join world happened joins a b c first later one two = record {
 }
 
 -- An access, behind whatever happens before it.
-unfoldable pub sets-access : {B : Type 0} (world : B → World) (happened : B → B → Past → Type 0) (lively : B
-    → Type 0) (old new : B) (access : Access) (effect : World → World → Type 0) (writes : List Write)
-    → (acts : Acts world happened lively old new access effect) → writes_in (access ∷ []) ≡ writes
-    → settings_of (world new).adapter ≡ settings_after_all writes (settings_of acts.middle.adapter)
-    → (All IsAside writes → IsAtRest acts.middle → IsAtRest (world new))
-    → (All LeavesPhy writes → HasLink acts.middle → HasLink (world new)) → Sets world happened old new writes
-sets-access world happened lively old new access effect writes acts are set rests link = record {
+unfoldable pub sets-access : {B : Type 0} (bus : Ghosts B) (old new : B) (access : Access)
+    (effect : World → World → Type 0) (writes : List Write)
+    → (acts : Acts bus.world bus.happened bus.lively old new access effect) → writes_in (access ∷ []) ≡ writes
+    → settings_of (bus.world new).adapter ≡ settings_after_all writes (settings_of acts.middle.adapter)
+    → (All IsAside writes → IsAtRest acts.middle → IsAtRest (bus.world new))
+    → (All LeavesPhy writes → HasLink acts.middle → HasLink (bus.world new)) → Sets bus writes old new
+sets-access bus old new access effect writes acts are set rests link = record {
   past = acts.past;
   told = acts.told;
   writes_are = ap writes_in acts.only ∙ are;
-  settings = set ∙ ap (settings_after_all writes) (happenings_leave_settings (world old) acts.middle acts.past acts.before);
+  settings = set ∙ ap (settings_after_all writes) (happenings_leave_settings (bus.world old) acts.middle acts.past acts.before);
   rests = λ aside rest.
-      let waits = happenings_keep_rest (world old) acts.middle acts.past acts.before rest in
+      let waits = happenings_keep_rest (bus.world old) acts.middle acts.past acts.before rest in
       (rests aside waits.0, waits.1);
-  link = λ leaves up. link leaves (happenings_keep_link (world old) acts.middle acts.past acts.before up);
+  link = λ leaves up. link leaves (happenings_keep_link (bus.world old) acts.middle acts.past acts.before up);
 }
 
-pub sets-read : {B : Type 0} (world : B → World) (happened : B → B → Past → Type 0) (lively : B
-    → Type 0) (old new : B) (offset value : ℕ) (answer : World → Type 0)
-    → Acts world happened lively old new (Reads offset value) (λ before after. answer before × (after ≡ world_after_read offset before))
-    → Sets world happened old new []
-sets-read world happened lively old new offset value answer acts =
-    sets-access world happened lively old new (Reads offset value) _ [] acts refl
+pub sets-read : {B : Type 0} (bus : Ghosts B) (old new : B) (offset value : ℕ) (answer : World → Type 0)
+    → Acts bus.world bus.happened bus.lively old new (Reads offset value)
+    (λ before after. answer before × (after ≡ world_after_read offset before))
+    → Sets bus [] old new
+sets-read bus old new offset value answer acts =
+    sets-access bus old new (Reads offset value) _ [] acts refl
     (ap (λ (w : World). settings_of w.adapter) acts.effect_is.1 ∙ reads-leave offset acts.middle.adapter)
     (λ aside rest. subst IsAtRest (sym acts.effect_is.1) (accesses_keep_rest (Reads offset value) acts.middle tt refl rest))
     (λ leaves link. subst HasLink (sym acts.effect_is.1) (accesses_keep_link (Reads offset value) acts.middle leaves link))
 
-unfoldable pub sets-write : {B : Type 0} (world : B → World) (happened : B → B → Past → Type 0) (lively : B
-    → Type 0) (old new : B) (offset value : ℕ)
-    → Acts world happened lively old new (Writes offset value) (λ before after. after ≡ world_after_write offset value before)
-    → Sets world happened old new (record { offset = offset; value = value } ∷ [])
-sets-write world happened lively old new offset value acts =
+unfoldable pub sets-write : {B : Type 0} (bus : Ghosts B) (old new : B) (offset value : ℕ)
+    → Acts bus.world bus.happened bus.lively old new (Writes offset value) (λ before after. after ≡ world_after_write offset value before)
+    → Sets bus (record { offset = offset; value = value } ∷ []) old new
+sets-write bus old new offset value acts =
     let write : Write = record { offset = offset; value = value } in
-    sets-access world happened lively old new (Writes offset value) _ (write ∷ []) acts refl
+    sets-access bus old new (Writes offset value) _ (write ∷ []) acts refl
     (ap (λ (w : World). settings_of w.adapter) acts.effect_is ∙ writes-set offset value acts.middle.adapter)
     (λ aside rest. subst IsAtRest (sym acts.effect_is)
     (accesses_keep_rest (Writes offset value) acts.middle (all-head IsAside write [] aside) refl rest))
     (λ leaves link. subst HasLink (sym acts.effect_is) (accesses_keep_link (Writes offset value) acts.middle leaves link))
 
 -- A write of a word that is known.
-pub sets-word : {B : Type 0} (world : B → World) (happened : B → B → Past → Type 0) (lively : B
-    → Type 0) (old new : B) (offset value word : ℕ) → value ≡ word
-    → Acts world happened lively old new (Writes offset value) (λ before after. after ≡ world_after_write offset value before)
-    → Sets world happened old new (record { offset = offset; value = word } ∷ [])
-sets-word world happened lively old new offset value word is acts =
-    subst (λ (v : ℕ). Sets world happened old new (record { offset = offset; value = v } ∷ [])) is
-    (sets-write world happened lively old new offset value acts)
+pub sets-word : {B : Type 0} (bus : Ghosts B) (old new : B) (offset value word : ℕ) → value ≡ word
+    → Acts bus.world bus.happened bus.lively old new (Writes offset value) (λ before after. after ≡ world_after_write offset value before)
+    → Sets bus (record { offset = offset; value = word } ∷ []) old new
+sets-word bus old new offset value word is acts =
+    subst (λ (v : ℕ). Sets bus (record { offset = offset; value = v } ∷ []) old new) is
+    (sets-write bus old new offset value acts)
 
 -- What is asked by one register that isn't set.
 
 -- Nothing is asked.
-pub asks-nothing : {B : Type 0} (world : B → World) (happened : B → B → Past → Type 0) → ((b : B) → happened b b nothing)
-    → (b : B) (offset : ℕ) → Asks world happened b b offset
-asks-nothing world happened stays b offset = record {
+pub asks-nothing : {B : Type 0} (bus : Ghosts B) → ((b : B) → bus.happened b b nothing) → (b : B) (offset : ℕ) → Asks bus offset b b
+asks-nothing bus stays b offset = record {
   past = nothing;
   told = stays b;
   only = all-none (λ write. write.offset ≡ offset);
@@ -116,23 +118,22 @@ asks-nothing world happened stays b offset = record {
 }
 
 -- A step that sets is one that asks, where it writes that register alone and leaves the settings.
-pub asks-of : {B : Type 0} (world : B → World) (happened : B → B → Past → Type 0) (old new : B) (offset : ℕ) (writes : List Write)
-    → Sets world happened old new writes
+pub asks-of : {B : Type 0} (bus : Ghosts B) (old new : B) (offset : ℕ) (writes : List Write)
+    → Sets bus writes old new
     → All (λ write. write.offset ≡ offset) writes → All IsAside writes
-    → ((settings : Settings) → settings_after_all writes settings ≡ settings) → Asks world happened old new offset
-asks-of world happened old new offset writes sets only aside same = record {
+    → ((settings : Settings) → settings_after_all writes settings ≡ settings) → Asks bus offset old new
+asks-of bus old new offset writes sets only aside same = record {
   past = sets.past;
   told = sets.told;
   only = subst (All (λ write. write.offset ≡ offset)) (sym sets.writes_are) only;
-  settings = sets.settings ∙ same (settings_of (world old).adapter);
+  settings = sets.settings ∙ same (settings_of (bus.world old).adapter);
   rests = sets.rests aside;
 }
 
 -- Two such steps are one.
-pub asks-join : {B : Type 0} (world : B → World) (happened : B → B → Past → Type 0)
-    → ((a b c : B) (s t : Past) → happened a b s → happened b c t → happened a c (joined s t))
-    → (a b c : B) (offset : ℕ) → Asks world happened a b offset → Asks world happened b c offset → Asks world happened a c offset
-asks-join world happened joins a b c offset one two = record {
+pub asks-join : {B : Type 0} (bus : Ghosts B) → StretchesJoin bus
+    → (a b c : B) (offset : ℕ) → Asks bus offset a b → Asks bus offset b c → Asks bus offset a c
+asks-join bus joins a b c offset one two = record {
   past = joined one.past two.past;
   told = joins a b c one.past two.past one.told two.told;
   only =
@@ -146,22 +147,20 @@ asks-join world happened joins a b c offset one two = record {
 }
 
 -- A write at an offset that is known.
-pub sets-at : {B : Type 0} (world : B → World) (happened : B → B → Past → Type 0) (lively : B
-    → Type 0) (old new : B) (offset place value : ℕ) → offset ≡ place
-    → Acts world happened lively old new (Writes offset value) (λ before after. after ≡ world_after_write offset value before)
-    → Sets world happened old new (record { offset = place; value = value } ∷ [])
-sets-at world happened lively old new offset place value is acts =
-    subst (λ (at : ℕ). Sets world happened old new (record { offset = at; value = value } ∷ [])) is
-    (sets-write world happened lively old new offset value acts)
+pub sets-at : {B : Type 0} (bus : Ghosts B) (old new : B) (offset place value : ℕ) → offset ≡ place
+    → Acts bus.world bus.happened bus.lively old new (Writes offset value) (λ before after. after ≡ world_after_write offset value before)
+    → Sets bus (record { offset = place; value = value } ∷ []) old new
+sets-at bus old new offset place value is acts =
+    subst (λ (at : ℕ). Sets bus (record { offset = at; value = value } ∷ []) old new) is
+    (sets-write bus old new offset value acts)
 
 -- Five writes are one step.
-pub sets-five : {B : Type 0} (world : B → World) (happened : B → B → Past → Type 0)
-    → ((a b c : B) (s t : Past) → happened a b s → happened b c t → happened a c (joined s t))
-    → (b0 b1 b2 b3 b4 b5 : B) (w1 w2 w3 w4 w5 : Write) → Sets world happened b0 b1 (w1 ∷ []) → Sets world happened b1 b2 (w2 ∷ [])
-    → Sets world happened b2 b3 (w3 ∷ [])
-    → Sets world happened b3 b4 (w4 ∷ []) → Sets world happened b4 b5 (w5 ∷ []) → Sets world happened b0 b5 (w1 ∷ w2 ∷ w3 ∷ w4 ∷ w5 ∷ [])
-sets-five world happened joins b0 b1 b2 b3 b4 b5 w1 w2 w3 w4 w5 one two three four five =
-    sets-join world happened joins b0 b1 b5 (w1 ∷ []) _ one
-    (sets-join world happened joins b1 b2 b5 (w2 ∷ []) _ two
-    (sets-join world happened joins b2 b3 b5 (w3 ∷ []) _ three
-    (sets-join world happened joins b3 b4 b5 (w4 ∷ []) (w5 ∷ []) four five)))
+pub sets-five : {B : Type 0} (bus : Ghosts B) → StretchesJoin bus
+    → (b0 b1 b2 b3 b4 b5 : B) (w1 w2 w3 w4 w5 : Write) → Sets bus (w1 ∷ []) b0 b1 → Sets bus (w2 ∷ []) b1 b2
+    → Sets bus (w3 ∷ []) b2 b3
+    → Sets bus (w4 ∷ []) b3 b4 → Sets bus (w5 ∷ []) b4 b5 → Sets bus (w1 ∷ w2 ∷ w3 ∷ w4 ∷ w5 ∷ []) b0 b5
+sets-five bus joins b0 b1 b2 b3 b4 b5 w1 w2 w3 w4 w5 one two three four five =
+    sets-join bus joins b0 b1 b5 (w1 ∷ []) _ one
+    (sets-join bus joins b1 b2 b5 (w2 ∷ []) _ two
+    (sets-join bus joins b2 b3 b5 (w3 ∷ []) _ three
+    (sets-join bus joins b3 b4 b5 (w4 ∷ []) (w5 ∷ []) four five)))

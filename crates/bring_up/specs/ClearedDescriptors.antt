@@ -3,11 +3,11 @@ use Rattle.std.specs.Prelude.{◌+◌, ◌*◌, ◌++◌, ℕ, zero, suc, List, 
 use Rattle.bus.specs.declared.event.Access.{Access}
 use Rattle.bus.specs.declared.event.Access.TheVariants.{Stores}
 
--- 16 zero bytes are stored at an address
+-- a store of 16 zero bytes at an address
 abbrev pub clears : ℕ → Access
 clears address = Stores address (replicate 16 0)
 
--- so many descriptors are cleared, from an address on
-abbrev pub clears_from : (first : ℕ) → ℕ → List Access
+-- the stores that clear `count` descriptors, from an address on
+abbrev pub clears_from : (first count : ℕ) → List Access
 clears_from first zero = []
 clears_from first (suc k) = clears_from first k ++ clears (first + 16 * k) ∷ []

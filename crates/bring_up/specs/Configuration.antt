@@ -1,4 +1,4 @@
--- Which configurations can be had (own, where the manual doesn't say).
+-- Which configurations are valid (our choice where the manual doesn't say).
 use Rattle.std.specs.Prelude.{◌≤◌, ◌<◌, ℕ, List, [], All, Option, None, Some}
 use Rattle.dma_memory.specs.Layout.{Counts, IsAllowed, size_of}
 use Rattle.rx_engine.specs.Addresses.{IsGroup}
@@ -15,13 +15,13 @@ abbrev pub vlans_of : Option (ArrayVec ℕ 32 (Unit {0})) → List ℕ
 vlans_of None = []
 vlans_of (Some vlans) = vlans.items
 
--- RXA, the groups and the VLANs are allowed.
+-- RXA, the groups and the VLANs are valid.
 pub record HasRightNumbers (config : Config) : Type 0 where
   pub allocation : IsAllocation config.rxa
   pub groups : All IsGroup config.groups.items
   pub vlans : All (λ vlan. vlan < 4096) (vlans_of config.vlans)
 
--- It can be had in a memory of so many bytes.
+-- It is valid in a memory of this size, in bytes.
 pub record CanBeHad (config : Config) (size : ℕ) : Type 0 where
   pub counts : IsAllowed (counts_of config)
   pub numbers : HasRightNumbers config

@@ -1,4 +1,4 @@
--- What an adapter is set to behind bring-up, by its configuration and its Ethernet address, whatever else happened meanwhile.
+-- What an adapter is set to after initialization, by its configuration and its Ethernet address, whatever else happened meanwhile.
 use Rattle.std.specs.Prelude.{◌≡◌, ◌<◌, ◌+◌, ◌-◌, ◌*◌, ◌^◌, ◌++◌, ℕ, Bool, true, false, List, ◌∷◌, [], All, Option, None, Some, length}
 use Rattle.std.specs.Prelude.{replicate}
 use Rattle.adapter.specs.declared.offsets.TheConstants.{MTA, RDBAL, RDT, TDBAL, VFTA}
@@ -27,10 +27,10 @@ names_vlans (Some vlans) = true
 abbrev pub AreWords : List ℕ → Type 0
 AreWords words = All (λ word. word < 2 ^ 32) words
 
--- All writes of registers in order, but for those of EERD and MDIC, which ask and set nothing. The tables are those of the configured
--- groups and VLANs.
+-- All writes of registers in order, except those of EERD and MDIC, which set nothing. The tables are those of the configured groups and
+-- VLANs.
 
--- those before the rings'
+-- the writes before those of the rings
 abbrev pub writes_before_rings : Config → (address groups vlans : List ℕ) → List Write
 writes_before_rings config address groups vlans =
     reset_writes
@@ -40,7 +40,7 @@ writes_before_rings config address groups vlans =
     ++ (table_writes VFTA vlans
     ++ address_writes address))))
 
--- and those from there on
+-- the writes from those of the rings on
 abbrev pub writes_from_rings : Config → List Write
 writes_from_rings config =
     ring_writes RDBAL 0 (16 * config.rx)
@@ -53,7 +53,7 @@ writes_from_rings config =
 abbrev pub all_writes : Config → (address groups vlans : List ℕ) → List Write
 all_writes config address groups vlans = writes_before_rings config address groups vlans ++ writes_from_rings config
 
--- So the registers stand then.
+-- The values of the registers after initialization.
 pub record IsConfigured (config : Config) (address : List ℕ) (settings : Settings) : Type 0 where
   -- CTRL: SLU and ASDE
   pub device_control : settings.device_control ≡ link_control
@@ -65,7 +65,7 @@ pub record IsConfigured (config : Config) (address : List ℕ) (settings : Setti
   pub mask : settings.mask ≡ handled_causes
   pub groups : HasNumbers settings.filter.mta (numbers_of_groups config.groups.items)
   pub vlans : HasNumbers settings.filter.vfta (vlans_of config.vlans)
-  -- The address is the first exact one, and valid; the other 15 entries are 0.
+  -- The first exact address is this one, and valid; the other 15 entries are 0.
   pub address_low : settings.filter.ral ≡ low_word address ∷ replicate 15 0
   pub address_high : settings.filter.rah ≡ (high_word address + alone rah_av) ∷ replicate 15 0
   pub vlan_type : settings.filter.vet ≡ VLAN_TYPE
@@ -77,7 +77,7 @@ pub record IsConfigured (config : Config) (address : List ℕ) (settings : Setti
   pub transmit_count : count_of (ring_of settings.transmit_ring) ≡ config.tx
   pub transmit_tail : settings.transmit_ring.tail ≡ 0
 
--- The writes of bring-up configure an adapter, whatever it was set to, and leave its EEPROM.
+-- The writes of initialization configure an adapter, whatever it was set to, and leave its EEPROM.
 abbrev pub WritesConfigure : Type 0
 WritesConfigure =
     (config : Config) (address groups vlans : List ℕ) (size : ℕ) (settings : Settings)
@@ -86,13 +86,13 @@ WritesConfigure =
     → IsConfigured config address (settings_after_all (all_writes config address groups vlans) settings)
     × ((settings_after_all (all_writes config address groups vlans) settings).image ≡ settings.image)
 
--- None of those before the rings' is of RCTL or of a ring's register, where the tables have 128 words.
+-- If the tables have 128 words, no write before those of the rings is of RCTL or of a ring's register.
 abbrev pub RingsComeLast : Type 0
 RingsComeLast =
     (config : Config) (address groups vlans : List ℕ) → length groups ≡ 128 → length vlans ≡ 128
     → All IsAside (writes_before_rings config address groups vlans)
 
--- None of those of the filter, nor of the rings and behind them, is of CTRL or of MDIC.
+-- If the tables have 128 words, no write of the filter, and none from those of the rings on, is of CTRL or MDIC.
 abbrev pub LinkComesFirst : Type 0
 LinkComesFirst =
     (config : Config) (address groups vlans : List ℕ) → length groups ≡ 128 → length vlans ≡ 128

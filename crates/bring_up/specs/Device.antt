@@ -1,4 +1,4 @@
--- What a driver knows of a device that it has found.
+-- What a driver knows of a device that it has found, and why it finds none.
 use Rattle.std.specs.Prelude.{⊤, ◌≡◌, ◌≤◌, ◌++◌, ◌*◌, ℕ, List, Result, IfErr, IfOk, length}
 use Rattle.eeprom.specs.Image.{HasRightSum}
 use Rattle.adapter.specs.World.{World}
@@ -6,6 +6,7 @@ use Rattle.bus.specs.Link.{HasLink}
 use Rattle.bus.specs.PastOfStretch.{Past}
 use Rattle.bus.specs.AdaptersAtRest.{IsAtRest}
 use Rattle.bus.specs.Settings.{settings_after_all, settings_of}
+use Rattle.bus.specs.declared.bus.Bus.{Ghosts}
 use Rattle.bring_up.specs.EepromReading.{most_reads}
 use Rattle.bring_up.specs.Link.{NeedsMoreThan}
 use Rattle.bring_up.specs.WrittenRegisters.{allocation_writes, link_writes, reset_writes}
@@ -13,23 +14,23 @@ use Rattle.bring_up.specs.declared.init_error.InitError.{InitError}
 use Rattle.bring_up.specs.declared.init_error.InitError.TheVariants.{Checksum, EepromTimeout, Memory, NoLink, PhyTimeout}
 use Rattle.bring_up.specs.declared.init_error.InitError.TheVariants as errors
 
--- Want of memory, and a configuration that can't be had, come before any access; every other error is the device's.
+-- E10 and E15 are returned before any access; every other error is the device's.
 abbrev pub IsBeforeAccess : InitError → Type 0
 IsBeforeAccess Memory = ⊤
 IsBeforeAccess errors.Config = ⊤
 IsBeforeAccess error = ⊥
 
--- The image is the adapter's, and its sum is right; the adapter is at rest, set to this, and its link is up.
-pub record IsFound {B : Type 0} (world : B → World) (old new : B) (kilobytes : ℕ) (image : List ℕ) : Type 0 where
-  pub image_is : image ≡ (world old).adapter.image
+-- The image is the adapter's, and its checksum is right. The adapter is at rest and has these settings, and its link is up.
+pub record IsFound {B : Type 0} (bus : Ghosts B) (kilobytes : ℕ) (old new : B) (image : List ℕ) : Type 0 where
+  pub image_is : image ≡ (bus.world old).adapter.image
   pub sum_is_right : HasRightSum image
-  pub rests : IsAtRest (world new)
-  pub settings : settings_of (world new).adapter ≡ settings_after_all (reset_writes ++ (allocation_writes kilobytes ++ link_writes))
-      (settings_of (world old).adapter)
-  pub up : HasLink (world new)
+  pub rests : IsAtRest (bus.world new)
+  pub settings : settings_of (bus.world new).adapter ≡ settings_after_all (reset_writes ++ (allocation_writes kilobytes ++ link_writes))
+      (settings_of (bus.world old).adapter)
+  pub up : HasLink (bus.world new)
 
--- Why a device isn't found, by the error: over a bus that obeys the law E12 comes only where the sum is wrong, and a time-out only behind
--- so many accesses.
+-- Why a device isn't found, by the error: E12 is returned only if the checksum is wrong, E11 and E13 after at least 1,000 accesses, and
+-- E14 after at least 2,000.
 abbrev pub IsErrorOf : InitError → (image : List ℕ) (accesses : ℕ) → Type 0
 IsErrorOf EepromTimeout image accesses = most_reads ≤ accesses
 IsErrorOf Checksum image accesses = ¬ (HasRightSum image)
@@ -38,8 +39,8 @@ IsErrorOf NoLink image accesses = 2 * most_reads ≤ accesses
 IsErrorOf Memory image accesses = ⊥
 IsErrorOf errors.Config image accesses = ⊥
 
--- Over a lively bus no time-out comes, and a link that comes up within 2,000 ticks is always seen; so a wrong sum is always
--- told, as no other error is left for it, and Ok wants a right one.
+-- Over a lively bus E11 and E13 are never returned, and a link that comes up within 2,000 ticks is always seen. So E12 is always returned
+-- if the checksum is wrong: no other error is left then, and Ok needs a right one.
 abbrev pub IsErrorOfLively : InitError → World → Type 0
 IsErrorOfLively EepromTimeout before = ⊥
 IsErrorOfLively Checksum before = ⊤
@@ -49,11 +50,9 @@ IsErrorOfLively Memory before = ⊤
 IsErrorOfLively errors.Config before = ⊤
 
 -- A device is looked for.
-pub record FindsDevice {B : Type 0} (world : B → World) (happened : B → B → Past → Type 0) (lively : B → Type 0) (old new : B)
-    (kilobytes : ℕ)
-    (result : Result (List ℕ) InitError) : Type 0 where
+pub record FindsDevice {B : Type 0} (bus : Ghosts B) (kilobytes : ℕ) (result : Result (List ℕ) InitError) (old new : B) : Type 0 where
   pub past : Past
-  pub told : happened old new past
-  pub found : IfOk result (IsFound world old new kilobytes)
-  pub why : IfErr result (λ error. IsErrorOf error (world old).adapter.image (length past.accesses))
-  pub why_lively : lively old → IfErr result (λ error. IsErrorOfLively error (world old))
+  pub told : bus.happened old new past
+  pub found : IfOk result (IsFound bus kilobytes old new)
+  pub why : IfErr result (λ error. IsErrorOf error (bus.world old).adapter.image (length past.accesses))
+  pub why_lively : bus.lively old → IfErr result (λ error. IsErrorOfLively error (bus.world old))

@@ -1,63 +1,78 @@
--- What the steps of bring-up behind the receive ring leave of what a driver knows (own).
+-- What the steps after the receive ring is set up leave of what a driver knows (our choice).
 use Rattle.std.specs.Prelude.{◌≡◌, ◌⊎◌, ◌*◌, ◌++◌, ℕ, Bool, true, false, List, [], ◌∷◌, map}
-use Rattle.adapter.specs.declared.offsets.TheConstants.{IMS}
 use Rattle.registers.specs.Bits.{HasBit}
+use Rattle.registers.specs.Places.{rxt0}
+use Rattle.dma_memory.specs.Layout.{IsRingSize}
 use Rattle.adapter.specs.HostFrames.{frames_held}
 use Rattle.adapter.specs.KnownRing.{KnowsRing}
+use Rattle.adapter.specs.Rings.{new_ring}
 use Rattle.adapter.specs.Slots.{finished}
 use Rattle.adapter.specs.World.{World, transmit_ring}
+use Rattle.adapter.specs.declared.offsets.TheConstants.{IMS}
 use Rattle.bus.specs.Link.{KeepsLink}
 use Rattle.bus.specs.PastOfStretch.{Past}
 use Rattle.bus.specs.Settings.{AreSet, NoArrival, WhileOff, Write}
+use Rattle.bus.specs.declared.bus.Bus.{Ghosts}
 use Rattle.bus.specs.declared.event.Access.{Access}
 use Rattle.bus.specs.declared.event.Access.TheVariants.{Writes}
 use Rattle.driver_law.specs.Beginnings.{Enabled}
+use Rattle.driver_law.specs.Calls.{Ran, at, only}
 use Rattle.driver_law.specs.DriverState.{DriverState}
-use Rattle.driver_law.specs.Stretches.{Goes, HasNoForgottenWork, RanBy}
 use Rattle.driver_law.specs.ReadyDrivers.{Ready}
-use Rattle.registers.specs.Places.{rxt0}
+use Rattle.driver_law.specs.Stretches.{Goes, HasNoForgottenWork}
 
 -- these writes, and no other access
 abbrev pub accesses_of : List Write → List Access
 accesses_of writes = map (λ (write : Write). Writes write.offset write.value) writes
 
--- A stretch over a bus with exactly these writes leaves the driver as it is, and takes and gives no frame; its transmit side is set up
--- behind it, or off.
-abbrev pub LeavesDriver : (up : Bool) {B : Type 0} (world : B → World) (happened : B → B → Past → Type 0) (writes : List Write)
-    (old new : B) → DriverState → Type 0
-LeavesDriver up world happened writes old new d = RanBy up world happened (accesses_of writes) old new d d [] []
+-- The accesses are exactly these writes. The driver doesn't change, and no frame is taken or accepted. After the writes its transmit side
+-- is set up if `up`, and else off.
+abbrev pub LeavesDriver : {B : Type 0} → Ghosts B → List Write → (up : Bool) → DriverState → (old new : B) → Type 0
+LeavesDriver bus writes up d old new = Ran bus up (only (accesses_of writes)) (at old d) (at new d)
 
--- Frames are let in by these writes where none was held: none is held behind them, no slot is finished, and none came meanwhile.
-pub record LetsFramesIn {B : Type 0} (world : B → World) (happened : B → B → Past → Type 0) (writes : List Write) (old new : B)
-    (d : DriverState) : Type 0 where
-  pub ran : LeavesDriver false world happened writes old new d
-  pub none_held : frames_held d.oldest_receive (world new) ≡ []
-  pub none_finished : finished d.oldest_receive (world new) ≡ []
+-- These writes enable the receiver of a driver that holds no frame. None is held after them, no slot is finished, and no frame arrived
+-- meanwhile.
+pub record LetsFramesIn {B : Type 0} (bus : Ghosts B) (writes : List Write) (d : DriverState) (old new : B) : Type 0 where
+  pub ran : LeavesDriver bus writes false d old new
+  pub none_held : frames_held d.oldest_receive (bus.world new) ≡ []
+  pub none_finished : finished d.oldest_receive (bus.world new) ≡ []
   pub no_arrival : NoArrival ran.past
 
--- The transmit ring is set up by these writes, with no slot offered: the driver knows it.
-pub record SetsTransmitRing {B : Type 0} (world : B → World) (happened : B → B → Past → Type 0) (writes : List Write) (old new : B)
-    (d : DriverState) : Type 0 where
-  pub ran : LeavesDriver false world happened writes old new d
-  pub knows : KnowsRing (transmit_ring (world new)) (16 * d.counts.rx) d.counts.tx 0
+-- The transmit ring can be set up: it is as a reset leaves it, the sizes of both rings are valid, and it begins after the receive ring.
+pub record CanSetTransmitRing (base bytes : ℕ) (d : DriverState) (world : World) : Type 0 where
+  pub oldest : d.oldest_transmit ≡ 0
+  pub new : world.adapter.transmit_ring ≡ new_ring
+  pub receive_size : IsRingSize d.counts.rx
+  pub transmit_size : IsRingSize d.counts.tx
+  pub begins : base ≡ 16 * d.counts.rx
+  pub long : bytes ≡ 16 * d.counts.tx
 
--- Causes are enabled by one write of IMS: something happens, and then the mask alone changes.
-pub record EnablesCauses {B : Type 0} (world : B → World) (happened : B → B → Past → Type 0) (causes : ℕ) (old new : B)
-    (d : DriverState) : Type 0 where
+-- These writes set up the transmit ring, with no slot offered: the driver knows it.
+pub record SetsTransmitRing {B : Type 0} (bus : Ghosts B) (writes : List Write) (d : DriverState) (old new : B) : Type 0 where
+  pub ran : LeavesDriver bus writes false d old new
+  pub knows : KnowsRing (transmit_ring (bus.world new)) (16 * d.counts.rx) d.counts.tx 0
+
+-- The accesses are exactly these. The settings are what the writes among them make of them, no frame arrives while RCTL.EN is 0, and a
+-- link that is up stays up if CTRL and MDIC aren't written.
+pub record Accessed {B : Type 0} (bus : Ghosts B) (accesses : List Access) (old new : B) : Type 0 where
   pub past : Past
-  pub told : happened old new past
-  pub only : past.accesses ≡ Writes IMS causes ∷ []
-  pub set : AreSet (world old) (world new) past
-  pub off : WhileOff (world old) past
-  pub link : KeepsLink (world old) (world new) past
-  -- where the write begins
+  pub told : bus.happened old new past
+  pub only : past.accesses ≡ accesses
+  pub set : AreSet (bus.world old) (bus.world new) past
+  pub off : WhileOff (bus.world old) past
+  pub link : KeepsLink (bus.world old) (bus.world new) past
+
+-- One write of IMS enables causes. First something happens, and then the mask alone changes.
+pub record EnablesCauses {B : Type 0} (bus : Ghosts B) (causes : ℕ) (d : DriverState) (old new : B) : Type 0 where
+  pub accessed : Accessed bus (Writes IMS causes ∷ []) old new
+  -- the world in which the write begins
   pub middle : World
-  pub goes : Goes d (world old) d middle [] [] past
-  pub enabled : Enabled true d causes middle (world new)
-  -- So the driver is ready, the frames held are those before and those stored, and RXT0 is enabled;
-  pub ready : Ready d (world new)
-  pub holds : frames_held d.oldest_receive (world new) ≡ frames_held d.oldest_receive (world old) ++ past.stored
-  pub mask : HasBit (world new).adapter.causes.mask rxt0
-  -- and no work is forgotten, where no slot was finished before it, or RXT0 was recorded.
-  pub work : (finished d.oldest_receive (world old) ≡ []) ⊎ HasBit (world old).adapter.causes.recorded rxt0
-      → HasNoForgottenWork d (world new)
+  pub goes : Goes d (bus.world old) d middle [] [] accessed.past
+  pub enabled : Enabled true d causes middle (bus.world new)
+  -- The driver is ready, the frames held are those before and those stored meanwhile, and RXT0 is enabled.
+  pub ready : Ready d (bus.world new)
+  pub holds : frames_held d.oldest_receive (bus.world new) ≡ frames_held d.oldest_receive (bus.world old) ++ accessed.past.stored
+  pub mask : HasBit (bus.world new).adapter.causes.mask rxt0
+  -- No work is forgotten, if no slot was finished before the write or RXT0 was recorded.
+  pub work : (finished d.oldest_receive (bus.world old) ≡ []) ⊎ HasBit (bus.world old).adapter.causes.recorded rxt0
+      → HasNoForgottenWork d (bus.world new)

@@ -2,8 +2,7 @@
 use Rattle.std.specs.Prelude.{◌++◌, ℕ, List}
 use Rattle.adapter.specs.declared.offsets.TheConstants.{MTA, VFTA}
 use Rattle.rx_engine.specs.Addresses.{IsAddress}
-use Rattle.adapter.specs.World.{World}
-use Rattle.bus.specs.PastOfStretch.{Past}
+use Rattle.bus.specs.declared.bus.Bus.{Ghosts}
 use Rattle.bring_up.specs.Configuration.{vlans_of}
 use Rattle.bring_up.specs.ConfiguredAdapters.{AreWords}
 use Rattle.bring_up.specs.FilterTables.{HasNumbers, address_writes, numbers_of_groups, table_writes}
@@ -11,11 +10,11 @@ use Rattle.bring_up.specs.SettingSteps.{Sets}
 use Rattle.bring_up.specs.declared.config.Config.{Config}
 
 -- The tables are written with the bits of the configured groups and VLANs, and then the addresses.
-pub record SetsFilter {B : Type 0} (world : B → World) (happened : B → B → Past → Type 0) (old new : B) (config : Config)
-    (address : List ℕ) : Type 0 where
+pub record SetsFilter {B : Type 0} (bus : Ghosts B) (config : Config) (address : List ℕ) (old new : B) : Type 0 where
+  -- the words of both tables
   pub groups : List ℕ
   pub vlans : List ℕ
-  pub sets : Sets world happened old new (table_writes MTA groups ++ (table_writes VFTA vlans ++ address_writes address))
+  pub sets : Sets bus (table_writes MTA groups ++ (table_writes VFTA vlans ++ address_writes address)) old new
   pub has_groups : HasNumbers groups (numbers_of_groups config.groups.items)
   pub has_vlans : HasNumbers vlans (vlans_of config.vlans)
   pub groups_are : AreWords groups

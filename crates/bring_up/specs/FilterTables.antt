@@ -1,6 +1,6 @@
--- What bring-up writes into the tables of the receive filter ("13.5.1 Multicast Table Array", "13.5.2 Receive Address Low", "13.5.3 Receive
--- Address High", "13.5.4 VLAN Filter Table Array").
-use Rattle.std.specs.Prelude.{◌≡◌, ◌<◌, ◌↔◌, ◌+◌, ◌*◌, ◌^◌, ◌++◌, ℕ, zero, suc, List, [], ◌∷◌, length, map}
+-- What initialization writes into the tables of the receive filter ("13.5.1 Multicast Table Array", "13.5.2 Receive Address Low", "13.5.3
+-- Receive Address High", "13.5.4 VLAN Filter Table Array").
+use Rattle.std.specs.Prelude.{◌≡◌, ◌<◌, ◌↔◌, ◌+◌, ◌*◌, ◌++◌, ℕ, zero, suc, List, [], ◌∷◌, length, map}
 use Rattle.std.specs.List.{Contains}
 use Rattle.adapter.specs.declared.offsets.TheConstants.{RAL}
 use Rattle.registers.specs.Places.{alone, rah_av}
@@ -14,24 +14,24 @@ pub record HasNumbers (table numbers : List ℕ) : Type 0 where
   pub words : length table ≡ 128
   pub bits : (number : ℕ) → number < 4096 → HasTableBit table number ↔ Contains numbers number
 
--- the numbers of groups, by RCTL.MO 00
+-- the numbers of groups if RCTL.MO is 00
 abbrev pub numbers_of_groups : List (List ℕ) → List ℕ
 numbers_of_groups groups = map (group_number 4) groups
 
--- the words of a table, from an offset on
+-- the writes of the words of a table, from an offset on
 abbrev pub table_writes : ℕ → List ℕ → List Write
 table_writes offset [] = []
 table_writes offset (word ∷ later) = write_at offset word ∷ table_writes (offset + 4) later
 
--- an entry of the exact addresses
+-- the two writes of an entry of the exact addresses
 abbrev pub entry_writes : ℕ → ℕ → ℕ → List Write
 entry_writes entry low high = write_at (RAL + 8 * entry) low ∷ write_at (RAL + 4 + 8 * entry) high ∷ []
 
--- so many entries of 0, from one on
-abbrev pub empty_entries : ℕ → ℕ → List Write
+-- the writes of `count` entries with 0, from an entry on
+abbrev pub empty_entries : (entry count : ℕ) → List Write
 empty_entries entry zero = []
 empty_entries entry (suc count) = entry_writes entry 0 0 ++ empty_entries (entry + 1) count
 
--- the first entry holds the address and is valid, and the other 15 are 0
+-- the first entry has the address and is valid; the other 15 are 0
 abbrev pub address_writes : List ℕ → List Write
 address_writes address = entry_writes 0 (low_word address) (high_word address + alone rah_av) ++ empty_entries 1 15

@@ -1,4 +1,4 @@
--- What bring-up asks of the PHY, and what its link is then.
+-- What initialization asks of the PHY, and the state of the link then.
 use Rattle.std.specs.Prelude.{⊤, ◌≡◌, ◌≢◌, ◌≤◌, ◌<◌, ◌+◌, ◌*◌, ◌⊎◌, ℕ, true, Err, None, Result, IfErr, IfOk, IsOk, length}
 use Rattle.std.specs.Fn.{iterate}
 use Rattle.adapter.specs.declared.offsets.TheConstants.{MDIC}
@@ -10,37 +10,36 @@ use Rattle.mdic_phy.specs.Places.{control_enable, control_restart, mdic_op, mdic
 use Rattle.registers.specs.Bits.{HasBit}
 use Rattle.registers.specs.Places.{alone}
 use Rattle.adapter.specs.State.{AdapterState}
-use Rattle.adapter.specs.World.{World}
 use Rattle.bring_up.specs.EepromReading.{most_reads}
 use Rattle.bus.specs.Law.{Management, management_of, phy_ticked}
 use Rattle.bus.specs.Link.{HasLink}
-use Rattle.bus.specs.PastOfStretch.{Past}
+use Rattle.bus.specs.declared.bus.Bus.{Ghosts}
 use Rattle.bring_up.specs.declared.init_error.InitError.{InitError}
 use Rattle.bring_up.specs.declared.init_error.InitError.TheVariants.{NoLink, PhyTimeout}
 use Rattle.bring_up.specs.SettingSteps.{Asks}
 use Rattle.mdic_phy.specs.Places.{status_complete, status_link}
 
--- a PHY with this link, when its negotiation has been enabled and started
+-- a PHY with this link, whose negotiation was enabled and started
 abbrev pub started : Link → PhyState
 started link = record { link = link; negotiation_enabled = true; negotiation = negotiation_of link; latched_low = true }
 
--- Negotiation was started, and since then ticks alone came to the PHY. No command waits for its end.
+-- Negotiation was started, and since then only ticks came to the PHY. No command is pending.
 pub record IsNegotiating (adapter : AdapterState) : Type 0 where
   pub ticks : ℕ
   pub phy : adapter.phy ≡ iterate after_tick ticks (started adapter.phy.link)
   pub no_command : adapter.mdic.pending ≡ None
 
--- the link needs more ticks than these, or never comes up
+-- the link needs more than this number of ticks, or never comes up
 abbrev pub NeedsMoreThan : ℕ → Link → Type 0
 NeedsMoreThan ticks (After d) = ticks < d
 NeedsMoreThan ticks Never = ⊤
 
--- A command to the PHY, which has the address 1: its operation, the PHY's register, and the data (13.4.7 "MDI Control Register").
+-- a command to the PHY, which has address 1: the operation, the PHY's register, and the data ("13.4.7 MDI Control Register")
 abbrev pub command_word : (operation register word : ℕ) → ℕ
 command_word operation register word = operation * alone mdic_op + alone mdic_phyadd + register * alone mdic_regadd + word
 
--- The two that bring-up gives: a write (01b) of the control register, which enables negotiation and restarts it, and a read (10b) of the
--- status register (IEEE 802.3, 22.2.4).
+-- The two commands of initialization (IEEE 802.3, 22.2.4): a write (01b) of the control register, which enables negotiation and restarts
+-- it, and a read (10b) of the status register.
 abbrev pub restart_word : ℕ
 restart_word = command_word 1 0 (alone control_enable + alone control_restart)
 
@@ -50,52 +49,55 @@ status_word = command_word 2 1 0
 abbrev pub IsCommand : ℕ → Type 0
 IsCommand word = (word ≡ restart_word) ⊎ (word ≡ status_word)
 
--- Of so many ticks in all some came before a command was given, the next one ended it, and the others came later. MDIC reads this answer.
-pub record Ends (lively : Type 0) (word all : ℕ) (a b : Management) (answer : ℕ) : Type 0 where
-  pub ticks : ℕ
+-- The ticks around a command: of `all` ticks some came before it was given, the next one ended it, and the others came later.
+pub record TicksOfCommand (lively : Type 0) (all : ℕ) : Type 0 where
+  pub before : ℕ
   pub later : ℕ
-  pub all_are : ticks + 1 + later ≡ all
-  pub ticked : lively → 1 ≤ ticks
+  pub all_are : before + 1 + later ≡ all
+  pub some : lively → 1 ≤ before
+
+-- A command ended between two moments of MDIC and the PHY, and MDIC reads this answer.
+pub record Ends (lively : Type 0) (word all : ℕ) (a b : Management) (answer : ℕ) : Type 0 where
+  pub ticks : TicksOfCommand lively all
   -- the PHY when the tick that ends the command has lowered its count
   pub phy : PhyState
-  pub counted : phy ≡ after_tick (iterate phy_ticked ticks a).phy
+  pub counted : phy ≡ after_tick (iterate phy_ticked ticks.before a).phy
   pub answers : answer ≡ ended (operation_of word) (kept word) phy
   pub mdic : b.mdic ≡ record { value = answer; pending = None }
-  pub leaves : b.phy ≡ iterate after_tick later (phy_ended (operation_of word) (kept word) phy)
+  pub leaves : b.phy ≡ iterate after_tick ticks.later (phy_ended (operation_of word) (kept word) phy)
 
--- A command over an honest bus.
-pub record Commands {B : Type 0} (world : B → World) (happened : B → B → Past → Type 0) (lively : B → Type 0) (old new : B) (word : ℕ)
-    (result : Result ℕ InitError) : Type 0 where
-  pub asks : Asks world happened old new MDIC
+-- A command is given, and its end awaited.
+pub record Commands {B : Type 0} (bus : Ghosts B) (word : ℕ) (result : Result ℕ InitError) (old new : B) : Type 0 where
+  pub asks : Asks bus MDIC old new
   pub accesses : 2 ≤ length asks.past.accesses
-  pub link : (world new).adapter.phy.link ≡ (world old).adapter.phy.link
-  pub ends : IfOk result
-      (Ends (lively old) word asks.past.phy_ticks (management_of (world old).adapter) (management_of (world new).adapter))
+  pub link : (bus.world new).adapter.phy.link ≡ (bus.world old).adapter.phy.link
+  -- Ok has the answer of the command, which has ended.
+  pub ends : IfOk result (Ends (bus.lively old) word asks.past.phy_ticks (management_of (bus.world old).adapter)
+      (management_of (bus.world new).adapter))
   pub late : IfErr result (λ error. most_reads ≤ length asks.past.accesses)
-  pub in_time : lively old → IsOk result
+  pub in_time : bus.lively old → IsOk result
 
--- Negotiation is started over an honest bus.
-pub record Negotiates {B : Type 0} (world : B → World) (happened : B → B → Past → Type 0) (lively : B → Type 0) (old new : B)
-    (result : Result (Unit {0}) InitError) : Type 0 where
-  pub asks : Asks world happened old new MDIC
-  pub link : (world new).adapter.phy.link ≡ (world old).adapter.phy.link
-  -- It was started in this call: more ticks fell here than since its start.
-  pub started : IfOk result (λ done. (begun : IsNegotiating (world new).adapter) × (begun.ticks < asks.past.phy_ticks))
+-- Negotiation is started.
+pub record Negotiates {B : Type 0} (bus : Ghosts B) (result : Result (Unit {0}) InitError) (old new : B) : Type 0 where
+  pub asks : Asks bus MDIC old new
+  pub link : (bus.world new).adapter.phy.link ≡ (bus.world old).adapter.phy.link
+  -- Ok: it was started in this call, since more ticks came in the call than since its start.
+  pub started : IfOk result (λ done. (begun : IsNegotiating (bus.world new).adapter) × (begun.ticks < asks.past.phy_ticks))
   pub late : IfErr result (λ error. most_reads ≤ length asks.past.accesses)
-  pub in_time : lively old → IsOk result
+  pub in_time : bus.lively old → IsOk result
 
--- The link is awaited over an honest bus.
-pub record AwaitsLink {B : Type 0} (world : B → World) (happened : B → B → Past → Type 0) (lively : B → Type 0) (old new : B)
-    (result : Result (Unit {0}) InitError) : Type 0 where
-  pub asks : Asks world happened old new MDIC
-  pub link : (world new).adapter.phy.link ≡ (world old).adapter.phy.link
-  -- MDIC shows bits 5 and 2 of the PHY's status: negotiation is complete, and the link is up.
-  pub seen : IfOk result (λ done. HasBit (world new).adapter.mdic.value status_complete × HasBit (world new).adapter.mdic.value status_link)
-  -- The link is up, and stays so by the law of links.
-  pub up : IfOk result (λ done. HasLink (world new))
+-- The link is awaited.
+pub record AwaitsLink {B : Type 0} (bus : Ghosts B) (result : Result (Unit {0}) InitError) (old new : B) : Type 0 where
+  pub asks : Asks bus MDIC old new
+  pub link : (bus.world new).adapter.phy.link ≡ (bus.world old).adapter.phy.link
+  -- Ok: MDIC shows bits 5 and 2 of the PHY's status, so negotiation is complete and the link is up.
+  pub seen : IfOk result
+      (λ done. HasBit (bus.world new).adapter.mdic.value status_complete × HasBit (bus.world new).adapter.mdic.value status_link)
+  -- Ok: the link is up, and stays so by the law of links.
+  pub up : IfOk result (λ done. HasLink (bus.world new))
   pub late : IfErr result (λ error. most_reads ≤ length asks.past.accesses)
   pub no_link : result ≡ Err NoLink → 2 * most_reads ≤ length asks.past.accesses
-  pub in_time : lively old → result ≢ Err PhyTimeout
-  -- Where negotiation was started before, a link that comes up within 2,000 ticks is seen.
-  pub slow : lively old → IsNegotiating (world old).adapter → result ≡ Err NoLink
-      → NeedsMoreThan (2 * most_reads) (world old).adapter.phy.link
+  pub in_time : bus.lively old → result ≢ Err PhyTimeout
+  -- If negotiation was started before, a link that comes up within 2,000 ticks is seen.
+  pub slow : bus.lively old → IsNegotiating (bus.world old).adapter → result ≡ Err NoLink
+      → NeedsMoreThan (2 * most_reads) (bus.world old).adapter.phy.link

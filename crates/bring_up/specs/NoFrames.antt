@@ -1,4 +1,4 @@
--- What stays while a driver sets its receive ring up, before frames are let in or out (own).
+-- What stays while a driver sets up its receive ring, before receiver and transmitter are enabled (our choice).
 use Rattle.std.specs.Prelude.{⊤, ◌≡◌, [], All, Option, Some, false}
 use Rattle.adapter.specs.HostFrames.{frames_held, frames_to_send}
 use Rattle.adapter.specs.Rings.{new_ring}
@@ -19,7 +19,7 @@ pub record HasNoFrames (d : DriverState) (world : World) : Type 0 where
   pub none_held : frames_held d.oldest_receive world ≡ []
   pub none_to_send : frames_to_send world ≡ []
 
--- It stays so over a stretch in which RCTL isn't written and no frame is given, and no frame comes or leaves.
+-- This stays over an interval in which RCTL isn't written and no frame is accepted to be sent, and no frame arrives or leaves.
 abbrev pub NoFramesStay : Type 0
 NoFramesStay =
     (d d' : DriverState) (a b : World) (past : Past) → GoesTo false d a d' b [] [] past → AreSet a b past → WhileOff a past
@@ -33,7 +33,7 @@ IsNotTransmitRing _ = ⊤
 abbrev pub LeavesTransmitRing : Write → Type 0
 LeavesTransmitRing write = IsNotTransmitRing (register_at write.offset)
 
--- A new transmit ring stays new, where none of its registers is written and the transmit side is off.
+-- The transmit ring stays as a reset leaves it, if none of its registers is written and the transmit side is off.
 abbrev pub NewTransmitRingStays : Type 0
 NewTransmitRingStays =
     (d : DriverState) (a b : World) (past : Past) → ReadyWith false d b → AreSet a b past → All LeavesTransmitRing (writes_in past.accesses)

@@ -1,4 +1,4 @@
--- What bring-up writes into the registers of the rings, and into those that let them run.
+-- What initialization writes into the registers of the rings, and into RCTL and TCTL, which enable both sides.
 use Rattle.std.specs.Prelude.{◌+◌, ◌*◌, ◌%◌, ◌/◌, ◌^◌, ℕ, Bool, List, [], ◌∷◌, if◌then◌else◌}
 use Rattle.adapter.specs.declared.offsets.TheConstants.{RCTL, TCTL}
 use Rattle.adapter.specs.Rings.{ring_distance}
@@ -8,7 +8,7 @@ use Rattle.bring_up.specs.WrittenRegisters.{write_at}
 use Rattle.registers.specs.Places.{alone, rctl_bam, rctl_en, rctl_mpe, rctl_secrc, rctl_upe, rctl_vfe, tctl_cold, tctl_ct, tctl_en}
 use Rattle.registers.specs.Places.{tctl_psp}
 
--- a ring's base, its length in bytes, and head and tail at its first slot, from the offset of the base's low word on
+-- a ring's base, its length in bytes, and head and tail 0; the first offset is that of the base's low word
 abbrev pub ring_writes : (offset base bytes : ℕ) → List Write
 ring_writes offset base bytes =
     write_at offset (base % 2 ^ 32)
@@ -18,7 +18,7 @@ ring_writes offset base bytes =
     ∷ write_at (offset + ring_distance Tail) 0
     ∷ []
 
--- RCTL: EN, BAM and SECRC, with UPE and MPE where everything is to pass, and VFE where VLANs are named
+-- RCTL: EN, BAM and SECRC; UPE and MPE if every frame is to pass; VFE if VLANs are named
 abbrev pub receive_control : (promiscuous by_vlan : Bool) → ℕ
 receive_control promiscuous by_vlan =
     alone rctl_en + alone rctl_bam + alone rctl_secrc

@@ -1,31 +1,31 @@
--- What a step of bring-up does over a bus: it writes registers (own).
+-- What a step of initialization does over a bus: it writes registers (our choice).
 use Rattle.std.specs.Prelude.{◌≡◌, ℕ, List, All}
 use Rattle.adapter.specs.Table.{register_at}
-use Rattle.adapter.specs.World.{World}
+use Rattle.bus.specs.AdaptersAtRest.{IsAtRest, IsElsewhere, NoFrame}
 use Rattle.bus.specs.Link.{HasLink, LeavesPhy}
 use Rattle.bus.specs.PastOfStretch.{Past}
-use Rattle.bus.specs.AdaptersAtRest.{IsAtRest, IsElsewhere, NoFrame}
 use Rattle.bus.specs.Settings.{Write, settings_after_all, settings_of, writes_in}
+use Rattle.bus.specs.declared.bus.Bus.{Ghosts}
 
 -- the write is of a register other than RCTL and those of the rings
 abbrev pub IsAside : Write → Type 0
 IsAside write = IsElsewhere (register_at write.offset)
 
--- These registers are written, in order, among reads and stores; what the driver has set is then what these writes make of it, whatever
--- else happened. An adapter at rest stays so, and no frame comes or leaves, where RCTL and the rings aren't among them; and a link that is
--- up stays up, where CTRL and MDIC aren't.
-pub record Sets {B : Type 0} (world : B → World) (happened : B → B → Past → Type 0) (old new : B) (writes : List Write) : Type 0 where
+-- The step makes these writes in this order, and may also read registers, load and store. The settings are then what the writes make of
+-- them, whatever else happened. If RCTL and the rings' registers aren't written, an adapter at rest stays so, and no frame arrives or
+-- leaves. If CTRL and MDIC aren't written, a link that is up stays up.
+pub record Sets {B : Type 0} (bus : Ghosts B) (writes : List Write) (old new : B) : Type 0 where
   pub past : Past
-  pub told : happened old new past
+  pub told : bus.happened old new past
   pub writes_are : writes_in past.accesses ≡ writes
-  pub settings : settings_of (world new).adapter ≡ settings_after_all writes (settings_of (world old).adapter)
-  pub rests : All IsAside writes → IsAtRest (world old) → IsAtRest (world new) × NoFrame past
-  pub link : All LeavesPhy writes → HasLink (world old) → HasLink (world new)
+  pub settings : settings_of (bus.world new).adapter ≡ settings_after_all writes (settings_of (bus.world old).adapter)
+  pub rests : All IsAside writes → IsAtRest (bus.world old) → IsAtRest (bus.world new) × NoFrame past
+  pub link : All LeavesPhy writes → HasLink (bus.world old) → HasLink (bus.world new)
 
--- A step that only asks: of the registers it writes one alone, which is no part of the settings, and leaves these as they are.
-pub record Asks {B : Type 0} (world : B → World) (happened : B → B → Past → Type 0) (old new : B) (offset : ℕ) : Type 0 where
+-- The step only asks: it writes no register but the one at this offset, and the settings stay as they were.
+pub record Asks {B : Type 0} (bus : Ghosts B) (offset : ℕ) (old new : B) : Type 0 where
   pub past : Past
-  pub told : happened old new past
+  pub told : bus.happened old new past
   pub only : All (λ write. write.offset ≡ offset) (writes_in past.accesses)
-  pub settings : settings_of (world new).adapter ≡ settings_of (world old).adapter
-  pub rests : IsAtRest (world old) → IsAtRest (world new) × NoFrame past
+  pub settings : settings_of (bus.world new).adapter ≡ settings_of (bus.world old).adapter
+  pub rests : IsAtRest (bus.world old) → IsAtRest (bus.world new) × NoFrame past

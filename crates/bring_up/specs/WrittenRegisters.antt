@@ -1,5 +1,5 @@
--- What bring-up writes, register by register, in order ("14.3 General Initialization", "14.4 Receive Initialization", "14.5 Transmit
--- Initialization"; the order is own).
+-- What initialization writes, register by register ("14.3 General Initialization", "14.4 Receive Initialization", "14.5 Transmit
+-- Initialization"). The order is our choice.
 use Rattle.std.specs.Prelude.{◌+◌, ℕ, List, [], ◌∷◌}
 use Rattle.adapter.specs.declared.offsets.TheConstants.{CTRL, IMC, IMS, PBA}
 use Rattle.bus.specs.Settings.{Write}
@@ -8,7 +8,7 @@ use Rattle.registers.specs.Places.{alone, ctrl_asde, ctrl_rst, ctrl_slu, rxdmt0,
 abbrev pub write_at : ℕ → ℕ → Write
 write_at offset value = record { offset = offset; value = value }
 
--- CTRL.RST, and all causes out of the mask
+-- CTRL.RST; all causes are removed from the mask
 abbrev pub reset_writes : List Write
 reset_writes = write_at CTRL (alone ctrl_rst) ∷ write_at IMC 0xFFFFFFFF ∷ []
 
@@ -23,7 +23,7 @@ link_control = alone ctrl_slu + alone ctrl_asde
 abbrev pub link_writes : List Write
 link_writes = write_at CTRL link_control ∷ []
 
--- IMS: the causes for which a driver does something
+-- IMS: the causes that a driver handles
 abbrev pub handled_causes : ℕ
 handled_causes = alone txdw + alone rxdmt0 + alone rxo + alone rxt0
 

@@ -1,4 +1,4 @@
-//! What an adapter is brought up with.
+//! The configuration with which an adapter is initialized.
 
 ghost use Rattle.std.specs.Prelude.{◌≡◌, ◌↔◌, IfErr, IfOk, IsOk, IsTrue};
 ghost use Rattle.adapter.specs.PacketBuffer.{IsAllocation};
@@ -7,34 +7,34 @@ use crate::init_error::InitError;
 use arrayvec::ArrayVec;
 use dma_memory::Layout;
 
-/// How many groups a configuration names at most (own).
+/// The greatest number of groups in a configuration (our choice).
 pub const MOST_GROUPS: usize = 32;
 
-/// How many VLANs a configuration names at most (own).
+/// The greatest number of VLANs in a configuration (our choice).
 pub const MOST_VLANS: usize = 32;
 
-/// The greatest number of kilobytes of the packet buffer that frames from the wire can have (own).
+/// The greatest number of kilobytes of the packet buffer for received frames (our choice).
 const MOST_RECEIVE_KILOBYTES: u8 = 48;
 
-/// A VLAN number has 12 bits.
+/// The number of VLANs: a VLAN number has 12 bits.
 const VLAN_NUMBERS: u16 = 4096;
 
-/// What an adapter is brought up with.
+/// The configuration with which an adapter is initialized.
 #[derive(Clone, Debug, Drop, PartialEq, Eq)]
 pub struct Config {
-    /// How many receive descriptors there are: a multiple of 8 from 8 to 256.
+    /// The number of receive descriptors: a multiple of 8 from 8 to 256.
     pub rx: u16,
-    /// How many transmit descriptors there are: a multiple of 8 from 8 to 256.
+    /// The number of transmit descriptors: a multiple of 8 from 8 to 256.
     pub tx: u16,
-    /// How many receive buffers there are: from `rx` to 4,096.
+    /// The number of receive buffers: from `rx` to 4,096.
     pub buffers: u16,
-    /// How many kilobytes of the packet buffer frames from the wire have (PBA.RXA): even, from 2 to 48.
+    /// The size in kilobytes of the packet buffer for received frames (PBA.RXA): even, from 2 to 48.
     pub rxa: u8,
     /// Whether every frame passes the filter, whatever its destination (RCTL.UPE and RCTL.MPE).
     pub promiscuous: bool,
-    /// The groups whose frames pass the filter: each has the low bit of its first byte set.
+    /// The groups whose frames pass the filter. Each has the low bit of its first byte set.
     pub groups: ArrayVec<[u8; 6], MOST_GROUPS>,
-    /// The VLANs whose tagged frames pass the filter, each below 4,096; `None` where all do.
+    /// The VLANs whose tagged frames pass the filter, each below 4,096; `None` if those of all VLANs pass.
     pub vlans: Option<ArrayVec<u16, MOST_VLANS>>,
 }
 
@@ -42,11 +42,11 @@ impl Config {
     ghost use Rattle.bring_up.specs.Configuration.{CanBeHad, HasRightNumbers, counts_of};
     ghost use Rattle.bring_up.specs.declared.init_error.InitError.TheVariants as InitError;
 
-    /// Where rings and buffers stand in a memory of `size` bytes.
+    /// The places of rings and buffers in a memory of `size` bytes.
     ///
     /// # Errors
     ///
-    /// [`Config`](InitError::Config) exactly where the configuration can't be had there.
+    /// [`Config`](InitError::Config) exactly if the configuration isn't valid in such a memory.
     pub fn layout(&self, size: u64) -> Result<Layout, InitError>
         ensures ok { IsOk result ↔ CanBeHad self.now size }
         ensures counts { IfOk result (λ layout. layout ≡ counts_of self.now) }
@@ -64,7 +64,7 @@ impl Config {
         Ok(layout)
     }
 
-    /// Whether RXA, the groups and the VLANs are allowed.
+    /// Whether RXA, the groups and the VLANs are valid.
     fn has_right_numbers(&self) -> bool
         ensures { IsTrue result ↔ HasRightNumbers self.now }
     {
@@ -77,7 +77,7 @@ impl Config {
     }
 }
 
-/// Whether PBA takes this as RXA.
+/// Whether this number of kilobytes is a valid PBA.RXA.
 fn is_allocation(kilobytes: u8) -> bool
     ensures { IsTrue result ↔ IsAllocation kilobytes }
 {

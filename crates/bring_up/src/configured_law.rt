@@ -1,11 +1,11 @@
-// What an adapter is set to behind bring-up.
+// What an adapter is set to after initialization.
 
 ghost use Rattle.bring_up.specs.ConfiguredAdapters.{LinkComesFirst, RingsComeLast, WritesConfigure};
 
-/// What the writes of bring-up do, in order.
+/// What the writes of initialization do, in order.
 /// - `configure`: they configure an adapter, whatever it was set to before, and leave its EEPROM.
-/// - `rings_last`: those before the rings' are of other registers than RCTL and the rings'.
-/// - `link_first`: those of the filter, and from the rings' on, are of other registers than CTRL and MDIC.
+/// - `rings_last`: no write before those of the rings is of RCTL or of a ring's register.
+/// - `link_first`: no write of the filter, and none from those of the rings on, is of CTRL or MDIC.
 pub fn writes_configure()
     ensures configure { WritesConfigure }
     ensures rings_last { RingsComeLast }

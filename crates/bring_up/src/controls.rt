@@ -1,27 +1,25 @@
 //! The registers of the whole device: reset, interrupts, packet buffer, link.
 
-ghost use Rattle.std.specs.Prelude.{◌≡◌};
+ghost use Rattle.std.specs.Prelude.{◌≡◌, true};
 ghost use Rattle.bus.specs.AdaptersAtRest.{IsAtRest};
+ghost use Rattle.bus.specs.Keeping.{Keeps};
 ghost use Rattle.bring_up.specs.DriverSteps.{EnablesCauses};
 ghost use Rattle.bring_up.specs.SettingSteps.{Sets};
 ghost use Rattle.bring_up.specs.WrittenRegisters.{allocation_writes, handled_causes, link_writes};
 ghost use Rattle.bring_up.specs.WrittenRegisters.{mask_writes, reset_writes};
+ghost use Rattle.driver_law.specs.Calls.{IsReady, at};
 ghost use Rattle.driver_law.specs.DriverState.{DriverState};
-ghost use Rattle.driver_law.specs.ReadyDrivers.{Ready};
 
 use adapter::offsets::{CTRL, ICR, IMC, IMS, PBA};
 use bitflags::Flags;
 use bus::Bus;
 use registers::{Cause, Ctrl};
 
-/// Resets the device, takes every cause out of the mask and forgets those that were recorded ("14.3 General
+/// Resets the device, disables all interrupt causes and clears those that were recorded ("14.3 General
 /// Initialization": interrupts are off meanwhile).
 pub fn reset_device<B: Bus>(bus: &mut B)
-    ensures extent { B.extent bus.new ≡ B.extent bus.old }
-    ensures lent_stays { B.lent_stays bus.old bus.new }
-    ensures honest { B.honest bus.old → B.honest bus.new }
-    ensures lively { B.lively bus.old → B.lively bus.new }
-    ensures sets { B.honest bus.old → Sets B.world B.happened bus.old bus.new reset_writes }
+    ensures keeps { Keeps B.Bus bus.old bus.new }
+    ensures sets { B.honest bus.old → Sets B.Bus reset_writes bus.old bus.new }
     ensures rests { B.honest bus.old → IsAtRest (B.world bus.new) }
     ensures forgets { B.honest bus.old → (B.world bus.new).adapter.causes.recorded ≡ 0 }
 {
@@ -30,30 +28,24 @@ pub fn reset_device<B: Bus>(bus: &mut B)
     bus.read(ICR);
 }
 
-/// Gives frames from the wire so many kilobytes of the packet buffer (PBA.RXA).
+/// Assigns this many kilobytes of the packet buffer to received frames (PBA.RXA).
 pub fn allocate_packet_buffer<B: Bus>(bus: &mut B, kilobytes: u8)
-    ensures extent { B.extent bus.new ≡ B.extent bus.old }
-    ensures lent_stays { B.lent_stays bus.old bus.new }
-    ensures honest { B.honest bus.old → B.honest bus.new }
-    ensures lively { B.lively bus.old → B.lively bus.new }
-    ensures sets { B.honest bus.old → Sets B.world B.happened bus.old bus.new (allocation_writes kilobytes) }
+    ensures keeps { Keeps B.Bus bus.old bus.new }
+    ensures sets { B.honest bus.old → Sets B.Bus (allocation_writes kilobytes) bus.old bus.new }
 {
     bus.write(PBA, u32::from(kilobytes));
 }
 
-/// Lets the link come up, at the speed that the PHY finds (CTRL.SLU and CTRL.ASDE).
+/// Enables the link, at the speed that the PHY detects (CTRL.SLU and CTRL.ASDE).
 pub fn set_link_up<B: Bus>(bus: &mut B)
-    ensures extent { B.extent bus.new ≡ B.extent bus.old }
-    ensures lent_stays { B.lent_stays bus.old bus.new }
-    ensures honest { B.honest bus.old → B.honest bus.new }
-    ensures lively { B.lively bus.old → B.lively bus.new }
-    ensures sets { B.honest bus.old → Sets B.world B.happened bus.old bus.new link_writes }
+    ensures keeps { Keeps B.Bus bus.old bus.new }
+    ensures sets { B.honest bus.old → Sets B.Bus link_writes bus.old bus.new }
 {
     bus.write(CTRL, Ctrl::SLU.union(Ctrl::ASDE).bits());
 }
 
-/// The causes that a driver handles: a frame was transmitted, or received, receive descriptors become few, or a frame
-/// found no room.
+/// The causes that a driver handles: a frame was transmitted (TXDW) or received (RXT0), few receive descriptors are
+/// left (RXDMT0), or a frame was missed (RXO).
 pub fn interrupt_causes() -> Cause
     ensures { result.0 ≡ handled_causes }
 {
@@ -63,16 +55,13 @@ pub fn interrupt_causes() -> Cause
         .union(Cause::RXT0)
 }
 
-/// Enables the causes that a driver handles. A driver that is ready stays so, and no work is forgotten after
-/// it, if no slot was finished before it or RXT0 was recorded.
+/// Enables the causes that a driver handles. A driver that is ready stays so, and no work is forgotten afterwards,
+/// if no slot was finished before or RXT0 was recorded.
 pub fn enable_interrupts<B: Bus>(bus: &mut B)
-    ensures extent { B.extent bus.new ≡ B.extent bus.old }
-    ensures lent_stays { B.lent_stays bus.old bus.new }
-    ensures honest { B.honest bus.old → B.honest bus.new }
-    ensures lively { B.lively bus.old → B.lively bus.new }
-    ensures sets { B.honest bus.old → Sets B.world B.happened bus.old bus.new mask_writes }
-    ensures enables { (d : DriverState) → B.honest bus.old → Ready d (B.world bus.old)
-        → EnablesCauses B.world B.happened handled_causes bus.old bus.new d }
+    ensures keeps { Keeps B.Bus bus.old bus.new }
+    ensures sets { B.honest bus.old → Sets B.Bus mask_writes bus.old bus.new }
+    ensures enables { (d : DriverState) → IsReady B.Bus true (at bus.old d)
+        → EnablesCauses B.Bus handled_causes d bus.old bus.new }
 {
     bus.write(IMS, interrupt_causes().bits());
 }

@@ -1,6 +1,7 @@
-//! The device is found: reset, its EEPROM read, and its link up.
+//! The device is found: it is reset, its EEPROM read, and its link awaited.
 
-ghost use Rattle.std.specs.Prelude.{◌≡◌, IfErr};
+ghost use Rattle.std.specs.Prelude.{IfErr};
+ghost use Rattle.bus.specs.Keeping.{Keeps};
 ghost use Rattle.bring_up.specs.Device.{FindsDevice, IsBeforeAccess};
 
 use crate::controls::{allocate_packet_buffer, reset_device, set_link_up};
@@ -10,20 +11,19 @@ use crate::link::{await_link, negotiate};
 use bus::Bus;
 use eeprom::{Image, checksum_ok};
 
-/// Resets the device, reads its EEPROM, gives frames from the wire so many kilobytes of the packet buffer,
-/// and waits until its link is up. Answers the image of the EEPROM.
+/// Resets the device, reads its EEPROM, assigns `kilobytes` of the packet buffer to received frames, and waits until
+/// its link is up. Returns the image of the EEPROM.
 ///
 /// # Errors
 ///
-/// [`EepromTimeout`](InitError::EepromTimeout), [`Checksum`](InitError::Checksum),
-/// [`PhyTimeout`](InitError::PhyTimeout) and [`NoLink`](InitError::NoLink).
+/// - [`EepromTimeout`](InitError::EepromTimeout): a word of the EEPROM wasn't read in time.
+/// - [`Checksum`](InitError::Checksum): the image's checksum is wrong.
+/// - [`PhyTimeout`](InitError::PhyTimeout): a command to the PHY didn't end in time, or failed.
+/// - [`NoLink`](InitError::NoLink): the link wasn't up in time.
 pub fn find_device<B: Bus>(bus: &mut B, kilobytes: u8) -> Result<Image, InitError>
-    ensures extent { B.extent bus.new ≡ B.extent bus.old }
-    ensures lent_stays { B.lent_stays bus.old bus.new }
-    ensures honest { B.honest bus.old → B.honest bus.new }
-    ensures lively { B.lively bus.old → B.lively bus.new }
+    ensures keeps { Keeps B.Bus bus.old bus.new }
     ensures errors { IfErr result (λ error. ¬ (IsBeforeAccess error)) }
-    ensures finds { B.honest bus.old → FindsDevice B.world B.happened B.lively bus.old bus.new kilobytes result }
+    ensures finds { B.honest bus.old → FindsDevice B.Bus kilobytes result bus.old bus.new }
 {
     reset_device(bus);
     let image = read_image(bus)?;

@@ -1,6 +1,7 @@
 //! The EEPROM, word by word ("13.4.4 EEPROM Read Register").
 
-ghost use Rattle.std.specs.Prelude.{◌≡◌, IsOk, IsOkUnless};
+ghost use Rattle.std.specs.Prelude.{IsOk, IsOkUnless};
+ghost use Rattle.bus.specs.Keeping.{Keeps};
 ghost use Rattle.bring_up.specs.EepromReading.{ReadsImage, ReadsWord};
 
 use crate::MOST_READS;
@@ -12,7 +13,7 @@ use eeprom::{Image, WORDS};
 /// START, bit 0 of EERD: a write with it begins a read.
 const START: u32 = 1 << 0;
 
-/// DONE, bit 4 of EERD: the word is there.
+/// DONE, bit 4 of EERD: DATA holds the word.
 const DONE: u32 = 1 << 4;
 
 /// The lowest bit of ADDR, bits 15:8 of EERD.
@@ -21,19 +22,16 @@ const ADDR_SHIFT: u32 = 8;
 /// The lowest bit of DATA, bits 31:16 of EERD.
 const DATA_SHIFT: u32 = 16;
 
-/// Reads the 64 words of the EEPROM, in order: EERD is written once for each, and read until it shows
-/// DONE. Over a bus that plays ticks before each access that is the first read.
+/// Reads the 64 words of the EEPROM, in order. For each it writes EERD once, and reads it until DONE is set. Over a
+/// lively bus the first read has DONE.
 ///
 /// # Errors
 ///
-/// [`EepromTimeout`](InitError::EepromTimeout) where 1,000 reads of EERD for one word didn't show DONE.
+/// [`EepromTimeout`](InitError::EepromTimeout) if 1,000 reads of EERD for one word didn't show DONE.
 pub fn read_image<B: Bus>(bus: &mut B) -> Result<Image, InitError>
-    ensures extent { B.extent bus.new ≡ B.extent bus.old }
-    ensures lent_stays { B.lent_stays bus.old bus.new }
-    ensures honest { B.honest bus.old → B.honest bus.new }
-    ensures lively { B.lively bus.old → B.lively bus.new }
+    ensures keeps { Keeps B.Bus bus.old bus.new }
     ensures only { IsOkUnless result InitError.EepromTimeout }
-    ensures reads { B.honest bus.old → ReadsImage B.world B.happened bus.old bus.new result }
+    ensures reads { B.honest bus.old → ReadsImage B.Bus result bus.old bus.new }
     ensures in_time { B.lively bus.old → B.honest bus.old → IsOk result }
 {
     let mut words = [0; WORDS];
@@ -43,14 +41,11 @@ pub fn read_image<B: Bus>(bus: &mut B) -> Result<Image, InitError>
     Ok(Image::from_words(words))
 }
 
-/// Reads one word of the EEPROM.
+/// Reads one word of the EEPROM, by its address from 0 to 63.
 fn read_word<B: Bus>(bus: &mut B, address: u8) -> Result<u16, InitError>
-    ensures extent { B.extent bus.new ≡ B.extent bus.old }
-    ensures lent_stays { B.lent_stays bus.old bus.new }
-    ensures honest { B.honest bus.old → B.honest bus.new }
-    ensures lively { B.lively bus.old → B.lively bus.new }
+    ensures keeps { Keeps B.Bus bus.old bus.new }
     ensures only { IsOkUnless result InitError.EepromTimeout }
-    ensures reads { B.honest bus.old → ReadsWord B.world B.happened bus.old bus.new address result }
+    ensures reads { B.honest bus.old → ReadsWord B.Bus address result bus.old bus.new }
     ensures in_time { B.lively bus.old → B.honest bus.old → IsOk result }
 {
     bus.write(EERD, u32::from(address) << ADDR_SHIFT | START);

@@ -1,8 +1,9 @@
-//! The registers of the receive filter ("13.5.1 Multicast Table Array" and the sections behind it).
+//! The registers of the receive filter ("13.5.1 Multicast Table Array" to "13.5.4 VLAN Filter Table Array").
 
 ghost use Rattle.std.specs.Prelude.{◌≡◌, ◌<◌, ◌^◌, All, replicate};
 ghost use Rattle.rx_engine.specs.Addresses.{IsAddress};
 ghost use Rattle.rx_engine.specs.Writing.{with_number};
+ghost use Rattle.bus.specs.Keeping.{Keeps};
 ghost use Rattle.bring_up.specs.ConfiguredAdapters.{AreWords};
 ghost use Rattle.bring_up.specs.FilterTables.{HasNumbers, address_writes, entry_writes, numbers_of_groups};
 ghost use Rattle.bring_up.specs.FilterTables.{table_writes};
@@ -13,8 +14,7 @@ use bus::Bus;
 use registers::GroupOffset;
 use rx_engine::{AddressWords, EXACT_ADDRESSES, TABLE_WORDS, TableBit, hash_of};
 
-/// The group table with the bits of these groups, each by bits 47:36 of its address (RCTL.MO 00), all
-/// others 0.
+/// The group table with the bits of these groups, each by bits 47:36 of its address (RCTL.MO 00), and all others 0.
 pub fn group_table(groups: &[[u8; 6]]) -> [u32; TABLE_WORDS]
     ensures { HasNumbers result (numbers_of_groups groups.now) }
 {
@@ -25,7 +25,7 @@ pub fn group_table(groups: &[[u8; 6]]) -> [u32; TABLE_WORDS]
     table
 }
 
-/// The VLAN table with the bits of these VLANs, all others 0. Their numbers are below 4,096.
+/// The VLAN table with the bits of these VLANs, whose numbers must be below 4,096. All other bits are 0.
 pub fn vlan_table(vlans: &[u16]) -> [u32; TABLE_WORDS]
     requires { All (λ vlan. vlan < 4096) vlans.now }
     ensures { HasNumbers result vlans.now }
@@ -55,11 +55,8 @@ fn add_number(table: &mut [u32; TABLE_WORDS], number: u16)
 
 /// Writes the group table, MTA.
 pub fn write_groups<B: Bus>(bus: &mut B, table: &[u32; TABLE_WORDS])
-    ensures extent { B.extent bus.new ≡ B.extent bus.old }
-    ensures lent_stays { B.lent_stays bus.old bus.new }
-    ensures honest { B.honest bus.old → B.honest bus.new }
-    ensures lively { B.lively bus.old → B.lively bus.new }
-    ensures sets { B.honest bus.old → Sets B.world B.happened bus.old bus.new (table_writes MTA table.now) }
+    ensures keeps { Keeps B.Bus bus.old bus.new }
+    ensures sets { B.honest bus.old → Sets B.Bus (table_writes MTA table.now) bus.old bus.new }
     ensures words { AreWords table.now }
 {
     write_table(bus, MTA, table);
@@ -67,23 +64,17 @@ pub fn write_groups<B: Bus>(bus: &mut B, table: &[u32; TABLE_WORDS])
 
 /// Writes the VLAN table, VFTA.
 pub fn write_vlans<B: Bus>(bus: &mut B, table: &[u32; TABLE_WORDS])
-    ensures extent { B.extent bus.new ≡ B.extent bus.old }
-    ensures lent_stays { B.lent_stays bus.old bus.new }
-    ensures honest { B.honest bus.old → B.honest bus.new }
-    ensures lively { B.lively bus.old → B.lively bus.new }
-    ensures sets { B.honest bus.old → Sets B.world B.happened bus.old bus.new (table_writes VFTA table.now) }
+    ensures keeps { Keeps B.Bus bus.old bus.new }
+    ensures sets { B.honest bus.old → Sets B.Bus (table_writes VFTA table.now) bus.old bus.new }
     ensures words { AreWords table.now }
 {
     write_table(bus, VFTA, table);
 }
 
-/// Writes the exact addresses, RAL and RAH: this one as the first, and no other.
+/// Writes the exact addresses, RAL and RAH: this one as the first, and the other 15 as 0.
 pub fn write_addresses<B: Bus>(bus: &mut B, address: &[u8; 6])
-    ensures extent { B.extent bus.new ≡ B.extent bus.old }
-    ensures lent_stays { B.lent_stays bus.old bus.new }
-    ensures honest { B.honest bus.old → B.honest bus.new }
-    ensures lively { B.lively bus.old → B.lively bus.new }
-    ensures sets { B.honest bus.old → Sets B.world B.happened bus.old bus.new (address_writes address.now) }
+    ensures keeps { Keeps B.Bus bus.old bus.new }
+    ensures sets { B.honest bus.old → Sets B.Bus (address_writes address.now) bus.old bus.new }
     ensures address { IsAddress address.now }
 {
     write_address(bus, 0, AddressWords::of(address));
@@ -95,12 +86,8 @@ pub fn write_addresses<B: Bus>(bus: &mut B, address: &[u8; 6])
 /// Writes an entry of the exact addresses.
 fn write_address<B: Bus>(bus: &mut B, entry: u32, words: AddressWords)
     requires { entry < 16 }
-    ensures extent { B.extent bus.new ≡ B.extent bus.old }
-    ensures lent_stays { B.lent_stays bus.old bus.new }
-    ensures honest { B.honest bus.old → B.honest bus.new }
-    ensures lively { B.lively bus.old → B.lively bus.new }
-    ensures sets { B.honest bus.old
-        → Sets B.world B.happened bus.old bus.new (entry_writes entry words.low words.high) }
+    ensures keeps { Keeps B.Bus bus.old bus.new }
+    ensures sets { B.honest bus.old → Sets B.Bus (entry_writes entry words.low words.high) bus.old bus.new }
 {
     let low = RAL + ADDRESS_PAIR_BYTES * entry;
     bus.write(low, words.low);
@@ -110,11 +97,8 @@ fn write_address<B: Bus>(bus: &mut B, entry: u32, words: AddressWords)
 /// Writes a table of 128 words from an offset on.
 fn write_table<B: Bus>(bus: &mut B, first: u32, words: &[u32; TABLE_WORDS])
     requires { first < 2 ^ 16 }
-    ensures extent { B.extent bus.new ≡ B.extent bus.old }
-    ensures lent_stays { B.lent_stays bus.old bus.new }
-    ensures honest { B.honest bus.old → B.honest bus.new }
-    ensures lively { B.lively bus.old → B.lively bus.new }
-    ensures sets { B.honest bus.old → Sets B.world B.happened bus.old bus.new (table_writes first words.now) }
+    ensures keeps { Keeps B.Bus bus.old bus.new }
+    ensures sets { B.honest bus.old → Sets B.Bus (table_writes first words.now) bus.old bus.new }
     ensures words { AreWords words.now }
 {
     let mut offset = first;

@@ -1,4 +1,4 @@
-//! Why an adapter was not brought up.
+//! Why an adapter wasn't initialized.
 
 ghost use Rattle.std.specs.Prelude.{◌≡◌};
 ghost use Rattle.bring_up.specs.declared.init_error.InitError.TheVariants.{Memory};
@@ -6,16 +6,16 @@ ghost use Rattle.bring_up.specs.declared.init_error.InitError.TheVariants.{Memor
 use std::alloc::AllocError;
 use thiserror::Error;
 
-/// Why an adapter was not brought up. The call may be made again.
+/// Why an adapter wasn't initialized. The call may be made again.
 #[derive(Clone, Copy, Debug, PartialEq, Eq, Error)]
 pub enum InitError {
-    /// Memory was refused. There was no access.
+    /// Memory couldn't be allocated. There was no access.
     #[error("E10 Memory")]
     Memory,
     /// A word of the EEPROM was asked for, and 1,000 reads of EERD didn't show DONE.
     #[error("E11 EepromTimeout")]
     EepromTimeout,
-    /// The 64 words of the EEPROM don't add up to 0xBABA.
+    /// The sum of the 64 words of the EEPROM isn't 0xBABA modulo 65,536.
     #[error("E12 Checksum")]
     Checksum,
     /// A command was given to the PHY, and 1,000 reads of MDIC didn't show R, or one showed R and E.
@@ -24,7 +24,7 @@ pub enum InitError {
     /// 1,000 reads of the PHY's status didn't show a link that is up and negotiated.
     #[error("E14 NoLink")]
     NoLink,
-    /// The configuration isn't one that can be had. There was no access.
+    /// The configuration isn't valid in this memory. There was no access.
     #[error("E15 Config")]
     Config,
 }

@@ -1,9 +1,9 @@
-//! Brings an 82540EM up over any bus: its reset, its EEPROM, its PHY, its filter, its rings and its
-//! interrupts, each by calls of its own.
+//! Initializes an 82540EM over any bus: its reset, its EEPROM, its PHY, its filter, its rings and its interrupts,
+//! each by separate calls.
 //!
 //! Section numbers are those of Intel's "PCI/PCI-X Family of Gigabit Ethernet Controllers Software
 //! Developer's Manual": "14.3 General Initialization", "14.4 Receive Initialization" and "14.5 Transmit
-//! Initialization". The order of the accesses is own.
+//! Initialization". The order of the accesses is our choice.
 #![tactic(auto)]
 
 mod config;
@@ -36,5 +36,5 @@ pub use ring_registers::{
     RingPlace, enable_receiver, enable_transmitter, set_receive_ring, set_transmit_ring,
 };
 
-/// How often a driver reads a register in vain before it gives up (own).
+/// The number of reads of a register after which a driver gives up (our choice).
 pub const MOST_READS: u16 = 1000;

@@ -4,6 +4,7 @@ ghost use Rattle.std.specs.Prelude.{◌≡◌, ◌⊎◌, ◌↔◌, IfErr, IsOk
 ghost use Rattle.registers.specs.Bits.{Meet};
 ghost use Rattle.registers.specs.Places.{alone};
 ghost use Rattle.mdic_phy.specs.Places.{status_complete, status_link};
+ghost use Rattle.bus.specs.Keeping.{Keeps};
 ghost use Rattle.bring_up.specs.Link.{AwaitsLink, Commands, IsCommand, Negotiates};
 
 use crate::MOST_READS;
@@ -32,7 +33,7 @@ const ERROR: u32 = 1 << 30;
 /// Autonegotiation is enabled: bit 12 of the PHY's register 0 (22.2.4.1).
 const ENABLE: u32 = 1 << 12;
 
-/// Autonegotiation begins again: bit 9 of the PHY's register 0.
+/// Autonegotiation restarts: bit 9 of the PHY's register 0.
 const RESTART: u32 = 1 << 9;
 
 /// Autonegotiation is complete: bit 5 of the PHY's register 1 (22.2.4.2).
@@ -41,36 +42,31 @@ const NEGOTIATED: u32 = 1 << 5;
 /// The link is up: bit 2 of the PHY's register 1.
 const LINK: u32 = 1 << 2;
 
-/// Lets the PHY negotiate anew.
+/// Restarts the PHY's negotiation.
 ///
 /// # Errors
 ///
-/// [`PhyTimeout`](InitError::PhyTimeout) as of every command.
+/// [`PhyTimeout`](InitError::PhyTimeout) if 1,000 reads of MDIC didn't show R, or one showed R and E.
 pub fn negotiate<B: Bus>(bus: &mut B) -> Result<(), InitError>
-    ensures extent { B.extent bus.new ≡ B.extent bus.old }
-    ensures lent_stays { B.lent_stays bus.old bus.new }
-    ensures honest { B.honest bus.old → B.honest bus.new }
-    ensures lively { B.lively bus.old → B.lively bus.new }
+    ensures keeps { Keeps B.Bus bus.old bus.new }
     ensures error { IsOkUnless result InitError.PhyTimeout }
-    ensures negotiates { B.honest bus.old → Negotiates B.world B.happened B.lively bus.old bus.new result }
+    ensures negotiates { B.honest bus.old → Negotiates B.Bus result bus.old bus.new }
 {
     command(bus, OP_WRITE | PHY_ADDRESS | ENABLE | RESTART)?;
     Ok(())
 }
 
-/// Waits until the link is up and negotiated, for 1,000 reads of the PHY's status at most.
+/// Waits until the link is up and negotiated, for at most 1,000 reads of the PHY's status.
 ///
 /// # Errors
 ///
-/// [`NoLink`](InitError::NoLink) behind these, and [`PhyTimeout`](InitError::PhyTimeout) as of every
-/// command.
+/// - [`NoLink`](InitError::NoLink): none of these reads showed a link that is up and negotiated.
+/// - [`PhyTimeout`](InitError::PhyTimeout): for one of them 1,000 reads of MDIC didn't show R, or one showed R and
+///   E.
 pub fn await_link<B: Bus>(bus: &mut B) -> Result<(), InitError>
-    ensures extent { B.extent bus.new ≡ B.extent bus.old }
-    ensures lent_stays { B.lent_stays bus.old bus.new }
-    ensures honest { B.honest bus.old → B.honest bus.new }
-    ensures lively { B.lively bus.old → B.lively bus.new }
+    ensures keeps { Keeps B.Bus bus.old bus.new }
     ensures errors { IfErr result (λ error. (error ≡ InitError.PhyTimeout) ⊎ (error ≡ InitError.NoLink)) }
-    ensures awaits { B.honest bus.old → AwaitsLink B.world B.happened B.lively bus.old bus.new result }
+    ensures awaits { B.honest bus.old → AwaitsLink B.Bus result bus.old bus.new }
 {
     for _ in 0..MOST_READS {
         let status = command(bus, OP_READ | PHY_ADDRESS | STATUS_REGISTER)?;
@@ -81,26 +77,23 @@ pub fn await_link<B: Bus>(bus: &mut B) -> Result<(), InitError>
     Err(InitError::NoLink)
 }
 
-/// Whether the PHY's status shows that negotiation is complete, bit 5, and the link up, bit 2.
+/// Whether the PHY's status shows that negotiation is complete (bit 5) and the link up (bit 2).
 fn shows_link(status: u32) -> bool
     ensures { IsTrue result ↔ (Meet status (alone status_complete) × Meet status (alone status_link)) }
 {
     status & NEGOTIATED != 0 && status & LINK != 0
 }
 
-/// Gives the PHY a command, and waits for its end. Answers MDIC as it was then.
+/// Gives the PHY a command, and waits for its end. Returns the value that was read from MDIC then.
 ///
 /// # Errors
 ///
-/// [`PhyTimeout`](InitError::PhyTimeout) where 1,000 reads of MDIC didn't show R, or one showed R and E.
+/// [`PhyTimeout`](InitError::PhyTimeout) if 1,000 reads of MDIC didn't show R, or one showed R and E.
 fn command<B: Bus>(bus: &mut B, word: u32) -> Result<u32, InitError>
     requires { IsCommand word }
-    ensures extent { B.extent bus.new ≡ B.extent bus.old }
-    ensures lent_stays { B.lent_stays bus.old bus.new }
-    ensures honest { B.honest bus.old → B.honest bus.new }
-    ensures lively { B.lively bus.old → B.lively bus.new }
+    ensures keeps { Keeps B.Bus bus.old bus.new }
     ensures error { IsOkUnless result InitError.PhyTimeout }
-    ensures commands { B.honest bus.old → Commands B.world B.happened B.lively bus.old bus.new word result }
+    ensures commands { B.honest bus.old → Commands B.Bus word result bus.old bus.new }
 {
     bus.write(MDIC, word);
     for _ in 0..MOST_READS {

@@ -1,4 +1,4 @@
-// A driver that begins over an adapter at rest.
+// A driver that begins with an adapter at rest.
 
 ghost use Rattle.std.specs.Prelude.{◌≡◌, ℕ, List, []};
 ghost use Rattle.dma_memory.specs.Layout.{Counts};
@@ -8,15 +8,15 @@ ghost use Rattle.bring_up.specs.ClearedDescriptors.{clears_from};
 ghost use Rattle.bring_up.specs.NoFrames.{NewTransmitRingStays, NoFramesStay};
 ghost use Rattle.bring_up.specs.RestingRings.{DriversBeginAtRest};
 
-/// Over an adapter at rest whose receive ring is set up, with no slot offered, a driver begins ready, with
-/// its transmit side off.
+/// If an adapter is at rest and its receive ring is set up with no slot offered, a driver begins ready, with its
+/// transmit side off.
 pub fn drivers_begin_at_rest()
     ensures { DriversBeginAtRest }
 {}
 
-/// What stays while a driver sets its receive ring up.
-/// - `quiet`: no frame comes, leaves or is held, while RCTL.EN is 0 and RCTL isn't written.
-/// - `transmit_ring`: a new transmit ring stays new, until one of its registers is written.
+/// What stays while a driver sets up its receive ring.
+/// - `quiet`: no frame arrives, leaves or is held while RCTL.EN is 0 and RCTL isn't written.
+/// - `transmit_ring`: the transmit ring stays as a reset leaves it, until one of its registers is written.
 /// - `staged`, `cleared`: stores of descriptors write no register.
 pub fn drivers_without_frames_stay_so()
     ensures quiet { NoFramesStay }

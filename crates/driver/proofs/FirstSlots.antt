@@ -10,16 +10,18 @@ use Rattle.descriptors.specs.Ring.{address_of, distance_of, offered_places}
 use Rattle.descriptors.specs.RingLaws.{distance-forward, length-places, place, place-distance}
 use Rattle.adapter.specs.HostFrames.{frames_held}
 use Rattle.adapter.specs.World.{World, receive_ring}
-use Rattle.bus.specs.PastOfStretch.{Past, joined}
+use Rattle.bus.specs.declared.bus.Bus.{Ghosts}
 use Rattle.bus.specs.declared.event.Access.TheVariants.{Writes}
+use Rattle.bus.specs.Keeping.{Keeps}
 use Rattle.bus.proofs.WaitingRings.{all-offered, holds-none}
 use Rattle.driver_law.proofs.Accesses.{ran_by-join, ran_by-same}
 use Rattle.driver_law.proofs.Owners.{owners-count}
 use Rattle.driver_law.specs.Accesses.{tail_write}
 use Rattle.driver_law.specs.Beginnings.{new_driver}
+use Rattle.driver_law.specs.Calls.{IsReady, Ran, at, only}
 use Rattle.driver_law.specs.DriverState.{DriverState, holding, next_receive, owners, receive_slot, with_owners}
-use Rattle.driver_law.specs.Stretches.{RanBy}
-use Rattle.driver_law.specs.ReadyDrivers.{Ready, ReadyWith}
+use Rattle.driver_law.specs.ReadyDrivers.{Ready}
+use Rattle.bring_up.proofs.Steps.{StretchesJoin}
 use Rattle.bring_up.specs.ClearedDescriptors.{clears}
 use Rattle.driver.specs.Initialisation.{OffersFirst}
 use Rattle.driver.specs.RefillSteps.{Stages}
@@ -82,20 +84,18 @@ staging counts pool numbers left = with_owners (new_driver counts pool) [] numbe
 abbrev pub offering : Counts → (pool numbers left : List ℕ) → DriverState
 offering counts pool numbers left = with_owners (new_driver counts pool) numbers [] left []
 
-pub offers-first : {B : Type 0} (honest : B → Type 0) (world : B → World) (happened : B → B → Past → Type 0)
-    → ((a b c : B) (first later : Past) → happened a b first → happened b c later → happened a c (joined first later))
+pub offers-first : {B : Type 0} (bus : Ghosts B) → StretchesJoin bus
     → (b0 b1 b2 b3 : B) (counts : Counts) (pool numbers : List ℕ) (d2 d3 : DriverState)
     → HasOneOwner counts.buffers pool → counts.rx ≤ counts.buffers → 1 < counts.rx
-    → Stages honest world happened b0 b1 (new_driver counts pool) d2 numbers
+    → Stages bus.honest bus.world bus.happened b0 b1 (new_driver counts pool) d2 numbers
     → length d2.buffers + length d2.staged < d2.counts.rx → (d2.pool ≡ []) ⊎ (length d2.buffers + length d2.staged + 1 ≡ d2.counts.rx)
-    → d3 ≡ with_owners d2 (d2.buffers ++ d2.staged) [] d2.pool [] → (honest b0 → honest b1) → (honest b1 → honest b2)
-    → ((d : DriverState) → honest b1 → ReadyWith false d (world b1) → d.oldest_receive ≡ 0 → counts.rx ≡ d.counts.rx
-    → RanBy false world happened (clears (receive_slot (counts.rx - 1)) ∷ []) b1 b2 d d [] [])
-    → (honest b2 → ReadyWith false (holding [] d2) (world b2)
-    → RanBy false world happened (tail_write (next_receive d2) d2.staged) b2 b3 (holding [] d2) (holding [] d3) [] [])
-    → OffersFirst honest world happened b0 b3 (new_driver counts pool) d3
-offers-first honest world happened joins b0 b1 b2 b3 counts pool numbers d2 d3 owner enough some stages room full behind obeys1 obeys2
-    clearing offers =
+    → d3 ≡ with_owners d2 (d2.buffers ++ d2.staged) [] d2.pool [] → Keeps bus b0 b1 → Keeps bus b1 b2
+    → ((d : DriverState) → IsReady bus false (at b1 d) → d.oldest_receive ≡ 0 → counts.rx ≡ d.counts.rx
+    → Ran bus false (only (clears (receive_slot (counts.rx - 1)) ∷ [])) (at b1 d) (at b2 d))
+    → (IsReady bus false (at b2 (holding [] d2))
+    → Ran bus false (only (tail_write (next_receive d2) d2.staged)) (at b2 (holding [] d2)) (at b3 (holding [] d3)))
+    → OffersFirst bus (at b0 (new_driver counts pool)) (at b3 d3)
+offers-first bus joins b0 b1 b2 b3 counts pool numbers d2 d3 owner enough some stages room full behind keeps1 keeps2 clearing offers =
     let n = counts.rx in
     let staged : d2 ≡ staging counts pool numbers d2.pool = stages.others in
     let done : d3 ≡ offering counts pool numbers d2.pool = behind
@@ -116,17 +116,19 @@ offers-first honest world happened joins b0 b1 b2 b3 counts pool numbers d2 d3 o
       count = count;
       others = done ∙ ap (offering counts pool numbers) (sym left);
       pool = λ k. stages.pool k ∙ ap (λ (rest : List ℕ). copies k (numbers ++ rest)) (sym left);
-      ran = λ obeys ready.
-          let first = stages.ran false [] obeys ready in
-          let ready1 = first.goes.flows.ready in
-          let second = clearing (holding [] d2) (obeys1 obeys) ready1 (ap (λ (d : DriverState). d.oldest_receive) staged)
+      ran = λ is.
+          let first = stages.ran false [] is.honest is.ready in
+          let is1 : IsReady bus false (at b1 (holding [] d2)) =
+          record { honest = keeps1.honest is.honest; ready = first.goes.flows.ready } in
+          let second = clearing (holding [] d2) is1 (ap (λ (d : DriverState). d.oldest_receive) staged)
           (sym (ap (λ (d : DriverState). d.counts.rx) staged)) in
-          let third = offers (obeys2 (obeys1 obeys)) second.goes.flows.ready in
+          let third = offers (record { honest = keeps2.honest is1.honest; ready = second.goes.flows.ready }) in
           let d1 = new_driver counts pool in
-          let later = ran_by-join world happened joins _ _ b1 b2 b3 (holding [] d2) (holding [] d2) (holding [] d3) [] [] [] [] second
-          (ran_by-same world happened _ _ b2 b3 (holding [] d2) (holding [] d3) (holding [] d3) [] [] [] tail refl refl third) in
-          ran_by-same world happened _ _ b0 b3 d1 (holding [] d3) d3 [] [] [] refl same3 refl
-          (ran_by-join world happened joins _ _ b0 b1 b3 d1 (holding [] d2) (holding [] d3) [] [] [] [] first later);
+          let later = ran_by-join bus.world bus.happened joins _ _ b1 b2 b3 (holding [] d2) (holding [] d2) (holding [] d3) [] [] [] []
+          second
+          (ran_by-same bus.world bus.happened _ _ b2 b3 (holding [] d2) (holding [] d3) (holding [] d3) [] [] [] tail refl refl third) in
+          ran_by-same bus.world bus.happened _ _ b0 b3 d1 (holding [] d3) d3 [] [] [] refl same3 refl
+          (ran_by-join bus.world bus.happened joins _ _ b0 b1 b3 d1 (holding [] d2) (holding [] d3) [] [] [] [] first later);
     }
 
 -- Each buffer has one owner then.

@@ -27,7 +27,7 @@ use Rattle.driver_law.specs.Stretches.{RanBy}
 use Rattle.driver_law.specs.ReadyDrivers.{Ready}
 use Rattle.driver_law.specs.TransmitSteps.{transmit_loads, with_freed}
 use Rattle.driver.specs.InsideDriver.{IsSending}
-use Rattle.driver.specs.SendSteps.{FreesOldest, LooksBack, Reclaims, oldest_loads, slots_looked_at, with_sending}
+use Rattle.driver.specs.SendSteps.{FreesOldest, LooksBack, Reclaims, oldest_loads, slots_looked_at, with_transmit_slots}
 
 -- How many loads.
 
@@ -125,7 +125,7 @@ frees-more bus joins a b c k total counts walked sum one two =
 
 -- The driver's own state as slots are freed: some of its outstanding slots are left, and the place behind them stays.
 pub record IsFreeing (d d' : DriverState) : Type 0 where
-  pub others : d' ≡ with_sending d d'.oldest_transmit d'.sending
+  pub others : d' ≡ with_transmit_slots d d'.oldest_transmit d'.sending
   pub fewer : d'.sending ≤ d.sending
   pub walked : d'.oldest_transmit ≡ place d.counts.tx d.oldest_transmit (d.sending - d'.sending)
   pub tail : transmit_tail d' ≡ transmit_tail d
@@ -144,8 +144,8 @@ freeing-more d1 d2 d3 freeing some freed =
     let counts : d2.counts ≡ d1.counts = ap (λ (d : DriverState). d.counts) freeing.others in
     let more : d1.sending - d2.sending + 1 ≡ d1.sending - d3.sending = omega (arith, freeing.fewer, some, sending) in
     record {
-      others = freed ∙ ap (λ (d : DriverState). with_sending d next left) freeing.others
-          ∙ ap (λ (d : DriverState). with_sending d1 d.oldest_transmit d.sending) (sym freed);
+      others = freed ∙ ap (λ (d : DriverState). with_transmit_slots d next left) freeing.others
+          ∙ ap (λ (d : DriverState). with_transmit_slots d1 d.oldest_transmit d.sending) (sym freed);
       fewer = omega (arith, freeing.fewer, sending);
       walked =
           ap (λ (d : DriverState). d.oldest_transmit) freed

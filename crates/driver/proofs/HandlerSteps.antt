@@ -133,7 +133,7 @@ pub handles-it : {up : Bool} {B R : Type 0} (bus : Ghosts B) (receivers : OfRece
     (held_in held (record c { receiver = e.receiver })))
     → Refills bus up (held_at (held ++ all.takes.handed_out) (moment c)) (held_at (held ++ all.takes.handed_out) (moment e))
     → HandlesIt bus receivers n (held_in held (record a { bus = o })) (held_in held e)
-    (record { causes = causes; behind = a.bus; reads = reads })
+    (record { causes = causes; after_read = a.bus; reads = reads })
 handles-it {up} bus receivers joins o a b c e causes misses n held follows some reads counts taking refills =
     let takes = taking.takes in
     let held2 = held ++ takes.handed_out in

@@ -24,6 +24,7 @@ use Rattle.bus.specs.PastOfStretch.{Past, joined}
 use Rattle.bus.specs.AdaptersAtRest.{NoFrame}
 use Rattle.bus.specs.Settings.{AreSet, IsNotReceiveControl, WhileOff, LeavesReceiver, Settings, Write, settings_after_all, settings_of}
 use Rattle.bus.specs.Settings.{writes_in}
+use Rattle.bus.specs.declared.bus.Bus.{Ghosts}
 use Rattle.bus.specs.declared.event.Access.{Access}
 use Rattle.bus.proofs.Lists.{all-left, all-none, all-right, append-empty}
 use Rattle.bus.proofs.Settings.{settings-append, writes-append}
@@ -31,8 +32,9 @@ use Rattle.bus.proofs.WaitingRings.{holds-none}
 use Rattle.driver_law.proofs.Accesses.{ran_by-join}
 use Rattle.driver_law.specs.Accesses.{stores_from}
 use Rattle.driver_law.specs.Beginnings.{new_driver}
+use Rattle.driver_law.specs.Calls.{Ran, at, only}
 use Rattle.driver_law.specs.DriverState.{DriverState, transmit_tail}
-use Rattle.driver_law.specs.Stretches.{GoesTo, RanBy}
+use Rattle.driver_law.specs.Stretches.{GoesTo}
 use Rattle.driver_law.specs.ReadyDrivers.{ReadyWith}
 use Rattle.bring_up.specs.ClearedDescriptors.{clears_from}
 use Rattle.bring_up.specs.Configuration.{CanBeHad, counts_of}
@@ -50,6 +52,7 @@ use Rattle.bring_up.specs.RingRegisters.{receive_control, receive_writes, ring_w
 use Rattle.bring_up.specs.WrittenRegisters.{allocation_writes, link_writes, mask_writes, reset_writes, write_at}
 use Rattle.bring_up.specs.declared.config.Config.{Config}
 use Rattle.bring_up.proofs.DriverAccesses.{asked-still}
+use Rattle.bring_up.proofs.Steps.{StretchesJoin}
 use Rattle.bring_up.proofs.NoFrames.{clears-write_none, new_transmit_ring_stays, quiet_stays, stores-write_none}
 use Rattle.driver.specs.Initialisation.{HasFoundRing, Initialises, first_accesses, transmit_accesses}
 use Rattle.driver.proofs.FirstSlots.{head-first, offering}
@@ -97,19 +100,18 @@ none-leaves_transmits : (accesses : List Access) (past : Past) → past.accesses
 none-leaves_transmits accesses past only none = subst (All LeavesTransmitRing) (sym (ap writes_in only ∙ none))
     (all-none LeavesTransmitRing)
 
-pub sets-transmitter : {B : Type 0} (world : B → World) (happened : B → B → Past → Type 0)
-    → ((a b c : B) (first later : Past) → happened a b first → happened b c later → happened a c (joined first later))
+pub sets-transmitter : {B : Type 0} (bus : Ghosts B) → StretchesJoin bus
     → (b0 b1 b2 b3 : B) (d : DriverState) (counts : Counts) → d.counts ≡ counts → d.oldest_transmit ≡ 0 → d.sending ≡ 0 → 0 < counts.tx
-    → (world b0).adapter.transmit_ring ≡ new_ring
-    → RanBy false world happened (clears_from (16 * counts.rx) counts.tx) b0 b1 d d [] []
-    → (ReadyWith false d (world b1) → (world b1).adapter.transmit_ring ≡ new_ring
-    → SetsTransmitRing world happened (ring_writes 0x3800 (16 * counts.rx) (16 * counts.tx)) b1 b2 d)
-    → (ReadyWith false d (world b2) → d.oldest_transmit < d.counts.tx
-    → KnowsRing (transmit_ring (world b2)) (16 * d.counts.rx) d.counts.tx (transmit_tail d)
-    → LeavesDriver true world happened transmit_writes b2 b3 d)
-    → RanBy true world happened (transmit_accesses counts) b0 b3 d d [] []
-sets-transmitter world happened joins b0 b1 b2 b3 d counts is oldest none some new clearing rings enables =
-    let n1 = new_transmit_ring_stays d (world b0) (world b1) clearing.past clearing.goes.flows.ready clearing.set
+    → (bus.world b0).adapter.transmit_ring ≡ new_ring
+    → Ran bus false (only (clears_from (16 * counts.rx) counts.tx)) (at b0 d) (at b1 d)
+    → (ReadyWith false d (bus.world b1) → (bus.world b1).adapter.transmit_ring ≡ new_ring
+    → SetsTransmitRing bus (ring_writes 0x3800 (16 * counts.rx) (16 * counts.tx)) d b1 b2)
+    → (ReadyWith false d (bus.world b2) → d.oldest_transmit < d.counts.tx
+    → KnowsRing (transmit_ring (bus.world b2)) (16 * d.counts.rx) d.counts.tx (transmit_tail d)
+    → LeavesDriver bus transmit_writes true d b2 b3)
+    → Ran bus true (only (transmit_accesses counts)) (at b0 d) (at b3 d)
+sets-transmitter bus joins b0 b1 b2 b3 d counts is oldest none some new clearing rings enables =
+    let n1 = new_transmit_ring_stays d (bus.world b0) (bus.world b1) clearing.past clearing.goes.flows.ready clearing.set
     (none-leaves_transmits (clears_from (16 * counts.rx) counts.tx) clearing.past clearing.only
     (clears-write_none (16 * counts.rx) counts.tx)) new in
     let sets = rings clearing.goes.flows.ready n1 in
@@ -117,9 +119,9 @@ sets-transmitter world happened joins b0 b1 b2 b3 d counts is oldest none some n
     ap (λ (o : ℕ). place d.counts.tx o 0) (sym oldest) ∙ ap (place d.counts.tx d.oldest_transmit) (sym none) in
     let below : d.oldest_transmit < d.counts.tx = omega (arith, oldest, some, ap (λ (c : Counts). c.tx) is) in
     let runs = enables sets.ran.goes.flows.ready below
-    (subst (KnowsRing (transmit_ring (world b2)) (16 * d.counts.rx) d.counts.tx) tail sets.knows) in
-    ran_by-join world happened joins (clears_from (16 * counts.rx) counts.tx) _ b0 b1 b3 d d d [] [] [] [] clearing
-    (ran_by-join world happened joins _ (accesses_of transmit_writes) b1 b2 b3 d d d [] [] [] [] sets.ran runs)
+    (subst (KnowsRing (transmit_ring (bus.world b2)) (16 * d.counts.rx) d.counts.tx) tail sets.knows) in
+    ran_by-join bus.world bus.happened joins (clears_from (16 * counts.rx) counts.tx) _ b0 b1 b3 d d d [] [] [] [] clearing
+    (ran_by-join bus.world bus.happened joins _ (accesses_of transmit_writes) b1 b2 b3 d d d [] [] [] [] sets.ran runs)
 
 -- The device is found, and its receive ring set up.
 
@@ -148,20 +150,20 @@ behind-receive config =
     (write_at 0x2818 (config.rx - 1) ∷ []) ++ (receive_writes config.promiscuous (names_vlans config.vlans)
     ++ (ring_writes 0x3800 (16 * config.rx) (16 * config.tx) ++ (transmit_writes ++ mask_writes)))
 
-pub finds-ring : {B : Type 0} (world : B → World) (happened : B → B → Past → Type 0) (b0 b1 b2 b3 : B)
-    (config : Config) (size : ℕ) (image : List ℕ) → CanBeHad config size → 16 * config.rx ≤ length (world b2).memory
-    → IsFound world b0 b1 config.rxa image → SetsFilter world happened b1 b2 config (address_bytes image)
-    → SetsAtRest world happened b2 b3 (ring_writes 0x2800 0 (16 * config.rx)) (HasNewRings config.rx) (HasReceiveRing config.rx)
-    → HasFoundRing world b0 b3 config
-finds-ring world happened b0 b1 b2 b3 config size image had room found filter ring =
-    let old = settings_of (world b0).adapter in
+pub finds-ring : {B : Type 0} (bus : Ghosts B) (b0 b1 b2 b3 : B)
+    (config : Config) (size : ℕ) (image : List ℕ) → CanBeHad config size → 16 * config.rx ≤ length (bus.world b2).memory
+    → IsFound bus config.rxa b0 b1 image → SetsFilter bus config (address_bytes image) b1 b2
+    → SetsAtRest bus (ring_writes 0x2800 0 (16 * config.rx)) (HasNewRings config.rx) (HasReceiveRing config.rx) b2 b3
+    → HasFoundRing bus config b0 b3
+finds-ring bus b0 b1 b2 b3 config size image had room found filter ring =
+    let old = settings_of (bus.world b0).adapter in
     let groups = filter.groups in
     let vlans = filter.vlans in
     let address = address_bytes image in
-    let words = address_bytes (world b0).adapter.image in
+    let words = address_bytes (bus.world b0).adapter.image in
     let same : address ≡ words = ap address_bytes found.image_is in
     let receive = ring_writes 0x2800 0 (16 * config.rx) in
-    let set : settings_of (world b2).adapter ≡ settings_after_all (writes_before_rings config address groups vlans) old =
+    let set : settings_of (bus.world b2).adapter ≡ settings_after_all (writes_before_rings config address groups vlans) old =
     filter.sets.settings
     ∙ ap (settings_after_all (table_writes 0x5200 groups ++ (table_writes 0x5600 vlans ++ address_writes address))) found.settings
     ∙ filtered config address groups vlans old in
@@ -173,17 +175,18 @@ finds-ring world happened b0 b1 b2 b3 config size image had room found filter ri
     let aside = all-right IsAside link_writes tables (all-right IsAside (allocation_writes config.rxa) (link_writes ++ tables) behind) in
     let rest = (filter.sets.rests aside found.rests).0 in
     let phy = link-first config address groups vlans filter.has_groups.words filter.has_vlans.words in
-    let rings : HasNewRings config.rx (world b2) = record {
+    let rings : HasNewRings config.rx (bus.world b2) = record {
       rest = rest;
-      receives = new-whole (world b2).adapter.receive_ring (ap (λ (settings : Settings). settings.receive_ring) whole) rest.rings.receive;
-      transmits = new-whole (world b2).adapter.transmit_ring (ap (λ (settings : Settings). settings.transmit_ring) whole)
+      receives = new-whole (bus.world b2).adapter.receive_ring (ap (λ (settings : Settings). settings.receive_ring) whole)
+          rest.rings.receive;
+      transmits = new-whole (bus.world b2).adapter.transmit_ring (ap (λ (settings : Settings). settings.transmit_ring) whole)
           rest.rings.transmit;
       room = room;
     } in
     record {
       sum = subst HasRightSum found.image_is found.sum_is_right;
       address = subst IsAddress same filter.address_is;
-      ring = ring.behind_is rings;
+      ring = ring.after_is rings;
       up = ring.sets.link (all-left LeavesPhy receive (behind-receive config) phy.1) (filter.sets.link phy.0 found.up);
       groups = groups;
       vlans = vlans;
@@ -305,26 +308,25 @@ link-up config address groups vlans groups_whole vlans_whole w1 w2 w3 w4 w5 p2 p
     (keeps3 (subst (All LeavesPhy) (sym three) (all-left LeavesPhy receives (ring ++ masked) from3))
     (keeps2 (subst (All LeavesPhy) (sym two) (all-left LeavesPhy tail (receives ++ (ring ++ masked)) from2)) up)))
 
-pub initialises : {B : Type 0} (world : B → World) (happened : B → B → Past → Type 0)
-    → ((a b c : B) (first later : Past) → happened a b first → happened b c later → happened a c (joined first later))
+pub initialises : {B : Type 0} (bus : Ghosts B) → StretchesJoin bus
     → (b0 b1 b2 b3 b4 b5 : B) (config : Config) (size : ℕ) (pool numbers : List ℕ) (d : DriverState) (past : Past) → CanBeHad config size
-    → happened b0 b1 past → HasFoundRing world b0 b1 config → length numbers + 1 ≡ config.rx
+    → bus.happened b0 b1 past → HasFoundRing bus config b0 b1 → length numbers + 1 ≡ config.rx
     → d ≡ offering (counts_of config) pool numbers d.pool
-    → (first : RanBy false world happened (first_accesses (counts_of config) numbers) b1 b2 (new_driver (counts_of config) pool) d [] [])
-    → HasNoFrames d (world b2) → NoFrame first.past
-    → LetsFramesIn world happened (receive_writes config.promiscuous (names_vlans config.vlans)) b2 b3 d
-    → RanBy true world happened (transmit_accesses (counts_of config)) b3 b4 d d [] [] → EnablesCauses world happened 0xD1 b4 b5 d
-    → Initialises world happened b0 b5 config d
-initialises world happened joins b0 b1 b2 b3 b4 b5 config size pool numbers d past had told found count is first quiet no_frame lets sends
+    → (first : Ran bus false (only (first_accesses (counts_of config) numbers)) (at b1 (new_driver (counts_of config) pool)) (at b2 d))
+    → HasNoFrames d (bus.world b2) → NoFrame first.past
+    → LetsFramesIn bus (receive_writes config.promiscuous (names_vlans config.vlans)) d b2 b3
+    → Ran bus true (only (transmit_accesses (counts_of config))) (at b3 d) (at b4 d) → EnablesCauses bus 0xD1 d b4 b5
+    → Initialises bus.world bus.happened b0 b5 config d
+initialises bus joins b0 b1 b2 b3 b4 b5 config size pool numbers d past had told found count is first quiet no_frame lets sends
     masks =
     let counts = counts_of config in
-    let device = world b0 in
+    let device = bus.world b0 in
     let words = address_bytes device.adapter.image in
-    let later = joined sends.past masks.past in
-    let out3 = append-empty lets.ran.past.put (frames_to_send (world b3))
-    (lets.ran.goes.flows.sends ∙ append-nil (frames_to_send (world b2)) ∙ quiet.none_to_send) in
+    let later = joined sends.past masks.accessed.past in
+    let out3 = append-empty lets.ran.past.put (frames_to_send (bus.world b3))
+    (lets.ran.goes.flows.sends ∙ append-nil (frames_to_send (bus.world b2)) ∙ quiet.none_to_send) in
     let new_missed : d.missed ≡ 0 = ap (λ (s : DriverState). s.missed) is in
-    let none_missed : (world b3).adapter.missed_packets ≡ 0 =
+    let none_missed : (bus.world b3).adapter.missed_packets ≡ 0 =
     omega (
       arith,
       first.goes.flows.at_most,
@@ -334,20 +336,22 @@ initialises world happened joins b0 b1 b2 b3 b4 b5 config size pool numbers d pa
       found.ring.rest.none_missed,
       new_missed,
     ) in
-    let from = counts-from d (world b3) (world b4) masks.middle sends.past masks.past sends.goes masks.goes out3.1 lets.none_held
-    none_missed in
-    let held : frames_held d.oldest_receive (world b5) ≡ later.stored = masks.enabled.held ∙ from.held in
+    let from = counts-from d (bus.world b3) (bus.world b4) masks.middle sends.past masks.accessed.past sends.goes masks.goes out3.1
+    lets.none_held none_missed in
+    let held : frames_held d.oldest_receive (bus.world b5) ≡ later.stored = masks.enabled.held ∙ from.held in
     let exact : IsTrue d.exact = ap (λ (s : DriverState). s.exact) is in
     let all =
-    settings-all config words found.groups found.vlans (settings_of device.adapter) (settings_of (world b1).adapter)
-    (settings_of (world b2).adapter)
-    (settings_of (world b3).adapter) (settings_of (world b4).adapter) (settings_of (world b5).adapter) found.settings
-    (first.set ∙ ap (λ (writes : List Write). settings_after_all writes (settings_of (world b1).adapter))
+    settings-all config words found.groups found.vlans (settings_of device.adapter) (settings_of (bus.world b1).adapter)
+    (settings_of (bus.world b2).adapter)
+    (settings_of (bus.world b3).adapter) (settings_of (bus.world b4).adapter) (settings_of (bus.world b5).adapter) found.settings
+    (first.set ∙ ap (λ (writes : List Write). settings_after_all writes (settings_of (bus.world b1).adapter))
     (ap writes_in first.only ∙ first-writes counts numbers))
-    (lets.ran.set ∙ ap (λ (writes : List Write). settings_after_all writes (settings_of (world b2).adapter)) (ap writes_in lets.ran.only))
-    (sends.set ∙ ap (λ (writes : List Write). settings_after_all writes (settings_of (world b3).adapter))
+    (lets.ran.set ∙ ap (λ (writes : List Write). settings_after_all writes (settings_of (bus.world b2).adapter))
+    (ap writes_in lets.ran.only))
+    (sends.set ∙ ap (λ (writes : List Write). settings_after_all writes (settings_of (bus.world b3).adapter))
     (ap writes_in sends.only ∙ transmit-writes counts))
-    (masks.set ∙ ap (λ (writes : List Write). settings_after_all writes (settings_of (world b4).adapter)) (ap writes_in masks.only)) in
+    (masks.accessed.set ∙ ap (λ (writes : List Write). settings_after_all writes (settings_of (bus.world b4).adapter))
+    (ap writes_in masks.accessed.only)) in
     let set = writes-configure config words found.groups found.vlans size (settings_of device.adapter) had found.address found.groups_are
     found.vlans_are found.has_groups found.has_vlans in
     let start = joined past (joined first.past lets.ran.past) in
@@ -357,7 +361,7 @@ initialises world happened joins b0 b1 b2 b3 b4 b5 config size pool numbers d pa
       later = later;
       told_first = joins b0 b1 b3 past (joined first.past lets.ran.past) told
           (joins b1 b2 b3 first.past lets.ran.past first.told lets.ran.told);
-      told_later = joins b3 b4 b5 sends.past masks.past sends.told masks.told;
+      told_later = joins b3 b4 b5 sends.past masks.accessed.past sends.told masks.accessed.told;
       ends = record {
         earlier = past.accesses;
         whole =
@@ -369,9 +373,9 @@ initialises world happened joins b0 b1 b2 b3 b4 b5 config size pool numbers d pa
             (first_accesses c d.buffers ++ accesses_of (receive_writes config.promiscuous (names_vlans config.vlans))))
             (sym (ap (λ (s : DriverState). s.counts) is));
       };
-      accesses = rw (sends.only, masks.only, is) refl;
+      accesses = rw (sends.only, masks.accessed.only, is) refl;
       ready = masks.ready;
-      work = masks.work (asked-still d (world b3) (world b4) sends.past sends.goes (inl lets.none_finished));
+      work = masks.work (asked-still d (bus.world b3) (bus.world b4) sends.past sends.goes (inl lets.none_finished));
       held = held;
       none_put = from.none_put;
       none_to_send = masks.enabled.to_send ∙ from.none_to_send;
@@ -380,14 +384,14 @@ initialises world happened joins b0 b1 b2 b3 b4 b5 config size pool numbers d pa
       sum = found.sum;
       image = ap (λ (settings : Settings). settings.image) all ∙ set.1;
       configured = subst (IsConfigured config words) (sym all) set.0;
-      up = link-up config words found.groups found.vlans found.has_groups.words found.has_vlans.words (world b1) (world b2) (world b3)
-          (world b4) (world b5) first.past lets.ran.past sends.past masks.past
+      up = link-up config words found.groups found.vlans found.has_groups.words found.has_vlans.words (bus.world b1) (bus.world b2)
+          (bus.world b3) (bus.world b4) (bus.world b5) first.past lets.ran.past sends.past masks.accessed.past
           (ap writes_in first.only ∙ first-writes counts numbers) (ap writes_in lets.ran.only)
-          (ap writes_in sends.only ∙ transmit-writes counts) (ap writes_in masks.only)
-          first.link lets.ran.link sends.link masks.link found.up;
-      none_finished = λ none. none-finished d.oldest_receive (world b5) (held ∙ none);
+          (ap writes_in sends.only ∙ transmit-writes counts) (ap writes_in masks.accessed.only)
+          first.link lets.ran.link sends.link masks.accessed.link found.up;
+      none_finished = λ none. none-finished d.oldest_receive (bus.world b5) (held ∙ none);
       head = λ none.
-          head-first d (world b5) masks.ready (ap (λ (s : DriverState). s.oldest_receive) is)
+          head-first d (bus.world b5) masks.ready (ap (λ (s : DriverState). s.oldest_receive) is)
           (ap (λ (s : DriverState). length s.buffers + 1) is ∙ count ∙ sym (ap (λ (s : DriverState). s.counts.rx) is)) (held ∙ none);
     }
 

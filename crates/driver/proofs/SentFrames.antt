@@ -1,8 +1,7 @@
 -- A frame is sent over a bus.
-use Rattle.std.proofs.Common.{true, ◌≡◌, ◌<◌, ◌+◌, ◌-◌, Ok, ◌%◌, ◌++◌, ◌∷◌, [], ℕ, List, length, refl, sym, ap, subst, ◌∙◌, arith}
+use Rattle.std.proofs.Common.{true, ◌≡◌, ◌<◌, ◌+◌, ◌-◌, Err, Ok, ◌%◌, ◌++◌, ◌∷◌, [], ℕ, List, length, refl, sym, ap, subst, ◌∙◌, arith}
 use Rattle.dma_memory.specs.Layout.{Counts}
 use Rattle.adapter.specs.Slots.{written_back}
-use Rattle.adapter.specs.World.{World}
 use Rattle.bus.specs.PastOfStretch.{Past, joined}
 use Rattle.bus.specs.declared.bus.Bus.{Ghosts}
 use Rattle.bus.specs.declared.event.Access.{Access}
@@ -13,7 +12,8 @@ use Rattle.driver_law.specs.DriverState.{DriverState, transmit_slot, transmit_ta
 use Rattle.driver_law.specs.Calls.{IsReady, Moment, Ran}
 use Rattle.driver_law.specs.TransmitSteps.{send_accesses, transmit_buffer, whole_descriptor}
 use Rattle.driver.specs.InsideDriver.{IsSending}
-use Rattle.driver.specs.SendSteps.{Reclaims, Sends, accesses_by, loads_to_free, sent_now}
+use Rattle.driver.specs.SendSteps.{IsAnswer, Reclaims, Sends, accesses_by, loads_to_free, sent_now}
+use Rattle.driver.specs.declared.transmit.SendError.TheVariants.{RingFull}
 
 -- The place that is sent by.
 
@@ -29,21 +29,18 @@ sending-more counts oldest next sending room sends = record {
   next_slot = ap (λ (slot : ℕ). (slot + 1) % counts.tx) sends.next_slot ∙ sym (place-next counts.tx oldest sending);
 }
 
--- A ring that is full behind the freeing was full before it, with no slot written back.
-pub record WasFull (d : DriverState) (world : World) : Type 0 where
-  pub all : d.sending + 1 ≡ d.counts.tx
-  pub none : written_back d.oldest_transmit world ≡ []
-
+-- A ring that is full after the freeing was full before it, with no slot written back.
 pub was-full : {B : Type 0} (bus : Ghosts B) (old new : Moment B) → IsReady bus true old → Reclaims bus old new
-    → new.driver.sending + 1 ≡ old.driver.counts.tx → WasFull old.driver (bus.world old.bus)
+    → new.driver.sending + 1 ≡ old.driver.counts.tx → IsAnswer bus (Err RingFull) old new
 was-full bus old new is reclaims full =
     let room = is.ready.transmit.room in
-    let count = reclaims.ran.goes.flows.frees in
-    record {
-      all = omega (arith, full, count, room, ap length reclaims.none);
-      none = none-of (written_back old.driver.oldest_transmit (bus.world old.bus))
-          (omega (arith, full, count, room, ap length reclaims.none));
-    }
+    let count = reclaims.ran.goes.flows.frees in (
+      (
+        omega (arith, full, count, room, ap length reclaims.none),
+        none-of (written_back old.driver.oldest_transmit (bus.world old.bus)) (omega (arith, full, count, room, ap length reclaims.none)),
+      ),
+      (full ∙ sym (ap (λ (layout : Counts). layout.tx) reclaims.ran.goes.flows.counts), reclaims.none),
+    )
   where
     none-of : (slots : List ℕ) → length slots ≡ 0 → slots ≡ []
     none-of [] none = refl
@@ -73,5 +70,5 @@ frees-and-sends bus joins a b c frame counts tail more reclaims sends =
     record {
       ran = subst (λ (accesses : List Access). Ran bus true (record (sent_now a.driver frame) { accesses = accesses }) a c) same
           (ran-on bus joins reclaims.ran sends);
-      answer = tt;
+      answer = omega (arith, reclaims.ran.goes.flows.frees, ap length reclaims.none, more);
     }

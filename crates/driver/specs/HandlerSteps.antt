@@ -22,25 +22,25 @@ use Rattle.driver.specs.declared.interrupt.Handled.TheVariants.{NotMine}
 use Rattle.driver.specs.declared.interrupt.Handled.TheVariants as answers
 use Rattle.driver.specs.declared.receiver.Receiver.{Ghosts as OfReceiver}
 
--- what holds where the handler did something, by how many slots it took
-abbrev pub OnTaken : Handled → (ℕ → Type 0) → Type 0
-OnTaken NotMine P = Unit {0}
-OnTaken (answers.Handled taken) P = P taken
+-- what holds if the handler did its work, by the number of slots that it took
+abbrev pub IfHandled : Handled → (ℕ → Type 0) → Type 0
+IfHandled NotMine P = Unit {0}
+IfHandled (answers.Handled taken) P = P taken
 
--- what holds where it did nothing
-abbrev pub OnNotMine : Handled → Type 0 → Type 0
-OnNotMine NotMine P = P
-OnNotMine (answers.Handled taken) P = Unit {0}
+-- what holds if it did nothing
+abbrev pub IfNotMine : Handled → Type 0 → Type 0
+IfNotMine NotMine P = P
+IfNotMine (answers.Handled taken) P = Unit {0}
 
--- Behind ICR: MPC is read; the slots of these buffers are taken, the oldest first, up to one that isn't finished, if any is left; and then
--- slots are offered with these buffers.
+-- After the read of ICR: MPC is read; the slots of these buffers are taken, the oldest first, up to one that isn't finished, if any is
+-- left; and then slots are offered with these buffers.
 abbrev pub handled_accesses : DriverState → (misses : ℕ) → (taken rest offered : List ℕ) → (last : ℕ) → List Access
 handled_accesses d misses taken rest offered last =
     Reads MPC misses ∷
     (takes_from d.counts d.oldest_receive taken ++ last_load (place d.counts.rx d.oldest_receive (length taken)) rest)
     ++ (stores_from d.counts (next_receive d) offered ++ tail_write last (d.staged ++ offered))
 
--- So many slots are taken, and their frames shown to the receiver, who has those of them that are handed out then.
+-- n slots are taken, and their frames are shown to the receiver, in order. It keeps those in `handed_out`.
 pub record Works {B R : Type 0} (bus : Ghosts B) (receivers : OfReceiver R) (n : ℕ) (up : Bool) (old new : Scene B R) : Type 0 where
   pub misses : ℕ
   pub taken : List HandedOut
@@ -62,24 +62,24 @@ pub record Works {B R : Type 0} (bus : Ghosts B) (receivers : OfReceiver R) (n :
         accepted = [];
       }) (moment old) (held_at (old.driver.handed_out ++ handed_out) (moment new))
 
--- ICR was read, alone: what it said, and where that left the bus.
+-- The first access, a read of ICR: the causes that it returned, and the bus after it.
 pub record Asked {B : Type 0} (bus : Ghosts B) (up : Bool) (old : Moment B) : Type 0 where
   pub causes : ℕ
-  pub behind : B
-  pub reads : ReadsCauses up bus.world bus.happened old.bus behind old.driver causes
+  pub after_read : B
+  pub reads : ReadsCauses up bus.world bus.happened old.bus after_read old.driver causes
 
 -- It does nothing: ICR had none of its causes.
 pub record LeavesIt {B : Type 0} (bus : Ghosts B) {up : Bool} (old new : Moment B) (asked : Asked bus up old) : Type 0 where
   pub none : ¬ Meet asked.causes handled_causes
-  pub still : new.bus ≡ asked.behind
+  pub still : new.bus ≡ asked.after_read
   pub work : HasNoForgottenWork old.driver (bus.world old.bus) → HasNoForgottenWork new.driver (bus.world new.bus)
 
 -- It does its work.
 pub record HandlesIt {B R : Type 0} (bus : Ghosts B) (receivers : OfReceiver R) (n : ℕ) {up : Bool} (old new : Scene B R)
     (asked : Asked bus up (moment old)) : Type 0 where
   pub some : Meet asked.causes handled_causes
-  pub works : Works bus receivers n up (record old { bus = asked.behind }) new
-  -- It takes at least what was finished at the beginning, and no work is forgotten.
+  pub works : Works bus receivers n up (record old { bus = asked.after_read }) new
+  -- It takes at least the slots that were finished at the beginning, and no work is forgotten.
   pub least : length (finished old.driver.oldest_receive (bus.world old.bus)) ≤ n
   pub work : HasBit (bus.world old.bus).adapter.causes.mask rxt0 → HasNoForgottenWork new.driver (bus.world new.bus)
   -- both parts together
@@ -92,21 +92,21 @@ abbrev pub HandlesBy : {B R : Type 0} (bus : Ghosts B) → OfReceiver R → Hand
 HandlesBy bus receivers NotMine old new asked = LeavesIt bus (moment old) (moment new) asked
 HandlesBy bus receivers (answers.Handled taken) old new asked = HandlesIt bus receivers taken old new asked
 
--- First it reads ICR. What it does behind that is by the causes that were read.
+-- It reads ICR first. What it does next depends on the causes read.
 pub record Handles {B R : Type 0} (bus : Ghosts B) (receivers : OfReceiver R) (result : Handled) (up : Bool) (old new : Scene B R) : Type 0
   where
     pub asked : Asked bus up (moment old)
-    pub behind : HandlesBy bus receivers result old new asked
+    pub then_does : HandlesBy bus receivers result old new asked
 
 -- Over any bus.
 
--- The transmit side stays, and where things stand.
+-- The sizes of rings and pool and the transmit slots don't change.
 pub record OnlyReceives (d d' : DriverState) : Type 0 where
   pub counts : d'.counts ≡ d.counts
   pub oldest : d'.oldest_transmit ≡ d.oldest_transmit
   pub sending : d'.sending ≡ d.sending
 
--- So many slots are taken, and then all that can be are offered.
+-- n slots are taken, and then the ring is refilled.
 pub record Serves {R : Type 0} (receivers : OfReceiver R) (before after : R) (d d' : DriverState) (n : ℕ) : Type 0 where
   pub shows : ShowsAll receivers.took before after d d' n
   pub refilled : IsRefilled d'

@@ -1,5 +1,5 @@
--- What a driver does to bring its adapter up ("14.3 General Initialization", "14.4 Receive Initialization", "14.5 Transmit
--- Initialization"; the order is own).
+-- What a driver does to initialize its adapter ("14.3 General Initialization", "14.4 Receive Initialization", "14.5 Transmit
+-- Initialization"). The order is our choice.
 use Rattle.std.specs.Prelude.{◌≡◌, ◌≤◌, ◌<◌, ◌+◌, ◌-◌, ◌*◌, ◌++◌, ℕ, false, List, [], ◌∷◌, Result, IfErr, IfOk, length}
 use Rattle.adapter.specs.declared.offsets.TheConstants.{RDBAL, RDT, TDBAL}
 use Rattle.registers.specs.Counting.{greatest_count}
@@ -13,6 +13,7 @@ use Rattle.adapter.specs.World.{World}
 use Rattle.bus.specs.Link.{HasLink}
 use Rattle.bus.specs.PastOfStretch.{Past}
 use Rattle.bus.specs.Settings.{settings_after_all, settings_of}
+use Rattle.bus.specs.declared.bus.Bus.{Ghosts}
 use Rattle.bus.specs.declared.event.Access.{Access}
 use Rattle.bus.specs.declared.event.Access.TheVariants.{Writes}
 use Rattle.bring_up.specs.ClearedDescriptors.{clears, clears_from}
@@ -30,19 +31,20 @@ use Rattle.bring_up.specs.declared.init_error.InitError.TheVariants.{Memory}
 use Rattle.bring_up.specs.declared.init_error.InitError.TheVariants as errors
 use Rattle.driver_law.specs.Accesses.{stores_from}
 use Rattle.driver_law.specs.Beginnings.{new_driver}
+use Rattle.driver_law.specs.Calls.{IsReady, Moment, Ran, only}
 use Rattle.driver_law.specs.DriverState.{DriverState, owners, receive_slot, with_owners}
-use Rattle.driver_law.specs.Stretches.{HasNoForgottenWork, IsRefilled, RanBy}
-use Rattle.driver_law.specs.ReadyDrivers.{Ready, ReadyWith}
+use Rattle.driver_law.specs.Stretches.{HasNoForgottenWork, IsRefilled}
+use Rattle.driver_law.specs.ReadyDrivers.{Ready}
 
--- Its refusals.
+-- Its errors.
 
--- Want of memory, and a configuration that can't be had, come without an access; the others as of a device that isn't found.
+-- E10 and E15 are returned without an access, the others as by a call that looks for a device.
 abbrev pub IsErrorOfInit : InitError → (image : List ℕ) (accesses : ℕ) → Type 0
 IsErrorOfInit Memory image accesses = accesses ≡ 0
 IsErrorOfInit errors.Config image accesses = accesses ≡ 0
 IsErrorOfInit error image accesses = IsErrorOf error image accesses
 
--- An adapter isn't brought up.
+-- An adapter isn't initialized.
 pub record Refuses {B : Type 0} (world : B → World) (happened : B → B → Past → Type 0) (lively : B → Type 0) (old new : B)
     (error : InitError) : Type 0 where
   pub past : Past
@@ -53,11 +55,11 @@ pub record Refuses {B : Type 0} (world : B → World) (happened : B → B → Pa
 -- Its steps.
 
 -- The device is found, its filter set up, and its receive ring with no slot offered.
-pub record HasFoundRing {B : Type 0} (world : B → World) (old new : B) (config : Config) : Type 0 where
-  pub sum : HasRightSum (world old).adapter.image
-  pub address : IsAddress (address_bytes (world old).adapter.image)
-  pub ring : HasReceiveRing config.rx (world new)
-  pub up : HasLink (world new)
+pub record HasFoundRing {B : Type 0} (bus : Ghosts B) (config : Config) (old new : B) : Type 0 where
+  pub sum : HasRightSum (bus.world old).adapter.image
+  pub address : IsAddress (address_bytes (bus.world old).adapter.image)
+  pub ring : HasReceiveRing config.rx (bus.world new)
+  pub up : HasLink (bus.world new)
   -- the tables of the filter
   pub groups : List ℕ
   pub vlans : List ℕ
@@ -65,30 +67,29 @@ pub record HasFoundRing {B : Type 0} (world : B → World) (old new : B) (config
   pub has_vlans : HasNumbers vlans (vlans_of config.vlans)
   pub groups_are : AreWords groups
   pub vlans_are : AreWords vlans
-  pub settings : settings_of (world new).adapter ≡ settings_after_all
-      (writes_before_rings config (address_bytes (world old).adapter.image) groups vlans ++ ring_writes RDBAL 0 (16 * config.rx))
-      (settings_of (world old).adapter)
+  pub settings : settings_of (bus.world new).adapter ≡ settings_after_all
+      (writes_before_rings config (address_bytes (bus.world old).adapter.image) groups vlans ++ ring_writes RDBAL 0 (16 * config.rx))
+      (settings_of (bus.world old).adapter)
 
-pub record FindsRing {B : Type 0} (world : B → World) (happened : B → B → Past → Type 0) (lively : B → Type 0) (old new : B)
-    (config : Config) (result : Result (Unit {0}) InitError) : Type 0 where
+pub record FindsRing {B : Type 0} (bus : Ghosts B) (config : Config) (result : Result (Unit {0}) InitError) (old new : B) : Type 0 where
   pub past : Past
-  pub told : happened old new past
-  pub found : IfOk result (λ done. HasFoundRing world old new config)
-  pub why : IfErr result (λ error. IsErrorOf error (world old).adapter.image (length past.accesses))
-  pub why_lively : lively old → IfErr result (λ error. IsErrorOfLively error (world old))
+  pub told : bus.happened old new past
+  pub found : IfOk result (λ done. HasFoundRing bus config old new)
+  pub why : IfErr result (λ error. IsErrorOf error (bus.world old).adapter.image (length past.accesses))
+  pub why_lively : bus.lively old → IfErr result (λ error. IsErrorOfLively error (bus.world old))
 
 -- The receive slots are stored, the last one cleared, and then all but that one offered.
 abbrev pub first_accesses : Counts → List ℕ → List Access
 first_accesses counts numbers =
     stores_from counts 0 numbers ++ (clears (receive_slot (counts.rx - 1)) ∷ Writes RDT (counts.rx - 1) ∷ [])
 
-pub record OffersFirst {B : Type 0} (honest : B → Type 0) (world : B → World) (happened : B → B → Past → Type 0) (old new : B)
-    (d d' : DriverState) : Type 0 where
+pub record OffersFirst {B : Type 0} (bus : Ghosts B) (old new : Moment B) : Type 0 where
   pub numbers : List ℕ
-  pub count : length numbers + 1 ≡ d.counts.rx
-  pub others : d' ≡ with_owners d numbers [] d'.pool []
-  pub pool : HaveSameNumbers d.pool (numbers ++ d'.pool)
-  pub ran : honest old → ReadyWith false d (world old) → RanBy false world happened (first_accesses d.counts numbers) old new d d' [] []
+  pub count : length numbers + 1 ≡ old.driver.counts.rx
+  pub others : new.driver ≡ with_owners old.driver numbers [] new.driver.pool []
+  pub pool : HaveSameNumbers old.driver.pool (numbers ++ new.driver.pool)
+  -- If the driver is ready with its transmit side off, over a bus that obeys the law, the accesses are exactly these.
+  pub ran : IsReady bus false old → Ran bus false (only (first_accesses old.driver.counts numbers)) old new
 
 -- The transmit descriptors are cleared, the ring set up, and TCTL written.
 abbrev pub transmit_accesses : Counts → List Access
@@ -103,10 +104,10 @@ pub record EndsWith (accesses last : List Access) : Type 0 where
   pub earlier : List Access
   pub whole : accesses ≡ earlier ++ last
 
--- An adapter is brought up. Frames count from the write of RCTL on.
+-- An adapter is initialized. Frames count from the write of RCTL on.
 pub record Initialises {B : Type 0} (world : B → World) (happened : B → B → Past → Type 0) (old new : B) (config : Config)
     (d : DriverState) : Type 0 where
-  -- up to the write of RCTL, and behind it
+  -- up to the write of RCTL, and after it
   pub middle : B
   pub first : Past
   pub later : Past
@@ -123,7 +124,7 @@ pub record Initialises {B : Type 0} (world : B → World) (happened : B → B �
   pub held : frames_held d.oldest_receive (world new) ≡ later.stored
   pub none_put : later.put ≡ []
   pub none_to_send : frames_to_send (world new) ≡ []
-  -- MPC counts those missed since then, exactly while it doesn't stick.
+  -- MPC counts those missed since then, exactly while it doesn't saturate.
   pub missed_most : (world new).adapter.missed_packets ≤ later.missed
   pub missed : (world new).adapter.missed_packets < greatest_count → (world new).adapter.missed_packets ≡ later.missed
   -- The EEPROM's words have the right sum, and their first three are the address; the link is up.
@@ -131,11 +132,11 @@ pub record Initialises {B : Type 0} (world : B → World) (happened : B → B �
   pub image : (world new).adapter.image ≡ (world old).adapter.image
   pub configured : IsConfigured config (address_bytes (world old).adapter.image) (settings_of (world new).adapter)
   pub up : HasLink (world new)
-  -- Where no frame was stored, no slot is finished, and RDH is 0.
+  -- If no frame was stored, no slot is finished, and RDH is 0.
   pub none_finished : later.stored ≡ [] → finished d.oldest_receive (world new) ≡ []
   pub head : later.stored ≡ [] → (world new).adapter.receive_ring.head ≡ 0
 
--- The driver of an adapter that was brought up, over any bus.
+-- The driver of an adapter that was initialized, over any bus.
 pub record IsFresh (config : Config) (driver : DriverState) : Type 0 where
   pub counts : driver.counts ≡ counts_of config
   pub new : driver ≡ with_owners (new_driver (counts_of config) []) driver.buffers [] driver.pool []

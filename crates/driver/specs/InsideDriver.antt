@@ -1,5 +1,5 @@
--- How a driver keeps its state (own): the buffers of outstanding and staged receive slots stand in one queue, and the places behind the
--- last slots are kept beside it.
+-- How a driver keeps its state (our choice): the buffers of outstanding and staged receive slots are in one queue, and the places after the
+-- last slots are kept, too.
 use Rattle.std.specs.Prelude.{◌≡◌, ◌≤◌, ◌<◌, ◌-◌, ◌++◌, ℕ, IsTrue, [], length, take, drop}
 use Rattle.registers.specs.Counting.{greatest_count}
 use Rattle.dma_memory.specs.Layout.{Counts}
@@ -10,7 +10,7 @@ use Rattle.descriptors.specs.RingLaws.{place}
 use Rattle.driver_law.specs.DriverState.{DriverState}
 use Rattle.driver.specs.declared.driver.Driver.TheInside.{Inside}
 
--- how many of the queue are outstanding
+-- the number of buffers of the queue whose slots are outstanding
 abbrev pub offered_count : Inside → ℕ
 offered_count driver = length driver.buffers.items - driver.staged
 
@@ -49,5 +49,5 @@ pub record IsSending (counts : Counts) (oldest next sending : ℕ) : Type 0 wher
 pub record IsConsistent (driver : Inside) : Type 0 where
   pub receives : IsReceiving driver.layout driver.oldest_receive driver.next_receive driver.staged driver.buffers driver.pool
   pub sends : IsSending driver.layout driver.oldest_transmit driver.next_transmit driver.sending
-  -- the sum of misses is exact wherever it is below the greatest value of MPC
+  -- the sum of misses is exact if it is below the greatest value of MPC
   pub sums : driver.missed < greatest_count → IsTrue driver.exact

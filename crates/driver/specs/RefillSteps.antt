@@ -20,14 +20,14 @@ pub record Stages {B : Type 0} (honest : B → Type 0) (world : B → World) (ha
       (up : Bool) (held : List HandedOut) → honest old → ReadyWith up (holding held d) (world old)
       → RanBy up world happened (stores_from d.counts (next_receive d) numbers) old new (holding held d) (holding held d') [] []
 
--- Some slots are.
+-- Some slots are staged.
 pub record StagesSome {B : Type 0} (honest : B → Type 0) (world : B → World) (happened : B → B → Past → Type 0) (old new : B)
     (d d' : DriverState) : Type 0 where
   pub numbers : List ℕ
   pub stages : Stages honest world happened old new d d' numbers
 
--- The next slots are offered with these buffers, behind those that were staged before: their descriptors are stored, and then RDT is
--- written once, where there are any.
+-- The next slots are offered with these buffers, after those that were staged before: their descriptors are stored, and then RDT is written
+-- once, if any slot was staged.
 pub record Refills {B : Type 0} (bus : Ghosts B) (up : Bool) (old new : Moment B) : Type 0 where
   pub numbers : List ℕ
   pub offered : new.driver.buffers ≡ old.driver.buffers ++ (old.driver.staged ++ numbers)
@@ -35,13 +35,14 @@ pub record Refills {B : Type 0} (bus : Ghosts B) (up : Bool) (old new : Moment B
       Ran bus up (only (stores_from old.driver.counts (next_receive old.driver) numbers
       ++ tail_write (next_receive new.driver) (old.driver.staged ++ numbers))) old new
 
--- Over any bus: all slots are offered for which there is a buffer, and nothing else changes.
+-- Over any bus: the ring is refilled, no slot is staged then, and nothing else changes.
 pub record OffersAll (d d' : DriverState) : Type 0 where
   pub others : d' ≡ with_owners d d'.buffers [] d'.pool []
   pub refilled : IsRefilled d'
   pub one_owner : HasNoSecondOwner d'.counts.buffers (owners d')
 
--- What holds of a call that takes back the buffer of this number, over a bus that obeys the law, by a driver that is ready.
+-- A call takes back the buffer of this number. If the bus obeys the law, and the driver is ready before the call with a frame held in that
+-- buffer, `Holds` relates the moments before and after it.
 abbrev pub WhereHeld : {B : Type 0} → Ghosts B → ℕ → (old new : Moment B) → (Bool → Moment B → Moment B → Type 0) → Type 0
 WhereHeld bus number old new Holds =
     (up : Bool) (first later : List HandedOut) (one : HandedOut) → one.number ≡ number

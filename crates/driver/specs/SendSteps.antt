@@ -1,9 +1,8 @@
 -- What a driver does to send a frame.
-use Rattle.std.specs.Prelude.{⊤, Bool, ◌≡◌, ◌<◌, ◌+◌, ◌-◌, ◌++◌, ◌∷◌, ℕ, true, List, [], Result, Ok, Err, min}
+use Rattle.std.specs.Prelude.{⊤, Bool, ◌≡◌, ◌≤◌, ◌<◌, ◌+◌, ◌-◌, ◌++◌, ◌∷◌, ℕ, true, List, [], Result, Ok, Err, length, min}
 use Rattle.std.specs.Bool.{OnFalse}
 use Rattle.descriptors.specs.Frames.{padded}
 use Rattle.adapter.specs.Slots.{written_back}
-use Rattle.adapter.specs.World.{World}
 use Rattle.bus.specs.declared.bus.Bus.{Ghosts}
 use Rattle.bus.specs.declared.event.Access.{Access}
 use Rattle.driver_law.specs.DriverState.{DriverState}
@@ -12,11 +11,11 @@ use Rattle.driver_law.specs.TransmitSteps.{send_accesses, transmit_loads, with_f
 use Rattle.driver.specs.declared.transmit.SendError.{SendError}
 use Rattle.driver.specs.declared.transmit.SendError.TheVariants.{TooShort, TooLong, RingFull}
 
--- the same driver, but for its outstanding transmit slots
-abbrev pub with_sending : DriverState → (oldest sending : ℕ) → DriverState
-with_sending d oldest sending = record d { oldest_transmit = oldest; sending = sending }
+-- the same driver with other outstanding transmit slots
+abbrev pub with_transmit_slots : DriverState → (oldest sending : ℕ) → DriverState
+with_transmit_slots d oldest sending = record d { oldest_transmit = oldest; sending = sending }
 
--- the descriptors of so many of its slots are loaded, from the oldest on
+-- the descriptors of k of its slots are loaded, from the oldest on
 abbrev pub oldest_loads : DriverState → ℕ → List Access
 oldest_loads d k = transmit_loads d.counts d.oldest_transmit k
 
@@ -25,13 +24,12 @@ pub record FreesOldest (d d' : DriverState) : Type 0 where
   pub some : 0 < d.sending
   pub freed : d' ≡ with_freed d
 
--- It is looked at by one load, if there is one; where it isn't freed, none is written back.
+-- Its descriptor is loaded once, if any slot is outstanding. If it isn't freed, no slot is written back.
 pub record LooksBack {B : Type 0} (bus : Ghosts B) (freed : Bool) (old new : Moment B) : Type 0 where
   pub ran : Ran bus true (only (oldest_loads old.driver (min old.driver.sending 1))) old new
   pub none : OnFalse freed (written_back new.driver.oldest_transmit (bus.world new.bus) ≡ [])
 
--- how many descriptors are loaded until so many slots are left outstanding: that of each slot that is freed, and of the first that isn't,
--- if any is left
+-- the number of descriptors loaded: one for each slot that is freed, and one for the first that isn't, if any is left
 abbrev pub slots_looked_at : (before left : ℕ) → ℕ
 slots_looked_at before left = before - left + min left 1
 
@@ -47,7 +45,7 @@ pub record Reclaims {B : Type 0} (bus : Ghosts B) (old new : Moment B) : Type 0 
 abbrev pub Answer : Type 0
 Answer = Result (Unit {0}) SendError
 
--- What is given to be sent, by the answer.
+-- The frames accepted for sending, by the answer.
 abbrev pub accepted_by : Answer → List ℕ → List (List ℕ)
 accepted_by (Ok u) frame = padded frame ∷ []
 accepted_by (Err error) frame = []
@@ -60,18 +58,26 @@ accesses_by (Err TooShort) d d' frame = []
 accesses_by (Err TooLong) d d' frame = []
 accesses_by (Err RingFull) d d' frame = loads_to_free d d'.sending
 
--- The ring is full only where all slots but one had a frame at entry, none of them written back.
-abbrev pub IsAnswer : Answer → DriverState → World → Type 0
-IsAnswer (Err RingFull) d world = (d.sending + 1 ≡ d.counts.tx) × (written_back d.oldest_transmit world ≡ [])
-IsAnswer answer d world = Unit {0}
+-- All slots but one are outstanding, and none of them is written back.
+abbrev pub IsFull : {B : Type 0} → Ghosts B → Moment B → Type 0
+IsFull bus now = (now.driver.sending + 1 ≡ now.driver.counts.tx) × (written_back now.driver.oldest_transmit (bus.world now.bus) ≡ [])
 
--- it isn't a frame that can be sent
-abbrev pub IsRefused : Answer → Type 0
-IsRefused (Err TooShort) = ⊤
-IsRefused (Err TooLong) = ⊤
-IsRefused answer = ⊥
+-- What an answer says of the ring. Ok: each slot that was written back at entry is freed, and one more is outstanding. RingFull: the ring
+-- was full at entry, and it is full at the return, after the last load.
+abbrev pub IsAnswer : {B : Type 0} → Ghosts B → Answer → (old new : Moment B) → Type 0
+IsAnswer bus (Ok u) old new =
+    length (written_back old.driver.oldest_transmit (bus.world old.bus)) + new.driver.sending ≤ old.driver.sending + 1
+IsAnswer bus (Err TooShort) old new = Unit {0}
+IsAnswer bus (Err TooLong) old new = Unit {0}
+IsAnswer bus (Err RingFull) old new = IsFull bus old × IsFull bus new
 
--- The frame is sent by the slot at the tail.
+-- the frame has fewer than 14 or more than 1,518 bytes
+abbrev pub HasWrongLength : Answer → Type 0
+HasWrongLength (Err TooShort) = ⊤
+HasWrongLength (Err TooLong) = ⊤
+HasWrongLength answer = ⊥
+
+-- The frame is sent in the slot at the tail.
 abbrev pub sent_now : DriverState → List ℕ → Did
 sent_now d frame = record { accesses = send_accesses d frame; taken = []; accepted = padded frame ∷ [] }
 
@@ -81,8 +87,8 @@ sent_by result d d' frame = record { accesses = accesses_by result d d' frame; t
 
 pub record Sends {B : Type 0} (bus : Ghosts B) (frame : List ℕ) (result : Answer) (old new : Moment B) : Type 0 where
   pub ran : Ran bus true (sent_by result old.driver new.driver frame) old new
-  pub answer : IsAnswer result old.driver (bus.world old.bus)
+  pub answer : IsAnswer bus result old new
 
--- So it is wherever the driver is ready.
+-- This holds if the driver is ready, with its transmit side set up.
 abbrev pub Transmits : {B : Type 0} → Ghosts B → List ℕ → Answer → (old new : Moment B) → Type 0
 Transmits bus frame result old new = WhereUp bus old new (Sends bus frame result)

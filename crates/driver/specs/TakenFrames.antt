@@ -1,4 +1,4 @@
--- What a driver takes off its receive ring, and who has it then.
+-- What a driver takes off its receive ring, and who holds it then.
 use Rattle.std.specs.Prelude.{◌≡◌, ◌≤◌, ◌<◌, ◌⊎◌, ◌+◌, ◌-◌, ◌^◌, ◌++◌, ◌∷◌, ℕ, Bool, List, [], All, length, map}
 use Rattle.std.specs.Prelude.{IsTrue, None, Option, Some}
 use Rattle.descriptors.specs.Frames.{longest_frame, shortest_frame}
@@ -21,7 +21,7 @@ use Rattle.driver.specs.declared.receive.Finished.{Finished}
 use Rattle.driver.specs.declared.receiver.Received.{Received}
 use Rattle.driver.specs.declared.receiver.Receiver.{Ghosts as OfReceiver}
 
--- what a receiver is told of a frame that is handed out
+-- what a receiver is shown of a frame
 abbrev pub received_of : HandedOut → Received
 received_of one = record { buffer = one.number; length = length one.frame; ether_type = ether_type one.frame }
 
@@ -35,7 +35,7 @@ pub data IsPart : List HandedOut → List HandedOut → Type 0 where
   part_with : {one : HandedOut} {some all : List HandedOut} → IsPart some all → IsPart (one ∷ some) (one ∷ all)
   part_without : {one : HandedOut} {some all : List HandedOut} → IsPart some all → IsPart some (one ∷ all)
 
--- A legal frame has so many bytes.
+-- A received frame may have this size.
 pub record IsFrameSize (size : ℕ) : Type 0 where
   pub least : shortest_frame ≤ size
   pub most : size ≤ longest_frame
@@ -43,13 +43,13 @@ pub record IsFrameSize (size : ℕ) : Type 0 where
 abbrev pub AreFrames : List Received → Type 0
 AreFrames list = All (λ received. IsFrameSize received.length) list
 
--- A count grew by so many, but stays at the greatest u64.
+-- A count grew by `more`, but saturates at the greatest u64.
 pub record GrowsBy (before after more : ℕ) : Type 0 where
   pub least : before ≤ after
   pub most : after ≤ before + more
   pub exactly : after < 2 ^ 64 - 1 → after ≡ before + more
 
--- A receiver was shown this, and kept it or gave its buffer back, which then is in the pool.
+-- A receiver was shown this frame, and kept it, or returned its buffer, which is in the pool then.
 pub record Shows {R : Type 0} (took : R → R → List Received → List Received → Type 0) (before after : R) (received : Received)
     (pool pool' : List ℕ) : Type 0 where
   pub kept : List Received
@@ -57,7 +57,7 @@ pub record Shows {R : Type 0} (took : R → R → List Received → List Receive
   pub whether : (kept ≡ []) ⊎ (kept ≡ received ∷ [])
   pub buffers : HaveSameNumbers (received.buffer ∷ pool) (pool' ++ buffers_of kept)
 
--- A finished slot's frame was shown to the receiver; or its buffer went back to the pool at once, and counts as bad.
+-- A finished slot's frame was shown to the receiver; or its buffer went back to the pool, and the slot counts as bad.
 pub record HandsOn {R : Type 0} (took : R → R → List Received → List Received → Type 0) (before after : R) (number : ℕ)
     (d d' : DriverState) : Type 0 where
   pub shown : List Received
@@ -68,7 +68,7 @@ pub record HandsOn {R : Type 0} (took : R → R → List Received → List Recei
   pub bad : GrowsBy d.bad d'.bad (1 - length shown)
   pub buffers : HaveSameNumbers (number ∷ d.pool) (d'.pool ++ buffers_of kept)
 
--- Over a bus that obeys the law its frame was shown, behind one load of its bytes 12 and 13.
+-- Over a bus that obeys the law its frame was shown, after one load of its bytes 12 and 13.
 pub record HandsOver (up : Bool) {B R : Type 0} (world : B → World) (happened : B → B → Past → Type 0)
     (took : R → R → List Received → List Received → Type 0) (old new : B) (before after : R) (one : HandedOut)
     (d d' : DriverState) : Type 0 where
@@ -76,8 +76,8 @@ pub record HandsOver (up : Bool) {B R : Type 0} (world : B → World) (happened 
   pub bad : d'.bad ≡ d.bad
   pub ran : RanBy up world happened (Loads (buffer_at d.counts one.number + 12) 2 ∷ []) old new d d [] []
 
--- So many slots were taken: frames were shown one after the other, and the receiver kept some of them; the others were bad. Each buffer
--- has as many owners as before, with the receiver among them.
+-- n slots were taken. Frames were shown one after the other, and the receiver kept some of them; the other slots were bad. Each buffer has
+-- the same number of owners as before, with the receiver among them.
 pub record ShowsAll {R : Type 0} (took : R → R → List Received → List Received → Type 0) (before after : R) (d d' : DriverState)
     (n : ℕ) : Type 0 where
   pub shown : List Received
@@ -90,7 +90,7 @@ pub record ShowsAll {R : Type 0} (took : R → R → List Received → List Rece
 
 -- The oldest slot.
 
--- It left the ring: the first of the buffers is nobody's then.
+-- It left the ring: its buffer, the first of the list, has no owner then.
 pub record LeavesRing (slot : Finished) (d d' : DriverState) : Type 0 where
   pub first : d.buffers ≡ slot.buffer ∷ d'.buffers
   pub behind : d' ≡ behind_oldest d d'.buffers d.handed_out
@@ -98,12 +98,12 @@ pub record LeavesRing (slot : Finished) (d d' : DriverState) : Type 0 where
   pub out : copies slot.buffer (owners d') ≡ 0
   pub size : IsTrue slot.whole → IsFrameSize slot.length
 
--- Over a bus that obeys the law, it isn't done, so that none is finished;
+-- Over a bus that obeys the law: it isn't done, so no slot is finished.
 pub record FindsNone {B : Type 0} (bus : Ghosts B) (up : Bool) (old new : Moment B) : Type 0 where
   pub none : finished old.driver.oldest_receive (bus.world new.bus) ≡ []
   pub ran : Ran bus up (only (last_load old.driver.oldest_receive old.driver.buffers)) old new
 
--- or it is, and its frame is handed out.
+-- Over such a bus: it is done, and others hold its frame then.
 pub record FindsOne {B : Type 0} (bus : Ghosts B) (slot : Finished) (up : Bool) (old new : Moment B) : Type 0 where
   pub whole : IsTrue slot.whole
   pub takes : TakesOldest up bus.world bus.happened old.bus new.bus old.driver slot.buffer slot.length new.driver.buffers
@@ -114,7 +114,7 @@ LooksAt bus (Some slot) = FindsOne bus slot
 
 -- With a receiver.
 
--- A moment of a driver's run, and of who takes its frames.
+-- A moment of a driver's run, with its receiver.
 pub record Scene (B R : Type 0) : Type 0 where
   pub bus : B
   pub driver : DriverState
@@ -130,7 +130,8 @@ moment now = record { bus = now.bus; driver = now.driver }
 abbrev pub held_in : {B R : Type 0} → List HandedOut → Scene B R → Scene B R
 held_in held now = record now { driver = holding held now.driver }
 
--- What holds of a call over a bus that obeys the law, by a driver that is ready, whichever frames others hold.
+-- `WhereReady` with a receiver: if the bus obeys the law and the driver is ready before a call, `Holds` relates the moments before and
+-- after it, whichever frames others hold.
 abbrev pub WhereReadyIn : {B R : Type 0} → Ghosts B → (old new : Scene B R) → (Bool → Scene B R → Scene B R → Type 0) → Type 0
 WhereReadyIn bus old new Holds =
     (up : Bool) (held : List HandedOut) → IsReady bus up (held_at held (moment old)) → Holds up (held_in held old) (held_in held new)
@@ -139,8 +140,8 @@ WhereReadyIn bus old new Holds =
 abbrev pub frames_of : List HandedOut → List (List ℕ)
 frames_of taken = map (λ (one : HandedOut). one.frame) taken
 
--- So many frames were taken off the ring, the oldest first, and all shown to the receiver, who has those of them that are handed out then.
--- Some accesses follow.
+-- n frames were taken off the ring, the oldest first, and shown to the receiver, which keeps those in `handed_out`. The accesses `later`
+-- follow.
 pub record Takes {B R : Type 0} (bus : Ghosts B) (receivers : OfReceiver R) (later : List Access) (n : ℕ) (up : Bool)
     (old new : Scene B R) : Type 0 where
   pub taken : List HandedOut
@@ -157,14 +158,14 @@ pub record Takes {B R : Type 0} (bus : Ghosts B) (receivers : OfReceiver R) (lat
         accepted = [];
       }) (moment old) (held_at (old.driver.handed_out ++ handed_out) (moment new))
 
--- So many slots left the ring, over any bus, and their frames were shown.
+-- Over any bus: n slots left the ring, and their frames were shown.
 pub record TakesSlots {R : Type 0} (receivers : OfReceiver R) (n : ℕ) (before after : R) (d d' : DriverState) : Type 0 where
   pub others : d' ≡ record d { oldest_receive = d'.oldest_receive; buffers = d'.buffers; pool = d'.pool; bad = d'.bad }
   pub next : d'.oldest_receive ≡ place d'.counts.rx d.oldest_receive n
   pub count : n + length d'.buffers ≡ length d.buffers
   pub shows : ShowsAll receivers.took before after d d' n
 
--- Over one that obeys the law they were all that was finished.
+-- Over one that obeys the law: they were all that were finished.
 pub record TakesAll {B R : Type 0} (bus : Ghosts B) (receivers : OfReceiver R) (n : ℕ) (up : Bool) (old new : Scene B R) : Type 0 where
   pub none_left : finished new.driver.oldest_receive (bus.world new.bus) ≡ []
   pub takes : Takes bus receivers (last_load new.driver.oldest_receive new.driver.buffers) n up old new

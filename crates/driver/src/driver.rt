@@ -9,11 +9,10 @@ use circular_buffer::HeapCircularBuffer;
 use dma_memory::{BufId, Layout, Pool};
 use std::marker::Model;
 
-/// A driver: where its rings and buffers stand, which of its slots are outstanding, and which buffers
-/// they have.
+/// A driver: where its rings and buffers are, which of its slots are outstanding, and which buffers they have.
 ///
-/// A slot of the receive ring is staged where its descriptor is stored and it isn't offered yet. Of both
-/// rings one slot at least is the driver's.
+/// A slot of the receive ring is staged if its descriptor is stored and it isn't offered yet. At least one slot of
+/// each ring isn't outstanding.
 #[derive(Drop)]
 pub struct Driver {
     pub(crate) layout: Layout,
@@ -21,22 +20,22 @@ pub struct Driver {
     pub(crate) oldest_receive: u16,
     /// The place whose descriptor is stored next.
     pub(crate) next_receive: u16,
-    /// The buffers of the outstanding receive slots, the oldest first, and of the staged ones behind them.
+    /// The buffers of the outstanding receive slots, the oldest first, and of the staged ones after them.
     pub(crate) buffers: HeapCircularBuffer<BufId>,
-    /// How many are staged.
+    /// The number of staged slots.
     pub(crate) staged: u16,
     pub(crate) pool: Pool,
     /// The place of the oldest outstanding transmit slot.
     pub(crate) oldest_transmit: u16,
-    /// The place behind the newest.
+    /// The place after the newest.
     pub(crate) next_transmit: u16,
-    /// How many transmit slots are outstanding.
+    /// The number of outstanding transmit slots.
     pub(crate) sending: u16,
-    /// The sum of what MPC was read as, up to the greatest `u64`.
+    /// The sum of the values read from MPC, up to the greatest `u64`.
     pub(crate) missed: u64,
-    /// Whether that is all of it: MPC was never read at its greatest, and the sum never stuck.
+    /// Whether no miss was lost: MPC was never read as its greatest value, and the sum never saturated.
     pub(crate) exact: bool,
-    /// How many finished slots weren't handed out, up to the greatest `u64`.
+    /// The number of finished slots that weren't delivered, up to the greatest `u64`.
     pub(crate) bad: u64,
 }
 
@@ -53,14 +52,14 @@ impl Model for Driver {
 }
 
 impl Driver {
-    /// Where its rings and buffers stand.
+    /// Where its rings and buffers are, and the size of the memory that they need.
     pub fn layout(&self) -> Layout
         ensures { result ≡ self.now.counts }
     {
         self.layout
     }
 
-    /// How many receive slots are outstanding or staged. No buffer has two owners, at any time.
+    /// The number of receive slots that are outstanding or staged. No buffer has two owners, at any time.
     pub fn receiving(&self) -> usize
         ensures count { result ≡ length self.now.buffers + length self.now.staged }
         ensures one_owner { HasNoSecondOwner self.now.counts.buffers (owners self.now) }
@@ -68,14 +67,15 @@ impl Driver {
         self.buffers.len()
     }
 
-    /// How many transmit slots are outstanding.
+    /// The number of outstanding transmit slots.
     pub fn sending(&self) -> u16
         ensures { result ≡ self.now.sending }
     {
         self.sending
     }
 
-    /// How many frames the adapter missed, as MPC was read, and whether that is exact: else there were more.
+    /// The number of frames that the adapter missed, as read from MPC, and whether it is exact. If it isn't, there may
+    /// have been more.
     pub fn missed(&self) -> (u64, bool)
         ensures sum { result.0 ≡ self.now.missed }
         ensures exact { result.1 ≡ self.now.exact }
@@ -84,8 +84,8 @@ impl Driver {
         (self.missed, self.exact)
     }
 
-    /// How many finished slots weren't handed out, as they held no whole frame of a legal length. A bus that
-    /// obeys the law never has such a slot.
+    /// The number of finished slots that weren't delivered, as they held no whole frame of 60 to 1,518 bytes. A bus
+    /// that obeys the law never has such a slot.
     pub fn bad(&self) -> u64
         ensures { result ≡ self.now.bad }
     {

@@ -1,19 +1,18 @@
-// A driver brings its adapter up.
+// A driver initializes its adapter.
 
-ghost use Rattle.std.specs.Prelude.{◌≡◌, ◌↔◌, ◌*◌, ◌≤◌, [], Err, IfErr, IfOk, false, true};
+ghost use Rattle.std.specs.Prelude.{◌≡◌, ◌↔◌, ◌*◌, ◌≤◌, Err, IfErr, IfOk, false, true};
 ghost use Rattle.dma_memory.specs.Layout.{IsAllowed, size_of};
 ghost use Rattle.dma_memory.specs.Owners.{HasOneOwner};
 ghost use Rattle.adapter.specs.Rings.{new_ring};
 ghost use Rattle.bring_up.specs.Configuration.{CanBeHad, counts_of};
-ghost use Rattle.bring_up.specs.ConfiguredAdapters.{names_vlans};
 ghost use Rattle.bring_up.specs.Device.{IsBeforeAccess};
 ghost use Rattle.bring_up.specs.declared.init_error.InitError.TheVariants as InitError;
 ghost use Rattle.bus.specs.Keeping.{Keeps};
 ghost use Rattle.driver_law.specs.Beginnings.{new_driver};
+ghost use Rattle.driver_law.specs.Calls.{IsReady, Ran, at, only};
 ghost use Rattle.driver_law.specs.DriverState.{DriverState};
-ghost use Rattle.driver_law.specs.Stretches.{RanBy};
-ghost use Rattle.driver_law.specs.ReadyDrivers.{ReadyWith};
-ghost use Rattle.driver.specs.Initialisation.{FindsRing, Initialises, IsFresh, OffersFirst, Refuses, transmit_accesses};
+ghost use Rattle.driver.specs.Initialisation.{FindsRing, Initialises, IsFresh, OffersFirst, Refuses};
+ghost use Rattle.driver.specs.Initialisation.{transmit_accesses};
 
 use crate::Driver;
 use crate::refill::receive_slot;
@@ -37,7 +36,7 @@ fn find_ring<B: Bus>(bus: &mut B, config: &Config, layout: Layout) -> Result<(),
     requires had { CanBeHad config.now (B.extent bus.old) }
     ensures keeps { Keeps B.Bus bus.old bus.new }
     ensures errors { IfErr result (λ error. ¬ (IsBeforeAccess error)) }
-    ensures finds { B.honest bus.old → FindsRing B.world B.happened B.lively bus.old bus.new config.now result }
+    ensures finds { B.honest bus.old → FindsRing B.Bus config.now result bus.old bus.new }
 {
     let image = find_device(bus, config.rxa)?;
     set_filter(bus, config, &image.address());
@@ -45,7 +44,7 @@ fn find_ring<B: Bus>(bus: &mut B, config: &Config, layout: Layout) -> Result<(),
     Ok(())
 }
 
-/// Where a ring of so many slots stands, from an address on.
+/// The place of a ring of `slots` slots that begins at `base`.
 fn place_of(base: u64, slots: u16) -> RingPlace
     ensures { result ≡ record { base = base; bytes = 16 * slots } }
 {
@@ -55,14 +54,14 @@ fn place_of(base: u64, slots: u16) -> RingPlace
     }
 }
 
-/// Clears the descriptors of the transmit ring, sets it up with no slot offered, and lets frames leave.
+/// Clears the descriptors of the transmit ring, sets it up with no slot offered, and enables the transmitter.
 fn set_up_transmitter<B: Bus>(bus: &mut B, layout: Layout)
     requires allowed { IsAllowed layout }
     requires memory { size_of layout ≤ B.extent bus.old }
     ensures keeps { Keeps B.Bus bus.old bus.new }
-    ensures ran { (d : DriverState) → B.honest bus.old → ReadyWith false d (B.world bus.old) → d.counts ≡ layout
+    ensures ran { (d : DriverState) → IsReady B.Bus false (at bus.old d) → d.counts ≡ layout
         → d.oldest_transmit ≡ 0 → d.sending ≡ 0 → (B.world bus.old).adapter.transmit_ring ≡ new_ring
-        → RanBy true B.world B.happened (transmit_accesses layout) bus.old bus.new d d [] [] }
+        → Ran B.Bus true (only (transmit_accesses layout)) (at bus.old d) (at bus.new d) }
 {
     let ring = layout.transmit_ring();
     clear_descriptors(bus, ring, layout.tx());
@@ -99,18 +98,18 @@ impl Driver {
         requires one_owner { HasOneOwner self.old.counts.buffers self.old.pool }
         requires enough { self.old.counts.rx ≤ self.old.counts.buffers }
         ensures keeps { Keeps B.Bus bus.old bus.new }
-        ensures offers { OffersFirst B.honest B.world B.happened bus.old bus.new self.old self.new }
+        ensures offers { OffersFirst B.Bus (at bus.old self.old) (at bus.new self.new) }
     {
         self.stage_all(bus);
         clear_descriptor(bus, receive_slot(self.layout.rx() - 1));
         self.offer(bus);
     }
 
-    /// Resets the adapter and brings it up, as `config` says: its EEPROM is read, its link awaited, its
-    /// filter, both rings and its interrupts set up. Frames come from the write of RCTL on.
+    /// Resets the adapter and initializes it by `config`: reads its EEPROM, awaits its link, and sets up its filter,
+    /// both rings and its interrupts. Frames are received from the write of RCTL on.
     ///
-    /// All memory that the driver ever needs is taken here. Where it is refused, or the configuration can't
-    /// be had, there is no access. Behind each error the call may be made again.
+    /// All memory that the driver ever needs is allocated here. If that fails, or the configuration isn't valid in
+    /// this memory, there is no access. After each error the call may be made again.
     ///
     /// # Errors
     ///

@@ -7,7 +7,7 @@ ghost use Rattle.bus.specs.declared.event.Access.TheVariants.{Reads};
 ghost use Rattle.bus.specs.Keeping.{Keeps};
 ghost use Rattle.driver_law.specs.Calls.{Runs, at, only};
 ghost use Rattle.driver_law.specs.RegisterReadings as readings;
-ghost use Rattle.driver.specs.HandlerSteps.{Handles, OnNotMine, OnTaken, OnlyReceives, Serves};
+ghost use Rattle.driver.specs.HandlerSteps.{Handles, IfNotMine, IfHandled, OnlyReceives, Serves};
 ghost use Rattle.bring_up.specs.WrittenRegisters.{handled_causes};
 ghost use Rattle.driver.specs.TakenFrames.{WhereReadyIn, scene};
 
@@ -18,26 +18,26 @@ use bring_up::interrupt_causes;
 use bus::Bus;
 use registers::Cause;
 
-/// What became of an interrupt.
+/// The result of handling an interrupt.
 #[derive(Clone, Copy, Debug, PartialEq, Eq)]
 pub enum Handled {
-    /// The adapter had none of the causes for which a driver does something.
+    /// ICR had none of TXDW, RXDMT0, RXO and RXT0.
     NotMine,
-    /// It had one.
+    /// ICR had at least one of them.
     Handled {
-        /// How many receive slots were taken.
+        /// The number of receive slots taken.
         taken: u64,
     },
 }
 
-/// Whether a driver does something for these causes.
+/// Whether one of these causes is TXDW, RXDMT0, RXO or RXT0.
 fn is_mine(causes: u32) -> bool
     ensures { IsTrue result ↔ Meet causes handled_causes }
 {
     Cause(causes).intersects(interrupt_causes())
 }
 
-/// Whether a value that was read of MPC can be added to a sum without a loss.
+/// Whether a value read from MPC can be added to a sum without a loss.
 fn adds_exactly(missed: u64, value: u32) -> bool
     ensures { result ≡ readings.adds_exactly missed value }
 {
@@ -45,7 +45,7 @@ fn adds_exactly(missed: u64, value: u32) -> bool
 }
 
 impl Driver {
-    /// Reads MPC, and adds it to the sum of frames that were missed.
+    /// Reads MPC, adds its value to the sum of missed frames, and returns it.
     fn count_missed<B: Bus>(&mut self, bus: &mut B) -> u32
         ensures keeps { Keeps B.Bus bus.old bus.new }
         ensures others { self.new ≡ readings.with_missed result self.old }
@@ -57,14 +57,18 @@ impl Driver {
         value
     }
 
-    /// Handles an interrupt. It reads ICR first: where none of the causes for which a driver does something
-    /// is recorded it does nothing more. Else it reads MPC, takes every finished receive slot, and refills.
+    /// Handles an interrupt. It reads ICR first. If ICR has none of TXDW, RXDMT0, RXO and RXT0, it does nothing more.
+    /// Otherwise it reads MPC, takes every finished receive slot, and refills.
     pub fn interrupt<B: Bus, R: Receiver>(&mut self, bus: &mut B, receiver: &mut R) -> Handled
         requires memory { size_of self.old.counts ≤ B.extent bus.old }
         ensures keeps { Keeps B.Bus bus.old bus.new }
-        ensures not_mine { OnNotMine result ((self.new ≡ self.old) × (receiver.new ≡ receiver.old)) }
+
+        // What it does over any bus.
+        ensures not_mine { IfNotMine result ((self.new ≡ self.old) × (receiver.new ≡ receiver.old)) }
         ensures only_receives { OnlyReceives self.old self.new }
-        ensures serves { OnTaken result (Serves R.Receiver receiver.old receiver.new self.old self.new) }
+        ensures serves { IfHandled result (Serves R.Receiver receiver.old receiver.new self.old self.new) }
+
+        // And over one that obeys the law.
         ensures handles { WhereReadyIn B.Bus (scene bus.old self.old receiver.old) (scene bus.new self.new receiver.new)
             (Handles B.Bus R.Receiver result) }
     {

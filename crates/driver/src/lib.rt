@@ -1,4 +1,4 @@
-//! A driver of the 82540EM, generic over the bus that it reaches its adapter and memory by.
+//! A driver of the 82540EM, generic over the bus by which it reaches its adapter and its memory.
 //!
 //! Section numbers are those of Intel's "PCI/PCI-X Family of Gigabit Ethernet Controllers Software
 //! Developer's Manual".

@@ -1,4 +1,4 @@
-// A driver reads a frame that was handed out.
+// A driver reads a frame that was delivered.
 
 ghost use Rattle.std.specs.Prelude.{◌≡◌, ◌≤◌, ◌<◌, ◌∷◌, [], take, drop};
 ghost use Rattle.dma_memory.specs.Layout.{size_of};
@@ -12,8 +12,7 @@ use crate::{Driver, Received};
 use bus::Bus;
 
 impl Driver {
-    /// Reads a frame that was handed out into the front of `into`, by one load from its buffer, and tells how
-    /// many bytes it has.
+    /// Copies a received frame to the front of `into`, by one load from its buffer, and returns its size in bytes.
     pub fn read<B: Bus>(&self, bus: &mut B, received: &Received, into: &mut [u8; 1518]) -> usize
         requires memory { size_of self.now.counts ≤ B.extent bus.old }
         requires known { received.now.buffer < self.now.counts.buffers }

@@ -23,13 +23,13 @@ use bus::Bus;
 use descriptors::{RX_DESC_BYTES, RxDesc, RxStatus};
 use dma_memory::BufId;
 
-/// The shortest frame that an adapter receives, without its check sequence.
+/// The size of the shortest frame that an adapter receives, in bytes, without its check sequence.
 const SHORTEST_RECEIVED: u16 = 60;
 
-/// The longest frame that an adapter receives, without its check sequence.
+/// The size of the longest frame that an adapter receives, in bytes, without its check sequence.
 const LONGEST_RECEIVED: u16 = 1518;
 
-/// Where a frame has its EtherType.
+/// The offset of the EtherType in a frame, in bytes.
 const ETHER_TYPE: u64 = 12;
 
 /// A slot that was taken off the ring.
@@ -55,7 +55,7 @@ fn is_ended(descriptor: &RxDesc) -> bool
     descriptor.status.contains(RxStatus::EOP)
 }
 
-/// Whether a descriptor is that of a whole frame: EOP, no errors, and a legal length.
+/// Whether a descriptor is that of a whole frame: EOP, no errors, and a length of 60 to 1,518 bytes.
 fn is_whole(descriptor: &RxDesc) -> bool
     ensures { IsTrue result ↔ IsWhole descriptor.now }
 {
@@ -66,8 +66,8 @@ fn is_whole(descriptor: &RxDesc) -> bool
 }
 
 impl Driver {
-    /// Looks at the oldest outstanding receive slot, by one load of its descriptor, and takes it where that
-    /// is done. Length and done bit are of the same load.
+    /// Loads the descriptor of the oldest outstanding receive slot, and takes the slot if that has DD. DD and the
+    /// length are of the same load.
     fn take_next<B: Bus>(&mut self, bus: &mut B) -> Option<Finished>
         requires memory { size_of self.old.counts ≤ B.extent bus.old }
         ensures keeps { Keeps B.Bus bus.old bus.new }
@@ -113,7 +113,7 @@ impl Driver {
         u16::from_be_bytes(bytes)
     }
 
-    /// Shows a frame to the receiver, and puts its buffer into the pool where that comes back.
+    /// Shows a frame to the receiver, and puts its buffer into the pool if the receiver returns it.
     fn show<R: Receiver>(&mut self, received: Received, receiver: &mut R)
         requires known { received.buffer < self.old.counts.buffers }
         requires out { copies received.buffer (owners self.old) ≡ 0 }
@@ -125,8 +125,8 @@ impl Driver {
         }
     }
 
-    /// Hands on a slot that was taken: where its descriptor is that of a whole frame the receiver takes it,
-    /// else its buffer goes back to the pool, and it counts as bad.
+    /// Passes on a slot that was taken. If its descriptor is that of a whole frame, the receiver takes it. Otherwise
+    /// its buffer goes back to the pool, and it counts as bad.
     fn hand_on<B: Bus, R: Receiver>(&mut self, bus: &mut B, finished: Finished, receiver: &mut R)
         requires memory { size_of self.old.counts ≤ B.extent bus.old }
         requires known { finished.buffer < self.old.counts.buffers }
@@ -155,9 +155,9 @@ impl Driver {
         self.show(received, receiver);
     }
 
-    /// Takes every finished receive slot, from the oldest on up to the first that isn't finished, shows each
-    /// frame to the receiver, and tells how many slots there were. Each is looked at by one load of its
-    /// descriptor, and behind it bytes 12 and 13 of its frame are loaded.
+    /// Takes every finished receive slot, from the oldest on up to the first that isn't finished, shows each whole
+    /// frame to the receiver, and returns the number of slots taken. Each descriptor is loaded once. After that of a
+    /// whole frame, bytes 12 and 13 of the frame are loaded.
     pub fn take_finished<B: Bus, R: Receiver>(&mut self, bus: &mut B, receiver: &mut R) -> usize
         requires memory { size_of self.old.counts ≤ B.extent bus.old }
         ensures keeps { Keeps B.Bus bus.old bus.new }

@@ -1,4 +1,4 @@
-// Who takes the frames that a driver receives.
+// What takes the frames that a driver receives.
 
 ghost use Rattle.std.specs.Prelude.{◌≡◌, ◌++◌, [], ◌∷◌, List, IfNone, IfSome};
 ghost use Rattle.driver.specs.declared.receiver.Received.{Received};
@@ -8,21 +8,21 @@ use dma_memory::BufId;
 /// A received frame, in its buffer.
 #[derive(Drop)]
 pub struct Received {
-    /// The buffer, whose owner is who has this.
+    /// The buffer. It is owned by the one who holds this value.
     pub buffer: BufId,
-    /// How many bytes the frame has: from 60 to 1,518.
+    /// The size of the frame, 60 to 1,518 bytes.
     pub length: u16,
-    /// Bytes 12 and 13 of the frame, the higher one first.
+    /// Bytes 12 and 13 of the frame, the more significant one first.
     pub ether_type: u16,
 }
 
-/// Takes received frames: keeps a frame with its buffer, or gives the buffer back at once.
+/// Takes received frames: keeps a frame with its buffer, or returns the buffer at once.
 pub trait Receiver {
-    /// Its own word on what it was shown from one of its states to another, and on what it kept of that,
-    /// both in order.
+    /// What the receiver reports of an interval, from one of its states to another: the frames that it was shown, and
+    /// those of them that it kept, both in order.
     ghost took: { Self → Self → List Received → List Received → Type 0 };
 
-    /// Takes a frame. Its buffer is the receiver's from now on, unless it comes back.
+    /// Takes a frame. Its buffer is the receiver's from now on, unless it is returned.
     fn take(&mut self, received: Received) -> Option<BufId>
         ensures keeps { IfNone result (took self.old self.new (received ∷ []) (received ∷ [])) }
         ensures gives_back { IfSome result
@@ -31,7 +31,7 @@ pub trait Receiver {
     /// It took nothing from a state to itself.
     ghost stays: { (receiver : Self) → took receiver receiver [] [] };
 
-    /// What it took in two stretches it took in both together.
+    /// What it took in two intervals, one after the other, it took in both together.
     ghost joins: { (a b c : Self) (shown kept later more : List Received)
         → took a b shown kept → took b c later more → took a c (shown ++ later) (kept ++ more) };
 }

@@ -19,7 +19,7 @@ use bus::Bus;
 use descriptors::{RxDesc, RxStatus};
 use dma_memory::{BufId, DESCRIPTOR_BYTES};
 
-/// The descriptor of a receive slot, by its place, where the ring begins at address 0.
+/// The address of a receive slot's descriptor. The ring begins at address 0.
 pub(crate) fn receive_slot(slot: u16) -> u64
     ensures { result ≡ 16 * slot }
 {
@@ -41,8 +41,8 @@ fn descriptor_of(buffer: u64) -> RxDesc
 }
 
 impl Driver {
-    /// Stores the descriptor of the next receive slot, with a free buffer, where there is one, and where one
-    /// slot more would still be left. Tells whether it did.
+    /// Stores the descriptor of the next receive slot, with a free buffer, if there is one, and if one slot more is
+    /// left after that. Returns whether it did.
     fn stage<B: Bus>(&mut self, bus: &mut B) -> bool
         requires memory { size_of self.old.counts ≤ B.extent bus.old }
         ensures keeps { Keeps B.Bus bus.old bus.new }
@@ -69,7 +69,7 @@ impl Driver {
         true
     }
 
-    /// Stages slots as long as there is a free buffer, and room: one slot always stays the driver's.
+    /// Stages slots until no buffer is free, or one slot is left, which stays the driver's.
     pub(crate) fn stage_all<B: Bus>(&mut self, bus: &mut B)
         requires memory { size_of self.old.counts ≤ B.extent bus.old }
         ensures keeps { Keeps B.Bus bus.old bus.new }
@@ -81,7 +81,7 @@ impl Driver {
         while self.stage(bus) {}
     }
 
-    /// Offers all staged slots by one write of RDT, where there are any.
+    /// Offers all staged slots by one write of RDT, if there are any.
     pub(crate) fn offer<B: Bus>(&mut self, bus: &mut B)
         ensures keeps { Keeps B.Bus bus.old bus.new }
         ensures others { self.new ≡ with_owners self.old (self.old.buffers ++ self.old.staged) [] self.old.pool [] }
@@ -108,8 +108,8 @@ impl Driver {
         self.pool.give(buffer);
     }
 
-    /// Offers receive slots with free buffers, as long as there is one, and room for it: one slot always
-    /// stays the driver's. It stores their descriptors, and then writes RDT once, where any were stored.
+    /// Offers receive slots with free buffers, until no buffer is free, or one slot is left, which stays the driver's.
+    /// It stores their descriptors, and then writes RDT once, if any were stored.
     pub fn refill<B: Bus>(&mut self, bus: &mut B)
         requires memory { size_of self.old.counts ≤ B.extent bus.old }
         ensures keeps { Keeps B.Bus bus.old bus.new }
@@ -121,7 +121,7 @@ impl Driver {
         self.offer(bus);
     }
 
-    /// Puts the buffer of a frame that was handed out back into the pool, and refills.
+    /// Puts the buffer of a frame that a receiver kept back into the pool, and refills.
     pub fn give<B: Bus>(&mut self, bus: &mut B, buffer: BufId)
         requires memory { size_of self.old.counts ≤ B.extent bus.old }
         requires known { buffer < self.old.counts.buffers }

@@ -9,8 +9,8 @@ ghost use Rattle.bus.specs.Keeping.{Keeps};
 ghost use Rattle.driver_law.specs.Calls.{Ran, WhereUp, at};
 ghost use Rattle.driver_law.specs.DriverState.{transmit_slot, transmit_tail};
 ghost use Rattle.driver_law.specs.TransmitSteps.{whole_descriptor};
-ghost use Rattle.driver.specs.SendSteps.{FreesOldest, IsRefused, LooksBack, Reclaims, Transmits};
-ghost use Rattle.driver.specs.SendSteps.{sent_now, with_sending};
+ghost use Rattle.driver.specs.SendSteps.{FreesOldest, HasWrongLength, LooksBack, Reclaims, Transmits};
+ghost use Rattle.driver.specs.SendSteps.{sent_now, with_transmit_slots};
 
 use crate::Driver;
 use adapter::offsets::TDT;
@@ -20,17 +20,17 @@ use descriptors::{TxCommand, TxDesc, TxStatus};
 use dma_memory::{DESCRIPTOR_BYTES, Layout};
 use thiserror::Error;
 
-/// The bytes of the shortest frame that can be sent: its addresses and its type (own).
+/// The size of the shortest frame that can be sent, in bytes: its addresses and its type (our choice).
 const SHORTEST_SENT: usize = 14;
 
-/// The bytes of the longest frame that can be sent: Ethernet's longest with a VLAN tag, without check sequence. Its
-/// header has 14, the tag 4, and its data 1,500.
+/// The size of the longest frame that can be sent, in bytes: Ethernet's longest with a VLAN tag, without check
+/// sequence. Its header has 14 bytes, the tag 4, and its data 1,500.
 const LONGEST_SENT: usize = 1518;
 
 /// Why a frame isn't sent.
 #[derive(Clone, Copy, Debug, PartialEq, Eq, Error)]
 pub enum SendError {
-    /// It has less than 14 bytes.
+    /// It has fewer than 14 bytes.
     #[error("E20 TooShort")]
     TooShort,
     /// It has more than 1,518 bytes.
@@ -57,8 +57,8 @@ fn shows_done(bytes: &[u8; 16]) -> bool
     TxDesc::from_bytes(bytes).status.contains(TxStatus::DD)
 }
 
-/// The descriptor of a frame in one buffer: a whole packet, EOP, with a check sequence, IFCS, of which a
-/// report is asked for, RS.
+/// The descriptor of a frame in one buffer: a whole packet (EOP), with a check sequence (IFCS), and with its
+/// write-back requested (RS).
 fn whole_packet(buffer: u64, size: u16) -> [u8; 16]
     ensures { result ≡ whole_descriptor buffer size }
 {
@@ -75,7 +75,7 @@ fn whole_packet(buffer: u64, size: u16) -> [u8; 16]
 }
 
 impl Driver {
-    /// Frees the oldest transmit slot where its descriptor is done, and tells whether it was.
+    /// Frees the oldest transmit slot if its descriptor has DD, and returns whether it did.
     fn free_oldest<B: Bus>(&mut self, bus: &mut B) -> bool
         requires memory { size_of self.old.counts ≤ B.extent bus.old }
         ensures keeps { Keeps B.Bus bus.old bus.new }
@@ -99,27 +99,27 @@ impl Driver {
         true
     }
 
-    /// Frees the oldest transmit slots whose descriptors are done, up to the first that isn't, or until none
-    /// is left.
+    /// Frees the oldest transmit slots whose descriptors have DD, up to the first without it, or until none is
+    /// outstanding.
     pub(crate) fn reclaim<B: Bus>(&mut self, bus: &mut B)
         requires memory { size_of self.old.counts ≤ B.extent bus.old }
         ensures keeps { Keeps B.Bus bus.old bus.new }
-        ensures others { self.new ≡ with_sending self.old self.new.oldest_transmit self.new.sending }
+        ensures others { self.new ≡ with_transmit_slots self.old self.new.oldest_transmit self.new.sending }
         ensures tail { transmit_tail self.new ≡ transmit_tail self.old }
         ensures reclaims { WhereUp B.Bus (at bus.old self.old) (at bus.new self.new) (Reclaims B.Bus) }
     {
         while self.free_oldest(bus) {}
     }
 
-    /// Sends a frame by the slot behind the outstanding ones: its bytes are stored into the slot's buffer,
-    /// then its descriptor, and then TDT is written.
+    /// Sends a frame in the slot after the outstanding ones: stores its bytes into the slot's buffer, then its
+    /// descriptor, and then writes TDT.
     fn send<B: Bus>(&mut self, bus: &mut B, frame: &[u8])
         requires memory { size_of self.old.counts ≤ B.extent bus.old }
         requires room { self.old.sending + 1 < self.old.counts.tx }
         requires least { 14 ≤ length frame.now }
         requires most { length frame.now ≤ 1518 }
         ensures keeps { Keeps B.Bus bus.old bus.new }
-        ensures others { self.new ≡ with_sending self.old self.old.oldest_transmit (self.old.sending + 1) }
+        ensures others { self.new ≡ with_transmit_slots self.old self.old.oldest_transmit (self.old.sending + 1) }
         ensures sends { WhereUp B.Bus (at bus.old self.old) (at bus.new self.new)
             (Ran B.Bus true (sent_now self.old frame.now)) }
     {
@@ -135,22 +135,23 @@ impl Driver {
 
     /// Sends a frame of 14 to 1,518 bytes.
     ///
-    /// First it frees the oldest transmit slots whose descriptors are done, by one load each.
+    /// First it frees the oldest transmit slots whose descriptors have DD, by one load each. `bus` must have at least
+    /// `layout().size()` bytes.
     ///
     /// # Errors
     ///
-    /// E20 [`TooShort`](SendError::TooShort) where the frame has fewer than 14 bytes, and E21
-    /// [`TooLong`](SendError::TooLong) where it has more than 1,518; both without an access. E22
-    /// [`RingFull`](SendError::RingFull) where all slots of the ring but one are outstanding still.
+    /// E20 [`TooShort`](SendError::TooShort) if the frame has fewer than 14 bytes, E21
+    /// [`TooLong`](SendError::TooLong) if it has more than 1,518; in both cases there is no access. E22
+    /// [`RingFull`](SendError::RingFull) if all slots of the ring but one are still outstanding.
     pub fn transmit<B: Bus>(&mut self, bus: &mut B, frame: &[u8]) -> Result<(), SendError>
         requires memory { size_of self.old.counts ≤ B.extent bus.old }
         ensures keeps { Keeps B.Bus bus.old bus.new }
 
         // What it does over any bus.
-        ensures others { self.new ≡ with_sending self.old self.new.oldest_transmit self.new.sending }
+        ensures others { self.new ≡ with_transmit_slots self.old self.new.oldest_transmit self.new.sending }
         ensures too_short { (result ≡ Err SendError.TooShort) ↔ (length frame.now < 14) }
         ensures too_long { (result ≡ Err SendError.TooLong) ↔ (1518 < length frame.now) }
-        ensures nothing { IsRefused result → (bus.new ≡ bus.old) × (self.new ≡ self.old) }
+        ensures nothing { HasWrongLength result → (bus.new ≡ bus.old) × (self.new ≡ self.old) }
 
         // And over one that obeys the law.
         ensures transmits { Transmits B.Bus frame.now result (at bus.old self.old) (at bus.new self.new) }

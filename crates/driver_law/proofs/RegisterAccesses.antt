@@ -48,6 +48,8 @@ reads-causes {up} world happened lively old new d value acts ready =
       flows =
           subst (FlowsTo up d (world old) d (world new) [] []) (joined-nothing acts.past)
           (flows_join d d d (world old) middle (world new) [] [] [] [] acts.past nothing first.flows later);
+      seen = λ place bit.
+          subst (λ (causes : ℕ). HasBit causes place) (sym (effect.0 ∙ shown-causes middle)) (first.causes place bit);
       cleared = ap (λ (w : World). w.adapter.causes.recorded) effect.1 ∙ read.cleared;
       work = λ unread work.
           let before = work_kept d d (world old) middle [] [] acts.past first work in

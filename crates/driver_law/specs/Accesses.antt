@@ -1,4 +1,4 @@
--- The accesses of a driver's calls, in order (own).
+-- The accesses of a driver's calls, in order (our choice).
 use Rattle.std.specs.Prelude.{◌+◌, ◌%◌, ℕ, List, [], ◌∷◌}
 use Rattle.adapter.specs.declared.offsets.TheConstants.{RDT}
 use Rattle.dma_memory.specs.Layout.{Counts}
@@ -13,7 +13,7 @@ stores_from counts slot [] = []
 stores_from counts slot (number ∷ later) =
     Stores (receive_slot slot) (empty_descriptor (buffer_at counts number)) ∷ stores_from counts ((slot + 1) % counts.rx) later
 
--- RDT is written with this place, where any slots are to be offered
+-- RDT is written with this place if any slots are to be offered
 abbrev pub tail_write : ℕ → (staged : List ℕ) → List Access
 tail_write slot [] = []
 tail_write slot (number ∷ later) = Writes RDT slot ∷ []
@@ -24,7 +24,7 @@ takes_from counts slot [] = []
 takes_from counts slot (number ∷ later) =
     Loads (receive_slot slot) 16 ∷ Loads (buffer_at counts number + 12) 2 ∷ takes_from counts ((slot + 1) % counts.rx) later
 
--- the descriptor of the slot at a place is loaded, where any are outstanding
+-- the descriptor of the slot at a place is loaded if any are outstanding
 abbrev pub last_load : ℕ → (outstanding : List ℕ) → List Access
 last_load slot [] = []
 last_load slot (number ∷ later) = Loads (receive_slot slot) 16 ∷ []

@@ -1,4 +1,4 @@
--- The state in which a driver begins, and what it writes into registers up to the end of its initialisation (own).
+-- The state in which a driver begins, and what it writes into registers up to the end of its initialization (our choice).
 use Rattle.std.specs.Prelude.{◌≡◌, ◌≤◌, ◌<◌, ◌⊎◌, ◌*◌, ◌^◌, ◌++◌, ℕ, Bool, true, false, List, [], None, length}
 use Rattle.adapter.specs.declared.offsets.TheConstants.{IMS}
 use Rattle.registers.specs.Bits.{HasBit, union}
@@ -41,7 +41,7 @@ new_driver counts pool = record {
   bad = 0;
 }
 
--- The receive ring is set up, the transmit ring is or isn't, and neither offers a slot.
+-- The receive ring is set up, the transmit ring is set up or off, and neither offers a slot.
 pub record HasBegun (up : Bool) (counts : Counts) (pool : List ℕ) (world : World) : Type 0 where
   pub idle : IsIdle world
   pub runs : CanRun world
@@ -53,31 +53,31 @@ pub record HasBegun (up : Bool) (counts : Counts) (pool : List ℕ) (world : Wor
   pub receive : KnowsRing (receive_ring world) 0 counts.rx 0
   pub transmit : TransmitIs up counts 0 0 world.memory (transmit_ring world) world.adapter.transmit_control world.adapter.transmitter.buffer
 
--- Such a driver is ready.
+-- A driver that begins there is ready.
 abbrev pub DriversBegin : Type 0
 DriversBegin =
     (up : Bool) (counts : Counts) (pool : List ℕ) (world : World)
     → HasBegun up counts pool world → ReadyWith up (new_driver counts pool) world
 
--- Writes of registers, beside that of RDT, which offers staged slots. What they leave of the world is as the bus's law names it.
+-- Writes of registers other than RDT, which offers staged slots. The world after them is named as in the bus law.
 
--- A register of the transmit ring is written while the transmit side is off, so that head is still tail, and the ring lies at its place:
--- this holds behind each of the writes of TDBAL, TDBAH, TDLEN, TDH and TDT in this order, and the side is off still.
+-- A register of the transmit ring is written while the transmit side is off. After it head equals tail, the ring is inside its place, and
+-- the side is still off. This applies to each of the writes of TDBAL, TDBAH, TDLEN, TDH and TDT, in this order.
 abbrev pub TransmitRingIsWritten : Type 0
 TransmitRingIsWritten =
     (driver : DriverState) (ring : RingRegisters) (world : World) → ReadyWith false driver world → ring.head ≡ ring.tail
     → IsInside (ring_area (ring_of ring)) (area_of driver.counts TransmitRing)
     → GoesTo false driver world (record driver { oldest_transmit = ring.tail }) (with_transmit_ring ring world) [] [] nothing
 
--- TCTL is written with PSP, bit 3, behind all registers of the transmit ring: the transmit side is set up then.
+-- TCTL is written with PSP, bit 3, after all registers of the transmit ring. Then the transmit side is set up.
 abbrev pub TransmitterIsEnabled : Type 0
 TransmitterIsEnabled =
     (driver : DriverState) (control : ℕ) (world : World) → ReadyWith false driver world → driver.oldest_transmit < driver.counts.tx
     → KnowsRing (transmit_ring world) (16 * driver.counts.rx) driver.counts.tx (transmit_tail driver) → HasBit control tctl_psp
     → Goes driver world driver (with_transmit_control control world) [] [] nothing
 
--- RCTL is written, with EN or without it, while no receive slot is finished or in work and the transmit side is off. BSEX is 0, and buffers
--- have 2,048 bytes.
+-- RCTL is written, with EN or without it, while no receive slot is finished or in progress and the transmit side is off. BSEX is 0, and
+-- buffers have 2,048 bytes.
 abbrev pub ReceiverIsEnabled : Type 0
 ReceiverIsEnabled =
     (driver : DriverState) (control : ℕ) (world : World) → ReadyWith false driver world
@@ -102,47 +102,47 @@ CausesAreEnabled =
     (up : Bool) (driver : DriverState) (causes : ℕ) (world : World) → ReadyWith up driver world
     → Enabled up driver causes world (world_after_write IMS causes world)
 
--- Where RXT0, bit 7, is enabled, and the oldest receive slot isn't finished or RXT0 is recorded, no work is forgotten then.
+-- If RXT0, bit 7, is enabled, and the oldest receive slot isn't finished or RXT0 is recorded, no work is forgotten.
 abbrev pub EnabledForgetsNoWork : Type 0
 EnabledForgetsNoWork =
     (up : Bool) (driver : DriverState) (causes : ℕ) (a b : World) → Enabled up driver causes a b → HasBit (causes_of causes) rxt0
     → (finished driver.oldest_receive a ≡ []) ⊎ HasBit a.adapter.causes.recorded rxt0 → HasNoForgottenWork driver b
 
--- Stores, beside those that stage slots.
+-- Stores other than those that stage slots.
 
--- The descriptor of the slot behind all staged ones is stored: it stays the driver's.
+-- The descriptor of the slot after all staged ones is stored. That slot stays the driver's.
 abbrev pub LastSlotIsStored : Type 0
 LastSlotIsStored =
     (up : Bool) (driver : DriverState) (bytes : List ℕ) (world : World) → ReadyWith up driver world → length bytes ≡ 16
     → GoesTo up driver world driver (world_after_store (receive_slot (next_receive driver)) bytes world) [] [] nothing
 
--- Bytes are stored where the layout has the transmit ring, while the transmit side is off.
+-- Bytes are stored to the place of the transmit ring, while the transmit side is off.
 abbrev pub TransmitPlaceIsStored : Type 0
 TransmitPlaceIsStored =
     (driver : DriverState) (address : ℕ) (bytes : List ℕ) (world : World) → ReadyWith false driver world
     → IsInside (area_at address (length bytes)) (area_of driver.counts TransmitRing)
     → GoesTo false driver world driver (world_after_store address bytes world) [] [] nothing
 
--- What stays meanwhile, whatever happens.
+-- What doesn't change during initialization, whatever happens.
 
 -- RCTL.EN is 0, and no frame is held, as before the write of RCTL.
 pub record IsWaiting (driver : DriverState) (world : World) : Type 0 where
   pub disabled : ¬ (HasBit world.adapter.filter.rctl rctl_en)
   pub none : frames_held driver.oldest_receive world ≡ []
 
--- No frame comes then,
+-- Then no frame arrives.
 abbrev pub NoFrameComes : Type 0
 NoFrameComes =
     (up : Bool) (driver : DriverState) (a b : World) (past : Past) → ReadyWith up driver a → Happens a b past
     → IsWaiting driver a → IsWaiting driver b
 
--- and no receive slot is finished or in work.
+-- Then no receive slot is finished or in progress.
 abbrev pub NothingIsHeld : Type 0
 NothingIsHeld =
     (driver : DriverState) (world : World) → IsWaiting driver world
     → (finished driver.oldest_receive world ≡ []) × (world.adapter.receiver.work ≡ None)
 
--- The registers of the transmit ring stay while the side is off, TDH among them.
+-- The registers of the transmit ring don't change while the side is off, TDH among them.
 abbrev pub RingsThatAreOffStay : Type 0
 RingsThatAreOffStay =
     (driver : DriverState) (a b : World) (past : Past) → ReadyWith false driver a → Happens a b past

@@ -18,12 +18,12 @@ at bus driver = record { bus = bus; driver = driver }
 abbrev pub held_at : {B : Type 0} → List HandedOut → Moment B → Moment B
 held_at held now = record now { driver = holding held now.driver }
 
--- The bus obeys the law, and the driver is ready, with its transmit side set up or off.
+-- The bus obeys the law, and the driver is ready. `up`: its transmit side is set up; else it is off.
 pub record IsReady {B : Type 0} (bus : Ghosts B) (up : Bool) (now : Moment B) : Type 0 where
   pub honest : bus.honest now.bus
   pub ready : ReadyWith up now.driver (bus.world now.bus)
 
--- What a stretch did: its accesses in order, the frames taken off the receive ring, and those accepted to be sent.
+-- What was done in an interval: the accesses in order, the frames taken off the receive ring, and those accepted for sending.
 pub record Did : Type 0 where
   pub accesses : List Access
   pub taken : List (List ℕ)
@@ -33,20 +33,21 @@ pub record Did : Type 0 where
 abbrev pub only : List Access → Did
 only accesses = record { accesses = accesses; taken = []; accepted = [] }
 
--- A stretch from one moment to another did exactly this.
+-- From one moment to another the driver did exactly this.
 abbrev pub Ran : {B : Type 0} → Ghosts B → Bool → Did → (old new : Moment B) → Type 0
 Ran bus up did old new =
     RanBy up bus.world bus.happened did.accesses old.bus new.bus old.driver new.driver did.taken did.accepted
 
--- What holds of a call over a bus that obeys the law, by a driver that is ready, whichever frames others hold,
+-- If the bus obeys the law and the driver is ready before a call, `Holds` relates the moments before and after it. It does so for each list
+-- of frames that others hold, and with the transmit side set up or off.
 abbrev pub WhereReady : {B : Type 0} → Ghosts B → (old new : Moment B) → (Bool → Moment B → Moment B → Type 0) → Type 0
 WhereReady bus old new Holds =
     (up : Bool) (held : List HandedOut) → IsReady bus up (held_at held old) → Holds up (held_at held old) (held_at held new)
 
--- or by one whose transmit side is set up.
+-- The same, only with the transmit side set up.
 abbrev pub WhereUp : {B : Type 0} → Ghosts B → (old new : Moment B) → (Moment B → Moment B → Type 0) → Type 0
 WhereUp bus old new Holds = (held : List HandedOut) → IsReady bus true (held_at held old) → Holds (held_at held old) (held_at held new)
 
--- A driver's own call: it did exactly this wherever the driver is ready.
+-- If the bus obeys the law and the driver is ready, the call did exactly `did`.
 abbrev pub Runs : {B : Type 0} → Ghosts B → Did → (old new : Moment B) → Type 0
 Runs bus did old new = WhereReady bus old new (λ up. Ran bus up did)

@@ -1,4 +1,4 @@
--- What a driver's write of a register leaves, in the words of the bus's law (own).
+-- What a driver's write of a register changes, in the terms of the bus law (our choice).
 use Rattle.std.specs.Prelude.{◌≡◌, ◌+◌, ℕ, bit_and}
 use Rattle.adapter.specs.Rings.{ring_distance, ring_written}
 use Rattle.adapter.specs.World.{World, world_after_write}

@@ -1,9 +1,9 @@
--- What a driver keeps, as plain data, and where its rings and buffers stand (own).
+-- The state of a driver as plain data, and where its rings and buffers are (our choice).
 use Rattle.std.specs.Prelude.{◌+◌, ◌*◌, ◌++◌, ℕ, Bool, List, length, map}
 use Rattle.dma_memory.specs.Layout.{Counts, ReceiveBuffer, start_of}
 use Rattle.descriptors.specs.RingLaws.{place}
 
--- a frame that was handed out, and the number of the buffer in which it stands
+-- a frame that others hold, and the number of its buffer
 pub record HandedOut : Type 0 where
   pub number : ℕ
   pub frame : List ℕ
@@ -16,23 +16,23 @@ pub record DriverState : Type 0 where
   -- the place of the oldest outstanding receive slot, and the numbers of the buffers of all that are outstanding, the oldest first
   pub oldest_receive : ℕ
   pub buffers : List ℕ
-  -- the buffers of the slots behind these, whose descriptors are stored and which aren't offered yet
+  -- the buffers of the slots after these, whose descriptors are stored and which aren't offered yet
   pub staged : List ℕ
   -- the free buffers
   pub pool : List ℕ
-  -- the frames that others hold, who may still read them
+  -- the frames that others hold, and may still read
   pub handed_out : List HandedOut
   -- the place of the oldest outstanding transmit slot, and how many are outstanding
   pub oldest_transmit : ℕ
   pub sending : ℕ
-  -- the sum of all values that MPC was read as
+  -- the sum of all values read from MPC
   pub missed : ℕ
-  -- whether that is all: none of them was the greatest, at which MPC sticks, and the sum never stuck
+  -- whether no miss was lost: MPC was never read as its greatest value, and the sum never saturated
   pub exact : Bool
-  -- how many finished slots weren't handed out, as their descriptors were no whole frame's
+  -- the number of finished slots that weren't delivered, as their descriptors weren't those of whole frames
   pub bad : ℕ
 
--- the same driver, but for who owns which buffer
+-- the same driver with other owners of buffers
 abbrev pub with_owners : DriverState → (buffers staged pool : List ℕ) → List HandedOut → DriverState
 with_owners driver buffers staged pool handed_out = record driver
     { buffers = buffers; staged = staged; pool = pool; handed_out = handed_out }
@@ -41,11 +41,11 @@ with_owners driver buffers staged pool handed_out = record driver
 abbrev pub holding : List HandedOut → DriverState → DriverState
 holding handed_out driver = record driver { handed_out = handed_out }
 
--- The owners of buffers, one behind the other: the pool, the slots of the ring, and those who hold frames.
+-- The buffers of all owners, one after the other: of the pool, of the slots of the ring, and of those who hold frames.
 abbrev pub owners : DriverState → List ℕ
 owners driver = driver.pool ++ (driver.buffers ++ (driver.staged ++ numbers_of driver.handed_out))
 
--- Where things stand.
+-- Where things are.
 
 -- the receive buffer of a number
 abbrev pub buffer_at : Counts → ℕ → ℕ
@@ -59,11 +59,11 @@ receive_slot slot = 16 * slot
 abbrev pub transmit_slot : Counts → ℕ → ℕ
 transmit_slot counts slot = 16 * counts.rx + 16 * slot
 
--- the place that RDT names: behind the last receive slot that is outstanding
+-- the place that RDT names: after the last outstanding receive slot
 abbrev pub receive_tail : DriverState → ℕ
 receive_tail driver = place driver.counts.rx driver.oldest_receive (length driver.buffers)
 
--- the place behind the last receive slot whose descriptor is stored
+-- the place after the last receive slot whose descriptor is stored
 abbrev pub next_receive : DriverState → ℕ
 next_receive driver = place driver.counts.rx driver.oldest_receive (length driver.buffers + length driver.staged)
 

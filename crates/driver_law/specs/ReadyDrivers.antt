@@ -1,4 +1,4 @@
--- What a driver knows of its adapter and its memory whenever it does nothing, and what it rests on (own).
+-- What a driver knows of its adapter and its memory whenever it does nothing, and what it relies on (our choice).
 use Rattle.std.specs.Prelude.{⊤, ◌≡◌, ◌≤◌, ◌<◌, ◌+◌, ◌*◌, ◌%◌, ◌^◌, ℕ, Bool, true, false, List, [], ◌∷◌, All, map, length}
 use Rattle.descriptors.specs.Frames.{longest_frame}
 use Rattle.registers.specs.Bits.{HasBit}
@@ -22,7 +22,7 @@ use Rattle.adapter.specs.Slots.{finished, outstanding}
 use Rattle.adapter.specs.World.{World, receive_ring, transmit_ring}
 use Rattle.driver_law.specs.DriverState.{DriverState, HandedOut, buffer_at, owners, receive_slot, receive_tail, transmit_slot}
 
--- What the driver's own state always is: one slot at least isn't outstanding, and each buffer has one owner.
+-- What always holds of the driver's own state: at least one slot isn't outstanding, and each buffer has one owner.
 pub record IsDriver (driver : DriverState) : Type 0 where
   pub oldest_slot : driver.oldest_receive < driver.counts.rx
   pub room : length driver.buffers + length driver.staged < driver.counts.rx
@@ -31,7 +31,7 @@ pub record IsDriver (driver : DriverState) : Type 0 where
 
 -- The receive side.
 
--- a receive descriptor that names a buffer, and is else 0
+-- a receive descriptor that names a buffer, and is otherwise 0
 abbrev pub empty_descriptor : ℕ → List ℕ
 empty_descriptor buffer = rx_desc_bytes
     (record { address = buffer; length = 0; checksum = 0; status = status_of 0; errors = 0; special = 0 })
@@ -43,12 +43,12 @@ AreStored memory counts slot (number ∷ later) =
     (bytes_at memory (receive_slot slot) 16 ≡ empty_descriptor (buffer_at counts number))
     × AreStored memory counts ((slot + 1) % counts.rx) later
 
--- A frame that was handed out stands in its buffer.
+-- A frame that others hold is in its buffer.
 pub record Stands (counts : Counts) (memory : List ℕ) (one : HandedOut) : Type 0 where
   pub bytes : bytes_at memory (buffer_at counts one.number) (length one.frame) ≡ one.frame
   pub short : length one.frame ≤ longest_frame
 
--- The transmit side is set up: the driver knows its ring, and the data of each outstanding slot stands in that slot's own buffer.
+-- The transmit side is set up: the driver knows its ring, and the data of each outstanding slot is in that slot's own buffer.
 pub record TransmitIsUp (counts : Counts) (oldest sending : ℕ) (memory : List ℕ) (ring : Ring) (control : ℕ) : Type 0 where
   pub oldest_slot : oldest < counts.tx
   pub room : sending < counts.tx
@@ -58,8 +58,8 @@ pub record TransmitIsUp (counts : Counts) (oldest sending : ℕ) (memory : List 
   pub sources : All (λ slot. IsInside (data_of memory (transmit_slot counts slot)) (area_of counts (TransmitBuffer slot)))
       (slots_from counts.tx oldest sending)
 
--- The transmit side isn't set up yet, as in initialisation: its ring ends before the buffers, nothing of it is outstanding, and no frame
--- is in the packet buffer.
+-- The transmit side isn't set up yet, as during initialization: its ring ends before the buffers, none of its slots is outstanding, and no
+-- frame is in the packet buffer.
 pub record TransmitIsOff (counts : Counts) (oldest sending : ℕ) (ring : Ring) (buffer : List Queued) : Type 0 where
   pub ends : ring.base + 16 * count_of ring ≤ 16 * counts.rx + 16 * counts.tx
   pub idle : ring.head ≡ ring.tail
@@ -67,7 +67,7 @@ pub record TransmitIsOff (counts : Counts) (oldest sending : ℕ) (ring : Ring) 
   pub nothing : sending ≡ 0
   pub empty : buffer ≡ []
 
--- the one or the other
+-- the transmit side is set up (`true`) or off (`false`)
 abbrev pub TransmitIs : Bool → Counts → ℕ → ℕ → List ℕ → Ring → ℕ → List Queued → Type 0
 TransmitIs true counts oldest sending memory ring control buffer = TransmitIsUp counts oldest sending memory ring control
 TransmitIs false counts oldest sending memory ring control buffer = TransmitIsOff counts oldest sending ring buffer

@@ -1,4 +1,4 @@
--- What a driver does with its receive slots: each is a stretch of its run by itself.
+-- What a driver does with its receive slots. Each step is an interval of its run.
 use Rattle.std.specs.Prelude.{◌≡◌, ◌<◌, ◌+◌, ◌%◌, ◌++◌, ◌∷◌, ℕ, Bool, List, [], All, length}
 use Rattle.dma_memory.specs.Owners.{HaveSameNumbers, copies}
 use Rattle.rx_engine.specs.Descriptors.{descriptor_at}
@@ -11,7 +11,7 @@ use Rattle.driver_law.specs.DriverState.{DriverState, HandedOut, buffer_at, next
 use Rattle.driver_law.specs.Stretches.{GoesTo}
 use Rattle.driver_law.specs.ReadyDrivers.{ReadyWith, Stands, empty_descriptor}
 
--- A number leaves the pool, and the next slot's descriptor is stored with its buffer, where one slot more would still be left.
+-- A buffer leaves the pool, and the next slot's descriptor is stored with it, if one slot more is left after that.
 abbrev pub SlotsCanBeStaged : Type 0
 SlotsCanBeStaged =
     (up : Bool) (d : DriverState) (number : ℕ) (pool : List ℕ) (world : World) → ReadyWith up d world
@@ -29,12 +29,12 @@ StagedCanBeOffered =
 abbrev pub oldest_frame : DriverState → (number : ℕ) → World → HandedOut
 oldest_frame d number world = record { number = number; frame = frame_named world (receive_slot d.oldest_receive) }
 
--- the driver behind that slot, which had the first of its buffers
+-- the driver after the oldest slot, with the first of its buffers, left the ring
 abbrev pub behind_oldest : DriverState → (later : List ℕ) → List HandedOut → DriverState
 behind_oldest d later handed_out = record d
     { oldest_receive = (d.oldest_receive + 1) % d.counts.rx; buffers = later; handed_out = handed_out }
 
--- The oldest slot is taken, where it is finished: its frame is handed out.
+-- The oldest slot is taken if it is finished. Others hold its frame then.
 abbrev pub OldestCanBeTaken : Type 0
 OldestCanBeTaken =
     (up : Bool) (d : DriverState) (number : ℕ) (later slots : List ℕ) (world : World) → ReadyWith up d world
@@ -42,14 +42,14 @@ OldestCanBeTaken =
     → GoesTo up d world (behind_oldest d later (d.handed_out ++ oldest_frame d number world ∷ [])) world
     (frame_named world (receive_slot d.oldest_receive) ∷ []) [] nothing
 
--- That frame has as many bytes as the slot's descriptor says.
+-- The size of that frame is the length in the slot's descriptor.
 abbrev pub OldestIsAsLong : Type 0
 OldestIsAsLong =
     (up : Bool) (d : DriverState) (number : ℕ) (later slots : List ℕ) (world : World) → ReadyWith up d world
     → d.buffers ≡ number ∷ later → finished d.oldest_receive world ≡ receive_slot d.oldest_receive ∷ slots
     → length (frame_named world (receive_slot d.oldest_receive)) ≡ (descriptor_at world.memory (receive_slot d.oldest_receive)).length
 
--- Buffers that were handed out come back into the pool.
+-- Buffers whose frames others held come back into the pool.
 abbrev pub BuffersCanComeBack : Type 0
 BuffersCanComeBack =
     (up : Bool) (d : DriverState) (pool : List ℕ) (handed_out : List HandedOut) (world : World) → ReadyWith up d world

@@ -1,4 +1,4 @@
--- What a driver's read of a register leaves of what it knows (own).
+-- What a driver knows after a read of a register (our choice).
 use Rattle.std.specs.Prelude.{◌≡◌, ◌≢◌, ◌<◌, ◌+◌, ◌-◌, ◌^◌, ◌&&◌, ℕ, Bool, [], ◌∷◌, min, nat_lt}
 use Rattle.registers.specs.Bits.{HasBit}
 use Rattle.registers.specs.Counting.{greatest_count}
@@ -14,22 +14,22 @@ use Rattle.driver_law.specs.Stretches.{FlowsTo, GoesTo, HasNoForgottenWork}
 use Rattle.driver_law.specs.ReadyDrivers.{ReadyWith}
 use Rattle.registers.specs.Places.{rxt0}
 
--- whether a value that was read of MPC can be added without a loss: MPC didn't stick at it, and the sum doesn't
+-- whether a value read from MPC can be added without a loss: it isn't MPC's greatest value, and the sum doesn't saturate
 abbrev pub adds_exactly : (missed value : ℕ) → Bool
 adds_exactly missed value = nat_lt value greatest_count && nat_lt (missed + value) (2 ^ 64)
 
--- the driver with what it read of MPC added to its sum, which stays at the greatest u64
+-- the driver after a value read from MPC was added to its sum, which saturates at the greatest u64
 abbrev pub with_missed : ℕ → DriverState → DriverState
 with_missed value driver = record driver
     { missed = min (driver.missed + value) (2 ^ 64 - 1); exact = driver.exact && adds_exactly driver.missed value }
 
--- MPC is read, and what it held is added to the driver's sum.
+-- MPC is read, and its value is added to the driver's sum.
 abbrev pub MissesAreRead : Type 0
 MissesAreRead =
     (up : Bool) (driver : DriverState) (world : World) → driver.missed < 2 ^ 64 → ReadyWith up driver world
     → GoesTo up driver world (with_missed (answer_at MPC world.adapter) driver) (world_after_read MPC world) [] [] nothing
 
--- ICR was read: no cause is recorded behind it, and else nothing has changed.
+-- ICR was read: no cause is recorded after it, and nothing else has changed.
 pub record CausesRead (up : Bool) (driver : DriverState) (a b : World) : Type 0 where
   pub flows : FlowsTo up driver a driver b [] [] nothing
   pub cleared : b.adapter.causes.recorded ≡ 0
@@ -39,21 +39,23 @@ CausesAreRead =
     (up : Bool) (driver : DriverState) (world : World) → ReadyWith up driver world
     → CausesRead up driver world (world_after_read ICR world)
 
--- ICR was read over a bus, by this access alone.
+-- ICR was read over a bus, with no other access.
 pub record ReadsCauses (up : Bool) {B : Type 0} (world : B → World) (happened : B → B → Past → Type 0) (old new : B) (driver : DriverState)
     (causes : ℕ) : Type 0 where
   pub past : Past
   pub told : happened old new past
   pub only : past.accesses ≡ Reads ICR causes ∷ []
   pub flows : FlowsTo up driver (world old) driver (world new) [] [] past
+  -- Each cause that was recorded at the beginning was read, and none is recorded at the end.
+  pub seen : (place : ℕ) → HasBit (world old).adapter.causes.recorded place → HasBit causes place
   pub cleared : (world new).adapter.causes.recorded ≡ 0
-  -- No work is forgotten where RXT0, bit 7, wasn't read.
+  -- No work is forgotten if RXT0, bit 7, wasn't read.
   pub work : ¬ HasBit causes rxt0 → HasNoForgottenWork driver (world old) → HasNoForgottenWork driver (world new)
   pub set : AreSet (world old) (world new) past
   pub off : WhileOff (world old) past
   pub link : KeepsLink (world old) (world new) past
 
--- Any other register is read, and nothing changes that a driver knows.
+-- Any other register is read, and nothing that a driver knows changes.
 abbrev pub OthersAreRead : Type 0
 OthersAreRead =
     (up : Bool) (driver : DriverState) (offset : ℕ) (world : World) → offset ≢ ICR → offset ≢ MPC → ReadyWith up driver world

@@ -1,4 +1,4 @@
--- The steps of a driver's transmit side (own).
+-- The steps of a driver's transmit side (our choice).
 use Rattle.std.specs.Prelude.{⊤, ◌≡◌, ◌≤◌, ◌<◌, ◌+◌, ◌-◌, ◌%◌, ◌⊎◌, ◌++◌, ℕ, true, false, List, [], ◌∷◌, All, length, map}
 use Rattle.adapter.specs.declared.offsets.TheConstants.{TDT}
 use Rattle.dma_memory.specs.Areas.{bytes_in}
@@ -38,11 +38,11 @@ tail_buffer driver = transmit_buffer driver.counts (transmit_tail driver)
 abbrev pub oldest_slot : DriverState → ℕ
 oldest_slot driver = transmit_slot driver.counts driver.oldest_transmit
 
--- the command of a whole packet (EOP), with a check sequence (IFCS), of which a report is asked for (RS)
+-- the command of a whole packet (EOP), with a check sequence (IFCS), and with its write-back requested (RS)
 abbrev pub whole_packet_command : ℕ
 whole_packet_command = union (union (alone tx_eop) (alone tx_ifcs)) (alone tx_rs)
 
--- a transmit descriptor that names so many bytes at an address, as a whole packet
+-- a transmit descriptor that names `size` bytes at an address, as a whole packet
 abbrev pub whole_descriptor : (address size : ℕ) → List ℕ
 whole_descriptor address size = tx_desc_bytes (record {
   address = address;
@@ -59,19 +59,19 @@ whole_descriptor address size = tx_desc_bytes (record {
 abbrev pub IsDriversTransmitSlot : DriverState → ℕ → World → Type 0
 IsDriversTransmitSlot driver slot world = IsDriversSlot (transmit_ring world) driver.oldest_transmit slot
 
--- Such is the one at the tail.
+-- The slot at the tail is one.
 abbrev pub NextSlotBelongsToDriver : Type 0
 NextSlotBelongsToDriver =
     (driver : DriverState) (world : World) → Ready driver world → IsDriversTransmitSlot driver (transmit_tail driver) world
 
--- Data is stored into its buffer,
+-- Data is stored into its buffer.
 abbrev pub DataIsStored : Type 0
 DataIsStored =
     (driver : DriverState) (slot : ℕ) (bytes : List ℕ) (world : World) → Ready driver world → IsDriversTransmitSlot driver slot world
     → length bytes ≤ buffer_bytes
     → Goes driver world driver (world_after_store (transmit_buffer driver.counts slot) bytes world) [] [] nothing
 
--- or its descriptor is stored.
+-- Its descriptor is stored.
 abbrev pub DescriptorIsStored : Type 0
 DescriptorIsStored =
     (driver : DriverState) (slot : ℕ) (bytes : List ℕ) (world : World) → Ready driver world → IsDriversTransmitSlot driver slot world
@@ -83,7 +83,7 @@ pub record SameSlot (counts : Counts) (slot : ℕ) (a b : World) : Type 0 where
   pub data_same : bytes_in b.memory (area_of counts (TransmitBuffer slot)) ≡ bytes_in a.memory (area_of counts (TransmitBuffer slot))
   pub descriptor_same : bytes_at b.memory (transmit_slot counts slot) 16 ≡ bytes_at a.memory (transmit_slot counts slot) 16
 
--- So it is whatever happens.
+-- They stay the same whatever happens.
 abbrev pub SlotsKeepBytes : Type 0
 SlotsKeepBytes =
     (driver : DriverState) (slot : ℕ) (a b : World) (past : Past) → Ready driver a → IsDriversTransmitSlot driver slot a → Happens a b past
@@ -91,18 +91,18 @@ SlotsKeepBytes =
 
 -- A frame is sent.
 
--- The slot at the tail has it: the frame in its buffer, and a descriptor that names that.
+-- The slot at the tail has the frame: it is in the slot's buffer, which the slot's descriptor names.
 pub record FrameStands (driver : DriverState) (frame : List ℕ) (world : World) : Type 0 where
   pub bytes : bytes_at world.memory (tail_buffer driver) (length frame) ≡ frame
   pub descriptor : bytes_at world.memory (tail_slot driver) 16 ≡ whole_descriptor (tail_buffer driver) (length frame)
 
--- A write of TDT with the place behind the tail moves it on by one:
+-- A write of TDT with the place after the tail advances the tail by one.
 abbrev pub TailIsMoved : Type 0
 TailIsMoved =
     (driver : DriverState) (world : World) → Ready driver world
     → world_after_write TDT ((transmit_tail driver + 1) % driver.counts.tx) world ≡ offering_frame world
 
--- the frame, padded, is the last that is to be sent.
+-- Then the frame, padded, is the last that is to be sent.
 abbrev pub FrameIsOffered : Type 0
 FrameIsOffered =
     (driver : DriverState) (frame : List ℕ) (world : World) → Ready driver world → driver.sending + 1 < driver.counts.tx
@@ -114,20 +114,20 @@ FrameIsOffered =
 abbrev pub with_freed : DriverState → DriverState
 with_freed driver = record driver { oldest_transmit = (driver.oldest_transmit + 1) % driver.counts.tx; sending = driver.sending - 1 }
 
--- The oldest one is, where it is done.
+-- The oldest one is freed if it is done.
 abbrev pub SlotIsFreed : Type 0
 SlotIsFreed =
     (driver : DriverState) (world : World) → Ready driver world → 0 < driver.sending → is_done world.memory (oldest_slot driver) ≡ true
     → Goes driver world (with_freed driver) world [] [] nothing
 
--- Where it isn't, or none is outstanding, none is written back.
+-- If it isn't done, or none is outstanding, none is written back.
 abbrev pub NoneIsWrittenBack : Type 0
 NoneIsWrittenBack =
     (driver : DriverState) (world : World) → Ready driver world
     → (driver.sending ≡ 0) ⊎ (is_done world.memory (oldest_slot driver) ≡ false) → written_back driver.oldest_transmit world ≡ []
 
--- Each outstanding slot has a frame that is still to be sent, or is written back; and one slot at least isn't outstanding. So never more
--- frames are to be sent than the ring has slots less one.
+-- Each outstanding slot has a frame that is still to be sent, or is written back. At least one slot isn't outstanding, so the frames to be
+-- sent are at most the number of slots less one.
 pub record HasFrames (driver : DriverState) (world : World) : Type 0 where
   pub count : length (frames_to_send world) + length (written_back driver.oldest_transmit world) ≡ driver.sending
   pub most : length (frames_to_send world) + 1 ≤ driver.counts.tx
@@ -137,18 +137,18 @@ SlotsHaveFrames = (driver : DriverState) (world : World) → Ready driver world 
 
 -- Over a bus.
 
--- The descriptors of so many slots are loaded, from a place on.
+-- The descriptors of k slots are loaded, from a place on.
 abbrev pub transmit_loads : Counts → (oldest : ℕ) → ℕ → List Access
 transmit_loads counts oldest k = map (λ slot. Loads (transmit_slot counts slot) 16) (slots_from counts.tx oldest k)
 
--- A frame is sent by the slot at the tail: its bytes are stored, then the descriptor, and then TDT written.
+-- A frame is sent in the slot at the tail: its bytes are stored, then the descriptor, and then TDT is written.
 abbrev pub send_accesses : DriverState → List ℕ → List Access
 send_accesses driver frame =
     Stores (tail_buffer driver) frame
     ∷ Stores (tail_slot driver) (whole_descriptor (tail_buffer driver) (length frame))
     ∷ Writes TDT ((transmit_tail driver + 1) % driver.counts.tx) ∷ []
 
--- loads and stores, by which no register changes
+-- loads and stores, which change no register
 abbrev pub IsLoadOrStore : Access → Type 0
 IsLoadOrStore (Loads address size) = ⊤
 IsLoadOrStore (Stores address bytes) = ⊤
@@ -160,7 +160,7 @@ pub record EndsWithTail (accesses : List Access) (slot : ℕ) : Type 0 where
   pub all : All IsLoadOrStore quiet
   pub whole : accesses ≡ quiet ++ Writes TDT slot ∷ []
 
--- Such is the sending of a frame behind loads of descriptors.
+-- So end the accesses that free slots and then send a frame.
 abbrev pub SendsEndWithTail : Type 0
 SendsEndWithTail =
     (driver : DriverState) (frame : List ℕ) (k : ℕ)

@@ -1,23 +1,23 @@
-// Laws of a driver's beginning, and of the registers that it writes up to the end of its initialisation.
+// Laws of a driver's beginning, and of the registers that it writes up to the end of its initialization.
 
 ghost use Rattle.driver_law.specs.Beginnings.{CausesAreEnabled, DriversBegin, LastSlotIsStored, NoFrameComes};
 ghost use Rattle.driver_law.specs.Beginnings.{NothingIsHeld, ReceiverIsEnabled, RingsThatAreOffStay};
 ghost use Rattle.driver_law.specs.Beginnings.{TransmitPlaceIsStored, TransmitRingIsWritten, TransmitterIsEnabled};
 ghost use Rattle.driver_law.specs.Beginnings.{EnabledForgetsNoWork};
 
-/// A driver whose receive ring is set up, whose transmit ring is or isn't, and that has offered no slot of
-/// either, is ready.
+/// A driver is ready if its receive ring is set up, its transmit ring is set up or off, and it has offered no slot
+/// of either.
 pub fn drivers_begin()
     ensures { DriversBegin }
 {}
 
-/// A driver that is ready stays so at each write of a register in its initialisation.
-/// - `receiver`: of RCTL, while no receive slot is finished or in work, and the transmit side is off.
-/// - `transmit_ring`: of one of the transmit ring's, while it has nothing to send: behind each the ring
-///   is where the layout has it, and the side off still.
-/// - `transmitter`: of TCTL, with PSP, behind which its transmit side is set up.
-/// - `causes`: of IMS, which changes the mask alone.
-/// - `work`: no work is forgotten then, where none was left without its cause.
+/// A driver that is ready stays so at each write of a register during its initialization.
+/// - `receiver`: of RCTL, while no receive slot is finished or in progress, and the transmit side is off.
+/// - `transmit_ring`: of one of the transmit ring's, while the transmit side is off. After each of them the ring is
+///   inside its place in the layout, and the side is still off.
+/// - `transmitter`: of TCTL, with PSP. After it the transmit side is set up.
+/// - `causes`: of IMS, which changes only the mask.
+/// - `work`: after that no work is forgotten, if RXT0 is enabled, and no slot was finished or RXT0 was recorded.
 pub fn registers_are_set()
     ensures receiver { ReceiverIsEnabled }
     ensures transmit_ring { TransmitRingIsWritten }
@@ -26,17 +26,17 @@ pub fn registers_are_set()
     ensures work { EnabledForgetsNoWork }
 {}
 
-/// A driver that is ready stays so at each other store of its initialisation.
-/// - `last`: of the descriptor behind all staged receive slots.
+/// A driver that is ready stays so at each other store of its initialization.
+/// - `last`: of the descriptor after all staged receive slots.
 /// - `transmit_ring`: to the place of the transmit ring, while the side is off.
 pub fn rings_are_stored()
     ensures last { LastSlotIsStored }
     ensures transmit_ring { TransmitPlaceIsStored }
 {}
 
-/// What stays in initialisation, whatever happens between two accesses.
-/// - `frames`: that RCTL.EN is 0 and no frame is held.
-/// - `empty`: no receive slot is finished or in work then.
+/// What doesn't change during initialization, whatever happens between two accesses.
+/// - `frames`: RCTL.EN is 0 and no frame is held.
+/// - `empty`: then no receive slot is finished or in progress.
 /// - `transmit_ring`: the registers of a transmit ring whose side is off.
 pub fn rings_stay()
     ensures frames { NoFrameComes }

@@ -1,4 +1,4 @@
-// Laws of a driver's stretches.
+// Laws of the intervals of a driver's run.
 
 ghost use Rattle.std.specs.Prelude.{◌++◌, ℕ, Bool, List, [], All};
 ghost use Rattle.adapter.specs.World.{World};
@@ -10,10 +10,10 @@ ghost use Rattle.driver_law.specs.ReadyDrivers.{ReadyWith, Stands};
 ghost use Rattle.driver_law.specs.ReceiveSteps.{BuffersCanComeBack, OldestCanBeTaken, OldestIsAsLong};
 ghost use Rattle.driver_law.specs.ReceiveSteps.{SlotsCanBeStaged, StagedCanBeOffered};
 
-/// Two stretches of a driver's run are one: what was taken in both was taken, in order, and so with what
-/// was given, what was put and stored, and what was missed. The transmit side may be set up in between.
-/// - `flows`: whichever registers are read meanwhile.
-/// - `goes`: where ICR isn't.
+/// Two intervals of a driver's run join to one. The frames taken, accepted, put and stored in it are those of both,
+/// in order, and its misses are those of both. The transmit side may be set up in between.
+/// - `flows`: whichever registers are read.
+/// - `goes`: if ICR isn't read.
 pub fn stretches_join()
     ensures flows { (first_up up : Bool) (d1 d2 d3 : DriverState) (a b c : World)
         (t1 t2 g1 g2 : List (List ℕ)) (s1 s2 : Past)
@@ -25,11 +25,11 @@ pub fn stretches_join()
         → GoesTo up d1 a d3 c (t1 ++ t2) (g1 ++ g2) (joined s1 s2) }
 {}
 
-/// What a driver may rest on between two of its calls, whatever happens.
-/// - `goes`: what it knows stays, and what happens is a stretch of its run in which nothing is taken or
-///   given.
-/// - `work`: no work is forgotten, over any stretch in which ICR isn't read.
-/// - `handed_out`: frames that others hold stand in their buffers.
+/// What a driver may rely on between two of its calls, whatever happens.
+/// - `goes`: what it knows stays true, and what happens is an interval of its run in which no frame is taken or
+///   accepted.
+/// - `work`: no work is forgotten, in any interval in which ICR isn't read.
+/// - `handed_out`: frames that others hold stay in their buffers.
 pub fn drivers_go_on()
     ensures goes { (up : Bool) (d : DriverState) (a b : World) (past : Past)
         → ReadyWith up d a → Happens a b past → GoesTo up d a d b [] [] past }
@@ -39,13 +39,12 @@ pub fn drivers_go_on()
         → ReadyWith up d a → Happens a b past → All (Stands d.counts b.memory) d.handed_out }
 {}
 
-/// What a driver does with the slots of its receive ring, each a stretch of its run by itself.
-/// - `staged`: it stores the descriptor of the next slot, with a free buffer, where one slot more would
-///   still be left.
+/// What a driver does with the slots of its receive ring. Each step is an interval of its run.
+/// - `staged`: it stores the descriptor of the next slot, with a free buffer, if one slot more is left after that.
 /// - `offered`: it offers all staged slots by one write of RDT.
-/// - `taken`: it takes the oldest slot, where that is finished, and hands its frame out.
-/// - `length`: that frame has as many bytes as the slot's descriptor says.
-/// - `comes_back`: a buffer that was handed out comes back into the pool.
+/// - `taken`: it takes the oldest slot if that is finished. Others hold its frame then.
+/// - `length`: the size of that frame is the length in the slot's descriptor.
+/// - `comes_back`: a buffer whose frame others held comes back into the pool.
 pub fn receive_slots_go_round()
     ensures staged { SlotsCanBeStaged }
     ensures offered { StagedCanBeOffered }

@@ -1,5 +1,4 @@
-//! The layer that drivers stand on: what a driver knows of its adapter and memory, and what a stretch
-//! of its run does.
+//! The layer below drivers: what a driver knows of its adapter and memory, and what an interval of its run does.
 #![tactic(auto)]
 
 mod beginning_law;

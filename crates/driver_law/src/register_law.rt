@@ -3,9 +3,9 @@
 ghost use Rattle.driver_law.specs.ControlWrites.{ReceiveControlWrites, TransmitControlWrites, TransmitRingWrites};
 ghost use Rattle.driver_law.specs.RegisterReadings.{CausesAreRead, MissesAreRead, OthersAreRead};
 
-/// What a driver's read of a register leaves of what it knows.
+/// What a driver knows after a read of a register.
 /// - `causes`: of ICR: frames, slots and counts are the same, and no cause is recorded.
-/// - `misses`: of MPC: the driver's sum grows by what is read, so the sum and MPC together are the same.
+/// - `misses`: of MPC: the driver's sum grows by the value read, so the sum plus MPC is the same.
 /// - `others`: of any other register: nothing changes.
 pub fn registers_are_read()
     ensures causes { CausesAreRead }
@@ -13,7 +13,7 @@ pub fn registers_are_read()
     ensures others { OthersAreRead }
 {}
 
-/// What a write of a register leaves is what the bus's law tells of: of the transmit ring's, of RCTL and of
+/// What a write of a register changes, in the terms of the bus law: of one of the transmit ring's, of RCTL, and of
 /// TCTL.
 pub fn registers_are_written()
     ensures transmit_ring { TransmitRingWrites }

@@ -85,13 +85,12 @@ impl Bus for FakeBus {
 
     ghost lent_stays = { λ a b. ⊤ };
 
-    ghost stays = { λ bus. tt };
-
-    ghost joins = { λ a b c first later one two. tt };
-
-    ghost lent_stays_here = { λ bus. tt };
-
-    ghost lent_stays_on = { λ a b c one two. tt };
+    ghost composes = { record {
+      stays = λ bus. tt;
+      joins = λ a b c first later one two. tt;
+      lent_stays_here = λ bus. tt;
+      lent_stays_on = λ a b c one two. tt;
+    } };
 
     ghost sized = { λ bus honest. absurd honest };
 

@@ -1,5 +1,5 @@
-//! A driver's interrupts and sends: over its adapter, and over a device that lies. There each call ends, no buffer is lost,
-//! and what can't be a frame is handed to nobody.
+//! A driver's interrupts and sends: over its adapter, and over a device that lies. There each call ends, no buffer is
+//! lost, and what can't be a frame is handed to nobody.
 
 use crate::buses::{FakeBus, config, good_bus};
 use adapter::StepKind;
@@ -110,8 +110,8 @@ fn handed_out(rt: &impl Abort, driver: &Driver, keeper: &Keeper, frames: u8, bad
     assert!(rt; driver.receiving() == 7);
 }
 
-/// Registers are all ones, so that MPC is at its greatest, and every descriptor is done for ever: each of seven slots is
-/// taken once. Ones have errors, too, and a length that no frame has.
+/// Registers are all ones, so that MPC is at its greatest, and every descriptor is done for ever: each of seven slots
+/// is taken once. Ones have errors, too, and a length that no frame has.
 #[test]
 fn lengths_that_no_frame_has_are_bad(rt: HostRuntime) -> Result<(), Fail> {
     let mut bus = good_bus(rt.alloc())?;

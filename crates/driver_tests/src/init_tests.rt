@@ -18,7 +18,7 @@ use std::alloc::Global;
 use std::process::Abort;
 use std::test::Fail;
 
-/// What registers read once an adapter is brought up with [`config`], but for its address.
+/// What registers read after an adapter is initialized with [`config`], except its address.
 const BROUGHT_UP: [(u32, u32); 20] = [
     (RDLEN, 128),
     (TDLEN, 128),
@@ -38,7 +38,7 @@ const BROUGHT_UP: [(u32, u32); 20] = [
     (VET, 0x0000_8100),
     (RAL, 0x0000_0002),
     (RAL + 8, 0),
-    // The link's coming is recorded, and not in the mask: the interrupt line is off.
+    // LSC is recorded, and not in the mask.
     (ICR, 0x04),
     (IMS, 0xD1),
 ];
@@ -62,6 +62,7 @@ fn registers_stand_as_brought_up(rt: HostRuntime) -> Result<(), Fail> {
         let image = Image::with_address([0x02, 0, 0, 0, 0, last]);
         let mut bus = lively_bus(rt.alloc(), &image, Link::After(1))?;
         assert!(rt; error_of(rt.alloc(), &mut bus).is_none());
+        assert!(rt; !bus.line());
         check(&rt, &mut bus, &BROUGHT_UP);
         check(&rt, &mut bus, &[(RAL + 4, high)]);
     }

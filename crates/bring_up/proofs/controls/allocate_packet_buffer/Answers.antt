@@ -3,5 +3,5 @@ use Rattle.bring_up.proofs.controls.allocate_packet_buffer.Goals as goal
 
 pub returns-clause-sets : goal.returns-clause-sets
 returns-clause-sets g c honest =
-    sets-word g.B.Bus.world g.B.Bus.happened g.B.Bus.lively c.args.bus.now c.write.new.self 0x1000 c.from.result c.args.kilobytes
+    sets-word g.B.Bus c.args.bus.now c.write.new.self 0x1000 c.from.result c.args.kilobytes
     c.from.ensures (c.write.ensures.acts honest)

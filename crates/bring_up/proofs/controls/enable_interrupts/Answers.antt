@@ -5,11 +5,11 @@ use Rattle.bring_up.proofs.controls.enable_interrupts.Goals as goal
 
 pub returns-clause-sets : goal.returns-clause-sets
 returns-clause-sets g c honest =
-    sets-word g.B.Bus.world g.B.Bus.happened g.B.Bus.lively c.args.bus.now c.write.new.self 0x00D0 c.bits.result 0xD1
+    sets-word g.B.Bus c.args.bus.now c.write.new.self 0x00D0 c.bits.result 0xD1
     (c.bits.ensures tt ∙ c.interrupt_causes.ensures) (c.write.ensures.acts honest)
 
 pub returns-clause-enables : goal.returns-clause-enables
-returns-clause-enables g c d honest ready =
+returns-clause-enables g c d is =
     let causes : c.bits.result ≡ 0xD1 = c.bits.ensures tt ∙ c.interrupt_causes.ensures in
-    enables-causes g.B.Bus.world g.B.Bus.happened g.B.Bus.lively c.args.bus.now c.write.new.self c.bits.result d causes
-    (c.write.ensures.acts honest) ready
+    enables-causes g.B.Bus c.args.bus.now c.write.new.self c.bits.result d causes
+    (c.write.ensures.acts is.honest) is.ready

@@ -4,5 +4,5 @@ use Rattle.bring_up.proofs.controls.set_link_up.Goals as goal
 
 pub returns-clause-sets : goal.returns-clause-sets
 returns-clause-sets g c honest =
-    sets-word g.B.Bus.world g.B.Bus.happened g.B.Bus.lively c.args.bus.now c.write.new.self 0x0000 c.bits.result 0x60 (c.bits.ensures tt
+    sets-word g.B.Bus c.args.bus.now c.write.new.self 0x0000 c.bits.result 0x60 (c.bits.ensures tt
     ∙ c.union.ensures tt) (c.write.ensures.acts honest)

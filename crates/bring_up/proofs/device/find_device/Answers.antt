@@ -1,4 +1,4 @@
-use Rattle.std.proofs.Common.{⊎_elim, ◌≡◌, ◌++◌, Err, length-append, sym, ap, subst, ◌∙◌, arith}
+use Rattle.std.proofs.Common.{⊎_elim, ◌≡◌, ◌++◌, ℕ, List, Result, Err, length-append, sym, ap, subst, ◌∙◌, arith}
 use Rattle.std.proofs.lemmas.Bool.{false≢true}
 use Rattle.std.proofs.lemmas.Result.{err_from_is_err_and}
 use Rattle.eeprom.specs.Image.{HasRightSum}
@@ -16,27 +16,26 @@ returns-in_err-image-clause-finds g c honest =
     let start = c.args.bus.now in
     let end = c.read_image.new.bus in
     let resets = c.reset_device.ensures.sets honest in
-    let still = c.reset_device.ensures.honest honest in
+    let still = c.reset_device.ensures.keeps.honest honest in
     let reads = c.in_err-image.ensures.reads still in
     let told = err_from_is_err_and c.from_residual.result c.from_residual.ensures.1 in
     let is : c.from_residual.result ≡ Err EepromTimeout = told.1 ∙ ap Err (told.2 ∙ c.in_err-image.ensures.only) in
-    subst (FindsDevice g.B.Bus.world g.B.Bus.happened g.B.Bus.lively start end c.args.kilobytes) (sym is)
+    subst (λ (result : Result (List ℕ) InitError). FindsDevice g.B.Bus c.args.kilobytes result start end) (sym is)
     (record {
       past = joined resets.past reads.asks.past;
-      told = g.met.B.Bus.joins start c.reset_device.new.bus end resets.past reads.asks.past resets.told reads.asks.told;
+      told = g.met.B.Bus.composes.joins start c.reset_device.new.bus end resets.past reads.asks.past resets.told reads.asks.told;
       found = tt;
       why = omega (arith, reads.in_vain, length-append resets.past.accesses reads.asks.past.accesses);
-      why_lively = λ lively. absurd (false≢true (c.in_err-image.ensures.in_time (c.reset_device.ensures.lively lively) still));
+      why_lively = λ lively. absurd (false≢true (c.in_err-image.ensures.in_time (c.reset_device.ensures.keeps.lively lively) still));
     })
 
 pub returns-then-not-checksum_ok-clause-finds : goal.returns-then-not-checksum_ok-clause-finds
 returns-then-not-checksum_ok-clause-finds g c honest =
     let world = g.B.Bus.world in
-    let happened = g.B.Bus.happened in
-    let joins = g.met.B.Bus.joins in
+    let joins = g.met.B.Bus.composes.joins in
     let start = c.args.bus.now in
     let resets = c.reset_device.ensures.sets honest in
-    let h1 = c.reset_device.ensures.honest honest in
+    let h1 = c.reset_device.ensures.keeps.honest honest in
     let reads = c.in_ok-image.ensures.reads h1 in
     let image_is : c.in_ok-image.image ≡ (world start).adapter.image = reads.image
     ∙ device-image (world start) (world c.reset_device.new.bus) reset_writes resets.settings in
@@ -51,28 +50,27 @@ returns-then-not-checksum_ok-clause-finds g c honest =
 pub returns-in_err-negotiate-clause-finds : goal.returns-in_err-negotiate-clause-finds
 returns-in_err-negotiate-clause-finds g c honest =
     let world = g.B.Bus.world in
-    let happened = g.B.Bus.happened in
-    let joins = g.met.B.Bus.joins in
+    let joins = g.met.B.Bus.composes.joins in
     let start = c.args.bus.now in
     let resets = c.reset_device.ensures.sets honest in
-    let h1 = c.reset_device.ensures.honest honest in
+    let h1 = c.reset_device.ensures.keeps.honest honest in
     let reads = c.in_ok-image.ensures.reads h1 in
     let image_is : c.in_ok-image.image ≡ (world start).adapter.image = reads.image
     ∙ device-image (world start) (world c.reset_device.new.bus) reset_writes resets.settings in
-    let h2 = c.in_ok-image.ensures.honest h1 in
-    let h3 = c.allocate_packet_buffer.ensures.honest h2 in
-    let h4 = c.set_link_up.ensures.honest h3 in
+    let h2 = c.in_ok-image.ensures.keeps.honest h1 in
+    let h3 = c.allocate_packet_buffer.ensures.keeps.honest h2 in
+    let h4 = c.set_link_up.ensures.keeps.honest h3 in
     let ready =
-    is-set world happened joins start c.read_image.new.bus c.allocate_packet_buffer.new.bus c.set_link_up.new.bus c.args.kilobytes
-    (is-read world happened joins start c.reset_device.new.bus c.read_image.new.bus resets (c.reset_device.ensures.rests honest) reads.asks)
+    is-set g.B.Bus joins start c.read_image.new.bus c.allocate_packet_buffer.new.bus c.set_link_up.new.bus c.args.kilobytes
+    (is-read g.B.Bus joins start c.reset_device.new.bus c.read_image.new.bus resets (c.reset_device.ensures.rests honest) reads.asks)
     (c.allocate_packet_buffer.ensures.sets h2) (c.set_link_up.ensures.sets h3) in
     let Lives : g.B.Bus.lively start → g.B.Bus.lively c.set_link_up.new.bus = λ lively.
-    c.set_link_up.ensures.lively
-    (c.allocate_packet_buffer.ensures.lively (c.in_ok-image.ensures.lively (c.reset_device.ensures.lively lively))) in
+    c.set_link_up.ensures.keeps.lively
+    (c.allocate_packet_buffer.ensures.keeps.lively (c.in_ok-image.ensures.keeps.lively (c.reset_device.ensures.keeps.lively lively))) in
     let asked = c.in_err-negotiate.ensures.negotiates h4 in
     let told = err_from_is_err_and c.from_residual-in_err-negotiate.result c.from_residual-in_err-negotiate.ensures.1 in
     let is : c.from_residual-in_err-negotiate.result ≡ Err PhyTimeout = told.1 ∙ ap Err (told.2 ∙ c.in_err-negotiate.ensures.error) in
-    subst (FindsDevice world happened g.B.Bus.lively start c.negotiate.new.bus c.args.kilobytes) (sym is)
+    subst (λ (result : Result (List ℕ) InitError). FindsDevice g.B.Bus c.args.kilobytes result start c.negotiate.new.bus) (sym is)
     (record {
       past = joined ready.past asked.asks.past;
       told = joins start c.set_link_up.new.bus c.negotiate.new.bus ready.past asked.asks.past ready.told asked.asks.told;
@@ -84,37 +82,36 @@ returns-in_err-negotiate-clause-finds g c honest =
 pub returns-in_err-await_link-clause-finds : goal.returns-in_err-await_link-clause-finds
 returns-in_err-await_link-clause-finds g c honest =
     let world = g.B.Bus.world in
-    let happened = g.B.Bus.happened in
-    let joins = g.met.B.Bus.joins in
+    let joins = g.met.B.Bus.composes.joins in
     let start = c.args.bus.now in
     let resets = c.reset_device.ensures.sets honest in
-    let h1 = c.reset_device.ensures.honest honest in
+    let h1 = c.reset_device.ensures.keeps.honest honest in
     let reads = c.in_ok-image.ensures.reads h1 in
     let image_is : c.in_ok-image.image ≡ (world start).adapter.image = reads.image
     ∙ device-image (world start) (world c.reset_device.new.bus) reset_writes resets.settings in
-    let h2 = c.in_ok-image.ensures.honest h1 in
-    let h3 = c.allocate_packet_buffer.ensures.honest h2 in
-    let h4 = c.set_link_up.ensures.honest h3 in
+    let h2 = c.in_ok-image.ensures.keeps.honest h1 in
+    let h3 = c.allocate_packet_buffer.ensures.keeps.honest h2 in
+    let h4 = c.set_link_up.ensures.keeps.honest h3 in
     let ready =
-    is-set world happened joins start c.read_image.new.bus c.allocate_packet_buffer.new.bus c.set_link_up.new.bus c.args.kilobytes
-    (is-read world happened joins start c.reset_device.new.bus c.read_image.new.bus resets (c.reset_device.ensures.rests honest) reads.asks)
+    is-set g.B.Bus joins start c.read_image.new.bus c.allocate_packet_buffer.new.bus c.set_link_up.new.bus c.args.kilobytes
+    (is-read g.B.Bus joins start c.reset_device.new.bus c.read_image.new.bus resets (c.reset_device.ensures.rests honest) reads.asks)
     (c.allocate_packet_buffer.ensures.sets h2) (c.set_link_up.ensures.sets h3) in
     let Lives : g.B.Bus.lively start → g.B.Bus.lively c.set_link_up.new.bus = λ lively.
-    c.set_link_up.ensures.lively
-    (c.allocate_packet_buffer.ensures.lively (c.in_ok-image.ensures.lively (c.reset_device.ensures.lively lively))) in
+    c.set_link_up.ensures.keeps.lively
+    (c.allocate_packet_buffer.ensures.keeps.lively (c.in_ok-image.ensures.keeps.lively (c.reset_device.ensures.keeps.lively lively))) in
     let asked = c.in_ok-negotiate.ensures.negotiates h4 in
-    let still = still-ready world happened joins start c.set_link_up.new.bus c.negotiate.new.bus c.args.kilobytes ready asked.asks in
-    let waits = c.in_err-await_link.ensures.awaits (c.in_ok-negotiate.ensures.honest h4) in
+    let still = still-ready g.B.Bus joins start c.set_link_up.new.bus c.negotiate.new.bus c.args.kilobytes ready asked.asks in
+    let waits = c.in_err-await_link.ensures.awaits (c.in_ok-negotiate.ensures.keeps.honest h4) in
     let told = err_from_is_err_and c.from_residual-in_err-await_link.result c.from_residual-in_err-await_link.ensures.1 in
     let is : c.from_residual-in_err-await_link.result ≡ Err c.in_err-await_link.field-0.0 = told.1 ∙ ap Err told.2 in
     let right : HasRightSum (world start).adapter.image = subst HasRightSum image_is (c.checksum_ok.ensures.0 c.if-not-checksum_ok.false) in
-    let Is : InitError → Type 0 = λ error. FindsDevice world happened g.B.Bus.lively start c.await_link.new.bus c.args.kilobytes
-    (Err error) in
+    let Is : InitError → Type 0 = λ error. FindsDevice g.B.Bus c.args.kilobytes (Err error) start c.await_link.new.bus in
     let past = joined still.past waits.asks.past in
     let happened_so = joins start c.negotiate.new.bus c.await_link.new.bus still.past waits.asks.past still.told waits.asks.told in
     let count = length-append still.past.accesses waits.asks.past.accesses in
-    let LivesOn : g.B.Bus.lively start → g.B.Bus.lively c.negotiate.new.bus = λ lively. c.in_ok-negotiate.ensures.lively (Lives lively) in
-    subst (FindsDevice world happened g.B.Bus.lively start c.await_link.new.bus c.args.kilobytes) (sym is)
+    let LivesOn : g.B.Bus.lively start → g.B.Bus.lively c.negotiate.new.bus = λ lively.
+    c.in_ok-negotiate.ensures.keeps.lively (Lives lively) in
+    subst (λ (result : Result (List ℕ) InitError). FindsDevice g.B.Bus c.args.kilobytes result start c.await_link.new.bus) (sym is)
     (⊎_elim
     (λ (late : c.in_err-await_link.field-0.0 ≡ PhyTimeout). subst Is (sym late) (record {
       past = past;
@@ -141,25 +138,24 @@ returns-in_err-await_link-clause-finds g c honest =
 pub returns-clause-finds : goal.returns-clause-finds
 returns-clause-finds g c honest =
     let world = g.B.Bus.world in
-    let happened = g.B.Bus.happened in
-    let joins = g.met.B.Bus.joins in
+    let joins = g.met.B.Bus.composes.joins in
     let start = c.args.bus.now in
     let resets = c.reset_device.ensures.sets honest in
-    let h1 = c.reset_device.ensures.honest honest in
+    let h1 = c.reset_device.ensures.keeps.honest honest in
     let reads = c.in_ok-image.ensures.reads h1 in
     let image_is : c.in_ok-image.image ≡ (world start).adapter.image = reads.image
     ∙ device-image (world start) (world c.reset_device.new.bus) reset_writes resets.settings in
-    let h2 = c.in_ok-image.ensures.honest h1 in
-    let h3 = c.allocate_packet_buffer.ensures.honest h2 in
-    let h4 = c.set_link_up.ensures.honest h3 in
+    let h2 = c.in_ok-image.ensures.keeps.honest h1 in
+    let h3 = c.allocate_packet_buffer.ensures.keeps.honest h2 in
+    let h4 = c.set_link_up.ensures.keeps.honest h3 in
     let ready =
-    is-set world happened joins start c.read_image.new.bus c.allocate_packet_buffer.new.bus c.set_link_up.new.bus c.args.kilobytes
-    (is-read world happened joins start c.reset_device.new.bus c.read_image.new.bus resets (c.reset_device.ensures.rests honest) reads.asks)
+    is-set g.B.Bus joins start c.read_image.new.bus c.allocate_packet_buffer.new.bus c.set_link_up.new.bus c.args.kilobytes
+    (is-read g.B.Bus joins start c.reset_device.new.bus c.read_image.new.bus resets (c.reset_device.ensures.rests honest) reads.asks)
     (c.allocate_packet_buffer.ensures.sets h2) (c.set_link_up.ensures.sets h3) in
     let asked = c.in_ok-negotiate.ensures.negotiates h4 in
-    let still = still-ready world happened joins start c.set_link_up.new.bus c.negotiate.new.bus c.args.kilobytes ready asked.asks in
-    let waits = c.in_ok-await_link.ensures.awaits (c.in_ok-negotiate.ensures.honest h4) in
-    let last = still-ready world happened joins start c.negotiate.new.bus c.await_link.new.bus c.args.kilobytes still waits.asks in
+    let still = still-ready g.B.Bus joins start c.set_link_up.new.bus c.negotiate.new.bus c.args.kilobytes ready asked.asks in
+    let waits = c.in_ok-await_link.ensures.awaits (c.in_ok-negotiate.ensures.keeps.honest h4) in
+    let last = still-ready g.B.Bus joins start c.negotiate.new.bus c.await_link.new.bus c.args.kilobytes still waits.asks in
     record {
       past = last.past;
       told = last.told;

@@ -1,14 +1,12 @@
 use Rattle.std.proofs.Common.{◌≡◌, ◌+◌}
+use Rattle.bus.specs.Keeping.{Keeps}
 use Rattle.bring_up.proofs.EepromWords.{Awaits}
 use Rattle.bring_up.proofs.eeprom_reading.read_word.Given as goal
 
 -- The word was asked for, and the register was read so often. A lively bus answers the first read.
 abbrev pub invariant-loop : goal.invariant-loop
 invariant-loop g l = record {
-  extent : g.B.Bus.extent l.bus ≡ g.B.Bus.extent l.fn.bus;
-  lent_stays : g.B.Bus.lent_stays l.fn.bus l.bus;
-  honest : g.B.Bus.honest l.fn.bus → g.B.Bus.honest l.bus;
-  lively : g.B.Bus.lively l.fn.bus → g.B.Bus.lively l.bus;
-  awaits : g.B.Bus.honest l.fn.bus → Awaits g.B.Bus.world g.B.Bus.happened l.fn.bus l.bus l.address (l.counter + 1);
+  keeps : Keeps g.B.Bus l.fn.bus l.bus;
+  awaits : g.B.Bus.honest l.fn.bus → Awaits g.B.Bus l.fn.bus l.bus l.address (l.counter + 1);
   first : g.B.Bus.lively l.fn.bus → g.B.Bus.honest l.fn.bus → l.counter ≡ 0;
 }

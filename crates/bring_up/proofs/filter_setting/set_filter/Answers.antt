@@ -5,21 +5,19 @@ use Rattle.bring_up.proofs.filter_setting.set_filter.Goals as goal
 
 pub returns-clause-sets : goal.returns-clause-sets
 returns-clause-sets g c honest =
-    let world = g.B.Bus.world in
-    let happened = g.B.Bus.happened in
-    let joins = g.met.B.Bus.joins in
-    let still = c.write_groups.ensures.honest honest in
+    let joins = g.met.B.Bus.composes.joins in
+    let still = c.write_groups.ensures.keeps.honest honest in
     let groups = c.group_table-groups.result in
     let vlans = c.vlan_table-vlans.result in
     record {
       groups = groups;
       vlans = vlans;
       sets =
-          sets-join world happened joins c.args.bus.now c.write_groups.new.bus c.write_addresses.new.bus (table_writes 0x5200 groups) _
+          sets-join g.B.Bus joins c.args.bus.now c.write_groups.new.bus c.write_addresses.new.bus (table_writes 0x5200 groups) _
           (c.write_groups.ensures.sets honest)
-          (sets-join world happened joins c.write_groups.new.bus c.write_vlans.new.bus c.write_addresses.new.bus (table_writes 0x5600 vlans)
+          (sets-join g.B.Bus joins c.write_groups.new.bus c.write_vlans.new.bus c.write_addresses.new.bus (table_writes 0x5600 vlans)
           (address_writes c.args.address.now)
-          (c.write_vlans.ensures.sets still) (c.write_addresses.ensures.sets (c.write_vlans.ensures.honest still)));
+          (c.write_vlans.ensures.sets still) (c.write_addresses.ensures.sets (c.write_vlans.ensures.keeps.honest still)));
       has_groups = subst (λ (list : List (List ℕ)). HasNumbers groups (numbers_of_groups list)) c.as_slice.ensures.value
           c.group_table-groups.ensures;
       has_vlans = subst (HasNumbers vlans) c.named_vlans.ensures c.vlan_table-vlans.ensures;

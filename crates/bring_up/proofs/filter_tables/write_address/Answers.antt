@@ -4,15 +4,12 @@ use Rattle.std.proofs.Common.{◌≡◌, ◌+◌, ◌*◌, arith}
 
 pub returns-clause-sets : goal.returns-clause-sets
 returns-clause-sets g c honest =
-    let world = g.B.Bus.world in
-    let happened = g.B.Bus.happened in
-    let lively = g.B.Bus.lively in
     let entry = c.args.entry in
     let start = c.args.bus.now in
     let first : 21504 + 8 * entry ≡ 0x5400 + 8 * entry = omega arith in
     let second : 21504 + 8 * entry + 4 ≡ 0x5404 + 8 * entry = omega arith in
-    let one = sets-at world happened lively start c.write.new.self _ (0x5400 + 8 * entry) c.args.words.low first
+    let one = sets-at g.B.Bus start c.write.new.self _ (0x5400 + 8 * entry) c.args.words.low first
     (c.write.ensures.acts honest) in
-    let two = sets-at world happened lively c.write.new.self c.write-2.new.self _ (0x5404 + 8 * entry) c.args.words.high second
-    (c.write-2.ensures.acts (c.write.ensures.honest honest)) in
-    sets-join world happened g.met.B.Bus.joins start c.write.new.self c.write-2.new.self _ _ one two
+    let two = sets-at g.B.Bus c.write.new.self c.write-2.new.self _ (0x5404 + 8 * entry) c.args.words.high second
+    (c.write-2.ensures.acts (c.write.ensures.keeps.honest honest)) in
+    sets-join g.B.Bus g.met.B.Bus.composes.joins start c.write.new.self c.write-2.new.self _ _ one two

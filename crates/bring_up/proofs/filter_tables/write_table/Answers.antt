@@ -1,6 +1,8 @@
-use Rattle.std.proofs.Common.{◌≡◌, ◌<◌, ◌+◌, ◌*◌, ◌++◌, ◌∷◌, [], ℕ, List, add-one, get_or, length, take, refl, sym, ap, subst, ◌∙◌, arith}
+use Rattle.std.proofs.Common.{◌≡◌, ◌<◌, ◌+◌, ◌*◌, ◌++◌, ◌∷◌, [], ℕ, List, add-one, get_or, length, take, sym, ap, subst, ◌∙◌, arith}
 use Rattle.std.proofs.Math.Seq.{take-length, take-suc}
 use Rattle.std.proofs.lemmas.List.{length-take-le}
+use Rattle.bus.proofs.Keeping.{keeps-here, keeps-on}
+use Rattle.bus.specs.Settings.{Write}
 use Rattle.bring_up.specs.FilterTables.{table_writes}
 use Rattle.bring_up.specs.SettingSteps.{Sets}
 use Rattle.bring_up.specs.WrittenRegisters.{write_at}
@@ -11,11 +13,8 @@ use Rattle.bring_up.proofs.filter_tables.write_table.Goals as goal
 pub loop-word-init : goal.loop-word-init
 loop-word-init g c = record {
   offset = omega arith;
-  extent = refl;
-  lent_stays = g.met.B.Bus.lent_stays_here c.args.bus.now;
-  honest = λ honest. honest;
-  lively = λ lively. lively;
-  sets = λ honest. sets-nothing g.B.Bus.world g.B.Bus.happened g.met.B.Bus.stays c.args.bus.now;
+  keeps = keeps-here g.B.Bus g.met.B.Bus.composes.lent_stays_here c.args.bus.now;
+  sets = λ honest. sets-nothing g.B.Bus g.met.B.Bus.composes.stays c.args.bus.now;
 }
 
 -- The words so far, and one more.
@@ -35,16 +34,13 @@ loop-word-preserved g c =
     let start = c.args.bus.now in
     record {
       offset = omega (arith, kept.offset);
-      extent = c.write.ensures.extent ∙ kept.extent;
-      lent_stays = g.met.B.Bus.lent_stays_on start here.bus c.write.new.self kept.lent_stays c.write.ensures.lent_stays;
-      honest = λ honest. c.write.ensures.honest (kept.honest honest);
-      lively = λ lively. c.write.ensures.lively (kept.lively lively);
+      keeps = keeps-on g.B.Bus g.met.B.Bus.composes.lent_stays_on start here.bus c.write.new.self kept.keeps c.write.ensures.keeps;
       sets = λ honest.
-          subst (Sets g.B.Bus.world g.B.Bus.happened start c.write.new.self)
+          subst (λ (writes : List Write). Sets g.B.Bus writes start c.write.new.self)
           (more c.args.first here.word-index c.args.words.now (omega (arith, c.loop-word-test.true, c.told-words)))
-          (sets-join g.B.Bus.world g.B.Bus.happened g.met.B.Bus.joins start here.bus c.write.new.self _ _ (kept.sets honest)
-          (sets-at g.B.Bus.world g.B.Bus.happened g.B.Bus.lively here.bus c.write.new.self here.offset
-          (c.args.first + 4 * here.word-index) _ kept.offset (c.write.ensures.acts (kept.honest honest))));
+          (sets-join g.B.Bus g.met.B.Bus.composes.joins start here.bus c.write.new.self _ _ (kept.sets honest)
+          (sets-at g.B.Bus here.bus c.write.new.self here.offset
+          (c.args.first + 4 * here.word-index) _ kept.offset (c.write.ensures.acts (kept.keeps.honest honest))));
     }
 
 pub returns-clause-sets : goal.returns-clause-sets
@@ -54,5 +50,5 @@ returns-clause-sets g c honest =
     ap (λ (n : ℕ). take n c.args.words.now) (let last : here.word-index
     ≡ length c.args.words.now = omega (arith, here.auto, c.loop-word-test.false, c.told-words) in last)
     ∙ take-length c.args.words.now in
-    subst (λ (words : List ℕ). Sets g.B.Bus.world g.B.Bus.happened c.args.bus.now here.bus (table_writes c.args.first words)) all
+    subst (λ (words : List ℕ). Sets g.B.Bus (table_writes c.args.first words) c.args.bus.now here.bus) all
     (here.invariant.sets honest)

@@ -1,45 +1,38 @@
-use Rattle.std.proofs.Common.{◌∙◌}
+use Rattle.bus.proofs.Keeping.{keeps-on}
 use Rattle.bring_up.proofs.PhyCommands.{answered, gives, unanswered, waits-on}
 use Rattle.bring_up.proofs.link.command.Goals as goal
 
 pub loop-init : goal.loop-init
 loop-init g c = record {
-  extent = c.write.ensures.extent;
-  lent_stays = c.write.ensures.lent_stays;
-  honest = c.write.ensures.honest;
-  lively = c.write.ensures.lively;
-  waits = λ honest. gives g.B.Bus.world g.B.Bus.happened g.B.Bus.lively c.args.bus.now c.write.new.self c.args.word
-      (c.write.ensures.acts honest);
+  keeps = c.write.ensures.keeps;
+  waits = λ honest. gives g.B.Bus c.args.bus.now c.write.new.self c.args.word (c.write.ensures.acts honest);
 }
 
 pub loop-preserved : goal.loop-preserved
 loop-preserved g c =
     let before = c.loop.invariant in
     record {
-      extent = c.read-answer.ensures.extent ∙ before.extent;
-      lent_stays = g.met.B.Bus.lent_stays_on _ _ _ before.lent_stays c.read-answer.ensures.lent_stays;
-      honest = λ honest. c.read-answer.ensures.honest (before.honest honest);
-      lively = λ lively. c.read-answer.ensures.lively (before.lively lively);
+      keeps = keeps-on g.B.Bus g.met.B.Bus.composes.lent_stays_on _ _ _ before.keeps c.read-answer.ensures.keeps;
       waits = λ honest.
-          waits-on g.B.Bus.world g.B.Bus.happened g.B.Bus.lively g.met.B.Bus.joins c.args.bus.now c.loop.bus c.read-answer.new.self
-          c.args.word c.loop.counter c.read-answer.result
-          c.requires before.lively (before.waits honest) (c.read-answer.ensures.acts (before.honest honest)) c.if-answer-ne0.false;
+          waits-on g.B.Bus g.met.B.Bus.composes.joins c.args.bus.now c.loop.bus c.read-answer.new.self c.args.word c.loop.counter
+          c.read-answer.result c.requires before.keeps.lively (before.waits honest)
+          (c.read-answer.ensures.acts (before.keeps.honest honest)) c.if-answer-ne0.false;
     }
 
 pub returns-then-answer-eq0-clause-commands : goal.returns-then-answer-eq0-clause-commands
 returns-then-answer-eq0-clause-commands g c honest =
-    (answered g.B.Bus.world g.B.Bus.happened g.B.Bus.lively g.met.B.Bus.joins c.args.bus.now c.loop.bus c.read-answer.new.self c.args.word
-    c.loop.counter c.read-answer.result
-    c.requires (c.loop.invariant.waits honest) (c.read-answer.ensures.acts (c.loop.invariant.honest honest)) c.if-answer-ne0.true).commands
+    (answered g.B.Bus g.met.B.Bus.composes.joins c.args.bus.now c.loop.bus c.read-answer.new.self c.args.word c.loop.counter
+    c.read-answer.result c.requires (c.loop.invariant.waits honest)
+    (c.read-answer.ensures.acts (c.loop.invariant.keeps.honest honest)) c.if-answer-ne0.true).commands
 
 pub returns-else-answer-eq0-clause-commands : goal.returns-else-answer-eq0-clause-commands
 returns-else-answer-eq0-clause-commands g c honest =
     absurd (c.if-answer-eq0.false
-    (answered g.B.Bus.world g.B.Bus.happened g.B.Bus.lively g.met.B.Bus.joins c.args.bus.now c.loop.bus c.read-answer.new.self c.args.word
-    c.loop.counter c.read-answer.result
-    c.requires (c.loop.invariant.waits honest) (c.read-answer.ensures.acts (c.loop.invariant.honest honest)) c.if-answer-ne0.true).right)
+    (answered g.B.Bus g.met.B.Bus.composes.joins c.args.bus.now c.loop.bus c.read-answer.new.self c.args.word c.loop.counter
+    c.read-answer.result c.requires (c.loop.invariant.waits honest)
+    (c.read-answer.ensures.acts (c.loop.invariant.keeps.honest honest)) c.if-answer-ne0.true).right)
 
 pub returns-clause-commands : goal.returns-clause-commands
 returns-clause-commands g c honest =
-    unanswered g.B.Bus.world g.B.Bus.happened g.B.Bus.lively c.args.bus.now c.loop.bus c.args.word c.loop.counter c.loop-test.false
+    unanswered g.B.Bus c.args.bus.now c.loop.bus c.args.word c.loop.counter c.loop-test.false
     (c.loop.invariant.waits honest)

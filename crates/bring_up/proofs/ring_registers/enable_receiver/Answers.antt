@@ -4,11 +4,11 @@ use Rattle.bring_up.proofs.ring_registers.enable_receiver.Goals as goal
 
 pub returns-clause-sets : goal.returns-clause-sets
 returns-clause-sets g c honest =
-    sets-word g.B.Bus.world g.B.Bus.happened g.B.Bus.lively c.args.bus.now c.write.new.self 0x0100 c.receive_control.result _
+    sets-word g.B.Bus c.args.bus.now c.write.new.self 0x0100 c.receive_control.result _
     c.receive_control.ensures (c.write.ensures.acts honest)
 
 pub returns-clause-ran : goal.returns-clause-ran
-returns-clause-ran g c d honest ready none off =
-    lets-frames-in g.B.Bus.world g.B.Bus.happened g.B.Bus.lively c.args.bus.now c.write.new.self c.args.promiscuous c.args.by_vlan
+returns-clause-ran g c d is none off =
+    lets-frames-in g.B.Bus c.args.bus.now c.write.new.self c.args.promiscuous c.args.by_vlan
     c.receive_control.result d
-    c.receive_control.ensures (c.write.ensures.acts honest) ready none off
+    c.receive_control.ensures (c.write.ensures.acts is.honest) is.ready none off

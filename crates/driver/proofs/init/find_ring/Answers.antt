@@ -1,4 +1,4 @@
-use Rattle.std.proofs.Common.{◌≡◌, ◌≤◌, ◌*◌, ℕ, length, ap, subst, ◌∙◌, arith}
+use Rattle.std.proofs.Common.{◌≡◌, ◌≤◌, ◌*◌, ℕ, List, length, ap, subst, ◌∙◌, arith}
 use Rattle.dma_memory.specs.Layout.{Counts, ReceiveRing}
 use Rattle.dma_memory.specs.LayoutLaws.{place-below_size}
 use Rattle.bus.specs.PastOfStretch.{joined}
@@ -12,35 +12,33 @@ use Rattle.driver.proofs.init.find_ring.Goals as goal
 
 pub returns-clause-finds : goal.returns-clause-finds
 returns-clause-finds g c honest =
-    let world = g.B.Bus.world in
-    let happened = g.B.Bus.happened in
-    let joins = g.met.B.Bus.joins in
+    let joins = g.met.B.Bus.composes.joins in
     let b0 = c.args.bus.now in
     let b1 = c.find_device.new.bus in
     let b2 = c.set_filter.new.bus in
     let b3 = c.set_receive_ring.new.bus in
     let finds = c.in_ok-image.ensures.finds honest in
-    let h1 = c.in_ok-image.ensures.honest honest in
+    let h1 = c.in_ok-image.ensures.keeps.honest honest in
     let filter = c.set_filter.ensures.sets h1 in
-    let h2 = c.set_filter.ensures.honest h1 in
+    let h2 = c.set_filter.ensures.keeps.honest h1 in
     let config = c.args.config.now in
     let base : c.place_of.result.base ≡ 0 = ap (λ (ring : RingPlace). ring.base) c.place_of.ensures ∙ c.receive_ring.ensures in
     let slots : c.rx.result ≡ config.rx = c.rx.ensures.count ∙ ap (λ (s : Counts). s.rx) c.requires.counts in
     let bytes : c.place_of.result.bytes ≡ 16 * config.rx =
     ap (λ (ring : RingPlace). ring.bytes) c.place_of.ensures ∙ ap (λ (n : ℕ). 16 * n) slots in
-    let Rests : ℕ → ℕ → Type 0 = λ b n. SetsAtRest world happened b2 b3 (ring_writes 0x2800 b n) (HasNewRings config.rx)
-    (HasReceiveRing config.rx) in
+    let Rests : ℕ → ℕ → Type 0 = λ b n.
+    SetsAtRest g.B.Bus (ring_writes 0x2800 b n) (HasNewRings config.rx) (HasReceiveRing config.rx) b2 b3 in
     let ring : Rests 0 (16 * config.rx) =
     subst (Rests 0) bytes (subst (λ (b : ℕ). Rests b c.place_of.result.bytes) base
     (c.set_receive_ring.ensures.rests config.rx h2 c.requires.had.counts.rx base bytes)) in
-    let room : 16 * config.rx ≤ length (world b2).memory =
+    let room : 16 * config.rx ≤ length (g.B.Bus.world b2).memory =
     omega (
       arith,
       place-below_size (counts_of config) ReceiveRing tt,
       c.requires.had.room,
       g.met.B.Bus.sized b2 h2,
-      c.set_filter.ensures.extent,
-      c.in_ok-image.ensures.extent,
+      c.set_filter.ensures.keeps.extent,
+      c.in_ok-image.ensures.keeps.extent,
     ) in
     let one = finds.past in
     let two = filter.sets.past in
@@ -49,8 +47,8 @@ returns-clause-finds g c honest =
       past = joined one (joined two three);
       told = joins b0 b1 b3 one (joined two three) finds.told (joins b1 b2 b3 two three filter.sets.told ring.sets.told);
       found =
-          finds-ring world happened b0 b1 b2 b3 config (g.B.Bus.extent b0) c.in_ok-image.image c.requires.had room finds.found
-          (subst (SetsFilter world happened b1 b2 config) c.address.ensures filter) ring;
+          finds-ring g.B.Bus b0 b1 b2 b3 config (g.B.Bus.extent b0) c.in_ok-image.image c.requires.had room finds.found
+          (subst (λ (address : List ℕ). SetsFilter g.B.Bus config address b1 b2) c.address.ensures filter) ring;
       why = tt;
       why_lively = λ lively. tt;
     }

@@ -15,7 +15,7 @@ returns-then-self-eq0-clause-looks g c held is =
     let d = holding held c.args.self.now in
     let none : d.sending ≡ 0 = sym (ap (λ (s : DriverState). s.sending) c.self.view_is) ∙ c.if-self-eq0.true in
     record {
-      ran = frees-none g.B.Bus.world g.B.Bus.happened g.met.B.Bus.stays c.args.bus.now d none is.ready;
+      ran = frees-none g.B.Bus.world g.B.Bus.happened g.met.B.Bus.composes.stays c.args.bus.now d none is.ready;
       none = none_is_written_back d (g.B.Bus.world c.args.bus.now) is.ready (inl none);
     }
 

@@ -24,7 +24,7 @@ returns-clause-owners g c k =
 
 pub returns-clause-gives : goal.returns-clause-gives
 returns-clause-gives g c up first later one number is =
-    gives g.B.Bus g.met.B.Bus.stays g.met.B.Bus.joins c.args.bus.now c.refill.new.bus c.args.self.now
+    gives g.B.Bus g.met.B.Bus.composes.stays g.met.B.Bus.composes.joins c.args.bus.now c.refill.new.bus c.args.self.now
     c.put_back.new.self c.refill.new.self c.args.buffer
     c.put_back.ensures.others c.put_back.ensures.back up first later one number is.ready
     (λ ready. c.refill.ensures.refills up (first ++ later) (record { honest = is.honest; ready = ready }))

@@ -11,7 +11,7 @@ use Rattle.bring_up.specs.declared.init_error.InitError.TheVariants as errors
 use Rattle.bring_up.proofs.RestingRings.{drivers_begin_at_rest}
 use Rattle.driver_law.specs.Beginnings.{new_driver}
 use Rattle.driver_law.specs.DriverState.{DriverState, owners}
-use Rattle.driver_law.specs.Stretches.{RanBy}
+use Rattle.driver_law.specs.Calls.{Ran, at, only}
 use Rattle.bus.specs.PastOfStretch.{nothing}
 use Rattle.driver.specs.Initialisation.{OffersFirst, Refuses, transmit_accesses}
 use Rattle.driver.proofs.Initialisation.{initialises, new-still, stays-quiet, vlans-named}
@@ -24,14 +24,14 @@ returns-in_err-layout-clause-refuses g c honest =
     let told = err_from_is_err_and c.from_residual.result c.from_residual.ensures.1 in
     let is : c.from_residual.result ≡ Err errors.Config = told.1 ∙ ap Err (told.2 ∙ c.in_err-layout.ensures.err) in
     subst (λ result. IfErr result (Refuses g.B.Bus.world g.B.Bus.happened g.B.Bus.lively c.args.bus.now c.args.bus.now)) (sym is)
-    (record { past = nothing; told = g.met.B.Bus.stays c.args.bus.now; why = refl; why_lively = λ lively. tt })
+    (record { past = nothing; told = g.met.B.Bus.composes.stays c.args.bus.now; why = refl; why_lively = λ lively. tt })
 
 pub returns-in_err-driver-clause-refuses : goal.returns-in_err-driver-clause-refuses
 returns-in_err-driver-clause-refuses g c honest =
     let told = err_from_is_err_and c.from_residual-in_err-driver.result c.from_residual-in_err-driver.ensures.1 in
     let is : c.from_residual-in_err-driver.result ≡ Err Memory = told.1 ∙ ap Err told.2 in
     subst (λ result. IfErr result (Refuses g.B.Bus.world g.B.Bus.happened g.B.Bus.lively c.args.bus.now c.args.bus.now)) (sym is)
-    (record { past = nothing; told = g.met.B.Bus.stays c.args.bus.now; why = refl; why_lively = λ lively. tt })
+    (record { past = nothing; told = g.met.B.Bus.composes.stays c.args.bus.now; why = refl; why_lively = λ lively. tt })
 
 -- The driver that is made.
 made : (g : Over) (c : goal.After-enable_interrupts g)
@@ -39,11 +39,10 @@ made : (g : Over) (c : goal.After-enable_interrupts g)
 made g c = c.in_ok-driver.ensures.new ∙ ap (λ (layout : Counts). new_driver layout c.in_ok-driver.driver.pool) c.in_ok-layout.ensures.counts
 
 offered : (g : Over) (c : goal.After-enable_interrupts g)
-    → OffersFirst g.B.Bus.honest g.B.Bus.world g.B.Bus.happened c.find_ring.new.bus c.offer_first.new.bus
-    (new_driver (counts_of c.args.config.now) c.in_ok-driver.driver.pool) c.offer_first.new.self
+    → OffersFirst g.B.Bus (at c.find_ring.new.bus (new_driver (counts_of c.args.config.now) c.in_ok-driver.driver.pool))
+    (at c.offer_first.new.bus c.offer_first.new.self)
 offered g c =
-    subst (λ (d : DriverState). OffersFirst g.B.Bus.honest g.B.Bus.world g.B.Bus.happened c.find_ring.new.bus c.offer_first.new.bus d
-    c.offer_first.new.self)
+    subst (λ (d : DriverState). OffersFirst g.B.Bus (at c.find_ring.new.bus d) (at c.offer_first.new.bus c.offer_first.new.self))
     (made g c) c.offer_first.ensures.offers
 
 owner : (g : Over) (c : goal.After-enable_interrupts g) → HasOneOwner c.args.config.now.buffers c.in_ok-driver.driver.pool
@@ -69,7 +68,6 @@ returns-clause-fresh g c =
 pub returns-clause-initialises : goal.returns-clause-initialises
 returns-clause-initialises g c honest =
     let world = g.B.Bus.world in
-    let happened = g.B.Bus.happened in
     let b0 = c.args.bus.now in
     let b1 = c.find_ring.new.bus in
     let b2 = c.offer_first.new.bus in
@@ -85,25 +83,26 @@ returns-clause-initialises g c honest =
     let finds = c.in_ok-find_ring.ensures.finds honest in
     let h1 = c.in_ok-find_ring.ensures.keeps.honest honest in
     let h2 = c.offer_first.ensures.keeps.honest h1 in
-    let h3 = c.enable_receiver.ensures.honest h2 in
+    let h3 = c.enable_receiver.ensures.keeps.honest h2 in
     let h4 = c.set_up_transmitter.ensures.keeps.honest h3 in
     let lies : size_of counts ≤ length (world b1).memory = omega
     (arith, had.room, g.met.B.Bus.sized b1 h1, c.in_ok-find_ring.ensures.keeps.extent) in
     let begins = drivers_begin_at_rest counts pool (world b1) had.counts (owner g c) lies finds.found.ring in
-    let first = o.ran h1 begins.ready in
+    let first = o.ran (record { honest = h1; ready = begins.ready }) in
     let still = stays-quiet counts o.numbers (new_driver counts pool) d (world b1) (world b2) first.past first.only first.goes first.set
     first.off begins.quiet finds.found.ring.transmits in
     let tagged : c.is_some.result ≡ names_vlans config.vlans = c.is_some.ensures ∙ vlans-named config.vlans in
-    let lets : LetsFramesIn world happened (receive_writes config.promiscuous (names_vlans config.vlans)) b2 b3 d =
-    subst (λ (by_vlan : Bool). LetsFramesIn world happened (receive_writes config.promiscuous by_vlan) b2 b3 d) tagged
-    (c.enable_receiver.ensures.ran d h2 first.goes.flows.ready still.0.none_held still.0.off) in
+    let lets : LetsFramesIn g.B.Bus (receive_writes config.promiscuous (names_vlans config.vlans)) d b2 b3 =
+    subst (λ (by_vlan : Bool). LetsFramesIn g.B.Bus (receive_writes config.promiscuous by_vlan) d b2 b3) tagged
+    (c.enable_receiver.ensures.ran d (record { honest = h2; ready = first.goes.flows.ready }) still.0.none_held still.0.off) in
     let new = new-still config.promiscuous (names_vlans config.vlans) d (world b2) (world b3) lets.ran.past lets.ran.only
     lets.ran.goes.flows.ready lets.ran.set still.1.0 in
     let same : d.counts ≡ counts = ap (λ (s : DriverState). s.counts) o.others in
-    let sends : RanBy true world happened (transmit_accesses counts) b3 b4 d d [] [] =
-    subst (λ (layout : Counts). RanBy true world happened (transmit_accesses layout) b3 b4 d d [] []) c.in_ok-layout.ensures.counts
-    (c.set_up_transmitter.ensures.ran d h3 lets.ran.goes.flows.ready (same ∙ sym c.in_ok-layout.ensures.counts)
+    let sends : Ran g.B.Bus true (only (transmit_accesses counts)) (at b3 d) (at b4 d) =
+    subst (λ (layout : Counts). Ran g.B.Bus true (only (transmit_accesses layout)) (at b3 d) (at b4 d)) c.in_ok-layout.ensures.counts
+    (c.set_up_transmitter.ensures.ran d (record { honest = h3; ready = lets.ran.goes.flows.ready })
+    (same ∙ sym c.in_ok-layout.ensures.counts)
     (ap (λ (s : DriverState). s.oldest_transmit) o.others) (ap (λ (s : DriverState). s.sending) o.others) new) in
-    initialises world happened g.met.B.Bus.joins b0 b1 b2 b3 b4 c.enable_interrupts.new.bus config (g.B.Bus.extent b0) pool o.numbers d
+    initialises g.B.Bus g.met.B.Bus.composes.joins b0 b1 b2 b3 b4 c.enable_interrupts.new.bus config (g.B.Bus.extent b0) pool o.numbers d
     finds.past had finds.told finds.found o.count o.others
-    first still.0 still.1.1 lets sends (c.enable_interrupts.ensures.enables d h4 sends.goes.flows.ready)
+    first still.0 still.1.1 lets sends (c.enable_interrupts.ensures.enables d (record { honest = h4; ready = sends.goes.flows.ready }))

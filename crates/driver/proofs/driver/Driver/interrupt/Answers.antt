@@ -18,8 +18,8 @@ returns-then-not-is_mine-clause-handles g c up held is =
     let not : c.is_mine.result ≡ false = c.if-not-is_mine.true in
     absurd (cc (is, not)) in
     record {
-      asked = record { causes = c.read.result; behind = c.read.new.self; reads = reads };
-      behind = record {
+      asked = record { causes = c.read.result; after_read = c.read.new.self; reads = reads };
+      then_does = record {
         none = none;
         still = refl;
         work = reads.work (λ bit. none (handled-timer c.read.result c.read.type_inv bit));
@@ -70,8 +70,9 @@ returns-clause-handles g c up held is =
     let d1 = c.args.self.now in
     let reads = reads-causes g.B.Bus.world g.B.Bus.happened g.B.Bus.lively c.args.bus.now c.read.new.self (holding held d1) c.read.result
     (c.read.ensures.acts is.honest) is.ready in
-    let counts = c.count_missed.ensures.ran up held (record { honest = c.read.ensures.honest is.honest; ready = reads.flows.ready }) in
-    let counting = c.count_missed.ensures.keeps.honest (c.read.ensures.honest is.honest) in
+    let asking = c.read.ensures.keeps.honest is.honest in
+    let counts = c.count_missed.ensures.ran up held (record { honest = asking; ready = reads.flows.ready }) in
+    let counting = c.count_missed.ensures.keeps.honest asking in
     let all = c.take_finished-taken.ensures.takes up held (record { honest = counting; ready = counts.goes.flows.ready }) in
     let refills = c.refill.ensures.refills up (held ++ all.takes.handed_out)
     (record { honest = c.take_finished-taken.ensures.keeps.honest counting; ready = all.takes.ran.goes.flows.ready }) in
@@ -85,9 +86,9 @@ returns-clause-handles g c up held is =
       refilled = c.refill.ensures.offers.others;
     } in
     record {
-      asked = record { causes = c.read.result; behind = c.read.new.self; reads = reads };
-      behind =
-          handles-it g.B.Bus g.R.Receiver g.met.B.Bus.joins c.args.bus.now from
+      asked = record { causes = c.read.result; after_read = c.read.new.self; reads = reads };
+      then_does =
+          handles-it g.B.Bus g.R.Receiver g.met.B.Bus.composes.joins c.args.bus.now from
           (scene c.count_missed.new.bus c.count_missed.new.self c.args.receiver.now)
           (scene c.take_finished-taken.new.bus c.take_finished-taken.new.self c.take_finished-taken.new.receiver) last
           c.read.result c.count_missed.result c.take_finished-taken.result held follows

@@ -19,7 +19,7 @@ returns-then-self-eq0-clause-ran g c up held is =
     ∙ (queue-split c.self.inside c.self.invariant.receives).staged ∙ c.if-self-eq0.true in
     subst (λ (list : List Access). RanBy up g.B.Bus.world g.B.Bus.happened list bus bus (holding held d) (holding held d) [] [])
     (sym (tail_write-none (next_receive d) d.staged none))
-    (ran_by-stays g.B.Bus.world g.B.Bus.happened g.met.B.Bus.stays bus (holding held d) is.ready)
+    (ran_by-stays g.B.Bus.world g.B.Bus.happened g.met.B.Bus.composes.stays bus (holding held d) is.ready)
 
 pub returns-clause-ran : goal.returns-clause-ran
 returns-clause-ran g c =

@@ -9,6 +9,6 @@ returns-clause-owners g c k =
 pub returns-clause-refills : goal.returns-clause-refills
 returns-clause-refills g c up held is =
     let staged = c.stage_all.ensures.stages in
-    refills g.B.Bus g.met.B.Bus.joins c.args.bus.now c.stage_all.new.bus c.offer.new.bus
+    refills g.B.Bus g.met.B.Bus.composes.joins c.args.bus.now c.stage_all.new.bus c.offer.new.bus
     c.args.self.now c.stage_all.new.self c.offer.new.self staged.numbers staged.stages c.offer.ensures.others up held is.honest is.ready
     (λ ready. c.offer.ensures.ran up held (record { honest = c.stage_all.ensures.keeps.honest is.honest; ready = ready }))

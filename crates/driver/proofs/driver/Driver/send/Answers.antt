@@ -37,8 +37,8 @@ returns-clause-sends g c held is =
     let d = holding held c.args.self.now in
     let frame = c.args.frame.now in
     let next = c.self.invariant.sends.next_slot in
-    let first = c.store.ensures.honest is.honest in
-    let second = c.store-2.ensures.honest first in
+    let first = c.store.ensures.keeps.honest is.honest in
+    let second = c.store-2.ensures.keeps.honest first in
     let buffer : c.transmit_buffer-buffer.result ≡ transmit_buffer d.counts (transmit_tail d) =
     c.transmit_buffer-buffer.ensures.start ∙ ap (transmit_buffer s.layout) next
     ∙ ap (λ (state : DriverState). transmit_buffer state.counts (transmit_tail state)) c.self.view_is in
@@ -51,7 +51,7 @@ returns-clause-sends g c held is =
     c.from.ensures ∙ ap (λ (n : ℕ). (s.next_transmit + 1) % n) c.tx.ensures.count ∙ ap (λ (place : ℕ). (place + 1) % s.layout.tx) next
     ∙ ap (λ (state : DriverState). (transmit_tail state + 1) % state.counts.tx) c.self.view_is in
     let ran =
-    run-sends g.B.Bus.world g.B.Bus.happened g.B.Bus.lively g.met.B.Bus.joins c.args.bus.now c.store.new.self c.store-2.new.self
+    run-sends g.B.Bus.world g.B.Bus.happened g.B.Bus.lively g.met.B.Bus.composes.joins c.args.bus.now c.store.new.self c.store-2.new.self
     c.write.new.self d frame c.requires.room c.requires.least c.requires.most
     c.transmit_buffer-buffer.result c.descriptor_address.result c.from.result c.whole_packet-descriptor.result buffer slot bytes tail
     (c.store.ensures.acts is.honest) (c.store-2.ensures.acts first) (c.write.ensures.acts second) is.ready in

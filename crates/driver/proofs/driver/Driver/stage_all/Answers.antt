@@ -5,10 +5,10 @@ use Rattle.driver.proofs.driver.Driver.stage_all.Goals as goal
 
 pub loop-init : goal.loop-init
 loop-init g c = record {
-  keeps = keeps-here g.B.Bus g.met.B.Bus.lent_stays_here c.args.bus.now;
+  keeps = keeps-here g.B.Bus g.met.B.Bus.composes.lent_stays_here c.args.bus.now;
   stages = record {
     numbers = [];
-    stages = stages-none g.B.Bus.honest g.B.Bus.world g.B.Bus.happened g.met.B.Bus.stays c.args.bus.now
+    stages = stages-none g.B.Bus.honest g.B.Bus.world g.B.Bus.happened g.met.B.Bus.composes.stays c.args.bus.now
         c.args.self.now;
   };
 }
@@ -19,11 +19,11 @@ loop-preserved g c =
     let s = c.stage.ensures in
     let one = c.loop-test.ensures.stages in
     record {
-      keeps = keeps-on g.B.Bus g.met.B.Bus.lent_stays_on _ _ _ l.keeps s.keeps;
+      keeps = keeps-on g.B.Bus g.met.B.Bus.composes.lent_stays_on _ _ _ l.keeps s.keeps;
       stages = record {
         numbers = _;
         stages =
-            stages-join g.B.Bus.honest g.B.Bus.world g.B.Bus.happened g.met.B.Bus.joins c.args.bus.now c.loop.bus c.stage.new.bus
+            stages-join g.B.Bus.honest g.B.Bus.world g.B.Bus.happened g.met.B.Bus.composes.joins c.args.bus.now c.loop.bus c.stage.new.bus
             l.keeps.honest c.args.self.now c.loop.self c.stage.new.self
             l.stages.numbers (one.0 ∷ []) l.stages.stages one.1;
       };

@@ -10,10 +10,10 @@ use Rattle.driver.proofs.driver.Driver.take_finished.Goals as goal
 
 pub loop-finished-init : goal.loop-finished-init
 loop-finished-init g c = record {
-  keeps = keeps-here g.B.Bus g.met.B.Bus.lent_stays_here c.args.bus.now;
+  keeps = keeps-here g.B.Bus g.met.B.Bus.composes.lent_stays_here c.args.bus.now;
   walks = (
     0,
-    walks-none g.B.Bus g.R.Receiver g.met.B.Bus.stays g.met.R.Receiver.stays
+    walks-none g.B.Bus g.R.Receiver g.met.B.Bus.composes.stays g.met.R.Receiver.stays
         c.args.bus.now c.args.receiver.now c.args.self.now,
   );
 }
@@ -26,11 +26,11 @@ loop-finished-preserved g c =
     let looks = c.in-Some.ensures.looks in
     let h = c.hand_on.ensures in
     record {
-      keeps = keeps-on g.B.Bus g.met.B.Bus.lent_stays_on _ _ _ l.keeps
-          (keeps-on g.B.Bus g.met.B.Bus.lent_stays_on _ _ _ t.keeps h.keeps);
+      keeps = keeps-on g.B.Bus g.met.B.Bus.composes.lent_stays_on _ _ _ l.keeps
+          (keeps-on g.B.Bus g.met.B.Bus.composes.lent_stays_on _ _ _ t.keeps h.keeps);
       walks = (
         _,
-        walks-next g.B.Bus g.R.Receiver g.met.B.Bus.stays g.met.B.Bus.joins
+        walks-next g.B.Bus g.R.Receiver g.met.B.Bus.composes.stays g.met.B.Bus.composes.joins
             g.met.R.Receiver.joins c.args.bus.now c.loop-finished.bus c.take_next.new.bus c.hand_on.new.bus l.keeps.honest
             c.args.receiver.now c.loop-finished.receiver c.hand_on.new.receiver c.args.self.now c.loop-finished.self c.take_next.new.self
             c.hand_on.new.self l.walks.0 c.in-Some.finished.buffer c.in-Some.finished.length l.walks.1
@@ -64,7 +64,7 @@ returns-clause-takes g c up held is =
     let look = c.in_default.ensures.looks up (held ++ before.handed_out)
     (record { honest = l.keeps.honest is.honest; ready = before.ran.goes.flows.ready }) in
     let still = c.in_default.ensures.stays in
-    let all = walks-look g.B.Bus g.R.Receiver g.met.B.Bus.joins _ c.args.bus.now c.loop-finished.bus
+    let all = walks-look g.B.Bus g.R.Receiver g.met.B.Bus.composes.joins _ c.args.bus.now c.loop-finished.bus
     c.take_next.new.bus c.args.receiver.now c.loop-finished.receiver (holding held d) (holding held c.loop-finished.self) n before
     (subst (λ (last : DriverState). Ran g.B.Bus up (only (last_load c.loop-finished.self.oldest_receive c.loop-finished.self.buffers))
     (at c.loop-finished.bus (holding (held ++ before.handed_out) c.loop-finished.self))

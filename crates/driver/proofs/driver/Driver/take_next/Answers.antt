@@ -33,7 +33,7 @@ returns-then-len-from-clause-looks g c = rw (← c.self.view_is) (λ up held is.
     record {
       none = finished-empty d (g.B.Bus.world bus) none is.ready;
       ran = subst (λ (list : List ℕ). Ran g.B.Bus up (only (last_load d.oldest_receive list)) (at bus d) (at bus d)) (sym none)
-          (ran_by-stays g.B.Bus.world g.B.Bus.happened g.met.B.Bus.stays bus d is.ready);
+          (ran_by-stays g.B.Bus.world g.B.Bus.happened g.met.B.Bus.composes.stays bus d is.ready);
     })
 
 -- It isn't done.

@@ -9,13 +9,13 @@ use Rattle.driver.proofs.driver.Driver.transmit.Goals as goal
 
 pub returns-then-frame-lt-SHORTEST_SENT-clause-transmits : goal.returns-then-frame-lt-SHORTEST_SENT-clause-transmits
 returns-then-frame-lt-SHORTEST_SENT-clause-transmits g c held is = record {
-  ran = ran_by-stays g.B.Bus.world g.B.Bus.happened g.met.B.Bus.stays c.args.bus.now (holding held c.args.self.now) is.ready;
+  ran = ran_by-stays g.B.Bus.world g.B.Bus.happened g.met.B.Bus.composes.stays c.args.bus.now (holding held c.args.self.now) is.ready;
   answer = tt;
 }
 
 pub returns-then-frame-gt-LONGEST_SENT-clause-transmits : goal.returns-then-frame-gt-LONGEST_SENT-clause-transmits
 returns-then-frame-gt-LONGEST_SENT-clause-transmits g c held is = record {
-  ran = ran_by-stays g.B.Bus.world g.B.Bus.happened g.met.B.Bus.stays c.args.bus.now (holding held c.args.self.now) is.ready;
+  ran = ran_by-stays g.B.Bus.world g.B.Bus.happened g.met.B.Bus.composes.stays c.args.bus.now (holding held c.args.self.now) is.ready;
   answer = tt;
 }
 
@@ -27,8 +27,7 @@ returns-then-self-tx-clause-transmits g c held is =
     let sending = ap (λ (state : DriverState). state.sending) c.self.view_is in
     let full : c.reclaim.new.self.sending + 1 ≡ c.args.self.now.counts.tx =
     omega (arith, c.if-self-tx.true, c.tx.ensures.count, count, inside, sending) in
-    let was = was-full g.B.Bus _ _ is reclaims full in
-    record { ran = reclaims.ran; answer = (was.all, was.none) }
+    record { ran = reclaims.ran; answer = was-full g.B.Bus _ _ is reclaims full }
 
 pub returns-clause-transmits : goal.returns-clause-transmits
 returns-clause-transmits g c held is =
@@ -38,5 +37,5 @@ returns-clause-transmits g c held is =
     let counts : freed.counts ≡ d.counts = ap (λ (state : DriverState). state.counts) c.reclaim.ensures.others in
     let more : c.send.new.self.sending ≡ freed.sending + 1 = ap (λ (state : DriverState). state.sending) c.send.ensures.others in
     let sends = c.send.ensures.sends held (ready-on g.B.Bus _ _ c.reclaim.ensures.keeps is reclaims.ran) in
-    frees-and-sends g.B.Bus g.met.B.Bus.joins (held_at held (at c.args.bus.now d)) (held_at held (at c.reclaim.new.bus freed))
+    frees-and-sends g.B.Bus g.met.B.Bus.composes.joins (held_at held (at c.args.bus.now d)) (held_at held (at c.reclaim.new.bus freed))
     (held_at held (at c.send.new.bus c.send.new.self)) c.args.frame.now counts c.reclaim.ensures.tail more reclaims sends
