@@ -13,7 +13,7 @@ use Rattle.adapter.specs.World.{World}
 use Rattle.bus.proofs.Lists.{all-head, all-none, all-right, all-without}
 use Rattle.driver_law.specs.DriverState.{DriverState, HandedOut, holding, owners}
 use Rattle.driver_law.specs.ReadyDrivers.{ReadyWith}
-use Rattle.driver.specs.HandlerSteps.{OnNotMine, OnTaken, Serves}
+use Rattle.driver.specs.HandlerSteps.{IfNotMine, IfHandled, Serves}
 use Rattle.driver.specs.TakenFrames.{AreFrames, IsFrameSize, ShowsAll, buffers_of}
 use Rattle.driver.specs.declared.interrupt.Handled.{Handled}
 use Rattle.driver.specs.declared.interrupt.Handled.TheVariants.{NotMine}
@@ -185,8 +185,9 @@ shown-host driver driver' before after n host shows counts =
     }
 
 pub handled-host : (result : Handled) (driver driver' : DriverState) (before after : SocketsState) → IsHost driver before
-    → OnNotMine result ((driver' ≡ driver) × (after ≡ before))
-    → OnTaken result (Serves (record { took = Sorts }) before after driver driver') → driver'.counts ≡ driver.counts → IsHost driver' after
+    → IfNotMine result ((driver' ≡ driver) × (after ≡ before))
+    → IfHandled result (Serves (record { took = Sorts }) before after driver driver') → driver'.counts ≡ driver.counts
+    → IsHost driver' after
 handled-host NotMine driver driver' before after host stays serves counts = subst (λ (s : SocketsState). IsHost driver' s)
     (sym stays.1) (subst (λ (d : DriverState). IsHost d before) (sym stays.0) host)
 handled-host (answers.Handled taken) driver driver' before after host stays serves counts = shown-host driver driver' before after
@@ -215,8 +216,8 @@ new-host driver sockets kinds room is size owns =
 
 -- What the handler does to sockets.
 pub sorts-all : (result : Handled) (driver driver' : DriverState) (before after : SocketsState) → IsHost driver before
-    → OnTaken result (Serves (record { took = Sorts }) before after driver driver')
-    → OnTaken result (HostServes (host_with driver before) (host_with driver' after))
+    → IfHandled result (Serves (record { took = Sorts }) before after driver driver')
+    → IfHandled result (HostServes (host_with driver before) (host_with driver' after))
 sorts-all NotMine driver driver' before after host serves = tt
 sorts-all (answers.Handled taken) driver driver' before after host serves = record {
   sorts = record {

@@ -14,7 +14,7 @@ use Rattle.bus.specs.declared.event.Access.TheVariants.{Loads}
 use Rattle.driver_law.proofs.Accesses.{ran_by-join}
 use Rattle.driver_law.specs.Calls.{at}
 use Rattle.driver_law.specs.Accesses.{stores_from, tail_write}
-use Rattle.driver_law.specs.DriverState.{DriverState, HandedOut, buffer_at, holding, next_receive}
+use Rattle.driver_law.specs.DriverState.{DriverState, HandedOut, buffer_at, holding, next_receive, with_owners}
 use Rattle.driver_law.specs.Stretches.{RanBy}
 use Rattle.driver_law.specs.ReadyDrivers.{ReadyWith, Stands}
 use Rattle.driver.specs.RefillSteps.{Refills}
@@ -23,7 +23,10 @@ use Rattle.driver.specs.declared.receiver.Received.{Received}
 use Rattle.packet_socket.specs.HostCalls.{HostMoment, IsReadyHost, Leaves, Receives, driver_at, receive_accesses}
 use Rattle.packet_socket.specs.HostStretches.{Given, given_for}
 use Rattle.packet_socket.specs.HeldFrames.{driver_of, waiting_frame, waiting_frames, waiting_entry}
-use Rattle.packet_socket.specs.SocketsState.{all_of, queue_at}
+use Rattle.packet_socket.specs.HostState.{HostState}
+use Rattle.packet_socket.specs.InsideHost.{host_with}
+use Rattle.packet_socket.specs.SocketsState.{SocketsState, all_of, queue_at}
+use Rattle.packet_socket.specs.declared.socket_kind.SocketKind.{SocketKind}
 use Rattle.packet_socket.proofs.Accounts.{accounts}
 use Rattle.packet_socket.proofs.QueueParts.{Splits}
 use Rattle.packet_socket.proofs.WaitingFrames.{AreLong, AreSame, all-long, all-same, ends-as, queue-frames-same}
@@ -41,6 +44,18 @@ given-here socket frame other goes is =
         → map (λ (g : Given). g.frame) (cond b (record { socket = socket; frame = frame } ∷ []) []) ≡ cond b (frame ∷ []) []
     by-cases true = refl
     by-cases false = refl
+
+-- What a call that gives back a buffer changes of its host.
+pub gives-others : (d d' : DriverState) (before after : SocketsState) → d' ≡ with_owners d d'.buffers [] d'.pool []
+    → after.kinds ≡ before.kinds → after.unclaimed ≡ before.unclaimed
+    → host_with d' after ≡ record (host_with d before) { driver = with_owners d d'.buffers [] d'.pool []; queues = after.queues }
+gives-others d d' before after driver kinds unclaimed =
+    let made = with_owners d d'.buffers [] d'.pool [] in
+    ap (λ (now : DriverState). host_with now after) driver
+    ∙ ap (λ (list : List SocketKind). let host : HostState = record
+    { driver = made; kinds = list; queues = after.queues; unclaimed = after.unclaimed } in host) kinds
+    ∙ ap (λ (n : ℕ). let host : HostState = record
+    { driver = made; kinds = before.kinds; queues = after.queues; unclaimed = n } in host) unclaimed
 
 pub host-receives : {up : Bool} {B : Type 0} (bus : Ghosts B)
     → ((a b c : B) (first later : Past) → bus.happened a b first → bus.happened b c later → bus.happened a c (joined first later))

@@ -19,13 +19,13 @@ use Rattle.driver_law.specs.Calls.{at}
 use Rattle.driver_law.specs.DriverState.{DriverState, HandedOut, buffer_at, holding, numbers_of}
 use Rattle.driver_law.specs.Stretches.{FlowsTo}
 use Rattle.driver_law.specs.ReadyDrivers.{ReadyWith, Stands}
-use Rattle.driver.specs.HandlerSteps.{Asked, Handles, HandlesIt, LeavesIt, OnNotMine, OnTaken}
+use Rattle.driver.specs.HandlerSteps.{Asked, Handles, HandlesIt, LeavesIt, IfNotMine, IfHandled}
 use Rattle.driver.specs.TakenFrames.{GrowsBy, IsPart, Scene, buffers_of, frames_of as frames_of_slots, held_in, received_of}
 use Rattle.driver.specs.declared.interrupt.Handled.{Handled}
 use Rattle.driver.specs.declared.interrupt.Handled.TheVariants.{NotMine}
 use Rattle.driver.specs.declared.interrupt.Handled.TheVariants as answers
 use Rattle.driver.specs.declared.receiver.Received.{Received}
-use Rattle.packet_socket.specs.HostCalls.{HostHandles, HostLeaves, HostMoment, HostWorks, IsReadyHost, driver_at, host_at}
+use Rattle.packet_socket.specs.HostCalls.{HostHandles, HostHandlesIt, HostLeaves, HostMoment, IsReadyHost, driver_at, host_at}
 use Rattle.packet_socket.specs.HeldFrames.{HostReadyWith, driver_of, waiting_frame, socket_frames, waiting_frames, waiting_entry}
 use Rattle.packet_socket.specs.HeldFrames.{without_socket}
 use Rattle.packet_socket.specs.HostState.{HostState}
@@ -169,7 +169,7 @@ works : {up : Bool} {B : Type 0} (bus : Ghosts B) (old new : Scene B SocketsStat
     → (asked : Asked bus up (driver_at bus (host_in old)))
     → HandlesIt bus (record { took = Sorts }) n (held_in (driver_at bus (host_in old)).driver.handed_out old)
     (held_in (driver_at bus (host_in old)).driver.handed_out new) asked
-    → HostWorks bus n (host_in old) (host_in new) asked
+    → HostHandlesIt bus n (host_in old) (host_in new) asked
 works {up} bus old new n sound sound' is asked it =
     let before = old.receiver in
     let after = new.receiver in
@@ -191,26 +191,24 @@ works {up} bus old new n sound sound' is asked it =
     (GrowsBy before.unclaimed after.unclaimed) (unclaimed-frames before.kinds w.taken) w.told.unclaimed in
     record {
       some = it.some;
-      misses = w.misses;
-      taken = w.taken;
-      rest = w.rest;
-      offered = w.offered;
-      count = w.count;
-      oldest = w.oldest;
-      newest = w.newest;
-      missed = w.missed;
-      exact = w.exact;
-      bad = w.bad;
-      queues = subst (Queues before.kinds before.queues after.queues) w.told.claimed all.queues;
-      unclaimed = w.told.unclaimed;
-      ran = record {
-        past = w.ran.past;
-        told = w.ran.told;
-        only = w.ran.only;
-        goes = goes-hold d (bus.world asked.behind) last b frames [] w.ran.past list w.ran.goes all.ready;
-        set = w.ran.set;
-        off = w.ran.off;
-        link = w.ran.link;
+      works = record {
+        taken = w.taken;
+        count = w.count;
+        served = record { misses = w.misses; rest = w.rest; offered = w.offered; oldest = w.oldest; newest = w.newest };
+        misses = record { missed = w.missed; exact = w.exact; bad = w.bad };
+        sorted = record {
+          queues = subst (Queues before.kinds before.queues after.queues) w.told.claimed all.queues;
+          unclaimed = w.told.unclaimed;
+        };
+        ran = record {
+          past = w.ran.past;
+          told = w.ran.told;
+          only = w.ran.only;
+          goes = goes-hold d (bus.world asked.after_read) last b frames [] w.ran.past list w.ran.goes all.ready;
+          set = w.ran.set;
+          off = w.ran.off;
+          link = w.ran.link;
+        };
       };
       least = it.least;
       work = λ enabled. let behind = it.work enabled in record { enabled = behind.enabled; asked = behind.asked };
@@ -223,7 +221,7 @@ works {up} bus old new n sound sound' is asked it =
 
 pub host-handles : {up : Bool} {B : Type 0} (bus : Ghosts B) (old new : Scene B SocketsState) (result : Handled)
     → IsHost old.driver old.receiver → IsHost new.driver new.receiver → IsReadyHost bus up (host_in old)
-    → OnNotMine result ((new.driver ≡ old.driver) × (new.receiver ≡ old.receiver))
+    → IfNotMine result ((new.driver ≡ old.driver) × (new.receiver ≡ old.receiver))
     → Handles bus (record { took = Sorts }) result up (held_in (driver_at bus (host_in old)).driver.handed_out old)
     (held_in (driver_at bus (host_in old)).driver.handed_out new)
     → HostHandles bus result up (host_in old) (host_in new)
@@ -232,18 +230,18 @@ host-handles {up} {B} bus old new NotMine sound sound' is stays it =
     let same : host_with new.driver new.receiver ≡ (host_in old).host = ap (λ (s : DriverState). host_with s new.receiver) stays.0
     ∙ ap (host_with old.driver) stays.1 in
     let left : LeavesIt bus (driver_at bus (host_in old)) (at new.bus d) it.asked = subst
-    (λ (s : DriverState). LeavesIt bus (driver_at bus (host_in old)) (at new.bus (holding d.handed_out s)) it.asked) stays.0 it.behind in
+    (λ (s : DriverState). LeavesIt bus (driver_at bus (host_in old)) (at new.bus (holding d.handed_out s)) it.asked) stays.0 it.then_does in
     record {
       asked = it.asked;
-      behind = subst (λ (end : HostState). HostLeaves bus (host_in old) (host_at new.bus end) it.asked) (sym same)
+      then_does = subst (λ (end : HostState). HostLeaves bus (host_in old) (host_at new.bus end) it.asked) (sym same)
           (leaves bus (host_in old) new.bus it.asked is left);
     }
 host-handles {up} {B} bus old new (answers.Handled taken) sound sound' is stays it = record {
   asked = it.asked;
-  behind = works bus old new taken sound sound' is it.asked it.behind;
+  then_does = works bus old new taken sound sound' is it.asked it.then_does;
 }
 
 -- What holds where slots were taken says less, too.
-pub taken-less : (result : Handled) (P Q : ℕ → Type 0) → ((n : ℕ) → P n → Q n) → OnTaken result P → OnTaken result Q
+pub taken-less : (result : Handled) (P Q : ℕ → Type 0) → ((n : ℕ) → P n → Q n) → IfHandled result P → IfHandled result Q
 taken-less NotMine P Q less holds = tt
 taken-less (answers.Handled taken) P Q less holds = less taken holds

@@ -11,13 +11,13 @@ use Rattle.bus.specs.declared.event.Access.{Access}
 use Rattle.driver_law.proofs.Steps.{goes-happens}
 use Rattle.driver_law.proofs.Stretches.{flows_join, goes_join}
 use Rattle.bus.specs.declared.bus.Bus.{Ghosts}
-use Rattle.driver_law.specs.Calls.{Moment, held_at}
+use Rattle.driver_law.specs.Calls.{Moment, at, held_at}
 use Rattle.driver_law.specs.DriverState.{DriverState, HandedOut, holding}
 use Rattle.driver_law.specs.Stretches.{FlowsTo, GoesTo, RanBy}
 use Rattle.driver_law.specs.ReadyDrivers.{ReadyWith, Stands}
-use Rattle.driver.specs.SendSteps.{Answer, Sends, accesses_by, accepted_by}
+use Rattle.driver.specs.SendSteps.{Answer, IsAnswer, Sends, accesses_by, accepted_by}
 use Rattle.packet_socket.specs.HostCalls.{HostMoment, HostSends, IsReadyHost, driver_at, host_at}
-use Rattle.packet_socket.specs.HostStretches.{Accounts, Given, HostFlowsTo, HostGoesTo}
+use Rattle.packet_socket.specs.HostStretches.{Accounts, HostDid, HostFlowsTo, HostGoesTo, HostInWorld, did_both, did_nothing, in_world}
 use Rattle.packet_socket.specs.HeldFrames.{HostReadyWith, driver_of, waiting_frame, waiting_frames}
 use Rattle.packet_socket.specs.HostState.{HostState}
 use Rattle.packet_socket.specs.SocketsState.{all_of, queue_at}
@@ -120,12 +120,12 @@ host-transmits bus old new frame result is sends =
         accounts = accounts-stay h new.driver (bus.world old.bus) (bus.world new.bus) sends.ran.past.stored is.ready flows.counts
             flows.ready.stand flows.holds;
       };
-      answer = sends.answer;
+      answer = subst (λ (s : DriverState). IsAnswer bus result (driver_at bus old) (at new.bus s)) end sends.answer;
     }
 
 -- Whatever happens between two calls.
 pub host-happens : {up : Bool} (h : HostState) (a b : World) (past : Past) → HostReadyWith up h a → Happens a b past
-    → HostGoesTo up h a h b [] [] [] past
+    → HostGoesTo up (in_world h a) (in_world h b) did_nothing past
 host-happens {up} h a b past host happens =
     let d = driver_of h a in
     let goes = goes-happens d a b past host.ready happens in
@@ -137,22 +137,22 @@ host-happens {up} h a b past host happens =
     }
 
 -- Two stretches are one.
-pub host-flows-join : {first_up up : Bool} (h1 h2 h3 : HostState) (a b c : World) (t1 t2 : List (List ℕ)) (given more : List Given)
-    (s1 s2 : List (List ℕ)) (first later : Past)
-    → HostFlowsTo first_up h1 a h2 b t1 given s1 first → HostFlowsTo up h2 b h3 c t2 more s2 later
-    → HostFlowsTo up h1 a h3 c (t1 ++ t2) (given ++ more) (s1 ++ s2) (joined first later)
-host-flows-join h1 h2 h3 a b c t1 t2 given more s1 s2 first later one two = record {
-  sizes = two.sizes;
-  flows = flows_join (driver_of h1 a) (driver_of h2 b) (driver_of h3 c) a b c t1 t2 s1 s2 first later one.flows two.flows;
-  accounts = accounts-join h1 h2 h3 a b c given more first.stored later.stored one.accounts two.accounts;
+pub host-flows-join : {first_up up : Bool} (h1 h2 h3 : HostInWorld) (one two : HostDid) (first later : Past)
+    → HostFlowsTo first_up h1 h2 one first → HostFlowsTo up h2 h3 two later → HostFlowsTo up h1 h3 (did_both one two) (joined first later)
+host-flows-join h1 h2 h3 one two first later flows more = record {
+  sizes = more.sizes;
+  flows = flows_join (driver_of h1.host h1.world) (driver_of h2.host h2.world) (driver_of h3.host h3.world) h1.world h2.world h3.world
+      one.taken two.taken one.accepted two.accepted first later flows.flows more.flows;
+  accounts = accounts-join h1.host h2.host h3.host h1.world h2.world h3.world one.given two.given first.stored later.stored flows.accounts
+      more.accounts;
 }
 
-pub host-goes-join : {first_up up : Bool} (h1 h2 h3 : HostState) (a b c : World) (t1 t2 : List (List ℕ)) (given more : List Given)
-    (s1 s2 : List (List ℕ)) (first later : Past)
-    → HostGoesTo first_up h1 a h2 b t1 given s1 first → HostGoesTo up h2 b h3 c t2 more s2 later
-    → HostGoesTo up h1 a h3 c (t1 ++ t2) (given ++ more) (s1 ++ s2) (joined first later)
-host-goes-join h1 h2 h3 a b c t1 t2 given more s1 s2 first later one two = record {
-  sizes = two.sizes;
-  goes = goes_join (driver_of h1 a) (driver_of h2 b) (driver_of h3 c) a b c t1 t2 s1 s2 first later one.goes two.goes;
-  accounts = accounts-join h1 h2 h3 a b c given more first.stored later.stored one.accounts two.accounts;
+pub host-goes-join : {first_up up : Bool} (h1 h2 h3 : HostInWorld) (one two : HostDid) (first later : Past)
+    → HostGoesTo first_up h1 h2 one first → HostGoesTo up h2 h3 two later → HostGoesTo up h1 h3 (did_both one two) (joined first later)
+host-goes-join h1 h2 h3 one two first later goes more = record {
+  sizes = more.sizes;
+  goes = goes_join (driver_of h1.host h1.world) (driver_of h2.host h2.world) (driver_of h3.host h3.world) h1.world h2.world h3.world
+      one.taken two.taken one.accepted two.accepted first later goes.goes more.goes;
+  accounts = accounts-join h1.host h2.host h3.host h1.world h2.world h3.world one.given two.given first.stored later.stored goes.accounts
+      more.accounts;
 }

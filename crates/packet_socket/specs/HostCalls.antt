@@ -8,7 +8,7 @@ use Rattle.bus.specs.declared.event.Access.{Access}
 use Rattle.bus.specs.declared.event.Access.TheVariants.{Loads}
 use Rattle.driver_law.specs.Accesses.{stores_from, tail_write}
 use Rattle.driver_law.specs.Calls.{Did, Moment, Ran, at, only}
-use Rattle.driver_law.specs.DriverState.{DriverState, HandedOut, buffer_at, next_receive, numbers_of}
+use Rattle.driver_law.specs.DriverState.{DriverState, HandedOut, buffer_at, next_receive, numbers_of, with_owners}
 use Rattle.driver_law.specs.Stretches.{HasNoForgottenWork, IsRefilled}
 use Rattle.driver_law.specs.RegisterReadings.{with_missed}
 use Rattle.bring_up.specs.WrittenRegisters.{handled_causes}
@@ -19,11 +19,11 @@ use Rattle.driver.specs.declared.interrupt.Handled.{Handled}
 use Rattle.driver.specs.declared.interrupt.Handled.TheVariants.{NotMine}
 use Rattle.driver.specs.declared.interrupt.Handled.TheVariants as answers
 use Rattle.driver.specs.declared.receiver.Received.{Received}
-use Rattle.packet_socket.specs.HostStretches.{Given, HostFlowsTo, HostRanBy}
+use Rattle.packet_socket.specs.HostStretches.{Accounts, Given, HostFlowsTo, did, did_nothing, in_world}
 use Rattle.packet_socket.specs.HeldFrames.{HostReadyWith, driver_of, waiting_frames}
 use Rattle.packet_socket.specs.HostState.{HostState}
 use Rattle.packet_socket.specs.declared.receive.RecvError.{RecvError}
-use Rattle.packet_socket.specs.SocketsState.{Queues, claimed_of, queue_at, unclaimed_of}
+use Rattle.packet_socket.specs.SocketsState.{Queues, all_of, claimed_of, queue_at, unclaimed_of}
 use Rattle.registers.specs.Places.{rxt0}
 
 -- A moment of a host's run.
@@ -34,7 +34,7 @@ pub record HostMoment (B : Type 0) : Type 0 where
 abbrev pub host_at : {B : Type 0} → B → HostState → HostMoment B
 host_at bus host = record { bus = bus; host = host }
 
--- its driver's, while the frames of its queues are handed out
+-- the same moment of its driver; the frames of its queues are those that others hold
 abbrev pub driver_at : {B : Type 0} → Ghosts B → HostMoment B → Moment B
 driver_at bus now = record { bus = now.bus; driver = driver_of now.host (bus.world now.bus) }
 
@@ -43,28 +43,35 @@ pub record IsReadyHost {B : Type 0} (bus : Ghosts B) (up : Bool) (now : HostMome
   pub honest : bus.honest now.bus
   pub ready : HostReadyWith up now.host (bus.world now.bus)
 
--- What holds of a call over such a bus by such a host.
+-- If the bus obeys the law and the host is ready before a call, `Holds` relates the moments before and after it. The transmit side may be
+-- set up or off.
 abbrev pub WhereReadyHost : {B : Type 0} → Ghosts B → (old new : HostMoment B) → (Bool → HostMoment B → HostMoment B → Type 0) → Type 0
 WhereReadyHost bus old new Holds = (up : Bool) → IsReadyHost bus up old → Holds up old new
 
--- A stretch from one moment to another did exactly this, and these frames were given.
-abbrev pub HostRan : {B : Type 0} → Ghosts B → Bool → Did → List Given → (old new : HostMoment B) → Type 0
-HostRan bus up did given old new =
-    HostRanBy up bus.world bus.happened did.accesses old.bus new.bus old.host new.host did.taken given did.accepted
+-- The same, but only if the transmit side is set up.
+abbrev pub WhereUpHost : {B : Type 0} → Ghosts B → (old new : HostMoment B) → (HostMoment B → HostMoment B → Type 0) → Type 0
+WhereUpHost bus old new Holds = IsReadyHost bus true old → Holds old new
+
+-- From one moment to another the driver did exactly this, and the sockets returned these frames. So the host is ready at the end: `sizes`,
+-- and `ready` of `ran.goes.flows`.
+pub record HostRan {B : Type 0} (bus : Ghosts B) (up : Bool) (done : Did) (given : List Given) (old new : HostMoment B) : Type 0 where
+  pub sizes : AreFrames (all_of new.host.queues)
+  pub ran : Ran bus up done (driver_at bus old) (driver_at bus new)
+  pub accounts : Accounts old.host (bus.world old.bus) new.host (bus.world new.bus) given ran.past.stored
 
 -- Sending.
 
--- The driver was given the frame, where the answer is Ok; queues are as they were.
+-- The driver's transmit, over the whole host. No socket returns a frame.
 pub record HostSends {B : Type 0} (bus : Ghosts B) (frame : List ℕ) (result : Answer) (old new : HostMoment B) : Type 0 where
   pub ran : HostRan bus true (sent_by result (driver_at bus old).driver (driver_at bus new).driver frame) [] old new
-  pub answer : IsAnswer result (driver_at bus old).driver (bus.world old.bus)
+  pub answer : IsAnswer bus result (driver_at bus old) (driver_at bus new)
 
 abbrev pub HostTransmits : {B : Type 0} → Ghosts B → List ℕ → Answer → (old new : HostMoment B) → Type 0
-HostTransmits bus frame result old new = IsReadyHost bus true old → HostSends bus frame result old new
+HostTransmits bus frame result old new = WhereUpHost bus old new (HostSends bus frame result)
 
 -- Receiving.
 
--- The oldest entry of a socket's queue leaves it, and nothing else of the sockets moves. Its frame has so many bytes.
+-- The oldest entry of a socket's queue is removed, and nothing else of the sockets changes. `size` is the entry's length.
 pub record Leaves (h h' : HostState) (socket size : ℕ) (received : Received) : Type 0 where
   pub oldest : queue_at h.queues socket ≡ received ∷ queue_at h'.queues socket
   pub others : h'.queues ≡ slice_set h.queues socket (queue_at h'.queues socket)
@@ -72,20 +79,17 @@ pub record Leaves (h h' : HostState) (socket size : ℕ) (received : Received) :
   pub unclaimed : h'.unclaimed ≡ h.unclaimed
   pub long : size ≡ received.length
 
-pub record LeavesSome (h h' : HostState) (socket size : ℕ) : Type 0 where
-  pub received : Received
-  pub leaves : Leaves h h' socket size received
-
--- The frame is loaded; then slots are offered with these buffers, that frame's perhaps among them.
+-- The frame is loaded. Then slots are offered with these buffers; the frame's buffer may be one of them.
 abbrev pub receive_accesses : (d d' : DriverState) → (buffer size : ℕ) → (offered : List ℕ) → List Access
 receive_accesses d d' buffer size offered =
     Loads (buffer_at d.counts buffer) size ∷
     (stores_from d.counts (next_receive d) offered ++ tail_write (next_receive d') (d.staged ++ offered))
 
+-- The oldest frame of a socket's queue is returned, and its buffer goes back to the driver.
 pub record Receives {B : Type 0} (bus : Ghosts B) (given : Given) (size : ℕ) (up : Bool) (old new : HostMoment B) : Type 0 where
   pub received : Received
   pub leaves : Leaves old.host new.host given.socket size received
-  -- It is the front of the socket's queue, as it stands in memory.
+  -- The frame returned is the frame at the front of the socket's queue, as it is in memory.
   pub front : waiting_frames old.host given.socket (bus.world old.bus)
       ≡ given.frame ∷ waiting_frames new.host given.socket (bus.world new.bus)
   pub offered : List ℕ
@@ -94,23 +98,25 @@ pub record Receives {B : Type 0} (bus : Ghosts B) (given : Given) (size : ℕ) (
       HostRan bus up (only (receive_accesses old.host.driver new.host.driver received.buffer size offered)) (given ∷ []) old new
 
 -- by the answer
-abbrev pub GivesBy : {B : Type 0} → Ghosts B → (socket : ℕ) → (into : List ℕ) → Result ℕ RecvError → Bool
+abbrev pub ReturnsBy : {B : Type 0} → Ghosts B → (socket : ℕ) → (into : List ℕ) → Result ℕ RecvError → Bool
     → (old new : HostMoment B) → Type 0
-GivesBy bus socket into (Ok size) = Receives bus (record { socket = socket; frame = take size into }) size
-GivesBy bus socket into (Err error) = λ up old new. ⊤
+ReturnsBy bus socket into (Ok size) = Receives bus (record { socket = socket; frame = take size into }) size
+ReturnsBy bus socket into (Err error) = λ up old new. ⊤
 
--- Over any bus: a frame leaves its queue for the front of what it is copied into, and slots are offered.
-pub record Gives (h h' : HostState) (socket : ℕ) (before after : List ℕ) (size : ℕ) : Type 0 where
-  pub leaves : LeavesSome h h' socket size
+-- Over any bus: the oldest frame of a queue is copied to the front of `after`, and slots are offered.
+pub record Returns (h h' : HostState) (socket : ℕ) (before after : List ℕ) (size : ℕ) : Type 0 where
+  pub received : Received
+  pub leaves : Leaves h h' socket size received
+  -- of the driver only the owners of buffers change, and no slot is staged
+  pub others : h' ≡ record h { driver = with_owners h.driver h'.driver.buffers [] h'.driver.pool []; queues = h'.queues }
   pub refilled : IsRefilled h'.driver
-  pub offered : h'.driver.staged ≡ []
   pub legal : IsFrameSize size
   pub rest : drop size after ≡ drop size before
 
 -- Handling an interrupt.
 
--- So many slots were taken: each frame went to the end of its socket's queue or was counted as unclaimed; slots without a whole frame are
--- bad.
+-- n slots were taken. Each frame went to the end of its socket's queue, or was counted as unclaimed. A slot without a whole frame was
+-- counted as bad.
 pub record SortsAll (h h' : HostState) (n : ℕ) : Type 0 where
   pub shown : List Received
   pub count : length shown ≤ n
@@ -120,56 +126,76 @@ pub record SortsAll (h h' : HostState) (n : ℕ) : Type 0 where
   pub unclaimed : GrowsBy h.unclaimed h'.unclaimed (unclaimed_of h.kinds shown)
   pub bad : GrowsBy h.driver.bad h'.driver.bad (n - length shown)
 
--- And then all slots that can be are offered.
+-- Then slots are offered until no buffer is free, or all slots but one are outstanding.
 pub record HostServes (h h' : HostState) (n : ℕ) : Type 0 where
   pub sorts : SortsAll h h' n
   pub refilled : IsRefilled h'.driver
   pub offered : h'.driver.staged ≡ []
 
--- Over a bus that obeys the law it does its work: so many frames are taken off the ring, the oldest first, and go to the ends of their
--- sockets' queues; then slots are offered. Behind ICR these are the accesses.
-pub record HostWorks {B : Type 0} (bus : Ghosts B) (n : ℕ) {up : Bool} (old new : HostMoment B) (asked : Asked bus up (driver_at bus old))
-    : Type 0 where
-  pub some : Meet asked.causes handled_causes
+-- The slots of the buffers `taken` were the oldest. Then slots are offered after the others: those that were staged, and new ones with the
+-- buffers `offered`. `misses` is the value read from MPC.
+pub record Served (d d' : DriverState) (taken : List ℕ) : Type 0 where
   pub misses : ℕ
-  pub taken : List HandedOut
   pub rest : List ℕ
   pub offered : List ℕ
+  pub oldest : d.buffers ≡ taken ++ rest
+  pub newest : d'.buffers ≡ rest ++ (d.staged ++ offered)
+
+-- The value read from MPC is added to the driver's sum. No slot is bad.
+pub record AddsMisses (misses : ℕ) (d d' : DriverState) : Type 0 where
+  pub missed : d'.missed ≡ (with_missed misses d).missed
+  pub exact : d'.exact ≡ (with_missed misses d).exact
+  pub bad : d'.bad ≡ d.bad
+
+-- Each frame taken went to the end of its socket's queue, in order, or was counted as unclaimed.
+pub record SortsTaken (h h' : HostState) (taken : List HandedOut) : Type 0 where
+  pub queues : Queues h.kinds h.queues h'.queues (claimed_of h.kinds (map received_of taken))
+  pub unclaimed : GrowsBy h.unclaimed h'.unclaimed (unclaimed_of h.kinds (map received_of taken))
+
+-- The work after the read of ICR: n slots are taken, and their frames are sorted. Then slots are offered. `ran` has the accesses, in order.
+pub record HostWorks {B : Type 0} (bus : Ghosts B) (n : ℕ) {up : Bool} (old new : HostMoment B) (asked : Asked bus up (driver_at bus old))
+    : Type 0 where
+  pub taken : List HandedOut
   pub count : length taken ≡ n
-  pub oldest : old.host.driver.buffers ≡ numbers_of taken ++ rest
-  pub newest : new.host.driver.buffers ≡ rest ++ (old.host.driver.staged ++ offered)
-  pub missed : new.host.driver.missed ≡ (with_missed misses old.host.driver).missed
-  pub exact : new.host.driver.exact ≡ (with_missed misses old.host.driver).exact
-  pub bad : new.host.driver.bad ≡ old.host.driver.bad
-  pub queues : Queues old.host.kinds old.host.queues new.host.queues (claimed_of old.host.kinds (map received_of taken))
-  pub unclaimed : GrowsBy old.host.unclaimed new.host.unclaimed (unclaimed_of old.host.kinds (map received_of taken))
+  pub served : Served old.host.driver new.host.driver (numbers_of taken)
+  pub misses : AddsMisses served.misses old.host.driver new.host.driver
+  pub sorted : SortsTaken old.host new.host taken
   pub ran :
       Ran bus up (record {
-        accesses = handled_accesses old.host.driver misses (numbers_of taken) rest offered (next_receive new.host.driver);
+        accesses = handled_accesses old.host.driver served.misses (numbers_of taken) served.rest served.offered
+            (next_receive new.host.driver);
         taken = frames_of taken;
         accepted = [];
-      }) (at asked.behind (driver_at bus old).driver) (driver_at bus new)
-  -- It takes at least what was finished at the beginning, and no work is forgotten.
+      }) (at asked.after_read (driver_at bus old).driver) (driver_at bus new)
+
+-- It handles the interrupt: ICR had one of its causes.
+pub record HostHandlesIt {B : Type 0} (bus : Ghosts B) (n : ℕ) {up : Bool} (old new : HostMoment B)
+    (asked : Asked bus up (driver_at bus old)) : Type 0 where
+  pub some : Meet asked.causes handled_causes
+  pub works : HostWorks bus n old new asked
+  -- It takes at least the slots that were finished at the beginning, and no work is forgotten.
   pub least : length (finished old.host.driver.oldest_receive (bus.world old.bus)) ≤ n
   pub work : HasBit (bus.world old.bus).adapter.causes.mask rxt0 → HasNoForgottenWork new.host.driver (bus.world new.bus)
-  -- both parts together
-  pub flows : HostFlowsTo up old.host (bus.world old.bus) new.host (bus.world new.bus) (frames_of taken) [] []
-      (joined asked.reads.past ran.past)
+  -- the read of ICR and the work together
+  pub flows :
+      HostFlowsTo up (in_world old.host (bus.world old.bus)) (in_world new.host (bus.world new.bus))
+      (did (frames_of works.taken) [] []) (joined asked.reads.past works.ran.past)
 
--- It does nothing: ICR had none of its causes.
+-- It does nothing more: ICR had none of its causes.
 pub record HostLeaves {B : Type 0} (bus : Ghosts B) {up : Bool} (old new : HostMoment B) (asked : Asked bus up (driver_at bus old))
     : Type 0 where
   pub stays : new.host ≡ old.host
   pub leaves : LeavesIt bus (driver_at bus old) (driver_at bus new) asked
-  pub flows : HostFlowsTo up old.host (bus.world old.bus) new.host (bus.world new.bus) [] [] [] asked.reads.past
+  pub flows :
+      HostFlowsTo up (in_world old.host (bus.world old.bus)) (in_world new.host (bus.world new.bus)) did_nothing asked.reads.past
 
 -- by the answer
 abbrev pub HostHandlesBy : {B : Type 0} (bus : Ghosts B) → Handled → {up : Bool} → (old new : HostMoment B)
     → Asked bus up (driver_at bus old) → Type 0
 HostHandlesBy bus NotMine old new asked = HostLeaves bus old new asked
-HostHandlesBy bus (answers.Handled taken) old new asked = HostWorks bus taken old new asked
+HostHandlesBy bus (answers.Handled taken) old new asked = HostHandlesIt bus taken old new asked
 
--- First it reads ICR. What it does behind that is by the causes that were read.
+-- It reads ICR first. What it does next depends on the causes read.
 pub record HostHandles {B : Type 0} (bus : Ghosts B) (result : Handled) (up : Bool) (old new : HostMoment B) : Type 0 where
   pub asked : Asked bus up (driver_at bus old)
-  pub behind : HostHandlesBy bus result old new asked
+  pub then_does : HostHandlesBy bus result old new asked

@@ -1,30 +1,29 @@
--- A stretch of a host's run: which frames were stored, and which were given to whom (own).
-use Rattle.std.specs.Prelude.{◌≡◌, ◌≤◌, ◌<◌, ◌+◌, ◌-◌, ◌^◌, ◌==◌, ◌++◌, ℕ, Bool, List, filter, map}
+-- An interval of a host's run: which frames were stored, and which frames each socket returned (our choice).
+use Rattle.std.specs.Prelude.{◌≡◌, ◌≤◌, ◌<◌, ◌+◌, ◌-◌, ◌^◌, ◌==◌, ◌++◌, ℕ, Bool, List, [], filter, map}
 use Rattle.adapter.specs.HostFrames.{frames_held}
 use Rattle.adapter.specs.World.{World}
 use Rattle.bus.specs.PastOfStretch.{Past}
-use Rattle.bus.specs.declared.event.Access.{Access}
-use Rattle.driver_law.specs.Stretches.{FlowsTo, GoesTo, RanBy}
+use Rattle.driver_law.specs.Stretches.{FlowsTo, GoesTo}
 use Rattle.driver.specs.TakenFrames.{AreFrames}
 use Rattle.packet_socket.specs.HostState.{HostState}
 use Rattle.packet_socket.specs.HeldFrames.{driver_of, socket_frames, held_for_socket, without_socket}
 use Rattle.packet_socket.specs.SocketsState.{all_of}
 
--- a frame that was given to who asked for one of a socket
+-- a frame that a socket returned
 pub record Given : Type 0 where
   pub socket : ℕ
   pub frame : List ℕ
 
--- those of a socket
+-- the frames that one socket returned, in order
 abbrev pub given_for : ℕ → List Given → List (List ℕ)
 given_for socket given = map (λ (one : Given). one.frame) (filter (λ (one : Given). one.socket == socket) given)
 
--- how many frames without a socket were counted, or are held still
+-- the number of frames without a socket: those counted, and those that the driver hasn't taken yet
 abbrev pub unclaimed_in : HostState → World → ℕ
 unclaimed_in host world = host.unclaimed + without_socket host.kinds (frames_held host.driver.oldest_receive world)
 
--- Where each frame went: the table of sockets stays. For each socket the frames given, and then those held, are those that were held, and
--- then the frames stored that go to it. The others are counted, up to the greatest u64.
+-- The account of frames. The table of sockets doesn't change. For each socket, the frames returned, then the frames held at the end, are
+-- the frames held at the beginning, then the frames stored for the socket. Frames without a socket are counted, up to the greatest u64.
 pub record Accounts (h : HostState) (a : World) (h' : HostState) (b : World) (given : List Given) (stored : List (List ℕ)) : Type 0 where
   pub kinds : h'.kinds ≡ h.kinds
   pub sockets : (socket : ℕ) → given_for socket given ++ held_for_socket h' socket b ≡ held_for_socket h socket a
@@ -33,24 +32,40 @@ pub record Accounts (h : HostState) (a : World) (h' : HostState) (b : World) (gi
   pub most : unclaimed_in h' b ≤ unclaimed_in h a + without_socket h.kinds stored
   pub exactly : h'.unclaimed < 2 ^ 64 - 1 → unclaimed_in h' b ≡ unclaimed_in h a + without_socket h.kinds stored
 
--- A stretch in which frames were taken off the receive ring, given to who asked, and accepted to be sent, whichever registers were read
--- meanwhile;
-pub record HostFlowsTo (up : Bool) (h : HostState) (a : World) (h' : HostState) (b : World) (taken : List (List ℕ)) (given : List Given)
-    (accepted : List (List ℕ)) (past : Past) : Type 0 where
-  pub sizes : AreFrames (all_of h'.queues)
-  pub flows : FlowsTo up (driver_of h a) a (driver_of h' b) b taken accepted past
-  pub accounts : Accounts h a h' b given past.stored
+-- A host in its world, at a moment of a run.
+pub record HostInWorld : Type 0 where
+  pub host : HostState
+  pub world : World
 
--- and in which ICR wasn't;
-pub record HostGoesTo (up : Bool) (h : HostState) (a : World) (h' : HostState) (b : World) (taken : List (List ℕ)) (given : List Given)
-    (accepted : List (List ℕ)) (past : Past) : Type 0 where
-  pub sizes : AreFrames (all_of h'.queues)
-  pub goes : GoesTo up (driver_of h a) a (driver_of h' b) b taken accepted past
-  pub accounts : Accounts h a h' b given past.stored
+abbrev pub in_world : HostState → World → HostInWorld
+in_world host world = record { host = host; world = world }
 
--- and over a bus, with exactly these accesses, in this order.
-pub record HostRanBy (up : Bool) {B : Type 0} (world : B → World) (happened : B → B → Past → Type 0) (accesses : List Access) (old new : B)
-    (h h' : HostState) (taken : List (List ℕ)) (given : List Given) (accepted : List (List ℕ)) : Type 0 where
-  pub sizes : AreFrames (all_of h'.queues)
-  pub ran : RanBy up world happened accesses old new (driver_of h (world old)) (driver_of h' (world new)) taken accepted
-  pub accounts : Accounts h (world old) h' (world new) given ran.past.stored
+-- What a host did with frames: those it took off its receive ring, those its sockets returned, and those it accepted for sending.
+pub record HostDid : Type 0 where
+  pub taken : List (List ℕ)
+  pub given : List Given
+  pub accepted : List (List ℕ)
+
+abbrev pub did : (taken : List (List ℕ)) → (given : List Given) → (accepted : List (List ℕ)) → HostDid
+did taken given accepted = record { taken = taken; given = given; accepted = accepted }
+
+abbrev pub did_nothing : HostDid
+did_nothing = did [] [] []
+
+-- one interval after the other
+abbrev pub did_both : (first later : HostDid) → HostDid
+did_both first later = did (first.taken ++ later.taken) (first.given ++ later.given) (first.accepted ++ later.accepted)
+
+-- An interval in which the host did this with frames. Any register may have been read. The host is ready at the end: `sizes`, and
+-- `flows.ready`.
+pub record HostFlowsTo (up : Bool) (old new : HostInWorld) (done : HostDid) (past : Past) : Type 0 where
+  pub sizes : AreFrames (all_of new.host.queues)
+  pub flows :
+      FlowsTo up (driver_of old.host old.world) old.world (driver_of new.host new.world) new.world done.taken done.accepted past
+  pub accounts : Accounts old.host old.world new.host new.world done.given past.stored
+
+-- The same, and ICR wasn't read.
+pub record HostGoesTo (up : Bool) (old new : HostInWorld) (done : HostDid) (past : Past) : Type 0 where
+  pub sizes : AreFrames (all_of new.host.queues)
+  pub goes : GoesTo up (driver_of old.host old.world) old.world (driver_of new.host new.world) new.world done.taken done.accepted past
+  pub accounts : Accounts old.host old.world new.host new.world done.given past.stored

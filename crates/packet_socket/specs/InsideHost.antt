@@ -1,4 +1,4 @@
--- How a host keeps its state (own).
+-- How a host keeps its state (our choice).
 use Rattle.std.specs.Prelude.{◌≡◌, ◌++◌, length}
 use Rattle.dma_memory.specs.Owners.{HasNoSecondOwner}
 use Rattle.driver_law.specs.DriverState.{DriverState, owners}
@@ -7,14 +7,14 @@ use Rattle.packet_socket.specs.HostState.{HostState}
 use Rattle.packet_socket.specs.SocketsState.{SocketsState, all_of}
 use Rattle.packet_socket.specs.declared.host.Host.TheInside.{Inside}
 
--- a host of these parts
+-- a host of a driver and sockets
 abbrev pub host_with : DriverState → SocketsState → HostState
 host_with driver sockets = record { driver = driver; kinds = sockets.kinds; queues = sockets.queues; unclaimed = sockets.unclaimed }
 
 abbrev pub host_of : Inside → HostState
 host_of host = host_with host.driver host.sockets
 
--- Each queue has room for all buffers, and no buffer has two owners: driver and queues together.
+-- Each queue has room for all buffers. No buffer has two owners; the queues count as owners.
 pub record IsHost (driver : DriverState) (sockets : SocketsState) : Type 0 where
   pub room : sockets.room ≡ driver.counts.buffers
   pub count : length sockets.queues ≡ length sockets.kinds

@@ -1,4 +1,4 @@
--- How a host keeps its sockets (own).
+-- How a host keeps its sockets (our choice).
 use Rattle.std.specs.Prelude.{◌≡◌, List, All, length, map}
 use Rattle.circular_buffer.specs.Buffer.{Buffer}
 use Rattle.driver.specs.declared.receiver.Received.{Received}
@@ -16,7 +16,7 @@ sockets_of sockets = record {
   unclaimed = sockets.unclaimed;
 }
 
--- There is a queue for each socket, with room for as many frames.
+-- There is a queue for each socket. Each queue has room for `room` frames.
 pub record AreConsistent (sockets : Inside) : Type 0 where
   pub queues : length sockets.queues.items ≡ length sockets.kinds.items
   pub rooms : All (λ (queue : Buffer Received). queue.capacity ≡ sockets.room) sockets.queues.items

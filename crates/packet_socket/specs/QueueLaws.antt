@@ -12,13 +12,13 @@ use Rattle.packet_socket.specs.SocketsState.{Queues, all_of, frames_of, queue_at
 use Rattle.packet_socket.specs.declared.socket_kind.SocketKind.{SocketKind}
 use Rattle.packet_socket.specs.KindLaws.{goes-there, goes-nowhere-else}
 
--- A queue is a part of all.
+-- A queue has at most as many frames as all queues together.
 pub queue-within : (queues : List (List Received)) (socket : ℕ) → length (queue_at queues socket) ≤ length (all_of queues)
 queue-within [] socket = omega arith
 queue-within (queue ∷ later) zero = omega (arith, length-append queue (all_of later))
 queue-within (queue ∷ later) (suc socket) = omega (arith, queue-within later socket, length-append queue (all_of later))
 
--- With one more at the end of a queue, all have one more.
+-- If a frame is appended to a queue, all queues together have one frame more.
 pub all-pushed : (queues : List (List Received)) (socket : ℕ) (received : Received) → socket < length queues
     → IsPermutation (all_of queues ++ received ∷ []) (all_of (slice_set queues socket (queue_at queues socket ++ received ∷ [])))
 all-pushed [] socket received below = absurd (omega (arith, below))

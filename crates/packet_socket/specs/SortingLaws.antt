@@ -45,7 +45,7 @@ unclaimed-one : (kinds : List SocketKind) (received : Received) (count : ℕ) �
 unclaimed-one kinds received count is = omega
     (arith, is, sum_by-cons (λ (r : Received). cond (has_none kinds r.ether_type) 1 0) received [])
 
--- What sockets do with nothing.
+-- No frame.
 
 pub queues-stay : (kinds : List SocketKind) (queues : List (List Received)) → Queues kinds queues queues []
 queues-stay kinds queues = record {
@@ -64,7 +64,7 @@ sorts_stays sockets = record {
   queues = λ fits. queues-stay sockets.kinds sockets.queues;
 }
 
--- In two stretches.
+-- Two intervals.
 
 pub queues-join : (kinds : List SocketKind) (a b c : List (List Received)) (kept more : List Received) → Queues kinds a b kept
     → Queues kinds b c more → Queues kinds a c (kept ++ more)

@@ -10,7 +10,7 @@ ghost use Rattle.registers.specs.Counting.{greatest_count};
 ghost use Rattle.bus.specs.Keeping.{Keeps};
 ghost use Rattle.driver_law.specs.DriverState.{owners};
 ghost use Rattle.driver.specs.Initialisation.{Initialises, Refuses};
-ghost use Rattle.driver.specs.SendSteps.{IsRefused, with_sending};
+ghost use Rattle.driver.specs.SendSteps.{HasWrongLength, with_transmit_slots};
 ghost use Rattle.driver.specs.TakenFrames.{AreFrames, buffers_of};
 ghost use Rattle.driver.specs.declared.transmit.SendError.TheVariants as SendError;
 ghost use Rattle.packet_socket.specs.HostCalls.{HostTransmits, host_at};
@@ -48,13 +48,13 @@ impl Model for Host {
 }
 
 impl Host {
-    /// Brings the adapter up as `config` says, and makes a host with these sockets. Their queues have room
-    /// for all buffers, so no call takes memory behind this one.
+    /// Initializes the adapter as `config` asks, and makes a host with these sockets. Each queue has room for all
+    /// buffers, so no later call allocates memory.
     ///
     /// # Errors
     ///
-    /// Those of [`Driver::init`]. Want of memory for the queues comes without an access, too. Behind each error
-    /// the call may be made again.
+    /// The errors of [`Driver::init`]. E10 also if there is no memory for the queues; then there is no access. After
+    /// each error the call may be made again.
     pub fn new<B: Bus>(
         alloc: Global,
         bus: &mut B,
@@ -81,14 +81,15 @@ impl Host {
         Ok(Host { driver, sockets })
     }
 
-    /// Where its driver's rings and buffers stand. Calls that reach memory need a bus with that many bytes.
+    /// The places of the driver's rings and buffers. Calls that access memory need a bus with at least
+    /// `layout().size()` bytes.
     pub fn layout(&self) -> Layout
         ensures { result ≡ self.now.driver.counts }
     {
         self.driver.layout()
     }
 
-    /// How many sockets it has.
+    /// The number of sockets.
     pub fn socket_count(&self) -> usize
         ensures count { result ≡ length self.now.kinds }
         ensures queues { length self.now.queues ≡ length self.now.kinds }
@@ -96,8 +97,8 @@ impl Host {
         self.sockets.len()
     }
 
-    /// How many frames wait for a socket: none for one that isn't there. No buffer has two owners, at any
-    /// time, the queues among them.
+    /// The number of frames queued for a socket, or 0 if there is no such socket. No buffer has two owners at any
+    /// time; the queues count as owners.
     pub fn waiting(&self, socket: usize) -> usize
         ensures count { result ≡ length (queue_at self.now.queues socket) }
         ensures table { length self.now.queues ≡ length self.now.kinds }
@@ -108,14 +109,15 @@ impl Host {
         self.sockets.waiting(socket)
     }
 
-    /// How many frames went to no socket, up to the greatest `u64`.
+    /// The number of frames that went to no socket, up to the greatest `u64`.
     pub fn unclaimed(&self) -> u64
         ensures { result ≡ self.now.unclaimed }
     {
         self.sockets.unclaimed()
     }
 
-    /// How many frames the adapter missed, as the driver has it, and whether that is exact: else there were more.
+    /// The driver's sum of frames that the adapter missed, and whether the sum is exact. If it isn't, the adapter may
+    /// have missed more frames.
     pub fn missed(&self) -> (u64, bool)
         ensures sum { result.0 ≡ self.now.driver.missed }
         ensures exact { result.1 ≡ self.now.driver.exact }
@@ -124,21 +126,23 @@ impl Host {
         self.driver.missed()
     }
 
-    /// Sends a frame of 14 to 1,518 bytes, as the driver does.
+    /// Sends a frame of 14 to 1,518 bytes by [`Driver::transmit`]. `bus` must have at least `layout().size()` bytes.
     ///
     /// # Errors
     ///
-    /// Those of the driver.
+    /// E20 [`TooShort`](SendError::TooShort) if the frame has fewer than 14 bytes, E21 [`TooLong`](SendError::TooLong)
+    /// if it has more than 1,518; both without an access. E22 [`RingFull`](SendError::RingFull) if all slots of the
+    /// transmit ring but one are outstanding.
     pub fn send<B: Bus>(&mut self, bus: &mut B, frame: &[u8]) -> Result<(), SendError>
         requires memory { size_of self.old.driver.counts ≤ B.extent bus.old }
         ensures keeps { Keeps B.Bus bus.old bus.new }
 
         // What it does over any bus.
         ensures others { self.new ≡ record self.old
-            { driver = with_sending self.old.driver self.new.driver.oldest_transmit self.new.driver.sending } }
+            { driver = with_transmit_slots self.old.driver self.new.driver.oldest_transmit self.new.driver.sending } }
         ensures too_short { (result ≡ Err SendError.TooShort) ↔ (length frame.now < 14) }
         ensures too_long { (result ≡ Err SendError.TooLong) ↔ (1518 < length frame.now) }
-        ensures nothing { IsRefused result → (bus.new ≡ bus.old) × (self.new ≡ self.old) }
+        ensures nothing { HasWrongLength result → (bus.new ≡ bus.old) × (self.new ≡ self.old) }
 
         // And over one that obeys the law.
         ensures transmits { HostTransmits B.Bus frame.now result (host_at bus.old self.old) (host_at bus.new self.new) }

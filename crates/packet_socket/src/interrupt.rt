@@ -3,7 +3,7 @@
 ghost use Rattle.std.specs.Prelude.{◌≡◌, ◌≤◌};
 ghost use Rattle.dma_memory.specs.Layout.{size_of};
 ghost use Rattle.bus.specs.Keeping.{Keeps};
-ghost use Rattle.driver.specs.HandlerSteps.{OnNotMine, OnTaken};
+ghost use Rattle.driver.specs.HandlerSteps.{IfHandled, IfNotMine, OnlyReceives};
 ghost use Rattle.packet_socket.specs.HostCalls.{HostHandles, HostServes, WhereReadyHost, host_at};
 
 use crate::Host;
@@ -11,16 +11,17 @@ use bus::Bus;
 use driver::Handled;
 
 impl Host {
-    /// Handles an interrupt: the driver does, and each frame that it takes goes to the end of its socket's
-    /// queue, or is counted by [`unclaimed`](Host::unclaimed) where it has none.
+    /// Handles an interrupt by [`Driver::interrupt`](driver::Driver::interrupt). Each frame that it takes goes to the
+    /// end of its socket's queue; a frame without a socket is counted ([`unclaimed`](Host::unclaimed)). `bus` must have
+    /// at least `layout().size()` bytes.
     pub fn interrupt<B: Bus>(&mut self, bus: &mut B) -> Handled
         requires memory { size_of self.old.driver.counts ≤ B.extent bus.old }
         ensures keeps { Keeps B.Bus bus.old bus.new }
 
         // What it does over any bus.
-        ensures stays { OnNotMine result (self.new ≡ self.old) }
-        ensures counts { self.new.driver.counts ≡ self.old.driver.counts }
-        ensures serves { OnTaken result (HostServes self.old self.new) }
+        ensures stays { IfNotMine result (self.new ≡ self.old) }
+        ensures only_receives { OnlyReceives self.old.driver self.new.driver }
+        ensures serves { IfHandled result (HostServes self.old self.new) }
 
         // And over one that obeys the law.
         ensures handles { WhereReadyHost B.Bus (host_at bus.old self.old) (host_at bus.new self.new)

@@ -1,9 +1,9 @@
-// A host gives a frame to who asks for it.
+// A host returns a frame of a socket.
 
 ghost use Rattle.std.specs.Prelude.{◌≡◌, ◌↔◌, ◌≤◌, ◌<◌, [], Err, IfErr, IfOk, length};
 ghost use Rattle.dma_memory.specs.Layout.{size_of};
 ghost use Rattle.bus.specs.Keeping.{Keeps};
-ghost use Rattle.packet_socket.specs.HostCalls.{Gives, GivesBy, WhereReadyHost, host_at};
+ghost use Rattle.packet_socket.specs.HostCalls.{Returns, ReturnsBy, WhereReadyHost, host_at};
 ghost use Rattle.packet_socket.specs.SocketsState.{queue_at};
 ghost use Rattle.packet_socket.specs.declared.receive.RecvError.TheVariants as RecvError;
 
@@ -11,10 +11,10 @@ use crate::Host;
 use bus::Bus;
 use thiserror::Error;
 
-/// Why a socket gives no frame.
+/// Why no frame is returned.
 #[derive(Clone, Copy, Debug, PartialEq, Eq, Error)]
 pub enum RecvError {
-    /// No frame waits for it.
+    /// The socket's queue is empty.
     #[error("E30 Empty")]
     Empty,
     /// There is no such socket.
@@ -23,13 +23,14 @@ pub enum RecvError {
 }
 
 impl Host {
-    /// Copies the oldest frame that waits for a socket into the front of `into`, and tells how many bytes it
-    /// has. Its buffer goes back to the driver, which refills.
+    /// Copies the oldest frame of a socket's queue to the front of `into`, and returns its size, 60 to 1,518 bytes.
+    /// The bytes after it don't change. The frame's buffer goes back to the driver, which refills its receive ring.
+    /// `bus` must have at least `layout().size()` bytes.
     ///
     /// # Errors
     ///
-    /// [`NoSocket`](RecvError::NoSocket) where the socket isn't there, [`Empty`](RecvError::Empty) where no
-    /// frame waits for it; both without an access.
+    /// E31 [`NoSocket`](RecvError::NoSocket) if there is no such socket, E30 [`Empty`](RecvError::Empty) if its queue
+    /// is empty; both without an access.
     pub fn recv<B: Bus>(
         &mut self,
         bus: &mut B,
@@ -44,12 +45,11 @@ impl Host {
         ensures empty { (result ≡ Err RecvError.Empty)
             ↔ ((socket < length self.old.kinds) × (queue_at self.old.queues socket ≡ [])) }
         ensures err { IfErr result (λ error. (bus.new ≡ bus.old) × (self.new ≡ self.old) × (into.new ≡ into.old)) }
-        ensures counts { self.new.driver.counts ≡ self.old.driver.counts }
-        ensures ok { IfOk result (Gives self.old self.new socket into.old into.new) }
+        ensures ok { IfOk result (Returns self.old self.new socket into.old into.new) }
 
         // And over one that obeys the law.
         ensures receives { WhereReadyHost B.Bus (host_at bus.old self.old) (host_at bus.new self.new)
-            (GivesBy B.Bus socket into.new result) }
+            (ReturnsBy B.Bus socket into.new result) }
     {
         if socket >= self.sockets.len() {
             return Err(RecvError::NoSocket);

@@ -6,15 +6,15 @@ ghost use Rattle.packet_socket.specs.SocketKinds as kinds;
 /// Which frames a socket takes.
 #[derive(Clone, Copy, Debug, Default, PartialEq, Eq)]
 pub enum SocketKind {
-    /// Those with this number in bytes 12 and 13, the EtherType, where no socket before it has the same.
+    /// Frames of this EtherType (bytes 12 and 13), if no socket before it in the table has the same EtherType.
     Ether(u16),
-    /// Those that no socket of their number takes, where no socket before it does.
+    /// Frames that no `Ether` socket takes, if no socket before it in the table is an `All` socket.
     #[default]
     All,
 }
 
 impl SocketKind {
-    /// Whether it takes the frames of an EtherType, and no others.
+    /// Whether it takes the frames of this EtherType, and no others.
     fn is_of(self, ether_type: u16) -> bool
         ensures { result ≡ kinds.is_of ether_type self }
     {
@@ -49,7 +49,7 @@ fn first_for_all(table: &[SocketKind]) -> Option<usize>
     table.iter().position(|kind| kind.takes_all())
 }
 
-/// The socket that takes the frames of an EtherType: the first of that number, else the first that takes all.
+/// The socket that takes the frames of an EtherType: the first of that EtherType, else the first that takes all frames.
 pub(crate) fn socket_of(table: &[SocketKind], ether_type: u16) -> Option<usize>
     ensures socket { result ≡ kinds.socket_of table.now ether_type }
     ensures there { IfSome result (λ socket. socket < length table.now) }

@@ -1,4 +1,4 @@
-// The sockets of a host, each with a queue of the frames that wait for it.
+// The sockets of a host, each with a queue of received frames.
 
 ghost use Rattle.std.specs.Prelude.{◌≡◌, ◌↔◌, ◌<◌, ◌≤◌, ◌∷◌, [], IfNone, IfOk, IfSome, length, replicate, slice_set};
 ghost use Rattle.packet_socket.specs.SocketsState.{Sorts, queue_at};
@@ -12,18 +12,18 @@ use driver::{Received, Receiver};
 use std::alloc::{AllocError, Global};
 use std::marker::Model;
 
-/// How many sockets a host has at most (own).
+/// The greatest number of sockets of a host (our choice).
 pub const MOST_SOCKETS: usize = 8;
 
-/// The sockets of a host, each with a queue of the frames that wait for it, in the order in which they came.
+/// The sockets of a host, each with a queue of received frames, the oldest first.
 #[derive(Drop)]
 pub(crate) struct Sockets {
     kinds: ArrayVec<SocketKind, MOST_SOCKETS>,
-    /// The queue of each.
+    /// The queue of each socket.
     queues: Vec<HeapCircularBuffer<Received>>,
-    /// How many frames each queue has room for.
+    /// The number of frames that each queue has room for.
     room: usize,
-    /// How many frames no socket took, up to the greatest `u64`.
+    /// The number of frames that no socket took, up to the greatest `u64`.
     unclaimed: u64,
 }
 
@@ -40,7 +40,7 @@ impl Model for Sockets {
 }
 
 impl Sockets {
-    /// Sockets with empty queues, each with room for so many frames.
+    /// Sockets with empty queues, each with room for `room` frames.
     pub(crate) fn new(
         alloc: Global,
         kinds: ArrayVec<SocketKind, MOST_SOCKETS>,
@@ -65,7 +65,7 @@ impl Sockets {
         })
     }
 
-    /// How many sockets there are.
+    /// The number of sockets.
     pub(crate) fn len(&self) -> usize
         ensures count { result ≡ length self.now.kinds }
         ensures queues { length self.now.queues ≡ length self.now.kinds }
@@ -73,7 +73,7 @@ impl Sockets {
         self.queues.len()
     }
 
-    /// How many frames wait for a socket: none for one that isn't there.
+    /// The number of frames queued for a socket, or 0 if there is no such socket.
     pub(crate) fn waiting(&self, socket: usize) -> usize
         ensures { result ≡ length (queue_at self.now.queues socket) }
     {
@@ -83,14 +83,14 @@ impl Sockets {
         }
     }
 
-    /// How many frames no socket took.
+    /// The number of frames that no socket took.
     pub(crate) fn unclaimed(&self) -> u64
         ensures { result ≡ self.now.unclaimed }
     {
         self.unclaimed
     }
 
-    /// The oldest frame that waits for a socket leaves its queue.
+    /// Removes the oldest frame of a socket's queue, and returns it.
     pub(crate) fn next(&mut self, socket: usize) -> Option<Received>
         requires there { socket < length self.old.kinds }
         ensures none { IfNone result (queue_at self.old.queues socket ≡ []) }
@@ -109,8 +109,8 @@ impl Receiver for Sockets {
 
     ghost took = { Sorts };
 
-    /// A frame goes to the end of its socket's queue. One without a socket is counted, and its buffer comes
-    /// back at once.
+    /// Puts a frame at the end of its socket's queue. A frame without a socket is counted, and its buffer is returned
+    /// at once.
     fn take(&mut self, received: Received) -> Option<BufId> {
         let Some(socket) = socket_of(self.kinds.as_slice(), received.ether_type) else {
             self.unclaimed = self.unclaimed.saturating_add(1);

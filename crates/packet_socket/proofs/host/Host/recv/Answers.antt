@@ -5,7 +5,7 @@ use Rattle.packet_socket.specs.HeldFrames.{driver_of}
 use Rattle.packet_socket.specs.HostCalls.{host_at}
 use Rattle.packet_socket.specs.InsideHost.{host_of, host_with}
 use Rattle.packet_socket.specs.SocketsState.{SocketsState}
-use Rattle.packet_socket.proofs.GivenFrames.{host-receives}
+use Rattle.packet_socket.proofs.GivenFrames.{gives-others, host-receives}
 use Rattle.packet_socket.proofs.ConsistentHosts.{can-come-back, entry-splits, stays-host}
 use Rattle.packet_socket.proofs.host.Host.recv.Goals as goal
 
@@ -57,18 +57,17 @@ returns-clause-ok g c = rw (← c.self.view_is) (
     let parts = entry-splits d before c.next.new.self c.args.socket c.len.result c.in-Some.received c.self.invariant c.if-socket-len.false
     c.len.ensures.count c.in-Some.ensures.oldest in
     record {
+      received = c.in-Some.received;
       leaves = record {
-        received = c.in-Some.received;
-        leaves = record {
-          oldest = c.in-Some.ensures.oldest;
-          others = ap (λ (s : SocketsState). s.queues) c.in-Some.ensures.others;
-          kinds = ap (λ (s : SocketsState). s.kinds) c.in-Some.ensures.others;
-          unclaimed = ap (λ (s : SocketsState). s.unclaimed) c.in-Some.ensures.others;
-          long = c.read-size.ensures.length;
-        };
+        oldest = c.in-Some.ensures.oldest;
+        others = ap (λ (s : SocketsState). s.queues) c.in-Some.ensures.others;
+        kinds = ap (λ (s : SocketsState). s.kinds) c.in-Some.ensures.others;
+        unclaimed = ap (λ (s : SocketsState). s.unclaimed) c.in-Some.ensures.others;
+        long = c.read-size.ensures.length;
       };
+      others = gives-others d c.give.new.self before c.next.new.self c.give.ensures.offers.others
+          (ap (λ (s : SocketsState). s.kinds) c.in-Some.ensures.others) (ap (λ (s : SocketsState). s.unclaimed) c.in-Some.ensures.others);
       refilled = c.give.ensures.offers.refilled;
-      offered = ap (λ (s : DriverState). s.staged) c.give.ensures.offers.others;
       legal = subst IsFrameSize (sym c.read-size.ensures.length)
           (can-come-back d before c.args.socket c.in-Some.received _ c.self.invariant parts).size;
       rest = c.read-size.ensures.rest;
@@ -83,7 +82,7 @@ returns-clause-receives g c = rw (← c.self.view_is) (λ up is.
     let held = (driver_of old.host (g.B.Bus.world old.bus)).handed_out in
     let parts = entry-splits d before after c.args.socket c.len.result c.in-Some.received c.self.invariant c.if-socket-len.false
     c.len.ensures.count c.in-Some.ensures.oldest in
-    host-receives g.B.Bus g.met.B.Bus.joins old (host_at c.give.new.bus (host_with c.give.new.self after)) c.read-size.new.bus
+    host-receives g.B.Bus g.met.B.Bus.composes.joins old (host_at c.give.new.bus (host_with c.give.new.self after)) c.read-size.new.bus
     c.args.socket c.read-size.result c.in-Some.received
     (take c.read-size.result c.read-size.new.into) is parts
     (record {
