@@ -37,6 +37,8 @@ use Rattle.host_calls.specs.DrainedHosts.{CanBeDrained, IsDrainStep}
 use Rattle.host_calls.specs.DrainSteps.{StepsOn, count_line, count_pending}
 use Rattle.host_calls.proofs.JoinedSteps.{nothing-stored}
 use Rattle.host_calls.proofs.SocketCounts.{held-counted, held-flows}
+use Rattle.packet_socket.specs.HostStretches.{did}
+use Rattle.host_calls.specs.ConnectedHosts.{connected}
 
 -- A step that was taken, by itself.
 pub record TakesStep (place : ℕ) (kind : StepKind) (answer : Stepped) (a b : List StationState) : Type 0 where
@@ -75,7 +77,7 @@ elsewhere place k event other =
 -- The host itself does nothing meanwhile.
 pub step-runs : (place : ℕ) (kind : StepKind) (answer : Stepped) (a b : List StationState) (h : HostState)
     → CanBeDrained h (world_at a place) → TakesStep place kind answer a b
-    → HostRuns place (At place (Steps kind true answer) ∷ []) a b h h [] [] []
+    → HostRuns place (At place (Steps kind true answer) ∷ []) (did [] [] []) (connected h a) (connected h b)
 step-runs place kind answer a b h stands takes =
     let steps = At place (Steps kind true answer) ∷ [] in
     runs-alone place steps a b h stands.ready
@@ -84,7 +86,7 @@ step-runs place kind answer a b h stands takes =
 
 -- How many frames are finished, in work and buffered together stays.
 held-stays : (place n : ℕ) (played : List AtomicStep) (a b : List StationState) (h : HostState) → LeadsTo place played a b
-    → happened_in played ≡ replicate n (Moved place) → HostRuns place played a b h h [] [] []
+    → happened_in played ≡ replicate n (Moved place) → HostRuns place played (did [] [] []) (connected h a) (connected h b)
     → length (frames_held h.driver.oldest_receive (world_at b place)) ≡ length (frames_held h.driver.oldest_receive (world_at a place))
 held-stays place n played a b h leads moved runs =
     let holds = held-flows [] (frames_held h.driver.oldest_receive (world_at b place))
@@ -124,7 +126,7 @@ step-on : (steps moves place : ℕ) (kind : StepKind) (answer : Stepped) (a b : 
     ≤ 3 * count_buffered (world_at a place) + count_asked (world_at a place) + count_work (world_at b place)
     → 2 * count_buffered (world_at a place) + count_work (world_at a place)
     ≤ steps + 2 * count_buffered (world_at b place) + count_work (world_at b place)
-    → StepsOn steps place a b h h []
+    → StepsOn steps place [] (connected h a) (connected h b)
 step-on steps moves place kind answer a b h receives stands takes moved buffered filter fewer least =
     let played = At place (Steps kind true answer) ∷ [] in
     let runs = step-runs place kind answer a b h stands takes in
@@ -149,7 +151,7 @@ step-on steps moves place kind answer a b h receives stands takes moved buffered
 
 -- The frame in work is ended.
 done-steps : (place : ℕ) (a b : List StationState) (h : HostState) → CanBeDrained h (world_at a place)
-    → TakesStep place RxDone stepped.Done a b → StepsOn 1 place a b h h []
+    → TakesStep place RxDone stepped.Done a b → StepsOn 1 place [] (connected h a) (connected h b)
 done-steps place a b h stands takes =
     let before = work-counted (world_at a place).adapter.receiver.work takes.answers in
     let behind = work-none (world_at b place).adapter.receiver.work (ap (λ (w : World). w.adapter.receiver.work) takes.world) in
@@ -164,7 +166,8 @@ done-steps place a b h stands takes =
 -- There was none.
 idle-steps : (place : ℕ) (kind : StepKind) (a b : List StationState) (h : HostState) → (kind ≡ RxData) ⊎ (kind ≡ RxDone)
     → CanBeDrained h (world_at a place)
-    → TakesStep place kind stepped.Nothing a b → (world_at b place).adapter ≡ (world_at a place).adapter → StepsOn 0 place a b h h []
+    → TakesStep place kind stepped.Nothing a b → (world_at b place).adapter ≡ (world_at a place).adapter
+    → StepsOn 0 place [] (connected h a) (connected h b)
 idle-steps place kind a b h receives stands takes same =
     let buffer = ap (λ (s : AdapterState). length s.receiver.buffer) same in
     let work = ap (λ (s : AdapterState). length (slot_of_work s.receiver.work)) same in
@@ -177,7 +180,7 @@ pub finishes-done : (place : ℕ) (a b : List StationState) (h : HostState) (res
     → IsAdapter (world_at a place).adapter
     → Answers RxDone true (world_at a place).memory (world_at a place).adapter (stepped_of result (world_at a place).adapter)
     → b ≡ stations_after place (Steps RxDone true (stepped_of result (world_at a place).adapter)) a → result ≡ outcome.Done
-    → CanBeDrained h (world_at a place) → StepsOn 1 place a b h h []
+    → CanBeDrained h (world_at a place) → StepsOn 1 place [] (connected h a) (connected h b)
 finishes-done place a b h outcome.Done below adapter answers is same stands =
     done-steps place a b h stands (takes-step place RxDone stepped.Done a b below (λ e. absurd (cc e)) adapter answers is)
 finishes-done place a b h result below adapter answers is same stands = absurd (cc same)
@@ -186,7 +189,7 @@ pub finishes-none : (place : ℕ) (a b : List StationState) (h : HostState) (res
     → IsAdapter (world_at a place).adapter
     → Answers RxDone true (world_at a place).memory (world_at a place).adapter (stepped_of result (world_at a place).adapter)
     → b ≡ stations_after place (Steps RxDone true (stepped_of result (world_at a place).adapter)) a → result ≢ outcome.Done
-    → CanBeDrained h (world_at a place) → StepsOn 0 place a b h h []
+    → CanBeDrained h (world_at a place) → StepsOn 0 place [] (connected h a) (connected h b)
 finishes-none place a b h outcome.Nothing below adapter answers is other stands =
     let takes = takes-step place RxDone stepped.Nothing a b below (λ e. absurd (cc e)) adapter answers is in
     idle-steps place RxDone a b h (inr refl) stands takes (ap (λ (w : World). w.adapter) takes.world)
@@ -214,7 +217,8 @@ some-buffered [] some = absurd (some refl)
 some-buffered (frame ∷ frames) some = omega arith
 
 moved-steps : (place : ℕ) (a b : List StationState) (h : HostState) → CanBeDrained h (world_at a place)
-    → (world_at a place).adapter.receiver.work ≡ None → TakesStep place RxData stepped.Moved a b → StepsOn 1 place a b h h []
+    → (world_at a place).adapter.receiver.work ≡ None → TakesStep place RxData stepped.Moved a b
+    → StepsOn 1 place [] (connected h a) (connected h b)
 moved-steps place a b h stands free takes =
     let before = work-none (world_at a place).adapter.receiver.work free in
     let behind : (count_work (world_at b place) ≡ 1) × ((line : ℕ) → count_pending (world_at b place).adapter.receiver.work line ≡ 3) =
@@ -233,14 +237,15 @@ pub moves-frame : (place : ℕ) (a b : List StationState) (h : HostState) (resul
     → IsAdapter (world_at a place).adapter
     → Answers RxData true (world_at a place).memory (world_at a place).adapter (stepped_of result (world_at a place).adapter)
     → b ≡ stations_after place (Steps RxData true (stepped_of result (world_at a place).adapter)) a → result ≡ outcome.Moved
-    → CanBeDrained h (world_at a place) → (world_at a place).adapter.receiver.work ≡ None → StepsOn 1 place a b h h []
+    → CanBeDrained h (world_at a place) → (world_at a place).adapter.receiver.work ≡ None
+    → StepsOn 1 place [] (connected h a) (connected h b)
 moves-frame place a b h outcome.Moved below adapter answers is same stands free =
     moved-steps place a b h stands free (takes-step place RxData stepped.Moved a b below (λ e. absurd (cc e)) adapter answers is)
 moves-frame place a b h result below adapter answers is same stands free = absurd (cc same)
 
 -- Nothing is moved: then there was no frame to move, as no fault stops an engine that goes on.
 pub record MovesNone (place : ℕ) (a b : List StationState) (h : HostState) : Type 0 where
-  pub on : StepsOn 0 place a b h h []
+  pub on : StepsOn 0 place [] (connected h a) (connected h b)
   pub takes : TakesStep place RxData stepped.Nothing a b
   pub same : (world_at b place).adapter ≡ (world_at a place).adapter
 

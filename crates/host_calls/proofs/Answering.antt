@@ -115,7 +115,7 @@ calls-tell_causes a m b h h' result past more ready handles told reads =
       early = first.early;
       first = record { later = first.later; split = first.split; ticks = first.ticks };
       answer =
-          by-answer a m h h' handles.asked result first.early first.middle ready handles.behind
+          by-answer a m h h' handles.asked result first.early first.middle ready handles.then_does
           (record {
             ticks = first.ticks;
             leads = first.leads;
@@ -128,7 +128,7 @@ pub answers-tell_causes : (a m : LentBus) (h h' : HostState) (result : Handled) 
     → TellsCauses a.host handles.asked.reads.told.steps handles.asked.causes (world_here a).adapter.causes.recorded result
 answers-tell_causes a m h h' result ready handles =
     let reads = handles.asked.reads in
-    calls-tell_causes a m handles.asked.behind h h' result reads.past [] ready handles reads.told reads.only
+    calls-tell_causes a m handles.asked.after_read h h' result reads.past [] ready handles reads.told reads.only
 
 pub first-reads_stay : (caller : ℕ) (steps early more : List AtomicStep) (causes : ℕ) → ReadsIcrFirst caller steps early causes
     → ReadsIcrFirst caller (steps ++ more) early causes

@@ -27,15 +27,15 @@ use Rattle.stations.specs.Stations.{StationState, world_at}
 use Rattle.stations.proofs.HostTrails.{trail-of}
 use Rattle.stations.specs.AtomicRuns.{LeadsTo, events_at, events_by, is_go, past_at}
 use Rattle.delivery.specs.Happenings.{happened_in}
-use Rattle.packet_socket.specs.HeldFrames.{waiting_frames}
 use Rattle.packet_socket.specs.HostState.{HostState}
-use Rattle.packet_socket.specs.HostStretches.{Given, given_for}
+use Rattle.packet_socket.specs.HostStretches.{Given, did, given_for}
 use Rattle.packet_socket.specs.SocketsState.{all_of, queue_at}
 use Rattle.packet_socket.specs.declared.receive.RecvError.{RecvError}
 use Rattle.packet_socket.specs.declared.receive.RecvError.TheVariants.{Empty, NoSocket}
 use Rattle.host_calls.specs.InterruptCauses.{ReadsIcrFirst}
 use Rattle.host_calls.specs.CallAnswers.{AnswersRecv, InterruptRuns, given_by}
 use Rattle.host_calls.specs.CallsOfHosts.{CallRuns, HostRuns, IsOfDriver}
+use Rattle.host_calls.specs.ConnectedHosts.{connected, played_call}
 use Rattle.packet_socket.specs.QueueLaws.{queue-within}
 use Rattle.host_calls.specs.DrainedHosts.{IsDrainStep, count_held}
 use Rattle.host_calls.specs.DrainSteps.{StepsOn, count_line}
@@ -85,7 +85,8 @@ record Flows (place : ℕ) (a b : List StationState) (h h' : HostState) (taken :
 
 flows : (place n : ℕ) (played : List AtomicStep) (a b : List StationState) (h h' : HostState) (taken : List (List ℕ))
     (given : List Given)
-    → LeadsTo place played a b → happened_in played ≡ [] → HostRuns place played a b h h' taken given []
+    → LeadsTo place played a b → happened_in played ≡ []
+    → HostRuns place played (did taken given []) (connected h a) (connected h' b)
     → length h.queues ≤ n → length h'.queues ≤ n → length given ≤ sum_to n (λ socket. length (given_for socket given))
     → Flows place a b h h' taken given
 flows place n played a b h h' taken given leads none runs fits fits' known =
@@ -102,12 +103,13 @@ flows place n played a b h h' taken given leads none runs fits fits' known =
 -- One step that was a call.
 one-call : (place n : ℕ) (played : List AtomicStep) (a b : List StationState) (h h' : HostState) (taken : List (List ℕ))
     (given : List Given)
-    → LeadsTo place played a b → without_go is_go (map tick_of played) ≡ [] → HostRuns place played a b h h' taken given []
+    → LeadsTo place played a b → without_go is_go (map tick_of played) ≡ []
+    → HostRuns place played (did taken given []) (connected h a) (connected h' b)
     → length h.queues ≤ n → length h'.queues ≤ n → length given ≤ sum_to n (λ socket. length (given_for socket given))
     → (world_at a place).adapter.receiver.work ≡ None → length given ≤ 1
     → 1 + (count_line (world_at b place).adapter.causes + length taken) ≤ count_line (world_at a place).adapter.causes
     + (length given + length taken)
-    → StepsOn 1 place a b h h' given
+    → StepsOn 1 place given (connected h a) (connected h' b)
 one-call place n played a b h h' taken given leads none runs fits fits' known free few line =
     let calm = quiet place played a b h.driver.counts leads none runs.accesses in
     let flow = flows place n played a b h h' taken given leads calm.happened runs fits fits' known in
@@ -158,8 +160,10 @@ clears place played early a b counts causes leads none own first =
 
 pub handled-steps : (result : Handled) (place : ℕ) (a b : List StationState) (before behind : OutcomeList) (accesses : ℕ)
     (h h' : HostState)
-    → InterruptRuns result place [] a b before behind accesses h h' → (world_at a place).adapter.receiver.work ≡ None
-    → Meet (world_at a place).adapter.causes.recorded (world_at a place).adapter.causes.mask → StepsOn 1 place a b h h' []
+    → InterruptRuns (played_call place [] before behind accesses) result (connected h a) (connected h' b)
+    → (world_at a place).adapter.receiver.work ≡ None
+    → Meet (world_at a place).adapter.causes.recorded (world_at a place).adapter.causes.mask
+    → StepsOn 1 place [] (connected h a) (connected h' b)
 handled-steps result place a b before behind accesses h h' runs free meets =
     let told = runs.runs.are_told in
     let recorded = clears place runs.runs.steps runs.tells.early a b h.driver.counts runs.causes told.leads told.played
@@ -179,8 +183,8 @@ queue-there (queue ∷ later) (suc socket) some = let rest = queue-there later s
 
 pub given-steps : (place socket : ℕ) (frame : List ℕ) (a b : List StationState) (before behind : OutcomeList) (accesses : ℕ)
     (h h' : HostState) (made : List Access → Type 0)
-    → CallRuns place [] a b before behind accesses h h' [] (given_by socket (Ok frame)) [] made
-    → (world_at a place).adapter.receiver.work ≡ None → StepsOn 1 place a b h h' (given_by socket (Ok frame))
+    → CallRuns (played_call place [] before behind accesses) (did [] (given_by socket (Ok frame)) []) made (connected h a) (connected h' b)
+    → (world_at a place).adapter.receiver.work ≡ None → StepsOn 1 place (given_by socket (Ok frame)) (connected h a) (connected h' b)
 given-steps place socket frame a b before behind accesses h h' made runs free =
     let told = runs.are_told in
     let n = length h.queues + (length h'.queues + (socket + 1)) in

@@ -12,7 +12,6 @@ use Rattle.bus.specs.declared.event.Access.{Access}
 use Rattle.stations.specs.AtomicSteps.{AtomicStep}
 use Rattle.stations.specs.Outcomes.{OutcomeList}
 use Rattle.stations.specs.Stations.{StationState, world_at}
-use Rattle.stations.specs.declared.tick.Tick.{Tick}
 use Rattle.stations.specs.AtomicRunLaws.{leads_join, past_join}
 use Rattle.stations.specs.AtomicRuns.{LeadsTo, past_at}
 use Rattle.stations.specs.Retelling.{Finished, Retells, world_here}
@@ -22,11 +21,12 @@ use Rattle.driver_law.specs.Stretches.{HasNoForgottenWork, IsRefilled}
 use Rattle.packet_socket.proofs.Stretches.{host-flows-join, host-happens}
 use Rattle.packet_socket.specs.HeldFrames.{HostReady, driver_of}
 use Rattle.packet_socket.specs.HostState.{HostState}
-use Rattle.packet_socket.specs.HostStretches.{Given, HostFlowsTo, HostGoesTo}
+use Rattle.packet_socket.specs.HostStretches.{Given, HostDid, HostFlowsTo, HostGoesTo, did, in_world}
 use Rattle.delivery.proofs.Laws.{lent-calls, outcomes-tell}
 use Rattle.delivery.specs.TickNumbers.{numbers}
 use Rattle.host_calls.specs.CallsOfHosts.{CallRuns, HostRuns, IsOfDriver, OnlyLastWrites}
 use Rattle.host_calls.proofs.HostTrails.{happens-alone, happens-elsewhere, none-alone, none-elsewhere}
+use Rattle.host_calls.specs.ConnectedHosts.{PlayedCall, connected, played_call}
 
 -- What a host knows of its driver's work doesn't depend on who holds frames.
 pub work-held : (h : HostState) (a world : World) → HasNoForgottenWork h.driver world → HasNoForgottenWork (driver_of h a) world
@@ -37,24 +37,27 @@ work-unheld h a world work = record { enabled = work.enabled; asked = work.asked
 
 pub flows-of : (h : HostState) (a : World) (h' : HostState) (b : World) (taken : List (List ℕ)) (given : List Given)
     (accepted : List (List ℕ)) (past : Past)
-    → HostGoesTo true h a h' b taken given accepted past → HostFlowsTo true h a h' b taken given accepted past
+    → HostGoesTo true (in_world h a) (in_world h' b) (did taken given accepted) past
+    → HostFlowsTo true (in_world h a) (in_world h' b) (did taken given accepted) past
 flows-of h a h' b taken given accepted past goes = record { sizes = goes.sizes; flows = goes.goes.flows; accounts = goes.accounts }
 
 pub ready-behind : (h : HostState) (a : World) (h' : HostState) (b : World) (taken : List (List ℕ)) (given : List Given)
     (accepted : List (List ℕ)) (past : Past)
-    → HostFlowsTo true h a h' b taken given accepted past → HostReady h' b
+    → HostFlowsTo true (in_world h a) (in_world h' b) (did taken given accepted) past → HostReady h' b
 ready-behind h a h' b taken given accepted past flows = record { sizes = flows.sizes; ready = flows.flows.ready }
 
 -- No work is forgotten over a stretch in which ICR isn't read.
 pub work-goes : (h : HostState) (a : World) (h' : HostState) (b : World) (taken : List (List ℕ)) (given : List Given)
     (accepted : List (List ℕ)) (past : Past)
-    → HostGoesTo true h a h' b taken given accepted past → HasNoForgottenWork h.driver a → HasNoForgottenWork h'.driver b
+    → HostGoesTo true (in_world h a) (in_world h' b) (did taken given accepted) past
+    → HasNoForgottenWork h.driver a → HasNoForgottenWork h'.driver b
 work-goes h a h' b taken given accepted past goes work =
     work-unheld h' b b (work_kept (driver_of h a) (driver_of h' b) a b taken accepted past goes.goes (work-held h a a work))
 
 -- A host over which the law holds alone.
 pub runs-alone : (k : ℕ) (steps : List AtomicStep) (a b : List StationState) (h : HostState) → HostReady h (world_at a k)
-    → Happens (world_at a k) (world_at b k) (past_at k steps) → (past_at k steps).accesses ≡ [] → HostRuns k steps a b h h [] [] []
+    → Happens (world_at a k) (world_at b k) (past_at k steps) → (past_at k steps).accesses ≡ []
+    → HostRuns k steps (did [] [] []) (connected h a) (connected h b)
 runs-alone k steps a b h ready happens none =
     let goes = host-happens h (world_at a k) (world_at b k) (past_at k steps) ready happens in
     record {
@@ -70,14 +73,15 @@ runs-alone k steps a b h ready happens none =
 pub runs-join : (k : ℕ) (first later : List AtomicStep) (a b c : List StationState) (h1 h2 h3 : HostState) (t1 t2 : List (List ℕ))
     (given more : List Given) (s1 s2 : List (List ℕ))
     → h2.driver.counts ≡ h1.driver.counts
-    → HostRuns k first a b h1 h2 t1 given s1 → HostRuns k later b c h2 h3 t2 more s2
-    → HostRuns k (first ++ later) a c h1 h3 (t1 ++ t2) (given ++ more) (s1 ++ s2)
+    → HostRuns k first (did t1 given s1) (connected h1 a) (connected h2 b)
+    → HostRuns k later (did t2 more s2) (connected h2 b) (connected h3 c)
+    → HostRuns k (first ++ later) (did (t1 ++ t2) (given ++ more) (s1 ++ s2)) (connected h1 a) (connected h3 c)
 runs-join k first later a b c h1 h2 h3 t1 t2 given more s1 s2 counts one two = record {
   flows =
-      subst (HostFlowsTo true h1 (world_at a k) h3 (world_at c k) (t1 ++ t2) (given ++ more) (s1 ++ s2))
+      subst (HostFlowsTo true (in_world h1 (world_at a k)) (in_world h3 (world_at c k)) (did (t1 ++ t2) (given ++ more) (s1 ++ s2)))
       (sym (past_join k first later))
-      (host-flows-join h1 h2 h3 (world_at a k) (world_at b k) (world_at c k) t1 t2 given more s1 s2 (past_at k first)
-      (past_at k later) one.flows two.flows);
+      (host-flows-join (in_world h1 (world_at a k)) (in_world h2 (world_at b k)) (in_world h3 (world_at c k)) (did t1 given s1)
+      (did t2 more s2) (past_at k first) (past_at k later) one.flows two.flows);
   accesses =
       subst (λ (past : Past). All (IsOfDriver h1.driver.counts) past.accesses) (sym (past_join k first later))
       (All-append (IsOfDriver h1.driver.counts) (past_at k first).accesses (past_at k later).accesses one.accesses
@@ -95,17 +99,21 @@ whole-accesses k first last none =
     ∙ ap (λ (accesses : List Access). (past_at k first).accesses ++ accesses) none
     ∙ append-nil (past_at k first).accesses
 
+-- what a lent bus says of a call: at its beginning, and when the ticks that were left are played
+abbrev pub lent_call : (a b : LentBus) → PlayedCall
+lent_call a b = played_call a.host a.ticks.now a.outcomes.now b.outcomes.now b.accesses
+
 -- A call of which the lent bus tells, and the ticks that are left.
 pub call-runs_by : (a m b : LentBus) (past : Past) (h h' : HostState) (taken : List (List ℕ)) (given : List Given)
     (accepted : List (List ℕ)) (made : List Access → Type 0)
-    → a.accesses ≡ 0 → (told : Retells a m past) → HostFlowsTo true h (world_here a) h' (world_here m) taken given accepted past
+    → a.accesses ≡ 0 → (told : Retells a m past)
+    → HostFlowsTo true (in_world h (world_here a)) (in_world h' (world_here m)) (did taken given accepted) past
     → All (IsOfDriver h.driver.counts) past.accesses → OnlyLastWrites past.accesses → made past.accesses
     → (HasNoForgottenWork h.driver (world_here a) → HasNoForgottenWork h'.driver (world_here m))
     → (IsRefilled h.driver → IsRefilled h'.driver)
     → (h.driver.staged ≡ [] → h'.driver.staged ≡ [])
     → (finished : Finished m b)
-    → ((runs : CallRuns a.host a.ticks.now a.stations.now b.stations.now a.outcomes.now b.outcomes.now b.accesses h h' taken given accepted
-    made)
+    → ((runs : CallRuns (lent_call a b) (did taken given accepted) made (connected h a.stations.now) (connected h' b.stations.now))
     × (runs.steps ≡ told.steps ++ finished.plays.steps))
 call-runs_by a m b past h h' taken given accepted made zero told flows accesses writes makes work refilled offered finished =
     let first = told.steps in
@@ -114,13 +122,14 @@ call-runs_by a m b past h h' taken given accepted made zero told flows accesses 
     let host = told.lent.host in
     let call = lent-calls a m b past told finished zero in
     let tells = outcomes-tell a.host a.ticks.now past.accesses first last a.stations.now m.stations.now b.stations.now call.plays in
-    let here : HostRuns a.host first a.stations.now m.stations.now h h' taken given accepted =
-    subst (λ (w : World). (HostFlowsTo true h (world_here a) h' w taken given accepted past)
+    let here : HostRuns a.host first (did taken given accepted) (connected h a.stations.now) (connected h' m.stations.now) =
+    subst (λ (w : World). (HostFlowsTo true (in_world h (world_here a)) (in_world h' w) (did taken given accepted) past)
     → (HasNoForgottenWork h.driver (world_here a) → HasNoForgottenWork h'.driver w)
-    → HostRuns a.host first a.stations.now m.stations.now h h' taken given accepted)
+    → HostRuns a.host first (did taken given accepted) (connected h a.stations.now) (connected h' m.stations.now))
     (ap (λ (k : ℕ). world_at m.stations.now k) (sym host))
     (λ f w. record {
-      flows = subst (HostFlowsTo true h (world_here a) h' (world_at m.stations.now a.host) taken given accepted) told.past_is f;
+      flows = subst (HostFlowsTo true (in_world h (world_here a)) (in_world h' (world_at m.stations.now a.host))
+          (did taken given accepted)) told.past_is f;
       accesses = subst (λ (p : Past). All (IsOfDriver h.driver.counts) p.accesses) told.past_is accesses;
       work = w;
       refilled = refilled;
@@ -134,7 +143,8 @@ call-runs_by a m b past h h' taken given accepted made zero told flows accesses 
     (happens-alone a.host a.host last m.stations.now b.stations.now finished.plays.are (finished.plays.leads a.host))
     (none-alone a.host last finished.plays.are) in
     let whole = runs-join a.host first last a.stations.now m.stations.now b.stations.now h h' h' taken [] given [] accepted
-    [] counts here behind in (
+    [] counts here behind in
+    let Whole = λ (done : HostDid). HostRuns a.host (first ++ last) done (connected h a.stations.now) (connected h' b.stations.now) in (
       record {
         steps = first ++ last;
         are_told = record {
@@ -146,12 +156,11 @@ call-runs_by a m b past h h' taken given accepted made zero told flows accesses 
           counted = call.count ∙ sym tells.counted;
         };
         runs =
-            subst (λ (list : List (List ℕ)). HostRuns a.host (first ++ last) a.stations.now b.stations.now h h' list given accepted)
+            subst (λ (list : List (List ℕ)). Whole (did list given accepted))
             (append-nil taken)
-            (subst (λ (list : List Given). HostRuns a.host (first ++ last) a.stations.now b.stations.now h h' (taken ++ []) list accepted)
+            (subst (λ (list : List Given). Whole (did (taken ++ []) list accepted))
             (append-nil given)
-            (subst (λ (list : List (List ℕ)). HostRuns a.host (first ++ last) a.stations.now b.stations.now h h' (taken ++ []) (given ++ [])
-            list) (append-nil accepted) whole));
+            (subst (λ (list : List (List ℕ)). Whole (did (taken ++ []) (given ++ []) list)) (append-nil accepted) whole));
         last_writes =
             subst OnlyLastWrites same_accesses
             (subst (λ (p : Past). OnlyLastWrites p.accesses) told.past_is writes);
@@ -162,29 +171,26 @@ call-runs_by a m b past h h' taken given accepted made zero told flows accesses 
 
 pub call-runs : (a m b : LentBus) (past : Past) (h h' : HostState) (taken : List (List ℕ)) (given : List Given) (accepted : List (List ℕ))
     (made : List Access → Type 0)
-    → a.accesses ≡ 0 → Retells a m past → HostFlowsTo true h (world_here a) h' (world_here m) taken given accepted past
+    → a.accesses ≡ 0 → Retells a m past
+    → HostFlowsTo true (in_world h (world_here a)) (in_world h' (world_here m)) (did taken given accepted) past
     → All (IsOfDriver h.driver.counts) past.accesses → OnlyLastWrites past.accesses → made past.accesses
     → (HasNoForgottenWork h.driver (world_here a) → HasNoForgottenWork h'.driver (world_here m))
     → (IsRefilled h.driver → IsRefilled h'.driver)
     → (h.driver.staged ≡ [] → h'.driver.staged ≡ [])
     → Finished m b
-    → CallRuns a.host a.ticks.now a.stations.now b.stations.now a.outcomes.now b.outcomes.now b.accesses h h' taken given accepted made
+    → CallRuns (lent_call a b) (did taken given accepted) made (connected h a.stations.now) (connected h' b.stations.now)
 call-runs a m b past h h' taken given accepted made zero told flows accesses writes makes work refilled offered finished =
     (call-runs_by a m b past h h' taken given accepted made zero told flows accesses writes makes work refilled offered finished).0
 
 -- Every other host.
 pub others-run : (caller k : ℕ) (steps : List AtomicStep) (a b : List StationState) (h : HostState) → k ≢ caller
-    → LeadsTo caller steps a b → HostReady h (world_at a k) → HostRuns k steps a b h h [] [] []
+    → LeadsTo caller steps a b → HostReady h (world_at a k) → HostRuns k steps (did [] [] []) (connected h a) (connected h b)
 others-run caller k steps a b h other leads ready =
     runs-alone k steps a b h ready (happens-elsewhere caller k steps a b other leads) (none-elsewhere caller k steps a b other leads)
 
 -- What was lent comes back.
-pub call-back : (place : ℕ) (ticks : List Tick) (old new new' : List StationState) (before behind behind' : OutcomeList) (accesses : ℕ)
-    (h h' : HostState) (taken : List (List ℕ)) (given : List Given) (accepted : List (List ℕ)) (made : List Access → Type 0)
-    → new' ≡ new → behind' ≡ behind
-    → CallRuns place ticks old new before behind accesses h h' taken given accepted made
-    → CallRuns place ticks old new' before behind' accesses h h' taken given accepted made
-call-back place ticks old new new' before behind behind' accesses h h' taken given accepted made same noted runs =
-    subst (λ (stations : List StationState). CallRuns place ticks old stations before behind' accesses h h' taken given accepted made)
-    (sym same)
-    (subst (λ (list : OutcomeList). CallRuns place ticks old new before list accesses h h' taken given accepted made) (sym noted) runs)
+pub lent-back : (Holds : List StationState → OutcomeList → Type 0) (new new' : List StationState) (after after' : OutcomeList)
+    → new' ≡ new → after' ≡ after → Holds new after → Holds new' after'
+lent-back Holds new new' after after' same noted holds =
+    subst (λ (stations : List StationState). Holds stations after') (sym same)
+    (subst (λ (list : OutcomeList). Holds new list) (sym noted) holds)

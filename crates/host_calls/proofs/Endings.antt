@@ -1,7 +1,7 @@
 -- Where a drain ends, and what it did.
 use Rattle.std.proofs.Common.{◌≡◌, ◌≢◌, ◌≤◌, ◌<◌, ◌+◌, ◌-◌, ◌*◌, ◌^◌, ◌⊎◌, ◌++◌, ◌∷◌, [], ℕ, zero, suc, None, List, Option, bit_and}
 use Rattle.std.proofs.Common.{length, map}
-use Rattle.std.proofs.Common.{refl, sym, ap, subst, ◌∙◌, arith, replicate, length-append, inl, inr, ⊎_elim}
+use Rattle.std.proofs.Common.{refl, sym, ap, subst, ◌∙◌, arith, replicate, length-append, ⊎_elim}
 use Rattle.std.proofs.lemmas.List.{append-nil, length-map}
 use Rattle.registers.specs.Bits.{HasBit, Meet}
 use Rattle.registers.specs.Laws.{HasBit-intersection, HasBit-zero}
@@ -29,7 +29,8 @@ use Rattle.stations.specs.AtomicRuns.{past_at}
 use Rattle.delivery.proofs.Laws.{frames-move}
 use Rattle.delivery.specs.Happenings.{Moved, missed, put, reached, toward}
 use Rattle.host_calls.specs.DrainedHosts.{CanBeDrained, Drains, DrainsInto, HoldsNothing, count_held}
-use Rattle.host_calls.specs.DrainSteps.{StepsInto, StepsOn, count_line, count_pending, count_steps}
+use Rattle.host_calls.specs.ConnectedHosts.{connected}
+use Rattle.host_calls.specs.DrainSteps.{StepsInto, StepsOn, count_line, count_pending, count_steps, outlet}
 use Rattle.host_calls.proofs.AdapterSteps.{MovesNone, work-none}
 use Rattle.host_calls.proofs.JoinedSteps.{moves-missed, moves-put, moves-reached, moves-toward, nothing-stored}
 use Rattle.host_calls.proofs.SocketCounts.{held-counted}
@@ -181,9 +182,10 @@ nothing-waits h socket world none =
     ++ socket_frames h.kinds socket (frames_held h.driver.oldest_receive world)) queue
     ∙ ap (socket_frames h.kinds socket) none.held
 
-pub drains : (steps place : ℕ) (a b : List StationState) (h h' : HostState) (given : List Given) → StepsOn steps place a b h h' given
+pub drains : (steps place : ℕ) (a b : List StationState) (h h' : HostState) (given : List Given)
+    → StepsOn steps place given (connected h a) (connected h' b)
     → HoldsNothing h' (world_at b place) → CanBeDrained h (world_at a place) → IsAdapter (world_at a place).adapter
-    → Drains steps place a b h h' given
+    → Drains steps place given (connected h a) (connected h' b)
 drains steps place a b h h' given on none stands adapter =
     let one = world_at a place in
     let two = world_at b place in
@@ -202,8 +204,7 @@ drains steps place a b h h' given on none stands adapter =
     let without : without_socket h'.kinds (frames_held h'.driver.oldest_receive two) ≡ 0 = ap (without_socket h'.kinds) none.held in
     let without_stored : without_socket h.kinds past.stored ≡ 0 = ap (without_socket h.kinds) stored in
     record {
-      at_most = omega (arith, on.most, most);
-      at_least = omega (arith, on.least, behind, empty);
+      steps_are = record { at_most = omega (arith, on.most, most); at_least = omega (arith, on.least, behind, empty) };
       all_given = λ socket.
           sym (append-nil (given_for socket given))
           ∙ ap (λ (list : List (List ℕ)). given_for socket given ++ list) (sym (nothing-waits h' socket two none))
@@ -216,19 +217,21 @@ drains steps place a b h h' given on none stands adapter =
         most = let all = accounts.most in omega (arith, all, without, without_stored);
         exactly = λ below. let all = accounts.exactly below in omega (arith, all, without, without_stored);
       };
-      to_send =
-          ap (λ (list : List (List ℕ)). list ++ frames_to_send two) (sym gone) ∙ flows.sends ∙ append-nil (frames_to_send one);
-      lines = λ k.
-          let there = frames-move place k on.played a b on.leads in
-          ap (λ (list : List (List ℕ)). list ++ backlog_at b k)
-          (sym (moves-reached k on.moves place) ∙ ap (reached k) (sym on.moved))
-          ∙ there.waits
-          ∙ ap (λ (list : List (List ℕ)). backlog_at a k ++ list)
-          (ap (toward (wire_at a) k) on.moved ∙ moves-toward (wire_at a) k on.moves place)
-          ∙ append-nil (backlog_at a k);
-      others = λ k other.
-          subst (λ (list : List Event). Trail list (world_at a k) (world_at b k)) (on.alone k other)
-          (trail-of place k on.played a b on.leads);
+      keeps = record {
+        to_send =
+            ap (λ (list : List (List ℕ)). list ++ frames_to_send two) (sym gone) ∙ flows.sends ∙ append-nil (frames_to_send one);
+        lines = λ k.
+            let there = frames-move place k on.played a b on.leads in
+            ap (λ (list : List (List ℕ)). list ++ backlog_at b k)
+            (sym (moves-reached k on.moves place) ∙ ap (reached k) (sym on.moved))
+            ∙ there.waits
+            ∙ ap (λ (list : List (List ℕ)). backlog_at a k ++ list)
+            (ap (toward (wire_at a) k) on.moved ∙ moves-toward (wire_at a) k on.moves place)
+            ∙ append-nil (backlog_at a k);
+        others = λ k other.
+            subst (λ (list : List Event). Trail list (world_at a k) (world_at b k)) (on.alone k other)
+            (trail-of place k on.played a b on.leads);
+      };
       misses = record {
         sum = λ fits. let all = flows.counted (omega (arith, small, lost)) (omega (arith, fits, lost)) in omega (arith, all, lost);
         sticks = λ much. flows.sticks (omega (arith, small, lost)) (omega (arith, much, lost));
@@ -237,20 +240,21 @@ drains steps place a b h h' given on none stands adapter =
           omega (arith, flows.at_most, flows.sum, below, lost),
         );
       };
-      played = on.played;
-      leads = on.leads;
-      only = on.only;
-      taken = on.taken;
-      runs = on.runs;
-      moved =
-          on.moved
-          ∙ ap (λ (n : ℕ). replicate n (Moved place))
-          (omega (arith, on.buffered, behind, empty));
+      by = record {
+        played = on.played;
+        leads = on.leads;
+        only = on.only;
+        taken = on.taken;
+        runs = on.runs;
+        moved = on.moved ∙ ap (λ (n : ℕ). replicate n (Moved place)) (omega (arith, on.buffered, behind, empty));
+      };
     }
 
 pub drains-into : (steps place : ℕ) (a b : List StationState) (h h' : HostState) (before behind : List Given) (places left : ℕ)
-    → StepsInto steps place a b h h' before behind places left → HoldsNothing h' (world_at b place) → CanBeDrained h (world_at a place)
-    → IsAdapter (world_at a place).adapter → DrainsInto steps place a b h h' before behind
+    → StepsInto steps place (outlet before places) (outlet behind left) (connected h a) (connected h' b)
+    → HoldsNothing h' (world_at b place)
+    → CanBeDrained h (world_at a place) → IsAdapter (world_at a place).adapter
+    → DrainsInto steps place before behind (connected h a) (connected h' b)
 drains-into steps place a b h h' before behind places left into none stands adapter = record {
   given = into.given;
   appended = into.appended;

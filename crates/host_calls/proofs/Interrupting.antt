@@ -1,5 +1,7 @@
 -- A host handles an interrupt over a lent bus.
-use Rattle.std.proofs.Common.{◌≡◌, ◌<◌, ◌+◌, ◌++◌, ◌∷◌, [], ℕ, true, cond, List, length, map, refl, sym, ap, subst, ◌∙◌, arith}
+use Rattle.std.proofs.Common.{◌≡◌, ◌≤◌, ◌<◌, ◌+◌, ◌++◌, ◌∷◌, [], ℕ, true, cond, List, drop, length, map, take, refl, sym}
+use Rattle.std.proofs.Common.{ap, subst, ◌∙◌, arith}
+use Rattle.std.proofs.lemmas.Grind.{common_steps}
 use Rattle.std.specs.List.{All}
 use Rattle.std.proofs.lemmas.List.{length-map}
 use Rattle.std.proofs.lemmas.List.Elements.{All-append}
@@ -15,7 +17,7 @@ use Rattle.stations.specs.declared.lent_bus.LentBus.{LentBus}
 use Rattle.driver_law.proofs.Places.{place-below}
 use Rattle.driver_law.specs.DriverState.{HandedOut, next_receive, numbers_of}
 use Rattle.driver_law.specs.Stretches.{IsRefilled}
-use Rattle.driver.specs.HandlerSteps.{OnTaken}
+use Rattle.driver.specs.HandlerSteps.{IfHandled, handled_accesses}
 use Rattle.driver.specs.TakenFrames.{GrowsBy, frames_of, received_of}
 use Rattle.driver.specs.declared.receiver.Received.{Received}
 use Rattle.driver.specs.declared.interrupt.Handled.{Handled}
@@ -34,10 +36,8 @@ use Rattle.host_calls.proofs.Answering.{calls-tell_causes, first-reads_stay}
 use Rattle.host_calls.specs.InterruptCauses.{TellsCauses}
 use Rattle.host_calls.specs.LentCalls.{lent}
 use Rattle.stations.specs.AtomicSteps.{AtomicStep}
-use Rattle.stations.specs.Outcomes.{OutcomeList}
-use Rattle.stations.specs.Stations.{StationState}
-use Rattle.stations.specs.declared.tick.Tick.{Tick}
-use Rattle.host_calls.proofs.Calling.{call-runs_by}
+use Rattle.host_calls.specs.ConnectedHosts.{connected}
+use Rattle.host_calls.proofs.Calling.{call-runs_by, lent_call}
 use Rattle.host_calls.proofs.DriversAccesses.{causes-of_driver, handles-last, handles-of_driver}
 
 -- Frames without a socket are counted as they are taken.
@@ -63,9 +63,9 @@ tells-on caller first last steps causes recorded result tells is =
 
 leaves-runs : (a m b : LentBus) (h h' : HostState) → a.accesses ≡ 0 → HostReady h (world_here a)
     → HostHandles lent NotMine true (host_at a h) (host_at m h') → Finished m b
-    → InterruptRuns NotMine a.host a.ticks.now a.stations.now b.stations.now a.outcomes.now b.outcomes.now b.accesses h h'
+    → InterruptRuns (lent_call a b) NotMine (connected h a.stations.now) (connected h' b.stations.now)
 leaves-runs a m b h h' zero ready handles finished =
-    let leaves = handles.behind in
+    let leaves = handles.then_does in
     let past = handles.asked.reads.past in
     let only = handles.asked.reads.only in
     let told = subst (λ (bus : LentBus). Retells a bus past) (sym leaves.leaves.still) handles.asked.reads.told in
@@ -88,43 +88,61 @@ leaves-runs a m b h h' zero ready handles finished =
       answer = record { stays = leaves.stays; none = refl };
     }
 
+-- A list that begins with n things.
+record SplitsAt (n : ℕ) (front back whole : List ℕ) : Type 0 where
+  enough : n ≤ length whole
+  taken : take n whole ≡ front
+  dropped : drop n whole ≡ back
+
+split-at : (taken rest whole : List ℕ) (n : ℕ) → whole ≡ taken ++ rest → length taken ≡ n → SplitsAt n taken rest whole
+split-at taken rest whole n is count = record {
+  enough = grind (arith, common_steps, is, count);
+  taken = grind (arith, common_steps, is, count);
+  dropped = grind (arith, common_steps, is, count);
+}
+
 works-runs : (a m b : LentBus) (h h' : HostState) (n : ℕ) → a.accesses ≡ 0 → HostReady h (world_here a) → IsRefilled h'.driver
     → h'.driver.staged ≡ [] → HostHandles lent (answers.Handled n) true (host_at a h) (host_at m h') → Finished m b
-    → InterruptRuns (answers.Handled n) a.host a.ticks.now a.stations.now b.stations.now a.outcomes.now b.outcomes.now b.accesses h h'
+    → InterruptRuns (lent_call a b) (answers.Handled n) (connected h a.stations.now) (connected h' b.stations.now)
 works-runs a m b h h' n zero ready refilled offered handles finished =
-    let works = handles.behind in
+    let it = handles.then_does in
+    let works = it.works in
+    let served = works.served in
     let past = handles.asked.reads.past in
     let only = handles.asked.reads.only in
     let own = h.driver.counts in
-    let counts = works.flows.flows.counts in
-    let driver = works.flows.flows.ready.driver_is in
+    let counts = it.flows.flows.counts in
+    let driver = it.flows.flows.ready.driver_is in
     let below : next_receive h'.driver < h'.driver.counts.rx =
     place-below h'.driver.counts.rx h'.driver.oldest_receive (length h'.driver.buffers + length h'.driver.staged) driver.oldest_slot in
-    let driver_accesses = handles-of_driver own h.driver works.misses (numbers_of works.taken) works.rest works.offered
+    let driver_accesses = handles-of_driver own h.driver served.misses (numbers_of works.taken) served.rest served.offered
     (next_receive h'.driver) (subst (λ (c : Counts). next_receive h'.driver < c.rx) counts below) in
-    let told = retells_join a handles.asked.behind m past works.ran.past handles.asked.reads.told works.ran.told in
+    let told = retells_join a handles.asked.after_read m past works.ran.past handles.asked.reads.told works.ran.told in
+    let oldest = split-at (numbers_of works.taken) served.rest h.driver.buffers n served.oldest
+    (length-map works.taken (λ (one : HandedOut). one.number) ∙ works.count) in
+    let handled = λ (taken rest : List ℕ).
+    Reads ICR handles.asked.causes ∷ handled_accesses h.driver served.misses taken rest served.offered (next_receive h'.driver) in
     let made = call-runs_by a m b (joined past works.ran.past) h h' (frames_of works.taken) [] []
-    (MakesInterrupt (answers.Handled n) h h') zero told works.flows
+    (MakesInterrupt (answers.Handled n) h h') zero told it.flows
     (All-append (IsOfDriver own) past.accesses works.ran.past.accesses
     (subst (λ (accesses : List Access). All (IsOfDriver own) accesses) (sym only) (causes-of_driver own handles.asked.causes))
     (subst (λ (accesses : List Access). All (IsOfDriver own) accesses) (sym works.ran.only) driver_accesses))
     (subst OnlyLastWrites (ap (λ (accesses : List Access). accesses ++ works.ran.past.accesses) (sym only))
     (subst OnlyLastWrites (sym works.ran.only)
-    (handles-last h.driver works.misses (numbers_of works.taken) works.rest works.offered (next_receive h'.driver))))
+    (handles-last h.driver served.misses (numbers_of works.taken) served.rest served.offered (next_receive h'.driver))))
     (record {
       causes = handles.asked.causes;
-      misses = works.misses;
-      taken = numbers_of works.taken;
-      count = length-map works.taken (λ (one : HandedOut). one.number) ∙ works.count;
-      rest = works.rest;
-      oldest = works.oldest;
-      offered = works.offered;
-      newest = works.newest;
+      misses = served.misses;
+      enough = oldest.enough;
+      offered = served.offered;
+      newest = served.newest ∙ ap (λ (rest : List ℕ). rest ++ (h.driver.staged ++ served.offered)) (sym oldest.dropped);
       exact =
           ap (λ (accesses : List Access). accesses ++ works.ran.past.accesses) only
-          ∙ ap (λ (accesses : List Access). Reads ICR handles.asked.causes ∷ accesses) works.ran.only;
+          ∙ ap (λ (accesses : List Access). Reads ICR handles.asked.causes ∷ accesses) works.ran.only
+          ∙ ap (λ (taken : List ℕ). handled taken served.rest) (sym oldest.taken)
+          ∙ ap (handled (take n h.driver.buffers)) (sym oldest.dropped);
     })
-    (λ work. works.work work.enabled)
+    (λ work. it.work work.enabled)
     (λ before. refilled) (λ before. offered) finished in
     record {
       taken = frames_of works.taken;
@@ -136,24 +154,15 @@ works-runs a m b h h' n zero ready refilled offered handles finished =
           (ap (λ (accesses : List Access). accesses ++ works.ran.past.accesses) only)) made.1;
       answer = record {
         count = length-map works.taken (λ (one : HandedOut). one.frame) ∙ works.count;
-        least = works.least;
-        unclaimed = taken-unclaimed h.kinds works.taken h.unclaimed h'.unclaimed works.unclaimed;
+        least = it.least;
+        unclaimed = taken-unclaimed h.kinds works.taken h.unclaimed h'.unclaimed works.sorted.unclaimed;
       };
     }
 
 pub interrupt-runs : (a m b : LentBus) (h h' : HostState) (result : Handled) → a.accesses ≡ 0 → HostReady h (world_here a)
-    → OnTaken result (HostServes h h')
+    → IfHandled result (HostServes h h')
     → HostHandles lent result true (host_at a h) (host_at m h') → Finished m b
-    → InterruptRuns result a.host a.ticks.now a.stations.now b.stations.now a.outcomes.now b.outcomes.now b.accesses h h'
+    → InterruptRuns (lent_call a b) result (connected h a.stations.now) (connected h' b.stations.now)
 interrupt-runs a m b h h' NotMine zero ready serves handles finished = leaves-runs a m b h h' zero ready handles finished
 interrupt-runs a m b h h' (answers.Handled n) zero ready serves handles finished =
     works-runs a m b h h' n zero ready serves.refilled serves.offered handles finished
-
--- What was lent comes back.
-pub interrupt-back : (result : Handled) (place : ℕ) (ticks : List Tick) (old new new' : List StationState)
-    (before behind behind' : OutcomeList) (accesses : ℕ) (h h' : HostState) → new' ≡ new → behind' ≡ behind
-    → InterruptRuns result place ticks old new before behind accesses h h'
-    → InterruptRuns result place ticks old new' before behind' accesses h h'
-interrupt-back result place ticks old new new' before behind behind' accesses h h' same noted runs =
-    subst (λ (stations : List StationState). InterruptRuns result place ticks old stations before behind' accesses h h') (sym same)
-    (subst (λ (list : OutcomeList). InterruptRuns result place ticks old new before list accesses h h') (sym noted) runs)

@@ -1,5 +1,5 @@
 -- Steps of a drain, one behind the other.
-use Rattle.std.proofs.Common.{◌≡◌, ◌≢◌, ◌+◌, ◌++◌, ◌∷◌, [], ℕ, zero, suc, Bool, false, List, length, replicate, refl, sym, ap, subst, ◌∙◌}
+use Rattle.std.proofs.Common.{◌≡◌, ◌+◌, ◌++◌, [], ℕ, zero, suc, Bool, false, List, replicate, refl, sym, ap, subst, ◌∙◌}
 use Rattle.std.proofs.Common.{arith, length-append}
 use Rattle.std.proofs.lemmas.List.{replicate-append-replicate}
 use Rattle.std.proofs.lemmas.List.Elements.{All-append}
@@ -20,10 +20,12 @@ use Rattle.packet_socket.specs.HostStretches.{Given}
 use Rattle.host_calls.proofs.Calling.{ready-behind, runs-alone, runs-join}
 use Rattle.host_calls.proofs.HostTrails.{happens-alone, none-alone}
 use Rattle.host_calls.specs.DrainedHosts.{CanBeDrained, IsDrainStep}
-use Rattle.host_calls.specs.DrainSteps.{StepsInto, StepsOn, steps_of}
+use Rattle.host_calls.specs.ConnectedHosts.{connected}
+use Rattle.host_calls.specs.DrainSteps.{StepsInto, StepsOn, outlet, steps_of}
 
 -- The host can still be drained.
-pub stands-on : (steps place : ℕ) (a b : List StationState) (h h' : HostState) (given : List Given) → StepsOn steps place a b h h' given
+pub stands-on : (steps place : ℕ) (a b : List StationState) (h h' : HostState) (given : List Given)
+    → StepsOn steps place given (connected h a) (connected h' b)
     → CanBeDrained h (world_at a place) → CanBeDrained h' (world_at b place)
 stands-on steps place a b h h' given on stands = record {
   ready = ready-behind h (world_at a place) h' (world_at b place) on.taken given [] (past_at place on.played) on.runs.flows;
@@ -34,7 +36,8 @@ stands-on steps place a b h h' given on stands = record {
 }
 
 -- None.
-pub steps-none : (place : ℕ) (a : List StationState) (h : HostState) → CanBeDrained h (world_at a place) → StepsOn 0 place a a h h []
+pub steps-none : (place : ℕ) (a : List StationState) (h : HostState) → CanBeDrained h (world_at a place)
+    → StepsOn 0 place [] (connected h a) (connected h a)
 steps-none place a h stands = record {
   played = [];
   leads = refl;
@@ -54,7 +57,8 @@ steps-none place a h stands = record {
 
 -- Some, and then others.
 pub steps-join : (m n place : ℕ) (a b c : List StationState) (h1 h2 h3 : HostState) (given more : List Given)
-    → StepsOn m place a b h1 h2 given → StepsOn n place b c h2 h3 more → StepsOn (m + n) place a c h1 h3 (given ++ more)
+    → StepsOn m place given (connected h1 a) (connected h2 b) → StepsOn n place more (connected h2 b) (connected h3 c)
+    → StepsOn (m + n) place (given ++ more) (connected h1 a) (connected h3 c)
 steps-join m n place a b c h1 h2 h3 given more one two =
     let both = length-append given more in
     record {
@@ -83,15 +87,17 @@ steps-join m n place a b c h1 h2 h3 given more one two =
 
 -- A look that did nothing comes first.
 pub steps-after : (first : Bool) (n place : ℕ) (a b c : List StationState) (h h' : HostState) (given : List Given) → first ≡ false
-    → StepsOn (steps_of first) place a b h h [] → StepsOn n place b c h h' given → StepsOn n place a c h h' given
+    → StepsOn (steps_of first) place [] (connected h a) (connected h b) → StepsOn n place given (connected h b) (connected h' c)
+    → StepsOn n place given (connected h a) (connected h' c)
 steps-after first n place a b c h h' given none one two =
     let nothing : 0 + n ≡ n = omega arith in
-    subst (λ (k : ℕ). StepsOn k place a c h h' given) nothing
+    subst (λ (k : ℕ). StepsOn k place given (connected h a) (connected h' c)) nothing
     (steps-join 0 n place a b c h h h' [] given
-    (subst (λ (stepped : Bool). StepsOn (steps_of stepped) place a b h h []) none one) two)
+    (subst (λ (stepped : Bool). StepsOn (steps_of stepped) place [] (connected h a) (connected h b)) none one) two)
 
 pub still-stands : (first : Bool) (place : ℕ) (a b : List StationState) (h : HostState) → first ≡ false
-    → StepsOn (steps_of first) place a b h h [] → CanBeDrained h (world_at a place) → CanBeDrained h (world_at b place)
+    → StepsOn (steps_of first) place [] (connected h a) (connected h b) → CanBeDrained h (world_at a place)
+    → CanBeDrained h (world_at b place)
 still-stands first place a b h none one stands = stands-on (steps_of first) place a b h h [] one stands
 
 -- What moves of frames into memory say: nothing is put, reaches a host, is stored or missed.
@@ -124,7 +130,8 @@ nothing-stored place k played a b n leads moved =
 -- Into an outlet.
 
 pub into-none : (place : ℕ) (a b : List StationState) (h h' : HostState) (had : List Given) (places steps : ℕ)
-    → StepsOn steps place a b h h' [] → StepsInto steps place a b h h' had had places places
+    → StepsOn steps place [] (connected h a) (connected h' b)
+    → StepsInto steps place (outlet had places) (outlet had places) (connected h a) (connected h' b)
 into-none place a b h h' had places steps on = record {
   given = [];
   appended = sym (Rattle.std.proofs.lemmas.List.append-nil had);
@@ -133,7 +140,9 @@ into-none place a b h h' had places steps on = record {
 }
 
 pub into-join : (m n place : ℕ) (a b c : List StationState) (h1 h2 h3 : HostState) (x y z : List Given) (p q r : ℕ)
-    → StepsInto m place a b h1 h2 x y p q → StepsInto n place b c h2 h3 y z q r → StepsInto (m + n) place a c h1 h3 x z p r
+    → StepsInto m place (outlet x p) (outlet y q) (connected h1 a) (connected h2 b)
+    → StepsInto n place (outlet y q) (outlet z r) (connected h2 b) (connected h3 c)
+    → StepsInto (m + n) place (outlet x p) (outlet z r) (connected h1 a) (connected h3 c)
 into-join m n place a b c h1 h2 h3 x y z p q r one two = record {
   given = one.given ++ two.given;
   appended =

@@ -1,5 +1,5 @@
 -- A host receives over a lent bus.
-use Rattle.std.proofs.Common.{◌≡◌, ◌≤◌, ◌<◌, ◌+◌, ◌++◌, ◌∷◌, [], ℕ, Bool, true, List, length, take, inl, inr, refl, sym, ap, subst, ◌∙◌}
+use Rattle.std.proofs.Common.{◌≡◌, ◌≤◌, ◌<◌, ◌+◌, ◌∷◌, [], ℕ, true, List, length, take, refl, sym, ap, subst, ◌∙◌}
 use Rattle.std.proofs.Common.{arith}
 use Rattle.std.proofs.lemmas.Grind.{common_steps}
 use Rattle.std.specs.List.{All}
@@ -17,9 +17,9 @@ use Rattle.driver_law.specs.DriverState.{next_receive}
 use Rattle.driver_law.specs.Stretches.{IsRefilled}
 use Rattle.packet_socket.proofs.Stretches.{host-happens}
 use Rattle.packet_socket.specs.HeldFrames.{HostReady, waiting_frames}
-use Rattle.packet_socket.specs.HostCalls.{Gives, GivesBy, LeavesSome, Receives, host_at, receive_accesses}
+use Rattle.packet_socket.specs.HostCalls.{Leaves, Receives, Returns, ReturnsBy, host_at, receive_accesses}
 use Rattle.packet_socket.specs.HostState.{HostState}
-use Rattle.packet_socket.specs.HostStretches.{HostGoesTo}
+use Rattle.packet_socket.specs.HostStretches.{HostGoesTo, did, in_world}
 use Rattle.packet_socket.specs.SocketsState.{queue_at}
 use Rattle.packet_socket.specs.declared.receive.RecvError.{RecvError}
 use Rattle.packet_socket.specs.declared.receive.RecvError.TheVariants.{Empty, NoSocket}
@@ -28,18 +28,19 @@ use Rattle.driver.specs.declared.receiver.Received.{Received}
 use Rattle.host_calls.specs.LentCalls.{lent}
 use Rattle.host_calls.specs.CallAnswers.{AnswersRecv, LeavesRecv, MakesRecv, frame_in, given_by}
 use Rattle.host_calls.specs.CallsOfHosts.{CallRuns, IsOfDriver, OnlyLastWrites}
-use Rattle.host_calls.proofs.Calling.{call-runs, flows-of, work-goes}
+use Rattle.host_calls.specs.ConnectedHosts.{connected}
+use Rattle.host_calls.proofs.Calling.{call-runs, flows-of, lent_call, work-goes}
 use Rattle.host_calls.proofs.DriversAccesses.{receives-last, receives-of_driver}
 
 pub recv-runs : (a m b : LentBus) (h h' : HostState) (socket size : ℕ) (bytes : List ℕ) → a.accesses ≡ 0 → HostReady h (world_here a)
     → length bytes ≡ size → Receives lent (record { socket = socket; frame = bytes }) size true (host_at a h) (host_at m h')
     → IsRefilled h'.driver → h'.driver.staged ≡ [] → Finished m b
-    → CallRuns a.host a.ticks.now a.stations.now b.stations.now a.outcomes.now b.outcomes.now b.accesses h h' []
-    (given_by socket (Ok bytes)) [] (MakesRecv (Ok bytes) socket h h')
+    → CallRuns (lent_call a b) (did [] (given_by socket (Ok bytes)) []) (MakesRecv (Ok bytes) socket h h') (connected h a.stations.now)
+    (connected h' b.stations.now)
 recv-runs a m b h h' socket size bytes zero ready long receives refilled offered finished =
     let ran = receives.ran.ran in
     let given = given_by socket (Ok bytes) in
-    let goes : HostGoesTo true h (world_here a) h' (world_here m) [] given [] ran.past =
+    let goes : HostGoesTo true (in_world h (world_here a)) (in_world h' (world_here m)) (did [] given []) ran.past =
     record { sizes = receives.ran.sizes; goes = ran.goes; accounts = receives.ran.accounts } in
     let counts = ran.goes.flows.counts in
     let driver = ran.goes.flows.ready.driver_is in
@@ -66,12 +67,12 @@ recv-runs a m b h h' socket size bytes zero ready long receives refilled offered
 -- Where none is given nothing moves but ticks.
 pub none-runs : (a m b : LentBus) (h h' : HostState) (socket : ℕ) (error : RecvError) → a.accesses ≡ 0 → HostReady h (world_here a)
     → m ≡ a → h' ≡ h → Finished m b
-    → CallRuns a.host a.ticks.now a.stations.now b.stations.now a.outcomes.now b.outcomes.now b.accesses h h' []
-    (given_by socket (Err error)) [] (MakesRecv (Err error) socket h h')
+    → CallRuns (lent_call a b) (did [] (given_by socket (Err error)) []) (MakesRecv (Err error) socket h h') (connected h a.stations.now)
+    (connected h' b.stations.now)
 none-runs a m b h h' socket error zero ready same stays finished =
     let goes = host-happens h (world_here a) (world_here a) nothing ready (happens_none (world_here a)) in
-    subst (λ (host : HostState). CallRuns a.host a.ticks.now a.stations.now b.stations.now a.outcomes.now b.outcomes.now b.accesses
-    h host [] [] [] (λ (accesses : List Access). accesses ≡ []))
+    subst (λ (host : HostState). CallRuns (lent_call a b) (did [] [] []) (λ (accesses : List Access). accesses ≡ [])
+    (connected h a.stations.now) (connected host b.stations.now))
     (sym stays)
     (call-runs a a b nothing h h [] [] [] (λ (accesses : List Access). accesses ≡ []) zero (retells_none a)
     (flows-of h (world_here a) h (world_here a) [] [] [] nothing goes)
@@ -135,10 +136,10 @@ err-answers result NoSocket socket h world is none empty =
 front-long : (size : ℕ) (bytes : List ℕ) → size ≤ length bytes → length (take size bytes) ≡ size
 front-long size bytes fits = grind (arith, common_steps)
 
-pub ok-leaves : (h h' : HostState) (socket size accesses : ℕ) (bytes : List ℕ) → size ≤ length bytes → LeavesSome h h' socket size
-    → LeavesRecv (Ok (take size bytes)) socket h h' accesses
-ok-leaves h h' socket size accesses bytes fits leaves =
-    subst (LeavesSome h h' socket) (sym (front-long size bytes fits)) leaves
+pub ok-leaves : (h h' : HostState) (socket size accesses : ℕ) (bytes : List ℕ) (received : Received) → size ≤ length bytes
+    → Leaves h h' socket size received → LeavesRecv (Ok (take size bytes)) socket h h' accesses
+ok-leaves h h' socket size accesses bytes received fits leaves =
+    (received, subst (λ (n : ℕ). Leaves h h' socket n received) (sym (front-long size bytes fits)) leaves)
 
 pub err-leaves : (a m b : LentBus) (h h' : HostState) (socket : ℕ) (error : RecvError) → a.accesses ≡ 0 → m ≡ a → h' ≡ h → Finished m b
     → LeavesRecv (Err error) socket h h' b.accesses
@@ -148,18 +149,19 @@ err-leaves a m b h h' socket error zero same stays finished =
 -- By the answer.
 
 pub any-runs : (a m b : LentBus) (h h' : HostState) (socket : ℕ) (result : Result ℕ RecvError) (before into : List ℕ) → a.accesses ≡ 0
-    → length into ≡ 1518 → HostReady h (world_here a) → GivesBy lent socket into result true (host_at a h) (host_at m h')
-    → IfOk result (Gives h h' socket before into) → IfErr result (λ error. (m ≡ a) × (h' ≡ h) × (into ≡ before)) → Finished m b
-    → CallRuns a.host a.ticks.now a.stations.now b.stations.now a.outcomes.now b.outcomes.now b.accesses h h' []
-    (given_by socket (frame_in into result)) [] (MakesRecv (frame_in into result) socket h h')
+    → length into ≡ 1518 → HostReady h (world_here a) → ReturnsBy lent socket into result true (host_at a h) (host_at m h')
+    → IfOk result (Returns h h' socket before into) → IfErr result (λ error. (m ≡ a) × (h' ≡ h) × (into ≡ before)) → Finished m b
+    → CallRuns (lent_call a b) (did [] (given_by socket (frame_in into result)) []) (MakesRecv (frame_in into result) socket h h')
+    (connected h a.stations.now) (connected h' b.stations.now)
 any-runs a m b h h' socket (Ok size) before into zero long ready receives ok err finished =
     recv-runs a m b h h' socket size (take size into) zero ready
-    (front-long size into (let most = ok.legal.most in omega (arith, long, most))) receives ok.refilled ok.offered finished
+    (front-long size into (let most = ok.legal.most in omega (arith, long, most))) receives ok.refilled
+    (ap (λ (host : HostState). host.driver.staged) ok.others) finished
 any-runs a m b h h' socket (Err error) before into zero long ready receives ok err finished =
     none-runs a m b h h' socket error zero ready err.0 err.1 finished
 
 pub any-answers : (a m : LentBus) (h h' : HostState) (socket : ℕ) (result : Result ℕ RecvError) (into : List ℕ)
-    → GivesBy lent socket into result true (host_at a h) (host_at m h')
+    → ReturnsBy lent socket into result true (host_at a h) (host_at m h')
     → ((result ≡ Err NoSocket) ↔ (length h.kinds ≤ socket))
     → ((result ≡ Err Empty) ↔ ((socket < length h.kinds) × (queue_at h.queues socket ≡ [])))
     → AnswersRecv (frame_in into result) socket h (world_here a)
@@ -169,16 +171,16 @@ any-answers a m h h' socket (Err error) into receives none empty =
     err-answers (Err error) error socket h (world_here a) refl none empty
 
 pub any-leaves : (a m b : LentBus) (h h' : HostState) (socket : ℕ) (result : Result ℕ RecvError) (before into : List ℕ) → a.accesses ≡ 0
-    → length into ≡ 1518 → IfOk result (Gives h h' socket before into)
+    → length into ≡ 1518 → IfOk result (Returns h h' socket before into)
     → IfErr result (λ error. (m ≡ a) × (h' ≡ h) × (into ≡ before))
     → Finished m b → LeavesRecv (frame_in into result) socket h h' b.accesses
 any-leaves a m b h h' socket (Ok size) before into zero long ok err finished =
-    ok-leaves h h' socket size b.accesses into (let most = ok.legal.most in omega (arith, long, most)) ok.leaves
+    ok-leaves h h' socket size b.accesses into ok.received (let most = ok.legal.most in omega (arith, long, most)) ok.leaves
 any-leaves a m b h h' socket (Err error) before into zero long ok err finished =
     err-leaves a m b h h' socket error zero err.0 err.1 finished
 
 -- What is given is a legal frame.
 pub any-legal : (h h' : HostState) (socket : ℕ) (result : Result ℕ RecvError) (before into : List ℕ)
-    → IfOk result (Gives h h' socket before into) → IfOk result IsFrameSize
+    → IfOk result (Returns h h' socket before into) → IfOk result IsFrameSize
 any-legal h h' socket (Ok size) before into ok = ok.legal
 any-legal h h' socket (Err error) before into ok = tt

@@ -16,15 +16,15 @@ use Rattle.packet_socket.specs.HostState.{HostState}
 use Rattle.host_calls.specs.InterruptCauses.{ReadsIcrFirst, TellsCauses}
 use Rattle.host_calls.specs.LentCalls.{lent}
 
--- A host that is ready handles an interrupt over a lent bus: the answer tells of the causes at entry, and of what was played before ICR
--- was read.
+-- A host that is ready handles an interrupt over a lent bus. The answer follows from the causes recorded when it was called, and from the
+-- ticks played before ICR was read.
 abbrev pub AnswersTellCauses : Type 0
 AnswersTellCauses =
     (a m : LentBus) (h h' : HostState) (result : Handled) → HostReady h (world_here a)
     → (handles : HostHandles lent result true (host_at a h) (host_at m h'))
     → TellsCauses a.host handles.asked.reads.told.steps handles.asked.causes (world_here a).adapter.causes.recorded result
 
--- So it does where the bus tells of more than that first part, as of the whole call.
+-- The same, for a list of accesses that goes on after that first part, as that of the whole call does.
 abbrev pub CallsTellCauses : Type 0
 CallsTellCauses =
     (a m b : LentBus) (h h' : HostState) (result : Handled) (past : Past) (more : List Access) → HostReady h (world_here a)
@@ -32,17 +32,17 @@ CallsTellCauses =
     → past.accesses ≡ Reads ICR handles.asked.causes ∷ more
     → TellsCauses a.host told.steps handles.asked.causes (world_here a).adapter.causes.recorded result
 
--- Whatever comes behind, the first access stays the first.
+-- The first access is the first, whatever follows.
 abbrev pub FirstReadsStay : Type 0
 FirstReadsStay =
     (caller : ℕ) (steps early more : List AtomicStep) (causes : ℕ) → ReadsIcrFirst caller steps early causes
     → ReadsIcrFirst caller (steps ++ more) early causes
 
--- an outcome that bears the number 0
+-- an outcome with number 0
 abbrev pub noted_first : AtomicStep → Numbered
 noted_first step = record { accesses = 0; outcome = outcome_of step }
 
--- The outcomes of a call that bear the number 0 are those of its early steps.
+-- The outcomes of a call with number 0 are those of its early steps.
 abbrev pub EarlyOutcomesBearZero : Type 0
 EarlyOutcomesBearZero =
     (caller : ℕ) (steps early : List AtomicStep) (causes : ℕ) → ReadsIcrFirst caller steps early causes

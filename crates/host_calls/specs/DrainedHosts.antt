@@ -1,4 +1,4 @@
--- A host that was drained: all that it held for its sockets was given (own).
+-- A drained host: its sockets gave all frames that it held for them (our choice).
 use Rattle.std.specs.Prelude.{◌≡◌, ◌≢◌, ◌≤◌, ◌+◌, ◌-◌, ◌*◌, ◌^◌, ◌<◌, ◌⊎◌, ◌++◌, [], ℕ, All, IsTrue, List, length, replicate}
 use Rattle.registers.specs.Bits.{HasBit}
 use Rattle.registers.specs.Counting.{greatest_count}
@@ -16,11 +16,12 @@ use Rattle.driver_law.specs.Stretches.{HasNoForgottenWork, IsRefilled}
 use Rattle.driver.specs.TakenFrames.{GrowsBy}
 use Rattle.packet_socket.specs.HeldFrames.{HostReady, held_for_socket, without_socket}
 use Rattle.packet_socket.specs.HostState.{HostState}
-use Rattle.packet_socket.specs.HostStretches.{Given, given_for}
+use Rattle.packet_socket.specs.HostStretches.{Given, did, given_for}
 use Rattle.packet_socket.specs.SocketsState.{all_of}
 use Rattle.host_calls.specs.CallsOfHosts.{HostRuns}
+use Rattle.host_calls.specs.ConnectedHosts.{ConnectedHost}
 
--- What holds of a host whenever no call of it is made, as far as draining it rests on it.
+-- What a drain requires of a host. It holds between any two calls.
 pub record CanBeDrained (host : HostState) (world : World) : Type 0 where
   pub ready : HostReady host world
   pub work : HasNoForgottenWork host.driver world
@@ -30,11 +31,11 @@ pub record CanBeDrained (host : HostState) (world : World) : Type 0 where
 
 -- Counts.
 
--- how many frames a host holds: on its ring and in its adapter, and in the queues of its sockets
+-- how many frames a host holds: on its receive ring, in its adapter, and in the queues of its sockets
 abbrev pub count_held : HostState → World → ℕ
 count_held host world = length (frames_held host.driver.oldest_receive world) + length (all_of host.queues)
 
--- how many steps of its adapter they need: two for each in the packet buffer, and one for that in work
+-- how many adapter steps they need: two for each in the packet buffer, and one for a frame whose descriptor isn't written back yet
 abbrev pub count_adapter_steps : World → ℕ
 count_adapter_steps world = 2 * length world.adapter.receiver.buffer + length (in_work world)
 
@@ -50,8 +51,8 @@ IsDrainStep place (At host (Steps kind wire_free answer)) = (host ≡ place) × 
 IsDrainStep place (At host (Arrives frame fate)) = ⊥
 IsDrainStep place (Idles tick) = ⊥
 
--- Misses are counted as before: the sum of those that the driver read and those in MPC stays as far as a u64 holds it, and so does that it
--- is exact.
+-- The count of misses is unchanged: the sum of those that the driver read and those in MPC, up to the greatest u64, and whether the sum is
+-- exact.
 pub record KeepsMisses (h : HostState) (a : World) (h' : HostState) (b : World) : Type 0 where
   pub sum : h.driver.missed + a.adapter.missed_packets < 2 ^ 64
       → h'.driver.missed + b.adapter.missed_packets ≡ h.driver.missed + a.adapter.missed_packets
@@ -60,31 +61,42 @@ pub record KeepsMisses (h : HostState) (a : World) (h' : HostState) (b : World) 
       IsTrue h.driver.exact → a.adapter.missed_packets < greatest_count → h.driver.missed + a.adapter.missed_packets < 2 ^ 64
       → IsTrue h'.driver.exact × (b.adapter.missed_packets < greatest_count)
 
--- The drain of a host, in so many steps, gave these frames.
-pub record Drains (steps place : ℕ) (old new : List StationState) (h h' : HostState) (given : List Given) : Type 0 where
-  -- At most four steps for each frame that it held, and one; and at least those of the adapter, and one for each frame given.
-  pub at_most : steps ≤ 4 * count_held h (world_at old place) + 1
-  pub at_least : count_adapter_steps (world_at old place) + length given ≤ steps
-  -- For each socket just the frames were given that were held for it, in order, and nothing is held any more.
-  pub all_given : (socket : ℕ) → given_for socket given ≡ held_for_socket h socket (world_at old place)
-  pub nothing_left : HoldsNothing h' (world_at new place)
-  -- The frames without a socket were counted, up to the greatest u64.
-  pub unclaimed : GrowsBy h.unclaimed h'.unclaimed (without_socket h.kinds (frames_held h.driver.oldest_receive (world_at old place)))
-  -- What is to be sent, what waits at each end of a wire, and every other host's adapter and memory stay.
+-- How many steps the drain took: at most four for each frame that the host held, and one; at least those that its adapter needs, and one
+-- for each frame given.
+pub record AreStepsOf (steps place given : ℕ) (old : ConnectedHost) : Type 0 where
+  pub at_most : steps ≤ 4 * count_held old.host (world_at old.stations place) + 1
+  pub at_least : count_adapter_steps (world_at old.stations place) + given ≤ steps
+
+-- These are unchanged: what is to be sent, what waits at each end of a wire, and every other host's adapter and memory.
+pub record KeepsOthers (place : ℕ) (old new : List StationState) : Type 0 where
   pub to_send : frames_to_send (world_at new place) ≡ frames_to_send (world_at old place)
   pub lines : (k : ℕ) → backlog_at new k ≡ backlog_at old k
   pub others : (k : ℕ) → k ≢ place → world_at new k ≡ world_at old k
-  pub misses : KeepsMisses h (world_at old place) h' (world_at new place)
-  -- It went by these atomic steps: each frame of the packet buffer was moved, and beside what the host did nothing else happened.
+
+-- By which atomic steps it went: each frame of the packet buffer was moved, and nothing else happened but what the host did.
+pub record GoesBy (place : ℕ) (given : List Given) (old new : ConnectedHost) : Type 0 where
   pub played : List AtomicStep
-  pub leads : LeadsTo place played old new
+  pub leads : LeadsTo place played old.stations new.stations
   pub only : All (IsDrainStep place) played
   pub taken : List (List ℕ)
-  pub runs : HostRuns place played old new h h' taken given []
-  pub moved : happened_in played ≡ replicate (length (world_at old place).adapter.receiver.buffer) (Moved place)
+  pub runs : HostRuns place played (did taken given []) old new
+  pub moved : happened_in played ≡ replicate (length (world_at old.stations place).adapter.receiver.buffer) (Moved place)
 
--- They went behind those that the outlet had.
-pub record DrainsInto (steps place : ℕ) (old new : List StationState) (h h' : HostState) (before behind : List Given) : Type 0 where
+-- A drain of a host gave these frames, in this number of steps.
+pub record Drains (steps place : ℕ) (given : List Given) (old new : ConnectedHost) : Type 0 where
+  pub steps_are : AreStepsOf steps place (length given) old
+  -- Each socket gave exactly the frames that were held for it, in order, and no frame is held any more.
+  pub all_given : (socket : ℕ) → given_for socket given ≡ held_for_socket old.host socket (world_at old.stations place)
+  pub nothing_left : HoldsNothing new.host (world_at new.stations place)
+  -- The frames without a socket were counted, up to the greatest u64.
+  pub unclaimed : GrowsBy old.host.unclaimed new.host.unclaimed
+      (without_socket old.host.kinds (frames_held old.host.driver.oldest_receive (world_at old.stations place)))
+  pub keeps : KeepsOthers place old.stations new.stations
+  pub misses : KeepsMisses old.host (world_at old.stations place) new.host (world_at new.stations place)
+  pub by : GoesBy place given old new
+
+-- They were appended to those that the outlet had.
+pub record DrainsInto (steps place : ℕ) (before after : List Given) (old new : ConnectedHost) : Type 0 where
   pub given : List Given
-  pub appended : behind ≡ before ++ given
-  pub drains : Drains steps place old new h h' given
+  pub appended : after ≡ before ++ given
+  pub drains : Drains steps place given old new

@@ -1,5 +1,5 @@
 -- What the answer of an interrupt handler says of the adapter whose handler it is (13.4.17 "Interrupt Cause Read Register"; that a
--- handler is called over a lent bus is own).
+-- handler is called over a lent bus is our choice).
 use Rattle.std.specs.Prelude.{⊤, ◌≡◌, ◌≢◌, ◌⊎◌, ◌++◌, ◌∷◌, ℕ, List, All}
 use Rattle.registers.specs.Bits.{Meet}
 use Rattle.rx_engine.specs.declared.arrival.Fate.TheVariants.{Missed}
@@ -22,14 +22,14 @@ pub record ReadsIcrFirst (caller : ℕ) (steps early : List AtomicStep) (causes 
   pub split : steps ≡ early ++ At caller (Accesses (Reads ICR causes)) ∷ later
   pub ticks : All IsTick early
 
--- no frame was put, none was missed, and none has ended in memory: what comes with TXDW, RXO or RXT0
+-- no frame was put, missed or written back: nothing that sets TXDW, RXO or RXT0
 abbrev pub IsQuietOutcome : Outcome → Type 0
 IsQuietOutcome (Put frame) = ⊥
 IsQuietOutcome Done = ⊥
 IsQuietOutcome (Delivered frame Missed) = ⊥
 IsQuietOutcome outcome = ⊤
 
--- of a step at the caller that is the outcome
+-- the outcome of a step at the caller is such
 abbrev pub IsQuietStep : (caller : ℕ) → AtomicStep → Type 0
 IsQuietStep caller (At host event) = host ≡ caller → IsQuietOutcome (outcome_of_event event)
 IsQuietStep caller (Idles tick) = ⊤
@@ -42,13 +42,13 @@ pub record DidSomething (caller : ℕ) (early : List AtomicStep) : Type 0 where
   pub split : early ≡ before ++ At caller event ∷ behind
   pub something : outcome_of_event event ≢ Nothing
 
--- NotMine: at the call's entry no cause was recorded for which a driver does something, and no early step at the caller put a frame,
--- missed one, or ended one in memory. Handled: such a cause was recorded at entry, or an early step at the caller did something.
+-- NotMine: when the call began no cause was recorded that a driver handles, and no early step at the caller put a frame, missed one, or
+-- wrote one back. Handled: such a cause was recorded then, or an early step at the caller did something.
 abbrev pub AnswersCauses : Handled → (caller recorded : ℕ) → (early : List AtomicStep) → Type 0
 AnswersCauses NotMine caller recorded early = (¬ (Meet recorded handled_causes)) × All (IsQuietStep caller) early
 AnswersCauses (answers.Handled taken) caller recorded early = Meet recorded handled_causes ⊎ DidSomething caller early
 
--- ICR is read first, and the answer is by what was recorded at entry and by the steps before that.
+-- ICR is read first. The answer follows from what was recorded when the call began, and from the steps before that read.
 pub record TellsCauses (caller : ℕ) (steps : List AtomicStep) (causes recorded : ℕ) (result : Handled) : Type 0 where
   pub early : List AtomicStep
   pub first : ReadsIcrFirst caller steps early causes

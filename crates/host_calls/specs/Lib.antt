@@ -1,3 +1,4 @@
+pub mod ConnectedHosts
 pub mod CallsOfHosts
 pub mod CallAnswers
 pub mod InterruptCauses

@@ -1,13 +1,11 @@
 // Calls of one host, with the ticks inside them.
 
-ghost use Rattle.std.specs.Prelude.{◌≡◌, ◌≤◌, ◌<◌, [], length, IfOk};
+ghost use Rattle.std.specs.Prelude.{◌≡◌, ◌≤◌, ◌<◌, length, IfOk};
 ghost use Rattle.driver.specs.TakenFrames.{IsFrameSize};
-ghost use Rattle.driver.specs.SendSteps.{accepted_by};
 ghost use Rattle.stations.specs.Stations.{world_at};
 ghost use Rattle.packet_socket.specs.HeldFrames.{HostReady};
-ghost use Rattle.host_calls.specs.CallsOfHosts.{CallRuns};
-ghost use Rattle.host_calls.specs.CallAnswers.{AnswersRecv, AnswersSend, InterruptRuns, LeavesRecv, LeavesSend};
-ghost use Rattle.host_calls.specs.CallAnswers.{MakesRecv, MakesSend, frame_in, given_by};
+ghost use Rattle.host_calls.specs.ConnectedHosts.{connected, played_call};
+ghost use Rattle.host_calls.specs.CallAnswers.{InterruptRuns, RecvRuns, SendRuns, frame_in};
 
 use descriptors::Frame;
 use driver::{Handled, SendError};
@@ -39,11 +37,8 @@ pub fn send(
     requires there { place < length stations.old }
     requires ready { HostReady host.old (world_at stations.old place) }
     requires room { length ticks.now ≤ outcomes.old.room }
-    ensures runs { CallRuns place ticks.now stations.old stations.new outcomes.old outcomes.new result.accesses
-        host.old host.new [] [] (accepted_by result.answer frame.now)
-        (MakesSend result.answer frame.now host.old host.new) }
-    ensures answers { AnswersSend result.answer frame.now host.old.driver.counts (world_at stations.old place) }
-    ensures leaves { LeavesSend result.answer host.old host.new result.accesses }
+    ensures { SendRuns (played_call place ticks.now outcomes.old outcomes.new result.accesses) frame.now result.answer
+        (connected host.old stations.old) (connected host.new stations.new) }
 {
     let mut bus = LentBus {
         stations,
@@ -78,11 +73,8 @@ pub fn recv_into(
     requires there { place < length stations.old }
     requires ready { HostReady host.old (world_at stations.old place) }
     requires room { length ticks.now ≤ outcomes.old.room }
-    ensures runs { CallRuns place ticks.now stations.old stations.new outcomes.old outcomes.new result.accesses
-        host.old host.new [] (given_by socket (frame_in into.new result.answer)) []
-        (MakesRecv (frame_in into.new result.answer) socket host.old host.new) }
-    ensures answers { AnswersRecv (frame_in into.new result.answer) socket host.old (world_at stations.old place) }
-    ensures leaves { LeavesRecv (frame_in into.new result.answer) socket host.old host.new result.accesses }
+    ensures gives { RecvRuns (played_call place ticks.now outcomes.old outcomes.new result.accesses) socket
+        (frame_in into.new result.answer) (connected host.old stations.old) (connected host.new stations.new) }
     ensures size { IfOk result.answer IsFrameSize }
 {
     let mut bus = LentBus {
@@ -116,11 +108,8 @@ pub fn recv(
     requires there { place < length stations.old }
     requires ready { HostReady host.old (world_at stations.old place) }
     requires room { length ticks.now ≤ outcomes.old.room }
-    ensures runs { CallRuns place ticks.now stations.old stations.new outcomes.old outcomes.new result.accesses
-        host.old host.new [] (given_by socket result.answer) []
-        (MakesRecv result.answer socket host.old host.new) }
-    ensures answers { AnswersRecv result.answer socket host.old (world_at stations.old place) }
-    ensures leaves { LeavesRecv result.answer socket host.old host.new result.accesses }
+    ensures { RecvRuns (played_call place ticks.now outcomes.old outcomes.new result.accesses) socket result.answer
+        (connected host.old stations.old) (connected host.new stations.new) }
 {
     let mut bytes = [0; 1518];
     let called = recv_into(host, stations, place, socket, ticks, outcomes, &mut bytes);
@@ -130,7 +119,7 @@ pub fn recv(
     }
 }
 
-/// The answer with its frame, which stands at the front of these bytes.
+/// The answer with its frame, which is at the front of these bytes.
 fn frame_of(bytes: &[u8; 1518], answer: Result<usize, RecvError>) -> Result<Frame, RecvError>
     requires { IfOk answer IsFrameSize }
     ensures { result ≡ frame_in bytes.now answer }
@@ -152,8 +141,8 @@ pub fn interrupt(
     requires there { place < length stations.old }
     requires ready { HostReady host.old (world_at stations.old place) }
     requires room { length ticks.now ≤ outcomes.old.room }
-    ensures { InterruptRuns result.answer place ticks.now stations.old stations.new outcomes.old outcomes.new
-        result.accesses host.old host.new }
+    ensures { InterruptRuns (played_call place ticks.now outcomes.old outcomes.new result.accesses) result.answer
+        (connected host.old stations.old) (connected host.new stations.new) }
 {
     let mut bus = LentBus {
         stations,

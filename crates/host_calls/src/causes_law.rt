@@ -1,16 +1,15 @@
-// Laws of what an interrupt handler answers.
+// Laws of an interrupt handler's answer.
 
 ghost use Rattle.host_calls.specs.CausesLaws.{AnswersTellCauses, CallsTellCauses};
 ghost use Rattle.host_calls.specs.CausesLaws.{EarlyOutcomesBearZero, FirstReadsStay};
 
 /// An interrupt handler of a host that is ready, called over a lent bus, reads ICR by its first access.
-/// - `answers`: it answers `NotMine` only where no cause for which a driver does something was recorded at
-///   entry, and no step before that access put a frame of this host, missed one, or ended one in memory. It
-///   answers `Handled` only where such a cause was recorded, or a step of this host before that access did
-///   something.
-/// - `calls`: so it does where the bus tells of more than that access, as of the whole call.
-/// - `stay`: whatever comes behind, the first access stays the first.
-/// - `zero`: the outcomes that bear the number 0 are those of the steps before it.
+/// - `answers`: it answers `NotMine` only if no cause that a driver handles was recorded when it was called, and no
+///   step before that access put a frame of this host on the wire, missed one, or wrote one back. It answers `Handled`
+///   only if such a cause was recorded, or a step of this host before that access did something.
+/// - `calls`: the same holds of the accesses of the whole call.
+/// - `stay`: the first access is the first, whatever follows.
+/// - `zero`: the outcomes with number 0 are those of the steps before it.
 pub fn answers_tell_causes()
     ensures answers { AnswersTellCauses }
     ensures calls { CallsTellCauses }

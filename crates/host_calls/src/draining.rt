@@ -1,4 +1,4 @@
-// A host is drained, step by step.
+// Draining a host, step by step.
 
 ghost use Rattle.std.specs.Prelude.{◌≡◌, ◌≢◌, ◌≤◌, ◌<◌, ◌+◌, [], None, IfNone, IfSome, false, length, ℕ};
 ghost use Rattle.registers.specs.Bits.{Meet};
@@ -6,20 +6,21 @@ ghost use Rattle.packet_socket.specs.HostState.{HostState};
 ghost use Rattle.packet_socket.specs.SocketsState.{all_of, queue_at};
 ghost use Rattle.stations.specs.Stations.{world_at};
 ghost use Rattle.host_calls.specs.DrainedHosts.{CanBeDrained, DrainsInto, HoldsNothing, count_held};
-ghost use Rattle.host_calls.specs.DrainSteps.{StepsInto, StepsOn, steps_of};
+ghost use Rattle.host_calls.specs.ConnectedHosts.{connected};
+ghost use Rattle.host_calls.specs.DrainSteps.{StepsInto, StepsOn, outlet, steps_of};
 
 use crate::Outlet;
 use adapter::{StepKind, StepOutcome};
 use packet_socket::Host;
 use stations::{Outcomes, Station, line_at, step_at};
 
-/// Drains a host: gives all that it holds for its sockets to `sink`, and tells in how many steps. `place` is the
-/// host's number. No outcome is noted, as no tick is played inside its calls. What room `sink` had and didn't need is
-/// left.
+/// Drains a host: gives each frame that it holds for its sockets to `sink`, and returns the number of steps. `place` is
+/// the host's number. No outcome is noted, since no tick is played in its calls. `sink` keeps the room that it doesn't
+/// need.
 ///
-/// Each step is the first of these that applies: its adapter ends the frame in work, where there is one; the host
-/// handles an interrupt, where the line is asserted; it gives the oldest frame of its first socket for which one
-/// waits; its adapter moves a frame out of the receive packet buffer, where there is one.
+/// Each step is the first of these that applies. If a frame is in progress, the host's adapter writes back its
+/// descriptor. If the interrupt line is asserted, the host handles an interrupt. If a frame waits for a socket, the
+/// first such socket gives its oldest. If the receive packet buffer has a frame, the adapter moves it to the ring.
 pub fn drain<S: Outlet>(
     host: &mut Host,
     stations: &mut [Station],
@@ -30,8 +31,8 @@ pub fn drain<S: Outlet>(
     requires there { place < length stations.old }
     requires stands { CanBeDrained host.old (world_at stations.old place) }
     requires room { host.old.driver.counts.buffers + 24 ≤ S.places sink.old }
-    ensures drains { DrainsInto result place stations.old stations.new host.old host.new (S.frames sink.old)
-        (S.frames sink.new) }
+    ensures drains { DrainsInto result place (S.frames sink.old) (S.frames sink.new)
+        (connected host.old stations.old) (connected host.new stations.new) }
     ensures left { length (S.frames sink.old) + S.places sink.old ≤ length (S.frames sink.new) + S.places sink.new }
 {
     // A look at the adapter, so that the frames that are held may be counted as those of every adapter.
@@ -54,8 +55,9 @@ fn step<S: Outlet>(
     requires there { place < length stations.old }
     requires stands { CanBeDrained host.old (world_at stations.old place) }
     requires room { count_held host.old (world_at stations.old place) ≤ S.places sink.old }
-    ensures steps { StepsInto (steps_of result) place stations.old stations.new host.old host.new
-        (S.frames sink.old) (S.frames sink.new) (S.places sink.old) (S.places sink.new) }
+    ensures steps { StepsInto (steps_of result) place (outlet (S.frames sink.old) (S.places sink.old))
+        (outlet (S.frames sink.new) (S.places sink.new))
+        (connected host.old stations.old) (connected host.new stations.new) }
     ensures ends { result ≡ false → HoldsNothing host.new (world_at stations.new place) }
 {
     if finish(stations, place) {
@@ -72,11 +74,11 @@ fn step<S: Outlet>(
     move_frame(host, stations, place)
 }
 
-/// The adapter ends the frame in work, if there is one.
+/// The adapter writes back the descriptor of the frame in progress, if there is one.
 fn finish(stations: &mut [Station], place: usize) -> bool
     requires there { place < length stations.old }
     ensures steps { (host : HostState) → CanBeDrained host (world_at stations.old place)
-        → StepsOn (steps_of result) place stations.old stations.new host host [] }
+        → StepsOn (steps_of result) place [] (connected host stations.old) (connected host stations.new) }
     ensures free { (world_at stations.new place).adapter.receiver.work ≡ None }
 {
     matches!(
@@ -92,7 +94,7 @@ fn handle(host: &mut Host, stations: &mut [Station], place: usize, outcomes: &mu
     requires free { (world_at stations.old place).adapter.receiver.work ≡ None }
     requires asserted { Meet (world_at stations.old place).adapter.causes.recorded
         (world_at stations.old place).adapter.causes.mask }
-    ensures { StepsOn 1 place stations.old stations.new host.old host.new [] }
+    ensures { StepsOn 1 place [] (connected host.old stations.old) (connected host.new stations.new) }
 {
     crate::calls::interrupt(host, stations, place, &[], outcomes);
 }
@@ -126,8 +128,9 @@ fn give<S: Outlet>(
     requires known { socket < length host.old.kinds }
     requires waits { queue_at host.old.queues socket ≢ [] }
     requires room { 0 < S.places sink.old }
-    ensures { StepsInto 1 place stations.old stations.new host.old host.new (S.frames sink.old) (S.frames sink.new)
-        (S.places sink.old) (S.places sink.new) }
+    ensures { StepsInto 1 place (outlet (S.frames sink.old) (S.places sink.old))
+        (outlet (S.frames sink.new) (S.places sink.new))
+        (connected host.old stations.old) (connected host.new stations.new) }
 {
     if let Ok(frame) = crate::calls::recv(host, stations, place, socket, &[], outcomes).answer {
         sink.take(socket, &frame);
@@ -142,7 +145,8 @@ fn move_frame(host: &Host, stations: &mut [Station], place: usize) -> bool
     requires quiet { ¬ (Meet (world_at stations.old place).adapter.causes.recorded
         (world_at stations.old place).adapter.causes.mask) }
     requires given { all_of host.now.queues ≡ [] }
-    ensures steps { StepsOn (steps_of result) place stations.old stations.new host.now host.now [] }
+    ensures steps { StepsOn (steps_of result) place [] (connected host.now stations.old)
+        (connected host.now stations.new) }
     ensures ends { result ≡ false → HoldsNothing host.now (world_at stations.new place) }
 {
     // Calls of the layout, so that the clauses may rest on its sizes: a slot at least is offered.

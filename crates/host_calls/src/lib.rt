@@ -1,5 +1,5 @@
-//! Calls of one host over stations that are lent to it, with the ticks that are played inside them; draining a host,
-//! until nothing is held for its sockets; and what the answer of an interrupt handler tells.
+//! Calls of one host in a network, with the ticks that are played inside them; draining a host until it holds no frame
+//! for its sockets; and what the answer of an interrupt handler says of its adapter.
 #![tactic(auto)]
 
 mod calls;

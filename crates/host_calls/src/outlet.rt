@@ -17,7 +17,7 @@ pub trait Outlet {
     fn room(&self) -> usize
         ensures { result ≡ places self.now };
 
-    /// Takes a frame of a socket, behind the others. There is room for one less, at least.
+    /// Appends a frame of a socket. At most one frame's room is used.
     fn take(&mut self, socket: usize, frame: &Frame)
         requires room { 0 < places self.old }
         ensures room { places self.old ≤ places self.new + 1 }

@@ -143,7 +143,7 @@ up-can plans count hosts stations up k plan below there =
     let host = there-is hosts k (omega (arith, below, count_of_hosts)) in
     let station = there-is stations k (omega (arith, below, count_of_stations)) in
     let is = up.each k plan host.0 station.0 there host.1 station.1 in
-    (is.sum, is.comes)
+    (is.devices.sum, is.devices.comes)
 
 pub up-more : (plans : List HostPlan) (count : ℕ) (hosts : List HostState) (stations : List StationState) (host : HostState)
     (station : StationState)

@@ -21,7 +21,7 @@ use Rattle.stations.specs.Stations.{StationState, backlog_at, wire_at, world_at}
 use Rattle.stations.specs.AtomicRuns.{LeadsTo, past_at}
 use Rattle.packet_socket.specs.HeldFrames.{held_for_socket, socket_frames, without_socket}
 use Rattle.packet_socket.specs.HostState.{HostState}
-use Rattle.packet_socket.specs.HostStretches.{Given, given_for}
+use Rattle.packet_socket.specs.HostStretches.{Given, did, given_for}
 use Rattle.packet_socket.specs.SocketKinds.{goes_to, has_none}
 use Rattle.packet_socket.specs.declared.socket_kind.SocketKind.{SocketKind}
 use Rattle.delivery.proofs.Joining.{accepted-append, given-append, marks-append, missed-append, put-append, stored-append, waits-append}
@@ -32,6 +32,7 @@ use Rattle.delivery.specs.Happenings.{Happening, accepted, given, happened_in, m
 use Rattle.delivery.specs.Reception.{LeavesReception, ReceivesRightly}
 use Rattle.host_calls.specs.CallsOfHosts.{HostRuns, IsOfDriver, IsTailWrite}
 use Rattle.wire.specs.Equations.{CountsMisses, CountsUnclaimed, Delivers, kept, sum_of}
+use Rattle.host_calls.specs.ConnectedHosts.{connected}
 
 -- An access of a driver that is up leaves reception alone.
 tail-leaves : (counts : Counts) (offset value : ℕ) → IsTailWrite counts offset value → LeavesReception (Writes offset value)
@@ -189,7 +190,8 @@ pub record Tells (k : ℕ) (happened : List Happening) (steps : List AtomicStep)
 pub delivers-runs : (caller k : ℕ) (steps : List AtomicStep) (happened : List Happening) (a b : List StationState) (h h' : HostState)
     (taken : List (List ℕ)) (given_are : List Given) (accepted_are : List (List ℕ))
     → LeadsTo caller steps a b → HasBit (world_at a k).adapter.filter.rctl rctl_en
-    → HostRuns k steps a b h h' taken given_are accepted_are → Tells k happened steps (wire_at a) given_are accepted_are
+    → HostRuns k steps (did taken given_are accepted_are) (connected h a) (connected h' b)
+    → Tells k happened steps (wire_at a) given_are accepted_are
     → Delivers k happened a b h h'
 delivers-runs caller k steps happened a b h h' taken given_are accepted_are leads enabled runs tells =
     let moves = frames-move caller k steps a b leads in

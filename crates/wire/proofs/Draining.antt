@@ -12,7 +12,8 @@ use Rattle.stations.specs.AtomicSteps.{AtomicStep}
 use Rattle.stations.specs.Stations.{StationState, wire_at, world_at, world_of}
 use Rattle.delivery.specs.Happenings.{Happening, Moved, happened_in, of_host}
 use Rattle.host_calls.specs.DrainedHosts.{CanBeDrained, Drains, DrainsInto, KeepsMisses}
-use Rattle.wire.specs.DrainedNetworks.{NetworkDrains, said_of_drain}
+use Rattle.host_calls.specs.ConnectedHosts.{connected}
+use Rattle.wire.specs.DrainedNetworks.{KeepsCount, NetworkDrains, said_of_drain}
 use Rattle.wire.specs.Equations.{Delivers, IsExact, counted, sum_of}
 use Rattle.wire.specs.Networks.{HostStands, IsHost, NetworkStands, NetworkState}
 use Rattle.wire.specs.EventParts.{HostsGo}
@@ -56,45 +57,45 @@ stays-exact h a h' b keeps is =
 
 pub host-drained : (old : NetworkState) (stations : List StationState) (host steps : ℕ) (h h' : HostState) (before behind : List Given)
     → NetworkStands old → IsHost old host h → host < length old.hosts
-    → DrainsInto steps host old.stations stations h h' before behind
+    → DrainsInto steps host before behind (connected h old.stations) (connected h' stations)
     → NetworkDrains old host steps before behind (record { hosts = slice_set old.hosts host h'; stations = stations })
 host-drained old stations host steps h h' before behind stands there below into =
     let drains = into.drains in
     let new : NetworkState = record { hosts = slice_set old.hosts host h'; stations = stations } in
     let moves = length (world_at old.stations host).adapter.receiver.buffer in
-    let go : HostsGo host (said_of_drain host moves into.given) drains.played old new =
-    hosts-go host (said_of_drain host moves into.given) drains.played old new
-    (λ k. of_host k host drains.taken) (λ k. of_host k host into.given) (λ k. of_host k host []) stands drains.leads
+    let go : HostsGo host (said_of_drain host moves into.given) drains.by.played old new =
+    hosts-go host (said_of_drain host moves into.given) drains.by.played old new
+    (λ k. of_host k host drains.by.taken) (λ k. of_host k host into.given) (λ k. of_host k host []) stands drains.by.leads
     (length-set old.hosts host h')
     (λ k was is first now.
-    each-runs host k drains.played old.stations stations old.hosts h h' was is drains.taken into.given [] drains.leads there
-    drains.runs first now (stands.each k was first).ready)
-    (λ k. tells-drain k host moves into.given drains.played (wire_at old.stations) drains.moved) in
+    each-runs host k drains.by.played old.stations stations old.hosts h h' was is drains.by.taken into.given [] drains.by.leads there
+    drains.by.runs first now (stands.each k was first).ready)
+    (λ k. tells-drain k host moves into.given drains.by.played (wire_at old.stations) drains.by.moved) in
     record {
       given = into.given;
       appended = into.appended;
       drains = λ was is first now.
           let before_is : was ≡ h = (let e : Some h ≡ Some was = sym there ∙ first in cc) in
           let behind_is : is ≡ h' = caller-behind old.hosts host h h' is there now in
-          subst (λ (w : HostState). Drains steps host old.stations stations w is into.given) (sym before_is)
-          (subst (λ (w : HostState). Drains steps host old.stations stations h w into.given) (sym behind_is) drains);
+          subst (λ (w : HostState). Drains steps host into.given (connected w old.stations) (connected is stations)) (sym before_is)
+          (subst (λ (w : HostState). Drains steps host into.given (connected h old.stations) (connected w stations))
+          (sym behind_is) drains);
       counts = λ was is first now.
           let before_is : was ≡ h = (let e : Some h ≡ Some was = sym there ∙ first in cc) in
           let behind_is : is ≡ h' = caller-behind old.hosts host h h' is there now in
-          subst (λ (w : HostState). counted is (world_at stations host) ≡ counted w (world_at old.stations host)) (sym before_is)
-          (subst (λ (w : HostState). counted w (world_at stations host) ≡ counted h (world_at old.stations host)) (sym behind_is)
-          (same-counted h (world_at old.stations host) h' (world_at stations host) drains.misses));
-      exact = λ was is first now. (
-        λ exact. ((go.delivers host was is first now).misses_are_counted.exactly exact).0,
-        (let before_is : was ≡ h = (let e : Some h ≡ Some was = sym there ∙ first in cc) in
-            let behind_is : is ≡ h' = caller-behind old.hosts host h h' is there now in
-            subst (λ (w : HostState). IsExact w (world_at old.stations host) → IsExact is (world_at stations host)) (sym before_is)
-            (subst (λ (w : HostState). IsExact h (world_at old.stations host) → IsExact w (world_at stations host)) (sym behind_is)
-            (stays-exact h (world_at old.stations host) h' (world_at stations host) drains.misses))),
-      );
+          let a = world_at old.stations host in
+          let b = world_at stations host in
+          subst (λ (w : HostState). KeepsCount w a is b) (sym before_is)
+          (subst (λ (w : HostState). KeepsCount h a w b) (sym behind_is)
+          (record {
+            counted = same-counted h a h' b drains.misses;
+            exact = (
+              λ exact. ((go.delivers host h h' there (subst (IsHost new host) behind_is now)).misses_are_counted.exactly exact).0,
+              stays-exact h a h' b drains.misses,
+            );
+          }));
       absent = λ past. absurd (omega (arith, past, below));
-      hosts = go.hosts;
-      others = λ k other. slice_get-set_other old.hosts host k h' other;
+      others = record { count = go.hosts; same = λ k other. slice_get-set_other old.hosts host k h' other };
       delivers = go.delivers;
       stands = go.stands;
     }
@@ -112,10 +113,8 @@ absent-drained old host before stands past =
       appended = sym (append-nil before);
       drains = λ was is first now. absurd (let e : Some was ≡ None = sym first ∙ nobody in cc);
       counts = λ was is first now. absurd (let e : Some was ≡ None = sym first ∙ nobody in cc);
-      exact = λ was is first now. absurd (let e : Some was ≡ None = sym first ∙ nobody in cc);
       absent = λ beyond. (refl, refl, refl);
-      hosts = refl;
-      others = λ k other. refl;
+      others = record { count = refl; same = λ k other. refl };
       delivers = λ k was is first now.
           let same : is ≡ was = (let e : Some was ≡ Some is = sym first ∙ now in cc) in
           subst (λ (n : ℕ). Delivers k (said_of_drain host n []) old.stations old.stations was is) (sym none)

@@ -114,13 +114,15 @@ no-frames plan old new host wire is =
           ap (λ (h : HostState). h.queues) is.host_is
           ∙ ap (λ (kinds : List SocketKind). replicate (length kinds) []) (sym (ap (λ (h : HostState). h.kinds) is.host_is));
       backlog = refl;
-      missed = ap (λ (d : DriverState). d.missed) is.fresh;
-      exact = ap (λ (d : DriverState). d.exact) is.fresh;
-      missed_packets = omega (arith, init.missed_most, later.none.none_missed);
-      without_descriptor = counts.no_descriptor;
-      received = counts.none_received;
-      transmitted = counts.none_transmitted;
-      unclaimed = ap (λ (h : HostState). h.unclaimed) is.host_is;
+      counts = record {
+        missed = ap (λ (d : DriverState). d.missed) is.fresh;
+        exact = ap (λ (d : DriverState). d.exact) is.fresh;
+        missed_packets = omega (arith, init.missed_most, later.none.none_missed);
+        without_descriptor = counts.no_descriptor;
+        received = counts.none_received;
+        transmitted = counts.none_transmitted;
+        unclaimed = ap (λ (h : HostState). h.unclaimed) is.host_is;
+      };
     }
 
 pub comes-up : (plan : HostPlan) (old new : SoloState) (host : HostState) (wire : ℕ) → IsBroughtUp plan old new host
@@ -134,20 +136,26 @@ comes-up plan old new host wire is =
     subst (λ (words : List ℕ). IsConfigured plan.config (address_bytes words) (settings_of new.world.adapter)) image
     init.configured in
     record {
-      ready = is.ready;
-      work = init.work;
-      refilled = is.refilled;
-      offered = ap (λ (d : DriverState). d.staged) is.fresh;
-      can = can-answer plan is.size host.driver new.world is.had counts init.ready configured;
-      counts = counts;
-      memory = is.memory;
-      kinds = ap (λ (h : HostState). h.kinds) is.host_is;
-      allocation = configured.allocation;
-      filter = plans-filter plan (settings_of new.world.adapter) is.address configured;
-      image = init.image ∙ image;
-      sum = subst HasRightSum image init.sum;
-      link_is = phy.link_is;
-      comes = link-comes plan.link new.world.adapter.phy phy init.up.up;
-      link = init.up;
+      ready = record {
+        ready = is.ready;
+        work = init.work;
+        refilled = is.refilled;
+        offered = ap (λ (d : DriverState). d.staged) is.fresh;
+        can = can-answer plan is.size host.driver new.world is.had counts init.ready configured;
+      };
+      sizes = record {
+        counts = counts;
+        memory = is.memory;
+        kinds = ap (λ (h : HostState). h.kinds) is.host_is;
+        allocation = configured.allocation;
+        filter = plans-filter plan (settings_of new.world.adapter) is.address configured;
+      };
+      devices = record {
+        image = init.image ∙ image;
+        sum = subst HasRightSum image init.sum;
+        link_is = phy.link_is;
+        comes = link-comes plan.link new.world.adapter.phy phy init.up.up;
+        link = init.up;
+      };
       no_frames = no-frames plan old new host wire is;
     }

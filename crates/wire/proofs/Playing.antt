@@ -9,7 +9,7 @@ use Rattle.bus.specs.TickGroups.{without_go}
 use Rattle.bus.specs.declared.event.Access.{Access}
 use Rattle.circular_buffer.proofs.Places.{slice_get-set_other}
 use Rattle.packet_socket.specs.HostState.{HostState}
-use Rattle.packet_socket.specs.HostStretches.{Given}
+use Rattle.packet_socket.specs.HostStretches.{Given, did}
 use Rattle.stations.specs.AtomicSteps.{AtomicStep}
 use Rattle.stations.specs.Outcomes.{OutcomeList}
 use Rattle.stations.specs.Stations.{StationState, wire_at}
@@ -25,18 +25,19 @@ use Rattle.network_plan.specs.declared.reply.Reply.{Reply}
 use Rattle.host_calls.proofs.Calling.{runs-alone}
 use Rattle.host_calls.proofs.HostTrails.{happens-alone, none-alone}
 use Rattle.host_calls.specs.CallsOfHosts.{CallRuns, HostRuns, IsOfDriver}
-use Rattle.wire.specs.EventParts.{CallPlayed, HostsGo}
+use Rattle.host_calls.specs.ConnectedHosts.{ConnectedHost, connected, played_call}
+use Rattle.wire.specs.EventParts.{CallPlayed, HostsGo, ticked}
 use Rattle.wire.specs.Networks.{IsHost, NetworkStands, NetworkState}
 use Rattle.wire.proofs.Delivering.{Tells}
 use Rattle.wire.proofs.Standing.{caller-behind, each-runs, hosts-go}
-use Rattle.wire.proofs.Tellings.{tells-call}
 
 -- What the call of a host that is there tells of all hosts.
 pub call-goes : (caller : ℕ) (ticks : List Tick) (old : NetworkState) (stations : List StationState) (before behind : OutcomeList)
     (accesses : ℕ) (h h' : HostState) (taken : List (List ℕ)) (given : List Given) (accepted : List (List ℕ)) (made : List Access → Type 0)
     (happened : List Happening)
     → NetworkStands old → IsHost old caller h
-    → (runs : CallRuns caller ticks old.stations stations before behind accesses h h' taken given accepted made)
+    → (runs : CallRuns (played_call caller ticks before behind accesses) (did taken given accepted) made (connected h old.stations)
+    (connected h' stations))
     → ((k : ℕ) → Tells k happened runs.steps (wire_at old.stations) (of_host k caller given) (of_host k caller accepted))
     → HostsGo caller happened runs.steps old (record { hosts = slice_set old.hosts caller h'; stations = stations })
 call-goes caller ticks old stations before behind accesses h h' taken given accepted made happened stands there runs tells =
@@ -52,14 +53,15 @@ call-goes caller ticks old stations before behind accesses h h' taken given acce
 pub call-played : (caller : ℕ) (ticks : List Tick) (old : NetworkState) (stations : List StationState) (before behind : OutcomeList)
     (h h' : HostState) (taken : List (List ℕ)) (given : List Given) (accepted : List (List ℕ)) (made : List Access → Type 0)
     (happened : List Happening) (reply : Reply)
-    (answers : Answer → (h h' : HostState) → List AtomicStep → (old new : List StationState) → Type 0)
+    (answers : Answer → List AtomicStep → (old new : ConnectedHost) → Type 0)
     → NetworkStands old → IsHost old caller h → caller < length old.hosts → before.list ≡ [] → reply.outcomes ≡ behind
     → reply.answer ≢ NoHost
-    → (runs : CallRuns caller ticks old.stations stations before behind reply.accesses h h' taken given accepted made)
+    → (runs : CallRuns (played_call caller ticks before behind reply.accesses) (did taken given accepted) made (connected h old.stations)
+    (connected h' stations))
     → ((k : ℕ) → told ticks reply.outcomes.list ≡ happened_in runs.steps
     → Tells k happened runs.steps (wire_at old.stations) (of_host k caller given) (of_host k caller accepted))
-    → answers reply.answer h h' runs.steps old.stations stations
-    → CallPlayed caller ticks happened reply answers old (record { hosts = slice_set old.hosts caller h'; stations = stations })
+    → answers reply.answer runs.steps (connected h old.stations) (connected h' stations)
+    → CallPlayed (ticked caller ticks) happened reply answers old (record { hosts = slice_set old.hosts caller h'; stations = stations })
 call-played caller ticks old stations before behind h h' taken given accepted made happened reply answers stands there below empty same
     some runs tells answer =
     let noted : reply.outcomes.list ≡ noted_of 0 runs.steps =
@@ -70,24 +72,27 @@ call-played caller ticks old stations before behind h h' taken given accepted ma
       steps = runs.steps;
       go = call-goes caller ticks old stations before behind reply.accesses h h' taken given accepted made happened stands there runs
           (λ k. tells k said);
-      played = runs.are_told.played;
-      counted = runs.are_told.counted;
-      accesses = λ was then.
-          let same_host : was ≡ h = let e : Some h ≡ Some was = sym there ∙ then in cc in (
-            subst (λ (w : HostState). All (IsOfDriver w.driver.counts) (past_at caller runs.steps).accesses) (sym same_host)
-                runs.runs.accesses,
-            runs.last_writes,
-          );
-      unmade = λ past. absurd (omega (arith, past, below));
-      outcomes = noted;
-      numbered = ap Rattle.delivery.specs.TickNumbers.numbers_of noted ∙ runs.are_told.numbered;
-      no_host = (λ none. absurd (some none), λ low. absurd (omega (arith, low, below)));
+      told = record {
+        played = runs.are_told.played;
+        accesses = λ was then.
+            let same_host : was ≡ h = let e : Some h ≡ Some was = sym there ∙ then in cc in (
+              subst (λ (w : HostState). All (IsOfDriver w.driver.counts) (past_at caller runs.steps).accesses) (sym same_host)
+                  runs.runs.accesses,
+              runs.last_writes,
+            );
+        unmade = λ past. absurd (omega (arith, past, below));
+        no_host = (λ none. absurd (some none), λ low. absurd (omega (arith, low, below)));
+        counted = runs.are_told.counted;
+        outcomes = noted;
+        numbered = ap Rattle.delivery.specs.TickNumbers.numbers_of noted ∙ runs.are_told.numbered;
+        others = λ k other. slice_get-set_other old.hosts caller k h' other;
+      };
       answer = λ was is then now.
           let before_is : was ≡ h = let e : Some h ≡ Some was = sym there ∙ then in cc in
           let behind_is : is ≡ h' = caller-behind old.hosts caller h h' is there now in
-          subst (λ (w : HostState). answers reply.answer w is runs.steps old.stations stations) (sym before_is)
-          (subst (λ (w : HostState). answers reply.answer h w runs.steps old.stations stations) (sym behind_is) answer);
-      others = λ k other. slice_get-set_other old.hosts caller k h' other;
+          subst (λ (w : HostState). answers reply.answer runs.steps (connected w old.stations) (connected is stations)) (sym before_is)
+          (subst (λ (w : HostState). answers reply.answer runs.steps (connected h old.stations) (connected w stations)) (sym behind_is)
+          answer);
     }
 
 -- Ticks that are played in no call.
@@ -95,10 +100,11 @@ call-played caller ticks old stations before behind h h' taken given accepted ma
 ticks-run : (k : ℕ) (steps : List AtomicStep) (old : NetworkState) (stations : List StationState) (was is : HostState) → NetworkStands old
     → All Rattle.stations.specs.AtomicRuns.IsTick steps
     → Rattle.stations.specs.AtomicRuns.LeadsTo k steps old.stations stations → slice_get old.hosts k ≡ Some was
-    → slice_get old.hosts k ≡ Some is → HostRuns k steps old.stations stations was is [] [] []
+    → slice_get old.hosts k ≡ Some is
+    → HostRuns k steps (did [] [] []) (connected was old.stations) (connected is stations)
 ticks-run k steps old stations was is stands are leads then now =
     let same : is ≡ was = let e : Some was ≡ Some is = sym then ∙ now in cc in
-    subst (λ (w : HostState). HostRuns k steps old.stations stations was w [] [] []) (sym same)
+    subst (λ (w : HostState). HostRuns k steps (did [] [] []) (connected was old.stations) (connected w stations)) (sym same)
     (runs-alone k steps old.stations stations was (stands.each k was then).ready
     (happens-alone k k steps old.stations stations are leads) (none-alone k steps are))
 
@@ -115,11 +121,11 @@ ticks-go caller happened steps old stations stands are leads tells =
 -- A call for a host that isn't there.
 pub absent-played : (caller : ℕ) (ticks : List Tick) (old : NetworkState) (stations : List StationState) (before : OutcomeList)
     (reply : Reply) (happened : List Happening)
-    (answers : Answer → (h h' : HostState) → List AtomicStep → (old new : List StationState) → Type 0)
+    (answers : Answer → List AtomicStep → (old new : ConnectedHost) → Type 0)
     → NetworkStands old → length old.hosts ≤ caller → before.list ≡ [] → reply.answer ≡ NoHost → reply.accesses ≡ 0
     → (plays : PlaysTicks old.stations (without_go is_go ticks) 0 before reply.outcomes stations)
     → happened ≡ told ticks reply.outcomes.list
-    → CallPlayed caller ticks happened reply answers old (record { hosts = old.hosts; stations = stations })
+    → CallPlayed (ticked caller ticks) happened reply answers old (record { hosts = old.hosts; stations = stations })
 absent-played caller ticks old stations before reply happened answers stands past empty none zero plays is =
     let noted : reply.outcomes.list ≡ noted_of 0 plays.steps =
     plays.noted ∙ ap (λ (list : List Numbered). list ++ noted_of 0 plays.steps) empty in
@@ -131,17 +137,19 @@ absent-played caller ticks old stations before reply happened answers stands pas
       go = ticks-go caller happened plays.steps old stations stands plays.are plays.leads
           (λ k. subst (λ (list : List Happening). Tells k list plays.steps (wire_at old.stations) [] []) (sym said)
           (Rattle.wire.proofs.Tellings.tells-steps k plays.steps (wire_at old.stations)));
-      played = tells.played;
-      counted = zero ∙ sym tells.counted;
-      accesses = λ was then. absurd (let gone = slice_get_past old.hosts caller past in
-          let e : Some was ≡ None = sym then ∙ gone in cc);
-      unmade = λ past. none-alone caller plays.steps plays.are;
-      outcomes = noted;
-      numbered =
-          ap Rattle.delivery.specs.TickNumbers.numbers_of noted ∙ sym tells.numbered
-          ∙ ap (Rattle.delivery.specs.TickNumbers.numbers ticks 0) (sym zero);
-      no_host = (λ same. past, λ low. none);
+      told = record {
+        played = tells.played;
+        accesses = λ was then. absurd (let gone = slice_get_past old.hosts caller past in
+            let e : Some was ≡ None = sym then ∙ gone in cc);
+        unmade = λ past. none-alone caller plays.steps plays.are;
+        no_host = (λ same. past, λ low. none);
+        counted = zero ∙ sym tells.counted;
+        outcomes = noted;
+        numbered =
+            ap Rattle.delivery.specs.TickNumbers.numbers_of noted ∙ sym tells.numbered
+            ∙ ap (Rattle.delivery.specs.TickNumbers.numbers ticks 0) (sym zero);
+        others = λ k other. refl;
+      };
       answer = λ was is then now. absurd (let gone = slice_get_past old.hosts caller past in
           let e : Some was ≡ None = sym then ∙ gone in cc);
-      others = λ k other. refl;
     }

@@ -1,6 +1,6 @@
 -- Events as they are told, and runs of them.
 use Rattle.std.proofs.Common.{◌≡◌, ◌++◌, ◌∷◌, [], ℕ, List, Some, Vec, Global, refl, sym, ap}
-use Rattle.std.proofs.Common.{subst, ◌∙◌, append_assoc, arith, rules}
+use Rattle.std.proofs.Common.{subst, ◌∙◌, append_assoc, arith}
 use Rattle.std.proofs.lemmas.List.{append-nil}
 use Rattle.std.proofs.lemmas.Option.{slice_get_within}
 use Rattle.circular_buffer.proofs.Places.{slice_get-some}
@@ -13,7 +13,7 @@ use Rattle.host_calls.proofs.HostTrails.{none-alone}
 use Rattle.network_plan.specs.declared.event.Event.{Event}
 use Rattle.network_plan.specs.declared.event.Event.TheVariants.{Interrupt, Recv, Send, Tick as Alone}
 use Rattle.network_plan.specs.declared.reply.Reply.{Reply}
-use Rattle.wire.specs.EventParts.{CallPlayed, IsInterruptAnswer, IsRecvAnswer, IsSendAnswer, TickPlayed}
+use Rattle.wire.specs.EventParts.{CallPlayed, IsInterruptAnswer, IsRecvAnswer, IsSendAnswer, TickPlayed, ticked}
 use Rattle.wire.specs.Equations.{Delivers}
 use Rattle.wire.specs.Networks.{NetworkStands, NetworkState}
 use Rattle.wire.specs.Runs.{EventRuns, RunsTo, StatesRun, accepted_of, caller_of, given_of, happenings, said}
@@ -24,21 +24,24 @@ use Rattle.wire.proofs.Tellings.{tells-steps}
 -- Events. What is said of each is said of its call.
 
 pub send-event : (old new : NetworkState) (host : ℕ) (frame : Vec ℕ Global) (ticks : Vec Tick Global) (reply : Reply)
-    → CallPlayed host ticks.items (accepted_of host frame.items reply.answer ++ told ticks.items reply.outcomes.list) reply
+    → CallPlayed (ticked host ticks.items) (accepted_of host frame.items reply.answer ++ told ticks.items reply.outcomes.list) reply
     (IsSendAnswer host frame.items) old new → NetworkStands old
     → EventRuns old (Send host frame ticks) reply new
-send-event old new host frame ticks reply played stood = search rules
+send-event old new host frame ticks reply played stood =
+    record { stood = stood; steps = played.steps; go = played.go; told = played.told; answer = played.answer }
 
 pub recv-event : (old new : NetworkState) (host socket : ℕ) (ticks : Vec Tick Global) (reply : Reply)
-    → CallPlayed host ticks.items (told ticks.items reply.outcomes.list ++ given_of host socket reply.answer) reply
+    → CallPlayed (ticked host ticks.items) (told ticks.items reply.outcomes.list ++ given_of host socket reply.answer) reply
     (IsRecvAnswer host socket) old new → NetworkStands old
     → EventRuns old (Recv host socket ticks) reply new
-recv-event old new host socket ticks reply played stood = search rules
+recv-event old new host socket ticks reply played stood =
+    record { stood = stood; steps = played.steps; go = played.go; told = played.told; answer = played.answer }
 
 pub interrupt-event : (old new : NetworkState) (host : ℕ) (ticks : Vec Tick Global) (reply : Reply)
-    → CallPlayed host ticks.items (told ticks.items reply.outcomes.list) reply (IsInterruptAnswer host) old new → NetworkStands old
+    → CallPlayed (ticked host ticks.items) (told ticks.items reply.outcomes.list) reply (IsInterruptAnswer host) old new → NetworkStands old
     → EventRuns old (Interrupt host ticks) reply new
-interrupt-event old new host ticks reply played stood = search rules
+interrupt-event old new host ticks reply played stood =
+    record { stood = stood; steps = played.steps; go = played.go; told = played.told; answer = played.answer }
 
 pub tick-event : (old : NetworkState) (stations : List StationState) (tick : Tick) (reply : Reply) → NetworkStands old
     → TickPlayed tick reply old.stations stations
@@ -50,22 +53,17 @@ tick-event old stations tick reply stands played =
     record {
       stood = stands;
       steps = played.steps;
-      leads = go.leads;
-      played = played.played;
-      accesses = λ was then. none-alone 0 played.steps played.are;
-      unmade = λ past. none-alone 0 played.steps played.are;
-      counted = played.counted;
-      outcomes = played.outcomes;
-      numbered = played.numbered;
-      no_host = played.answer;
+      go = go;
+      told = record {
+        played = played.played;
+        accesses = λ k. none-alone k played.steps played.are;
+        counted = played.counted;
+        outcomes = played.outcomes;
+        numbered = played.numbered;
+        answer = played.answer;
+        others = refl;
+      };
       answer = λ was is then now. played.answer;
-      hosts = go.hosts;
-      others = refl;
-      delivers = go.delivers;
-      ticks = go.ticks;
-      absent = go.absent;
-      counts = go.counts;
-      stands = go.stands;
     }
 
 -- Runs.
@@ -99,7 +97,7 @@ wires-of old [] (first ∷ replies) new states host = absurd states
 wires-of old (first ∷ events) [] new states host = absurd states
 wires-of old (first ∷ events) (one ∷ replies) new states host =
     wires-of states.0 events replies new states.2 host
-    ∙ wires-stay (caller_of first) host states.1.steps old.stations states.0.stations states.1.leads
+    ∙ wires-stay (caller_of first) host states.1.steps old.stations states.0.stations states.1.go.leads
 
 pub runs-none : (old : NetworkState) (before : List Reply) → RunsTo old [] before before old
 runs-none old before = record {
@@ -122,7 +120,7 @@ runs-more old events before behind middle event reply last new runs one is = rec
   appended =
       is ∙ ap (λ (list : List Reply). list ++ reply ∷ []) runs.appended ∙ append_assoc before runs.replies (reply ∷ []);
   states = states-more old events runs.replies middle event reply new runs.states one;
-  hosts = one.hosts ∙ runs.hosts;
+  hosts = one.go.hosts ∙ runs.hosts;
   delivers = λ k was now then here.
       let some = slice_get-some middle.hosts k
       (let below = slice_get_within old.hosts k was then in
@@ -131,7 +129,7 @@ runs-more old events before behind middle event reply last new runs one is = rec
       (sym (happenings-more old events runs.replies middle event reply runs.states))
       (delivers-join k (happenings events runs.replies) (said event reply) old.stations middle.stations new.stations was some.0 now
       (wires-of old events runs.replies middle runs.states) (runs.delivers k was some.0 then some.1)
-      (one.delivers k some.0 now some.1 here));
+      (one.go.delivers k some.0 now some.1 here));
 }
 
 -- Runs join.

@@ -26,7 +26,7 @@ use Rattle.driver_law.proofs.FramesCounted.{slots_have_frames}
 use Rattle.driver_law.specs.Stretches.{HasNoForgottenWork, IsRefilled}
 use Rattle.packet_socket.specs.HeldFrames.{HostReady, driver_of}
 use Rattle.packet_socket.specs.HostState.{HostState}
-use Rattle.packet_socket.specs.HostStretches.{Given}
+use Rattle.packet_socket.specs.HostStretches.{Given, did}
 use Rattle.delivery.proofs.Waiting.{length-stays}
 use Rattle.delivery.specs.Happenings.{Happening, of_host}
 use Rattle.delivery.proofs.HostSteps.{trail-goes}
@@ -35,6 +35,7 @@ use Rattle.delivery.specs.Counts.{tail_of}
 use Rattle.delivery.specs.CountedHosts.{CanAnswer, CanBeCounted, IsCounted, IsCountedWrite}
 use Rattle.host_calls.proofs.Calling.{others-run, ready-behind}
 use Rattle.host_calls.specs.CallsOfHosts.{HostRuns, IsOfDriver, IsTailWrite}
+use Rattle.host_calls.specs.ConnectedHosts.{connected}
 use Rattle.wire.specs.EventParts.{HostsGo}
 use Rattle.wire.specs.Networks.{HostStands, IsHost, NetworkStands, NetworkState}
 use Rattle.wire.proofs.Delivering.{Tells, delivers-runs}
@@ -84,18 +85,20 @@ stands-with h world ready work refilled offered can exactly = record {
   can = can;
   one_owner = ready.ready.driver_is.one_owner;
   sends_at_most = (slots_have_frames (driver_of h world) world ready.ready).most;
-  reads_exactly = exactly;
-  counts_exactly = λ small. record {
-    exact = exactly (omega (arith, small));
-    below_greatest = omega (arith, small);
-    fits = omega (arith, small);
+  exact = record {
+    reads = exactly;
+    counts = λ small. record {
+      exact = exactly (omega (arith, small));
+      below_greatest = omega (arith, small);
+      fits = omega (arith, small);
+    };
   };
 }
 
 -- A host that stood stands.
 pub stands-behind : (caller k : ℕ) (steps : List AtomicStep) (a b : List StationState) (h h' : HostState) (taken : List (List ℕ))
     (given : List Given) (accepted : List (List ℕ))
-    → LeadsTo caller steps a b → HostStands h (world_at a k) → HostRuns k steps a b h h' taken given accepted
+    → LeadsTo caller steps a b → HostStands h (world_at a k) → HostRuns k steps (did taken given accepted) (connected h a) (connected h' b)
     → HostStands h' (world_at b k)
 stands-behind caller k steps a b h h' taken given accepted leads stands runs =
     stands-with h' (world_at b k)
@@ -105,7 +108,7 @@ stands-behind caller k steps a b h h' taken given accepted leads stands runs =
     (count_of (transmit_ring (world_at a k))) refl refl
     (all-counted h (world_at a k) (past_at k steps).accesses stands.ready runs.accesses) (trail-of caller k steps a b leads)
     stands.can).can
-    (runs.flows.flows.small stands.reads_exactly)
+    (runs.flows.flows.small stands.exact.reads)
 
 -- Which host is which.
 
@@ -129,25 +132,30 @@ other-behind hosts caller k h h' h'' other is new =
 -- what each host does
 pub each-runs : (caller k : ℕ) (steps : List AtomicStep) (a b : List StationState) (hosts : List HostState) (h h' was is : HostState)
     (taken : List (List ℕ)) (given : List Given) (accepted : List (List ℕ))
-    → LeadsTo caller steps a b → slice_get hosts caller ≡ Some h → HostRuns caller steps a b h h' taken given accepted
+    → LeadsTo caller steps a b → slice_get hosts caller ≡ Some h
+    → HostRuns caller steps (did taken given accepted) (connected h a) (connected h' b)
     → slice_get hosts k ≡ Some was → slice_get (slice_set hosts caller h') k ≡ Some is → HostReady was (world_at a k)
-    → HostRuns k steps a b was is (of_host k caller taken) (of_host k caller given) (of_host k caller accepted)
+    → HostRuns k steps (did (of_host k caller taken) (of_host k caller given) (of_host k caller accepted)) (connected was a)
+    (connected is b)
 each-runs caller k steps a b hosts h h' was is taken given accepted leads there runs old new ready =
     elim (eqb_tells k caller) [
       | inl same ↦
           let before : was ≡ h = same-host hosts caller h was there (subst (λ (n : ℕ). slice_get hosts n ≡ Some was) same.1 old) in
           let behind : is ≡ h' = caller-behind hosts caller h h' is there
           (subst (λ (n : ℕ). slice_get (slice_set hosts caller h') n ≡ Some is) same.1 new) in
-          subst (λ (here : Bool). HostRuns k steps a b was is (if here then taken else []) (if here then given else [])
-          (if here then accepted else [])) (sym same.0)
-          (subst (λ (n : ℕ). HostRuns n steps a b was is taken given accepted) (sym same.1)
-          (subst (λ (w : HostState). HostRuns caller steps a b w is taken given accepted) (sym before)
-          (subst (λ (w : HostState). HostRuns caller steps a b h w taken given accepted) (sym behind) runs)))
+          subst (λ (here : Bool). HostRuns k steps
+          (did (if here then taken else []) (if here then given else []) (if here then accepted else [])) (connected was a)
+          (connected is b)) (sym same.0)
+          (subst (λ (n : ℕ). HostRuns n steps (did taken given accepted) (connected was a) (connected is b)) (sym same.1)
+          (subst (λ (w : HostState). HostRuns caller steps (did taken given accepted) (connected w a) (connected is b)) (sym before)
+          (subst (λ (w : HostState). HostRuns caller steps (did taken given accepted) (connected h a) (connected w b)) (sym behind)
+          runs)))
       | inr differ ↦
           let stays : is ≡ was = other-behind hosts caller k was h' is differ.1 old new in
-          subst (λ (here : Bool). HostRuns k steps a b was is (if here then taken else []) (if here then given else [])
-          (if here then accepted else [])) (sym differ.0)
-          (subst (λ (w : HostState). HostRuns k steps a b was w [] [] []) (sym stays)
+          subst (λ (here : Bool). HostRuns k steps
+          (did (if here then taken else []) (if here then given else []) (if here then accepted else [])) (connected was a)
+          (connected is b)) (sym differ.0)
+          (subst (λ (w : HostState). HostRuns k steps (did [] [] []) (connected was a) (connected w b)) (sym stays)
           (others-run caller k steps a b was differ.1 leads ready))
     ]
 
@@ -164,7 +172,7 @@ pub hosts-go : (caller : ℕ) (happened : List Happening) (steps : List AtomicSt
     (taken : ℕ → List (List ℕ)) (given : ℕ → List Given) (accepted : ℕ → List (List ℕ))
     → NetworkStands old → LeadsTo caller steps old.stations new.stations → length new.hosts ≡ length old.hosts
     → ((k : ℕ) (was is : HostState) → IsHost old k was → IsHost new k is
-    → HostRuns k steps old.stations new.stations was is (taken k) (given k) (accepted k))
+    → HostRuns k steps (did (taken k) (given k) (accepted k)) (connected was old.stations) (connected is new.stations))
     → ((k : ℕ) → Tells k happened steps (wire_at old.stations) (given k) (accepted k))
     → HostsGo caller happened steps old new
 hosts-go caller happened steps old new taken given accepted stands leads same runs tells = record {
@@ -173,22 +181,24 @@ hosts-go caller happened steps old new taken given accepted stands leads same ru
   delivers = λ k was is there here.
       delivers-runs caller k steps happened old.stations new.stations was is (taken k) (given k) (accepted k) leads
       (stands.each k was there).can.receives (runs k was is there here) (tells k);
-  ticks = λ k was there.
-      let some = slice_get-some new.hosts k (let below = slice_get_within old.hosts k was there in omega (arith, below, same)) in
-      let run = runs k was some.0 there some.1 in
-      let stood = stands.each k was there in
-      let behind = ready-behind was (world_at old.stations k) some.0 (world_at new.stations k) (taken k) (given k) (accepted k)
-      (past_at k steps) run.flows in
-      ticks-answered caller k steps old.stations new.stations leads
-      (can-count k steps old.stations was stood run.accesses)
-      (record { receiver = behind.ready.runs.receiver_runs; transmitter = behind.ready.runs.transmitter_runs });
-  counts = λ k was there.
-      let some = slice_get-some new.hosts k (let below = slice_get_within old.hosts k was there in omega (arith, below, same)) in
-      counts-go caller k steps old.stations new.stations leads
-      (can-count k steps old.stations was (stands.each k was there) (runs k was some.0 there some.1).accesses);
-  absent = λ k past.
-      absent-nothing caller k steps old.stations new.stations leads
-      (slice_get_past old.stations k (let length_same = stands.same in omega (arith, past, length_same)));
+  ticks = record {
+    there = λ k was there.
+        let some = slice_get-some new.hosts k (let below = slice_get_within old.hosts k was there in omega (arith, below, same)) in
+        let run = runs k was some.0 there some.1 in
+        let stood = stands.each k was there in
+        let behind = ready-behind was (world_at old.stations k) some.0 (world_at new.stations k) (taken k) (given k) (accepted k)
+        (past_at k steps) run.flows in
+        ticks-answered caller k steps old.stations new.stations leads
+        (can-count k steps old.stations was stood run.accesses)
+        (record { receiver = behind.ready.runs.receiver_runs; transmitter = behind.ready.runs.transmitter_runs });
+    absent = λ k past.
+        absent-nothing caller k steps old.stations new.stations leads
+        (slice_get_past old.stations k (let length_same = stands.same in omega (arith, past, length_same)));
+    counts = λ k was there.
+        let some = slice_get-some new.hosts k (let below = slice_get_within old.hosts k was there in omega (arith, below, same)) in
+        counts-go caller k steps old.stations new.stations leads
+        (can-count k steps old.stations was (stands.each k was there) (runs k was some.0 there some.1).accesses);
+  };
   stands = record {
     same = length-stays caller steps old.stations new.stations leads ∙ stands.same ∙ sym same;
     each = λ k is here.

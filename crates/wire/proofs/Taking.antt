@@ -12,6 +12,8 @@ use Rattle.packet_socket.specs.HostState.{HostState}
 use Rattle.packet_socket.specs.SocketKinds.{goes_to}
 use Rattle.packet_socket.specs.declared.socket_kind.SocketKind.{SocketKind}
 use Rattle.host_calls.specs.CallsOfHosts.{HostRuns}
+use Rattle.packet_socket.specs.HostStretches.{did}
+use Rattle.host_calls.specs.ConnectedHosts.{connected}
 use Rattle.wire.specs.EventParts.{TakesFrames}
 
 part-append : (kinds : List SocketKind) (socket : ℕ) (xs ys : List (List ℕ))
@@ -33,7 +35,7 @@ queue-grows kinds socket waiting before taken now held stored left account =
     ∙ sym (append_assoc before (part taken) (part now)))
 
 pub takes-frames : (k : ℕ) (steps : List AtomicStep) (a b : List StationState) (h h' : HostState) (taken : List (List ℕ))
-    → HostRuns k steps a b h h' taken [] [] → TakesFrames k steps h h' a b taken
+    → HostRuns k steps (did taken [] []) (connected h a) (connected h' b) → TakesFrames k steps taken (connected h a) (connected h' b)
 takes-frames k steps a b h h' taken runs =
     let held = frames_held h.driver.oldest_receive (world_at a k) in
     let now = frames_held h'.driver.oldest_receive (world_at b k) in

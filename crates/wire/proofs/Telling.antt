@@ -11,7 +11,7 @@ use Rattle.delivery.specs.Happenings.{Happening, told}
 use Rattle.network_plan.specs.declared.event.Event.{Event}
 use Rattle.network_plan.specs.declared.event.Event.TheVariants.{Interrupt, Recv, Send, Tick as Alone}
 use Rattle.network_plan.specs.declared.reply.Reply.{Reply}
-use Rattle.wire.specs.EventParts.{CallPlayed, HostsGo, IsInterruptAnswer, IsRecvAnswer, IsSendAnswer, TickPlayed}
+use Rattle.wire.specs.EventParts.{CallPlayed, HostsGo, IsInterruptAnswer, IsRecvAnswer, IsSendAnswer, TickPlayed, ticked}
 use Rattle.wire.specs.Networks.{NetworkStands, NetworkState}
 use Rattle.wire.specs.Runs.{EventRuns, accepted_of, given_of}
 use Rattle.wire.specs.declared.lan.Lan.TheInside.{Inside}
@@ -44,34 +44,37 @@ told-as args old new now event was reply old_is event_is now_is runs =
 pub send-told : (args old new now : NetworkState) (event : Event) (host : ℕ) (frame : Vec ℕ Global) (ticks : Vec Tick Global)
     (reply : Reply) (bytes : List ℕ) (list : List Tick) → old ≡ args → event ≡ Send host frame ticks → bytes ≡ frame.items
     → list ≡ ticks.items → now ≡ new
-    → CallPlayed host list (accepted_of host bytes reply.answer ++ told list reply.outcomes.list) reply (IsSendAnswer host bytes) old new
+    → CallPlayed (ticked host list) (accepted_of host bytes reply.answer ++ told list reply.outcomes.list) reply
+    (IsSendAnswer host bytes) old new
     → NetworkStands old → EventRuns args event reply now
 send-told args old new now event host frame ticks reply bytes list old_is event_is bytes_are list_is now_is played stood =
     told-as args old new now event (Send host frame ticks) reply old_is event_is now_is
     (send-event old new host frame ticks reply
-    (subst (λ (l : List Tick). CallPlayed host l (accepted_of host frame.items reply.answer ++ told l reply.outcomes.list) reply
+    (subst (λ (l : List Tick). CallPlayed (ticked host l) (accepted_of host frame.items reply.answer ++ told l reply.outcomes.list) reply
     (IsSendAnswer host frame.items) old new) list_is
-    (subst (λ (b : List ℕ). CallPlayed host list (accepted_of host b reply.answer ++ told list reply.outcomes.list) reply
+    (subst (λ (b : List ℕ). CallPlayed (ticked host list) (accepted_of host b reply.answer ++ told list reply.outcomes.list) reply
     (IsSendAnswer host b) old new) bytes_are played)) stood)
 
 pub recv-told : (args old new now : NetworkState) (event : Event) (host socket : ℕ) (ticks : Vec Tick Global)
     (reply : Reply) (list : List Tick) → old ≡ args → event ≡ Recv host socket ticks → list ≡ ticks.items → now ≡ new
-    → CallPlayed host list (told list reply.outcomes.list ++ given_of host socket reply.answer) reply (IsRecvAnswer host socket) old new
+    → CallPlayed (ticked host list) (told list reply.outcomes.list ++ given_of host socket reply.answer) reply
+    (IsRecvAnswer host socket) old new
     → NetworkStands old → EventRuns args event reply now
 recv-told args old new now event host socket ticks reply list old_is event_is list_is now_is played stood =
     told-as args old new now event (Recv host socket ticks) reply old_is event_is now_is
     (recv-event old new host socket ticks reply
-    (subst (λ (l : List Tick). CallPlayed host l (told l reply.outcomes.list ++ given_of host socket reply.answer) reply
+    (subst (λ (l : List Tick). CallPlayed (ticked host l) (told l reply.outcomes.list ++ given_of host socket reply.answer) reply
     (IsRecvAnswer host socket) old new) list_is played) stood)
 
 pub interrupt-told : (args old new now : NetworkState) (event : Event) (host : ℕ) (ticks : Vec Tick Global)
     (reply : Reply) (list : List Tick) → old ≡ args → event ≡ Interrupt host ticks → list ≡ ticks.items → now ≡ new
-    → CallPlayed host list (told list reply.outcomes.list) reply (IsInterruptAnswer host) old new
+    → CallPlayed (ticked host list) (told list reply.outcomes.list) reply (IsInterruptAnswer host) old new
     → NetworkStands old → EventRuns args event reply now
 interrupt-told args old new now event host ticks reply list old_is event_is list_is now_is played stood =
     told-as args old new now event (Interrupt host ticks) reply old_is event_is now_is
     (interrupt-event old new host ticks reply
-    (subst (λ (l : List Tick). CallPlayed host l (told l reply.outcomes.list) reply (IsInterruptAnswer host) old new) list_is played) stood)
+    (subst (λ (l : List Tick). CallPlayed (ticked host l) (told l reply.outcomes.list) reply
+    (IsInterruptAnswer host) old new) list_is played) stood)
 
 -- A tick by itself.
 pub tick-now : (inside : Inside) (tick : Tick) (reply : Reply) (old : NetworkState) (stations : List StationState)
@@ -96,7 +99,7 @@ tick-told args old stations now event tick reply old_is event_is now_is stands p
 pub tick-stands : (old : NetworkState) (stations : List StationState) (tick : Tick) (reply : Reply) → NetworkStands old
     → TickPlayed tick reply old.stations stations
     → (let network : NetworkState = record { hosts = old.hosts; stations = stations } in NetworkStands network)
-tick-stands old stations tick reply stands played = (tick-event old stations tick reply stands played).stands
+tick-stands old stations tick reply stands played = (tick-event old stations tick reply stands played).go.stands
 
 pub tick-moved : (tick other : Tick) (reply : Reply) (old new : List StationState) → tick ≡ other → TickPlayed tick reply old new
     → TickPlayed other reply old new

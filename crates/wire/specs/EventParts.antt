@@ -1,4 +1,4 @@
--- What an event does to all hosts, before it is told as an event with its reply (own).
+-- What an event and its reply say of all hosts (our choice).
 use Rattle.std.specs.Prelude.{◌≡◌, ◌≢◌, ◌≤◌, ◌↔◌, ◌++◌, ◌∷◌, [], ℕ, All, List, Result, length, map, slice_get}
 use Rattle.driver.specs.SendSteps.{Answer as SendAnswer}
 use Rattle.driver.specs.declared.interrupt.Handled.{Handled}
@@ -25,88 +25,120 @@ use Rattle.host_calls.specs.CallAnswers.{AnswersInterrupt, AnswersRecv, AnswersS
 use Rattle.host_calls.specs.CallAnswers.{MakesInterrupt, MakesRecv, MakesSend}
 use Rattle.delivery.specs.Counts.{counts_of}
 use Rattle.delivery.specs.StepAnswers.{AreAnswered, OfEachTick, counts_at}
+use Rattle.host_calls.specs.ConnectedHosts.{ConnectedHost, connected}
 use Rattle.wire.specs.Equations.{Delivers}
 use Rattle.wire.specs.Networks.{IsHost, NetworkStands, NetworkState}
 
--- By these atomic steps each host goes from one state to the other as the equations say, and stands.
+-- The atomic steps of an event, as every host finds them.
+
+-- Each tick is answered by counting.
+pub record TicksAnswered (steps : List AtomicStep) (old new : NetworkState) : Type 0 where
+  -- a tick's outcome follows from what is counted at the start, with the outcomes before it applied
+  pub there : (k : ℕ) (h : HostState) → IsHost old k h → AreAnswered k old.stations steps
+  -- a host that isn't there has nothing to do
+  pub absent : (k : ℕ) → length old.hosts ≤ k → OfEachTick k steps (λ before tick outcome. outcome ≡ Nothing)
+  -- what is counted at the end is what was counted at the start, with all outcomes applied
+  pub counts : (k : ℕ) (h : HostState) → IsHost old k h
+      → counts_of (world_at new.stations k).adapter ≡ counts_at old.stations steps k
+
+-- These atomic steps lead from one state to the other. Each host goes by the equations of delivery, and stands.
 pub record HostsGo (caller : ℕ) (happened : List Happening) (steps : List AtomicStep) (old new : NetworkState) : Type 0 where
   pub leads : LeadsTo caller steps old.stations new.stations
   pub hosts : length new.hosts ≡ length old.hosts
   pub delivers : (k : ℕ) (h h' : HostState) → IsHost old k h → IsHost new k h' → Delivers k happened old.stations new.stations h h'
-  -- each tick is answered by what is counted at the start, with the outcomes before it applied; a host that isn't there has nothing to do
-  pub ticks : (k : ℕ) (h : HostState) → IsHost old k h → AreAnswered k old.stations steps
-  pub absent : (k : ℕ) → length old.hosts ≤ k → OfEachTick k steps (λ before tick outcome. outcome ≡ Nothing)
-  -- what is counted at the end is what was at the start, with all outcomes applied
-  pub counts : (k : ℕ) (h : HostState) → IsHost old k h
-      → counts_of (world_at new.stations k).adapter ≡ counts_at old.stations steps k
+  pub ticks : TicksAnswered steps old new
   pub stands : NetworkStands new
 
--- What is answered where the host is there.
+-- What a call of a host that is there answers.
 
-pub record IsSendAnswer (host : ℕ) (frame : List ℕ) (answer : Answer) (h h' : HostState) (steps : List AtomicStep)
-    (old new : List StationState) : Type 0 where
+pub record IsSendAnswer (host : ℕ) (frame : List ℕ) (answer : Answer) (steps : List AtomicStep) (old new : ConnectedHost) : Type 0 where
   pub result : SendAnswer
   pub is : answer ≡ Sent result
-  pub answers : AnswersSend result frame h.driver.counts (world_at old host)
-  pub leaves : LeavesSend result h h' (counted_of 0 steps)
-  -- the accesses of its driver are just these, in order
-  pub makes : MakesSend result frame h h' (past_at host steps).accesses
+  pub answers : AnswersSend result frame old.host.driver.counts (world_at old.stations host)
+  pub leaves : LeavesSend result old.host new.host (counted_of 0 steps)
+  -- the accesses of its driver are exactly these, in order
+  pub makes : MakesSend result frame old.host new.host (past_at host steps).accesses
 
-pub record IsRecvAnswer (host socket : ℕ) (answer : Answer) (h h' : HostState) (steps : List AtomicStep) (old new : List StationState)
-    : Type 0 where
+pub record IsRecvAnswer (host socket : ℕ) (answer : Answer) (steps : List AtomicStep) (old new : ConnectedHost) : Type 0 where
   pub result : Result (List ℕ) RecvError
   pub is : answer ≡ Received result
-  pub answers : AnswersRecv result socket h (world_at old host)
-  pub leaves : LeavesRecv result socket h h' (counted_of 0 steps)
-  -- the accesses of its driver are just these, in order
-  pub makes : MakesRecv result socket h h' (past_at host steps).accesses
+  pub answers : AnswersRecv result socket old.host (world_at old.stations host)
+  pub leaves : LeavesRecv result socket old.host new.host (counted_of 0 steps)
+  -- the accesses of its driver are exactly these, in order
+  pub makes : MakesRecv result socket old.host new.host (past_at host steps).accesses
 
--- The frames taken are those that left the front of what the host held, and each socket's queue grew at its end by its part of them.
-pub record TakesFrames (host : ℕ) (steps : List AtomicStep) (h h' : HostState) (old new : List StationState) (taken : List (List ℕ))
-    : Type 0 where
-  pub left : taken ++ frames_held h'.driver.oldest_receive (world_at new host)
-      ≡ frames_held h.driver.oldest_receive (world_at old host) ++ (past_at host steps).stored
-  pub queues : (socket : ℕ) → waiting_frames h' socket (world_at new host)
-      ≡ waiting_frames h socket (world_at old host) ++ socket_frames h.kinds socket taken
+-- The frames taken were at the front of what the host held. Each socket's queue got those that go to it, in order, at its end.
+pub record TakesFrames (host : ℕ) (steps : List AtomicStep) (taken : List (List ℕ)) (old new : ConnectedHost) : Type 0 where
+  pub left : taken ++ frames_held new.host.driver.oldest_receive (world_at new.stations host)
+      ≡ frames_held old.host.driver.oldest_receive (world_at old.stations host) ++ (past_at host steps).stored
+  pub queues : (socket : ℕ) → waiting_frames new.host socket (world_at new.stations host)
+      ≡ waiting_frames old.host socket (world_at old.stations host) ++ socket_frames old.host.kinds socket taken
 
-pub record IsInterruptAnswer (host : ℕ) (answer : Answer) (h h' : HostState) (steps : List AtomicStep) (old new : List StationState)
-    : Type 0 where
+pub record IsInterruptAnswer (host : ℕ) (answer : Answer) (steps : List AtomicStep) (old new : ConnectedHost) : Type 0 where
   pub result : Handled
   pub is : answer ≡ Interrupted result
   pub causes : ℕ
-  pub tells : TellsCauses host steps causes (world_at old host).adapter.causes.recorded result
-  -- the frames that were taken off the receive ring: none, where the answer is NotMine
+  pub tells : TellsCauses host steps causes (world_at old.stations host).adapter.causes.recorded result
+  -- the frames that were taken off the receive ring: none if the answer is NotMine
   pub taken : List (List ℕ)
-  pub answers : AnswersInterrupt result h h' (world_at old host) taken
-  pub takes : TakesFrames host steps h h' old new taken
-  -- the accesses of its driver are just these, in order
-  pub makes : MakesInterrupt result h h' (past_at host steps).accesses
+  pub answers : AnswersInterrupt result old.host new.host (world_at old.stations host) taken
+  pub takes : TakesFrames host steps taken old new
+  -- the accesses of its driver are exactly these, in order
+  pub makes : MakesInterrupt result old.host new.host (past_at host steps).accesses
 
--- A call was made, with its ticks: this is said of it, and so it answers.
-pub record CallPlayed (host : ℕ) (ticks : List Tick) (happened : List Happening) (reply : Reply)
-    (answers : Answer → (h h' : HostState) → List AtomicStep → (old new : List StationState) → Type 0)
-    (old new : NetworkState) : Type 0 where
-  pub steps : List AtomicStep
-  pub go : HostsGo host happened steps old new
+-- A call, and its reply.
+
+-- the host that is called, and the ticks that are played in the call
+pub record TickedCall : Type 0 where
+  pub host : ℕ
+  pub ticks : List Tick
+
+abbrev pub ticked : ℕ → List Tick → TickedCall
+ticked host ticks = record { host = host; ticks = ticks }
+
+-- What a reply says of the call and its ticks, whichever call it is.
+pub record CallTold (reply : Reply) (steps : List AtomicStep) (old new : NetworkState) (call : TickedCall) : Type 0 where
   -- the steps that aren't accesses are the ticks that aren't Go, in order
-  pub played : without_go is_go (map tick_of steps) ≡ without_go is_go ticks
+  pub played : without_go is_go (map tick_of steps) ≡ without_go is_go call.ticks
+  -- each access is one of a driver that is up, and only the last may write a register
+  pub accesses : (h : HostState) → IsHost old call.host h
+      → All (IsOfDriver h.driver.counts) (past_at call.host steps).accesses × OnlyLastWrites (past_at call.host steps).accesses
+  -- a call of a host that isn't there makes none, and answers NoHost; no other call does
+  pub unmade : length old.hosts ≤ call.host → (past_at call.host steps).accesses ≡ []
+  pub no_host : reply.answer ≡ NoHost ↔ (length old.hosts ≤ call.host)
+  -- the reply has the number of accesses, and the outcome of each tick
   pub counted : reply.accesses ≡ counted_of 0 steps
-  pub accesses : (h : HostState) → IsHost old host h
-      → All (IsOfDriver h.driver.counts) (past_at host steps).accesses × OnlyLastWrites (past_at host steps).accesses
-  pub unmade : length old.hosts ≤ host → (past_at host steps).accesses ≡ []
   pub outcomes : reply.outcomes.list ≡ noted_of 0 steps
-  pub numbered : numbers_of reply.outcomes.list ≡ numbers ticks 0 reply.accesses
-  pub no_host : reply.answer ≡ NoHost ↔ (length old.hosts ≤ host)
-  pub answer : (h h' : HostState) → IsHost old host h → IsHost new host h' → answers reply.answer h h' steps old.stations new.stations
-  pub others : (k : ℕ) → k ≢ host → slice_get new.hosts k ≡ slice_get old.hosts k
+  -- an outcome's number is the lesser of its group's number and the number of accesses
+  pub numbered : numbers_of reply.outcomes.list ≡ numbers call.ticks 0 reply.accesses
+  -- of a host that isn't called neither driver nor queues change
+  pub others : (k : ℕ) → k ≢ call.host → slice_get new.hosts k ≡ slice_get old.hosts k
 
--- A tick by itself.
+-- A call was made, and this answers it.
+pub record CallPlayed (call : TickedCall) (happened : List Happening) (reply : Reply)
+    (answers : Answer → List AtomicStep → (old new : ConnectedHost) → Type 0) (old new : NetworkState) : Type 0 where
+  pub steps : List AtomicStep
+  pub go : HostsGo call.host happened steps old new
+  pub told : CallTold reply steps old new call
+  pub answer : (h h' : HostState) → IsHost old call.host h → IsHost new call.host h'
+      → answers reply.answer steps (connected h old.stations) (connected h' new.stations)
 
--- Its outcome is that of its atomic step; a Go does nothing.
+-- A tick that is played in no call, and its reply.
+
+-- Its outcome is that of its atomic step. A Go does nothing.
 abbrev pub AreOutcomesAlone : Tick → List AtomicStep → List Numbered → Type 0
 AreOutcomesAlone Go steps outcomes = (steps ≡ []) × (outcomes ≡ record { accesses = 0; outcome = Nothing } ∷ [])
 AreOutcomesAlone (Step host kind) steps outcomes = outcomes ≡ noted_of 0 steps
 AreOutcomesAlone (Deliver host) steps outcomes = outcomes ≡ noted_of 0 steps
+
+pub record TickTold (reply : Reply) (steps : List AtomicStep) (old new : NetworkState) (tick : Tick) : Type 0 where
+  pub played : without_go is_go (map tick_of steps) ≡ without_go is_go (tick ∷ [])
+  pub accesses : (k : ℕ) → (past_at k steps).accesses ≡ []
+  pub counted : reply.accesses ≡ counted_of 0 steps
+  pub outcomes : AreOutcomesAlone tick steps reply.outcomes.list
+  pub numbered : numbers_of reply.outcomes.list ≡ 0 ∷ []
+  pub answer : reply.answer ≡ Ticked
+  pub others : new.hosts ≡ old.hosts
 
 -- A tick was played by itself.
 pub record TickPlayed (tick : Tick) (reply : Reply) (old new : List StationState) : Type 0 where

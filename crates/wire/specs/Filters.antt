@@ -11,8 +11,8 @@ use Rattle.bring_up.specs.ConfiguredAdapters.{names_vlans}
 use Rattle.bring_up.specs.FilterTables.{numbers_of_groups}
 use Rattle.network_plan.specs.declared.plan.HostPlan.{HostPlan}
 
--- The address of the image alone, the configured groups by RCTL.MO 00, the configured VLANs if any are named, all of them else; every
--- address where the host is promiscuous, and broadcasts in any case.
+-- The image's address only; the configured groups by RCTL.MO 00; the configured VLANs, or all if none is named; every address if the host
+-- is promiscuous; and broadcasts in any case.
 abbrev pub plans_filter : HostPlan → ReceiveFilter
 plans_filter plan = record {
   addresses = λ address. address ≡ address_bytes plan.image;

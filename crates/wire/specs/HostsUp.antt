@@ -1,4 +1,4 @@
--- What a host is when its network has brought it up (own).
+-- A host that its network has initialized (our choice).
 use Rattle.std.specs.Prelude.{⊤, ◌≡◌, ◌≢◌, ◌<◌, ◌*◌, ◌↔◌, ℕ, true, IsTrue, List, [], Some, String, length, replicate, slice_get, string_eq}
 use Rattle.std.specs.List.{position_or_len}
 use Rattle.std.specs.declared.alloc.Global.{Global}
@@ -6,6 +6,7 @@ use Rattle.eeprom.specs.Image.{HasRightSum}
 use Rattle.mdic_phy.specs.declared.phy.Link.TheVariants.{Never}
 use Rattle.dma_memory.specs.Layout.{size_of}
 use Rattle.adapter.specs.HostFrames.{frames_held, frames_to_send}
+use Rattle.adapter.specs.World.{World}
 use Rattle.bus.specs.Link.{HasLink}
 use Rattle.bring_up.specs.Configuration.{counts_of}
 use Rattle.bring_up.specs.EepromReading.{most_reads}
@@ -22,44 +23,57 @@ use Rattle.network_plan.specs.declared.plan_error.PlanError.{PlanError}
 use Rattle.network_plan.specs.declared.plan_error.PlanError.TheVariants as refused
 use Rattle.wire.specs.Filters.{HasPlansFilter}
 
+-- No frame was counted.
+pub record CountsNothing (host : HostState) (world : World) : Type 0 where
+  pub missed : host.driver.missed ≡ 0
+  pub exact : host.driver.exact ≡ true
+  pub missed_packets : world.adapter.missed_packets ≡ 0
+  -- RNBC, GPRC and GPTC
+  pub without_descriptor : world.adapter.no_receive_buffers ≡ 0
+  pub received : world.adapter.received_packets ≡ 0
+  pub transmitted : world.adapter.transmitted_packets ≡ 0
+  pub unclaimed : host.unclaimed ≡ 0
+
 -- No frame is anywhere, and none was counted.
 pub record HasNoFrames (host : HostState) (station : StationState) : Type 0 where
   pub to_send : frames_to_send station.world ≡ []
   pub held : frames_held host.driver.oldest_receive station.world ≡ []
   pub queues : host.queues ≡ replicate (length host.kinds) []
   pub backlog : station.backlog ≡ []
-  pub missed : host.driver.missed ≡ 0
-  pub exact : host.driver.exact ≡ true
-  pub missed_packets : station.world.adapter.missed_packets ≡ 0
-  -- RNBC, GPRC and GPTC
-  pub without_descriptor : station.world.adapter.no_receive_buffers ≡ 0
-  pub received : station.world.adapter.received_packets ≡ 0
-  pub transmitted : station.world.adapter.transmitted_packets ≡ 0
-  pub unclaimed : host.unclaimed ≡ 0
+  pub counts : CountsNothing host station.world
+
+-- Its driver is ready, no work is forgotten, the ring is refilled, and both sides of its adapter are enabled.
+pub record IsReadyToRun (host : HostState) (world : World) : Type 0 where
+  pub ready : HostReady host world
+  pub work : HasNoForgottenWork host.driver world
+  pub refilled : IsRefilled host.driver
+  pub offered : host.driver.staged ≡ []
+  pub can : CanAnswer world.adapter
+
+-- Its rings, buffers, sockets, packet buffer and filter are the plan's, and its memory ends with its last buffer.
+pub record HasPlansSizes (plan : HostPlan) (host : HostState) (world : World) : Type 0 where
+  pub counts : host.driver.counts ≡ counts_of plan.config
+  pub memory : length world.memory ≡ size_of (counts_of plan.config)
+  pub kinds : host.kinds ≡ plan.sockets.items
+  pub allocation : world.adapter.receive_kilobytes ≡ plan.config.rxa
+  pub filter : HasPlansFilter plan world.adapter.filter
+
+-- Its EEPROM is the plan's, with a right checksum. Its link comes up as the plan says, and is up now.
+pub record HasPlansDevices (plan : HostPlan) (world : World) : Type 0 where
+  pub image : world.adapter.image ≡ plan.image
+  pub sum : HasRightSum plan.image
+  pub link_is : world.adapter.phy.link ≡ plan.link
+  pub comes : plan.link ≢ Never
+  pub link : HasLink world
 
 -- A host and its station are as its plan says.
 pub record ComesUp (plan : HostPlan) (host : HostState) (station : StationState) : Type 0 where
-  -- Its driver is ready, no work is forgotten, and the ring is refilled.
-  pub ready : HostReady host station.world
-  pub work : HasNoForgottenWork host.driver station.world
-  pub refilled : IsRefilled host.driver
-  pub offered : host.driver.staged ≡ []
-  pub can : CanAnswer station.world.adapter
-  -- its rings and buffers, and a memory that ends where they do
-  pub counts : host.driver.counts ≡ counts_of plan.config
-  pub memory : length station.world.memory ≡ size_of (counts_of plan.config)
-  pub kinds : host.kinds ≡ plan.sockets.items
-  pub allocation : station.world.adapter.receive_kilobytes ≡ plan.config.rxa
-  pub filter : HasPlansFilter plan station.world.adapter.filter
-  -- its EEPROM, whose sum is right, and its link: when that comes up is as the plan says, and now it is up
-  pub image : station.world.adapter.image ≡ plan.image
-  pub sum : HasRightSum plan.image
-  pub link_is : station.world.adapter.phy.link ≡ plan.link
-  pub comes : plan.link ≢ Never
-  pub link : HasLink station.world
+  pub ready : IsReadyToRun host station.world
+  pub sizes : HasPlansSizes plan host station.world
+  pub devices : HasPlansDevices plan station.world
   pub no_frames : HasNoFrames host station
 
--- Why a host doesn't come up, other than for want of memory: its EEPROM's sum is wrong; or that is right, and its link needs more than
+-- Why a host isn't initialized, other than for want of memory: its EEPROM's checksum is wrong; or it is right, and the link needs more than
 -- 2,000 ticks or never comes up.
 abbrev pub IsDevices : HostPlan → InitError → Type 0
 IsDevices plan Checksum = ¬ (HasRightSum plan.image)
@@ -72,11 +86,11 @@ IsReason plan error = IsDevices plan error
 
 -- All hosts.
 
--- a wire's number is that of the first host that names it
+-- a wire's number is the number of the first host that names it
 abbrev pub wire_number : List HostPlan → String Global → ℕ
 wire_number plans wire = position_or_len (λ (plan : HostPlan). string_eq plan.wire wire) plans
 
--- The first so many hosts of a plan have come up, each on its wire.
+-- The first `count` hosts of a plan are initialized, each on its wire.
 pub record AreUp (plans : List HostPlan) (count : ℕ) (hosts : List HostState) (stations : List StationState) : Type 0 where
   pub host_count : length hosts ≡ count
   pub station_count : length stations ≡ count
@@ -87,25 +101,24 @@ pub record AreUp (plans : List HostPlan) (count : ℕ) (hosts : List HostState) 
       (k : ℕ) (plan : HostPlan) (station : StationState) → slice_get plans k ≡ Some plan → slice_get stations k ≡ Some station
       → station.wire ≡ wire_number plans plan.wire
 
--- Two hosts are on one wire exactly where they name the same.
+-- Two hosts are on one wire exactly if their plans name the same.
 abbrev pub ShareWires : List HostPlan → List StationState → Type 0
 ShareWires plans stations =
     (j k : ℕ) (one other : HostPlan) (a b : StationState) → slice_get plans j ≡ Some one → slice_get plans k ≡ Some other
     → slice_get stations j ≡ Some a → slice_get stations k ≡ Some b
     → (a.wire ≡ b.wire) ↔ IsTrue (string_eq one.wire other.wire)
 
--- Each of the first so many hosts has a right sum, and a link that isn't one that never comes up. Of a link that comes up after some ticks
--- it doesn't say after how many.
+-- Each of the first `count` hosts has a right checksum, and a link that comes up some time. It doesn't say after how many ticks.
 abbrev pub CanComeUp : List HostPlan → ℕ → Type 0
 CanComeUp plans count =
     (k : ℕ) (plan : HostPlan) → k < count → slice_get plans k ≡ Some plan → HasRightSum plan.image × (plan.link ≢ Never)
 
--- This host of the plan doesn't come up, for this reason, and those before it can.
+-- This host of the plan can't be initialized, for this reason, and those before it can.
 abbrev pub IsNotUp : List HostPlan → ℕ → InitError → Type 0
 IsNotUp plans number error =
     (plan : HostPlan) × (slice_get plans number ≡ Some plan) × IsDevices plan error × CanComeUp plans number
 
--- Why the hosts of a plan don't come up.
+-- Why the hosts of a plan can't be initialized.
 abbrev pub IsRefusal : List HostPlan → PlanError → Type 0
 IsRefusal plans refused.Memory = ⊤
 IsRefusal plans (refused.Init number error) = IsNotUp plans number error

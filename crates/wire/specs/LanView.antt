@@ -1,4 +1,4 @@
--- How a Lan keeps its state (own).
+-- How a Lan keeps its state (our choice).
 use Rattle.wire.specs.Networks.{NetworkStands, NetworkState}
 use Rattle.wire.specs.declared.lan.Lan.TheInside.{Inside}
 

@@ -5,7 +5,7 @@ use Rattle.network_plan.specs.declared.reply.Reply.{Reply}
 use Rattle.wire.specs.Networks.{NetworkState}
 use Rattle.wire.specs.Runs.{RunsTo}
 
--- What stands behind one run is what stands before the next.
+-- If one run ends where the next begins, both are one run.
 abbrev pub RunsJoin : Type 0
 RunsJoin =
     (a b c : NetworkState) (events later : List Event) (before between behind : List Reply)

@@ -1,4 +1,4 @@
--- A network as plain data: its hosts, and their adapters, memories and ends of wires (own).
+-- A network as plain data: its hosts, and their adapters, memories and ends of wires (our choice).
 use Rattle.std.specs.Prelude.{◌≡◌, ◌≤◌, ◌<◌, ◌+◌, [], ℕ, IsTrue, List, Some, length, slice_get}
 use Rattle.registers.specs.Counting.{greatest_count}
 use Rattle.adapter.specs.HostFrames.{frames_to_send}
@@ -21,25 +21,28 @@ pub record NetworkState : Type 0 where
 abbrev pub IsHost : NetworkState → (k : ℕ) → HostState → Type 0
 IsHost network k host = slice_get network.hosts k ≡ Some host
 
--- What holds of a host whenever no call of it is made.
+-- What its driver read of MPC, and then the whole count of misses, is exact below MPC's greatest value.
+pub record CountsExactly (host : HostState) (world : World) : Type 0 where
+  pub reads : host.driver.missed < greatest_count → IsTrue host.driver.exact
+  pub counts : counted host world < greatest_count → IsExact host world
+
+-- What holds of a host before and after each of its calls.
 pub record HostStands (host : HostState) (world : World) : Type 0 where
-  -- its driver knows its rings and buffers, and what waits for its sockets stands in them
+  -- its driver knows its rings and buffers, and the frames that wait for its sockets are in them
   pub ready : HostReady host world
-  -- No work is forgotten: where its oldest receive slot is finished, RXT0 is recorded, and in the mask.
+  -- No work is forgotten: if its oldest receive slot is finished, RXT0 is recorded, and it is in the mask.
   pub work : HasNoForgottenWork host.driver world
   -- No buffer is free, or all receive slots but one are outstanding.
   pub refilled : IsRefilled host.driver
-  -- no slot's descriptor is stored that isn't offered
+  -- each slot whose descriptor is stored is offered
   pub offered : host.driver.staged ≡ []
   -- both sides of its adapter are enabled
   pub can : CanAnswer world.adapter
-  -- No buffer has two owners, sockets' queues among them.
+  -- No buffer has two owners. A socket's queue is an owner.
   pub one_owner : HasOneOwner host.driver.counts.buffers (owners (driver_of host world))
   -- fewer frames are to be sent than the transmit ring has slots
   pub sends_at_most : length (frames_to_send world) + 1 ≤ host.driver.counts.tx
-  -- What its driver read of MPC, and then the whole count of misses, is exact below MPC's greatest value.
-  pub reads_exactly : host.driver.missed < greatest_count → IsTrue host.driver.exact
-  pub counts_exactly : counted host world < greatest_count → IsExact host world
+  pub exact : CountsExactly host world
 
 -- Each host has its station, and stands.
 pub record NetworkStands (network : NetworkState) : Type 0 where

@@ -1,6 +1,6 @@
 // What a network counts of its hosts.
 
-ghost use Rattle.std.specs.Prelude.{◌≡◌, ◌≤◌, ◌↔◌, IfSome, IsNone, length};
+ghost use Rattle.std.specs.Prelude.{◌≤◌, ◌↔◌, IfSome, IsNone, length};
 ghost use Rattle.packet_socket.specs.HostState.{HostState};
 ghost use Rattle.stations.specs.Stations.{world_at};
 ghost use Rattle.wire.specs.Counting.{AreCounts};
@@ -11,10 +11,10 @@ use crate::Lan;
 /// What was counted of a host.
 #[derive(Clone, Copy, Debug, PartialEq, Eq)]
 pub struct Counts {
-    /// The frames that its adapter missed for want of room in the receive packet buffer: what its driver read of MPC,
-    /// and what MPC holds now, up to the greatest `u64`.
+    /// Frames that its adapter missed because the receive packet buffer was full: the sum of what its driver read from
+    /// MPC, plus what MPC holds now, up to the greatest `u64`.
     pub missed: u64,
-    /// Whether these are all: else there were more. It is so wherever `missed` is below 0xFFFF_FFFF.
+    /// Whether `missed` is exact; if not, there were more. It is always exact below 0xFFFF_FFFF.
     pub exact: bool,
     /// RNBC: frames that came while no descriptor was free.
     pub without_descriptor: u32,
@@ -27,9 +27,9 @@ pub struct Counts {
 }
 
 impl Lan {
-    /// What was counted of a host, none where it isn't there. Nothing is cleared.
+    /// The counts of a host, or `None` if the host isn't there. Nothing is cleared.
     ///
-    /// - `stands`: each host stands, at any time between calls of this network.
+    /// - `stands`: each host stands. It does between any two calls of this network.
     pub fn counts(&self, host: usize) -> Option<Counts>
         ensures none { IsNone result ↔ (length self.now.hosts ≤ host) }
         ensures counts { (state : HostState) → IsHost self.now host state

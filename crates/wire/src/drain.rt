@@ -1,4 +1,4 @@
-// A host of a network is drained.
+// Draining a host of a network.
 
 ghost use Rattle.std.specs.Prelude.{◌≡◌, ◌≤◌, ◌+◌, length};
 ghost use Rattle.host_calls.specs.DrainedHosts.{count_held};
@@ -16,8 +16,9 @@ use stations::{Outcomes, Station, line_at};
 const MOST_BUFFERED: usize = 24;
 
 impl Lan {
-    /// For how many frames a [`drain`](Lan::drain) of a host needs room: its receive buffers and what its packet buffer
-    /// may hold, 24; none where the host isn't there. So many frames are the most that it holds for its sockets.
+    /// The number of frames for which a [`drain`](Lan::drain) of a host needs room: its receive buffers, and the 24
+    /// frames that its packet buffer may hold. A host never holds more for its sockets. It is 0 if the host isn't
+    /// there.
     pub fn drain_room(&self, host: usize) -> usize
         ensures there { (state : HostState) → IsHost self.now host state → result ≡ state.driver.counts.buffers + 24 }
         ensures enough { (state : HostState) → IsHost self.now host state
@@ -33,13 +34,13 @@ impl Lan {
         usize::from(hosts[host].layout().buffers()) + MOST_BUFFERED
     }
 
-    /// Drains a host: gives all that it holds for its sockets to `sink`, each frame with its socket's number, and
-    /// tells in how many steps. A host that isn't there takes none. It takes no memory; `sink` must have the room that
-    /// [`drain_room`](Lan::drain_room) tells, and what it didn't need of its room is left.
+    /// Drains a host: gives each frame that it holds for its sockets to `sink`, with the socket's number, and returns
+    /// the number of steps. A host that isn't there takes none. No memory is allocated. `sink` must have the room that
+    /// [`drain_room`](Lan::drain_room) returns; it keeps the room that it doesn't need.
     ///
-    /// Each step is the first of these that applies: the host's adapter ends the frame in work, where there is one;
-    /// the host handles an interrupt, where the line is asserted; it gives the oldest frame of its first socket for
-    /// which one waits; its adapter moves a frame out of the receive packet buffer, where there is one.
+    /// Each step is the first of these that applies. If a frame is in progress, the host's adapter writes back its
+    /// descriptor. If the interrupt line is asserted, the host handles an interrupt. If a frame waits for a socket, the
+    /// first such socket gives its oldest. If the receive packet buffer has a frame, the adapter moves it to the ring.
     pub fn drain<S: Outlet>(&mut self, host: usize, sink: &mut S) -> u64
         requires room { (state : HostState) → IsHost self.old host state
             → state.driver.counts.buffers + 24 ≤ S.places sink.old }

@@ -1,6 +1,6 @@
 // One event, over all hosts and their stations.
 
-ghost use Rattle.std.specs.Prelude.{◌≡◌, ◌≢◌, ◌≤◌, ◌<◌, ◌++◌, [], length, IfOk};
+ghost use Rattle.std.specs.Prelude.{◌≡◌, ◌≤◌, ◌<◌, ◌++◌, [], length, IfOk};
 ghost use Rattle.driver.specs.TakenFrames.{IsFrameSize};
 ghost use Rattle.host_calls.specs.CallAnswers.{frame_in};
 ghost use Rattle.bus.specs.TickGroups.{without_go};
@@ -8,7 +8,7 @@ ghost use Rattle.delivery.specs.Happenings.{told};
 ghost use Rattle.stations.specs.AtomicRuns.{is_go};
 ghost use Rattle.stations.specs.PlayedTicks.{PlaysTicks};
 ghost use Rattle.network_plan.specs.declared.reply.Answer.TheVariants.{NoHost};
-ghost use Rattle.wire.specs.EventParts.{CallPlayed, IsInterruptAnswer, IsRecvAnswer, IsSendAnswer, TickPlayed};
+ghost use Rattle.wire.specs.EventParts.{CallPlayed, IsInterruptAnswer, IsRecvAnswer, IsSendAnswer, TickPlayed, ticked};
 ghost use Rattle.wire.specs.Networks.{NetworkStands};
 ghost use Rattle.wire.specs.Runs.{accepted_of, given_of};
 
@@ -46,7 +46,7 @@ pub(crate) fn send(
     requires stands { NetworkStands (record { hosts = hosts.old; stations = stations.old }) }
     requires empty { outcomes.list ≡ [] }
     requires room { length ticks.now ≤ outcomes.room }
-    ensures { CallPlayed host ticks.now
+    ensures { CallPlayed (ticked host ticks.now)
         (accepted_of host frame.now result.answer ++ told ticks.now result.outcomes.list) result
         (IsSendAnswer host frame.now) (record { hosts = hosts.old; stations = stations.old })
         (record { hosts = hosts.new; stations = stations.new }) }
@@ -70,7 +70,7 @@ pub(crate) fn send(
     }
 }
 
-/// Room for a frame that a socket gives: where it is copied to, and what it is handed on in.
+/// Room for a frame that a socket gives: the bytes that it is copied to, and the frame that is returned.
 #[derive(Drop)]
 pub(crate) struct FrameRoom<'a> {
     pub(crate) bytes: &'a mut [u8; 1518],
@@ -110,7 +110,7 @@ pub(crate) fn recv(
     requires stands { NetworkStands (record { hosts = hosts.old; stations = stations.old }) }
     requires empty { outcomes.list ≡ [] }
     requires room { length ticks.now ≤ outcomes.room }
-    ensures { CallPlayed host ticks.now
+    ensures { CallPlayed (ticked host ticks.now)
         (told ticks.now result.outcomes.list ++ given_of host socket result.answer) result
         (IsRecvAnswer host socket) (record { hosts = hosts.old; stations = stations.old })
         (record { hosts = hosts.new; stations = stations.new }) }
@@ -148,7 +148,7 @@ pub(crate) fn interrupt(
     requires stands { NetworkStands (record { hosts = hosts.old; stations = stations.old }) }
     requires empty { outcomes.list ≡ [] }
     requires room { length ticks.now ≤ outcomes.room }
-    ensures { CallPlayed host ticks.now (told ticks.now result.outcomes.list) result (IsInterruptAnswer host)
+    ensures { CallPlayed (ticked host ticks.now) (told ticks.now result.outcomes.list) result (IsInterruptAnswer host)
         (record { hosts = hosts.old; stations = stations.old })
         (record { hosts = hosts.new; stations = stations.new }) }
 {

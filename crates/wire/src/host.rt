@@ -17,13 +17,13 @@ use solo_bus::SoloBus;
 use stations::Station;
 use std::alloc::Global;
 
-/// Makes a host's adapter and its memory, which ends where the configuration's layout ends, and brings the adapter up
-/// over them alone: before each access its EEPROM and its PHY tick, and no frame comes. Then the host is on its wire.
+/// Makes a host's adapter, and its memory of the layout's size, and initializes the adapter. Before each access of this
+/// its EEPROM and its PHY take a step, and no frame arrives. Then the host is on its wire.
 ///
 /// # Errors
 ///
-/// [`Memory`](InitError::Memory), [`Checksum`](InitError::Checksum) where the EEPROM's sum is wrong, and
-/// [`NoLink`](InitError::NoLink) where the link needs more than 2,000 ticks, or never comes up.
+/// [`Memory`](InitError::Memory); [`Checksum`](InitError::Checksum) if the EEPROM's checksum is wrong;
+/// [`NoLink`](InitError::NoLink) if the link needs more than 2,000 ticks or never comes up.
 pub fn bring_up_host(
     alloc: Global,
     plan: &HostPlan,

@@ -16,14 +16,13 @@ use packet_socket::Host;
 use stations::Station;
 use std::alloc::{AllocError, Global};
 
-/// Brings all hosts of a plan up, in its order, each over its own adapter and memory. Those that name one wire are on
-/// it: its number is that of the first host that names it.
+/// Initializes all hosts of a plan, in order, each with its own adapter and memory. Hosts that name one wire are on it.
+/// Its number is the number of the first host that names it.
 ///
 /// # Errors
 ///
-/// [`Memory`](PlanError::Memory) where memory is refused, and [`Init`](PlanError::Init) with the number of a host whose
-/// EEPROM's sum is wrong, or whose link needs more than 2,000 ticks or never comes up. Those before it have right sums
-/// and links that come up at some time.
+/// [`Memory`](PlanError::Memory) if memory is refused. [`Init`](PlanError::Init) with the number of the first host
+/// whose EEPROM's checksum is wrong, or whose link needs more than 2,000 ticks or never comes up.
 pub fn bring_up(alloc: Global, plan: &Plan) -> Result<(Vec<Host>, Vec<Station>), PlanError>
     requires { HasConfigs plan.now.hosts.items }
     ensures up { IfOk result (λ made.
@@ -43,7 +42,7 @@ pub fn bring_up(alloc: Global, plan: &Plan) -> Result<(Vec<Host>, Vec<Station>),
     Ok((hosts, stations))
 }
 
-/// Brings one host of a plan up, on its wire, where those before it can come up.
+/// Initializes one host of a plan on its wire, after those before it.
 fn bring_up_one(
     alloc: Global,
     plans: &[HostPlan],
@@ -65,7 +64,7 @@ fn bring_up_one(
     }
 }
 
-/// What is told of a host that wasn't brought up.
+/// The error of a plan whose host wasn't initialized.
 fn refusal(number: usize, error: InitError) -> PlanError
     ensures memory { error ≡ InitError.Memory → result ≡ PlanError.Memory }
     ensures device { error ≢ InitError.Memory → result ≡ PlanError.Init number error }
@@ -90,7 +89,7 @@ fn wire_number(plans: &[HostPlan], wire: &String) -> usize
     first_on(plans, wire).unwrap_or(plans.len())
 }
 
-/// Puts a host and its station behind the others.
+/// Appends a host and its station to the others.
 fn keep(
     made: (Host, Station),
     hosts: &mut Vec<Host>,

@@ -14,7 +14,7 @@ use std::marker::Model;
 pub struct Lan {
     pub(crate) hosts: Vec<Host>,
     pub(crate) stations: Vec<Station>,
-    /// What a socket gave last, before it is handed on.
+    /// The bytes of the last frame that a socket gave, before they are copied into its reply.
     pub(crate) given: [u8; 1518],
 }
 
@@ -34,7 +34,7 @@ impl Lan {
     ghost use Rattle.std.specs.Prelude.{◌≡◌, ◌<◌, IfErr, IfOk, OnErr, OnOk, length, take};
     ghost use Rattle.wire.specs.Runs.{EventRuns, RunsTo};
 
-    /// Runs one event. Its memory is asked for before its first tick.
+    /// Runs one event. It allocates its memory before its first tick.
     fn event(&mut self, alloc: Global, event: &Event) -> Result<Reply, AllocError>
         ensures ok { IfOk result (λ reply. EventRuns self.old event.now reply self.new) }
         ensures err { OnErr result (self.new ≡ self.old) }
@@ -75,7 +75,7 @@ impl Lan {
     ///
     /// # Errors
     ///
-    /// Want of memory alone, at the border of an event: those before it were run and answered, and it changed nothing.
+    /// Only want of memory, before an event. The events before it were run and answered, and it changed nothing.
     pub fn run(
         &mut self,
         alloc: Global,

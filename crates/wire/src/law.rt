@@ -2,7 +2,7 @@
 
 ghost use Rattle.wire.specs.Laws.{RunsJoin};
 
-/// Two runs, one behind the other, are one run of the events of both.
+/// A run and a run that begins where it ended are together one run of the events of both.
 pub fn runs_join()
     ensures { RunsJoin }
 {}

@@ -1,4 +1,4 @@
-//! Hosts on wires, each brought up by its plan, and runs of calls, interrupts, adapter steps and deliveries over them,
+//! Hosts on wires, each initialized by its plan, and runs of calls, interrupts, adapter steps and deliveries over them,
 //! interleaved at every access.
 #![tactic(auto)]
 

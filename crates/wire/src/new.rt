@@ -8,15 +8,15 @@ use network_plan::{Plan, PlanError};
 use std::alloc::Global;
 
 impl Lan {
-    /// Makes a network by a plan: brings each of its hosts up, in order, alone, with a tick of its EEPROM and of its
-    /// PHY before each access. A host's memory ends where its rings and buffers do. Behind this call only
-    /// [`run`](Lan::run) takes memory.
+    /// Makes a network by a plan: initializes its hosts in order, one at a time. Before each access the host's EEPROM
+    /// and its PHY take a step. A host's memory is as large as its rings and buffers. After this call only
+    /// [`run`](Lan::run) allocates memory.
     ///
     /// # Errors
     ///
-    /// Those of [`Plan::check`], before any memory is taken; then [`Memory`](PlanError::Memory), or
-    /// [`Init`](PlanError::Init) with the number of a host whose EEPROM's sum is wrong, or whose link needs more than
-    /// 2,000 ticks or never comes up.
+    /// Those of [`Plan::check`], before any memory is allocated. Then [`Memory`](PlanError::Memory), or
+    /// [`Init`](PlanError::Init) with the number of the first host whose EEPROM's checksum is wrong, or whose link
+    /// needs more than 2,000 ticks or never comes up.
     pub fn new(alloc: Global, plan: &Plan) -> Result<Lan, PlanError>
         ensures { IsLanAnswer plan.now.hosts.items result }
     {

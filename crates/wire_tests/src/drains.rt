@@ -28,8 +28,8 @@ const ASKED: &str =
 /// The oldest frame of b is finished in memory.
 const FINISHED: &str = "tick rxdata:b\ntick rxdone:b\n";
 
-/// The two hosts with these sockets, and so many frames that come to b and are finished, and so many that come; and then
-/// what these lines say.
+/// The two hosts with these sockets, and so many frames that come to b and are finished, and so many that come; and
+/// then what these lines say.
 fn text_of(
     alloc: Global,
     sockets: &str,

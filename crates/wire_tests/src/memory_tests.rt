@@ -10,8 +10,8 @@ use std::alloc::{AllocError, Global};
 use std::process::Abort;
 use wire::{Counts, Event, Lan, Reply};
 
-/// Two frames go from a to b, whose socket gives the first; the second waits in b's ring. Ticks are played inside sends,
-/// an interrupt, and calls of a socket.
+/// Two frames go from a to b, whose socket gives the first; the second waits in b's ring. Ticks are played inside
+/// sends, an interrupt, and calls of a socket.
 const TEXT: &str = "host a 02:00:00:00:00:01 w
 host b 02:00:00:00:00:02 w
 socket b all
@@ -25,8 +25,8 @@ recv b 0 / deliver:b go rxdata:b
 recv b 0 / rxdone:b go
 ";
 
-/// At each border between the events: how many accesses the one before it made, and how many of its ticks had an outcome;
-/// how many frames a has put by then, and how many b has received.
+/// At each border between the events: how many accesses the one before it made, and how many of its ticks had an
+/// outcome; how many frames a has put by then, and how many b has received.
 const BORDERS: [(u64, usize, u32, u32); 10] = [
     (0, 0, 0, 0),
     (3, 2, 0, 0),
@@ -102,8 +102,8 @@ fn check_replies(rt: &impl Abort, replies: &[Reply], others: &[Reply]) {
     }
 }
 
-/// Asserts how many frames a host gives when it is drained, and by how many steps. Room for them may be refused, too, and
-/// then nothing is asserted.
+/// Asserts how many frames a host gives when it is drained, and by how many steps. Room for them may be refused, too,
+/// and then nothing is asserted.
 fn check_held(
     rt: &impl Abort,
     alloc: Global,
@@ -118,9 +118,9 @@ fn check_held(
     }
 }
 
-/// Want of memory is the one refusal that is allowed here, so that each allocation can be made to fail in turn. A network
-/// can be made behind it, and the events that weren't done can be run: all is as in another network, in which nothing is
-/// refused then. a has to handle that it sent, and b has the second frame.
+/// Want of memory is the one refusal that is allowed here, so that each allocation can be made to fail in turn. A
+/// network can be made behind it, and the events that weren't done can be run: all is as in another network, in which
+/// nothing is refused then. a has to handle that it sent, and b has the second frame.
 #[test]
 fn a_refused_allocation_is_memory(rt: HostRuntime) {
     let alloc = rt.alloc();

@@ -1,12 +1,21 @@
-use Rattle.std.proofs.Common.{rules, refl, true}
-use Rattle.host_calls.proofs.Interrupting.{interrupt-back, interrupt-runs}
+use Rattle.std.proofs.Common.{rules, refl, true, List}
+use Rattle.stations.specs.Outcomes.{OutcomeList}
+use Rattle.stations.specs.Stations.{StationState}
+use Rattle.host_calls.specs.CallAnswers.{InterruptRuns}
+use Rattle.host_calls.specs.ConnectedHosts.{connected, played_call}
+use Rattle.host_calls.proofs.Calling.{lent-back}
+use Rattle.host_calls.proofs.Interrupting.{interrupt-runs}
 use Rattle.host_calls.proofs.calls.interrupt.Goals as goal
 
 pub returns : goal.returns
 returns c =
-    interrupt-back c.interrupt-answer.result c.args.place c.args.ticks.now c.args.stations.now c.finish.new.self.stations.now _
-    c.args.outcomes.now c.finish.new.self.outcomes.now _ c.finish.new.self.accesses c.args.host.now c.interrupt-answer.new.self
-    (search rules) (search rules)
-    (interrupt-runs _ c.interrupt-answer.new.bus c.finish.new.self c.args.host.now c.interrupt-answer.new.self
-    c.interrupt-answer.result refl c.requires.ready c.interrupt-answer.ensures.serves
+    let h = c.args.host.now in
+    let h' = c.interrupt-answer.new.self in
+    let result = c.interrupt-answer.result in
+    let ends = c.finish.new.self in
+    lent-back (λ (stations : List StationState) (noted : OutcomeList). InterruptRuns
+    (played_call c.args.place c.args.ticks.now c.args.outcomes.now noted ends.accesses) result
+    (connected h c.args.stations.now) (connected h' stations))
+    ends.stations.now _ ends.outcomes.now _ (search rules) (search rules)
+    (interrupt-runs _ c.interrupt-answer.new.bus ends h h' result refl c.requires.ready c.interrupt-answer.ensures.serves
     (c.interrupt-answer.ensures.handles true (record { honest = tt; ready = c.requires.ready })) c.finish.ensures)

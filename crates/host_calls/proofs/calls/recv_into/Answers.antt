@@ -1,31 +1,33 @@
-use Rattle.std.proofs.Common.{rules, refl, [], true}
-use Rattle.host_calls.proofs.Calling.{call-back}
+use Rattle.std.proofs.Common.{rules, refl, true, List}
+use Rattle.stations.specs.Outcomes.{OutcomeList}
+use Rattle.stations.specs.Stations.{StationState}
+use Rattle.host_calls.specs.CallAnswers.{RecvRuns, frame_in}
+use Rattle.host_calls.specs.ConnectedHosts.{connected, played_call}
+use Rattle.host_calls.proofs.Calling.{lent-back}
 use Rattle.host_calls.proofs.Receiving.{any-answers, any-leaves, any-legal, any-runs}
-use Rattle.host_calls.specs.CallAnswers.{MakesRecv, frame_in, given_by}
 use Rattle.host_calls.proofs.calls.recv_into.Goals as goal
 
-pub returns-clause-runs : goal.returns-clause-runs
-returns-clause-runs c =
-    call-back c.args.place c.args.ticks.now c.args.stations.now c.finish.new.self.stations.now _ c.args.outcomes.now
-    c.finish.new.self.outcomes.now _ c.finish.new.self.accesses c.args.host.now c.recv-answer.new.self []
-    (given_by c.args.socket (frame_in c.recv-answer.new.into c.recv-answer.result)) []
-    (MakesRecv (frame_in c.recv-answer.new.into c.recv-answer.result) c.args.socket c.args.host.now c.recv-answer.new.self)
-    (search rules) (search rules)
-    (any-runs _ c.recv-answer.new.bus c.finish.new.self c.args.host.now c.recv-answer.new.self c.args.socket c.recv-answer.result
-    c.args.into.now c.recv-answer.new.into refl (search rules) c.requires.ready
-    (c.recv-answer.ensures.receives true (record { honest = tt; ready = c.requires.ready }))
-    c.recv-answer.ensures.ok c.recv-answer.ensures.err c.finish.ensures)
-
-pub returns-clause-answers : goal.returns-clause-answers
-returns-clause-answers c =
-    any-answers _ c.recv-answer.new.bus c.args.host.now c.recv-answer.new.self c.args.socket c.recv-answer.result
-    c.recv-answer.new.into (c.recv-answer.ensures.receives true (record { honest = tt; ready = c.requires.ready }))
-    c.recv-answer.ensures.no_socket c.recv-answer.ensures.empty
-
-pub returns-clause-leaves : goal.returns-clause-leaves
-returns-clause-leaves c =
-    any-leaves _ c.recv-answer.new.bus c.finish.new.self c.args.host.now c.recv-answer.new.self c.args.socket c.recv-answer.result
-    c.args.into.now c.recv-answer.new.into refl (search rules) c.recv-answer.ensures.ok c.recv-answer.ensures.err c.finish.ensures
+pub returns-clause-gives : goal.returns-clause-gives
+returns-clause-gives c =
+    let h = c.args.host.now in
+    let h' = c.recv-answer.new.self in
+    let into = c.recv-answer.new.into in
+    let result = c.recv-answer.result in
+    let m = c.recv-answer.new.bus in
+    let ends = c.finish.new.self in
+    let ensures = c.recv-answer.ensures in
+    let receives = ensures.receives true (record { honest = tt; ready = c.requires.ready }) in
+    lent-back (λ (stations : List StationState) (noted : OutcomeList). RecvRuns
+    (played_call c.args.place c.args.ticks.now c.args.outcomes.now noted ends.accesses) c.args.socket (frame_in into result)
+    (connected h c.args.stations.now) (connected h' stations))
+    ends.stations.now _ ends.outcomes.now _ (search rules) (search rules)
+    (record {
+      runs = any-runs _ m ends h h' c.args.socket result c.args.into.now into refl (search rules) c.requires.ready receives ensures.ok
+          ensures.err c.finish.ensures;
+      answers = any-answers _ m h h' c.args.socket result into receives ensures.no_socket ensures.empty;
+      leaves = any-leaves _ m ends h h' c.args.socket result c.args.into.now into refl (search rules) ensures.ok ensures.err
+          c.finish.ensures;
+    })
 
 pub returns-clause-size : goal.returns-clause-size
 returns-clause-size c =

@@ -1,27 +1,29 @@
-use Rattle.std.proofs.Common.{rules, refl, []}
-use Rattle.driver.specs.SendSteps.{accepted_by}
-use Rattle.host_calls.specs.CallAnswers.{MakesSend}
-use Rattle.host_calls.proofs.Calling.{call-back}
+use Rattle.std.proofs.Common.{rules, refl, List}
+use Rattle.stations.specs.Outcomes.{OutcomeList}
+use Rattle.stations.specs.Stations.{StationState}
+use Rattle.host_calls.specs.CallAnswers.{SendRuns}
+use Rattle.host_calls.specs.ConnectedHosts.{connected, played_call}
+use Rattle.host_calls.proofs.Calling.{lent-back}
 use Rattle.host_calls.proofs.Sending.{send-answers, send-leaves, send-runs}
 use Rattle.host_calls.proofs.calls.send.Goals as goal
 
-pub returns-clause-runs : goal.returns-clause-runs
-returns-clause-runs c =
+pub returns : goal.returns
+returns c =
+    let h = c.args.host.now in
+    let h' = c.send-answer.new.self in
+    let frame = c.args.frame.now in
+    let result = c.send-answer.result in
+    let ends = c.finish.new.self in
     let sent = c.send-answer.ensures.transmits (record { honest = tt; ready = c.requires.ready }) in
-    call-back c.args.place c.args.ticks.now c.args.stations.now c.finish.new.self.stations.now _ c.args.outcomes.now
-    c.finish.new.self.outcomes.now _ c.finish.new.self.accesses c.args.host.now c.send-answer.new.self [] []
-    (accepted_by c.send-answer.result c.args.frame.now)
-    (MakesSend c.send-answer.result c.args.frame.now c.args.host.now c.send-answer.new.self) (search rules) (search rules)
-    (send-runs _ c.send-answer.new.bus c.finish.new.self c.args.host.now c.send-answer.new.self c.args.frame.now c.send-answer.result
-    refl c.requires.ready c.send-answer.ensures.others sent c.finish.ensures)
-
-pub returns-clause-answers : goal.returns-clause-answers
-returns-clause-answers c =
-    let sent = c.send-answer.ensures.transmits (record { honest = tt; ready = c.requires.ready }) in
-    send-answers c.args.host.now _ c.args.frame.now c.send-answer.result c.requires.ready c.send-answer.ensures.too_short
-    c.send-answer.ensures.too_long sent.answer
-
-pub returns-clause-leaves : goal.returns-clause-leaves
-returns-clause-leaves c =
-    send-leaves _ c.send-answer.new.bus c.finish.new.self c.args.host.now c.send-answer.new.self c.send-answer.result refl
-    c.send-answer.ensures.others c.send-answer.ensures.nothing c.finish.ensures
+    lent-back (λ (stations : List StationState) (noted : OutcomeList). SendRuns
+    (played_call c.args.place c.args.ticks.now c.args.outcomes.now noted ends.accesses) frame result
+    (connected h c.args.stations.now) (connected h' stations))
+    ends.stations.now _ ends.outcomes.now _ (search rules) (search rules)
+    (record {
+      runs = send-runs _ c.send-answer.new.bus ends h h' frame result refl c.requires.ready c.send-answer.ensures.others sent
+          c.finish.ensures;
+      answers = send-answers _ c.send-answer.new.bus h h' frame result c.requires.ready c.send-answer.ensures.too_short
+          c.send-answer.ensures.too_long sent.answer;
+      leaves = send-leaves _ c.send-answer.new.bus ends h h' result refl c.send-answer.ensures.others c.send-answer.ensures.nothing
+          c.finish.ensures;
+    })

@@ -1,6 +1,7 @@
-use Rattle.std.proofs.Common.{◌≡◌, ◌≤◌, ◌<◌, ◌+◌, ◌^◌, [], ℕ, Bool, true, ap, arith, length, length-append, rules, subst}
+use Rattle.std.proofs.Common.{◌≡◌, ◌+◌, ℕ, Bool, true, ap, arith, length, length-append, subst}
 use Rattle.stations.specs.Stations.{world_at}
-use Rattle.host_calls.specs.DrainSteps.{StepsInto, steps_of}
+use Rattle.host_calls.specs.ConnectedHosts.{connected}
+use Rattle.host_calls.specs.DrainSteps.{StepsInto, outlet, steps_of}
 use Rattle.host_calls.proofs.Endings.{drains-into, held-at_most, steps-fit}
 use Rattle.host_calls.proofs.JoinedSteps.{into-join, into-none, stands-on, steps-none}
 use Rattle.host_calls.proofs.draining.drain.Goals as goal
@@ -23,9 +24,11 @@ pub overflow_add-steps : goal.overflow_add-steps
 overflow_add-steps g c =
     let into = c.loop-steps.invariant.into in
     let step =
-    subst (λ (stepped : Bool). StepsInto (steps_of stepped) c.args.place c.loop-steps.stations c.step.new.stations c.loop-steps.host
-    c.step.new.host (g.S.Outlet.frames c.loop-steps.sink) (g.S.Outlet.frames c.step.new.sink) (g.S.Outlet.places c.loop-steps.sink)
-    (g.S.Outlet.places c.step.new.sink)) c.loop-steps-test.true c.step.ensures.steps in
+    subst (λ (stepped : Bool). StepsInto (steps_of stepped) c.args.place
+    (outlet (g.S.Outlet.frames c.loop-steps.sink) (g.S.Outlet.places c.loop-steps.sink))
+    (outlet (g.S.Outlet.frames c.step.new.sink) (g.S.Outlet.places c.step.new.sink))
+    (connected c.loop-steps.host c.loop-steps.stations)
+    (connected c.step.new.host c.step.new.stations)) c.loop-steps-test.true c.step.ensures.steps in
     let fit = steps-fit c.args.host.now (world_at c.args.stations.now c.args.place) c.requires.stands c.line_at-line.ensures.adapter in
     omega (arith, into.on.most, step.on.most, fit)
 
@@ -33,9 +36,11 @@ pub loop-steps-preserved : goal.loop-steps-preserved
 loop-steps-preserved g c =
     let into = c.loop-steps.invariant.into in
     let step =
-    subst (λ (stepped : Bool). StepsInto (steps_of stepped) c.args.place c.loop-steps.stations c.step.new.stations c.loop-steps.host
-    c.step.new.host (g.S.Outlet.frames c.loop-steps.sink) (g.S.Outlet.frames c.step.new.sink) (g.S.Outlet.places c.loop-steps.sink)
-    (g.S.Outlet.places c.step.new.sink)) c.loop-steps-test.true c.step.ensures.steps in
+    subst (λ (stepped : Bool). StepsInto (steps_of stepped) c.args.place
+    (outlet (g.S.Outlet.frames c.loop-steps.sink) (g.S.Outlet.places c.loop-steps.sink))
+    (outlet (g.S.Outlet.frames c.step.new.sink) (g.S.Outlet.places c.step.new.sink))
+    (connected c.loop-steps.host c.loop-steps.stations)
+    (connected c.step.new.host c.step.new.stations)) c.loop-steps-test.true c.step.ensures.steps in
     record {
       into = into-join c.loop-steps.steps 1 c.args.place c.args.stations.now c.loop-steps.stations c.step.new.stations c.args.host.now
           c.loop-steps.host c.step.new.host (g.S.Outlet.frames c.args.sink.now) (g.S.Outlet.frames c.loop-steps.sink)
@@ -55,9 +60,10 @@ returns-clause-drains g c =
     drains-into n c.args.place c.args.stations.now c.step.new.stations c.args.host.now c.step.new.host
     (g.S.Outlet.frames c.args.sink.now) (g.S.Outlet.frames c.step.new.sink) (g.S.Outlet.places c.args.sink.now)
     (g.S.Outlet.places c.step.new.sink)
-    (subst (λ (k : ℕ). StepsInto k c.args.place c.args.stations.now c.step.new.stations c.args.host.now c.step.new.host
-    (g.S.Outlet.frames c.args.sink.now) (g.S.Outlet.frames c.step.new.sink) (g.S.Outlet.places c.args.sink.now)
-    (g.S.Outlet.places c.step.new.sink)) none
+    (subst (λ (k : ℕ). StepsInto k c.args.place
+    (outlet (g.S.Outlet.frames c.args.sink.now) (g.S.Outlet.places c.args.sink.now))
+    (outlet (g.S.Outlet.frames c.step.new.sink) (g.S.Outlet.places c.step.new.sink))
+    (connected c.args.host.now c.args.stations.now) (connected c.step.new.host c.step.new.stations)) none
     (into-join n more c.args.place c.args.stations.now c.loop-steps.stations c.step.new.stations c.args.host.now
     c.loop-steps.host c.step.new.host (g.S.Outlet.frames c.args.sink.now) (g.S.Outlet.frames c.loop-steps.sink)
     (g.S.Outlet.frames c.step.new.sink) (g.S.Outlet.places c.args.sink.now) (g.S.Outlet.places c.loop-steps.sink)

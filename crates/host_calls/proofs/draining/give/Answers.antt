@@ -4,6 +4,8 @@ use Rattle.packet_socket.specs.declared.receive.RecvError.{RecvError}
 use Rattle.stations.specs.Stations.{world_at}
 use Rattle.host_calls.specs.CallAnswers.{MakesRecv, given_by}
 use Rattle.host_calls.specs.CallsOfHosts.{CallRuns}
+use Rattle.packet_socket.specs.HostStretches.{did}
+use Rattle.host_calls.specs.ConnectedHosts.{connected, played_call}
 use Rattle.host_calls.proofs.CallSteps.{given-steps, not-refused}
 use Rattle.host_calls.proofs.draining.give.Goals as goal
 
@@ -17,9 +19,11 @@ returns-in-Ok g c =
       on = given-steps c.args.place c.args.socket c.in-Ok.frame c.args.stations.now c.recv.new.stations c.args.outcomes.now
           c.recv.new.outcomes c.recv.result.accesses c.args.host.now c.recv.new.host
           (MakesRecv (Ok c.in-Ok.frame) c.args.socket c.args.host.now c.recv.new.host)
-          (subst (λ (answer : Result (List ℕ) RecvError). CallRuns c.args.place [] c.args.stations.now c.recv.new.stations
-          c.args.outcomes.now c.recv.new.outcomes c.recv.result.accesses c.args.host.now c.recv.new.host []
-          (given_by c.args.socket answer) [] (MakesRecv answer c.args.socket c.args.host.now c.recv.new.host)) c.in-Ok.is c.recv.ensures.runs) c.requires.free;
+          (subst (λ (answer : Result (List ℕ) RecvError). CallRuns
+          (played_call c.args.place [] c.args.outcomes.now c.recv.new.outcomes c.recv.result.accesses)
+          (did [] (given_by c.args.socket answer) []) (MakesRecv answer c.args.socket c.args.host.now c.recv.new.host)
+          (connected c.args.host.now c.args.stations.now) (connected c.recv.new.host c.recv.new.stations)) c.in-Ok.is
+          c.recv.ensures.runs) c.requires.free;
     }
 
 pub returns-in_default : goal.returns-in_default

@@ -2,10 +2,10 @@ use Rattle.std.proofs.Common.{◌++◌, [], ℕ, List, refl, sym, ap, subst, ◌
 use Rattle.std.proofs.lemmas.List.{append-nil}
 use Rattle.std.proofs.lemmas.Option.{slice_get-get_or}
 use Rattle.delivery.specs.Happenings.{Happening, of_host, told}
-use Rattle.stations.specs.Stations.{wire_at, world_at}
+use Rattle.stations.specs.Stations.{wire_at}
 use Rattle.network_plan.specs.declared.reply.Answer.TheVariants.{Received}
-use Rattle.host_calls.specs.CallAnswers.{AnswersRecv, LeavesRecv, MakesRecv, given_by}
-use Rattle.host_calls.specs.CallsOfHosts.{CallRuns}
+use Rattle.host_calls.specs.CallAnswers.{LeavesRecv, MakesRecv, RecvRuns, given_by}
+use Rattle.host_calls.specs.ConnectedHosts.{connected, played_call}
 use Rattle.packet_socket.specs.declared.receive.RecvError.{RecvError}
 use Rattle.std.specs.Prelude.{Result}
 use Rattle.wire.specs.Runs.{given_of}
@@ -36,13 +36,12 @@ pub returns : goal.returns
 returns c =
     let host = slice_index_or c.args.hosts.now c.args.host c.index-hosts-host.result in
     let answer = c.shown.result in
-    let runs : CallRuns c.args.host c.args.ticks.now c.args.stations.now c.recv_into-called.new.stations c.args.outcomes
-    c.recv_into-called.new.outcomes c.recv_into-called.result.accesses host c.recv_into-called.new.host []
-    (given_by c.args.socket answer) [] (MakesRecv answer c.args.socket host c.recv_into-called.new.host) =
-    subst (λ (shown : Result (List ℕ) RecvError). CallRuns c.args.host c.args.ticks.now c.args.stations.now
-    c.recv_into-called.new.stations c.args.outcomes c.recv_into-called.new.outcomes c.recv_into-called.result.accesses host
-    c.recv_into-called.new.host [] (given_by c.args.socket shown) []
-    (MakesRecv shown c.args.socket host c.recv_into-called.new.host)) (sym c.shown.ensures) c.recv_into-called.ensures.runs in
+    let called = c.recv_into-called in
+    let call = played_call c.args.host c.args.ticks.now c.args.outcomes called.new.outcomes called.result.accesses in
+    let recv : RecvRuns call c.args.socket answer (connected host c.args.stations.now) (connected called.new.host called.new.stations) =
+    subst (λ (shown : Result (List ℕ) RecvError). RecvRuns call c.args.socket shown (connected host c.args.stations.now)
+    (connected called.new.host called.new.stations)) (sym c.shown.ensures) called.ensures.gives in
+    let runs = recv.runs in
     call-played c.args.host c.args.ticks.now (record { hosts = c.args.hosts.now; stations = c.args.stations.now })
     c.recv_into-called.new.stations c.args.outcomes c.recv_into-called.new.outcomes host c.recv_into-called.new.host []
     (given_by c.args.socket answer) [] (MakesRecv answer c.args.socket host c.recv_into-called.new.host)
@@ -58,10 +57,7 @@ returns c =
     (record {
       result = answer;
       is = refl;
-      answers = subst (λ (shown : Result (List ℕ) RecvError). AnswersRecv shown c.args.socket host (world_at c.args.stations.now c.args.host))
-          (sym c.shown.ensures) c.recv_into-called.ensures.answers;
-      leaves = subst (LeavesRecv answer c.args.socket host c.recv_into-called.new.host) runs.are_told.counted
-          (subst (λ (shown : Result (List ℕ) RecvError). LeavesRecv shown c.args.socket host c.recv_into-called.new.host
-          c.recv_into-called.result.accesses) (sym c.shown.ensures) c.recv_into-called.ensures.leaves);
+      answers = recv.answers;
+      leaves = subst (LeavesRecv answer c.args.socket host called.new.host) runs.are_told.counted recv.leaves;
       makes = runs.makes;
     })
