@@ -1,4 +1,4 @@
--- What is told of an access alone.
+-- What is printed for an access without steps.
 use Rattle.std.proofs.Common.{◌≡◌, ℕ, List, Option, length, refl, sym, ap, subst, ◌∙◌}
 use Rattle.std.specs.Io.KnownBytes.{Appends}
 use Rattle.bus.specs.Trails.{world_after_access}

@@ -1,4 +1,4 @@
--- An access over a bus that plays nothing by itself, and on which nothing waits, is that access alone.
+-- If a bus plays no steps by itself and none waits, only the access itself happens in an access.
 use Rattle.std.proofs.Common.{◌≡◌, ◌+◌, ◌++◌, ℕ, Bool, List, [], ◌∷◌, length, map, min, refl, sym, ap, subst, ◌∙◌}
 use Rattle.bus.specs.PastOfStretch.{Past}
 use Rattle.bus.specs.TickGroups.{played_in, waiting_after}
@@ -12,7 +12,7 @@ use Rattle.solo_bus.specs.declared.solo_bus.SoloTick.{SoloTick}
 use Rattle.solo_bus.specs.declared.solo_bus.SoloTick.TheVariants.{Go}
 use Rattle.adapter_server.specs.Devices.{IsQuiet}
 
--- Events of one Go alone are one access.
+-- The events of one Go are one access.
 one_access : (events : List Event) → map tick_of events ≡ Go ∷ [] → (access : Access) × (events ≡ AccessEvent access ∷ [])
 one_access [] is = absurd (cc)
 one_access (StepEvent kind free answer ∷ later) is = absurd (cc)
@@ -26,7 +26,7 @@ same_solo : (world world' : World) (lively lively' : Bool) (waiting waiting' : L
     ≡ record { world = world'; lively = lively'; waiting = waiting'; wire = wire'; accesses = count }
 same_solo world world' lively lively' waiting waiting' wire wire' count e1 e2 e3 e4 = rw (e1, e2, e3, e4) refl
 
--- what an access alone leaves
+-- the state after an access without steps
 pub record Alone (access : Access) (a b : SoloState) : Type 0 where
   pub answered : IsAnswered access a.world
   pub after : b ≡ record a { world = world_after_access access a.world; accesses = b.accesses }

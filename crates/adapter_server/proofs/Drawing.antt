@@ -1,4 +1,4 @@
--- Steps that are drawn, one behind another.
+-- Drawn steps, in order.
 use Rattle.std.proofs.Common.{◌≡◌, ◌+◌, ◌++◌, ℕ, List, [], ◌∷◌, Option, add-one, refl, sym, ap, subst, ◌∙◌}
 use Rattle.rand_pcg.specs.Lcg.{Lcg}
 use Rattle.adapter.specs.declared.step.StepKind.{StepKind}
@@ -14,7 +14,7 @@ drawn_more : (n : ℕ) (generator : Lcg) → drawn_kinds (n + 1) generator ≡ o
 unfolding drawn_kinds
 drawn_more n generator = rw add-one refl
 
--- So many steps were drawn and played.
+-- This many steps were drawn and played.
 pub record DrawnSoFar (n : ℕ) (a b : Session) (before now : Option (List ℕ)) : Type 0 where
   pub moved : ℕ
   pub played : PlayedFront (drawn_kinds n a.generator).kinds moved a.device b.device before now

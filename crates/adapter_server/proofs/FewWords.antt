@@ -1,4 +1,4 @@
--- The first words of a line ask for what all of them do, where a line of a request has no more.
+-- Five words of a line have the request of all, since no request has more than four.
 use Rattle.std.proofs.Common.{◌≡◌, ◌∙◌, ◌<◌, ◌≤◌, ◌==◌, ℕ, Bool, false, List, [], ◌∷◌, Option, Some, None, ap, arith, cond}
 use Rattle.std.proofs.Common.{inl, inr, length, refl, sym, take, ◌⊎◌}
 use Rattle.std.proofs.lemmas.Bool.Decides.{nat_tests}
@@ -32,7 +32,7 @@ differs n count more = grind (arith, nat_tests)
 either : (n most : ℕ) → (n ≤ most) ⊎ (most < n)
 either n most = grind (arith, nat_tests)
 
--- so many words are no request of this verb
+-- A line with too many words is refused.
 refused_count : (verb : Verb) (words : List Text) → word_count verb < length words → request_if (Some verb) words ≡ Err refusals.Count
 refused_count verb words more =
     ap (λ (same : Bool). cond same (request_with verb words) (Err refusals.Count)) (differs (length words) (word_count verb) more)

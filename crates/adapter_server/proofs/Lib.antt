@@ -3,6 +3,7 @@ pub mod Alone
 pub mod Drawing
 pub mod FewWords
 pub mod Numbers
+pub mod Parts
 pub mod Places
 pub mod Playing
 pub mod ReadRequests

@@ -1,4 +1,4 @@
--- Steps one behind another, and rounds of them.
+-- Steps in order, and rounds of them.
 use Rattle.std.proofs.Common.{◌≡◌, ◌+◌, ◌<◌, ◌≤◌, ◌++◌, ◌==◌, ℕ, suc, Bool, false, List, [], ◌∷◌, Option, append_assoc, refl, sym, ap}
 use Rattle.std.proofs.Common.{subst, ◌∙◌, arith}
 use Rattle.std.specs.Prelude.{MatchBool}
@@ -37,7 +37,7 @@ plays_more (head ∷ later) one a b c first rest plays step = record {
   text_is = ap (λ (t : Text). t ++ rest) plays.text_is ∙ append_assoc plays.first plays.rest rest;
 }
 
--- So many of these kinds were played, and so many of the steps did something; a text was written of it.
+-- Steps of these kinds were played, this many did something, and their text was written.
 pub record PlayedFront (kinds : List StepKind) (moved : ℕ) (a b : Device) (before after : Option (List ℕ)) : Type 0 where
   pub text : Text
   pub written : Appends before after text
@@ -92,7 +92,7 @@ moved_little Fault = omega arith
 pub quiet_on : (a b c : SoloState) → StaysQuiet a b → StaysQuiet b c → StaysQuiet a c
 quiet_on a b c one two = record { quiet = two.quiet; size = two.size ∙ one.size }
 
--- So many rounds were played, in which so many steps did something, and whatever settles from here on settles from the beginning.
+-- In the rounds so far this many steps did something, and whatever settles from here on settles from the beginning.
 pub record SettlesOn (left moved : ℕ) (a b : Device) (before now : Option (List ℕ)) : Type 0 where
   pub text : Text
   pub written : Appends before now text
@@ -112,7 +112,7 @@ settle_none a before = record {
 some_no : (n : ℕ) → 0 < n → (n == 0) ≡ false
 some_no n some = grind (arith, nat_tests)
 
--- a round that did something, and what settles behind it
+-- a round that did something, and what settles after it
 one_round : (left here later : ℕ) (b d c : Device) (first rest : Text) → Round here b d first → 0 < here → Settles left later d c rest
     → Settles (suc left) (here + later) b c (first ++ rest)
 unfolding Settles

@@ -33,7 +33,7 @@ known_then (Some a) None after P Q R joins one two = absurd one
 known_then (Some a) (Some b) None P Q R joins one two = absurd two
 known_then (Some a) (Some b) (Some c) P Q R joins one two = joins a b c one two
 
--- what gives a byte after reads that gave nothing gives it from the beginning
+-- a byte that is read after reads that returned none is the next byte
 pub gives_kept : (byte : Option ℕ) (before now after : Option (List ℕ)) → Keeps before now → GivesByte byte now after
     → GivesByte byte before after
 gives_kept (Some byte) None now after keeps gives = tt

@@ -1,4 +1,4 @@
--- Lines that are answered, one behind another.
+-- Lines that are answered, one after another.
 use Rattle.std.proofs.Common.{◌≡◌, ◌≢◌, ◌<◌, ◌≤◌, ◌++◌, ℕ, Bool, true, false, List, [], ◌∷◌, Option, Some, None, length, nat_lt}
 use Rattle.std.proofs.Common.{ap, append_assoc, arith, refl, sym, subst, ◌∙◌}
 use Rattle.std.proofs.lemmas.Bool.Decides.{nat_tests}
@@ -24,7 +24,7 @@ use Rattle.adapter_server.specs.declared.session.Session.{Session}
 use Rattle.adapter_server.proofs.ReadingLines.{known_same, known_then, lines_some}
 use Rattle.adapter_server.proofs.Writing.{appends_kept, appends_none, appends_then}
 
--- Lines are served, and behind them others.
+-- Lines are served, and then others.
 serves_append : (front lines : List Text) (begin now last : Session) (text rest : Text) → Serves front begin now text
     → Serves lines now last rest → Serves (front ++ lines) begin last (text ++ rest)
 serves_append [] lines begin now last text rest served more =
@@ -119,7 +119,7 @@ serves_long old new later begin now next before middle after on long told = reco
       on.goes long;
 }
 
--- The end of the input is no line.
+-- The end of the input isn't a line.
 serves_end : (old new later : Option (List ℕ)) (begin now next : Session) (before middle after : Option (List ℕ))
     → ServesOn old new begin now before middle → BothKnown new later AtEnd
     → Tells middle after (λ text. (next ≡ now) × (text ≡ [])) → ServesOn old later begin next before after
@@ -209,7 +209,7 @@ serves_some options (Some bytes) begin before after begins served = record {
   written = served.written;
 }
 
--- What is told stays told where nothing more is written.
+-- A written text stays if nothing more is written.
 pub tells_sent : (before after sent : Option (List ℕ)) (Holds : Text → Type 0) → Tells before after Holds → Keeps after sent
     → Tells before sent Holds
 tells_sent before after sent Holds told kept = record {
@@ -218,7 +218,7 @@ tells_sent before after sent Holds told kept = record {
   written = appends_kept before after sent told.text told.written kept;
 }
 
--- While a line is answered nothing is read.
+-- Answering a line reads nothing.
 pub never_read : (cause : AnswerError) → ended_by cause ≡ errors.Read → ⊥
 never_read causes.Memory same = cc
 never_read causes.Write same = cc

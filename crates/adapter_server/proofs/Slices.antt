@@ -1,6 +1,6 @@
--- A word of references, and the text behind it.
-use Rattle.std.proofs.Common.{◌≡◌, ◌∙◌, ◌<◌, ℕ, List, [], Bor, length, get_or, ap, sym}
-use Rattle.std.proofs.lemmas.List.{get_or-map}
+-- A word in memory, and its text.
+use Rattle.std.proofs.Common.{◌≡◌, ◌∙◌, ◌<◌, ◌++◌, ℕ, List, [], Bor, length, get_or, take, drop, ap, sym, arith}
+use Rattle.std.proofs.lemmas.List.{get_or-map, take-append-le, take_all}
 use Rattle.adapter_server.specs.Texts.{Text}
 use Rattle.adapter_server.specs.Words.{texts, word}
 
@@ -8,3 +8,12 @@ pub at_texts : (words : List (Bor Text)) (place : ℕ) (one : Bor Text) → plac
     → one.now ≡ word place (texts words)
 at_texts words place one below here =
     ap (λ (w : Bor Text). w.now) here ∙ sym (get_or-map (λ (w : Bor Text). w.now) words place one [] below)
+
+-- bytes that a call wrote into the whole of a list
+pub filled : (size : ℕ) (into items : List ℕ) → size ≡ length into → take size (into ++ drop (length into) items) ≡ into
+filled size into items same =
+    take-append-le size into (drop (length into) items) (omega arith) ∙ take_all size into (omega arith)
+
+pub filled_as : (size : ℕ) (into items bytes : List ℕ) → size ≡ length into → into ≡ bytes
+    → take size (into ++ drop (length into) items) ≡ bytes
+filled_as size into items bytes same is = filled size into items same ∙ is

@@ -1,4 +1,4 @@
--- What is told of a request, and the line of its answer.
+-- What is printed for a request, and the line of its answer.
 use Rattle.std.proofs.Common.{◌≡◌, ◌++◌, ℕ, List, Option, refl, subst}
 use Rattle.std.specs.Io.KnownBytes.{Appends}
 use Rattle.bus.specs.declared.event.Access.{Access}

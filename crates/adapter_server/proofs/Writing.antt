@@ -1,4 +1,4 @@
--- Texts that are written one behind another.
+-- Texts that are written one after another.
 use Rattle.std.proofs.Common.{◌++◌, ℕ, List, [], Option, Some, None, append_assoc, sym, ap, ◌∙◌}
 use Rattle.std.proofs.lemmas.List.{append-nil}
 use Rattle.std.specs.Io.KnownBytes.{Appends, Keeps}

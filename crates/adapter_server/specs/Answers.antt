@@ -1,4 +1,4 @@
--- What each request answers and leaves (own; the words of answers are those of QEMU, docs/devel/testing/qtest).
+-- The answer to each request, and the state after it (our choice; the words of answers are QEMU's, docs/devel/testing/qtest).
 use Rattle.std.specs.Prelude.{◌≡◌, ◌++◌, ◌%◌, ◌^◌, ℕ, List, Result, Ok, Err, codes, if◌then◌else◌, length, IsUtf8}
 use Rattle.std.specs.Int.{from_le_bytes, to_le_bytes, w32}
 use Rattle.bus.specs.declared.event.Access.{Access}
@@ -24,7 +24,7 @@ use Rattle.adapter_server.specs.declared.session.Place.{Place}
 use Rattle.adapter_server.specs.declared.session.Place.TheVariants.{Register, Memory, Nowhere}
 use Rattle.adapter_server.specs.declared.session.Session.{Session}
 
--- One access of the bus, behind the steps that the generator says.
+-- The steps that the generator chooses are played, and then the access happens.
 pub record Accessed (access : Access) (said : Text) (a b : Session) (text : Text) : Type 0 where
   pub middle : Session
   pub first : Text
@@ -34,12 +34,12 @@ pub record Accessed (access : Access) (said : Text) (a b : Session) (text : Text
   pub after : b ≡ record middle { device = b.device }
   pub text_is : text ≡ first ++ rest
 
--- Something happens to the adapter and its memory alone.
+-- Something happens to the adapter and its memory, and nothing else changes.
 pub record OnDevice (Happens : Device → Device → Text → Type 0) (a b : Session) (text : Text) : Type 0 where
   pub happens : Happens a.device b.device text
   pub after : b ≡ record a { device = b.device }
 
--- What happens is told, and then stands the line of the answer.
+-- What happens is printed, and then the line of the answer.
 pub record Answered (Happens : Text → Type 0) (line : Text) (text : Text) : Type 0 where
   pub told : Text
   pub happens : Happens told
@@ -53,7 +53,7 @@ pub record Replies (line : Text) (a b : Session) (text : Text) : Type 0 where
 abbrev pub Refuses : Refusal → Session → Session → Text → Type 0
 Refuses refusal a b text = Replies (refusal_line refusal) a b text
 
--- A read of a register answers what the register reads, by this line.
+-- A read of a register answers the line of the value that the register reads.
 pub record ReadsRegister (line : ℕ → Text) (offset : ℕ) (said : Text) (a b : Session) (text : Text) : Type 0 where
   pub value : ℕ
   pub answered : Answered (Accessed (Reads offset value) said a b) (line value) text
@@ -62,7 +62,7 @@ pub record ReadsRegister (line : ℕ → Text) (offset : ℕ) (said : Text) (a b
 abbrev pub register_line : ℕ → Text
 register_line value = bytes_line (to_le_bytes w32 value)
 
--- the memory behind a request
+-- the memory of a session
 abbrev pub memory_of : Session → List ℕ
 memory_of session = session.device.bus.world.memory
 
@@ -80,7 +80,7 @@ WritesNumber Memory width address value said a b text =
     Answered (Accessed (Stores address (bytes_spelling width value)) said a b) ok_line text
 WritesNumber Nowhere width address value said a b text = Refuses refusals.Address a b text
 
--- Bytes where a register of 32 bits stands are one access of it, and other bytes are those of memory.
+-- Four bytes at a register are one access of it. Other bytes are in memory.
 abbrev pub ReadsBytes : Place → (address size : ℕ) → Text → Session → Session → Text → Type 0
 ReadsBytes (Register offset) address size said a b text = ReadsRegister register_line offset said a b text
 ReadsBytes Memory address size said a b text =
@@ -101,16 +101,16 @@ pub record Delivers (frame : List ℕ) (said : Text) (a b : Session) (text : Tex
   pub fate : Fate
   pub answered : Answered (OnDevice (Arrives frame fate said) a b) (word_line (fate_word fate)) text
 
--- The answer is how many steps did something.
+-- The answer is the number of steps that did something.
 pub record SettlesAll (a b : Session) (text : Text) : Type 0 where
   pub moved : ℕ
   pub answered : Answered (OnDevice (Settles most_rounds moved) a b) (number_line moved) text
 
--- 1 where the interrupt line is asserted
+-- 1 if the interrupt line is asserted, else 0
 abbrev pub line_number : SoloState → ℕ
 line_number solo = if is_asserted solo then 1 else 0
 
--- The session is so from here on.
+-- The session is this one afterwards.
 pub record Sets (b' : Session) (b : Session) (text : Text) : Type 0 where
   pub after : b ≡ b'
   pub text_is : text ≡ ok_line
@@ -133,7 +133,7 @@ abbrev pub AnswersTo : Result Request Refusal → (said : Text) → Session → 
 AnswersTo (Ok request) said a b text = Does request said a b text
 AnswersTo (Err refusal) said a b text = Refuses refusal a b text
 
--- A line is answered by what it asks for; one that is no UTF-8 is refused.
+-- A line's request is answered; a line that isn't UTF-8 is refused.
 pub record AnswersLine (line : Text) (a b : Session) (text : Text) : Type 0 where
   pub asked : IsUtf8 line → AnswersTo (request_in (words_of line)) line a b text
   pub other : (¬ (IsUtf8 line)) → Refuses refusals.Text a b text

@@ -1,4 +1,4 @@
--- What is served where nothing is asked for (own).
+-- The default options (our choice).
 use Rattle.std.specs.Prelude.{ℕ, List, [], ◌∷◌, ◌^◌}
 use Rattle.mdic_phy.specs.declared.phy.Link.{Link}
 use Rattle.mdic_phy.specs.declared.phy.Link.TheVariants.{After}

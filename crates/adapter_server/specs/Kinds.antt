@@ -1,4 +1,4 @@
--- The kinds of steps by number, as the generator's words say them (own).
+-- The kinds of steps by number, as the words of the generator choose them (our choice).
 use Rattle.std.specs.Prelude.{◌==◌, ℕ, if◌then◌else◌}
 use Rattle.adapter.specs.declared.step.StepKind.{StepKind}
 use Rattle.adapter.specs.declared.step.StepKind.TheVariants.{TxTake, TxPut, RxData, RxDone, EepromTick, PhyTick}

@@ -6,6 +6,7 @@ pub mod Defaults
 pub mod Devices
 pub mod Words
 pub mod Spellings
+pub mod Tables
 pub mod Verbs
 pub mod Widths
 pub mod Reading

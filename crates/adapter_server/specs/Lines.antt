@@ -1,4 +1,4 @@
--- The lines of an input (own; QEMU, docs/devel/testing/qtest: a request is a line).
+-- The lines of an input (our choice; QEMU, docs/devel/testing/qtest: a request is a line).
 use Rattle.std.specs.Prelude.{◌==◌, ℕ, Bool, List, [], ◌∷◌, if◌then◌else◌}
 use Rattle.adapter_server.specs.Texts.{Text}
 
@@ -6,26 +6,26 @@ use Rattle.adapter_server.specs.Texts.{Text}
 abbrev pub is_feed : ℕ → Bool
 is_feed byte = byte == 0x0A
 
--- what stands before the first LF, or all
+-- the bytes before the first LF, or all if there is none
 abbrev pub first_line : List ℕ → Text
 first_line [] = []
 first_line (byte ∷ later) = if is_feed byte then [] else byte ∷ first_line later
 
--- what stands behind it, or nothing
+-- the bytes after the first LF, or none
 abbrev pub behind_line : List ℕ → List ℕ
 behind_line [] = []
 behind_line (byte ∷ later) = if is_feed byte then later else behind_line later
 
--- a byte in front of the first of some lines
+-- a byte added to the front of the first line
 abbrev pub with_front : ℕ → List Text → List Text
 with_front byte [] = (byte ∷ []) ∷ []
 with_front byte (line ∷ lines) = (byte ∷ line) ∷ lines
 
--- the lines of some bytes: what each LF ends, and what stands behind the last of them, where anything does
+-- the lines of some bytes: those that an LF ends, and the bytes after the last LF, if there are any
 abbrev pub lines_of : List ℕ → List Text
 lines_of [] = []
 lines_of (byte ∷ later) = if is_feed byte then [] ∷ lines_of later else with_front byte (lines_of later)
 
--- how many bytes a line has at most
+-- the maximum number of bytes of a line
 abbrev pub most_line_bytes : ℕ
 most_line_bytes = 131200

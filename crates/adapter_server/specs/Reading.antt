@@ -1,4 +1,4 @@
--- What a line asks for (QEMU, docs/devel/testing/qtest; own).
+-- The request of a line (QEMU, docs/devel/testing/qtest; our choice).
 use Rattle.std.specs.Prelude.{◌==◌, ℕ, List, [], ◌∷◌, true, false, Option, Some, None, Result, Ok, Err, codes, if◌then◌else◌, length}
 use Rattle.std.specs.Prelude.{replicate, IsUtf8}
 use Rattle.std.specs.Str.{bytes_eq}
@@ -18,18 +18,18 @@ use Rattle.adapter_server.specs.declared.verb.Verb.{Verb}
 use Rattle.adapter_server.specs.declared.verb.Verb.TheVariants.{ReadNumber, WriteNumber, Read, Write, Memset, Endianness, Step, Arrive}
 use Rattle.adapter_server.specs.declared.verb.Verb.TheVariants.{Settle, Line, Interleave, Log}
 
--- the greatest number of so many bits
+-- the greatest number of a width
 abbrev pub greatest : Width → ℕ
 greatest width.Byte = 0xFF
 greatest width.Word = 0xFFFF
 greatest width.Long = 0xFFFFFFFF
 greatest width.Quad = greatest_number
 
--- how many steps before an access may be asked for
+-- the maximum number of steps before an access that a request may set
 abbrev pub most_steps : ℕ
 most_steps = 65535
 
--- exactly so many bytes
+-- the request to write bytes, if their number is the size
 abbrev pub sized : ℕ → ℕ → List ℕ → Result Request Refusal
 sized address size bytes = if length bytes == size then Ok (requests.WriteBytes address bytes) else Err refusals.Value
 
@@ -83,7 +83,7 @@ arrive_in word = bytes_in word >>= λ bytes. Ok (requests.Arrive bytes)
 abbrev pub interleave_in : Text → Result Request Refusal
 interleave_in word = number_below most_steps word >>= λ count. Ok (requests.Interleave count)
 
--- a request of which all words are there
+-- the request of a line with the right number of words
 abbrev pub request_with : Verb → List Text → Result Request Refusal
 request_with (ReadNumber width) words = read_number_in width words
 request_with (WriteNumber width) words = write_number_in width words
@@ -102,12 +102,12 @@ abbrev pub request_if : Option Verb → List Text → Result Request Refusal
 request_if (Some verb) words = if length words == word_count verb then request_with verb words else Err refusals.Count
 request_if None words = Err refusals.Unknown
 
--- what the words of a line ask for
+-- the request of the words of a line
 abbrev pub request_in : List Text → Result Request Refusal
 request_in [] = Err refusals.Unknown
 request_in (first ∷ rest) = request_if (verb_named first) (first ∷ rest)
 
--- What a line asks for: it is a text, whose words ask for it, or it isn't.
+-- The result is the request of the line's words if the line is UTF-8, and else a refusal.
 pub record IsRead (line : Text) (result : Result Request Stop) : Type 0 where
   pub text : IsUtf8 line → Gives result (request_in (words_of line))
   pub other : (¬ (IsUtf8 line)) → Gives {A = Request} result (Err refusals.Text)

@@ -1,4 +1,4 @@
--- What a server answers to all of its input (own).
+-- What a server answers to all of its input (our choice).
 use Rattle.std.specs.Prelude.{◌≡◌, ◌++◌, ℕ, List, [], ◌∷◌, MatchBool, Option, length, nat_lt}
 use Rattle.std.specs.Io.KnownBytes.{Appends}
 use Rattle.adapter_server.specs.Answers.{AnswersLine, Refuses}
@@ -11,7 +11,7 @@ use Rattle.adapter_server.specs.declared.options.ServeOptions.{ServeOptions}
 use Rattle.adapter_server.specs.declared.refusal.Refusal.TheVariants as refusals
 use Rattle.adapter_server.specs.declared.session.Session.{Session}
 
--- What was read is answered: a line, or one that is too long; at the end of the input there is nothing.
+-- A line is answered, and one that is too long is refused. At the end of the input nothing happens.
 abbrev pub AnswersNext : NextLine → Text → Session → Session → Text → Type 0
 AnswersNext End line a b text = (b ≡ a) × (text ≡ [])
 AnswersNext Whole line a b text = AnswersLine line a b text
@@ -29,12 +29,12 @@ pub record FirstAndRest (First Rest : Session → Text → Type 0) (text : Text)
   pub later : Rest middle rest
   pub text_is : text ≡ first ++ rest
 
--- Lines are answered one behind another, each from what the one before it left.
+-- Lines are answered in order, each in the state after those before it.
 abbrev pub Serves : List Text → Session → Session → Text → Type 0
 Serves [] a b text = (b ≡ a) × (text ≡ [])
 Serves (line ∷ lines) a c text = FirstAndRest (λ b first. Turns line a b first) (λ b rest. Serves lines b c rest) text
 
--- These bytes are answered, from a new session on: all of its lines, in order.
+-- From a new session on, all lines of these bytes are answered, in order.
 pub record ServesAll (options : ServeOptions) (bytes : List ℕ) (before after : Option (List ℕ)) : Type 0 where
   pub begin : Session
   pub begins : Begins options begin
@@ -43,7 +43,7 @@ pub record ServesAll (options : ServeOptions) (bytes : List ℕ) (before after :
   pub serves : Serves (lines_of bytes) begin last text
   pub written : Appends before after text
 
--- The first of the lines of these bytes are answered, from a new session on: each whole, in order, and nothing else is written.
+-- From a new session on, the first lines of these bytes are answered, each in full, in order, and nothing else is written.
 pub record ServesSome (options : ServeOptions) (bytes : List ℕ) (before after : Option (List ℕ)) : Type 0 where
   pub begin : Session
   pub begins : Begins options begin
@@ -55,7 +55,7 @@ pub record ServesSome (options : ServeOptions) (bytes : List ℕ) (before after 
   pub serves : Serves answered begin last text
   pub written : Appends before after text
 
--- The first of the lines of these bytes are answered, each whole, in order.
+-- The first lines of these bytes are answered, each in full, in order.
 pub record ServesFront (bytes : List ℕ) (begin : Session) (text : Text) : Type 0 where
   pub answered : List Text
   pub left : List Text

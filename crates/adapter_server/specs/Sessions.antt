@@ -1,4 +1,4 @@
--- What a server holds, and the steps before an access (own).
+-- The state of a server, and the steps before an access (our choice).
 use Rattle.std.specs.Prelude.{◌≡◌, ◌==◌, ◌+◌, ◌-◌, ◌%◌, ◌&&◌, ℕ, zero, suc, false, List, [], ◌∷◌, ◌++◌, Bool, if◌then◌else◌, length, nat_le}
 use Rattle.std.specs.Prelude.{nat_lt, replicate}
 use Rattle.rand_core.specs.Pcg32Seed.{pcg32_seed}
@@ -33,9 +33,9 @@ pub record Begins (options : ServeOptions) (session : Session) : Type 0 where
   pub generator : session.generator ≡ pcg32_of_seed (pcg32_seed 16 options.seed)
   pub most_steps : session.most_steps ≡ 0
 
--- Where an access goes.
+-- The target of an access.
 
--- how many bytes of registers there are (13.4 "Main Register Descriptions")
+-- the number of bytes of registers (13.4 "Main Register Descriptions")
 abbrev pub register_bytes : ℕ
 register_bytes = 0x20000
 
@@ -44,29 +44,29 @@ abbrev pub is_register : (registers address count : ℕ) → Bool
 is_register registers address count =
     (count == 4) && nat_le registers address && nat_lt (address - registers) register_bytes && ((address - registers) % 4 == 0)
 
--- so many bytes from an address on lie in memory
+-- This many bytes from an address on are in memory.
 abbrev pub is_memory : Session → (address count : ℕ) → Bool
 is_memory session address count = nat_le (address + count) (length session.device.bus.world.memory)
 
--- what stands at so many bytes from an address on
+-- the target of an access of this many bytes at an address
 abbrev pub place_in : Session → (address count : ℕ) → Place
 place_in session address count =
     if is_register session.registers address count then Register (address - session.registers)
     else if is_memory session address count then Memory
     else Nowhere
 
--- What the generator's words say (its 32-bit words are those of rand_pcg's Lcg64Xsh32).
+-- What the words of the generator choose (its 32-bit words are those of rand_pcg's Lcg64Xsh32).
 
 -- the kind of a step
 abbrev pub drawn_kind : Lcg → StepKind × Lcg
 drawn_kind generator = let word = pcg32 generator in (kind_numbered (word.0 % 6), word.1)
 
--- how many steps come before an access, at most so many; no word is used where none are asked for
+-- the number of steps before an access, up to a maximum; no word is used if the maximum is 0
 abbrev pub drawn_count : (most : ℕ) → Lcg → ℕ × Lcg
 drawn_count most generator =
     if most == 0 then (0, generator) else (let word = pcg32 generator in (word.0 % (most + 1), word.1))
 
--- the kinds of so many steps, and the generator behind them
+-- the kinds of this many steps, and the generator after them
 pub record Drawn : Type 0 where
   pub kinds : List StepKind
   pub generator : Lcg
@@ -86,7 +86,7 @@ abbrev pub drawn_before : Session → Drawn
 drawn_before session =
     drawn_kinds (drawn_count session.most_steps session.generator).0 (drawn_count session.most_steps session.generator).1
 
--- The steps that the generator says, one behind another, and nothing else.
+-- The steps that the generator chooses are played in order, and nothing else happens.
 pub record Interleaves (a b : Session) (text : Text) : Type 0 where
   pub taken : List Taken
   pub plays : Plays taken a.device b.device text

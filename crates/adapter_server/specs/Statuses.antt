@@ -1,4 +1,4 @@
--- The exit status of a program that ends for an error of a server, and which error one ends with for a line (own).
+-- The exit status of a program that ends for an error of a server, and the error of a server that stops at a line (our choice).
 use Rattle.std.specs.Prelude.{ℕ}
 use Rattle.adapter_server.specs.declared.answer_error.AnswerError.{AnswerError}
 use Rattle.adapter_server.specs.declared.answer_error.AnswerError.TheVariants as causes
@@ -10,7 +10,7 @@ status_of Memory = 4
 status_of Read = 3
 status_of Write = 3
 
--- the error of a server that ends as a line wasn't answered whole
+-- the error of a server that stopped while it answered a line
 abbrev pub ended_by : AnswerError → ServeError
 ended_by causes.Memory = Memory
 ended_by causes.Write = Write

@@ -1,6 +1,8 @@
--- The lines that a server writes (QEMU, docs/devel/testing/qtest: OK, ERR, FAIL and IRQ; frame and # are own).
-use Rattle.std.specs.Prelude.{◌++◌, ℕ, List, [], Bool, true, false, Option, Some, None, codes}
+-- The lines that a server writes (QEMU, docs/devel/testing/qtest: OK, ERR, FAIL and IRQ; frame and # are our choice).
+use Rattle.std.specs.Prelude.{◌++◌, ℕ, List, [], Bool, true, false, Option, Some, None, codes, map}
+use Rattle.std.specs.Borrow.{Bor}
 use Rattle.std.specs.Int.{to_be_bytes, w64}
+use Rattle.std.specs.List.{concat}
 use Rattle.hex.specs.Hex.{encode_lower}
 use Rattle.adapter.specs.declared.step.StepKind.{StepKind}
 use Rattle.adapter.specs.declared.step.StepKind.TheVariants.{TxTake, TxPut, RxData, RxDone, EepromTick, PhyTick}
@@ -14,6 +16,10 @@ use Rattle.adapter_server.specs.declared.refusal.Refusal.TheVariants as refusals
 -- a text, as its bytes
 abbrev pub Text : Type 0
 Text = List ℕ
+
+-- the parts of a text, joined
+abbrev pub joined : List (Bor Text) → Text
+joined parts = concat (map (λ (part : Bor Text). part.now) parts)
 
 abbrev pub kind_word : StepKind → Text
 kind_word TxTake = codes "txtake"
@@ -42,19 +48,19 @@ fate_word Stored = codes "stored"
 
 -- The log: lines that begin with #.
 
--- the line of a step, where the log is on
+-- the line of a step, if the log is on
 abbrev pub step_log : Bool → StepKind → StepOutcome → Text
 step_log true kind outcome = codes "# step " ++ kind_word kind ++ codes " -> " ++ outcome_word outcome ++ codes "\n"
 step_log false kind outcome = []
 
--- the line of what was asked for, where the log is on
+-- the line of a request, if the log is on
 abbrev pub said_log : Bool → Text → Text
 said_log true said = codes "# " ++ said ++ codes "\n"
 said_log false said = []
 
--- What happened.
+-- Frames and the interrupt line.
 
--- a frame that was put
+-- a frame that was put onto the wire
 abbrev pub frame_line : List ℕ → Text
 frame_line frame = codes "frame " ++ encode_lower frame ++ codes "\n"
 
@@ -62,7 +68,7 @@ abbrev pub frame_told : Option (List ℕ) → Text
 frame_told (Some frame) = frame_line frame
 frame_told None = []
 
--- the interrupt line was so, and is so
+-- a change of the interrupt line
 abbrev pub line_moved : (was is : Bool) → Text
 line_moved false true = codes "IRQ raise 0\n"
 line_moved true false = codes "IRQ lower 0\n"

@@ -1,4 +1,4 @@
-// Accesses, with the steps before each.
+// Accesses, and the steps before each.
 
 ghost use Rattle.std.specs.Prelude.{◌≡◌, ◌+◌, ◌≤◌, IfOk, OnOk, length};
 ghost use Rattle.bus.specs.declared.event.Access.TheVariants.{Loads, Reads, Stores, Writes};
@@ -48,7 +48,7 @@ impl Session {
         self.device.write(alloc, out, said, offset, value)
     }
 
-    /// Loads bytes that lie in memory.
+    /// Loads bytes that are in memory.
     pub(crate) fn load<W: Write>(
         &mut self,
         alloc: Global,
@@ -72,7 +72,7 @@ impl Session {
         Ok(bytes)
     }
 
-    /// Stores bytes where they lie in memory.
+    /// Stores bytes that fit in memory.
     pub(crate) fn store<W: Write>(
         &mut self,
         alloc: Global,

@@ -1,16 +1,16 @@
-// Why a line wasn't answered whole.
+// Why answering a line stopped.
 
 ghost use Rattle.std.specs.Prelude.{◌≡◌};
 ghost use Rattle.adapter_server.specs.declared.answer_error.AnswerError.TheVariants as causes;
 
 use std::alloc::AllocError;
 
-/// Why a line wasn't answered whole. Nothing is read while it is, so no read fails.
+/// Why answering a line stopped. Answering reads no input, so there is no error of reading.
 #[derive(Clone, Copy)]
 pub(crate) enum AnswerError {
     /// Memory was refused.
     Memory,
-    /// The output failed while it was written.
+    /// Writing to the output failed.
     Write,
 }
 

@@ -1,4 +1,4 @@
-// Requests, answered.
+// Answers to requests.
 
 ghost use Rattle.std.specs.Prelude.{◌≡◌, ◌≤◌, IfOk, OnOk, codes, length};
 ghost use Rattle.std.specs.Int.{from_le_bytes, w32};
@@ -17,17 +17,17 @@ use adapter::StepKind;
 use std::alloc::{AllocError, Global};
 use std::io::Write;
 
-/// How many values a register has.
+/// The number of values of a register.
 const REGISTER_VALUES: u64 = 1 << 32;
 
-/// How many bytes a register has.
+/// The number of bytes of a register.
 const REGISTER_WIDTH: usize = 4;
 
-/// How many bytes a number has at most.
+/// The maximum number of bytes of a number.
 const MOST_NUMBER_BYTES: usize = 8;
 
 impl Width {
-    /// How many bytes a number has.
+    /// The number of bytes of a number of this width.
     pub(crate) fn bytes(self) -> usize
         ensures { result ≡ bytes_of self }
     {
@@ -40,7 +40,7 @@ impl Width {
     }
 }
 
-/// The number that bytes spell, the lowest first.
+/// The number with these bytes, the lowest first.
 #[tactic(auto, unfolding(crate::specs::Widths::number_spelled))]
 fn number_of(bytes: &[u8]) -> u64
     requires { length bytes.now ≤ 8 }
@@ -60,7 +60,7 @@ fn bytes_spelling(alloc: Global, width: Width, number: u64) -> Result<Vec<u8>, A
     Vec::from_slice(alloc, &number.to_le_bytes()[..width.bytes()])
 }
 
-/// The number of a register that four bytes spell, the lowest first.
+/// The value of a register with these four bytes, the lowest first.
 fn register_value(bytes: &[u8]) -> u32
     requires { length bytes.now ≡ 4 }
     ensures { result ≡ from_le_bytes w32 bytes.now }
@@ -79,9 +79,10 @@ impl Session {
     ghost use Rattle.adapter_server.specs.Serving.{AnswersNext};
     ghost use Rattle.adapter_server.specs.declared.refusal.Refusal.TheVariants as refusals;
 
-    /// Writes a refusal. Nothing changes.
+    /// Writes a refusal, and changes nothing.
     fn refuse<W: Write>(&mut self, out: &mut W, refusal: Refusal) -> Result<(), AnswerError>
-        ensures ok { OnOk result (Tells (W.contents out.old) (W.contents out.new) (Refuses refusal self.old self.new)) }
+        ensures ok { OnOk result
+            (Tells (W.contents out.old) (W.contents out.new) (Refuses refusal self.old self.new)) }
         ensures same { self.new ≡ self.old }
     {
         say(out, refusal.text())
@@ -338,7 +339,7 @@ impl Session {
         }
     }
 
-    /// A line that is too long is refused.
+    /// Refuses a line that is too long.
     pub(crate) fn refuse_long<W: Write>(&mut self, out: &mut W) -> Result<(), AnswerError>
         ensures ok { OnOk result
             (Tells (W.contents out.old) (W.contents out.new) (Refuses refusals.Long self.old self.new)) }
@@ -347,7 +348,7 @@ impl Session {
         self.refuse(out, Refusal::Long)
     }
 
-    /// Answers what was read: a line, or one that is too long. At the end of the input there is nothing to answer.
+    /// Answers a line, refuses one that is too long, and does nothing at the end of the input.
     pub(crate) fn answer_next<W: Write>(
         &mut self,
         alloc: Global,

@@ -1,11 +1,13 @@
-// An adapter that is served, with what is told of it.
+// The served adapter, and the lines that it prints.
 
-ghost use Rattle.std.specs.Prelude.{◌≡◌, ◌+◌, ◌≤◌, length, IfOk, OnOk};
+ghost use Rattle.std.specs.Prelude.{◌≡◌, ◌+◌, ◌≤◌, length, true, IfOk, OnOk};
 ghost use Rattle.std.specs.Io.KnownBytes.{Appends};
+ghost use Rattle.adapter.specs.Steps.{Answers};
 ghost use Rattle.adapter_server.specs.Texts.{said_log};
 ghost use Rattle.adapter_server.specs.Outcomes.{moved_by};
 ghost use Rattle.dma_memory.specs.HostMemory.{bytes_at};
 ghost use Rattle.bus.specs.declared.event.Access.TheVariants.{Loads, Reads, Stores, Writes};
+ghost use Rattle.solo_bus.specs.SoloBuses.{solo_stepped};
 
 use crate::answer_error::AnswerError;
 use crate::output::say;
@@ -13,11 +15,11 @@ use crate::text::{push_frame, push_line, push_said, push_step};
 use adapter::{Fate, StepKind, StepOutcome};
 use bus::Bus;
 use solo_bus::SoloBus;
-use std::alloc::Global;
+use std::alloc::{AllocError, Global};
 use std::io::Write;
 
-/// How many rounds of all kinds of steps `settle` plays at most (own). No ring has so many descriptors, and no link
-/// takes so many ticks.
+/// The maximum number of rounds that `settle` plays (our choice). It is more than the descriptors of a ring and the
+/// ticks of a link.
 const MOST_ROUNDS: u32 = 131_072;
 
 /// The kinds of steps, each once, in the order of a round.
@@ -30,18 +32,18 @@ const ROUND: [StepKind; 6] = [
     StepKind::PhyTick,
 ];
 
-/// An adapter and its memory, and what is told of them.
+/// An adapter and its memory, and the state of what is printed.
 #[derive(Drop)]
 pub struct Device {
-    /// The adapter and its memory. Nothing is played by itself, and no frame stays on the wire.
+    /// The adapter and its memory. The bus plays no steps by itself, and no frame stays on the wire.
     pub bus: SoloBus,
     /// Whether steps, accesses and arrivals are printed.
     pub log: bool,
-    /// Whether the interrupt line was asserted when it was told last.
+    /// Whether the interrupt line was asserted when it was last printed.
     pub line: bool,
 }
 
-/// 1 where a step with this outcome did something, else 0.
+/// 1 if a step with this outcome did something, else 0.
 fn moved_by(outcome: StepOutcome) -> u64
     ensures { result ≡ moved_by outcome }
 {
@@ -53,9 +55,9 @@ fn moved_by(outcome: StepOutcome) -> u64
 
 impl Device {
     ghost use Rattle.adapter_server.specs.Devices.{Accesses, Arrives, IsQuiet, Round, Settles, StaysQuiet, Steps};
-    ghost use Rattle.adapter_server.specs.Devices.{Tells, most_rounds, told, told_text};
+    ghost use Rattle.adapter_server.specs.Devices.{Tells, most_rounds, step_text, stepped_alone, told, told_text};
 
-    /// Writes what happened, and behind it whether the interrupt line moved.
+    /// Writes a text, and then a line if the interrupt line changed.
     fn tell<W: Write>(&mut self, out: &mut W, mut text: Vec<u8>) -> Result<(), AnswerError>
         ensures state { OnOk result (self.new ≡ told self.old) }
         ensures text { OnOk result
@@ -67,7 +69,31 @@ impl Device {
         say(out, text.as_slice())
     }
 
-    /// The adapter takes a step, and what is to be told of it is.
+    /// Makes the adapter take a step. Returns the outcome, and the lines of the step: the log's, if the log is on, and
+    /// that of the frame that it put onto the wire.
+    fn step_alone(
+        &mut self,
+        alloc: Global,
+        kind: StepKind,
+    ) -> Result<(StepOutcome, Vec<u8>), AllocError>
+        requires { IsQuiet self.old.bus }
+        ensures answers { IfOk result (λ step. Answers kind true self.old.bus.world.memory
+            self.old.bus.world.adapter (solo_stepped step.0 self.old.bus)) }
+        ensures state { IfOk result
+            (λ step. self.new ≡ record self.old { bus = stepped_alone kind step.0 self.old.bus }) }
+        ensures text { IfOk result (λ step. step.1.items ≡ step_text kind step.0 self.old) }
+        ensures quiet { OnOk result (StaysQuiet self.old.bus self.new.bus) }
+    {
+        let outcome = self.bus.step(kind);
+        let mut text = Vec::new(alloc);
+        push_step(&mut text, self.log, kind, outcome)?;
+        if let Some(frame) = self.bus.take_put() {
+            push_frame(alloc, &mut text, frame.as_slice())?;
+        }
+        Ok((outcome, text))
+    }
+
+    /// Makes the adapter take a step, and prints it.
     pub(crate) fn step<W: Write>(
         &mut self,
         alloc: Global,
@@ -79,17 +105,12 @@ impl Device {
             Tells (W.contents out.old) (W.contents out.new) (Steps kind outcome self.old self.new)) }
         ensures quiet { OnOk result (StaysQuiet self.old.bus self.new.bus) }
     {
-        let outcome = self.bus.step(kind);
-        let mut text = Vec::new(alloc);
-        push_step(&mut text, self.log, kind, outcome)?;
-        if let Some(frame) = self.bus.take_put() {
-            push_frame(alloc, &mut text, frame.as_slice())?;
-        }
+        let (outcome, text) = self.step_alone(alloc, kind)?;
         self.tell(out, text)?;
         Ok(outcome)
     }
 
-    /// Tells what was asked for, and behind it whether the interrupt line moved.
+    /// Logs a request, and then writes a line if the interrupt line changed.
     fn tell_request<W: Write>(
         &mut self,
         alloc: Global,
@@ -105,7 +126,7 @@ impl Device {
         self.tell(out, text)
     }
 
-    /// A frame is delivered to the adapter.
+    /// Delivers a frame to the adapter.
     pub(crate) fn arrive<W: Write>(
         &mut self,
         alloc: Global,
@@ -160,7 +181,7 @@ impl Device {
         Ok(())
     }
 
-    /// Loads bytes that lie in memory.
+    /// Loads bytes that are in memory.
     pub(crate) fn load<W: Write>(
         &mut self,
         alloc: Global,
@@ -173,7 +194,7 @@ impl Device {
         requires lies { address + length into.old ≤ length self.old.bus.world.memory }
         ensures ok { OnOk result (Tells (W.contents out.old) (W.contents out.new)
             (Accesses (Loads address (length into.old)) said.now self.old self.new)) }
-        ensures loaded { OnOk result (into.new ≡ bytes_at self.old.bus.world.memory address (length into.old)) }
+        ensures loaded { OnOk result (into.new ≡ bytes_at self.new.bus.world.memory address (length into.old)) }
         ensures quiet { OnOk result (StaysQuiet self.old.bus self.new.bus) }
     {
         self.bus.load(address, into);
@@ -181,7 +202,7 @@ impl Device {
         Ok(())
     }
 
-    /// Stores bytes where they lie in memory.
+    /// Stores bytes that fit in memory.
     pub(crate) fn store<W: Write>(
         &mut self,
         alloc: Global,
@@ -201,7 +222,7 @@ impl Device {
         Ok(())
     }
 
-    /// A round of steps, one of each kind; how many of them did something.
+    /// Plays a round of steps, one of each kind. Returns the number of steps that did something.
     fn round<W: Write>(&mut self, alloc: Global, out: &mut W) -> Result<u64, AnswerError>
         requires { IsQuiet self.old.bus }
         ensures ok { IfOk result
@@ -217,7 +238,7 @@ impl Device {
         Ok(moved)
     }
 
-    /// Rounds of steps until one does nothing; how many steps did something.
+    /// Plays rounds of steps until one does nothing. Returns the number of steps that did something.
     pub(crate) fn settle<W: Write>(
         &mut self,
         alloc: Global,

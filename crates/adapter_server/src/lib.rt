@@ -1,6 +1,6 @@
-//! An adapter and its memory behind a line protocol: requests are read line by line, and answered line by line.
+//! Serves an adapter and its memory over a line protocol: reads requests line by line, and answers each.
 //!
-//! The protocol is that of QEMU's `qtest`, with words for the adapter's own steps. [`serve`] is the whole of it.
+//! The protocol is that of QEMU's `qtest`, with words for the adapter's own steps. The one call is [`serve`].
 //! Section numbers are those of Intel's "PCI/PCI-X Family of Gigabit Ethernet Controllers Software Developer's
 //! Manual".
 #![tactic(auto)]
@@ -19,6 +19,7 @@ mod serve_error;
 mod server;
 mod session;
 mod spelling;
+mod table;
 mod text;
 mod verb;
 mod words;

@@ -1,4 +1,4 @@
-// Lines, read from any reader.
+// Reads lines from any reader.
 
 ghost use Rattle.std.specs.Prelude.{◌≡◌, ◌≤◌, ◌++◌, ◌∷◌, [], IfOk, OnErr, OnOk, if◌then◌else◌, length, nat_lt};
 ghost use Rattle.std.specs.Prelude.{vec_capacity};
@@ -9,24 +9,24 @@ use crate::serve_error::ServeError;
 use std::io;
 use std::io::{ErrorKind, Read};
 
-/// How many bytes a line has at most, its end not counted (own): room for a `write` of 65,536 bytes.
+/// The maximum number of bytes of a line without its end (our choice): room for a `write` of 65,536 bytes.
 pub(crate) const MOST_LINE_BYTES: usize = 131_200;
 
 /// The byte that ends a line.
 const LINE_FEED: u8 = 0x0A;
 
-/// What came of reading a line.
+/// The result of reading a line.
 #[derive(Clone, Copy)]
 pub(crate) enum NextLine {
     /// The input is at its end.
     End,
     /// A line.
     Whole,
-    /// A line that is too long, of which the front is kept.
+    /// A line that is too long, of which the beginning is kept.
     Long,
 }
 
-/// What is kept is a line, or the front of one that is too long.
+/// The result for a line, or for one that is too long.
 fn kept_as(is_long: bool) -> NextLine
     ensures { result ≡ kept_as is_long }
 {
@@ -37,7 +37,7 @@ fn kept_as(is_long: bool) -> NextLine
     }
 }
 
-/// Appends a byte to a line where there is room; whether there was.
+/// Appends a byte to a line if there is room. Returns whether there was.
 fn push_byte(line: &mut Vec<u8>, byte: u8) -> bool
     requires { MOST_LINE_BYTES ≤ vec_capacity line.old }
     ensures pushed { result ≡ nat_lt (length line.old.items) MOST_LINE_BYTES }
@@ -51,7 +51,7 @@ fn push_byte(line: &mut Vec<u8>, byte: u8) -> bool
     true
 }
 
-/// One read of the next byte of a reader; `None` at its end.
+/// Reads the next byte of a reader, once. Returns `None` at its end.
 fn try_byte<R: Read>(reader: &mut R) -> io::Result<Option<u8>>
     ensures ok { IfOk result (λ byte. GivesByte byte (R.remaining reader.old) (R.remaining reader.new)) }
     ensures err { OnErr result (Keeps (R.remaining reader.old) (R.remaining reader.new)) }
@@ -64,7 +64,8 @@ fn try_byte<R: Read>(reader: &mut R) -> io::Result<Option<u8>>
     }
 }
 
-/// The next byte of a reader; `None` at its end. A read that was interrupted is tried again, up to 2^64 - 1 times.
+/// Reads the next byte of a reader. Returns `None` at its end. Tries again after an interrupted read, up to 2^64 - 1
+/// times.
 fn next_byte<R: Read>(reader: &mut R) -> Result<Option<u8>, ServeError>
     ensures { IfOk result (λ byte. GivesByte byte (R.remaining reader.old) (R.remaining reader.new)) }
 {
@@ -79,8 +80,8 @@ fn next_byte<R: Read>(reader: &mut R) -> Result<Option<u8>, ServeError>
     Err(ServeError::Read)
 }
 
-/// Reads the next line, without its end, in place of what stands in `line`. Of one that is too long the front is kept,
-/// and the rest is skipped. Bytes are read one by one: it is for readers with a buffer.
+/// Replaces `line` by the next line, without its end. Keeps the beginning of one that is too long, and skips the rest.
+/// Reads byte by byte: the reader should have a buffer.
 pub(crate) fn next_line<R: Read>(reader: &mut R, line: &mut Vec<u8>) -> Result<NextLine, ServeError>
     requires { MOST_LINE_BYTES ≤ vec_capacity line.old }
     ensures next { IfOk result

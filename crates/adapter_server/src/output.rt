@@ -1,4 +1,4 @@
-// Text that is written.
+// Writes text.
 
 ghost use Rattle.std.specs.Prelude.{◌≡◌, OnOk};
 ghost use Rattle.std.specs.Io.KnownBytes.{Appends, Keeps};
@@ -51,7 +51,7 @@ pub(crate) fn say_word<W: Write>(alloc: Global, out: &mut W, word: &[u8]) -> Res
     say(out, line.as_slice())
 }
 
-/// What was written goes out.
+/// Flushes the output.
 pub(crate) fn send<W: Write>(out: &mut W) -> Result<(), AnswerError>
     ensures { Keeps (W.contents out.old) (W.contents out.new) }
 {

@@ -1,4 +1,4 @@
-// Requests, read from the words of a line.
+// Reads requests from the words of a line.
 
 ghost use Rattle.std.specs.Prelude.{◌≡◌, length};
 ghost use Rattle.adapter_server.specs.Reading as reading;
@@ -15,11 +15,11 @@ use crate::words::{word_at, words_in};
 use std::alloc::Global;
 use std::str;
 
-/// The greatest number of steps before an access that may be asked for (own).
+/// The maximum number of steps before an access that a request may set (our choice).
 const MOST_STEPS: u64 = 65_535;
 
 impl Width {
-    /// The greatest number of so many bits.
+    /// The greatest number of this width.
     pub(crate) fn greatest(self) -> u64
         ensures { result ≡ reading.greatest self }
     {
@@ -124,7 +124,7 @@ fn step_of(word: &str) -> Result<Request, Stop>
     }
 }
 
-/// A request of which all words are there.
+/// The request of a line with the right number of words.
 fn request_with(alloc: Global, verb: Verb, words: &[&str]) -> Result<Request, Stop>
     requires { length words.now ≡ word_count verb }
     ensures { Gives result (reading.request_with verb (texts words.now)) }

@@ -1,4 +1,4 @@
-// Why a line isn't answered by what it asks for.
+// Why a line is refused.
 
 ghost use Rattle.std.specs.Prelude.{◌≡◌};
 ghost use Rattle.adapter_server.specs.declared.refusal.Stop.TheVariants as stops;
@@ -6,18 +6,18 @@ ghost use Rattle.adapter_server.specs.Texts.{refusal_line};
 
 use std::alloc::AllocError;
 
-/// Why a line isn't answered by what it asks for. Nothing changes then.
+/// Why a line is refused. A refused line changes nothing.
 #[derive(Clone, Copy)]
 pub enum Refusal {
     /// `FAIL unknown`: its first word isn't known, or it has none.
     Unknown,
-    /// `ERR count`: it has too few words, or too many.
+    /// `ERR count`: it has too few or too many words.
     Count,
-    /// `ERR value`: a word doesn't read as what stands there.
+    /// `ERR value`: a word doesn't have the form for its place.
     Value,
     /// `ERR size`: it asks for more than 65,536 bytes.
     Size,
-    /// `ERR address`: there neither lie these bytes in memory, nor is it a register.
+    /// `ERR address`: its bytes are neither in memory nor a register.
     Address,
     /// `ERR text`: it isn't UTF-8.
     Text,
@@ -51,7 +51,7 @@ impl From<AllocError> for Stop {
 }
 
 impl Refusal {
-    /// The line that tells it.
+    /// The line that is written for it.
     pub(crate) fn text(self) -> &'static [u8]
         ensures { result.now ≡ refusal_line self }
     {

@@ -1,11 +1,11 @@
-// Requests, as data.
+// Requests.
 
 ghost use Rattle.std.specs.Prelude.{◌≡◌};
 
 use adapter::StepKind;
 use std::marker::Model;
 
-/// How many bits a number has in an access.
+/// The width of a number in an access.
 #[derive(Clone, Copy)]
 pub enum Width {
     /// 8 bits: `readb`, `writeb`.
@@ -18,7 +18,7 @@ pub enum Width {
     Quad,
 }
 
-/// Bytes that a request names. A contract sees the list of them.
+/// The bytes of a request. In contracts it is their list.
 #[derive(Drop)]
 pub struct Payload {
     pub(crate) bytes: Vec<u8>,
@@ -46,11 +46,11 @@ impl Payload {
 pub enum Request {
     /// `readb`, `readw`, `readl`, `readq`: the number at an address.
     ReadNumber(Width, u64),
-    /// `writeb`, `writew`, `writel`, `writeq`: a number is written at an address.
+    /// `writeb`, `writew`, `writel`, `writeq`: writes a number at an address.
     WriteNumber(Width, u64, u64),
-    /// `read`: so many bytes from an address on.
+    /// `read`: a number of bytes from an address on.
     ReadBytes(u64, u64),
-    /// `write`, `memset`: these bytes are written from an address on.
+    /// `write`, `memset`: writes these bytes from an address on.
     WriteBytes(u64, Payload),
     /// `endianness`: the order of the bytes of a number.
     Endianness,
@@ -58,12 +58,12 @@ pub enum Request {
     Step(StepKind),
     /// `arrive`: a frame is delivered to the adapter.
     Arrive(Payload),
-    /// `settle`: steps until none has anything to do.
+    /// `settle`: plays steps until none has anything to do.
     Settle,
     /// `line`: whether the interrupt line is asserted.
     Line,
-    /// `interleave`: up to so many steps before each access from here on.
+    /// `interleave`: plays up to this number of steps before each later access.
     Interleave(u16),
-    /// `log`: whether steps, accesses and arrivals are printed from here on.
+    /// `log`: whether later steps, accesses and arrivals are printed.
     Log(bool),
 }

@@ -1,4 +1,4 @@
-// Why a server ended before its input did.
+// Why a server ended before the end of its input.
 
 ghost use Rattle.std.specs.Prelude.{◌≡◌};
 ghost use Rattle.adapter_server.specs.declared.serve_error.ServeError.TheVariants as errors;
@@ -8,28 +8,28 @@ use crate::answer_error::AnswerError;
 use std::alloc::AllocError;
 use thiserror::Error;
 
-/// The program's exit status where a device failed.
+/// The exit status of the program if a device failed.
 const DEVICE_FAILED: u8 = 3;
 
-/// The program's exit status where memory was refused.
+/// The exit status of the program if memory was refused.
 const NO_MEMORY: u8 = 4;
 
-/// Why a server ended before its input did. Its text is what stands behind `nicbench: ` on standard error.
+/// Why a server ended before the end of its input. The program prints its text after `nicbench: ` on standard error.
 #[derive(Clone, Copy, Debug, PartialEq, Eq, Error)]
 pub enum ServeError {
     /// Memory was refused.
     #[error("E57 Memory")]
     Memory,
-    /// The input failed while it was read.
+    /// Reading from the input failed.
     #[error("E66 Read")]
     Read,
-    /// The output failed while it was written.
+    /// Writing to the output failed.
     #[error("E67 Write")]
     Write,
 }
 
 impl ServeError {
-    /// The exit status of a program that ends for this error: 3 for a device that failed, 4 for want of memory.
+    /// The exit status of a program that ends for this error: 3 if a device failed, 4 if memory was refused.
     pub fn status(&self) -> u8
         ensures { result ≡ status_of self.now }
     {

@@ -15,7 +15,7 @@ use crate::session::Session;
 use std::alloc::Global;
 use std::io::{Read, Write};
 
-/// Answers a line that was read, and sends the answer.
+/// Answers a line, and flushes the answer.
 fn answer_and_send<W: Write>(
     session: &mut Session,
     alloc: Global,
@@ -32,7 +32,7 @@ fn answer_and_send<W: Write>(
     send(output)
 }
 
-/// Reads the input line by line, and answers each line before the next is read.
+/// Reads the input line by line, and answers each line before it reads the next.
 #[tactic(auto, using(crate::proofs::ServedLines::never_read))]
 fn serve_lines<R: Read, W: Write>(
     session: &mut Session,
@@ -57,21 +57,21 @@ fn serve_lines<R: Read, W: Write>(
     Err(ServeError::Read)
 }
 
-/// Serves an adapter: reads requests from `input`, one a line, and answers each on `output`, which is flushed
-/// behind each answer, before more is read. It ends with the input.
+/// Serves an adapter: reads requests from `input`, one a line, and answers each on `output`. Flushes `output` after
+/// each answer, before it reads more. Returns at the end of the input.
 ///
-/// Bytes of input are asked for one by one, so hand it a reader with a buffer; and a writer with one, as an answer goes
-/// out whole where it is flushed.
+/// It reads the input byte by byte, so pass a reader with a buffer. Pass a writer with a buffer too: each answer is
+/// flushed as a whole.
 ///
-/// All bytes of input are answered: a line that is no request is refused, and so is one that has more than 131,200
-/// bytes, which is skipped to its end. Memory is bounded by the options', by what an adapter and its bus take, which
-/// is the same for all input (packet buffers and queues), and by 721,039 bytes beside these: a line takes 131,200, and
-/// the answer to a `read` of 65,536 bytes the others, for these, their digits, and its text.
+/// Each line is answered. A line that isn't a request is refused. So is a line of more than 131,200 bytes, which is
+/// skipped to its end. Memory use is bounded: the memory of the options, the adapter and its bus (packet buffers and
+/// queues, the same for all input), and 721,039 bytes. Of these a line takes 131,200; the answer to a `read` of 65,536
+/// bytes takes the others, for the bytes, their digits and its text.
 ///
 /// # Errors
 ///
-/// E57 where memory was refused, E66 where the input failed, or had 2^64 bytes, E67 where the output did. At E66 the
-/// lines before it were answered, each whole.
+/// E57 if memory was refused, E66 if reading failed or the input has 2^64 bytes, E67 if writing failed. At E66 each
+/// line before it was answered in full.
 #[tactic(auto, using(crate::proofs::ServedLines::never_read))]
 pub fn serve<R: Read + Drop, W: Write>(
     alloc: Global,

@@ -1,4 +1,4 @@
-// What a server holds, and the steps before an access.
+// The state of a server, and the steps before an access.
 
 ghost use Rattle.std.specs.Prelude.{◌≡◌, ◌%◌, ◌<◌, [], IfOk, OnOk, false, replicate};
 ghost use Rattle.adapter.specs.Registers.{after_write, new_adapter};
@@ -21,40 +21,40 @@ use solo_bus::SoloBus;
 use std::alloc::{AllocError, Global};
 use std::io::Write;
 
-/// How many kinds of steps there are.
+/// The number of kinds of steps.
 const KINDS: u32 = 6;
 
-/// How many bytes of registers there are (13.4 "Main Register Descriptions").
+/// The number of bytes of registers (13.4 "Main Register Descriptions").
 const REGISTER_BYTES: u64 = 0x2_0000;
 
-/// How many bytes a register has.
+/// The number of bytes of a register.
 const WORD_BYTES: u64 = 4;
 
-/// What a server holds between two requests.
+/// The state of a server between two requests.
 #[derive(Drop)]
 pub struct Session {
     /// The adapter and its memory.
     pub device: Device,
     /// The address of the first byte of registers.
     pub registers: u64,
-    /// What interleaved steps are drawn from.
+    /// The generator of interleaved steps.
     pub generator: Lcg64Xsh32,
-    /// How many steps are played before an access at most.
+    /// The maximum number of steps played before an access.
     pub most_steps: u16,
 }
 
-/// What stands where an access goes.
+/// The target of an access.
 #[derive(Clone, Copy)]
 pub enum Place {
     /// The register at this offset.
     Register(u32),
     /// Bytes of memory.
     Memory,
-    /// Nothing that answers it.
+    /// Neither.
     Nowhere,
 }
 
-/// The kind of steps of this number, below 6.
+/// The kind of steps with this number, below 6.
 fn kind_numbered(number: u32) -> StepKind
     ensures { result ≡ kind_numbered number }
 {
@@ -79,7 +79,7 @@ fn adapter_of(alloc: Global, options: &ServeOptions) -> Result<Adapter, AllocErr
     Ok(adapter)
 }
 
-/// A bus that plays nothing by itself, with a new adapter and memory of zeros.
+/// A bus that plays no steps by itself, with a new adapter and memory of zeros.
 fn bus_of(alloc: Global, options: &ServeOptions) -> Result<SoloBus, AllocError>
     ensures { IfOk result (λ bus. bus ≡ record {
       world = record {
@@ -120,7 +120,8 @@ impl Session {
         })
     }
 
-    /// What stands at so many bytes from an address on: an aligned word of 32 bits is a register, where they are.
+    /// The target of an access of `count` bytes at an address: an aligned word of 32 bits among the registers is a
+    /// register.
     pub(crate) fn place_of(&self, address: u64, count: u64) -> Place
         ensures { result ≡ place_in self.now address count }
     {
@@ -136,7 +137,7 @@ impl Session {
         Place::Nowhere
     }
 
-    /// Whether so many bytes from an address on lie in memory.
+    /// Whether `count` bytes from an address on are in memory.
     pub(crate) fn is_memory(&self, address: u64, count: u64) -> bool
         ensures { result ≡ is_memory self.now address count }
     {
@@ -144,7 +145,7 @@ impl Session {
         count <= size && address <= size - count
     }
 
-    /// The kind of steps that the generator's next word says.
+    /// The kind of steps that the next word of the generator chooses.
     fn draw_kind(&mut self) -> StepKind
         ensures kind { result ≡ (drawn_kind self.old.generator).0 }
         ensures state { self.new ≡ record self.old { generator = (drawn_kind self.old.generator).1 } }
@@ -153,7 +154,7 @@ impl Session {
         kind_numbered(word % KINDS)
     }
 
-    /// How many steps the generator's next word says, where any are asked for.
+    /// The number of steps that the next word of the generator chooses. Takes no word if the maximum is 0.
     fn draw_count(&mut self) -> u64
         ensures count { result ≡ (drawn_count self.old.most_steps self.old.generator).0 }
         ensures state { self.new ≡
@@ -166,7 +167,7 @@ impl Session {
         u64::from(word) % (u64::from(self.most_steps) + 1)
     }
 
-    /// The steps before an access, as the generator says.
+    /// Plays the steps before an access, which the generator chooses.
     pub(crate) fn interleave<W: Write>(
         &mut self,
         alloc: Global,

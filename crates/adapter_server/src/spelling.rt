@@ -9,12 +9,12 @@ use crate::request::Payload;
 use hex::FromHexError;
 use std::alloc::Global;
 
-/// How many bytes a request reads or writes at most (own).
+/// The maximum number of bytes that a request reads or writes (our choice).
 pub(crate) const MOST_BYTES: u64 = 65_536;
 
 const HEXADECIMAL: u32 = 16;
 
-/// The number of 64 bits that digits of this radix alone spell.
+/// The number of 64 bits that digits of this radix spell, if there is nothing else.
 fn digits_of(text: &str, radix: u32) -> Option<u64>
     requires low { 2 ≤ radix }
     requires high { radix ≤ 36 }
@@ -26,7 +26,7 @@ fn digits_of(text: &str, radix: u32) -> Option<u64>
     u64::from_str_radix(text, radix).ok()
 }
 
-/// The number of 64 bits that a word spells: decimal digits, or hexadecimal ones behind `0x`.
+/// The number of 64 bits that a word spells: decimal digits, or hexadecimal digits after `0x`.
 fn number_of(text: &str) -> Option<u64>
     ensures { result ≡ number_in text.now }
 {
@@ -40,7 +40,7 @@ fn number_of(text: &str) -> Option<u64>
     }
 }
 
-/// The number of so many bits, 64 at most, that a word spells.
+/// The number, at most `most`, that a word spells.
 pub(crate) fn number_at(text: &str, most: u64) -> Result<u64, Refusal>
     ensures { result ≡ number_below most text.now }
 {
@@ -72,7 +72,7 @@ pub(crate) fn bytes_at(alloc: Global, text: &str) -> Result<Payload, Stop>
     }
 }
 
-/// The bytes that pairs of hexadecimal digits behind `0x` spell.
+/// The bytes that pairs of hexadecimal digits after `0x` spell.
 pub(crate) fn payload_at(alloc: Global, text: &str) -> Result<Payload, Stop>
     ensures { Gives result (payload_in text.now) }
 {

@@ -1,4 +1,4 @@
-// The lines that a server writes, put together.
+// The lines that a server writes.
 
 ghost use Rattle.std.specs.Prelude.{◌≡◌, ◌++◌, IfOk, OnOk};
 ghost use Rattle.adapter_server.specs.Texts as texts;
@@ -20,7 +20,7 @@ pub(crate) fn kind_word(kind: StepKind) -> &'static [u8]
     }
 }
 
-/// The word of what came of a step.
+/// The word of the outcome of a step.
 pub(crate) fn outcome_word(outcome: StepOutcome) -> &'static [u8]
     ensures { result.now ≡ texts.outcome_word outcome }
 {
@@ -49,7 +49,17 @@ pub(crate) fn fate_word(fate: Fate) -> &'static [u8]
     }
 }
 
-/// Appends the line of the log that tells a step, where the log is on.
+/// Appends parts of a text, in order.
+fn push_parts(text: &mut Vec<u8>, parts: &[&[u8]]) -> Result<(), AllocError>
+    ensures { OnOk result (text.new.items ≡ text.old.items ++ texts.joined parts.now) }
+{
+    for part in parts {
+        text.extend_from_slice(part)?;
+    }
+    Ok(())
+}
+
+/// Appends the log's line for a step, if the log is on.
 pub(crate) fn push_step(
     text: &mut Vec<u8>,
     log: bool,
@@ -58,50 +68,49 @@ pub(crate) fn push_step(
 ) -> Result<(), AllocError>
     ensures { OnOk result (text.new.items ≡ text.old.items ++ texts.step_log log kind outcome) }
 {
-    if log {
-        text.extend_from_slice(b"# step ")?;
-        text.extend_from_slice(kind_word(kind))?;
-        text.extend_from_slice(b" -> ")?;
-        text.extend_from_slice(outcome_word(outcome))?;
-        text.extend_from_slice(b"\n")?;
+    if !log {
+        return Ok(());
     }
-    Ok(())
+    push_parts(
+        text,
+        &[
+            b"# step ",
+            kind_word(kind),
+            b" -> ",
+            outcome_word(outcome),
+            b"\n",
+        ],
+    )
 }
 
-/// Appends the line of the log that tells what was asked for, where the log is on.
+/// Appends the log's line for a request, if the log is on.
 pub(crate) fn push_said(text: &mut Vec<u8>, log: bool, said: &[u8]) -> Result<(), AllocError>
     ensures { OnOk result (text.new.items ≡ text.old.items ++ texts.said_log log said.now) }
 {
-    if log {
-        text.extend_from_slice(b"# ")?;
-        text.extend_from_slice(said)?;
-        text.extend_from_slice(b"\n")?;
+    if !log {
+        return Ok(());
     }
-    Ok(())
+    push_parts(text, &[b"# ", said, b"\n"])
 }
 
-/// Appends the line that tells a frame which was put.
+/// Appends the line of a frame that was put onto the wire.
 pub(crate) fn push_frame(alloc: Global, text: &mut Vec<u8>, frame: &[u8]) -> Result<(), AllocError>
     ensures { OnOk result (text.new.items ≡ text.old.items ++ texts.frame_line frame.now) }
 {
     let digits = hex::encode(alloc, frame)?;
-    text.extend_from_slice(b"frame ")?;
-    text.extend_from_slice(digits.as_bytes())?;
-    text.extend_from_slice(b"\n")?;
-    Ok(())
+    push_parts(text, &[b"frame ", digits.as_bytes(), b"\n"])
 }
 
-/// Appends the line that tells that the interrupt line moved, where it did.
+/// Appends the line of a change of the interrupt line, if it changed.
 pub(crate) fn push_line(text: &mut Vec<u8>, was: bool, is: bool) -> Result<(), AllocError>
     ensures { OnOk result (text.new.items ≡ text.old.items ++ texts.line_moved was is) }
 {
-    if is && !was {
-        text.extend_from_slice(b"IRQ raise 0\n")?;
-    }
-    if was && !is {
-        text.extend_from_slice(b"IRQ lower 0\n")?;
-    }
-    Ok(())
+    let line: &[u8] = match (was, is) {
+        (false, true) => b"IRQ raise 0\n",
+        (true, false) => b"IRQ lower 0\n",
+        _ => b"",
+    };
+    text.extend_from_slice(line)
 }
 
 /// The line of an answer with bytes.
@@ -110,9 +119,8 @@ pub(crate) fn bytes_line(alloc: Global, bytes: &[u8]) -> Result<Vec<u8>, AllocEr
     ensures { IfOk result (λ text. text.items ≡ texts.bytes_line bytes.now) }
 {
     let digits = hex::encode(alloc, bytes)?;
-    let mut text = Vec::from_slice(alloc, b"OK 0x")?;
-    text.extend_from_slice(digits.as_bytes())?;
-    text.extend_from_slice(b"\n")?;
+    let mut text = Vec::new(alloc);
+    push_parts(&mut text, &[b"OK 0x", digits.as_bytes(), b"\n"])?;
     Ok(text)
 }
 
@@ -121,8 +129,7 @@ pub(crate) fn bytes_line(alloc: Global, bytes: &[u8]) -> Result<Vec<u8>, AllocEr
 pub(crate) fn word_line(alloc: Global, word: &[u8]) -> Result<Vec<u8>, AllocError>
     ensures { IfOk result (λ text. text.items ≡ texts.word_line word.now) }
 {
-    let mut text = Vec::from_slice(alloc, b"OK ")?;
-    text.extend_from_slice(word)?;
-    text.extend_from_slice(b"\n")?;
+    let mut text = Vec::new(alloc);
+    push_parts(&mut text, &[b"OK ", word, b"\n"])?;
     Ok(text)
 }

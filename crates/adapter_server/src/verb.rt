@@ -1,9 +1,10 @@
 // What a line asks for, by its first word.
 
 ghost use Rattle.std.specs.Prelude.{◌≡◌};
-ghost use Rattle.adapter_server.specs.Verbs.{kind_named, other_verb_named, verb_named, word_count};
+ghost use Rattle.adapter_server.specs.Verbs.{kind_named, verb_named, word_count};
 
 use crate::request::Width;
+use crate::table::value_of;
 use adapter::StepKind;
 
 /// What a line asks for, by its first word.
@@ -17,7 +18,7 @@ pub(crate) enum Verb {
     Read,
     /// `write`.
     Write,
-    /// `memset`: bytes that are all the same are written.
+    /// `memset`: writes one byte many times.
     Memset,
     /// `endianness`.
     Endianness,
@@ -36,7 +37,7 @@ pub(crate) enum Verb {
 }
 
 impl Verb {
-    /// How many words a line of it has.
+    /// The number of words of its line.
     pub(crate) fn word_count(self) -> usize
         ensures { result ≡ word_count self }
     {
@@ -49,53 +50,50 @@ impl Verb {
     }
 }
 
-/// What lines with this first word ask for.
+/// The first words of requests, and what these ask for.
+const VERBS: [(&str, Verb); 18] = [
+    ("readb", Verb::ReadNumber(Width::Byte)),
+    ("readw", Verb::ReadNumber(Width::Word)),
+    ("readl", Verb::ReadNumber(Width::Long)),
+    ("readq", Verb::ReadNumber(Width::Quad)),
+    ("writeb", Verb::WriteNumber(Width::Byte)),
+    ("writew", Verb::WriteNumber(Width::Word)),
+    ("writel", Verb::WriteNumber(Width::Long)),
+    ("writeq", Verb::WriteNumber(Width::Quad)),
+    ("read", Verb::Read),
+    ("write", Verb::Write),
+    ("memset", Verb::Memset),
+    ("endianness", Verb::Endianness),
+    ("step", Verb::Step),
+    ("arrive", Verb::Arrive),
+    ("settle", Verb::Settle),
+    ("line", Verb::Line),
+    ("interleave", Verb::Interleave),
+    ("log", Verb::Log),
+];
+
+/// What a line with this first word asks for.
+#[tactic(auto, unfolding(crate::specs::Verbs::verb_named))]
 pub(crate) fn verb_of(word: &str) -> Option<Verb>
     ensures { result ≡ verb_named word.now }
 {
-    match word {
-        "readb" => Some(Verb::ReadNumber(Width::Byte)),
-        "readw" => Some(Verb::ReadNumber(Width::Word)),
-        "readl" => Some(Verb::ReadNumber(Width::Long)),
-        "readq" => Some(Verb::ReadNumber(Width::Quad)),
-        "writeb" => Some(Verb::WriteNumber(Width::Byte)),
-        "writew" => Some(Verb::WriteNumber(Width::Word)),
-        "writel" => Some(Verb::WriteNumber(Width::Long)),
-        "writeq" => Some(Verb::WriteNumber(Width::Quad)),
-        _ => other_verb_of(word),
-    }
+    value_of(&VERBS, word)
 }
 
-/// What lines with this first word ask for, if not for a number to be read or written.
-fn other_verb_of(word: &str) -> Option<Verb>
-    ensures { result ≡ other_verb_named word.now }
-{
-    match word {
-        "read" => Some(Verb::Read),
-        "write" => Some(Verb::Write),
-        "memset" => Some(Verb::Memset),
-        "endianness" => Some(Verb::Endianness),
-        "step" => Some(Verb::Step),
-        "arrive" => Some(Verb::Arrive),
-        "settle" => Some(Verb::Settle),
-        "line" => Some(Verb::Line),
-        "interleave" => Some(Verb::Interleave),
-        "log" => Some(Verb::Log),
-        _ => None,
-    }
-}
+/// The names of the kinds of steps.
+const STEP_KINDS: [(&str, StepKind); 6] = [
+    ("txtake", StepKind::TxTake),
+    ("txput", StepKind::TxPut),
+    ("rxdata", StepKind::RxData),
+    ("rxdone", StepKind::RxDone),
+    ("eeprom", StepKind::EepromTick),
+    ("phy", StepKind::PhyTick),
+];
 
-/// The kind of steps of this name.
+/// The kind of steps with this name.
+#[tactic(auto, unfolding(crate::specs::Verbs::kind_named))]
 pub(crate) fn kind_of(word: &str) -> Option<StepKind>
     ensures { result ≡ kind_named word.now }
 {
-    match word {
-        "txtake" => Some(StepKind::TxTake),
-        "txput" => Some(StepKind::TxPut),
-        "rxdata" => Some(StepKind::RxData),
-        "rxdone" => Some(StepKind::RxDone),
-        "eeprom" => Some(StepKind::EepromTick),
-        "phy" => Some(StepKind::PhyTick),
-        _ => None,
-    }
+    value_of(&STEP_KINDS, word)
 }

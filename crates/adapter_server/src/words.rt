@@ -6,11 +6,11 @@ ghost use Rattle.adapter_server.specs.Words.{texts, word, words_of};
 
 use std::alloc::{AllocError, Global};
 
-/// How many words a request has at most.
+/// The maximum number of words of a request.
 const MOST_WORDS: usize = 4;
 
-/// The words of a line, what stands between its spaces and tabs: as many as a request has at most, and one more where
-/// there are more. What is behind these isn't looked at.
+/// The first five words of a line, or all if it has fewer. Spaces and tabs separate words. A request has at most four,
+/// so the fifth shows that there are too many.
 pub(crate) fn words_in<'a>(alloc: Global, line: &'a str) -> Result<Vec<&'a str>, AllocError>
     ensures words { IfOk result (λ words. texts words.items ≡ take (MOST_WORDS + 1) (words_of line.entry.now)) }
     ensures asked { IfOk result (λ words. request_in (texts words.items) ≡ request_in (words_of line.entry.now)) }
@@ -22,7 +22,7 @@ pub(crate) fn words_in<'a>(alloc: Global, line: &'a str) -> Result<Vec<&'a str>,
         .collect(alloc)
 }
 
-/// The word of this number, from 0.
+/// The word with this number, from 0.
 #[tactic(auto, using(crate::proofs::Slices::at_texts))]
 pub(crate) fn word_at<'a>(words: &[&'a str], place: usize) -> &'a str
     requires { place < length words.now }

@@ -1,7 +1,6 @@
 -- The host that is found by its name, and changed.
 use Rattle.std.proofs.Common.{◌≡◌, ◌∙◌, ◌+◌, ◌<◌, ◌≤◌, ℕ, Bool, true, false, cond, suc, zero, List, [], ◌∷◌}
-use Rattle.std.proofs.Common.{Option, Some, None, Result, Ok, Err, length, get_or, set, not, nat_lt, ap, sym, subst, refl, arith}
-use Rattle.std.proofs.lemmas.Bool.Decides.{nat_tests}
+use Rattle.std.proofs.Common.{Option, Some, None, Result, Ok, Err, length, get_or, set, not, ap, sym, subst, refl, arith}
 use Rattle.std.proofs.lemmas.List.{get_or-map, length-map, map-set}
 use Rattle.std.proofs.lemmas.List.Quantifiers.{position-Some}
 use Rattle.std.specs.List.{find, position_or_len}
@@ -12,6 +11,7 @@ use Rattle.scenario.specs.Meanings.{IsRoomAt, changed_first}
 use Rattle.scenario.specs.SoFar.{Host, has_name, host_of, hosts_of, place_of}
 use Rattle.scenario.specs.Words.{Text}
 use Rattle.scenario.specs.declared.refusal.Fault.{Fault}
+use Rattle.scenario.proofs.Places.{place-missing}
 
 found-find : (p : Host → Bool) (xs : List Host) (k : ℕ) (d : Host) → k < length xs → p (get_or xs k d) ≡ true
     → ((j : ℕ) → j < k → p (get_or xs j d) ≡ false) → find p xs ≡ Some (get_or xs k d)
@@ -67,15 +67,8 @@ find-none p (x ∷ xs) long =
     ] in
     step (p x) refl long
 
-past : (b : Bool) (n : ℕ) → cond b (Some n) None ≡ None → b ≡ false
-past true n e = cc
-past false n e = refl
-
-longer : (m n : ℕ) → nat_lt m n ≡ false → n ≤ m
-longer m n e = grind (arith, nat_tests)
-
 pub no_room : (name : Text) (held : Host → ℕ) (most : ℕ) (hosts : List Host) → None ≡ place_of name hosts → ¬ IsRoomAt name held most hosts
 no_room name held most hosts none room =
     let p = has_name name in
-    let far = longer _ _ (past (nat_lt (position_or_len p hosts) (length hosts)) (position_or_len p hosts) (sym none)) in
-    subst (λ (o : Option Host). IsSomeAnd o (λ host. held host < most)) (find-none p hosts far) room
+    let place = place-missing p hosts none in
+    subst (λ (o : Option Host). IsSomeAnd o (λ host. held host < most)) (find-none p hosts (omega (arith, place))) room

@@ -1,4 +1,5 @@
 pub mod Addresses
+pub mod CallTicks
 pub mod Changes
 pub mod FirstFaults
 pub mod LineAnswers

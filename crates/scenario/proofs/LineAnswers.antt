@@ -1,4 +1,4 @@
--- What comes of a line, from what comes of its words.
+-- The result of reading a line, by that of reading its words.
 use Rattle.std.proofs.Common.{◌≡◌, ◌∙◌, ◌≤◌, false, cond, List, Option, Some, None, Result, Ok, Err, length, ap, sym, subst}
 use Rattle.std.specs.Option.{IsSomeAnd}
 use Rattle.std.specs.Str.{IsUtf8}

@@ -13,7 +13,7 @@ use Rattle.scenario.specs.declared.refusal.Fault.{Fault}
 use Rattle.scenario.specs.declared.refusal.Stop.{Stop}
 use Rattle.scenario.specs.declared.refusal.Stop.TheVariants as stop
 
--- Bytes before start are read: so many lines, which are good, and this is what they say.
+-- The bytes before start are read: they are this many lines, all are good, and this is what they say.
 pub record IsReadUpTo (text : Text) (start count : ℕ) (said : SoFar) : Type 0 where
   pub within : start ≤ length text
   pub number : count ≤ start

@@ -1,33 +1,20 @@
 -- The first line of a text.
-use Rattle.std.proofs.Common.{◌≡◌, ◌∙◌, ◌+◌, ◌<◌, ◌≤◌, ◌==◌, ℕ, Bool, true, false, cond, List, [], ◌∷◌, Some, None}
-use Rattle.std.proofs.Common.{length, take, drop, nat_lt, not, ap, sym, refl, arith}
+use Rattle.std.proofs.Common.{◌≡◌, ◌∙◌, ◌+◌, ◌<◌, ◌==◌, ℕ, false, cond, List, [], ◌∷◌, Some, None}
+use Rattle.std.proofs.Common.{length, take, drop, ap, sym, refl, arith}
 use Rattle.std.proofs.lemmas.Bool.Decides.{nat_tests}
 use Rattle.std.proofs.lemmas.List.{drop_all}
 use Rattle.std.proofs.lemmas.List.Splits.{length-slice_split, slice_split_first, slice_split_none}
-use Rattle.std.proofs.lemmas.List.Sums.{fails_before_first, prefix_len-le-length}
+use Rattle.std.proofs.lemmas.List.Sums.{fails_before_first}
 use Rattle.std.specs.List.{position, position_or_len, slice_split}
 use Rattle.std.specs.Str.Lines.{lines, lines_of_parts, strip_carriage_return}
 use Rattle.scenario.specs.Words.{is_feed}
-
-past : (b : Bool) (n : ℕ) → None ≡ cond b (Some n) None → b ≡ false
-past true n e = cc
-past false n e = refl
-
-some-place : (b : Bool) (n k : ℕ) → Some k ≡ cond b (Some n) None → k ≡ n
-some-place true n k e = cc
-some-place false n k e = cc
-
-longer : (m n : ℕ) → nat_lt m n ≡ false → n ≤ m
-longer m n e = grind (arith, nat_tests)
+use Rattle.scenario.proofs.Places.{place-found, place-missing}
 
 pub feed_found : (text : List ℕ) (k : ℕ) → Some k ≡ position is_feed text → k ≡ position_or_len is_feed text
-feed_found text k found = some-place (nat_lt (position_or_len is_feed text) (length text)) (position_or_len is_feed text) k found
+feed_found text k found = place-found is_feed text k found
 
 pub feed_missing : (text : List ℕ) → None ≡ position is_feed text → length text ≡ position_or_len is_feed text
-feed_missing text found =
-    let most = prefix_len-le-length (λ byte. not (is_feed byte)) text in
-    let far = longer _ _ (past (nat_lt (position_or_len is_feed text) (length text)) (position_or_len is_feed text) found) in
-    omega (arith, most, far)
+feed_missing text missing = place-missing is_feed text missing
 
 some-bytes : (n : ℕ) → 0 < n → (n == 0) ≡ false
 some-bytes n h = grind (arith, nat_tests)

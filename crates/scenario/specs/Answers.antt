@@ -1,24 +1,28 @@
--- Which lines are good, and what is wrong with the others (own).
+-- Which lines are good, and the faults of the others (our choice).
 use Rattle.std.specs.Prelude.{◌≡◌, ◌<◌, ◌≤◌, ◌==◌, ℕ, Bool, true, false, List, [], ◌∷◌, Option, Some, None, Result, Ok, Err, if◌then◌else◌}
 use Rattle.std.specs.Prelude.{◌-◌, IsSomeAnd, length, slice_index, take}
 use Rattle.std.specs.List.{fold}
 use Rattle.std.specs.Str.Lines.{lines}
 use Rattle.stations.specs.declared.tick.Tick.{Tick}
 use Rattle.std.specs.Str.{IsUtf8}
+use Rattle.scenario.specs.HostOptions.{options_asked, uses_in}
 use Rattle.scenario.specs.Kinds.{kind_named}
 use Rattle.scenario.specs.Meanings.{AreKnown, HasCount, HasNames, HasOrder, HasValues}
-use Rattle.scenario.specs.Meanings.{IsRoomAt, after_line, changed_first, number_of, ticks_in}
+use Rattle.scenario.specs.Meanings.{IsRoomAt, after_line, are_ticks, are_ticks_of, changed_first, number_of, option_words, ticks_in}
 use Rattle.scenario.specs.SoFar.{Host, SoFar, has_name, nothing}
+use Rattle.scenario.specs.Spellings.{address_in}
 use Rattle.scenario.specs.Stops.{IfFault}
 use Rattle.scenario.specs.Words.{Text, word, words_of}
+use Rattle.scenario.specs.declared.host_use.HostOptions.{HostOptions}
 use Rattle.scenario.specs.declared.line_kind.LineKind.{LineKind}
+use Rattle.scenario.specs.declared.line_kind.LineKind.TheVariants as line
 use Rattle.scenario.specs.declared.refusal.Fault.{Fault}
 use Rattle.scenario.specs.declared.refusal.Fault.TheVariants as fault
 use Rattle.scenario.specs.declared.refusal.Refusal.{Refusal}
 use Rattle.scenario.specs.declared.refusal.Refusal.TheVariants as refusal
 use Rattle.scenario.specs.declared.refusal.Stop.{Stop}
 
--- how many bytes a line has at most
+-- the maximum number of bytes of a line
 abbrev pub most_line_bytes : ℕ
 most_line_bytes = 8192
 
@@ -29,7 +33,7 @@ pub record IsGood (kind : LineKind) (before : SoFar) (words : List Text) : Type 
   pub names : HasNames kind before.hosts words
   pub order : HasOrder kind before.commands
 
--- what is wrong with a line of this kind: the first that applies
+-- the fault of a line of this kind: the first that applies
 abbrev pub IsFaulty : LineKind → SoFar → List Text → Fault → Type 0
 IsFaulty kind before words fault.Count = ¬ HasCount kind words
 IsFaulty kind before words fault.Value = HasCount kind words × (¬ HasValues kind words)
@@ -38,34 +42,53 @@ IsFaulty kind before words fault.Order =
     HasCount kind words × HasValues kind words × HasNames kind before.hosts words × (¬ HasOrder kind before.commands)
 IsFaulty kind before words _ = ⊥
 
--- what comes of a line of this kind
+-- the result of reading a line of this kind
 abbrev pub IsAnswer : LineKind → SoFar → List Text → Result (Unit {0}) Stop → SoFar → Type 0
 IsAnswer kind before words (Ok u) after = IsGood kind before words × (after ≡ after_line kind before words)
 IsAnswer kind before words (Err stop) after = IfFault stop (IsFaulty kind before words)
 
--- A host has room for one thing more, and gets it; or it has none.
+-- Either a host has room for one more item and gets it, or it has no room.
 abbrev pub IsGrowth : (Host → ℕ) → ℕ → (Host → Host) → Host → Result (Unit {0}) Fault → Host → Type 0
 IsGrowth held most change host (Ok u) after = (held host < most) × (after ≡ change host)
 IsGrowth held most change host (Err stopped) after = (stopped ≡ fault.Name) × (¬ (held host < most))
 
--- The host of this name gets one thing more; or there is none, or it has no room.
+-- Either the host of this name gets one more item, or there is no such host with room.
 abbrev pub IsChange : Text → (Host → ℕ) → ℕ → (Host → Host) → List Host → Result (Unit {0}) Fault → List Host → Type 0
 IsChange name held most change hosts (Ok u) after =
     IsRoomAt name held most hosts × (after ≡ changed_first (has_name name) change hosts)
 IsChange name held most change hosts (Err stopped) after = (stopped ≡ fault.Name) × (¬ IsRoomAt name held most hosts)
 
--- the number of the host of a call, and the ticks inside it, all of hosts that are known
+-- The words of a host line are counted and have their forms, and spell this address and these options.
+pub record IsHostRead (words : List Text) (read : List ℕ × HostOptions) : Type 0 where
+  pub count : HasCount line.Host words
+  pub values : HasValues line.Host words
+  pub address : read.0 ≡ address_in (word 2 words)
+  pub options : read.1 ≡ options_asked (uses_in (option_words words))
+
+-- Words spell these ticks, all at known hosts.
+pub record AreTicks (hosts : List Host) (words : List Text) (ticks : List Tick) : Type 0 where
+  pub known : are_ticks_of hosts words ≡ true
+  pub spelled : ticks ≡ ticks_in hosts words
+
+-- the number of the host of a call, and the ticks inside it, all at known hosts
 pub record IsCall (hosts : List Host) (name : Text) (ticks : List Text) (call : ℕ × List Tick) : Type 0 where
+  pub spelled : are_ticks ticks ≡ true
   pub known : AreKnown hosts name ticks
   pub host : call.0 ≡ number_of name hosts
   pub inside : call.1 ≡ ticks_in hosts ticks
 
--- a line that is neither too long nor of other bytes than UTF-8
+-- the fault of the host and the ticks of a call: the first that applies
+abbrev pub IsFaultyCall : List Host → (name : Text) → (ticks : List Text) → Fault → Type 0
+IsFaultyCall hosts name ticks fault.Value = ¬ (are_ticks ticks ≡ true)
+IsFaultyCall hosts name ticks fault.Name = (are_ticks ticks ≡ true) × (¬ AreKnown hosts name ticks)
+IsFaultyCall hosts name ticks _ = ⊥
+
+-- a line that isn't too long, and is UTF-8
 pub record IsReadable (line : Text) : Type 0 where
   pub size : length line ≤ most_line_bytes
   pub text : IsUtf8 line
 
--- Empty lines, and those whose first word begins with # (0x23), say nothing.
+-- Empty lines, and those whose first word begins with # (0x23), are skipped.
 abbrev pub is_skipped : List Text → Bool
 is_skipped [] = true
 is_skipped (first ∷ words) = slice_index first 0 == 0x23
@@ -76,12 +99,12 @@ pub record IsGoodLine (before : SoFar) (line : Text) : Type 0 where
   pub said : is_skipped (words_of line) ≡ false
       → IsSomeAnd (kind_named (word 0 (words_of line))) (λ kind. IsGood kind before (words_of line))
 
--- what is wrong with a line whose words say something
+-- the fault of a line that isn't skipped, by its words
 abbrev pub IsFaultySaying : SoFar → List Text → Fault → Type 0
 IsFaultySaying before words fault.Word = kind_named (word 0 words) ≡ None
 IsFaultySaying before words one = IsSomeAnd (kind_named (word 0 words)) (λ kind. IsFaulty kind before words one)
 
--- what is wrong with a line
+-- the fault of a line
 abbrev pub IsFaultyLine : SoFar → Text → Fault → Type 0
 IsFaultyLine before line fault.Long = most_line_bytes < length line
 IsFaultyLine before line fault.Text = (length line ≤ most_line_bytes) × (¬ IsUtf8 line)
@@ -95,39 +118,39 @@ after_kind None before words = before
 abbrev pub after_words : SoFar → List Text → SoFar
 after_words before words = if is_skipped words then before else after_kind (kind_named (word 0 words)) before words
 
--- what comes of the words of a line
+-- the result of reading the words of a line
 abbrev pub IsWordsAnswer : SoFar → List Text → Result (Unit {0}) Stop → SoFar → Type 0
 IsWordsAnswer before words (Ok u) after =
     (is_skipped words ≡ false → IsSomeAnd (kind_named (word 0 words)) (λ kind. IsGood kind before words))
     × (after ≡ after_words before words)
 IsWordsAnswer before words (Err stop) after = IfFault stop (λ one. (is_skipped words ≡ false) × IsFaultySaying before words one)
 
--- what comes of a line
+-- the result of reading a line
 abbrev pub IsLineAnswer : SoFar → Text → Result (Unit {0}) Stop → SoFar → Type 0
 IsLineAnswer before line (Ok u) after = IsGoodLine before line × (after ≡ after_words before (words_of line))
 IsLineAnswer before line (Err stop) after = IfFault stop (IsFaultyLine before line)
 
--- what is said by lines that are good
+-- what good lines say
 abbrev pub said_by : List Text → SoFar
 said_by lines = fold (λ before line. after_words before (words_of line)) nothing lines
 
--- the first so many lines are good, each behind those before it
+-- the first lines, this many, are good, each after those before it
 abbrev pub AreGood : ℕ → List Text → Type 0
 AreGood count all = (k : ℕ) → k < count → IsGoodLine (said_by (take k all)) (word k all)
 
--- a text is read: all its lines are good, and this is what they say
+-- A text is read: all its lines are good, and say this.
 pub record IsRead (text : Text) (read : SoFar) : Type 0 where
   pub good : AreGood (length (lines text)) (lines text)
   pub said : read ≡ said_by (lines text)
 
--- This line, numbered from 1, is the first that is faulty, and this is what is wrong with it.
+-- This line, numbered from 1, is the first faulty one, and has this fault.
 pub record IsRefusedAt (text : Text) (line : ℕ) (one : Fault) : Type 0 where
   pub least : 1 ≤ line
   pub there : line ≤ length (lines text)
   pub good : AreGood (line - 1) (lines text)
   pub faulty : IsFaultyLine (said_by (take (line - 1) (lines text))) (word (line - 1) (lines text)) one
 
--- how a text is refused
+-- why a text is refused
 abbrev pub IsRefused : Text → Refusal → Type 0
 IsRefused text (refusal.Line line one) = IsRefusedAt text line one
 IsRefused text refusal.Memory = Unit {0}

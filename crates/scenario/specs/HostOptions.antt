@@ -1,4 +1,4 @@
--- The options of a host, which stand behind its wire in any order (own).
+-- The options of a host, which follow its wire in any order (our choice).
 use Rattle.std.specs.Prelude.{◌≡◌, ◌≤◌, Bool, true, false, List, [], ◌∷◌, All, Option, Some, None, codes, count_by, if◌then◌else◌}
 use Rattle.std.specs.Option.{option_map}
 use Rattle.std.specs.List.{fold}
@@ -6,6 +6,7 @@ use Rattle.std.specs.Str.{bytes_eq}
 use Rattle.mdic_phy.specs.declared.phy.Link.{Link}
 use Rattle.mdic_phy.specs.declared.phy.Link.TheVariants as link
 use Rattle.scenario.specs.Spellings.{number_in}
+use Rattle.scenario.specs.Tables.{value_in}
 use Rattle.scenario.specs.Words.{Text}
 use Rattle.scenario.specs.declared.host_use.HostOptions.{HostOptions}
 use Rattle.scenario.specs.declared.host_use.HostUse.{HostUse}
@@ -13,17 +14,22 @@ use Rattle.scenario.specs.declared.host_use.HostUse.TheVariants as uses
 use Rattle.scenario.specs.declared.host_use.OptionKind.{OptionKind}
 use Rattle.scenario.specs.declared.host_use.OptionKind.TheVariants as option
 
-abbrev pub option_named : Text → Option OptionKind
-option_named word =
-    if bytes_eq word (codes "rx") then Some option.Rx
-    else if bytes_eq word (codes "tx") then Some option.Tx
-    else if bytes_eq word (codes "buffers") then Some option.Buffers
-    else if bytes_eq word (codes "rxa") then Some option.Rxa
-    else if bytes_eq word (codes "link") then Some option.Link
-    else if bytes_eq word (codes "promiscuous") then Some option.Promiscuous
-    else None
+-- the names of the options
+abbrev pub option_kinds : List (Text × OptionKind)
+option_kinds =
+    (codes "rx", option.Rx)
+    ∷ (codes "tx", option.Tx)
+    ∷ (codes "buffers", option.Buffers)
+    ∷ (codes "rxa", option.Rxa)
+    ∷ (codes "link", option.Link)
+    ∷ (codes "promiscuous", option.Promiscuous)
+    ∷ []
 
--- never, or the number of ticks after which a link comes up
+-- the option with this name
+unfoldable pub option_named : Text → Option OptionKind
+option_named word = value_in option_kinds word
+
+-- never, or the number of ticks after which a link is up
 abbrev pub link_in : Text → Option Link
 link_in value = if bytes_eq value (codes "never") then Some link.Never else option_map link.After (number_in 10 16 value)
 
@@ -44,7 +50,7 @@ abbrev pub takes_value : OptionKind → Bool
 takes_value option.Promiscuous = false
 takes_value _ = true
 
--- an option where no value follows
+-- an option that no value follows
 abbrev pub lone_use : OptionKind → HostUse
 lone_use option.Promiscuous = uses.Promiscuous
 lone_use kind = uses.Lone kind
@@ -61,7 +67,7 @@ abbrev pub use_without : Option OptionKind → HostUse
 use_without (Some kind) = lone_use kind
 use_without None = uses.Unknown
 
--- What words use: a word whose option takes a value stands with the word behind it, each other alone.
+-- The uses that words spell: an option that takes a value takes the word after it, each other word is alone.
 abbrev pub uses_in : List Text → List HostUse
 uses_in [] = []
 uses_in (word ∷ []) = use_without (option_named word) ∷ []
@@ -120,11 +126,11 @@ pub record AreCounted (given : List HostUse) : Type 0 where
   pub whole : All (λ one. is_whole one ≡ true) given
   pub once : AreOnce given
 
--- Each word is an option, and its value reads as its kind.
+-- Each word is an option, and its value has its form.
 pub record AreRead (given : List HostUse) : Type 0 where
   pub all : All (λ one. is_read one ≡ true) given
 
--- what stands where no option says otherwise
+-- the values of options that a line doesn't have
 abbrev pub defaults : HostOptions
 defaults = record { rx = 8; tx = 8; buffers = 16; rxa = 48; link = link.After 1; promiscuous = false }
 
@@ -137,6 +143,6 @@ with_use options (uses.Link l) = record options { link = l }
 with_use options uses.Promiscuous = record options { promiscuous = true }
 with_use options _ = options
 
--- what the options ask for
+-- the values that options have after these uses
 abbrev pub options_asked : List HostUse → HostOptions
 options_asked given = fold with_use defaults given

@@ -1,15 +1,16 @@
--- Laws of what texts are answered (own).
+-- Laws of reading texts (our choice).
 use Rattle.std.specs.Prelude.{◌≡◌, ℕ}
 use Rattle.scenario.specs.Answers.{IsRead, IsRefusedAt}
 use Rattle.scenario.specs.SoFar.{SoFar}
 use Rattle.scenario.specs.Words.{Text}
 use Rattle.scenario.specs.declared.refusal.Fault.{Fault}
 
--- A text that is read is refused for no line.
+-- A text that is read isn't refused.
 abbrev pub TextsAreReadOrRefused : Type 0
 TextsAreReadOrRefused = (text : Text) (read : SoFar) (line : ℕ) (one : Fault) → IsRead text read → ¬ IsRefusedAt text line one
 
--- A text is refused for one line alone, and that has one fault alone.
+-- A text is refused for only one line, with only one fault.
 abbrev pub RefusalsAreOne : Type 0
 RefusalsAreOne =
-    (text : Text) (line other : ℕ) (one two : Fault) → IsRefusedAt text line one → IsRefusedAt text other two → (line ≡ other) × (one ≡ two)
+    (text : Text) (line other : ℕ) (one two : Fault) → IsRefusedAt text line one → IsRefusedAt text other two
+    → (line ≡ other) × (one ≡ two)

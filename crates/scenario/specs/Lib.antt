@@ -7,5 +7,6 @@ pub mod SoFar
 pub mod Spellings
 pub mod Statuses
 pub mod Stops
+pub mod Tables
 pub mod TickWords
 pub mod Words

@@ -1,4 +1,4 @@
--- What lines mean, by their kinds (own). The words of a line are counted from 0, the one that tells its kind.
+-- The meaning of lines, by their kinds (our choice). Words are numbered from 0; word 0 decides the kind of a line.
 use Rattle.std.specs.Prelude.{◌≡◌, ◌<◌, ◌≤◌, ◌+◌, ◌&&◌, ℕ, Bool, true, List, [], ◌∷◌, ◌++◌, Some, None, find, if◌then◌else◌}
 use Rattle.std.specs.Prelude.{IsSome, IsSomeAnd, codes, drop, false, is_some, length, map, nat_le, take, unwrap_or}
 use Rattle.std.specs.List.{list_all, position_or_len}
@@ -19,7 +19,7 @@ use Rattle.scenario.specs.declared.host_use.HostOptions.{HostOptions}
 use Rattle.scenario.specs.declared.line_kind.LineKind.{LineKind}
 use Rattle.scenario.specs.declared.line_kind.LineKind.TheVariants as line
 
--- how many groups, VLANs and sockets a host has at most, and how many events one line draws at most
+-- the maximum numbers of groups, VLANs and sockets of a host, and of events that a line draws
 abbrev pub most_groups : ℕ
 most_groups = 32
 
@@ -35,11 +35,11 @@ most_events = 1000000
 abbrev pub is_slash : Text → Bool
 is_slash part = bytes_eq part (codes "/")
 
--- where the first lone slash stands
+-- the place of the first lone slash, or the number of words if there is none
 abbrev pub slash_place : List Text → ℕ
 slash_place words = position_or_len is_slash words
 
--- the words of a call, which end there, and behind it the words of its ticks
+-- the words of a call and the words of its ticks: those before and those after the slash
 abbrev pub call_words : List Text → List Text
 call_words words = take (slash_place words) words
 
@@ -50,7 +50,7 @@ tick_words words = drop (slash_place words + 1) words
 abbrev pub option_words : List Text → List Text
 option_words words = drop 4 words
 
--- how many events are to be drawn
+-- a number of events to draw
 abbrev pub is_count : Text → Bool
 is_count text = is_number 10 32 text && nat_le (digits_value 10 text) most_events
 
@@ -58,19 +58,20 @@ is_count text = is_number 10 32 text && nat_le (digits_value 10 text) most_event
 abbrev pub are_ticks : List Text → Bool
 are_ticks words = list_all is_tick words
 
--- each word spells a tick of a host that is known
+-- each word spells a tick at a known host
 abbrev pub are_ticks_of : List Host → List Text → Bool
 are_ticks_of hosts words = list_all (λ one. is_some (tick_of hosts one)) words
 
--- these ticks
+-- the ticks that words spell
 abbrev pub ticks_in : List Host → List Text → List Tick
 ticks_in hosts words = map (λ one. unwrap_or (tick_of hosts one) tick.Go) words
 
--- The words of a line are as many as they are to be, and no option stands twice.
+-- A host line has enough words, each option has its value, and none occurs twice.
 pub record HasHostWords (words : List Text) : Type 0 where
   pub least : 4 ≤ length words
   pub options : AreCounted (uses_in (option_words words))
 
+-- A line has the right number of words.
 abbrev pub HasCount : LineKind → List Text → Type 0
 HasCount line.Host words = HasHostWords words
 HasCount line.Group words = length words ≡ 3
@@ -84,7 +85,7 @@ HasCount line.Feed words = length words ≡ 3
 HasCount line.Auto words = length words ≡ 3
 HasCount line.Drain words = length words ≡ 2
 
--- Each word reads as what stands there.
+-- Each word has the form for its place.
 abbrev pub HasValues : LineKind → List Text → Type 0
 HasValues line.Host words = IsAddress (word 2 words) × AreRead (uses_in (option_words words))
 HasValues line.Group words = IsAddress (word 2 words)
@@ -98,7 +99,7 @@ HasValues line.Feed words = Unit {0}
 HasValues line.Auto words = (is_count (word 1 words) ≡ true) × (is_number 10 64 (word 2 words) ≡ true)
 HasValues line.Drain words = Unit {0}
 
--- a host of this name is there, and has room
+-- There is a host of this name, and it has room.
 abbrev pub IsRoomAt : Text → (Host → ℕ) → ℕ → List Host → Type 0
 IsRoomAt name held most hosts = IsSomeAnd (find (has_name name) hosts) (λ host. held host < most)
 
@@ -114,12 +115,12 @@ sockets_held host = length host.sockets
 abbrev pub IsHost : Text → List Host → Type 0
 IsHost name hosts = IsSome (place_of name hosts)
 
--- a host of this name is there, and the host of each tick
+-- There is a host of this name, and the host of each tick.
 pub record AreKnown (hosts : List Host) (name : Text) (ticks : List Text) : Type 0 where
   pub host : IsHost name hosts
   pub inside : are_ticks_of hosts ticks ≡ true
 
--- Its names are known, the name of a new host is not, and a host has room for what it gets.
+-- The names of hosts are known, the name of a new host isn't, and a host has room for a new item.
 abbrev pub HasNames : LineKind → List Host → List Text → Type 0
 HasNames line.Host hosts words = place_of (word 1 words) hosts ≡ None
 HasNames line.Group hosts words = IsRoomAt (word 1 words) groups_held most_groups hosts
@@ -133,7 +134,7 @@ HasNames line.Feed hosts words = IsHost (word 1 words) hosts
 HasNames line.Auto hosts words = Unit {0}
 HasNames line.Drain hosts words = IsHost (word 1 words) hosts
 
--- What sets up comes before the first event.
+-- Lines that set up come before the first event.
 abbrev pub sets_up : LineKind → Bool
 sets_up line.Host = true
 sets_up line.Group = true
@@ -177,7 +178,7 @@ with_vlan vlan host =
 abbrev pub with_socket : SocketKind → Host → Host
 with_socket kind host = record host { sockets = host.sockets ++ kind ∷ [] }
 
--- the first host that passes, changed
+-- with the first host that passes changed
 abbrev pub changed_first : (Host → Bool) → (Host → Host) → List Host → List Host
 changed_first test change [] = []
 changed_first test change (host ∷ hosts) = if test host then change host ∷ hosts else host ∷ changed_first test change hosts
@@ -185,11 +186,11 @@ changed_first test change (host ∷ hosts) = if test host then change host ∷ h
 abbrev pub with_hosts : List Host → SoFar → SoFar
 with_hosts hosts before = record before { hosts = hosts }
 
--- the host of this name is changed
+-- with the host of this name changed
 abbrev pub changing : Text → (Host → Host) → SoFar → SoFar
 changing name change before = with_hosts (changed_first (has_name name) change before.hosts) before
 
--- one command more
+-- with one more command
 abbrev pub saying : Said → SoFar → SoFar
 saying said before = record before { commands = before.commands ++ said ∷ [] }
 
@@ -200,7 +201,7 @@ number_of name hosts = unwrap_or (place_of name hosts) 0
 abbrev pub number_read : Text → ℕ
 number_read text = digits_value 10 text
 
--- what a good line changes
+-- the hosts, commands and traces after a good line
 abbrev pub after_line : LineKind → SoFar → List Text → SoFar
 after_line line.Host before words = with_hosts (before.hosts ++ new_host words ∷ []) before
 after_line line.Group before words = changing (word 1 words) (with_group (address_in (word 2 words))) before

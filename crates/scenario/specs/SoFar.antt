@@ -1,4 +1,4 @@
--- What a text has said so far (own).
+-- The hosts, commands and traces of the lines read so far (our choice).
 use Rattle.std.specs.Prelude.{ℕ, Bool, List, [], Option, String, map, position, string_bytes}
 use Rattle.std.specs.Str.{bytes_eq}
 use Rattle.std.specs.declared.alloc.Global.{Global}
@@ -14,7 +14,7 @@ use Rattle.scenario.specs.declared.command.Command.{Command}
 use Rattle.scenario.specs.declared.command.Command.TheVariants as command
 use Rattle.scenario.specs.declared.command.Scenario.{Scenario}
 
--- a host of the plan, without where its names lie in memory
+-- a host of the plan, without the places of its names in memory
 pub record Host : Type 0 where
   pub name : Text
   pub wire : Text
@@ -33,7 +33,7 @@ host_of plan = record {
   sockets = plan.sockets.items;
 }
 
--- a command, without where its frame and its ticks lie in memory
+-- a command, without the places of its frame and its ticks in memory
 pub data Said : Type 0 where
   Sends : (host : ℕ) (frame : List ℕ) (ticks : List Tick) → Said
   Receives : (host socket : ℕ) (ticks : List Tick) → Said
@@ -55,7 +55,7 @@ said_of (command.Feed host trace) = Feeds host trace
 said_of (command.Auto count start) = Draws count start
 said_of (command.Drain host) = Drains host
 
--- hosts, commands and names of traces so far
+-- the hosts, commands and names of traces so far
 pub record SoFar : Type 0 where
   pub hosts : List Host
   pub commands : List Said

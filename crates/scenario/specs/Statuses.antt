@@ -1,4 +1,4 @@
--- The exit status of a program whose scenario is refused (own: 1 for input that is refused, 4 for want of memory).
+-- The exit status of a program whose scenario is refused (our choice: 1 if its input is refused, 4 if memory was refused).
 use Rattle.std.specs.Prelude.{ℕ}
 use Rattle.scenario.specs.declared.refusal.Refusal.{Refusal}
 use Rattle.scenario.specs.declared.refusal.Refusal.TheVariants as refusal

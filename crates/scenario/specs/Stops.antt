@@ -1,4 +1,4 @@
--- What stops the reading of a line (own).
+-- Why a line isn't read (our choice).
 use Rattle.std.specs.Prelude.{ℕ}
 use Rattle.scenario.specs.declared.refusal.Fault.{Fault}
 use Rattle.scenario.specs.declared.refusal.Refusal.{Refusal}
@@ -6,12 +6,12 @@ use Rattle.scenario.specs.declared.refusal.Refusal.TheVariants as refusal
 use Rattle.scenario.specs.declared.refusal.Stop.{Stop}
 use Rattle.scenario.specs.declared.refusal.Stop.TheVariants as stop
 
--- what holds of its fault, unless it is for want of memory
+-- This holds of the fault, if memory wasn't refused.
 abbrev pub IfFault : Stop → (Fault → Type 0) → Type 0
 IfFault stop.Memory P = Unit {0}
 IfFault (stop.Fault fault) P = P fault
 
--- how the text is refused whose line of this number wasn't read
+-- the refusal of a text if the line with this number wasn't read
 abbrev pub refusal_at : ℕ → Stop → Refusal
 refusal_at line stop.Memory = refusal.Memory
 refusal_at line (stop.Fault fault) = refusal.Line line fault

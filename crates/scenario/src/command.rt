@@ -1,48 +1,48 @@
-// What a text says.
+// A scenario and its commands.
 
 use network_plan::{Event, Plan};
 
-/// What is to be done.
-#[derive(Debug, Drop)]
+/// A command of a scenario.
+#[derive(Drop)]
 pub enum Command {
     /// An event.
     Event(Event),
-    /// For each frame of a trace, events that send it, and let it arrive.
+    /// For each frame of a trace: the events that send it and let it arrive.
     Feed {
         /// The host, numbered from 0 in the order of the plan.
         host: usize,
         /// The trace, numbered from 0 among the names of traces.
         trace: usize,
     },
-    /// Events that are drawn.
+    /// Events drawn at random.
     Auto {
-        /// How many.
+        /// The number of events.
         count: u32,
-        /// What the drawing starts with.
+        /// The seed.
         start: u64,
     },
-    /// All that a host holds for its sockets is given.
+    /// A host delivers all frames that it holds for its sockets.
     Drain {
         /// The host, numbered from 0 in the order of the plan.
         host: usize,
     },
 }
 
-/// A run, as its text has it.
-#[derive(Debug, Drop)]
+/// A scenario, read from its text.
+#[derive(Drop)]
 pub struct Scenario {
     /// The hosts and their wires.
     pub plan: Plan,
-    /// What is to be done, in order.
+    /// The commands, in order.
     pub commands: Vec<Command>,
-    /// The names of the traces that are fed, in order.
+    /// The names of the traces to feed, in order.
     pub(crate) traces: Vec<String>,
 }
 
 impl Scenario {
     ghost use Rattle.std.specs.Prelude.{◌≡◌};
 
-    /// The names of the traces that are fed, one for each `feed`, in order.
+    /// The names of the traces to feed, one for each `feed` line, in order.
     pub fn trace_names(&self) -> &[String]
         ensures { result.now ≡ self.now.traces.items }
     {

@@ -3,25 +3,24 @@
 ghost use Rattle.std.specs.Prelude.{◌≡◌, IfErr, IfOk, OnOk, true};
 ghost use Rattle.std.specs.Option.{SomeIff};
 ghost use Rattle.std.specs.Str.Parse.{digits_value};
-ghost use Rattle.scenario.specs.Answers.{IsAnswer, IsCall, IsFaulty};
+ghost use Rattle.scenario.specs.Answers.{AreTicks, IsAnswer, IsCall, IsFaultyCall};
 ghost use Rattle.scenario.specs.Meanings as meanings;
-ghost use Rattle.scenario.specs.SoFar.{SoFar, hosts_of, said_of, so_far};
-ghost use Rattle.scenario.specs.Spellings.{frame_in};
+ghost use Rattle.scenario.specs.SoFar.{hosts_of, said_of, so_far};
 ghost use Rattle.scenario.specs.Stops.{IfFault};
-ghost use Rattle.scenario.specs.Words.{texts, word};
+ghost use Rattle.scenario.specs.Words.{texts};
 ghost use Rattle.scenario.specs.declared.line_kind.LineKind.TheVariants as line;
 ghost use Rattle.scenario.specs.declared.refusal.Fault.TheVariants as faults;
 
 use crate::command::{Command, Scenario};
 use crate::refusal::{Fault, Stop};
 use crate::spelling::{frame_of, number_of, number32_of};
-use crate::text::{call_words, tick_words, word_at};
+use crate::text::{split_call, word_at};
 use crate::tick_word::{host_named, is_tick, tick_of};
 use network_plan::{Event, HostPlan};
 use stations::Tick;
 use std::alloc::{AllocError, Global};
 
-/// How many events one line draws at most (own).
+/// The maximum number of events that an `auto` line draws (our choice).
 const MOST_EVENTS: u32 = 1_000_000;
 
 /// Whether each word spells a tick.
@@ -31,28 +30,31 @@ fn are_ticks(words: &[&str]) -> bool
     words.iter().all(|word| is_tick(word))
 }
 
-/// Whether each word spells a tick of a host that is known.
-fn are_ticks_of(hosts: &[HostPlan], words: &[&str]) -> bool
-    ensures { result ≡ meanings.are_ticks_of (hosts_of hosts.now) (texts words.now) }
+/// The ticks that words spell.
+///
+/// # Errors
+///
+/// [`Name`](Fault::Name) if a word doesn't spell a tick at a known host.
+fn ticks_of(alloc: Global, hosts: &[HostPlan], words: &[&str]) -> Result<Vec<Tick>, Stop>
+    ensures ok { IfOk result (λ ticks. AreTicks (hosts_of hosts.now) (texts words.now) ticks.items) }
+    ensures err { IfErr result (λ stop. IfFault stop (λ fault.
+        (fault ≡ faults.Name) × (¬ (meanings.are_ticks_of (hosts_of hosts.now) (texts words.now) ≡ true)))) }
 {
-    words.iter().all(|word| tick_of(hosts, word).is_some())
-}
-
-/// These ticks.
-fn ticks_of(alloc: Global, hosts: &[HostPlan], words: &[&str]) -> Result<Vec<Tick>, AllocError>
-    ensures { IfOk result (λ ticks. ticks.items ≡ meanings.ticks_in (hosts_of hosts.now) (texts words.now)) }
-{
-    words
-        .iter()
-        .map(|word| tick_of(hosts, word).unwrap_or(Tick::Go))
-        .collect(alloc)
+    let mut ticks = Vec::new(alloc);
+    for word in words {
+        let Some(tick) = tick_of(hosts, word) else {
+            return Err(Stop::Fault(Fault::Name));
+        };
+        ticks.push(tick)?;
+    }
+    Ok(ticks)
 }
 
 /// The host of a call, and the ticks inside it.
 ///
 /// # Errors
 ///
-/// [`Name`](Fault::Name) where a host isn't known.
+/// [`Value`](Fault::Value) if a word doesn't spell a tick, and [`Name`](Fault::Name) if a host isn't known.
 fn call_of(
     alloc: Global,
     hosts: &[HostPlan],
@@ -60,20 +62,19 @@ fn call_of(
     ticks: &[&str],
 ) -> Result<(usize, Vec<Tick>), Stop>
     ensures ok { IfOk result (λ call. IsCall (hosts_of hosts.now) name.now (texts ticks.now) (call.0, call.1.items)) }
-    ensures err { IfErr result (λ stop. IfFault stop (λ fault.
-        (fault ≡ faults.Name) × (¬ meanings.AreKnown (hosts_of hosts.now) name.now (texts ticks.now)))) }
+    ensures err { IfErr result (λ stop. IfFault stop (IsFaultyCall (hosts_of hosts.now) name.now (texts ticks.now))) }
 {
+    if !are_ticks(ticks) {
+        return Err(Stop::Fault(Fault::Value));
+    }
     let Some(host) = host_named(hosts, name) else {
         return Err(Stop::Fault(Fault::Name));
     };
-    if !are_ticks_of(hosts, ticks) {
-        return Err(Stop::Fault(Fault::Name));
-    }
     let ticks = ticks_of(alloc, hosts, ticks)?;
     Ok((host, ticks))
 }
 
-/// One command more.
+/// Appends a command.
 fn say(scenario: &mut Scenario, command: Command) -> Result<(), AllocError>
     ensures { OnOk result (so_far scenario.new ≡ meanings.saying (said_of command) (so_far scenario.old)) }
 {
@@ -81,88 +82,42 @@ fn say(scenario: &mut Scenario, command: Command) -> Result<(), AllocError>
     Ok(())
 }
 
-/// The frame of a `send` line. Its words are as many as they are to be, and read.
-fn frame_sent(alloc: Global, words: &[&str]) -> Result<Vec<u8>, Stop>
-    ensures count { OnOk result (meanings.HasCount line.Send (texts words.now)) }
-    ensures values { OnOk result (meanings.HasValues line.Send (texts words.now)) }
-    ensures frame { IfOk result (λ frame. frame.items ≡ frame_in (word 2 (meanings.call_words (texts words.now)))) }
-    ensures err { (before : SoFar) →
-        IfErr result (λ stop. IfFault stop (IsFaulty line.Send before (texts words.now))) }
-{
-    let call = call_words(words);
-    if call.len() != 3 {
-        return Err(Stop::Fault(Fault::Count));
-    }
-    let frame = frame_of(alloc, word_at(call, 2))?;
-    if !are_ticks(tick_words(words)) {
-        return Err(Stop::Fault(Fault::Value));
-    }
-    Ok(frame)
-}
-
 /// `send HOST HEX`, and ticks.
 pub(crate) fn read_send(alloc: Global, scenario: &mut Scenario, words: &[&str]) -> Result<(), Stop>
     ensures { IsAnswer line.Send (so_far scenario.old) (texts words.now) result (so_far scenario.new) }
 {
-    let frame = frame_sent(alloc, words)?;
+    let (call, ticks) = split_call(words);
+    if call.len() != 3 {
+        return Err(Stop::Fault(Fault::Count));
+    }
+    let frame = frame_of(alloc, word_at(call, 2))?;
     let hosts = scenario.plan.hosts.as_slice();
-    let name = word_at(call_words(words), 1);
-    let (host, ticks) = call_of(alloc, hosts, name, tick_words(words))?;
+    let (host, ticks) = call_of(alloc, hosts, word_at(call, 1), ticks)?;
     let event = Event::Send { host, frame, ticks };
     say(scenario, Command::Event(event))?;
     Ok(())
-}
-
-/// The socket of a `recv` line. Its words are as many as they are to be, and read.
-fn socket_asked(words: &[&str]) -> Result<u64, Fault>
-    ensures count { OnOk result (meanings.HasCount line.Recv (texts words.now)) }
-    ensures values { OnOk result (meanings.HasValues line.Recv (texts words.now)) }
-    ensures socket { IfOk result (λ socket.
-        socket ≡ meanings.number_read (word 2 (meanings.call_words (texts words.now)))) }
-    ensures err { (before : SoFar) → IfErr result (IsFaulty line.Recv before (texts words.now)) }
-{
-    let call = call_words(words);
-    if call.len() != 3 {
-        return Err(Fault::Count);
-    }
-    let Some(socket) = number_of(word_at(call, 2)) else {
-        return Err(Fault::Value);
-    };
-    if !are_ticks(tick_words(words)) {
-        return Err(Fault::Value);
-    }
-    Ok(socket)
 }
 
 /// `recv HOST S`, and ticks.
 pub(crate) fn read_recv(alloc: Global, scenario: &mut Scenario, words: &[&str]) -> Result<(), Stop>
     ensures { IsAnswer line.Recv (so_far scenario.old) (texts words.now) result (so_far scenario.new) }
 {
-    let socket = socket_asked(words)? as usize;
+    let (call, ticks) = split_call(words);
+    if call.len() != 3 {
+        return Err(Stop::Fault(Fault::Count));
+    }
+    let Some(socket) = number_of(word_at(call, 2)) else {
+        return Err(Stop::Fault(Fault::Value));
+    };
+    let socket = socket as usize;
     let hosts = scenario.plan.hosts.as_slice();
-    let name = word_at(call_words(words), 1);
-    let (host, ticks) = call_of(alloc, hosts, name, tick_words(words))?;
+    let (host, ticks) = call_of(alloc, hosts, word_at(call, 1), ticks)?;
     let event = Event::Recv {
         host,
         socket,
         ticks,
     };
     say(scenario, Command::Event(event))?;
-    Ok(())
-}
-
-/// Looks whether the words of an `interrupt` line are as many as they are to be, and read.
-fn check_interrupt(words: &[&str]) -> Result<(), Fault>
-    ensures count { OnOk result (meanings.HasCount line.Interrupt (texts words.now)) }
-    ensures values { OnOk result (meanings.HasValues line.Interrupt (texts words.now)) }
-    ensures err { (before : SoFar) → IfErr result (IsFaulty line.Interrupt before (texts words.now)) }
-{
-    if call_words(words).len() != 2 {
-        return Err(Fault::Count);
-    }
-    if !are_ticks(tick_words(words)) {
-        return Err(Fault::Value);
-    }
     Ok(())
 }
 
@@ -174,10 +129,12 @@ pub(crate) fn read_interrupt(
 ) -> Result<(), Stop>
     ensures { IsAnswer line.Interrupt (so_far scenario.old) (texts words.now) result (so_far scenario.new) }
 {
-    check_interrupt(words)?;
+    let (call, ticks) = split_call(words);
+    if call.len() != 2 {
+        return Err(Stop::Fault(Fault::Count));
+    }
     let hosts = scenario.plan.hosts.as_slice();
-    let name = word_at(call_words(words), 1);
-    let (host, ticks) = call_of(alloc, hosts, name, tick_words(words))?;
+    let (host, ticks) = call_of(alloc, hosts, word_at(call, 1), ticks)?;
     let event = Event::Interrupt { host, ticks };
     say(scenario, Command::Event(event))?;
     Ok(())
@@ -218,7 +175,7 @@ pub(crate) fn read_feed(alloc: Global, scenario: &mut Scenario, words: &[&str]) 
     Ok(())
 }
 
-/// How many events are to be drawn, at most 1,000,000.
+/// The number of events to draw, at most 1,000,000.
 fn count_of(text: &str) -> Option<u32>
     ensures { SomeIff result (meanings.is_count text.now ≡ true) (digits_value 10 text.now) }
 {

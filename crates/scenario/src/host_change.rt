@@ -1,4 +1,4 @@
-// What a host of a plan gets, line by line.
+// A new host of a plan, and its groups, VLANs and sockets.
 
 ghost use Rattle.std.specs.Prelude.{◌≡◌, IfOk};
 ghost use Rattle.scenario.specs.Answers.{IsChange, IsGrowth};
@@ -15,7 +15,7 @@ use network_plan::HostPlan;
 use packet_socket::SocketKind;
 use std::alloc::{AllocError, Global};
 
-/// A host, as its line has it.
+/// The host of a `host` line.
 pub(crate) fn new_host(
     alloc: Global,
     name: &str,
@@ -43,7 +43,7 @@ pub(crate) fn new_host(
     })
 }
 
-/// A host gets a group.
+/// Adds a group to a host.
 fn push_group(host: &mut HostPlan, group: [u8; 6]) -> Result<(), Fault>
     ensures { IsGrowth meanings.groups_held meanings.most_groups (meanings.with_group group)
         (host_of host.old) result (host_of host.new) }
@@ -55,7 +55,7 @@ fn push_group(host: &mut HostPlan, group: [u8; 6]) -> Result<(), Fault>
     Ok(())
 }
 
-/// A host gets a VLAN.
+/// Adds a VLAN to a host.
 fn push_vlan(host: &mut HostPlan, vlan: u16) -> Result<(), Fault>
     ensures { IsGrowth meanings.vlans_held meanings.most_vlans (meanings.with_vlan vlan)
         (host_of host.old) result (host_of host.new) }
@@ -69,7 +69,7 @@ fn push_vlan(host: &mut HostPlan, vlan: u16) -> Result<(), Fault>
     Ok(())
 }
 
-/// A host gets a socket.
+/// Adds a socket to a host.
 fn push_socket(host: &mut HostPlan, kind: SocketKind) -> Result<(), Fault>
     ensures { IsGrowth meanings.sockets_held meanings.most_sockets (meanings.with_socket kind)
         (host_of host.old) result (host_of host.new) }
@@ -81,7 +81,7 @@ fn push_socket(host: &mut HostPlan, kind: SocketKind) -> Result<(), Fault>
     Ok(())
 }
 
-/// The host of a name gets a group.
+/// Adds a group to the host with this name.
 #[tactic(auto, using(crate::proofs::Changes::no_room))]
 pub(crate) fn add_group(hosts: &mut [HostPlan], name: &str, group: [u8; 6]) -> Result<(), Fault>
     ensures { IsChange name.now meanings.groups_held meanings.most_groups (meanings.with_group group)
@@ -93,7 +93,7 @@ pub(crate) fn add_group(hosts: &mut [HostPlan], name: &str, group: [u8; 6]) -> R
     push_group(&mut hosts[place], group)
 }
 
-/// The host of a name gets a VLAN.
+/// Adds a VLAN to the host with this name.
 #[tactic(auto, using(crate::proofs::Changes::no_room))]
 pub(crate) fn add_vlan(hosts: &mut [HostPlan], name: &str, vlan: u16) -> Result<(), Fault>
     ensures { IsChange name.now meanings.vlans_held meanings.most_vlans (meanings.with_vlan vlan)
@@ -105,7 +105,7 @@ pub(crate) fn add_vlan(hosts: &mut [HostPlan], name: &str, vlan: u16) -> Result<
     push_vlan(&mut hosts[place], vlan)
 }
 
-/// The host of a name gets a socket.
+/// Adds a socket to the host with this name.
 #[tactic(auto, using(crate::proofs::Changes::no_room))]
 pub(crate) fn add_socket(hosts: &mut [HostPlan], name: &str, kind: SocketKind) -> Result<(), Fault>
     ensures { IsChange name.now meanings.sockets_held meanings.most_sockets (meanings.with_socket kind)

@@ -5,34 +5,35 @@ ghost use Rattle.scenario.specs.HostOptions as options;
 ghost use Rattle.scenario.specs.Words.{texts};
 
 use crate::spelling::{number8_of, number16_of};
+use crate::table::value_of;
 use mdic_phy::Link;
 use std::alloc::{AllocError, Global};
 
 /// The options of a `host` line.
 #[derive(Clone, Copy, PartialEq)]
 pub(crate) enum OptionKind {
-    /// `rx N`: how many receive descriptors there are.
+    /// `rx N`: the number of receive descriptors.
     Rx,
-    /// `tx N`: how many transmit descriptors there are.
+    /// `tx N`: the number of transmit descriptors.
     Tx,
-    /// `buffers N`: how many receive buffers there are.
+    /// `buffers N`: the number of receive buffers.
     Buffers,
-    /// `rxa N`: how many kilobytes of the packet buffer frames from the wire have.
+    /// `rxa N`: the receive part of the packet buffer, in kilobytes.
     Rxa,
-    /// `link N` or `link never`: when the link comes up.
+    /// `link N` or `link never`: the number of ticks until the link is up.
     Link,
     /// `promiscuous`: every frame passes the filter.
     Promiscuous,
 }
 
-/// A word of a `host` line behind the wire, with the value that follows it.
+/// A word of a `host` line after its wire, with the value that follows it.
 #[derive(Clone, Copy)]
 pub(crate) enum HostUse {
     /// No option.
     Unknown,
     /// An option that lacks its value.
     Lone(OptionKind),
-    /// An option whose value doesn't read as its kind.
+    /// An option whose value doesn't have its form.
     Unread(OptionKind),
     /// `rx` with its value.
     Rx(u16),
@@ -59,7 +60,7 @@ pub(crate) struct HostOptions {
     pub(crate) promiscuous: bool,
 }
 
-/// What stands where no option says otherwise.
+/// The values of options that a line doesn't have.
 const DEFAULTS: HostOptions = HostOptions {
     rx: 8,
     tx: 8,
@@ -74,15 +75,15 @@ impl OptionKind {
     fn with_value(self, value: &str) -> HostUse
         ensures { result ≡ options.use_of self value.now }
     {
-        let read = match self {
-            OptionKind::Rx => number16_of(value).map(HostUse::Rx),
-            OptionKind::Tx => number16_of(value).map(HostUse::Tx),
-            OptionKind::Buffers => number16_of(value).map(HostUse::Buffers),
-            OptionKind::Rxa => number8_of(value).map(HostUse::Rxa),
-            OptionKind::Link => link_of(value).map(HostUse::Link),
-            OptionKind::Promiscuous => Some(HostUse::Promiscuous),
-        };
-        read.unwrap_or(HostUse::Unread(self))
+        let unread = HostUse::Unread(self);
+        match self {
+            OptionKind::Rx => number16_of(value).map_or(unread, HostUse::Rx),
+            OptionKind::Tx => number16_of(value).map_or(unread, HostUse::Tx),
+            OptionKind::Buffers => number16_of(value).map_or(unread, HostUse::Buffers),
+            OptionKind::Rxa => number8_of(value).map_or(unread, HostUse::Rxa),
+            OptionKind::Link => link_of(value).map_or(unread, HostUse::Link),
+            OptionKind::Promiscuous => HostUse::Promiscuous,
+        }
     }
 
     /// This option without a value.
@@ -141,14 +142,14 @@ impl HostUse {
         }
     }
 
-    /// Whether it has its value, where it takes one.
+    /// Whether it has its value, if it takes one.
     fn is_whole(&self) -> bool
         ensures { result ≡ options.is_whole self.now }
     {
         !matches!(self, HostUse::Lone(_))
     }
 
-    /// Whether it is an option, and its value reads as its kind.
+    /// Whether it is an option, and its value has its form.
     fn is_read(&self) -> bool
         ensures { result ≡ options.is_read self.now }
     {
@@ -157,7 +158,7 @@ impl HostUse {
 }
 
 impl HostOptions {
-    /// The same, with one more option used.
+    /// These options with one more use.
     fn with_use(self, one: HostUse) -> HostOptions
         ensures { result ≡ options.with_use self one }
     {
@@ -176,7 +177,7 @@ impl HostOptions {
     }
 }
 
-/// When a link comes up.
+/// When a link is up.
 fn link_of(value: &str) -> Option<Link>
     ensures { result ≡ options.link_in value.now }
 {
@@ -186,22 +187,25 @@ fn link_of(value: &str) -> Option<Link>
     Some(Link::After(number16_of(value)?))
 }
 
-/// The option of this name.
+/// The names of the options.
+const OPTION_KINDS: [(&str, OptionKind); 6] = [
+    ("rx", OptionKind::Rx),
+    ("tx", OptionKind::Tx),
+    ("buffers", OptionKind::Buffers),
+    ("rxa", OptionKind::Rxa),
+    ("link", OptionKind::Link),
+    ("promiscuous", OptionKind::Promiscuous),
+];
+
+/// The option with this name.
+#[tactic(auto, unfolding(crate::specs::HostOptions::option_named))]
 fn option_of(word: &str) -> Option<OptionKind>
     ensures { result ≡ options.option_named word.now }
 {
-    match word {
-        "rx" => Some(OptionKind::Rx),
-        "tx" => Some(OptionKind::Tx),
-        "buffers" => Some(OptionKind::Buffers),
-        "rxa" => Some(OptionKind::Rxa),
-        "link" => Some(OptionKind::Link),
-        "promiscuous" => Some(OptionKind::Promiscuous),
-        _ => None,
-    }
+    value_of(&OPTION_KINDS, word)
 }
 
-/// What a word uses, and how many of the words behind it that takes.
+/// The use that a word begins, and the number of words after it that belong to it.
 fn first_use(word: &str, behind: &[&str]) -> (HostUse, usize)
     ensures first { options.uses_in (word.now ∷ texts behind.now)
         ≡ result.0 ∷ options.uses_in (texts (drop result.1 behind.now)) }
@@ -219,7 +223,7 @@ fn first_use(word: &str, behind: &[&str]) -> (HostUse, usize)
     }
 }
 
-/// What the words behind the wire use.
+/// The uses of options that the words after the wire spell.
 pub(crate) fn uses_of(alloc: Global, words: &[&str]) -> Result<Vec<HostUse>, AllocError>
     ensures { IfOk result (λ uses. uses.items ≡ options.uses_in (texts words.now)) }
 {
@@ -259,14 +263,14 @@ pub(crate) fn are_counted(uses: &[HostUse]) -> bool
     uses.iter().all(|one| one.is_whole()) && are_once(uses)
 }
 
-/// Whether each word is an option, and its value reads as its kind.
+/// Whether each word is an option, and its value has its form.
 pub(crate) fn are_read(uses: &[HostUse]) -> bool
     ensures { IsTrue result ↔ options.AreRead uses.now }
 {
     uses.iter().all(|one| one.is_read())
 }
 
-/// What options ask for.
+/// The values that options have after these uses.
 pub(crate) fn options_of(uses: &[HostUse]) -> HostOptions
     ensures { result ≡ options.options_asked uses.now }
 {

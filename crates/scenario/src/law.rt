@@ -1,9 +1,8 @@
-// Laws of what texts are answered.
+// Laws of reading texts.
 
 ghost use Rattle.scenario.specs.Laws.{RefusalsAreOne, TextsAreReadOrRefused};
 
-/// A text that is read is refused for no line; a text that is refused is so for one line alone, and that has one fault
-/// alone.
+/// A text that is read isn't refused. A text that is refused is refused for only one line, with only one fault.
 pub fn texts_are_read_or_refused()
     ensures read { TextsAreReadOrRefused }
     ensures once { RefusalsAreOne }

@@ -1,6 +1,7 @@
-//! The text of a run for `nicbench run`: the plan of a network, and what its hosts are to do, line by line.
+//! Reads the text of a run for `nicbench run`: the plan of a network, and commands for its hosts, line by line.
 //!
-//! [`Scenario::read`] reads it, or tells by a [`Refusal`] which line is faulty, and how.
+//! [`Scenario::read`] returns plan and commands, or a [`Refusal`] with the number of the first faulty line and its
+//! fault.
 #![tactic(auto)]
 
 mod command;
@@ -14,6 +15,7 @@ mod refusal;
 mod scenario;
 mod setup_line;
 mod spelling;
+mod table;
 mod text;
 mod tick_word;
 

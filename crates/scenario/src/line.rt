@@ -1,4 +1,4 @@
-// The reading of one line.
+// Reads one line.
 
 ghost use Rattle.std.specs.Prelude.{◌≡◌};
 ghost use Rattle.scenario.specs.Answers.{IsAnswer, IsLineAnswer, IsWordsAnswer};
@@ -16,7 +16,7 @@ use crate::text::words_in;
 use std::alloc::Global;
 use std::str;
 
-/// How many bytes a line has at most (own).
+/// The maximum number of bytes of a line (our choice).
 const MOST_LINE_BYTES: usize = 8192;
 
 /// Reads the words of a line of this kind.

@@ -1,18 +1,20 @@
-// What a line says, by its first word.
+// The kinds of lines, by their first words.
 
 ghost use Rattle.std.specs.Prelude.{◌≡◌};
-ghost use Rattle.scenario.specs.Kinds.{event_kind_named, kind_named, plain_kind_named};
+ghost use Rattle.scenario.specs.Kinds.{kind_named};
 
-/// The kinds of lines. Those of the first four set up, the others are events.
+use crate::table::value_of;
+
+/// The kinds of lines. The first four set up, the others are events.
 #[derive(Clone, Copy)]
 pub(crate) enum LineKind {
-    /// `host`: a host is there.
+    /// `host`: a new host.
     Host,
-    /// `group`: a host's adapter lets the frames of a group pass.
+    /// `group`: a host's adapter passes the frames of a group.
     Group,
-    /// `vlan`: a host's adapter lets the frames of a VLAN pass.
+    /// `vlan`: a host's adapter passes the frames of a VLAN.
     Vlan,
-    /// `socket`: a host has a socket.
+    /// `socket`: a host gets a socket.
     Socket,
     /// `send`: a host sends a frame.
     Send,
@@ -20,50 +22,35 @@ pub(crate) enum LineKind {
     Recv,
     /// `interrupt`: a host handles an interrupt.
     Interrupt,
-    /// `tick`: a tick by itself.
+    /// `tick`: a tick between calls.
     Tick,
-    /// `feed`: a host gets the frames of a trace.
+    /// `feed`: a host sends the frames of a trace.
     Feed,
-    /// `auto`: events that are drawn.
+    /// `auto`: events drawn at random.
     Auto,
-    /// `drain`: a host gives all that it holds for its sockets.
+    /// `drain`: a host delivers all frames that it holds for its sockets.
     Drain,
 }
 
-/// The kind of the lines that this word begins, of the events that are no calls.
-fn plain_kind_of(word: &str) -> Option<LineKind>
-    ensures { result ≡ plain_kind_named word.now }
-{
-    match word {
-        "tick" => Some(LineKind::Tick),
-        "feed" => Some(LineKind::Feed),
-        "auto" => Some(LineKind::Auto),
-        "drain" => Some(LineKind::Drain),
-        _ => None,
-    }
-}
+/// The words that lines begin with, and the kinds of these lines.
+const KINDS: [(&str, LineKind); 11] = [
+    ("host", LineKind::Host),
+    ("group", LineKind::Group),
+    ("vlan", LineKind::Vlan),
+    ("socket", LineKind::Socket),
+    ("send", LineKind::Send),
+    ("recv", LineKind::Recv),
+    ("interrupt", LineKind::Interrupt),
+    ("tick", LineKind::Tick),
+    ("feed", LineKind::Feed),
+    ("auto", LineKind::Auto),
+    ("drain", LineKind::Drain),
+];
 
-/// The kind of the lines that this word begins, of the events.
-fn event_kind_of(word: &str) -> Option<LineKind>
-    ensures { result ≡ event_kind_named word.now }
-{
-    match word {
-        "send" => Some(LineKind::Send),
-        "recv" => Some(LineKind::Recv),
-        "interrupt" => Some(LineKind::Interrupt),
-        _ => plain_kind_of(word),
-    }
-}
-
-/// The kind of the lines that this word begins.
+/// The kind of the lines that begin with a word.
+#[tactic(auto, unfolding(crate::specs::Kinds::kind_named))]
 pub(crate) fn kind_of(word: &str) -> Option<LineKind>
     ensures { result ≡ kind_named word.now }
 {
-    match word {
-        "host" => Some(LineKind::Host),
-        "group" => Some(LineKind::Group),
-        "vlan" => Some(LineKind::Vlan),
-        "socket" => Some(LineKind::Socket),
-        _ => event_kind_of(word),
-    }
+    value_of(&KINDS, word)
 }

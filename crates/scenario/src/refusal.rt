@@ -6,30 +6,30 @@ ghost use Rattle.scenario.specs.declared.refusal.Stop.TheVariants as stop;
 use std::alloc::{AllocError, AllocFailed};
 use thiserror::Error;
 
-/// The exit status of a program whose input is refused.
+/// The exit status of a program if its input is refused.
 const REFUSED: u8 = 1;
 
-/// The exit status of a program that got no memory.
+/// The exit status of a program if memory was refused.
 const NO_MEMORY: u8 = 4;
 
-/// What is wrong with a line. Of several faults the first in this order is told, but that [`Long`](Fault::Long) and
-/// then [`Text`](Fault::Text) come before all others.
+/// The fault of a line. If a line has several, the first one is reported: [`Long`](Fault::Long), then
+/// [`Text`](Fault::Text), then the first of the others in this order.
 #[derive(Clone, Copy, Debug, PartialEq, Eq, Error)]
 pub enum Fault {
     /// Its first word isn't known.
     #[error("E50 Word")]
     Word,
-    /// It has too few words, or too many, or an option twice.
+    /// It has too few or too many words, an option without its value, or an option twice.
     #[error("E51 Count")]
     Count,
-    /// A word doesn't read as what stands there.
+    /// A word doesn't have the form for its place, or an option isn't known.
     #[error("E52 Value")]
     Value,
     /// A host that it names isn't known, a host's name is taken, or a host has no room for another socket, group or
     /// VLAN.
     #[error("E53 Name")]
     Name,
-    /// It sets something up, and an event stands before it.
+    /// It sets up after an event.
     #[error("E54 Order")]
     Order,
     /// It has more than 8,192 bytes.
@@ -43,12 +43,12 @@ pub enum Fault {
 /// Why a text was refused.
 #[derive(Clone, Copy, Debug, PartialEq, Eq, Error)]
 pub enum Refusal {
-    /// This line, numbered from 1, is the first that is faulty.
+    /// This line, numbered from 1, is the first faulty one.
     #[error("line {line}: {fault}")]
     Line {
         /// The number of the line.
         line: usize,
-        /// What is wrong with it.
+        /// Its fault.
         fault: Fault,
     },
     /// Memory was refused.
@@ -59,7 +59,7 @@ pub enum Refusal {
 impl Refusal {
     ghost use Rattle.scenario.specs.Statuses.{status_of};
 
-    /// The exit status of a program that ends for this refusal: 1 for a line that is faulty, 4 for want of memory.
+    /// The exit status of a program that ends for this refusal: 1 for a faulty line, 4 if memory was refused.
     pub fn status(&self) -> u8
         ensures { result ≡ status_of self.now }
     {
@@ -82,7 +82,7 @@ pub(crate) enum Stop {
 impl Stop {
     ghost use Rattle.scenario.specs.Stops.{refusal_at};
 
-    /// Why a text was refused, of which this line wasn't read.
+    /// The refusal of a text if this line wasn't read.
     pub(crate) fn at(self, line: usize) -> Refusal
         ensures { result ≡ refusal_at line self }
     {

@@ -1,4 +1,4 @@
-// The reading of a text.
+// Reads a text.
 
 ghost use Rattle.std.specs.Prelude.{◌≡◌, ◌∷◌, ◌<◌, ◌≤◌, IfErr, IfOk, IfSome, drop, length, position};
 ghost use Rattle.std.specs.List.{position_or_len};
@@ -13,7 +13,7 @@ use crate::refusal::Refusal;
 use network_plan::Plan;
 use std::alloc::Global;
 
-/// The first line feed, if there is one.
+/// The place of the first line feed, if there is one.
 fn first_feed(text: &[u8]) -> Option<usize>
     ensures place { result ≡ position is_feed text.now }
     ensures within { IfSome result (λ place. place < length text.now) }
@@ -21,7 +21,7 @@ fn first_feed(text: &[u8]) -> Option<usize>
     text.iter().position(|byte| *byte == b'\n')
 }
 
-/// How many bytes stand before the first line feed.
+/// The number of bytes before the first line feed.
 #[tactic(auto, using(crate::proofs::TextLines::feed_found, crate::proofs::TextLines::feed_missing))]
 fn line_end(text: &[u8]) -> usize
     ensures end { result ≡ position_or_len is_feed text.now }
@@ -45,7 +45,7 @@ fn without_return(line: &[u8]) -> &[u8]
     kept
 }
 
-/// The first line of a text, and how many bytes it takes with its end.
+/// The first line of a text, and its number of bytes, with its end.
 fn first_line(text: &[u8]) -> (&[u8], usize)
     requires { 0 < length text.now }
     ensures first { lines text.now ≡ result.0.now ∷ lines (drop result.1 text.now) }
@@ -60,7 +60,7 @@ fn first_line(text: &[u8]) -> (&[u8], usize)
     (without_return(line), end + 1)
 }
 
-/// A scenario that says nothing.
+/// A scenario without hosts and commands.
 fn empty_scenario(alloc: Global) -> Scenario
     ensures { so_far result ≡ nothing }
 {
@@ -78,8 +78,8 @@ impl Scenario {
     ///
     /// # Errors
     ///
-    /// [`Line`](Refusal::Line) for the first line that is faulty, with the first of its [faults](crate::Fault), and
-    /// [`Memory`](Refusal::Memory) where memory was refused.
+    /// [`Line`](Refusal::Line) for the first faulty line, with the first of its [faults](crate::Fault), and
+    /// [`Memory`](Refusal::Memory) if memory was refused.
     pub fn read(alloc: Global, text: &[u8]) -> Result<Scenario, Refusal>
         ensures read { IfOk result (λ scenario. IsRead text.now (so_far scenario)) }
         ensures refused { IfErr result (IsRefused text.now) }

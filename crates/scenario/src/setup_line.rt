@@ -1,19 +1,17 @@
-// The lines that set up: hosts, and what they get.
+// The lines that set up hosts, and their groups, VLANs and sockets.
 
 ghost use Rattle.std.specs.Prelude.{◌≡◌, IfErr, IfOk, OnOk, length};
-ghost use Rattle.scenario.specs.Answers.{IsAnswer, IsFaulty, IsGood};
-ghost use Rattle.scenario.specs.HostOptions.{options_asked, uses_in};
-ghost use Rattle.scenario.specs.Meanings.{HasCount, HasValues, new_host, option_words};
+ghost use Rattle.scenario.specs.Answers.{IsAnswer, IsFaulty, IsGood, IsHostRead};
+ghost use Rattle.scenario.specs.Meanings.{HasCount, HasValues, new_host};
 ghost use Rattle.scenario.specs.SoFar.{SoFar, host_of, so_far};
-ghost use Rattle.scenario.specs.Spellings.{address_in};
 ghost use Rattle.scenario.specs.Stops.{IfFault};
-ghost use Rattle.scenario.specs.Words.{texts, word};
+ghost use Rattle.scenario.specs.Words.{texts};
 ghost use Rattle.scenario.specs.declared.line_kind.LineKind.TheVariants as line;
 ghost use Rattle.scenario.specs.declared.refusal.Fault.TheVariants as fault;
 
 use crate::command::Scenario;
 use crate::host_change::{add_group, add_socket, add_vlan, new_host};
-use crate::host_use::{HostOptions, HostUse, are_counted, are_read, options_of, uses_of};
+use crate::host_use::{HostOptions, are_counted, are_read, options_of, uses_of};
 use crate::refusal::{Fault, Stop};
 use crate::spelling::{address_of, number16_of, socket_of};
 use crate::text::{HOST_WORDS, option_words, word_at};
@@ -21,10 +19,10 @@ use crate::tick_word::host_named;
 use network_plan::HostPlan;
 use std::alloc::Global;
 
-/// How many words a line has that gives a host something.
+/// The number of words of a `group`, a `vlan` and a `socket` line.
 const GIFT_WORDS: usize = 3;
 
-/// Looks whether something may still be set up.
+/// Checks that no event comes before this line.
 fn check_order(scenario: &Scenario) -> Result<(), Fault>
     ensures ok { OnOk result (length (so_far scenario.now).commands ≡ 0) }
     ensures err { IfErr result (λ stopped. (stopped ≡ fault.Order) × (¬ (length (so_far scenario.now).commands ≡ 0))) }
@@ -36,10 +34,13 @@ fn check_order(scenario: &Scenario) -> Result<(), Fault>
     }
 }
 
-/// What the options of a `host` line use. The line has its words, and no option twice.
-fn host_uses(alloc: Global, words: &[&str]) -> Result<Vec<HostUse>, Stop>
-    ensures count { OnOk result (HasCount line.Host (texts words.now)) }
-    ensures uses { IfOk result (λ uses. uses.items ≡ uses_in (option_words (texts words.now))) }
+/// The address and the options of a `host` line.
+///
+/// # Errors
+///
+/// [`Count`](Fault::Count) and [`Value`](Fault::Value).
+fn host_values(alloc: Global, words: &[&str]) -> Result<([u8; 6], HostOptions), Stop>
+    ensures ok { IfOk result (λ read. IsHostRead (texts words.now) (read.0, read.1)) }
     ensures err { (before : SoFar) →
         IfErr result (λ stop. IfFault stop (IsFaulty line.Host before (texts words.now))) }
 {
@@ -47,23 +48,10 @@ fn host_uses(alloc: Global, words: &[&str]) -> Result<Vec<HostUse>, Stop>
         return Err(Stop::Fault(Fault::Count));
     }
     let uses = uses_of(alloc, option_words(words))?;
-    if !are_counted(uses.as_slice()) {
+    let uses = uses.as_slice();
+    if !are_counted(uses) {
         return Err(Stop::Fault(Fault::Count));
     }
-    Ok(uses)
-}
-
-/// The address and the options of a `host` line whose options use these.
-fn host_read(words: &[&str], uses: &[HostUse]) -> Result<([u8; 6], HostOptions), Stop>
-    requires count { HasCount line.Host (texts words.now) }
-    requires uses { uses.now ≡ uses_in (option_words (texts words.now)) }
-    ensures count { OnOk result (HasCount line.Host (texts words.now)) }
-    ensures values { OnOk result (HasValues line.Host (texts words.now)) }
-    ensures address { IfOk result (λ read. read.0 ≡ address_in (word 2 (texts words.now))) }
-    ensures options { IfOk result (λ read. read.1 ≡ options_asked (uses_in (option_words (texts words.now)))) }
-    ensures err { (before : SoFar) →
-        IfErr result (λ stop. IfFault stop (IsFaulty line.Host before (texts words.now))) }
-{
     if !are_read(uses) {
         return Err(Stop::Fault(Fault::Value));
     }
@@ -73,22 +61,7 @@ fn host_read(words: &[&str], uses: &[HostUse]) -> Result<([u8; 6], HostOptions),
     Ok((address, options_of(uses)))
 }
 
-/// The address and the options of a `host` line.
-fn host_values(alloc: Global, words: &[&str]) -> Result<([u8; 6], HostOptions), Stop>
-    ensures count { OnOk result (HasCount line.Host (texts words.now)) }
-    ensures values { OnOk result (HasValues line.Host (texts words.now)) }
-    ensures address { IfOk result (λ read. read.0 ≡ address_in (word 2 (texts words.now))) }
-    ensures options { IfOk result (λ read. read.1 ≡ options_asked (uses_in (option_words (texts words.now)))) }
-    ensures err { (before : SoFar) →
-        IfErr result (λ stop. IfFault stop (IsFaulty line.Host before (texts words.now))) }
-{
-    match host_uses(alloc, words) {
-        Ok(uses) => host_read(words, uses.as_slice()),
-        Err(stop) => Err(stop),
-    }
-}
-
-/// Checks that the name of a new host is free, and that hosts may still be set up.
+/// Checks that the name of a new host is free, and that no event comes before its line.
 fn check_host(scenario: &Scenario, words: &[&str]) -> Result<(), Fault>
     requires count { HasCount line.Host (texts words.now) }
     requires values { HasValues line.Host (texts words.now) }

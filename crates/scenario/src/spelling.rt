@@ -12,16 +12,15 @@ use hex::FromHexError;
 use packet_socket::SocketKind;
 use std::alloc::Global;
 
-/// How many digits a frame has at most (own).
+/// The maximum number of digits of a frame (our choice).
 const MOST_FRAME_DIGITS: usize = 8000;
 
-/// How many digits the number of a socket has (own).
+/// The number of digits of a socket's EtherType (our choice).
 const ETHER_TYPE_DIGITS: usize = 4;
 
 const HEXADECIMAL: u32 = 16;
 
-/// The number that decimal digits alone spell, of 64 bits.
-
+/// The number of 64 bits that decimal digits spell, if there is nothing else.
 pub(crate) fn number_of(text: &str) -> Option<u64>
     ensures { result ≡ number_in 10 64 text.now }
 {
@@ -31,28 +30,28 @@ pub(crate) fn number_of(text: &str) -> Option<u64>
     text.parse::<u64>().ok()
 }
 
-/// The same of 32 bits.
+/// The same with 32 bits.
 pub(crate) fn number32_of(text: &str) -> Option<u32>
     ensures { result ≡ number_in 10 32 text.now }
 {
     u32::try_from(number_of(text)?).ok()
 }
 
-/// The same of 16 bits.
+/// The same with 16 bits.
 pub(crate) fn number16_of(text: &str) -> Option<u16>
     ensures { result ≡ number_in 10 16 text.now }
 {
     u16::try_from(number_of(text)?).ok()
 }
 
-/// The same of 8 bits.
+/// The same with 8 bits.
 pub(crate) fn number8_of(text: &str) -> Option<u8>
     ensures { result ≡ number_in 10 8 text.now }
 {
     u8::try_from(number_of(text)?).ok()
 }
 
-/// The number of 16 bits that hexadecimal digits alone spell.
+/// The number of 16 bits that hexadecimal digits spell, if there is nothing else.
 fn hexadecimal_of(text: &str) -> Option<u16>
     ensures { result ≡ number_in 16 16 text.now }
 {
@@ -72,7 +71,7 @@ fn ether_type_of(text: &str) -> Option<u16>
     hexadecimal_of(text)
 }
 
-/// Which frames a socket takes: `all`, or those of the number that four hexadecimal digits spell.
+/// The frames that a socket takes: `all`, or those of an EtherType, four hexadecimal digits.
 pub(crate) fn socket_of(text: &str) -> Option<SocketKind>
     ensures { result ≡ socket_in text.now }
 {
@@ -93,7 +92,7 @@ pub(crate) fn address_of(text: &str) -> Option<[u8; 6]>
 ///
 /// # Errors
 ///
-/// [`Value`](Fault::Value) where there are other digits, an odd number of them, or more than 8,000.
+/// [`Value`](Fault::Value) if there are other characters, an odd number of digits, or more than 8,000.
 pub(crate) fn frame_of(alloc: Global, text: &str) -> Result<Vec<u8>, Stop>
     ensures ok { IfOk result (λ frame. IsFrame text.now × (frame.items ≡ frame_in text.now)) }
     ensures err { IfErr result (λ stop. IfFault stop (λ fault. (fault ≡ faults.Value) × (¬ IsFrame text.now))) }

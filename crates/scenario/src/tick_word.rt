@@ -4,21 +4,22 @@ ghost use Rattle.std.specs.Prelude.{◌≡◌, ◌<◌, IfSome, length};
 ghost use Rattle.scenario.specs.SoFar.{has_name, host_of, hosts_of, place_of};
 ghost use Rattle.scenario.specs.TickWords as words;
 
+use crate::table::value_of;
 use adapter::StepKind;
 use network_plan::HostPlan;
 use stations::Tick;
 
-/// The kinds of a host's ticks.
+/// The kinds of ticks at a host.
 #[derive(Clone, Copy)]
 pub(crate) enum TickKind {
     /// Its adapter takes this step.
     Step(StepKind),
-    /// The oldest frame that waits at its end of the wire is delivered.
+    /// The oldest frame at its end of the wire is delivered.
     Deliver,
 }
 
 impl TickKind {
-    /// The tick of a host.
+    /// The tick of this kind at a host.
     fn at(self, host: usize) -> Tick
         ensures { result ≡ words.tick_at self host }
     {
@@ -29,20 +30,23 @@ impl TickKind {
     }
 }
 
-/// The kind of ticks that has this name.
+/// The names of the kinds of ticks.
+const TICK_KINDS: [(&str, TickKind); 7] = [
+    ("txtake", TickKind::Step(StepKind::TxTake)),
+    ("txput", TickKind::Step(StepKind::TxPut)),
+    ("rxdata", TickKind::Step(StepKind::RxData)),
+    ("rxdone", TickKind::Step(StepKind::RxDone)),
+    ("eeprom", TickKind::Step(StepKind::EepromTick)),
+    ("phy", TickKind::Step(StepKind::PhyTick)),
+    ("deliver", TickKind::Deliver),
+];
+
+/// The kind of ticks with this name.
+#[tactic(auto, unfolding(crate::specs::TickWords::tick_kind_named))]
 fn tick_kind_of(word: &str) -> Option<TickKind>
     ensures { result ≡ words.tick_kind_named word.now }
 {
-    match word {
-        "txtake" => Some(TickKind::Step(StepKind::TxTake)),
-        "txput" => Some(TickKind::Step(StepKind::TxPut)),
-        "rxdata" => Some(TickKind::Step(StepKind::RxData)),
-        "rxdone" => Some(TickKind::Step(StepKind::RxDone)),
-        "eeprom" => Some(TickKind::Step(StepKind::EepromTick)),
-        "phy" => Some(TickKind::Step(StepKind::PhyTick)),
-        "deliver" => Some(TickKind::Deliver),
-        _ => None,
-    }
+    value_of(&TICK_KINDS, word)
 }
 
 /// Whether a host has this name.
@@ -60,7 +64,7 @@ pub(crate) fn host_named(hosts: &[HostPlan], name: &str) -> Option<usize>
     hosts.iter().position(|host| is_named(host, name))
 }
 
-/// Whether a word spells a tick, of any host.
+/// Whether a word spells a tick, at any host.
 pub(crate) fn is_tick(word: &str) -> bool
     ensures { result ≡ words.is_tick word.now }
 {
@@ -73,7 +77,7 @@ pub(crate) fn is_tick(word: &str) -> bool
     }
 }
 
-/// The tick that a word spells, where its kind and its host are known.
+/// The tick that a word spells, if its kind and its host are known.
 pub(crate) fn tick_of(hosts: &[HostPlan], word: &str) -> Option<Tick>
     ensures { result ≡ words.tick_of (hosts_of hosts.now) word.now }
 {

@@ -1,4 +1,4 @@
--- What the bench answers, by what was played and noted.
+-- The result of the bench, by what was played and recorded.
 use Rattle.std.proofs.Common.{◌≡◌, ◌<◌, ◌≤◌, ◌+◌, ◌++◌, ◌∷◌, ◌⊎◌, [], zero, suc, ℕ, List, Option, Some, None, length, map, replicate}
 use Rattle.std.proofs.Common.{slice_get}
 use Rattle.std.proofs.Common.{option_map, inl, inr, refl, sym, ap, subst, ◌∙◌, arith}
@@ -30,7 +30,7 @@ use Rattle.scenario_bench.specs.declared.tally.Tally.{Tally}
 use Rattle.scenario_bench.proofs.Told.{noted-lists, tally_of}
 use Rattle.stations.proofs.Places.{same-places}
 
--- Summaries, one behind the other.
+-- Summaries, in order.
 
 pub none_told : (plans : List HostPlan) (play : Play) → TellTallies 0 plans play []
 none_told plans play = record { count = refl; each = λ k plan tally host one plan_is tally_is host_is is. cc }
@@ -69,7 +69,7 @@ one_told first plans play told more plan one has plan_there tells is = record {
       ];
 }
 
--- What stands behind a run that began with nothing noted.
+-- The record after a run that began with an empty one.
 
 at-replicate : {X : Type 0} → (n k : ℕ) (x : X) → k < n → slice_get (replicate n x) k ≡ Some x
 at-replicate zero k x below = absurd (omega (arith, below))
@@ -98,7 +98,7 @@ pub tallies_enough : (plans : List HostPlan) (said : List Said) (a b : Play) →
 tallies_enough plans said a b begun played = enough b.record.hosts.items (length plans)
     (λ k below. (tally_of k (history played.acts), tally_at plans said a b begun played k below))
 
--- the sockets have what they gave
+-- the sockets have the frames that they returned
 sockets-are : (plans : List HostPlan) (said : List Said) (a b : Play) (begun : Begins plans a) (played : HasPlayed said a b)
     → b.record.sockets.items ≡ map (socket_behind 0 played.acts) (empty_sockets (sockets_from 0 (hosts_of plans)))
 sockets-are plans said a b begun played =
@@ -160,7 +160,8 @@ hosts_tell plans said a b told begun played tells = record {
       let found = plan-at plans k plan (slice_get plans k) refl plan_is in
       let below : k < length plans = slice_get_within plans k found.0 found.1 in
       let happened = history played.acts in
-      let this = tells.each k found.0 (tally_of k happened) host one found.1 (tally_at plans said a b begun played k below) host_is one_is in
+      let tally = tally_at plans said a b begun played k below in
+      let this = tells.each k found.0 (tally_of k happened) host one found.1 tally host_is one_is in
       record {
         name = this.name ∙ ap (λ (h : Host). h.name) found.2;
         accepted = this.accepted;
@@ -214,7 +215,8 @@ pub bench_failed : {old new : List SinkState} → (scenario : Scenario) (traces 
 bench_failed {old} {new} scenario traces error why a b is begun played wrote =
     let plans = scenario.plan.hosts.items in
     let said = all_events (hosts_of plans) traces (map said_of scenario.commands.items) in
+    let texts = texts_are plans said a b begun played in
     subst (λ (e : BenchError). Stops scenario traces e old new) (sym is) (
       plays_of scenario traces a b begun played,
-      (wrote.0, subst (λ (texts : List (List Timed)). AreWrittenUpTo wrote.0 texts old new) (texts_are plans said a b begun played) wrote.1),
+      (wrote.0, subst (λ (texts : List (List Timed)). AreWrittenUpTo wrote.0 texts old new) texts wrote.1),
     )

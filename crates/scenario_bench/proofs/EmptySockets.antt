@@ -1,4 +1,4 @@
--- Sockets that gave no frame, made one after the other.
+-- Sockets without frames, made one after another.
 use Rattle.std.proofs.Common.{◌≡◌, ◌<◌, ◌+◌, ◌++◌, ◌∷◌, [], zero, suc, ℕ, List, length, map, take, replicate, slice_index_or}
 use Rattle.std.proofs.Common.{refl, sym, ap, ◌∙◌, arith, append_assoc, append-nil}
 use Rattle.std.proofs.lemmas.Grind.{common_steps}
@@ -18,7 +18,7 @@ range-suc a (suc n) = ap (λ (ks : List ℕ). a ∷ ks) (range-suc (a + 1) n ∙
 range-more : (a n : ℕ) → range_with_len a (n + 1) ≡ range_with_len a n ++ (a + n) ∷ []
 range-more a n = let more : n + 1 ≡ suc n = omega arith in ap (range_with_len a) more ∙ range-suc a n
 
--- one socket more of a host
+-- one more socket of a host
 pub socket_more : (host count : ℕ) (old : List SocketFrames) (sockets new : List SocketFrames)
     → sockets ≡ old ++ empty_sockets (sockets_of host count) → new ≡ sockets ++ no_frames host count ∷ []
     → new ≡ old ++ empty_sockets (sockets_of host (count + 1))
@@ -45,7 +45,7 @@ from-more number (first ∷ hosts) host =
     ∙ sym (append_assoc (sockets_of number (length first.sockets)) (sockets_from (number + 1) hosts)
     (sockets_of (number + length (first ∷ hosts)) (length host.sockets)))
 
--- one host more of a plan
+-- one more host of a plan
 pub host_more : (plans : List HostPlan) (number count : ℕ) (plan d : HostPlan) (sockets new : List SocketFrames) → number < length plans
     → plan ≡ slice_index_or plans number d → count ≡ length plan.sockets.items
     → sockets ≡ empty_sockets (sockets_from 0 (hosts_of (take number plans)))

@@ -1,4 +1,4 @@
--- A frame that a socket gave, behind the others.
+-- A frame that a socket returned, after the others.
 use Rattle.std.proofs.Common.{◌≡◌, ◌==◌, ◌&&◌, ◌++◌, ◌∷◌, [], ℕ, suc, Bool, true, false, List, Option, length, map, zip, if◌then◌else◌}
 use Rattle.std.proofs.Common.{refl, sym, ap, subst, ◌∙◌, append_assoc, append-nil, arith}
 use Rattle.std.proofs.lemmas.Bool.Decides.{nat_tests}
@@ -12,7 +12,7 @@ use Rattle.scenario_bench.specs.Given.{numbered}
 use Rattle.scenario_bench.specs.GivenView.{HasFrameSize}
 use Rattle.scenario_bench.specs.SocketLists.{SocketFrames, with_given}
 
--- one more of each stands behind the others, where there are as many
+-- one more of each follows the others, if there are equally many
 pub zip-more : (numbers : List ℕ) (frames : List (List ℕ)) (number : ℕ) (frame : List ℕ) → length numbers ≡ length frames
     → map timed (zip (numbers ++ number ∷ []) (frames ++ frame ∷ [])) ≡ map timed (zip numbers frames) ++ numbered number frame ∷ []
 zip-more [] [] number frame same = refl
@@ -50,7 +50,7 @@ gives host socket number frame one numbers more frames others there asked is sam
 
 -- Writing.
 
--- The first of these frames were written, or wait; these are left, with their numbers.
+-- The first of these frames were written or wait, and these are left, with their numbers.
 pub record HasWritten (all : List Timed) (numbers : List ℕ) (frames : List (List ℕ)) (before now : Option (List ℕ)) (waiting : List ℕ)
     : Type 0 where
   pub front : List Timed

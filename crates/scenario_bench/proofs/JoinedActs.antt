@@ -1,4 +1,4 @@
--- Events and drains, one behind the other.
+-- Events and drains, in order.
 use Rattle.std.proofs.Common.{◌≡◌, ◌++◌, ◌∷◌, [], ℕ, List, length, map, inl, inr, refl, sym, ap, subst, ◌∙◌}
 use Rattle.std.proofs.Common.{append-nil, arith}
 use Rattle.std.proofs.lemmas.Grind.{flat_map-append}
@@ -61,7 +61,7 @@ pub leads-drained : (a : NetworkState) (host steps : ℕ) (given : List GivenFra
     → ActsLead a (Drained host (length (world_at a.stations host).adapter.receiver.buffer) given ∷ []) b
 leads-drained a host steps given b drains = record {
   states = (b, record { buffer = refl; steps = steps; drains = drains }, refl);
-  hosts = drains.hosts;
+  hosts = drains.others.count;
   delivers = λ k h h' is now. subst (λ (happened : List Happening). Delivers k happened a.stations b.stations h h')
       (ap (said_of_drain host buffered) (sym drains.appended) ∙ sym (append-nil (said_of_drain host buffered given)))
       (drains.delivers k h h' is now);
@@ -77,9 +77,9 @@ wires-drained : (a : NetworkState) (host buffered : ℕ) (given : List GivenFram
 wires-drained a host buffered given b runs k = elim (slice_get_cases a.hosts host).1 [
   | inl there ↦
       let now = slice_get-some b.hosts host
-      (let below = there.1 in let same = runs.drains.hosts in omega (arith, below, same)) in
+      (let below = there.1 in let same = runs.drains.others.count in omega (arith, below, same)) in
       let drains = runs.drains.drains there.0 now.0 there.2 now.1 in
-      wires-stay host k drains.played a.stations b.stations drains.leads
+      wires-stay host k drains.by.played a.stations b.stations drains.by.leads
   | inr past ↦ ap (λ (network : NetworkState). wire_at network.stations k) (runs.drains.absent past.0).2
 ]
 
@@ -88,7 +88,7 @@ wires-of : (a : NetworkState) (acts : List Act) (b : NetworkState) → ActsRun a
 wires-of a [] b states k = ap (λ (network : NetworkState). wire_at network.stations k) states
 wires-of a (Ran event reply ∷ acts) b states k =
     wires-of states.0 acts b states.2 k
-    ∙ wires-stay (caller_of event) k states.1.steps a.stations states.0.stations states.1.leads
+    ∙ wires-stay (caller_of event) k states.1.steps a.stations states.0.stations states.1.go.leads
 wires-of a (Drained host buffered given ∷ acts) b states k =
     wires-of states.0 acts b states.2 k ∙ wires-drained a host buffered given states.0 states.1 k
 

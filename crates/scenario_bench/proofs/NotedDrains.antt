@@ -1,4 +1,4 @@
--- Drains that are noted.
+-- Recorded drains.
 use Rattle.std.proofs.Common.{◌≡◌, ◌++◌, ◌∷◌, [], zero, suc, ℕ, List, Option, Some, None, map, option_map, slice_get}
 use Rattle.std.proofs.Common.{refl, sym, ap, subst, ◌∙◌, append_assoc, append-nil}
 use Rattle.std.specs.Prelude.{replicate}
@@ -26,7 +26,7 @@ use Rattle.scenario_bench.proofs.NotedEvents.{gets_given, gets_none}
 abbrev given-at : (host : ℕ) → GivenFrame → Happening
 given-at host one = Given host one.socket one.frame
 
--- Frames that are moved aren't counted, and no socket gives them.
+-- Moved frames aren't counted, and no socket returns them.
 
 moved-counts : (moves host k : ℕ) (tally : Tally) → fold (counted_by k) tally (replicate moves (Moved host)) ≡ tally
 moved-counts zero host k tally = refl
@@ -65,7 +65,7 @@ same-socket host buffered number frames None = refl
 same-socket host buffered number frames (Some socket) =
     ap (λ (s : SocketFrames). Some s) (moves-give host buffered number frames socket)
 
--- So what is noted of a drain is the same, however many frames were moved.
+-- So the record of a drain doesn't depend on the number of moved frames.
 pub noted_moves : (host buffered : ℕ) (frames : List GivenFrame) (a b : Record) → AreNoted (Drained host 0 frames ∷ []) a b
     → AreNoted (Drained host buffered frames ∷ []) a b
 noted_moves host buffered frames a b noted = record {
@@ -74,7 +74,7 @@ noted_moves host buffered frames a b noted = record {
   sockets = λ k. noted.sockets k ∙ same-socket host buffered a.number frames (slice_get a.sockets.items k);
 }
 
--- Frames that are given, one behind the other.
+-- Delivered frames, in order.
 
 gets-further : (number : ℕ) (xs ys : List Happening) (found : Option SocketFrames)
     → option_map (with_said number ys) (option_map (with_said number xs) found) ≡ option_map (with_said number (xs ++ ys)) found
@@ -92,7 +92,7 @@ gets-join : (number : ℕ) (xs ys : List Happening) (a b c : List SocketFrames) 
 gets-join number xs ys a b c one two k =
     two k ∙ ap (option_map (with_said number ys)) (one k) ∙ gets-further number xs ys (slice_get a k)
 
--- The first of these frames are noted, and these are left.
+-- The first of these frames are recorded, and these are left.
 pub record HasDrained (host number : ℕ) (all rest : List DrainedFrame) (hosts hosts' : List Tally) (sockets sockets' : List SocketFrames)
     : Type 0 where
   pub done : List GivenFrame
@@ -144,3 +144,6 @@ pub all_got : (host number : ℕ) (all rest : List DrainedFrame) (a b : List Tal
     → HasDrained host number all rest a b d e → rest ≡ [] → GetsSaid number (said_of_drain host 0 (map drained_frame all)) d e
 all_got host number all rest a b d e has is =
     subst (λ (l : List GivenFrame). GetsSaid number (said_of_drain host 0 l) d e) (all-done host number all rest a b d e has is) has.gets
+
+-- for the frames of a drain
+pub ruleset drain_rules = (none_drained, all_counted, all_got)

@@ -1,4 +1,4 @@
--- Events that are noted, one behind the other.
+-- Recorded events, in order.
 use Rattle.std.proofs.Common.{◌≡◌, ◌==◌, ◌&&◌, ◌++◌, ◌∷◌, [], ℕ, Bool, true, false, List, Option, Some, None, Vec, Global, Ok, Err}
 use Rattle.std.proofs.Common.{map}
 use Rattle.std.proofs.Common.{slice_get, option_map, if◌then◌else◌, refl, sym, ap, subst, ◌∙◌, append_assoc, append-nil}
@@ -30,7 +30,7 @@ use Rattle.scenario_bench.proofs.Noting.{grows_join, grows_not}
 
 -- The ticks of a call.
 
--- The first ticks have told this; these are left, with these outcomes.
+-- The first ticks are recorded, and these are left, with these outcomes.
 pub record HasTold (ticks rest : List Tick) (outcomes left : List Numbered) (old new : List Tally) : Type 0 where
   pub done : List Happening
   pub parts : told ticks outcomes ≡ done ++ told rest left
@@ -96,7 +96,7 @@ told_all ticks rest outcomes left old new has is =
     subst (λ (t : List Happening). TalliesGrow t old new)
     (sym (has.parts ∙ ap (λ (r : List Tick). has.done ++ told r left) is ∙ append-nil has.done)) has.grows
 
--- What an event gives.
+-- The frame that an event returns.
 
 given-of : (k s host : ℕ) (one : Outcome) → given k s (told_of host one) ≡ []
 given-of k s host (outcome.Put frame) = refl
@@ -136,7 +136,7 @@ given-accepted k s host frame (answer.Interrupted handled) = refl
 given-accepted k s host frame answer.Ticked = refl
 given-accepted k s host frame answer.NoHost = refl
 
--- Only the answer of a socket gives a frame.
+-- Only the answer of a socket has a frame.
 abbrev pub answer_of : Event → Answer → List Happening
 answer_of (event.Send host frame ticks) one = []
 answer_of (event.Recv host socket ticks) one = given_of host socket one
@@ -165,7 +165,7 @@ all-as : (number : ℕ) (one : Event) (reply : Reply) (found : Option SocketFram
 all-as number one reply None = refl
 all-as number one reply (Some socket) = ap (λ (s : SocketFrames). Some s) (said-as number one reply socket)
 
--- what an answer gives, asked of the sockets
+-- the frame of an answer, added to its socket
 pub said_answer : (number : ℕ) (one : Event) (reply : Reply) (old new : List SocketFrames)
     → GetsSaid number (answer_of one reply.answer) old new → GetsSaid number (said one reply) old new
 said_answer number one reply old new gets k = gets k ∙ sym (all-as number one reply (slice_get old k))
@@ -207,7 +207,8 @@ act-noted : (act : Act) (old new : Record) → new.number ≡ next_number old.nu
     → GetsSaid old.number (said_in act) old.sockets.items new.sockets.items → AreNoted (act ∷ []) old new
 act-noted act old new next hosts sockets = record {
   number = next;
-  hosts = subst (λ (happened : List Happening). TalliesGrow happened old.hosts.items new.hosts.items) (sym (append-nil (said_in act))) hosts;
+  hosts = subst (λ (happened : List Happening). TalliesGrow happened old.hosts.items new.hosts.items)
+      (sym (append-nil (said_in act))) hosts;
   sockets = λ k. sockets k ∙ single old.number act (slice_get old.sockets.items k);
 }
 
@@ -269,7 +270,7 @@ noted_none a = record {
   sockets = λ k. nothing-more a.number (slice_get a.sockets.items k);
 }
 
--- The first of these events are noted, and these are left.
+-- The first of these events are recorded, and these are left.
 pub record HasNoted (events rest : List Event) (replies left : List Reply) (old new : Record) : Type 0 where
   pub done : List Act
   pub parts : ran events replies ≡ done ++ ran rest left
@@ -330,3 +331,6 @@ recv_grows host socket ticks one reply ts os a b c is ticks_are outcomes_are tic
     subst (λ (e : Event). TalliesGrow (said e reply) a c) (sym is)
     (grows_join (told ticks.items reply.outcomes.list) (given_of host socket reply.answer) a b c
     (subst (λ (t : List Happening). TalliesGrow t a b) tells ticked) (received socket))
+
+-- for the answer of a socket
+pub ruleset answer_rules = (said_answer, gets_none, gets_given)

@@ -1,4 +1,4 @@
--- What the parts of an event add to what is noted.
+-- What the parts of an event add to the record.
 use Rattle.std.proofs.Common.{◌≡◌, ◌<◌, ◌≤◌, ◌==◌, ◌++◌, ◌∷◌, [], ℕ, Bool, true, false, List, Option, Some, None, length}
 use Rattle.std.proofs.Common.{slice_get, slice_set, option_map, if◌then◌else◌, inl, inr, refl, sym, ap, subst, ◌∙◌, arith}
 use Rattle.std.proofs.lemmas.Bool.Decides.{eqb_tells}
@@ -84,7 +84,7 @@ pub grows_join : (xs ys : List Happening) (a b c : List Tally) → TalliesGrow x
 grows_join xs ys a b c one two k =
     two k ∙ ap (option_map (tally_behind ys k)) (one k) ∙ further xs ys k (slice_get a k)
 
--- What outcomes tell.
+-- Passages in outcomes.
 
 some-is : {X : Type 0} → (a b : X) → Some a ≡ Some b → a ≡ b
 some-is a b is = cc

@@ -1,4 +1,4 @@
--- Events that were played, one behind the other.
+-- Events that were played, in order.
 use Rattle.std.proofs.Common.{◌≡◌, ◌<◌, ◌≤◌, ◌-◌, ◌++◌, ◌∷◌, [], zero, suc, ℕ, List, length, map, refl, sym, ap, subst, ◌∙◌, arith}
 use Rattle.std.proofs.Common.{append_assoc, append-nil}
 use Rattle.std.proofs.lemmas.Grind.{flat_map-append}
@@ -47,7 +47,7 @@ played_join said later a b c one two = record {
   noted = noted_join one.acts two.acts a.record b.record c.record one.noted two.noted;
 }
 
--- what was run was noted
+-- events that were run are recorded
 pub played : (events : List Event) (before replies slice : List Reply) (a b : Play) → RunsTo a.lan events before replies b.lan
     → before ≡ [] → slice ≡ replies → AreNoted (ran events slice) a.record b.record → HasPlayed (map event_of events) a b
 played events before replies slice a b runs none same noted =
@@ -59,7 +59,7 @@ played events before replies slice a b runs none same noted =
       noted = subst (λ (rs : List Reply). AreNoted (ran events rs) a.record b.record) (same ∙ first.appended) noted;
     }
 
--- what a drain gave was noted
+-- the frames of a drain are recorded
 pub drained : (host steps : ℕ) (before frames slice : List DrainedFrame) (a b : Play)
     → NetworkDrains a.lan host steps (map drained_frame before) (map drained_frame frames) b.lan → before ≡ [] → slice ≡ frames
     → AreNoted (Drained host 0 (map drained_frame slice) ∷ []) a.record b.record → HasPlayed (Drains host ∷ []) a b
@@ -103,7 +103,7 @@ all_fed X events all rest a b has is =
     subst (λ (xs : List X). HasPlayed (flat_map events xs) a b)
     (sym (has.parts ∙ ap (λ (r : List X). has.done ++ r) is ∙ append-nil has.done)) has.played
 
--- So many words are left to be drawn.
+-- This many words are left to draw.
 pub record HasDrawn (event : ℕ → Said) (words : List ℕ) (left : ℕ) (generator : Lcg) (a b : Play) : Type 0 where
   pub done : List ℕ
   pub parts : words ≡ done ++ words_from left generator
@@ -140,8 +140,9 @@ all_drawn event words left generator a b has none =
     (sym (has.parts ∙ ap (λ (n : ℕ). has.done ++ words_from n generator) none ∙ append-nil has.done)) has.played
 
 -- a frame was sent, and what follows was run
-pub one_sent : (hosts : List Host) (sender : ℕ) (frame : List ℕ) (event : Event) (behind played : List Event) (all rest later : List (List ℕ))
-    (a b m c : Play) → HasFed (List ℕ) (fed hosts sender) all rest a b → rest ≡ frame ∷ later → event_of event ≡ Sends sender frame []
+pub one_sent : (hosts : List Host) (sender : ℕ) (frame : List ℕ) (event : Event) (behind played : List Event)
+    (all rest later : List (List ℕ)) (a b m c : Play)
+    → HasFed (List ℕ) (fed hosts sender) all rest a b → rest ≡ frame ∷ later → event_of event ≡ Sends sender frame []
     → HasPlayed (map event_of (event ∷ [])) b m → map event_of behind ≡ behind_send hosts sender → played ≡ behind
     → HasPlayed (map event_of played) m c → HasFed (List ℕ) (fed hosts sender) all later a c
 one_sent hosts sender frame event behind played all rest later a b m c has is sent first follows same second =

@@ -1,4 +1,4 @@
--- A text that goes out line by line.
+-- A text that is written line by line.
 use Rattle.std.proofs.Common.{◌≡◌, ℕ, List, ◌∷◌, ◌++◌, Option, sym, ap, subst, ◌∙◌, append_assoc}
 use Rattle.std.specs.Io.KnownBytes.{Appends}
 use Rattle.std.specs.List.{flat_map}
@@ -10,7 +10,7 @@ use Rattle.scenario_bench.specs.declared.summary.HostSummary.{HostSummary}
 
 module _ (a b c : Option (List ℕ)) (text : List ℕ) (host : HostSummary) (left rest : List HostSummary) (next : left ≡ host ∷ rest)
     (sent : SentUpTo a b text (flat_map host_line left)) where
-  -- the next host's line is still to go
+  -- the next host's line isn't written yet
   begun : text ≡ sent.0 ++ (host_line host ++ flat_map host_line rest)
   begun = sent.1 ∙ ap (λ (hosts : List HostSummary). sent.0 ++ flat_map host_line hosts) next
 

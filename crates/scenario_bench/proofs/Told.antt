@@ -1,4 +1,4 @@
--- What is told of hosts, by what was noted.
+-- The summaries of hosts, by the record.
 use Rattle.std.proofs.Common.{◌≡◌, ◌+◌, ◌==◌, ◌++◌, ◌∷◌, [], ℕ, Bool, true, false, List, length, if◌then◌else◌}
 use Rattle.std.proofs.Common.{refl, sym, ap, ◌∙◌, arith, append_assoc, append-nil}
 use Rattle.std.proofs.lemmas.Grind.{flat_map-append}
@@ -14,7 +14,7 @@ use Rattle.scenario_bench.specs.Tallies.{counted_by, counted_once, no_tally}
 use Rattle.scenario_bench.specs.declared.tally.Passage.TheVariants as passage
 use Rattle.scenario_bench.specs.declared.tally.Tally.{Tally}
 
--- these numbers, as they are told
+-- these numbers in a summary
 abbrev pub numbers : (a p r s g : ℕ) → Tally
 numbers a p r s g = record { accepted = as_told a; put = as_told p; reached = as_told r; stored = as_told s; given = as_told g }
 
@@ -56,7 +56,9 @@ more : (a : ℕ) → next_number (as_told a) ≡ as_told (a + 1)
 more a = omega arith
 
 as-is : (a p r s g : ℕ) → numbers a p r s g ≡ numbers (a + 0) (p + 0) (r + 0) (s + 0) (g + 0)
-as-is a p r s g = same-numbers a p r s g (a + 0) (p + 0) (r + 0) (s + 0) (g + 0) (omega arith) (omega arith) (omega arith) (omega arith) (omega arith)
+as-is a p r s g =
+    same-numbers a p r s g (a + 0) (p + 0) (r + 0) (s + 0) (g + 0) (omega arith) (omega arith) (omega arith) (omega arith)
+    (omega arith)
 
 counts-accepted : (b : Bool) (frame : List ℕ) (a p r s g : ℕ)
     → (if b then counted_once passage.Accepted (numbers a p r s g) else numbers a p r s g)
@@ -129,6 +131,6 @@ counted-all k done (one ∷ rest) =
     ap (λ (t : Tally). fold (counted_by k) t rest) (one-counted k done one ∙ tally-behind k done one)
     ∙ counted-all k (done ++ one ∷ []) rest ∙ ap (tally_of k) (append_assoc done (one ∷ []) rest)
 
--- What is noted from nothing is what the lists tell.
+-- The record after a run that began with an empty one is that of the lists.
 pub noted-lists : (k : ℕ) (happened : List Happening) → fold (counted_by k) no_tally happened ≡ tally_of k happened
 noted-lists k happened = counted-all k [] happened

@@ -1,4 +1,4 @@
--- Sinks that get their texts, one behind the other.
+-- Sinks that get their texts, one after another.
 use Rattle.std.proofs.Common.{◌≡◌, ◌<◌, ◌+◌, ◌∷◌, [], zero, suc, ℕ, List, Option, Some, None, length, map, get_or, slice_get, slice_set}
 use Rattle.std.proofs.Common.{option_map}
 use Rattle.std.specs.List.{All}
@@ -79,7 +79,7 @@ one_failed place texts old new text now later has text_is there fails = record {
       ∙ has.others k (omega (arith, past));
 }
 
--- Sinks, as they tell what they took.
+-- The states of sinks.
 
 module _ {S : Type 0} (taken : S → Option (List ℕ)) (failures : S → ℕ) where
   abbrev pub state_of : S → SinkState

@@ -1,4 +1,4 @@
--- What is done on a network by the commands of a scenario: events are run, and hosts are drained (own).
+-- What the commands of a scenario do on a network: events are run, and hosts are drained (our choice).
 use Rattle.std.specs.Prelude.{◌≡◌, ◌∷◌, [], ℕ, List, length}
 use Rattle.std.specs.List.{flat_map}
 use Rattle.packet_socket.specs.HostState.{HostState}
@@ -13,12 +13,12 @@ use Rattle.wire.specs.Networks.{IsHost, NetworkState}
 use Rattle.wire.specs.Runs.{EventRuns, said}
 use Rattle.scenario.specs.SoFar.{Drains, Said, event_of}
 
--- an event with its reply, or the drain of a host: how many frames its packet buffer had, and what it gave
+-- an event with its reply, or the drain of a host, with the number of frames in its packet buffer, and the frames that it delivered
 pub data Act : Type 0 where
   Ran : (event : Event) (reply : Reply) → Act
   Drained : (host buffered : ℕ) (given : List GivenFrame) → Act
 
--- what an act says of frames
+-- what happens to frames in an act
 abbrev pub said_in : Act → List Happening
 said_in (Ran event reply) = said event reply
 said_in (Drained host buffered given) = said_of_drain host buffered given
@@ -29,16 +29,16 @@ ran [] replies = []
 ran (event ∷ events) [] = []
 ran (event ∷ events) (reply ∷ replies) = Ran event reply ∷ ran events replies
 
--- what several say, in order
+-- what happens to frames in several acts, in order
 abbrev pub history : List Act → List Happening
 history acts = flat_map said_in acts
 
--- the event or the drain that it is, in a scenario's words
+-- the event or the drain of an act, as a command of a scenario
 abbrev pub act_of : Act → Said
 act_of (Ran event reply) = event_of event
 act_of (Drained host buffered given) = Drains host
 
--- A host was drained, and gave these frames; so many were in its packet buffer before.
+-- A host was drained, and delivered these frames. This many were in its packet buffer before.
 pub record DrainRuns (old : NetworkState) (host buffered : ℕ) (given : List GivenFrame) (new : NetworkState) : Type 0 where
   pub buffer : buffered ≡ length (world_at old.stations host).adapter.receiver.buffer
   pub steps : ℕ
@@ -49,12 +49,12 @@ abbrev pub ActRuns : NetworkState → Act → NetworkState → Type 0
 ActRuns old (Ran event reply) new = EventRuns old event reply new
 ActRuns old (Drained host buffered given) new = DrainRuns old host buffered given new
 
--- There is a state at each border between acts.
+-- There is a state between each act and the next.
 abbrev pub ActsRun : NetworkState → List Act → NetworkState → Type 0
 ActsRun old [] new = new ≡ old
 ActsRun old (act ∷ acts) new = (middle : NetworkState) × ActRuns old act middle × ActsRun middle acts new
 
--- These acts were done, one behind the other.
+-- These acts were done in order.
 pub record ActsLead (old : NetworkState) (acts : List Act) (new : NetworkState) : Type 0 where
   pub states : ActsRun old acts new
   pub hosts : length new.hosts ≡ length old.hosts

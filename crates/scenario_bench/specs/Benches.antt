@@ -1,4 +1,4 @@
--- What the bench does with a scenario (own).
+-- What the bench does with a scenario (our choice).
 use Rattle.std.specs.Prelude.{◌≡◌, ◌<◌, ◌≤◌, ◌+◌, ℕ, List, Option, Some, Ok, Err, length, map, slice_get}
 use Rattle.std.specs.Io.KnownBytes.{Appends}
 use Rattle.pcap_trace.specs.Devices.{AppendsFront}
@@ -15,8 +15,8 @@ use Rattle.scenario_bench.specs.EventLists.{all_events}
 use Rattle.scenario_bench.specs.Given.{given_from, sockets_from}
 use Rattle.scenario_bench.specs.Summaries.{TellsHosts}
 
--- A network was made by the plan, and the events and drains of the scenario's commands were done on it, in order: the delivery theorem
--- holds of them.
+-- The network of the plan was made, and the events and drains of the commands were done on it, in order: the delivery theorem holds of
+-- them.
 pub record Plays (scenario : Scenario) (traces : List (List (List ℕ))) : Type 0 where
   pub made : NetworkState
   pub by_plan : IsLanAnswer scenario.plan.hosts.items (Ok made)
@@ -25,7 +25,7 @@ pub record Plays (scenario : Scenario) (traces : List (List (List ℕ))) : Type 
   pub behind : NetworkState
   pub leads : ActsLead made acts behind
 
--- what each socket gave, hosts in order and their sockets in order
+-- the frames of each socket, hosts in order and their sockets in order
 abbrev pub texts_of : {scenario : Scenario} → {traces : List (List (List ℕ))} → Plays scenario traces → List (List Timed)
 texts_of {scenario} played =
     map (λ (place : ℕ × ℕ). given_from place.0 place.1 0 played.acts)
@@ -33,22 +33,22 @@ texts_of {scenario} played =
 
 -- What was written to sinks.
 
--- the bytes that a sink has taken, where it tells them, and how often it has failed
+-- the bytes that a sink has taken, if it shows them to contracts, and the number of its failures
 pub record SinkState : Type 0 where
   pub taken : Option (List ℕ)
   pub failures : ℕ
 
--- It has taken this text more.
+-- It has also taken this text.
 pub record TakesText (text : List Timed) (old new : SinkState) : Type 0 where
   pub taken : Appends old.taken new.taken (written text)
   pub failures : new.failures ≡ old.failures
 
--- It has taken a beginning of this text, and failed.
+-- It has also taken a beginning of this text, and failed.
 pub record FailsAmong (text : List Timed) (old new : SinkState) : Type 0 where
   pub taken : AppendsFront old.taken new.taken (written text)
   pub failures : new.failures ≡ old.failures + 1
 
--- The first so many sinks have their whole text; the others have nothing more.
+-- The first sinks, this many, have also taken their whole text; the others have taken nothing.
 pub record AreWritten (count : ℕ) (texts : List (List Timed)) (old new : List SinkState) : Type 0 where
   pub sinks : length new ≡ length old
   pub whole : (k : ℕ) (text : List Timed) (before after : SinkState) → k < count → slice_get texts k ≡ Some text
@@ -56,7 +56,7 @@ pub record AreWritten (count : ℕ) (texts : List (List Timed)) (old new : List 
       → slice_get new k ≡ Some after → TakesText text before after
   pub others : (k : ℕ) → count ≤ k → slice_get new k ≡ slice_get old k
 
--- The sinks before this one have their whole text, it has a beginning of its own, and those behind it have nothing more.
+-- The sinks before this one have also taken their whole text, it has taken a beginning of its own, and those after it have taken nothing.
 pub record AreWrittenUpTo (failed : ℕ) (texts : List (List Timed)) (old new : List SinkState) : Type 0 where
   pub sinks : length new ≡ length old
   pub there : failed < length texts
@@ -67,13 +67,13 @@ pub record AreWrittenUpTo (failed : ℕ) (texts : List (List Timed)) (old new : 
       → slice_get new failed ≡ Some after → FailsAmong text before after
   pub others : (k : ℕ) → failed < k → slice_get new k ≡ slice_get old k
 
--- At Ok each sink got what its socket gave, and the summary tells of each host.
+-- At Ok each sink has the frames of its socket, and the summary is that of the hosts.
 pub record Benches (scenario : Scenario) (traces : List (List (List ℕ))) (summary : Summary) (old new : List SinkState) : Type 0 where
   pub plays : Plays scenario traces
   pub texts : AreWritten (length (texts_of plays)) (texts_of plays) old new
   pub tells : TellsHosts (hosts_of scenario.plan.hosts.items) (history plays.acts) plays.behind summary.hosts.items
 
--- At an error nothing was written, but where a sink failed.
+-- At an error nothing was written, except if a sink failed.
 abbrev pub Stops : (scenario : Scenario) (traces : List (List (List ℕ))) → BenchError → (old new : List SinkState) → Type 0
 Stops scenario traces (errors.Plan error) old new = IsLanAnswer scenario.plan.hosts.items (Err error) × (new ≡ old)
 Stops scenario traces (errors.Run stopped) old new = new ≡ old

@@ -1,4 +1,4 @@
--- A frame of a drained host, without where it lies in memory.
+-- A frame of a drained host, without its place in memory.
 use Rattle.packet_socket.specs.HostStretches.{Given}
 use Rattle.scenario_bench.specs.declared.drained.DrainedFrame.{DrainedFrame}
 

@@ -1,4 +1,4 @@
--- The exit status of the program (own: 1 for input that is refused, 3 for a file that failed, 4 for want of memory).
+-- The exit status of the program (our choice: 1 if its input is refused, 3 if a file failed, 4 if memory was refused).
 use Rattle.std.specs.Prelude.{ℕ}
 use Rattle.network_plan.specs.declared.plan_error.PlanError.TheVariants as plan
 use Rattle.scenario_bench.specs.declared.bench_error.BenchError.{BenchError}

@@ -1,4 +1,4 @@
--- The events and drains of a scenario's commands, in order (own). Hosts are numbered from 0, as in the plan.
+-- The events and drains of a scenario's commands, in order (our choice). Hosts are numbered from 0, as in the plan.
 use Rattle.std.specs.Prelude.{◌==◌, ◌&&◌, ◌%◌, ◌/◌, ◌+◌, ◌++◌, ℕ, zero, suc, not, List, [], ◌∷◌, if◌then◌else◌, length, map}
 use Rattle.std.specs.Prelude.{slice_get, option_map, unwrap_or}
 use Rattle.std.specs.List.{flat_map, range_with_len}
@@ -12,13 +12,13 @@ use Rattle.stations.specs.declared.tick.Tick.{Tick}
 use Rattle.stations.specs.declared.tick.Tick.TheVariants.{Deliver, Go, Step}
 use Rattle.scenario.specs.SoFar.{Host, Said, Draws, Feeds, Interrupts, Receives, Sends, Ticks}
 
--- A frame that waits at a host's end is delivered and received, its interrupt is handled, and each of its sockets asked once, in order.
+-- A frame at a host's end of the wire is delivered and received, its interrupt is handled, and each socket is asked once, in order.
 abbrev pub arrival_at : (host sockets : ℕ) → List Said
 arrival_at host sockets =
     Ticks (Deliver host) ∷ Ticks (Step host RxData) ∷ Ticks (Step host RxDone) ∷ Interrupts host []
     ∷ map (λ socket. Receives host socket []) (range_with_len 0 sockets)
 
--- So does a frame at each other host on this wire; the first of these hosts has this number.
+-- The same at each other host on this wire. The first of these hosts has this number.
 abbrev pub arrivals_from : (number sender : ℕ) (wire : List ℕ) → List Host → List Said
 arrivals_from number sender wire [] = []
 arrivals_from number sender wire (host ∷ hosts) =
@@ -29,7 +29,7 @@ arrivals_from number sender wire (host ∷ hosts) =
 abbrev pub wire_of : List Host → ℕ → List ℕ
 wire_of hosts host = unwrap_or (option_map (λ (one : Host). one.wire) (slice_get hosts host)) []
 
--- Behind a send, the frame is put onto the wire, and arrives at each other host of it, in order.
+-- After a send, the frame is put onto the wire, and arrives at each other host on it, in order.
 abbrev pub behind_send : List Host → (sender : ℕ) → List Said
 behind_send hosts sender =
     Ticks (Step sender TxTake) ∷ Ticks (Step sender TxPut) ∷ arrivals_from 0 sender (wire_of hosts sender) hosts
@@ -38,7 +38,7 @@ behind_send hosts sender =
 abbrev pub fed : List Host → (sender : ℕ) (frame : List ℕ) → List Said
 fed hosts sender frame = Sends sender frame [] ∷ behind_send hosts sender
 
--- Events that are drawn: each by a word of 32 bits of PCG32 (XSH RR 64/32), seeded with the number that a line starts with.
+-- Drawn events: each by a 32-bit word of PCG32 (XSH RR 64/32), seeded with the start of the line.
 abbrev pub words_from : (count : ℕ) → Lcg → List ℕ
 words_from zero generator = []
 words_from (suc count) generator = (pcg32 generator).0 ∷ words_from count (pcg32 generator).1
@@ -46,14 +46,14 @@ words_from (suc count) generator = (pcg32 generator).0 ∷ words_from count (pcg
 abbrev pub words_drawn : (count start : ℕ) → List ℕ
 words_drawn count start = words_from count (pcg32_of_seed (pcg32_seed 16 start))
 
--- a broadcast of this address: no data, and the type 0x88B5, which is for experiments (IEEE 802)
+-- a broadcast from this address: no data, and the type 0x88B5, which is for experiments (IEEE 802)
 abbrev pub broadcast_of : (address : List ℕ) → List ℕ
 broadcast_of address = 0xFF ∷ 0xFF ∷ 0xFF ∷ 0xFF ∷ 0xFF ∷ 0xFF ∷ address ++ 0x88 ∷ 0xB5 ∷ []
 
 abbrev pub address_of : List Host → ℕ → List ℕ
 address_of hosts host = unwrap_or (option_map (λ (one : Host). address_bytes one.image) (slice_get hosts host)) []
 
--- a frame finishes behind the first access of an interrupt
+-- a frame finishes after the first access of an interrupt
 abbrev pub late_frame : (host : ℕ) → List Tick
 late_frame host = Go ∷ Step host RxData ∷ Step host RxDone ∷ []
 
@@ -81,6 +81,6 @@ events_of hosts traces (Feeds sender trace) = flat_map (fed hosts sender) (unwra
 events_of hosts traces (Draws count start) = map (event_drawn hosts) (words_drawn count start)
 events_of hosts traces said = said ∷ []
 
--- all commands, one behind the other
+-- the events of all commands, in order
 abbrev pub all_events : List Host → (traces : List (List (List ℕ))) → List Said → List Said
 all_events hosts traces commands = flat_map (events_of hosts traces) commands

@@ -1,4 +1,4 @@
--- The frames that a socket gives in a run, each with the number of its event or drain (own).
+-- The frames that a socket returns in a run, each with the number of its event or drain (our choice).
 use Rattle.std.specs.Prelude.{◌+◌, ◌^◌, ◌-◌, ◌++◌, ℕ, List, [], ◌∷◌, length, map, min}
 use Rattle.std.specs.List.{range_with_len}
 use Rattle.pcap_trace.specs.Format.{Timed}
@@ -6,18 +6,18 @@ use Rattle.delivery.specs.Happenings.{given}
 use Rattle.scenario.specs.SoFar.{Host}
 use Rattle.scenario_bench.specs.Acts.{Act, said_in}
 
--- the greatest number of an event or a drain, and of what is counted: that of 64 bits
+-- the greatest number of an event or a drain, and of a count: that of 64 bits
 abbrev pub greatest_number : ℕ
 greatest_number = 2 ^ 64 - 1
 
--- The number of what is behind: one more, up to the greatest.
+-- the next number: one more, up to the greatest
 abbrev pub next_number : ℕ → ℕ
 next_number number = min (number + 1) greatest_number
 
 abbrev pub numbered : (number : ℕ) → List ℕ → Timed
 numbered number frame = record { time = number; frame = frame }
 
--- The frames that a socket gives in these acts, the first of which has this number.
+-- The frames that a socket returns in these acts, the first of which has this number.
 abbrev pub given_from : (host socket number : ℕ) → List Act → List Timed
 given_from host socket number [] = []
 given_from host socket number (act ∷ acts) =

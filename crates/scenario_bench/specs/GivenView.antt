@@ -1,4 +1,4 @@
--- How the frames of a socket are kept: their numbers and their bytes apart.
+-- How the frames of a socket are stored: their numbers and their bytes in two lists.
 use Rattle.std.specs.Prelude.{◌≡◌, ◌≤◌, ℕ, List, length, map, zip}
 use Rattle.std.specs.List.{AllByRecursion}
 use Rattle.descriptors.specs.Frames.{longest_frame}

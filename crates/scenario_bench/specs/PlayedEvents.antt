@@ -1,4 +1,4 @@
--- Events and drains that were played, and noted (own).
+-- Events and drains that were played and recorded (our choice).
 use Rattle.std.specs.Prelude.{◌≡◌, ◌↔◌, ℕ, List, Err, IsTrue, Ok, Some, length, map, replicate, slice_get, string_bytes}
 use Rattle.adapter.specs.World.{World}
 use Rattle.packet_socket.specs.HostState.{HostState}
@@ -18,14 +18,14 @@ use Rattle.scenario_bench.specs.declared.bench_error.BenchError.{BenchError}
 use Rattle.scenario_bench.specs.declared.bench_error.BenchError.TheVariants as errors
 use Rattle.scenario_bench.specs.declared.play.Play.{Play}
 
--- These events and drains were done on the network, and noted.
+-- These events and drains were done on the network and recorded.
 pub record HasPlayed (said : List Said) (old new : Play) : Type 0 where
   pub acts : List Act
   pub are : map act_of acts ≡ said
   pub leads : ActsLead old.lan acts new.lan
   pub noted : AreNoted acts old.record new.record
 
--- A network was made by a plan, and nothing is noted yet.
+-- The network of a plan was made, and nothing is recorded yet.
 pub record Begins (plans : List HostPlan) (play : Play) : Type 0 where
   pub made : IsLanAnswer plans (Ok play.lan)
   pub number : play.record.number ≡ 0
@@ -49,7 +49,7 @@ IsWanting (errors.Write error) = ⊥
 abbrev pub frames_of : Trace → List (List ℕ)
 frames_of trace = trace.frames
 
--- What is told of a host: its name, its numbers as they are noted, and what is counted of it.
+-- The summary of a host: its name, its recorded numbers, and its counts.
 pub record TellsTally (plan : HostPlan) (tally : Tally) (host : HostState) (world : World) (told : HostSummary) : Type 0 where
   pub name : string_bytes told.name ≡ string_bytes plan.name
   pub accepted : told.accepted ≡ tally.accepted
@@ -59,7 +59,7 @@ pub record TellsTally (plan : HostPlan) (tally : Tally) (host : HostState) (worl
   pub given : told.given ≡ tally.given
   pub counts : (told.missed ≡ counted host world) × (IsTrue told.exact ↔ IsExact host world) × (told.unclaimed ≡ host.unclaimed)
 
--- Of the first so many hosts of a plan this is told.
+-- These are the summaries of the first hosts of a plan, this many.
 pub record TellTallies (first : ℕ) (plans : List HostPlan) (play : Play) (told : List HostSummary) : Type 0 where
   pub count : length told ≡ first
   pub each : (k : ℕ) (plan : HostPlan) (tally : Tally) (host : HostState) (one : HostSummary) → slice_get plans k ≡ Some plan

@@ -1,4 +1,4 @@
--- The lines that the program prints of a run (own).
+-- The lines that the program prints of a run (our choice).
 use Rattle.std.specs.Prelude.{◌++◌, ℕ, Bool, true, false, List, codes, decimal, string_bytes}
 use Rattle.std.specs.List.{flat_map}
 use Rattle.scenario_bench.specs.declared.summary.HostSummary.{HostSummary}
@@ -8,12 +8,12 @@ use Rattle.scenario_bench.specs.declared.summary.Summary.{Summary}
 abbrev pub field : List ℕ → ℕ → List ℕ
 field label number = label ++ decimal number
 
--- whether the misses are all, or there were more
+-- whether the number of missed frames is exact, or there were more
 abbrev pub exact_word : Bool → List ℕ
 exact_word true = codes " exact"
 exact_word false = codes " atleast"
 
--- what stands behind a host's name
+-- the part of a host's line after its name
 abbrev pub host_fields : HostSummary → List ℕ
 host_fields host =
     field (codes " accepted ") host.accepted ++ field (codes " put ") host.put ++ field (codes " reached ") host.reached

@@ -1,4 +1,4 @@
--- The frames that a socket gave, each with the number of its event (own).
+-- The frames that a socket returned, each with the number of its event (our choice).
 use Rattle.std.specs.Prelude.{◌==◌, ◌&&◌, ◌++◌, ℕ, List, [], if◌then◌else◌}
 use Rattle.pcap_trace.specs.Format.{Timed}
 
@@ -10,11 +10,11 @@ pub record SocketFrames : Type 0 where
 abbrev pub no_frames : (host socket : ℕ) → SocketFrames
 no_frames host socket = record { host = host; socket = socket; frames = [] }
 
--- these frames more
+-- with these frames appended
 abbrev pub with_frames : List Timed → SocketFrames → SocketFrames
 with_frames frames socket = record socket { frames = socket.frames ++ frames }
 
--- Frames that a socket gave stand behind the others, where it is this one.
+-- with the frames that a socket returned appended, if it is this socket
 abbrev pub with_given : (host socket : ℕ) → List Timed → SocketFrames → SocketFrames
 with_given host socket frames one = with_frames (if (one.host == host) && (one.socket == socket) then frames else []) one
 

@@ -1,4 +1,4 @@
--- What is told of each host behind a run (own).
+-- The summary of each host after a run (our choice).
 use Rattle.std.specs.Prelude.{◌≡◌, ◌↔◌, ℕ, IsTrue, List, Some, length, min, slice_get, string_bytes, sum_by}
 use Rattle.std.specs.Prelude.{◌==◌, if◌then◌else◌}
 use Rattle.delivery.specs.Happenings.{Happening, Accepted, Put, Reached, Moved, Given, accepted, put, reached, stored}
@@ -11,11 +11,11 @@ use Rattle.scenario.specs.SoFar.{Host}
 use Rattle.scenario_bench.specs.Given.{greatest_number}
 use Rattle.scenario_bench.specs.declared.summary.HostSummary.{HostSummary}
 
--- a number as it is told: up to the greatest
+-- a number in a summary: it saturates at the greatest
 abbrev pub as_told : ℕ → ℕ
 as_told number = min number greatest_number
 
--- how many frames the sockets of a host gave
+-- the number of frames that the sockets of a host returned
 abbrev pub given_of : ℕ → Happening → ℕ
 given_of k (Accepted host frame) = 0
 given_of k (Put host frame) = 0
@@ -26,7 +26,8 @@ given_of k (Given host socket frame) = if k == host then 1 else 0
 abbrev pub all_given : ℕ → List Happening → ℕ
 all_given k happened = sum_by (given_of k) happened
 
--- Of the k-th host: its name, how many frames it accepted, put, was reached by, stored and gave, and what was counted.
+-- The summary of the k-th host: its name, the numbers of frames that it accepted, put, that reached it, that it stored and returned, and
+-- its counts.
 pub record TellsHost (k : ℕ) (plan : Host) (happened : List Happening) (host : HostState) (world : World) (told : HostSummary)
     : Type 0 where
   pub name : string_bytes told.name ≡ plan.name
@@ -39,7 +40,7 @@ pub record TellsHost (k : ℕ) (plan : Host) (happened : List Happening) (host :
   pub exact : IsTrue told.exact ↔ IsExact host world
   pub unclaimed : told.unclaimed ≡ host.unclaimed
 
--- Of each host of the plan, in order.
+-- The summaries of the hosts of the plan, in order.
 pub record TellsHosts (plans : List Host) (happened : List Happening) (network : NetworkState) (told : List HostSummary) : Type 0 where
   pub count : length told ≡ length plans
   pub each : (k : ℕ) (plan : Host) (host : HostState) (one : HostSummary) → slice_get plans k ≡ Some plan → IsHost network k host

@@ -1,4 +1,4 @@
--- What is noted of a run while it goes on (own).
+-- What is recorded during a run (our choice).
 use Rattle.std.specs.Prelude.{◌≡◌, ◌==◌, ℕ, List, [], ◌∷◌, Option, Some, None, if◌then◌else◌, map, option_map, slice_get}
 use Rattle.std.specs.List.{fold}
 use Rattle.rx_engine.specs.declared.arrival.Fate.{Fate}
@@ -26,7 +26,7 @@ counted_once passage.Reached tally = record tally { reached = next_number tally.
 counted_once passage.Stored tally = record tally { reached = next_number tally.reached; stored = next_number tally.stored }
 counted_once passage.Given tally = record tally { given = next_number tally.given }
 
--- a passage at a host, where it is this one
+-- a passage at a host, if it is this one
 abbrev pub counted_at : (k host : ℕ) → Passage → Tally → Tally
 counted_at k host one tally = if k == host then counted_once one tally else tally
 
@@ -54,18 +54,18 @@ tally_behind happened k tally = fold (counted_by k) tally happened
 abbrev pub TalliesGrow : List Happening → (old new : List Tally) → Type 0
 TalliesGrow happened old new = (k : ℕ) → slice_get new k ≡ option_map (tally_behind happened k) (slice_get old k)
 
--- A socket's frames grow by those that it gave in these acts, the first of which has this number.
+-- A socket's frames grow by those that it returned in these acts, the first of which has this number.
 abbrev pub socket_behind : (number : ℕ) → List Act → SocketFrames → SocketFrames
 socket_behind number acts socket = with_frames (given_from socket.host socket.socket number acts) socket
 
 abbrev pub SocketsGrow : (number : ℕ) → List Act → (old new : List SocketFrames) → Type 0
 SocketsGrow number acts old new = (k : ℕ) → slice_get new k ≡ option_map (socket_behind number acts) (slice_get old k)
 
--- the number behind these
+-- the number after these acts
 abbrev pub number_behind : ℕ → List Act → ℕ
 number_behind number acts = fold (λ n act. next_number n) number acts
 
--- These acts are noted.
+-- These acts are recorded.
 pub record AreNoted (acts : List Act) (old new : Record) : Type 0 where
   pub number : new.number ≡ number_behind old.number acts
   pub hosts : TalliesGrow (history acts) old.hosts.items new.hosts.items
@@ -77,29 +77,29 @@ pub record AreNoted (acts : List Act) (old new : Record) : Type 0 where
 abbrev pub TallyCounts : (host : ℕ) → Passage → (old new : List Tally) → Type 0
 TallyCounts host one old new = (k : ℕ) → slice_get new k ≡ option_map (counted_at k host one) (slice_get old k)
 
--- the passage that an outcome tells, if it tells one
+-- the passage in an outcome, if there is one
 abbrev pub IsPassage : Outcome → Option Passage → Type 0
 IsPassage (outcome.Put frame) found = found ≡ Some passage.Put
 IsPassage (outcome.Delivered frame one) found = found ≡ Some (passage_by one)
 IsPassage one found = found ≡ None
 
--- A frame was given by a socket of a host.
+-- A socket of a host returned a frame.
 abbrev pub GetsGiven : (host socket : ℕ) → Timed → (old new : List SocketFrames) → Type 0
 GetsGiven host socket frame old new = (k : ℕ) → slice_get new k ≡ option_map (with_given host socket (frame ∷ [])) (slice_get old k)
 
--- Each socket's frames grow by those that it gave in an act of this number.
+-- Each socket's frames grow by those that it returned in an act with this number.
 abbrev pub with_said : (number : ℕ) → List Happening → SocketFrames → SocketFrames
 with_said number happened socket = with_frames (map (numbered number) (given socket.host socket.socket happened)) socket
 
 abbrev pub GetsSaid : (number : ℕ) → List Happening → (old new : List SocketFrames) → Type 0
 GetsSaid number happened old new = (k : ℕ) → slice_get new k ≡ option_map (with_said number happened) (slice_get old k)
 
--- the host whose adapter a tick moves, if it isn't a Go
+-- the host of a tick, if it isn't a Go
 abbrev pub host_named : Tick → Option ℕ
 host_named Go = None
 host_named (Step host kind) = Some host
 host_named (Deliver host) = Some host
 
--- sockets at these places, which gave no frame
+-- sockets at these places, without frames
 abbrev pub empty_sockets : List (ℕ × ℕ) → List SocketFrames
 empty_sockets places = map (λ (place : ℕ × ℕ). no_frames place.0 place.1) places

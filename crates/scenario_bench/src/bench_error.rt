@@ -1,4 +1,4 @@
-//! Why a scenario wasn't played to its end.
+//! Why playing a scenario stopped.
 ghost use Rattle.std.specs.Prelude.{◌≡◌};
 ghost use Rattle.scenario_bench.specs.Errors.{status_of};
 ghost use Rattle.scenario_bench.specs.declared.bench_error.BenchError.TheVariants as errors;
@@ -8,38 +8,38 @@ use pcap_trace::WriteError;
 use std::alloc::AllocError;
 use thiserror::Error;
 
-/// The program's exit status where its input was refused.
+/// The exit status of the program if its input was refused.
 const REFUSED: u8 = 1;
 
-/// The program's exit status where a file failed.
+/// The exit status of the program if a file failed.
 const FILE_FAILED: u8 = 3;
 
-/// The program's exit status where memory was refused.
+/// The exit status of the program if memory was refused.
 const NO_MEMORY: u8 = 4;
 
-/// Why a scenario wasn't played to its end.
+/// Why playing a scenario stopped.
 #[derive(Clone, Copy, Debug, PartialEq, Eq, Error)]
 pub enum BenchError {
-    /// No network was made by its plan; nothing was written.
+    /// Its plan was refused. Nothing was written.
     #[error("{0}")]
     Plan(PlanError),
-    /// Memory was refused in a run; nothing was written. `done` counts within a command's events and not from the
-    /// first event of all: it is 0 at a single or a drawn event, and in a feed it counts from a frame's send, or from
-    /// the event behind that.
+    /// Memory was refused in a run. Nothing was written. `done` doesn't count from the first event of the scenario: it
+    /// is 0 at a single or a drawn event, and in a feed it counts from the send of a frame, or from the event after
+    /// that.
     #[error("{0}")]
     Run(Stopped),
-    /// Memory was refused elsewhere; nothing was written.
+    /// Memory was refused elsewhere. Nothing was written.
     #[error("E57 Memory")]
     Memory,
-    /// A sink failed; those before it have their whole text, it has a beginning of its own, and those behind it have
-    /// none.
+    /// A sink failed. The sinks before it have their whole text, it has a beginning of its own, and those after it
+    /// have nothing.
     #[error("{0}")]
     Write(WriteError),
 }
 
 impl BenchError {
-    /// The exit status of a program that ends for this: 1 for a plan that is refused, 3 for a sink that failed, 4 for
-    /// want of memory.
+    /// The exit status of a program that ends for this error: 1 if the plan was refused, 3 if a sink failed, 4 if
+    /// memory was refused.
     pub fn status(&self) -> u8
         ensures { result ≡ status_of self.now }
     {

@@ -1,4 +1,4 @@
-//! The frames of a host that is drained.
+//! The frames of a drained host.
 ghost use Rattle.std.specs.Prelude.{◌≡◌, ◌≤◌, ◌-◌, [], IfOk, length, map, vec_capacity};
 ghost use Rattle.scenario_bench.specs.DrainedView.{drained_frame};
 
@@ -13,14 +13,14 @@ pub(crate) struct DrainedFrame {
     pub(crate) frame: Frame,
 }
 
-/// The frames that a drain gave, in order. Their room is there before it.
+/// The frames that a drain delivered, in order. Their room is allocated before the drain.
 #[derive(Drop)]
 pub(crate) struct DrainedFrames {
     pub(crate) list: Vec<DrainedFrame>,
 }
 
 impl DrainedFrames {
-    /// None yet, with room for so many.
+    /// No frames, with room for this many.
     pub(crate) fn with_room(alloc: Global, room: usize) -> Result<DrainedFrames, AllocError>
         ensures none { IfOk result (λ drained. drained.list.items ≡ []) }
         ensures room { IfOk result (λ drained. room ≤ vec_capacity drained.list - length drained.list.items) }

@@ -1,4 +1,4 @@
-//! The events that a command of a scenario stands for.
+//! The events of a scenario's commands.
 ghost use Rattle.std.specs.Prelude.{◌≡◌, ◌<◌, ◌++◌, [], IfOk, OnOk, length, map};
 ghost use Rattle.eeprom.specs.Image.{address_bytes};
 ghost use Rattle.scenario.specs.SoFar.{Interrupts, Receives, Sends, Ticks, event_of, hosts_of};
@@ -27,7 +27,7 @@ pub(crate) fn send(alloc: Global, host: usize, bytes: &[u8]) -> Result<Event, Al
     })
 }
 
-/// A socket is asked, without ticks.
+/// A host asks a socket for a frame, without ticks.
 fn recv(alloc: Global, host: usize, socket: usize) -> Event
     ensures { event_of result ≡ Receives host socket [] }
 {
@@ -38,14 +38,14 @@ fn recv(alloc: Global, host: usize, socket: usize) -> Event
     }
 }
 
-/// A step by itself.
+/// A step between calls.
 fn step(host: usize, kind: StepKind) -> Event
     ensures { event_of result ≡ Ticks (ticks.Step host kind) }
 {
     Event::Tick(Tick::Step(host, kind))
 }
 
-/// Appends the events by which a frame that waits at a host's end arrives at its sockets.
+/// Appends the events that bring a frame from a host's end of the wire to its sockets.
 fn push_arrival(
     alloc: Global,
     host: usize,
@@ -68,7 +68,7 @@ fn push_arrival(
     Ok(())
 }
 
-/// The name of a host's wire, empty where the host isn't there.
+/// The name of a host's wire, or an empty name if there is no such host.
 fn wire_of(plans: &[HostPlan], host: usize) -> &str
     ensures { result.now ≡ lists.wire_of (hosts_of plans.now) host }
 {
@@ -97,7 +97,7 @@ fn push_arrivals(
     Ok(())
 }
 
-/// What follows the send of a frame that is fed: it is put onto the wire, and arrives at each other host.
+/// The events after the send of a fed frame: it is put onto the wire, and arrives at each other host.
 pub(crate) fn behind_send(
     alloc: Global,
     plans: &[HostPlan],
@@ -113,7 +113,7 @@ pub(crate) fn behind_send(
     Ok(events)
 }
 
-/// A broadcast of this EEPROM's address, without data, of the type that is for experiments (IEEE 802).
+/// A broadcast from this EEPROM's address, without data, of the type for experiments (IEEE 802).
 fn broadcast_of(image: &Image) -> [u8; HEADER]
     ensures { result ≡ lists.broadcast_of (address_bytes image.now) }
 {
@@ -123,7 +123,7 @@ fn broadcast_of(image: &Image) -> [u8; HEADER]
     ]
 }
 
-/// The ticks of an interrupt that is drawn: a frame finishes behind its first access.
+/// The ticks of a drawn interrupt: a frame finishes after its first access.
 fn late_frame(alloc: Global, host: usize) -> Result<Vec<Tick>, AllocError>
     ensures { IfOk result (λ ticks. ticks.items ≡ lists.late_frame host) }
 {
@@ -144,7 +144,7 @@ fn late_interrupt(alloc: Global, host: usize) -> Result<Event, AllocError>
     })
 }
 
-/// The event that a word draws: its low three bits choose the kind, the others the host.
+/// The event that a random word draws: its low three bits choose the kind, the others the host.
 pub(crate) fn drawn(alloc: Global, plans: &[HostPlan], word: u32) -> Result<Event, AllocError>
     requires { 0 < length plans.now }
     ensures { IfOk result (λ event. event_of event ≡ lists.event_drawn (hosts_of plans.now) word) }

@@ -1,12 +1,12 @@
-//! The frames that a socket gave.
+//! The frames that a socket returned.
 
 use pcap_trace::{Frames, RecordWriter, Sink, WriteError};
 use std::alloc::{AllocError, Global};
 use std::marker::Model;
 
-/// The frames that a socket gave, each with the number of its event.
+/// The frames that a socket returned, each with the number of its event.
 ///
-/// In contracts it is its place, a host and a socket, and the list of these frames.
+/// In contracts it is a host, a socket and the list of these frames.
 #[derive(Drop)]
 pub(crate) struct GivenFrames {
     host: usize,
@@ -47,7 +47,7 @@ impl GivenFrames {
         }
     }
 
-    /// A socket gave a frame: it stands behind the others where the socket is this one.
+    /// Appends a frame that a socket returned, if it is this socket.
     #[tactic(auto, using(crate::proofs::Gives::gives))]
     pub(crate) fn note(
         &mut self,
@@ -69,7 +69,7 @@ impl GivenFrames {
         Ok(())
     }
 
-    /// Writes them as a trace; each one's number is its time in microseconds.
+    /// Writes them as a trace. The number of each is its time in microseconds.
     pub(crate) fn write<W: Sink>(
         &self,
         writer: &mut RecordWriter,

@@ -1,4 +1,4 @@
-//! Scenarios, played: the frames that each socket gave, as traces, and what was counted of each host.
+//! Plays scenarios: returns the frames of each socket, as traces, and the counts of each host.
 //!
 //! [`bench`] runs the commands of a [`Scenario`](scenario::Scenario) over hosts on wires.
 #![tactic(auto)]

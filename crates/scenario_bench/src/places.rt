@@ -17,12 +17,12 @@ fn add_places(host: usize, count: usize, places: &mut Vec<(usize, usize)>) -> Re
     Ok(())
 }
 
-/// The sockets of these hosts, each as the number of its host and its own: hosts in order, and the sockets of each in
-/// order. [`bench`](crate::bench) has a sink for each.
+/// The sockets of these hosts, each as the number of its host and its own number: hosts in order, and the sockets of
+/// each in order. [`bench`](crate::bench) takes a sink for each.
 ///
 /// # Errors
 ///
-/// Want of memory alone.
+/// Only if memory was refused.
 pub fn sockets(alloc: Global, plans: &[HostPlan]) -> Result<Vec<(usize, usize)>, AllocError>
     ensures { IfOk result (λ places. places.items ≡ sockets_from 0 (hosts_of plans.now)) }
 {

@@ -1,4 +1,4 @@
-//! A scenario, played.
+//! Plays a scenario.
 ghost use Rattle.std.specs.Prelude.{◌≡◌, ◌<◌, ◌≤◌, ◌∷◌, [], ℕ, All, Some, length, map, slice_get};
 ghost use Rattle.std.specs.Prelude.{IfErr, IfOk, OnErr, OnOk};
 ghost use Rattle.std.specs.List.{flat_map};
@@ -7,8 +7,8 @@ ghost use Rattle.scenario.specs.SoFar.{Drains, event_of, hosts_of, said_of};
 ghost use Rattle.scenario_bench.specs.Benches.{AreWritten, AreWrittenUpTo, Benches, Stops};
 ghost use Rattle.scenario_bench.specs.EventLists as lists;
 ghost use Rattle.scenario_bench.specs.Given.{sockets_from};
-ghost use Rattle.scenario_bench.specs.PlayedEvents.{Begins, HasPlayed, IsWanting, StopsAtPlan, TellTallies, TellsTally};
-ghost use Rattle.scenario_bench.specs.PlayedEvents.{frames_of};
+ghost use Rattle.scenario_bench.specs.PlayedEvents.{Begins, HasPlayed, IsWanting, StopsAtPlan, TellTallies};
+ghost use Rattle.scenario_bench.specs.PlayedEvents.{TellsTally, frames_of};
 ghost use Rattle.scenario_bench.specs.SocketLists.{frames_given};
 ghost use Rattle.scenario_bench.specs.declared.tally.Tally.{Tally};
 ghost use Rattle.stations.specs.Stations.{world_at};
@@ -28,7 +28,7 @@ use scenario::{Command, Scenario};
 use std::alloc::{AllocError, Global};
 use wire::Lan;
 
-/// Hosts on wires, and what was noted of their run.
+/// Hosts on wires, and the record of their run.
 #[derive(Drop)]
 struct Play {
     lan: Lan,
@@ -37,7 +37,7 @@ struct Play {
 }
 
 impl Play {
-    /// The hosts of a plan have come up.
+    /// Initializes the hosts of a plan.
     fn new(alloc: Global, plan: &Plan) -> Result<Play, BenchError>
         ensures ok { IfOk result (Begins plan.now.hosts.items) }
         ensures err { IfErr result (StopsAtPlan plan.now.hosts.items) }
@@ -51,7 +51,7 @@ impl Play {
         })
     }
 
-    /// Runs these events, and notes what came of them.
+    /// Runs these events, and records their replies.
     #[tactic(auto, using(crate::proofs::PlayedEvents::played))]
     fn run(&mut self, alloc: Global, events: &[Event]) -> Result<(), BenchError>
         ensures ok { OnOk result (HasPlayed (map event_of events.now) self.old self.new) }
@@ -63,7 +63,7 @@ impl Play {
         Ok(())
     }
 
-    /// Drains a host, and notes what it gave. The room for that is asked for before.
+    /// Drains a host, and records the frames that it delivered. Allocates the room for them first.
     #[tactic(auto, using(crate::proofs::PlayedEvents::drained))]
     fn drain(&mut self, alloc: Global, host: usize) -> Result<(), BenchError>
         ensures ok { OnOk result (HasPlayed (Drains host ∷ []) self.old self.new) }
@@ -75,7 +75,7 @@ impl Play {
         Ok(())
     }
 
-    /// A host sends each frame of a trace, and it arrives at the others on its wire.
+    /// Sends each frame of a trace from a host, and lets it arrive at the others on its wire.
     #[tactic(auto, using(crate::proofs::PlayedEvents::all_fed))]
     fn feed(
         &mut self,
@@ -97,7 +97,7 @@ impl Play {
         Ok(())
     }
 
-    /// Events that are drawn.
+    /// Draws events, and runs them.
     #[tactic(auto, using(crate::proofs::PlayedEvents::all_drawn, crate::proofs::PlayedEvents::none_drawn))]
     fn draw(
         &mut self,
@@ -121,7 +121,7 @@ impl Play {
         Ok(())
     }
 
-    /// The events of a command, or its drain.
+    /// Runs the events of a command, or its drain.
     fn command(
         &mut self,
         alloc: Global,
@@ -131,7 +131,8 @@ impl Play {
     ) -> Result<(), BenchError>
         requires { 0 < length plans.now }
         ensures ok { OnOk result (HasPlayed
-            (lists.events_of (hosts_of plans.now) (map frames_of traces.now) (said_of command.now)) self.old self.new) }
+            (lists.events_of (hosts_of plans.now) (map frames_of traces.now) (said_of command.now))
+            self.old self.new) }
         ensures err { IfErr result IsWanting }
     {
         match command {
@@ -145,7 +146,7 @@ impl Play {
         }
     }
 
-    /// The events and drains of these commands, in order.
+    /// Runs the events and drains of these commands, in order.
     #[tactic(auto, using(crate::proofs::PlayedEvents::none_fed, crate::proofs::PlayedEvents::all_ran))]
     fn commands(
         &mut self,
@@ -167,7 +168,7 @@ impl Play {
         Ok(())
     }
 
-    /// What is told of a host.
+    /// The summary of a host.
     fn host_summary(
         &self,
         alloc: Global,
@@ -195,7 +196,7 @@ impl Play {
         })
     }
 
-    /// What is told of all hosts.
+    /// The summary of all hosts.
     #[tactic(auto, using(crate::proofs::Benching::none_told))]
     fn summary(&self, alloc: Global, plans: &[HostPlan]) -> Result<Summary, AllocError>
         requires tallies { length plans.now ≤ length self.now.record.hosts.items }
@@ -209,7 +210,7 @@ impl Play {
         Ok(Summary { hosts })
     }
 
-    /// Writes to each sink the frames that its socket gave.
+    /// Writes to each sink the frames of its socket.
     #[tactic(auto, using(crate::proofs::Writing::none_written))]
     fn write<W: Sink>(&self, writer: &mut RecordWriter, sinks: &mut [W]) -> Result<(), WriteError>
         requires sinks { length sinks.old ≡ length self.now.record.sockets.items }
@@ -217,7 +218,8 @@ impl Play {
         ensures ok { OnOk result (AreWritten (length sinks.old) (map frames_given self.now.record.sockets.items)
             (map (λ (s : W). record { taken = W.taken s; failures = W.failures s }) sinks.old)
             (map (λ (s : W). record { taken = W.taken s; failures = W.failures s }) sinks.new)) }
-        ensures err { OnErr result ((failed : ℕ) × AreWrittenUpTo failed (map frames_given self.now.record.sockets.items)
+        ensures err { OnErr result ((failed : ℕ) ×
+            AreWrittenUpTo failed (map frames_given self.now.record.sockets.items)
             (map (λ (s : W). record { taken = W.taken s; failures = W.failures s }) sinks.old)
             (map (λ (s : W). record { taken = W.taken s; failures = W.failures s }) sinks.new)) }
     {
@@ -228,18 +230,19 @@ impl Play {
     }
 }
 
-/// Plays a scenario: makes a network by its plan, runs the events of its commands and drains its hosts in order, and
-/// writes to each sink the frames that its socket gave, as a trace (libpcap, "pcap-savefile"), each with the number of
-/// its event or drain as its time in microseconds. There is a trace for each name of [`Scenario::trace_names`], and a
-/// sink for each socket: hosts in order, and the sockets of each in order. Events and drains are numbered from 0, up to
-/// the greatest `u64`.
+/// Plays a scenario: makes the network of its plan, and runs its events and drains in order. Then it writes to each
+/// sink the frames that its socket returned, as a trace (libpcap, "pcap-savefile"). The time of a frame is the number
+/// of its event or drain, in microseconds. Events and drains are numbered from 0, up to the greatest `u64`.
+///
+/// Pass a trace for each name of [`Scenario::trace_names`], and a sink for each socket of [`sockets`](crate::sockets),
+/// in the same order.
 ///
 /// # Errors
 ///
-/// [`Plan`](BenchError::Plan) where no network is made by the plan (E40 to E46), [`Run`](BenchError::Run) (E47) and
-/// [`Memory`](BenchError::Memory) (E57) where memory is refused: then nothing was written.
-/// [`Write`](BenchError::Write) (E67) where a sink failed: those before it have their whole text, it has a beginning of
-/// its own, and those behind it have nothing.
+/// [`Plan`](BenchError::Plan) if the plan is refused (E40 to E46). [`Run`](BenchError::Run) (E47) and
+/// [`Memory`](BenchError::Memory) (E57) if memory is refused. At these nothing was written.
+/// [`Write`](BenchError::Write) (E67) if a sink failed: the sinks before it have their whole text, it has a beginning
+/// of its own, and those after it have nothing.
 pub fn bench<W: Sink>(
     alloc: Global,
     scenario: &Scenario,

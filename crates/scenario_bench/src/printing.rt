@@ -9,10 +9,10 @@ use arrayvec::ArrayVec;
 use itoa::Buffer;
 use pcap_trace::{Sink, WriteError, write_all};
 
-/// Room for what stands behind a name: seven labels and numbers, of at most 60 bytes each, and a word.
+/// Room for the part of a line after a name: seven labels and numbers, of at most 60 bytes each, and a word.
 const LONGEST_LINE: usize = 480;
 
-/// What stands behind a name, put together.
+/// The part of a line after a name.
 type Line = ArrayVec<u8, LONGEST_LINE>;
 
 /// Appends a label and a number.
@@ -28,7 +28,7 @@ fn push_field(line: &mut Line, label: &[u8], number: u64)
     line.try_extend_from_slice(digits).unwrap();
 }
 
-/// Appends whether the misses are all.
+/// Appends whether the number of missed frames is exact.
 fn push_exact(line: &mut Line, exact: bool)
     requires room { length line.old.items + 8 ≤ 480 }
     ensures text { line.new.items ≡ line.old.items ++ exact_word exact }
@@ -38,7 +38,7 @@ fn push_exact(line: &mut Line, exact: bool)
     line.try_extend_from_slice(word).unwrap();
 }
 
-/// What stands behind a host's name.
+/// The part of a host's line after its name.
 fn fields_of(host: &HostSummary) -> Line
     ensures { result.items ≡ host_fields host.now }
 {
@@ -67,12 +67,12 @@ fn print_host<W: Sink>(host: &HostSummary, sink: &mut W) -> Result<(), WriteErro
 }
 
 /// Writes the program's lines of a run to a sink, one a host: `NAME accepted A put P reached R stored S missed M exact
-/// given G unclaimed U` (`atleast` in place of `exact` where more were missed), each ended by a line feed. It takes no
+/// given G unclaimed U`, with `atleast` for `exact` if more were missed. Each ends with a line feed. Allocates no
 /// memory.
 ///
 /// # Errors
 ///
-/// E67 [`Write`](WriteError::Write) where the sink fails; then a beginning of the text went out.
+/// E67 [`Write`](WriteError::Write) if the sink fails; then it has a beginning of the text.
 pub fn print_summary<W: Sink>(summary: &Summary, sink: &mut W) -> Result<(), WriteError>
     requires { W.failures sink.old < u64.MAX }
     ensures ok { OnOk result (Appends (W.taken sink.old) (W.taken sink.new) (summary_text summary.now)) }

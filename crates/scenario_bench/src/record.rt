@@ -1,4 +1,4 @@
-//! What is noted of a run: numbers for each host, and the frames that each socket gave.
+//! The record of a run: counts for each host, and the frames that each socket returned.
 ghost use Rattle.std.specs.Prelude.{◌≡◌, ◌≤◌, ◌++◌, ◌∷◌, [], ℕ, List, IfOk, OnOk, length, map, replicate};
 ghost use Rattle.delivery.specs.Happenings.{host_of, told, told_of};
 ghost use Rattle.scenario.specs.SoFar.{hosts_of};
@@ -18,18 +18,18 @@ use network_plan::{Answer, Event, HostPlan, Reply};
 use stations::{Numbered, Outcome, Tick};
 use std::alloc::{AllocError, Global};
 
-/// What is noted of a run.
+/// The record of a run.
 #[derive(Drop)]
 pub(crate) struct Record {
     /// The number of the next event or drain, up to the greatest.
     pub(crate) number: u64,
-    /// What was counted of each host.
+    /// The counts of each host.
     pub(crate) hosts: Vec<Tally>,
     /// The frames of each socket, hosts in order and their sockets in order.
     pub(crate) sockets: Vec<GivenFrames>,
 }
 
-/// The host that a tick names; 0 where it is a Go, which names none.
+/// The host that a tick names, or 0 for a Go, which names none.
 fn host_of(tick: Tick) -> usize
     ensures { result ≡ host_of tick }
 {
@@ -40,7 +40,7 @@ fn host_of(tick: Tick) -> usize
     }
 }
 
-/// The host whose adapter a tick moves; none where it is a Go.
+/// The host of a tick, or none for a Go.
 fn host_named(tick: Tick) -> Option<usize>
     ensures { result ≡ Rattle.scenario_bench.specs.Tallies.host_named tick }
 {
@@ -51,7 +51,7 @@ fn host_named(tick: Tick) -> Option<usize>
     }
 }
 
-/// What an outcome says of a frame.
+/// The passage of a frame in an outcome, if there is one.
 fn passage_of(outcome: &Outcome) -> Option<Passage>
     ensures { IsPassage outcome.now result }
 {
@@ -63,7 +63,7 @@ fn passage_of(outcome: &Outcome) -> Option<Passage>
     }
 }
 
-/// Makes room for the sockets of a host.
+/// Appends the sockets of a host, without frames.
 #[tactic(auto, using(crate::proofs::EmptySockets::socket_more, crate::proofs::EmptySockets::no_socket))]
 fn add_sockets(
     alloc: Global,
@@ -79,7 +79,7 @@ fn add_sockets(
     Ok(())
 }
 
-/// No frame was counted yet of so many hosts.
+/// The counts of this many hosts before a run.
 #[tactic(auto, using(crate::proofs::EmptySockets::replicate_more))]
 fn no_tallies(alloc: Global, count: usize) -> Result<Vec<Tally>, AllocError>
     ensures { IfOk result (λ tallies. tallies.items ≡ replicate count no_tally) }
@@ -91,7 +91,7 @@ fn no_tallies(alloc: Global, count: usize) -> Result<Vec<Tally>, AllocError>
     Ok(tallies)
 }
 
-/// No socket of these hosts gave a frame yet.
+/// The sockets of these hosts, without frames.
 fn no_given(alloc: Global, plans: &[HostPlan]) -> Result<Vec<GivenFrames>, AllocError>
     ensures { IfOk result (λ sockets. sockets.items ≡ empty_sockets (sockets_from 0 (hosts_of plans.now))) }
 {
@@ -102,7 +102,7 @@ fn no_given(alloc: Global, plans: &[HostPlan]) -> Result<Vec<GivenFrames>, Alloc
     Ok(sockets)
 }
 
-/// A frame passed at a host.
+/// Counts a passage of a frame at a host.
 #[tactic(auto, using(crate::proofs::Noting::counts_there, crate::proofs::Noting::counts_nowhere))]
 fn count(hosts: &mut [Tally], host: usize, passage: Passage)
     ensures { TallyCounts host passage hosts.old hosts.new }
@@ -112,7 +112,7 @@ fn count(hosts: &mut [Tally], host: usize, passage: Passage)
     }
 }
 
-/// What came of a tick at a host.
+/// Records the outcome of a tick at a host.
 #[tactic(auto, using(crate::proofs::Noting::told_passage, crate::proofs::Noting::told_nothing))]
 fn note_outcome(hosts: &mut [Tally], host: usize, outcome: &Outcome)
     ensures { TalliesGrow (told_of host outcome.now) hosts.old hosts.new }
@@ -122,7 +122,7 @@ fn note_outcome(hosts: &mut [Tally], host: usize, outcome: &Outcome)
     }
 }
 
-/// What came of the ticks of a call: each but a Go has its outcome.
+/// Records the outcomes of the ticks of a call. Each tick except a Go has one.
 fn note_ticks(hosts: &mut [Tally], ticks: &[Tick], outcomes: &[Numbered])
     ensures { TalliesGrow (told ticks.now outcomes.now) hosts.old hosts.new }
 {
@@ -141,7 +141,7 @@ fn note_ticks(hosts: &mut [Tally], ticks: &[Tick], outcomes: &[Numbered])
     }
 }
 
-/// A socket gave a frame in the event of this number.
+/// Records a frame that a socket returned in the event with this number.
 fn note_frame(
     sockets: &mut [GivenFrames],
     host: usize,
@@ -158,7 +158,7 @@ fn note_frame(
     Ok(())
 }
 
-/// What a send answered.
+/// Records the answer to a send.
 #[tactic(auto, using(crate::proofs::Noting::grows_not))]
 fn note_sent(hosts: &mut [Tally], host: usize, answer: &Answer)
     ensures { (frame : List ℕ) → TalliesGrow (accepted_of host frame answer.now) hosts.old hosts.new }
@@ -168,7 +168,7 @@ fn note_sent(hosts: &mut [Tally], host: usize, answer: &Answer)
     }
 }
 
-/// What a socket answered.
+/// Records the answer of a socket.
 #[tactic(auto, using(crate::proofs::Noting::grows_not))]
 fn note_received(hosts: &mut [Tally], host: usize, answer: &Answer)
     ensures { (socket : ℕ) → TalliesGrow (given_of host socket answer.now) hosts.old hosts.new }
@@ -178,7 +178,7 @@ fn note_received(hosts: &mut [Tally], host: usize, answer: &Answer)
     }
 }
 
-/// What came of an event at all hosts.
+/// Records the passages of an event at all hosts.
 #[tactic(auto, using(crate::proofs::Noting::grows_not))]
 fn note_passages(hosts: &mut [Tally], event: &Event, reply: &Reply)
     ensures { TalliesGrow (said event.now reply.now) hosts.old hosts.new }
@@ -202,8 +202,8 @@ fn note_passages(hosts: &mut [Tally], event: &Event, reply: &Reply)
     }
 }
 
-/// The frame that an event of this number gave, if it gave one.
-#[tactic(auto, using(crate::proofs::NotedEvents::said_answer, crate::proofs::NotedEvents::gets_none, crate::proofs::NotedEvents::gets_given))]
+/// Records the frame that the event with this number returned, if there is one.
+#[tactic(auto, using(crate::proofs::NotedEvents::answer_rules))]
 fn note_given(
     sockets: &mut [GivenFrames],
     number: u64,
@@ -220,8 +220,8 @@ fn note_given(
     Ok(())
 }
 
-/// The frames that a drained host gave, each by its socket.
-#[tactic(auto, using(crate::proofs::NotedDrains::none_drained, crate::proofs::NotedDrains::all_counted, crate::proofs::NotedDrains::all_got))]
+/// Records the frames that a drained host delivered, each for its socket.
+#[tactic(auto, using(crate::proofs::NotedDrains::drain_rules))]
 fn note_drained(
     hosts: &mut [Tally],
     sockets: &mut [GivenFrames],
@@ -244,7 +244,7 @@ fn note_drained(
 }
 
 impl Record {
-    /// Nothing was noted yet of these hosts.
+    /// The record of these hosts before a run.
     pub(crate) fn new(alloc: Global, plans: &[HostPlan]) -> Result<Record, AllocError>
         ensures number { IfOk result (λ noted. noted.number ≡ 0) }
         ensures hosts { IfOk result (λ noted. noted.hosts.items ≡ replicate (length plans.now) no_tally) }
@@ -260,7 +260,7 @@ impl Record {
         })
     }
 
-    /// Notes what came of the next event.
+    /// Records the next event and its reply.
     #[tactic(auto, using(crate::proofs::NotedEvents::noted))]
     fn note(&mut self, event: &Event, reply: &Reply) -> Result<(), AllocError>
         ensures { OnOk result (AreNoted (Ran event.now reply.now ∷ []) self.old self.new) }
@@ -271,7 +271,8 @@ impl Record {
         Ok(())
     }
 
-    /// Notes what a host gave that was drained next. How many frames its adapter moved for that isn't noted.
+    /// Records the next drain: the frames that a host delivered. The number of frames that its adapter moved isn't
+    /// recorded.
     #[tactic(auto, using(crate::proofs::NotedEvents::drain_noted))]
     pub(crate) fn note_drain(
         &mut self,
@@ -287,7 +288,7 @@ impl Record {
         Ok(())
     }
 
-    /// Notes what came of each of these events.
+    /// Records each of these events and its reply.
     pub(crate) fn note_all(&mut self, events: &[Event], replies: &[Reply]) -> Result<(), AllocError>
         ensures { OnOk result (AreNoted (ran events.now replies.now) self.old self.new) }
     {

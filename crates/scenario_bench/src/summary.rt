@@ -1,30 +1,31 @@
-//! What is told of the hosts behind a run.
+//! The summary of the hosts after a run.
 
-/// What is told of a host. Each number is told up to the greatest `u64`.
-#[derive(Debug, Drop, PartialEq, Eq)]
+/// The summary of a host. Each number saturates at the greatest `u64`.
+#[derive(Drop)]
 pub struct HostSummary {
     /// Its name in the plan.
     pub name: String,
-    /// How many frames its sends accepted.
+    /// The number of frames that its sends accepted.
     pub accepted: u64,
-    /// How many frames its adapter put onto the wire.
+    /// The number of frames that its adapter put onto the wire.
     pub put: u64,
-    /// How many frames reached its adapter.
+    /// The number of frames that reached its adapter.
     pub reached: u64,
-    /// How many of these its adapter stored.
+    /// The number of these frames that its adapter stored.
     pub stored: u64,
-    /// How many frames its adapter missed for want of room in the receive packet buffer, as its driver counts them.
+    /// The number of frames that its adapter missed because the receive packet buffer was full, as its driver counts
+    /// them.
     pub missed: u64,
-    /// Whether these are all: else there were more.
+    /// Whether this number is exact; otherwise more frames were missed.
     pub exact: bool,
-    /// How many frames its sockets gave.
+    /// The number of frames that its sockets returned.
     pub given: u64,
-    /// How many frames went to no socket.
+    /// The number of frames that no socket took.
     pub unclaimed: u64,
 }
 
-/// What is told of the hosts of a plan, in order.
-#[derive(Debug, Drop, PartialEq, Eq)]
+/// The summaries of the hosts of a plan, in order.
+#[derive(Drop)]
 pub struct Summary {
     /// The hosts.
     pub hosts: Vec<HostSummary>,

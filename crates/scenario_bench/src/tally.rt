@@ -1,8 +1,8 @@
-//! What is counted of a host's frames.
+//! The counts of a host's frames.
 ghost use Rattle.std.specs.Prelude.{◌≡◌};
 ghost use Rattle.scenario_bench.specs.Tallies.{counted_once};
 
-/// How many frames of a host were accepted, put and so on, each up to the greatest `u64`.
+/// The numbers of frames of a host that were accepted, put and so on. Each saturates at the greatest `u64`.
 #[derive(Clone, Copy, Default)]
 pub(crate) struct Tally {
     pub(crate) accepted: u64,
@@ -23,12 +23,12 @@ pub(crate) enum Passage {
     Reached,
     /// It reached the adapter, which stored it.
     Stored,
-    /// A socket gave it.
+    /// A socket returned it.
     Given,
 }
 
 impl Tally {
-    /// The same, with one frame more.
+    /// These counts with one more frame.
     pub(crate) fn with(self, passage: Passage) -> Tally
         ensures { result ≡ counted_once passage self }
     {

@@ -1,18 +1,32 @@
-use Rattle.std.proofs.Common.{◌∙◌, Bor, sym, rules, unwrap_or}
-use Rattle.std.proofs.lemmas.Iterator.{YieldsList-from_map, YieldsList-from_slice, items_from_collect}
-use Rattle.std.proofs.lemmas.Result.{IfOk-weaker}
-use Rattle.std.proofs.lemmas.Simd.{map-map}
-use Rattle.stations.specs.declared.tick.Tick.TheVariants as tick
+use Rattle.std.proofs.Common.{◌∙◌, ◌+◌, List, [], take, refl, subst, sym}
+use Rattle.stations.specs.declared.tick.Tick.{Tick}
+use Rattle.scenario.specs.Answers.{AreTicks}
 use Rattle.scenario.specs.SoFar.{hosts_of}
-use Rattle.scenario.specs.TickWords.{tick_of}
-use Rattle.scenario.specs.Words.{Text}
+use Rattle.scenario.specs.Words.{texts}
+use Rattle.scenario.proofs.CallTicks.{all_read, no_ticks, one_more, one_unknown}
 use Rattle.scenario.proofs.event_line.ticks_of.Goals as goal
 
-pub returns : goal.returns
-returns c =
+pub loop-word-init : goal.loop-word-init
+loop-word-init c =
+    subst (λ (read : List Tick). AreTicks (hosts_of c.args.hosts.now) [] read) (sym c.new-ticks.ensures.items)
+    (no_ticks (hosts_of c.args.hosts.now))
+
+pub loop-word-preserved : goal.loop-word-preserved
+loop-word-preserved c =
     let hosts = hosts_of c.args.hosts.now in
-    let read = λ (one : Text). unwrap_or (tick_of hosts one) tick.Go in
-    IfOk-weaker c.collect.result _ _ (λ ticks same. same ∙ sym (map-map read (λ (one : Bor Text). one.now) c.args.words.now))
-    (items_from_collect _ c.collect.ensures.ran
-    (YieldsList-from_map _ (λ (one : Bor Text). read one.now) (YieldsList-from_slice c.args.words.now cc) c.map.ensures.closure
-    (λ x r q k. search rules)))
+    subst (λ (read : List Tick). AreTicks hosts (texts (take (c.loop-word.word-index + 1) c.args.words.now)) read)
+    (sym c.in_ok-push.ensures.items)
+    (one_more hosts c.args.words.now c.loop-word.word-index _ c.in-Some.tick c.loop-word.ticks.items c.loop-word-test.true
+    (sym c.tick_of.ensures ∙ c.in-Some.is) c.loop-word.invariant)
+
+pub returns-in_default-clause-err : goal.returns-in_default-clause-err
+returns-in_default-clause-err c =
+    let hosts = hosts_of c.args.hosts.now in (
+      refl,
+      one_unknown hosts c.args.words.now c.loop-word.word-index _ c.loop-word-test.true (sym c.tick_of.ensures ∙ c.in_default.is),
+    )
+
+pub returns-clause-ok : goal.returns-clause-ok
+returns-clause-ok c =
+    all_read (hosts_of c.args.hosts.now) c.args.words.now c.loop-word.word-index c.loop-word.ticks.items c.loop-word-test.false
+    c.loop-word.invariant

@@ -3,7 +3,7 @@ use Rattle.scenario_bench.specs.Given.{numbered}
 use Rattle.scenario_bench.specs.SocketLists.{with_given}
 use Rattle.scenario_bench.proofs.record.note_frame.Given as goal
 
--- the sockets before this place have got the frame, if it is theirs
+-- the sockets before this place have the frame, if it is theirs
 abbrev pub invariant-loop-place : goal.invariant-loop-place
 invariant-loop-place l =
     (k : ℕ)

@@ -17,4 +17,4 @@ returns-clause-quiet g c =
     let access = Reads c.args.offset c.read-value.result in
     let alone = access_alone c.args.self.now.bus c.read-value.new.self acts.past access c.requires acts.told acts.only in
     access_quiet c.args.self.now c.tell_request.new.self c.read-value.new.self access c.requires alone c.in_ok-tell_request.ensures.state
-    c.read-value.ensures.extent
+    c.read-value.ensures.keeps.extent

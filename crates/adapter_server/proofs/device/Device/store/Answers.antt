@@ -17,4 +17,4 @@ returns-clause-quiet g c =
     let access = Stores c.args.address c.args.bytes.now in
     let alone = access_alone c.args.self.now.bus c.store.new.self acts.past access c.requires.quiet acts.told acts.only in
     access_quiet c.args.self.now c.tell_request.new.self c.store.new.self access c.requires.quiet alone c.in_ok-tell_request.ensures.state
-    c.store.ensures.extent
+    c.store.ensures.keeps.extent

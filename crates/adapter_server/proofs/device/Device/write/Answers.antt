@@ -17,4 +17,4 @@ returns-clause-quiet g c =
     let access = Writes c.args.offset c.args.value in
     let alone = access_alone c.args.self.now.bus c.write.new.self acts.past access c.requires acts.told acts.only in
     access_quiet c.args.self.now c.tell_request.new.self c.write.new.self access c.requires alone c.in_ok-tell_request.ensures.state
-    c.write.ensures.extent
+    c.write.ensures.keeps.extent

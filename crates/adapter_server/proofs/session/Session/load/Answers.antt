@@ -1,7 +1,9 @@
-use Rattle.std.proofs.Common.{◌≡◌, ◌∙◌, ℕ, length, subst}
+use Rattle.std.proofs.Common.{◌≡◌, ◌∙◌, ℕ, ap, arith, length, subst}
+use Rattle.dma_memory.specs.HostMemory.{bytes_at}
 use Rattle.adapter_server.specs.Devices.{Accesses, Tells}
 use Rattle.bus.specs.declared.event.Access.TheVariants.{Loads}
 use Rattle.adapter_server.proofs.Playing.{quiet_on}
+use Rattle.adapter_server.proofs.Slices.{filled, filled_as}
 use Rattle.adapter_server.proofs.Told.{accessed}
 use Rattle.adapter_server.proofs.session.Session.load.Goals as goal
 
@@ -18,3 +20,18 @@ returns-clause-ok g c =
 
 pub returns-clause-quiet : goal.returns-clause-quiet
 returns-clause-quiet g c = quiet_on _ _ _ c.in_ok-interleave.ensures.quiet c.in_ok-load.ensures.quiet
+
+pub load-requires-clause-lies : goal.load-requires-clause-lies
+load-requires-clause-lies g c = omega (arith, c.in_ok-interleave.ensures.quiet.size, c.in_ok-bytes.ensures.len)
+
+pub returns-clause-loaded : goal.returns-clause-loaded
+returns-clause-loaded g c =
+    let count : length c.as_mut_slice.result.now ≡ c.args.count = c.as_mut_slice.ensures.len ∙ c.in_ok-bytes.ensures.len in
+    let memory = c.load.new.self.bus.world.memory in
+    filled_as c.in_ok-bytes.bytes.len c.load.new.into c.in_ok-bytes.bytes.items _ (omega arith)
+    (subst (λ (n : ℕ). c.load.new.into ≡ bytes_at memory c.args.address n) count c.in_ok-load.ensures.loaded)
+
+pub returns-clause-few : goal.returns-clause-few
+returns-clause-few g c =
+    let filled = filled c.in_ok-bytes.bytes.len c.load.new.into c.in_ok-bytes.bytes.items (omega arith) in
+    ap length filled ∙ omega (arith, c.in_ok-bytes.ensures.len)

@@ -1,4 +1,5 @@
 use Rattle.std.proofs.Common.{◌∙◌, ap, subst, sym}
+use Rattle.std.specs.Prelude.{OnOk}
 use Rattle.std.proofs.lemmas.Result.{on_ok_weaker}
 use Rattle.dma_memory.specs.HostMemory.{bytes_at}
 use Rattle.adapter_server.specs.Answers.{ReadsBytes, ReadsRegister, memory_of, register_line}
@@ -40,3 +41,11 @@ returns-in_ok-bytes-in-Memory-clause-ok g c =
     c.in_ok-bytes-in-Memory.ensures.ok
     (said_line now after _ _ written (ap bytes_line (c.as_slice.ensures.value ∙ c.in_ok-bytes-in-Memory.ensures.loaded)))))
     c.say_bytes-in-Memory.ensures
+
+pub returns-in-Nowhere-clause-ok : goal.returns-in-Nowhere-clause-ok
+returns-in-Nowhere-clause-ok g c =
+    let contents = g.W.Write.contents in
+    let place = sym c.place_of.ensures ∙ c.in-Nowhere.is in
+    subst
+    (λ (p : Place). OnOk c.refuse.result (Tells (contents c.args.out.now) (contents c.refuse.new.out)
+    (ReadsBytes p c.args.address c.args.size c.args.said.now c.args.self.now c.refuse.new.self))) (sym place) c.refuse.ensures.ok

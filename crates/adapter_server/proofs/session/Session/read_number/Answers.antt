@@ -1,4 +1,5 @@
 use Rattle.std.proofs.Common.{◌∙◌, ℕ, ap, subst, sym}
+use Rattle.std.specs.Prelude.{OnOk}
 use Rattle.std.proofs.lemmas.Result.{on_ok_weaker}
 use Rattle.bus.specs.declared.event.Access.TheVariants.{Loads}
 use Rattle.dma_memory.specs.HostMemory.{bytes_at}
@@ -49,3 +50,13 @@ returns-in_ok-bytes-in-Memory-clause-ok g c =
     (answered _ (number_line (number_spelled (bytes_at (memory_of c.load.new.self) c.args.address size))) before now after loaded
     (said_line now after _ _ written
     (ap number_line (c.number_of.ensures ∙ ap number_spelled (c.as_slice.ensures.value ∙ bytes)))))) c.say_number-in-Memory.ensures
+
+pub returns-in-Nowhere-clause-ok : goal.returns-in-Nowhere-clause-ok
+returns-in-Nowhere-clause-ok g c =
+    let contents = g.W.Write.contents in
+    let place = ap (λ (n : ℕ). place_in c.args.self.now c.args.address n) (sym c.bytes.ensures) ∙ sym c.place_of.ensures
+    ∙ c.in-Nowhere.is in
+    subst
+    (λ (p : Place). OnOk c.refuse.result (Tells (contents c.args.out.now) (contents c.refuse.new.out)
+    (ReadsNumber p c.args.width c.args.address c.args.said.now c.args.self.now c.refuse.new.self))) (sym place)
+    c.refuse.ensures.ok

@@ -8,5 +8,6 @@ pub returns-clause-ok : goal.returns-clause-ok
 returns-clause-ok g c =
     let contents = g.W.Write.contents in
     on_ok_weaker c.say.result
-    (λ written. replies (refusal_line c.args.refusal) c.args.self.now c.args.self.now (contents c.args.out.now) (contents c.say.new.out) refl
+    (λ written. replies (refusal_line c.args.refusal) c.args.self.now c.args.self.now (contents c.args.out.now)
+    (contents c.say.new.out) refl
     (said_line (contents c.args.out.now) (contents c.say.new.out) _ _ written c.text.ensures)) c.say.ensures

@@ -1,4 +1,5 @@
 use Rattle.std.proofs.Common.{◌∙◌, ℕ, refl, subst, sym}
+use Rattle.std.specs.Prelude.{OnOk}
 use Rattle.std.proofs.lemmas.Result.{on_ok_weaker}
 use Rattle.bus.specs.declared.event.Access.TheVariants.{Writes}
 use Rattle.adapter_server.specs.Answers.{Accessed, WritesBytes}
@@ -43,3 +44,11 @@ returns-in_ok-store-in-Memory-clause-ok g c =
     (WritesBytes p c.args.address c.args.bytes.now c.args.said.now c.args.self.now c.store.new.self)) (sym place)
     (answered _ ok_line before now after c.in_ok-store-in-Memory.ensures.ok (said_line now after _ ok_line written refl)))
     c.say-in-Memory.ensures
+
+pub returns-in-Nowhere-clause-ok : goal.returns-in-Nowhere-clause-ok
+returns-in-Nowhere-clause-ok g c =
+    let contents = g.W.Write.contents in
+    let place = sym c.place_of.ensures ∙ c.in-Nowhere.is in
+    subst
+    (λ (p : Place). OnOk c.refuse.result (Tells (contents c.args.out.now) (contents c.refuse.new.out)
+    (WritesBytes p c.args.address c.args.bytes.now c.args.said.now c.args.self.now c.refuse.new.self))) (sym place) c.refuse.ensures.ok

@@ -1,4 +1,5 @@
 use Rattle.std.proofs.Common.{◌∙◌, ℕ, List, ap, refl, subst, sym}
+use Rattle.std.specs.Prelude.{OnOk}
 use Rattle.std.proofs.lemmas.Result.{on_ok_weaker}
 use Rattle.bus.specs.declared.event.Access.TheVariants.{Stores}
 use Rattle.adapter_server.specs.Answers.{Accessed, WritesNumber}
@@ -40,3 +41,13 @@ returns-in_ok-store-in-Memory-clause-ok g c =
     (λ (p : Place). Tells before after
     (WritesNumber p c.args.width c.args.address c.args.value c.args.said.now c.args.self.now c.store.new.self)) (sym place)
     (answered _ ok_line before now after stored (said_line now after _ ok_line written refl))) c.say-in-Memory.ensures
+
+pub returns-in-Nowhere-clause-ok : goal.returns-in-Nowhere-clause-ok
+returns-in-Nowhere-clause-ok g c =
+    let contents = g.W.Write.contents in
+    let place = ap (λ (n : ℕ). place_in c.args.self.now c.args.address n) (sym c.bytes.ensures) ∙ sym c.place_of.ensures
+    ∙ c.in-Nowhere.is in
+    subst
+    (λ (p : Place). OnOk c.refuse.result (Tells (contents c.args.out.now) (contents c.refuse.new.out)
+    (WritesNumber p c.args.width c.args.address c.args.value c.args.said.now c.args.self.now c.refuse.new.self))) (sym place)
+    c.refuse.ensures.ok

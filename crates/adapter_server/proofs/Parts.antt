@@ -1,0 +1,19 @@
+-- A text that is put together from parts.
+use Rattle.std.proofs.Common.{◌≡◌, ◌∙◌, ◌+◌, ◌<◌, ◌≤◌, ◌++◌, ◌∷◌, ℕ, List, Bor, length, get_or, drop, drop-cons, add-one}
+use Rattle.std.proofs.Common.{append_assoc, ap, sym}
+use Rattle.std.proofs.lemmas.List.{append-nil, drop_all}
+use Rattle.adapter_server.specs.Texts.{Text, joined}
+
+-- the next part is appended, and those after it are left
+pub one_part : (parts : List (Bor Text)) (i : ℕ) (d : Bor Text) (text after all : Text) → i < length parts
+    → after ≡ text ++ (get_or parts i d).now → text ++ joined (drop i parts) ≡ all → after ++ joined (drop (i + 1) parts) ≡ all
+one_part parts i d text after all below same left =
+    let next : drop i parts ≡ get_or parts i d ∷ drop (i + 1) parts = rw add-one (drop-cons parts i d below) in
+    ap (λ (t : Text). t ++ joined (drop (i + 1) parts)) same
+    ∙ append_assoc text (get_or parts i d).now (joined (drop (i + 1) parts))
+    ∙ sym (ap (λ (ps : List (Bor Text)). text ++ joined ps) next) ∙ left
+
+pub all_parts : (parts : List (Bor Text)) (i : ℕ) (text all : Text) → length parts ≤ i → text ++ joined (drop i parts) ≡ all
+    → text ≡ all
+all_parts parts i text all end left =
+    sym (append-nil text) ∙ sym (ap (λ (ps : List (Bor Text)). text ++ joined ps) (drop_all i parts end)) ∙ left
