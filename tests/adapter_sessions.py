@@ -1,6 +1,6 @@
-"""Sessions of `nicbench serve` that show the adapter alone: registers, causes, EEPROM, PHY, filter, and both engines.
+"""Sessions of `nicbench serve` that test the adapter: registers, causes, EEPROM, PHY, filter, and both engines.
 
-The tables are written by hand, from the manual. A row is a request and what is answered, with IRQ lines before it.
+The tables are written by hand, from the manual. A row has a request and its answer, with the IRQ lines before it.
 """
 
 import random
@@ -13,7 +13,7 @@ TDBAL, TDBAH, TDLEN, TDH, TDT = 0x3800, 0x3804, 0x3808, 0x3810, 0x3818
 MPC, GPRC, GPTC, RNBC, MTA, RAL, RAH, VFTA = 0x4010, 0x4074, 0x4080, 0x40A0, 0x5200, 0x5400, 0x5404, 0x5600
 RESET, RECEIVE, TRANSMIT = 0x04000000, 0x8002, 0x000A
 EN, UPE, MPE, BAM, VFE = 1 << 1, 1 << 3, 1 << 4, 1 << 15, 1 << 18
-# The registers that have kept bits alone for a rule: kept bits, and the value after a reset.
+# The registers with only kept bits: the kept bits, and the value after a reset.
 PLAIN = {
     CTRL: (0x40000061, 0), VET: (0x0000FFFF, 0x8100), RCTL: (0x0607B33A, 0), TCTL: (0x003FFFFA, 0),
     RDBAL: (0xFFFFFFF0, 0), RDBAH: (0xFFFFFFFF, 0), RDLEN: (0x000FFF80, 0), RDH: (0x0000FFFF, 0), RDT: (0x0000FFFF, 0),
@@ -52,7 +52,7 @@ def loads(address, data):
 
 
 def registers(server):
-    """Every register at power-on, with what it kept and after a reset; no register between them."""
+    """Every register after power-on, after writes and after a reset; no register at other offsets."""
     places = range(0, 0x5810, 4)
     server.talks("adapter: registers at power-on", [reads(place, PLAIN[place][1] if place in PLAIN else RULED.get(place, 0)) for place in places])
     words = random.Random(0)
@@ -75,7 +75,7 @@ def registers(server):
 
 
 def causes(server):
-    """Causes and their mask are set and cleared by ones, and the interrupt line follows both."""
+    """Written ones set and clear causes and the mask, and the interrupt line follows both."""
     server.talks("adapter: mask and causes", [
         writes(IMS, 0xFFFFFFFF), reads(IMS, 0x2D7), writes(IMC, 0x40), reads(IMS, 0x297), reads(IMC, 0), writes(ICS, 0x84, "IRQ raise 0\n"), reads(ICS, 0),
         writes(ICR, 0x04), reads(ICR, 0x80, "IRQ lower 0\n"), reads(ICR, 0)])
@@ -86,7 +86,7 @@ def causes(server):
 
 
 def eeprom(server):
-    """Words of the EEPROM, of which 64 add up to 0xBABA; a later request replaces one that is pending, and a write without START is none."""
+    """Reads of the EEPROM: the sum of 64 words is 0xBABA; a later request replaces a pending one; a write without START requests no read."""
     ticked, nothing = steps(("eeprom", "ticked"), ("eeprom", "nothing"))
     rows = [nothing]
     for written, pending, word in [([0x201], 0x200, 0x01000210), ([0x4001], 0x4000, 0xFFFF4010), ([0x0001, 0x0201], 0x200, 0x01000210),
@@ -103,12 +103,12 @@ def eeprom(server):
 
 
 def command(written, answered, causes_after=0):
-    """A command of MDIC, which a tick ends."""
+    """An MDIC command, which a tick ends."""
     return [writes(MDIC, written), reads(MDIC, written & ~0x10000000), *steps(("phy", "ticked")), reads(MDIC, answered), reads(ICR, causes_after)]
 
 
 def phy(server):
-    """MDIC's commands, negotiation, the link and its latch."""
+    """MDIC commands, negotiation, the link and its latch."""
     server.talks("adapter: commands of MDIC", [row for words in [
         (0x08410000, 0x58410000), (0x08220000, 0x18220141), (0x08230000, 0x18230C20), (0x28210000, 0x38210000, 0x200), (0x08200000, 0x18201000),
         (0x0824FFFF, 0x18240000)] for row in command(*words)])
@@ -127,7 +127,7 @@ def phy(server):
 
 
 def to(destination, behind="08000000"):
-    """A frame of 60 bytes with this destination, and with these bytes from 12 on."""
+    """A frame of 60 bytes with this destination, and with these bytes at offset 12."""
     return f"{destination}{'00' * 6}{behind}".ljust(120, "0")
 
 
@@ -170,7 +170,7 @@ RECEIVED = [arrives("stored"), *steps(("rxdata", "moved"), ("rxdone", "done"))]
 
 
 def arrivals(server):
-    """What becomes of a frame that arrives, and what is counted of it."""
+    """The fate of an arriving frame, and the counters."""
     server.talks("adapter: misses are counted", [
         writes(PBA, 2), writes(RCTL, RECEIVE), arrives("stored"), arrives("missed"), arrives("missed"), reads(MPC, 2), reads(MPC, 0), reads(RNBC, 3),
         reads(RNBC, 0), reads(ICR, 0x40)])
@@ -210,7 +210,7 @@ def receiving(server):
 
 
 def slot(length, told, number=0):
-    """A transmit descriptor, whose buffer is at 0x800 or 2,048 bytes on."""
+    """A transmit descriptor whose buffer is at 0x800 or 2,048 bytes later."""
     return stores(0x80 + 16 * number, f"00{8 + 8 * number:02x}{'00' * 6}{length.to_bytes(2, 'little').hex()}00{told:02x}00000000")
 
 

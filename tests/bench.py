@@ -1,4 +1,4 @@
-"""The program, run from outside, and traces for it."""
+"""Runs of the built program, and traces for them."""
 
 import os
 import struct
@@ -17,13 +17,13 @@ def trace(*packets):
 
 
 def trace_in(order, magic, *packets):
-    """A trace in a byte order, '<' or '>', of packets of four numbers and a frame: seconds, fraction, captured and original length."""
+    """A trace in a byte order, '<' or '>'. Each packet has four numbers and a frame: seconds, fraction, captured length, original length."""
     header = struct.pack(order + "IHHIIII", magic, 2, 4, 0, 0, 65535, 1)
     return header + b"".join(struct.pack(order + "IIII", *numbers) + frame for *numbers, frame in packets)
 
 
 def written(frames):
-    """The trace of these pairs of a number and a frame, as `nicbench pass` writes it."""
+    """The trace that `nicbench pass` writes for these pairs of a number and a frame."""
     return trace(*(packet(frame.ljust(60, b"\0"), time=number) for number, frame in frames))
 
 
@@ -42,7 +42,7 @@ class Bench:
             file.write(data)
 
     def get(self, name):
-        """What the file holds, or None where there is none."""
+        """The contents of the file, or None if there is no file."""
         if not os.path.exists(self.path(name)):
             return None
         with open(self.path(name), "rb") as file:
@@ -52,8 +52,9 @@ class Bench:
         if os.path.exists(self.path(name)):
             os.remove(self.path(name))
 
-    def run(self, *words, env=None, folder=None):
-        return subprocess.run([self.program, *words], cwd=folder or self.folder, stdin=subprocess.DEVNULL, capture_output=True, timeout=60,
+    def run(self, *words, env=None, folder=None, given=b""):
+        """Runs the program on these words, with these bytes as its standard input, a pipe."""
+        return subprocess.run([self.program, *words], cwd=folder or self.folder, input=given, capture_output=True, timeout=60,
                               env=None if env is None else {**os.environ, **env})
 
     def check(self, name, got, wanted):
@@ -63,29 +64,29 @@ class Bench:
         self.failed += 1
         print(f"{name}: FAILED\n  wanted {wanted!r}\n  got    {got!r}")
 
-    def ends(self, name, words, status, out=b"", err=b"", folder=None):
-        """The program ends so on these words, in this folder or its own."""
-        ran = self.run(*words, folder=folder)
+    def ends(self, name, words, status, out=b"", err=b"", folder=None, given=b""):
+        """Runs the program with these words and this standard input, in this folder or in its own; checks its status and output."""
+        ran = self.run(*words, folder=folder, given=given)
         self.check(name, (ran.returncode, ran.stdout, ran.stderr), (status, out, err))
 
     def writes(self, name, words, line, frames):
-        """The program ends well on these words, which write out.pcap, with this line and these frames in that trace."""
+        """Runs the program with these words; checks that it succeeds with this line, and writes these frames to out.pcap."""
         self.remove("out.pcap")
         self.ends(name, words, 0, line)
         self.check(f"{name}: what is written", self.get("out.pcap"), written(frames))
 
     def passes(self, name, data, line, frames):
-        """A trace passes, with this line and these frames in the trace that is written."""
+        """Passes a trace; checks the line, and the frames in the written trace."""
         self.put("in.pcap", data)
         self.writes(name, ["pass", "in.pcap", "out.pcap"], line, frames)
 
     def fails(self, name, given, fault, status):
-        """A trace is refused or can't be read, and no output is made."""
+        """Checks that a trace is rejected or can't be read, and that no output is created."""
         self.remove("made.pcap")
         self.ends(name, ["pass", given, "made.pcap"], status, b"", f"nicbench: {fault}\n".encode())
         self.check(f"{name}: no output is made", os.path.exists(self.path("made.pcap")), False)
 
     def refuses(self, name, data, fault):
-        """A trace is refused, and no output is made."""
+        """Checks that a trace is rejected, and that no output is created."""
         self.put("in.pcap", data)
         self.fails(name, "in.pcap", fault, 1)

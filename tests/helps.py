@@ -12,7 +12,8 @@ Commands:
   help   Print this message or the help of the given subcommand(s)
 
 Options:
-  -h, --help  Print help
+  -h, --help     Print help
+  -V, --version  Print version
 
 In this example one host sends a frame to another, step by step, and the received frame is listed. Run it
 from the top of the repository:
@@ -25,15 +26,17 @@ from the top of the repository:
   0 60 02:00:00:00:00:02 02:00:00:00:00:01 0800
   frames 1 skipped 0 cut no
 
-Exit status: 0 success, 1 a trace or a scenario is invalid, 2 usage error or help, 3 a file failed, 4 out
-of memory. After 1, 3 and 4 standard error has 'nicbench: CODE NAME'. IN is any input: also the TRACE of
-show, and the SCENARIO of run with each FILE that it feeds. OUT is any output: also each file in the OUTDIR
-of run. Codes E40 to E56 come from run only: nicbench run --help. For E57, E66 and E67 of serve: nicbench
-serve --help
+Exit status: 0 success, 1 a trace or a scenario is invalid, 2 usage error, help or version, 3 a file failed,
+4 out of memory. After 1, 3 and 4 standard error has 'nicbench: CODE NAME'. IN is any input: also the TRACE
+of show, and the SCENARIO of run with each FILE that it feeds. Standard input is read if IN is -, once. Like
+a named pipe it is read to its end first, up to 1 GiB. OUT is any output: also each file in the OUTDIR of
+run. Codes E40 to E56 come from run only: nicbench run --help. For E57, E66 and E67 of serve: nicbench serve
+--help
 
-  E57 Memory    Out of memory before anything was written. Free some, or split IN
-  E60 Header    IN has fewer than 24 bytes, so it isn't a trace. A pipe or a device has no length
-                and reads as empty: copy its output to a file first
+  E57 Memory    Out of memory before anything was written, or standard input or a pipe has more than
+                1 GiB. Free some, split IN, or copy it to a file first
+  E60 Header    IN has fewer than 24 bytes, so it isn't a trace. Name another file, or check the program
+                that writes into the pipe
   E61 Magic     IN isn't a pcap file. Convert a pcapng file: editcap -F pcap IN OUT
   E62 Version   IN isn't version 2.4 of the format. Convert it: editcap -F pcap IN OUT
   E63 LinkType  IN isn't a trace of Ethernet frames. Capture it at an Ethernet interface
@@ -42,8 +45,8 @@ serve --help
                 editcap -F pcap -c 100000 IN OUT
   E66 Read      IN could not be read. Name a file, not a folder, or copy it to another disk
   E67 Write     OUT or standard output could not be written. Free space there
-  E68 Open      IN couldn't be opened, OUT couldn't be created, or OUTDIR doesn't exist. Check the paths
-                and permissions
+  E68 Open      IN couldn't be opened or is a device, OUT couldn't be created, or OUTDIR doesn't exist.
+                Check the paths and permissions. Copy a part of a device to a file: head -c SIZE DEVICE
 """
 
 PASS_HELP = b"""Send the frames of a trace through a receive filter and a ring
@@ -51,7 +54,7 @@ PASS_HELP = b"""Send the frames of a trace through a receive filter and a ring
 Usage: nicbench pass [OPTIONS] <IN> <OUT>
 
 Arguments:
-  <IN>   The trace to read, a pcap file
+  <IN>   The trace to read, a pcap file, or - for standard input
   <OUT>  The trace to write, a pcap file
 
 Options:
@@ -61,7 +64,8 @@ Options:
   -h, --help         Print help
 
 Frames for the broadcast address also pass. Without --address and --group, frames for every address pass.
-All of IN is read before OUT is created, so both may be the same file: its frames are replaced.
+All of IN is read before OUT is written, so both may be the same file: its frames are replaced. IN may be
+standard input: tcpdump -w - | nicbench pass - OUT writes OUT when tcpdump ends.
 Run this example from the top of the repository:
 
   $ ./nicbench pass --group 01:00:5e:00:00:01 examples/groups.pcap out.pcap
@@ -88,7 +92,7 @@ RUN_HELP = b"""Run a scenario: hosts on wires, step by step
 Usage: nicbench run <SCENARIO> <OUTDIR>
 
 Arguments:
-  <SCENARIO>  The scenario to run, a text file
+  <SCENARIO>  The scenario to run, a text file, or - for standard input
   <OUTDIR>    The folder to write traces into; it must exist
 
 Options:
@@ -118,7 +122,8 @@ First come the lines that set up hosts:
                           receive packet buffer, 2 for each frame (48); link N, the ticks of its PHY
                           until its link is up (1), or link never; promiscuous
   group HOST ADDRESS      a multicast address whose frames it also receives
-  vlan HOST N             a VLAN whose tagged frames it receives; without such a line, of all VLANs
+  vlan HOST N             a VLAN; the host receives its tagged frames. Without a vlan line, it receives
+                          those of any VLAN
   socket HOST N           a socket for an EtherType, four hexadecimal digits as 88b5; or 'all', for the
                           frames that no other socket is for. A host's sockets are numbered from 0
 
@@ -135,12 +140,15 @@ Then come the events, numbered from 0:
                           and so on
   drain HOST              not a call: all frames that it holds for its sockets are returned, in one event
   feed HOST FILE          for each frame of a trace, the events that send it and deliver it to the sockets
-                          of the other hosts at its wire; FILE contains no spaces
+                          of the other hosts at its wire; FILE contains no spaces, or is - for standard
+                          input
   auto COUNT START        COUNT random events, up to 1000000; START is the seed
 
 OUTDIR/h.s.pcap is the trace of the frames that socket s of host h returned. The time of each frame is the
-number of its event, in microseconds. Existing files are replaced; if there is an error, they are empty.
-Standard output has a line for each host:
+number of its event, in microseconds. Files that don't exist are created, empty, before the first event. All
+files are written after the last event; an existing one loses its bytes when its first new byte is written.
+So on an error existing files are unchanged, unless it is E67: then the files before the one that failed are
+complete, and those after it are unchanged. Standard output has a line for each host:
 
   b accepted 0 put 0 reached 1 stored 1 missed 0 exact given 1 unclaimed 0
 
@@ -148,7 +156,8 @@ The counts are of frames that its sends accepted, that its adapter put on the wi
 it stored, and that it missed because its receive packet buffer was full ('atleast' in place of 'exact' if
 there may be more); then frames that its sockets returned, and frames that were for none of them.
 
-For an error in a line, standard error has 'nicbench: line N: CODE NAME', and else 'nicbench: CODE NAME':
+For an error in a line, standard error has 'nicbench: line N: CODE NAME', and else 'nicbench: CODE NAME'. If
+existing files in OUTDIR are unchanged, a second line says so:
 
   E40 Name      The name of a host or a wire isn't 1 to 16 of a-z 0-9 _ -. Choose another
   E41 Ends      A wire has only 1 host, or more than 8. Check the names of wires, or add a host
@@ -158,8 +167,8 @@ For an error in a line, standard error has 'nicbench: line N: CODE NAME', and el
                 to 4096, rxa even from 2 to 48, link at least 1; the first byte of a group is odd, and a
                 VLAN is at most 4095
   E45 Memory    Out of memory for the hosts. Free some, or use fewer buffers
-  E46 Init      An adapter didn't come up; the reason follows, as E14 NoLink: its link never comes up, or
-                only after more than 2000 ticks. Use a smaller link
+  E46 Init      An adapter could not be initialized; the reason follows, as E14 NoLink: its link is never
+                up, or only after more than 2000 ticks. Use a smaller link
   E47 Memory    Out of memory during the run. Free some, or split the scenario
   E50 Word      The first word is none of those above. Correct it, or begin a comment with #
   E51 Count     There are too few or too many words, or an option twice. Compare with the list above
@@ -179,7 +188,7 @@ SHOW_HELP = b"""List the frames of a trace, one a line
 Usage: nicbench show <TRACE>
 
 Arguments:
-  <TRACE>  The trace to read, a pcap file
+  <TRACE>  The trace to read, a pcap file, or - for standard input
 
 Options:
   -h, --help  Print help
@@ -240,9 +249,9 @@ The requests; the first six are those of QEMU's qtest:
   arrive HEX              a frame arrives from the wire
   settle                  steps in rounds, until a round does nothing
   line                    1 if the interrupt line is asserted, else 0
-  interleave COUNT        from now on, up to COUNT random steps, at most 65535, before each access; 0
-                          ends it
-  log on, log off         from now on, each step, access and arrival is printed, or is not
+  interleave COUNT        from now on, plays up to COUNT random steps before each access; COUNT is at
+                          most 65535, and 0 turns this off
+  log on, log off         log on prints each step, access and arrival from now on; log off stops this
 
 Numbers are decimal, or hexadecimal after 0x. A register is read and written as four bytes, by readl,
 writel, read, write or memset. The adapter takes no step by itself: each step is a request, or random,

@@ -1,7 +1,7 @@
 """`nicbench run` from outside: schedules of hosts, step by step, with races between the accesses of their drivers.
 
-A schedule is a list of lines. What it shows is which frame is given by which of its lines, so that each row also tells when an interrupt took a
-frame, and when it didn't: a line that receives behind the interrupt gives one, or none.
+A schedule is a list of lines. A row states which line returns which frame. So it also shows whether an interrupt took a frame: a line that receives
+after the interrupt returns a frame, or none.
 """
 
 from bench import FILE_HEADER, written
@@ -16,7 +16,7 @@ SOCKET = "socket b all"
 
 
 def frame(mark, to=B_ADDRESS, kind="88b5", length=60):
-    """A frame with this mark behind its header, and with so many bytes."""
+    """A frame of `length` bytes, with this mark after its header."""
     return bytes.fromhex(f"{to}020000000001{kind}{mark:02x}").ljust(length, bytes([mark]))[:length]
 
 
@@ -25,35 +25,35 @@ def send(data, ticks="", host="a"):
 
 
 def bring(*frames):
-    """Each frame is sent by a, and comes to b's adapter."""
+    """Sends each frame from a, and delivers it to b's adapter."""
     return [line for data in frames for line in send(data) + BRING]
 
 
 def receive(*frames):
-    """Each frame is brought to b, and finished in its memory."""
+    """Delivers each frame to b, and finishes it in b's memory."""
     return [line for data in frames for line in bring(data) + FINISH]
 
 
 class Schedule:
-    """Lines of events, with what each of them gives."""
+    """Lines of events, with the frame that each of them returns."""
 
     def __init__(self):
         self.lines, self.given = [], {}
 
     def does(self, *groups):
-        """Lines that give nothing."""
+        """Adds lines that return no frame."""
         for group in groups:
             self.lines += group
         return self
 
     def gives(self, data, host="b", socket=0, ticks=""):
-        """A line that receives, and gives this frame."""
+        """Adds a line that receives this frame."""
         self.given.setdefault(f"{host}.{socket}.pcap", []).append((len(self.lines), data))
         self.lines.append(f"recv {host} {socket}" + (f" / {ticks}" if ticks else ""))
         return self
 
     def drains(self, *frames, host="b"):
-        """A line that drains a host, and gives these pairs of a socket and a frame."""
+        """Adds a line that drains a host and returns these pairs of a socket and a frame."""
         for socket, data in frames:
             self.given.setdefault(f"{host}.{socket}.pcap", []).append((len(self.lines), data))
         self.lines.append(f"drain {host}")
@@ -61,7 +61,7 @@ class Schedule:
 
 
 def row(bench, name, schedule, numbers_of_a, numbers_of_b, options="", setup=(SOCKET,), others=b""):
-    """A schedule gives what it tells, with these numbers of a and b. Behind b's host line stand options, and then these lines of set-up."""
+    """Plays a schedule, and checks the frames and the counts of a and b. Options follow b's host line; the lines of set-up follow the host lines."""
     hosts = TWO_HOSTS.replace(b"02 w\n", f"02 w {options}\n".encode()) + others
     text = hosts + "".join(f"{line}\n" for line in [*setup, *schedule.lines]).encode()
     sockets = [line.split()[1] for line in setup if line.startswith("socket")]
@@ -72,37 +72,37 @@ def row(bench, name, schedule, numbers_of_a, numbers_of_b, options="", setup=(SO
 
 
 def counts(sent, given=None, **others):
-    """The numbers of a and b where all frames that a sent were stored, and so many were given."""
+    """The counts of a and b if b stored all frames that a sent, and returned `given` of them."""
     given = sent if given is None else given
     return {"accepted": sent, "put": sent}, {"reached": sent, "stored": sent, "given": given, **others}
 
 
 def receiving(bench):
-    """A frame is finished before and behind each access of an interrupt's handler."""
+    """A frame is finished before and after each access of an interrupt handler."""
     one, two = frame(1), frame(2)
     for accesses in range(8):
-        # The handler's accesses are those of ICR, MPC, the first frame's descriptor, its EtherType, the second frame's descriptor, that of the slot
-        # that is offered, and RDT. From its load on, the second frame's descriptor is left to the next interrupt.
+        # The handler accesses ICR, MPC, the first frame's descriptor, its EtherType, the second frame's descriptor, the descriptor of the slot that
+        # it offers, and RDT. If the second frame is finished after the load of its descriptor, the next interrupt takes it.
         late = ["interrupt b / " + "go " * accesses + "rxdata:b rxdone:b"]
         taken = Schedule().does(bring(one, two), FINISH, late).gives(one)
         if accesses <= 4:
             taken.gives(two).does(INTERRUPT, RECV, INTERRUPT, RECV)
         else:
             taken.does(RECV, INTERRUPT).gives(two).does(INTERRUPT, RECV)
-        row(bench, f"a frame is finished behind {accesses} accesses of the handler", taken, *counts(2))
-    row(bench, "a slot that the head has passed is in work",
+        row(bench, f"a frame is finished after {accesses} accesses of the handler", taken, *counts(2))
+    row(bench, "a slot that the head has passed is in progress",
         Schedule().does(bring(one, two), FINISH, FINISH[:1], INTERRUPT).gives(one).does(RECV, FINISH[1:], RECV, INTERRUPT).gives(two), *counts(2))
-    row(bench, "an interrupt before and behind the write-back of each frame",
+    row(bench, "an interrupt before and after the write-back of each frame",
         Schedule().does(bring(one, two), FINISH[:1], INTERRUPT, RECV, FINISH[1:], FINISH[:1], INTERRUPT).gives(one).does(RECV, FINISH[1:], INTERRUPT)
         .gives(two).does(INTERRUPT, RECV), *counts(2))
-    row(bench, "the frame is finished in the call that asks for it", Schedule().does(bring(one), ["recv b 0 / rxdata:b rxdone:b"], RECV, INTERRUPT)
+    row(bench, "the frame is finished in the call that receives it", Schedule().does(bring(one), ["recv b 0 / rxdata:b rxdone:b"], RECV, INTERRUPT)
         .gives(one), *counts(1))
     misses(bench, one, two)
     refills(bench)
 
 
 def misses(bench, one, two):
-    """Frames that find no room in the packet buffer, also while the handler counts them."""
+    """Frames that a full packet buffer misses, also while the handler counts them."""
     three = frame(3)
     a = {"accepted": 3, "put": 3}
     row(bench, "two of three frames are missed", Schedule().does(bring(one, two, three), INTERRUPT, RECV, FINISH, INTERRUPT).gives(one), a,
@@ -110,7 +110,7 @@ def misses(bench, one, two):
     waits = bring(one, two) + send(three) + BRING[:2]
     for accesses in range(3):
         late = ["interrupt b / " + "go " * accesses + "deliver:b"]
-        row(bench, f"one more is missed behind {accesses} accesses of the handler", Schedule().does(waits, late, INTERRUPT, INTERRUPT, FINISH, INTERRUPT)
+        row(bench, f"one more is missed after {accesses} accesses of the handler", Schedule().does(waits, late, INTERRUPT, INTERRUPT, FINISH, INTERRUPT)
             .gives(one), a, {"reached": 3, "stored": 1, "missed": 2, "given": 1}, "rxa 2")
 
 
@@ -134,30 +134,30 @@ def refills(bench):
         reads.does(receive(*some), INTERRUPT)
         for data in some:
             reads.gives(data, socket=1)
-    row(bench, "a frame stands in its buffer while others go round the ring", reads.gives(kept), *counts(15), "buffers 9",
+    row(bench, "a frame is kept in its buffer while the ring wraps", reads.gives(kept), *counts(15), "buffers 9",
         ("socket b 0806", SOCKET))
 
 
 def held(bench, frames):
-    """All of eight buffers are held: no interrupt comes that refills the ring, so a buffer that is given back is offered at once."""
+    """All eight buffers are held, so no interrupt comes that refills the ring. A buffer that is given back is offered at once."""
     whole = Schedule().does(receive(*frames[:7]), INTERRUPT, receive(frames[7]), INTERRUPT, bring(frames[8]), FINISH, INTERRUPT)
     whole.gives(frames[0]).does(FINISH, INTERRUPT)
     for data in frames[1:9]:
         whole.gives(data)
-    row(bench, "a buffer comes back where all are held", whole.does(RECV), *counts(9), "buffers 8")
-    # The ring has no room for the one that is given back; seven slots are offered as before, and the eighth frame waits for one.
+    row(bench, "a buffer is given back when all are held", whole.does(RECV), *counts(9), "buffers 8")
+    # The ring has no room for the buffer that is given back. Seven slots are still offered, and the eighth frame waits for a slot.
     full = Schedule().does(receive(frames[0]), INTERRUPT).gives(frames[0]).does(receive(*frames[1:8]), bring(frames[8]), FINISH, INTERRUPT)
     for data in frames[1:8]:
         full.gives(data)
-    row(bench, "a buffer comes back where the ring is full", full.does(RECV, FINISH, INTERRUPT).gives(frames[8]), *counts(9), "buffers 8")
+    row(bench, "a buffer is given back when the ring is full", full.does(RECV, FINISH, INTERRUPT).gives(frames[8]), *counts(9), "buffers 8")
 
 
 def sending(bench):
-    """The transmit ring: which frames it takes, while slots are freed between the driver's accesses."""
+    """The transmit ring: which frames it accepts while slots are freed between the driver's accesses."""
     frames = [frame(mark) for mark in range(16)]
     fill = [line for data in frames[:7] for line in send(data)]
     refused = send(frame(50))
-    # The frames that were put come to b, so that each refusal is seen by what isn't among them.
+    # The frames that were put are delivered to b. A rejected frame isn't among them.
     rest = ["tick txtake:a", "tick txput:a"] * 8 + ["tick deliver:b", *FINISH] * 4 + INTERRUPT
 
     def row_of(name, lines, taken):
@@ -169,16 +169,16 @@ def sending(bench):
             schedule.gives(data)
         row(bench, name, schedule.does(RECV), *counts(len(taken)))
 
-    row_of("a full ring refuses", fill + refused, frames[:7])
+    row_of("a full ring rejects a frame", fill + refused, frames[:7])
     row_of("a frame that was taken frees no slot", fill + refused + ["tick txtake:a"] + refused, frames[:7])
     row_of("a frame that was put frees one slot", fill + ["tick txtake:a"] + refused + ["tick txput:a"] + send(frames[7]) + refused, frames[:8])
-    row_of("a slot is done behind the look at it", fill + send(frame(50), "go txtake:a txput:a") + send(frames[7]), frames[:8])
-    row_of("a slot is done before the look at it", fill + send(frames[7], "txtake:a txput:a") + refused, frames[:8])
+    row_of("a slot is done after its descriptor was loaded", fill + send(frame(50), "go txtake:a txput:a") + send(frames[7]), frames[:8])
+    row_of("a slot is done before its descriptor is loaded", fill + send(frames[7], "txtake:a txput:a") + refused, frames[:8])
     row_of("an interrupt for a frame that was put frees no slot",
            fill + ["tick txtake:a", "interrupt a"] + refused + ["tick txput:a", "interrupt a", "interrupt a"] + send(frames[7]) + refused, frames[:8])
     looked = Schedule()
     for number, data in enumerate(frames):
-        # The frame, its descriptor, and TDT; all sends but the first load the descriptor of the frame before.
+        # The accesses are those of the frame, its descriptor, and TDT. All sends except the first also load the descriptor of the frame before.
         ticks = " go ".join(["txtake:a"] * (3 if number == 0 else 4))
         looked.does(send(data, ticks), BRING, FINISH, INTERRUPT).gives(data)
     row(bench, "a frame is looked for between the accesses of its sending", looked, *counts(16))
@@ -186,20 +186,20 @@ def sending(bench):
 
 
 def lengths(bench):
-    """The shortest and the longest frame, and those that are refused."""
+    """The shortest and the longest frame, and frames that are rejected."""
     for length in (14, 15, 59, 60, 61, 1517, 1518):
         data = frame(7, length=length)
         row(bench, f"a frame of {length} bytes", Schedule().does(receive(data), INTERRUPT).gives(data).does(RECV, ["recv b 1"]), *counts(1))
     refused = send(frame(1, length=13)) + send(frame(1, length=1519))
     row(bench, "frames of 13 and 1,519 bytes", Schedule().does(refused, BRING, FINISH, INTERRUPT, RECV), {}, {})
     short, long = frame(0xEE, length=1518), frame(1, length=14)
-    row(bench, "padding is zeros where longer frames stood",
+    row(bench, "padding is zeros in a buffer that had a longer frame",
         Schedule().does(*[receive(short), INTERRUPT] * 8).gives(short).gives(short).gives(short).gives(short).gives(short).gives(short).gives(short)
         .gives(short).does(receive(long), INTERRUPT).gives(long), *counts(9))
 
 
 def filters(bench):
-    """Which frames pass: to the host, to all, to groups, and with tags."""
+    """Which frames the filter passes: to the host, broadcast, multicast, and with VLAN tags."""
     to = {"b": B_ADDRESS, "all": EVERYONE, "another": "020000000009", "the group": "01005e000001", "a group of the same number": "01005f000001",
           "another group": "01005e000002", "an address like the group's": "02005e000001"}
     tags = {"VLAN 5": "81000005", "VLAN 5, priority 1": "81002005", "VLAN 6": "81000006", "no tag": "08000000"}
@@ -223,7 +223,7 @@ def filters(bench):
 
 
 def sockets(bench):
-    """Which socket gets a frame, in which order, and what has none."""
+    """Which socket gets a frame, in which order, and which frames have no socket."""
     arp, second, other = frame(1, kind="0806"), frame(2, kind="0806"), frame(3, kind="0800")
     late, odd = frame(4, kind="86dd"), frame(5, kind="0608")
     row(bench, "of two sockets of one EtherType the first gets its frames",
@@ -242,7 +242,7 @@ def sockets(bench):
 
 
 def wires(bench):
-    """Frames on the wire: their order at three ends, and a wire without room."""
+    """Frames on the wire: their order at three ends, and a full wire."""
     one, two, three = (frame(mark, EVERYONE) for mark in (1, 2, 3))
     third = b"host c 02:00:00:00:00:03 w\n"
     order = Schedule().does(send(one), send(three), send(two, host="b"), ["tick txtake:a"] * 2, ["tick txtake:b", "tick txput:a", "tick txput:b", "tick txput:a"])
@@ -259,22 +259,22 @@ def wires(bench):
     puts = [line for number in range(65) for line in [*send(frame(number)), "tick txtake:a", "tick txput:a"]]
     full = Schedule().does(puts, ["tick txput:a"])
     row(bench, "a wire with 64 frames has no room", full, {"accepted": 65, "put": 64}, {})
-    row(bench, "a wire has room behind a delivery", full.does(["tick deliver:b", "tick txput:a", "tick txput:a"]), {"accepted": 65, "put": 65},
+    row(bench, "a wire has room after a delivery", full.does(["tick deliver:b", "tick txput:a", "tick txput:a"]), {"accepted": 65, "put": 65},
         {"reached": 1, "stored": 1})
 
 
 def inside(bench):
-    """Ticks inside calls that make no access are played all the same."""
+    """Ticks inside calls that make no access are still played."""
     data = frame(1)
     ticks = "txtake:a go txput:a go deliver:b txtake:a"
     for name, line, refused in [("of an empty queue", "recv b 0", []), ("of a missing socket", "recv b 1", []), ("of a refused send", "send a 00", []),
                                 ("of an interrupt of nobody", "interrupt b", [])]:
         row(bench, f"ticks inside a call {name}", Schedule().does(send(data), [f"{line} / {ticks}"], refused, FINISH, INTERRUPT).gives(data), *counts(1))
-    row(bench, "ticks of which nothing comes", Schedule().does(["recv b 0 / txtake:a go deliver:b", "tick go"]), {}, {})
+    row(bench, "ticks that do nothing", Schedule().does(["recv b 0 / txtake:a go deliver:b", "tick go"]), {}, {})
 
 
 def drains(bench):
-    """What a host holds is given by one event: frames in a queue, finished, in work, and in the packet buffer."""
+    """A drain returns all that a host holds: frames in a queue, finished, in progress, and in the packet buffer."""
     frames = [frame(mark) for mark in range(9)]
     asks, answers = frame(50, kind="0806"), frame(51, kind="0806")
     two = ("socket b 0806", SOCKET)
@@ -285,7 +285,7 @@ def drains(bench):
     row(bench, "a drain with one more cause", Schedule().does(bring(*frames[:3]), send(frame(60, EVERYONE), host="b"), ["tick txtake:b", "tick txput:b"])
         .drains(*((0, data) for data in frames[:3])), {"accepted": 3, "put": 3}, {"accepted": 1, "put": 1, "reached": 3, "stored": 3, "given": 3})
     row(bench, "a drain of a host without sockets", Schedule().does(bring(frames[0])).drains().drains(host="a"), *counts(1, 0, unclaimed=1), "", ())
-    row(bench, "a drain of two queues, a frame in work and one in the packet buffer",
+    row(bench, "a drain of two queues, a frame in progress and one in the packet buffer",
         Schedule().does(receive(frames[0], asks), INTERRUPT, bring(frames[1]), FINISH[:1], bring(answers))
         .drains((0, asks), (1, frames[0]), (1, frames[1]), (0, answers)).drains(), *counts(4), "", two)
     row(bench, "two drains of a packet buffer for two sockets",

@@ -1,6 +1,6 @@
-/* Loaded before the C library, refuses one allocation of a program: the one whose number, from 1 on, stands in the environment's
-   variable REFUSE. Where one was refused, a file is made, of the name that stands in REFUSED. The program's allocator calls malloc
-   and realloc alone; the callers look that it names no other such function. */
+/* A library that is loaded before the C library. It makes one allocation of a program fail: the one whose number, counted from 1,
+   is in the environment variable REFUSE. If it made an allocation fail, it creates a file with the name in REFUSED. The program's
+   allocator calls only malloc and realloc; the callers check that the program names no other function that allocates. */
 #define _GNU_SOURCE
 #include <dlfcn.h>
 #include <fcntl.h>

@@ -1,8 +1,8 @@
-"""The lines of scenarios: each that is read, and each that is refused, by `nicbench run`."""
+"""Valid and invalid lines of scenarios for `nicbench run`."""
 
 from scenarios import TWO_HOSTS, refused
 
-# Lines that stand behind two hosts, each with the fault of the last of them: None where all are read.
+# Lines that follow two hosts, each with the fault of the last line, or None if all lines are valid.
 LINES = [
     # words
     ("", None), (" \t ", None), ("# host", None), (" \t#", None), ("#\n\n#\n", None), ("hosts", "E50 Word"),

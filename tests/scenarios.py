@@ -1,4 +1,4 @@
-"""`nicbench run` from outside: scenarios, their outputs and their refusals."""
+"""Scenarios for `nicbench run`, their outputs and their errors."""
 
 import os
 import re
@@ -25,11 +25,13 @@ TWO_HOSTS = b"host a 02:00:00:00:00:01 w\nhost b 02:00:00:00:00:02 w\n"
 TO_SOCKET = TWO_HOSTS + b"socket b all\n"
 # The steps by which a frame that b was sent comes to b's socket.
 ARRIVAL = b"tick deliver:b\ntick rxdata:b\ntick rxdone:b\ninterrupt b\nrecv b 0\n"
+# The second line on standard error if no byte was written.
+UNCHANGED = b"nicbench: existing files in OUTDIR are unchanged\n"
 NOTHING = {"accepted": 0, "put": 0, "reached": 0, "stored": 0, "missed": 0, "given": 0, "unclaimed": 0}
 
 
 def told(name, exact="exact", **numbers):
-    """The line of a host, with these numbers and 0 for the others."""
+    """The line of a host, with these counts, and 0 for the others."""
     n = {**NOTHING, **numbers}
     return (f"{name} accepted {n['accepted']} put {n['put']} reached {n['reached']} stored {n['stored']} missed {n['missed']} {exact} "
             f"given {n['given']} unclaimed {n['unclaimed']}\n").encode()
@@ -54,19 +56,27 @@ def held(path):
 
 
 def plays(bench, name, text, lines, files):
-    """A scenario runs, with these lines, and these files in OUTDIR."""
+    """Runs a scenario; checks the lines, and the files in OUTDIR."""
     path = folder(bench)
     bench.put("s.scenario", text)
     bench.ends(name, ["run", "s.scenario", "outdir"], 0, lines)
     bench.check(f"{name}: what is written", held(path), files)
 
 
-def refused(bench, name, text, fault, status=1, files=None):
-    """A scenario is refused; OUTDIR has these files, all of them empty."""
+def refusal(fault):
+    """What a run that wrote nothing prints on standard error."""
+    return f"nicbench: {fault}\n".encode() + UNCHANGED
+
+
+def refused(bench, name, text, fault, status=1, files=()):
+    """Checks that a scenario is rejected. New files in OUTDIR are created, empty; existing files don't change."""
     path = folder(bench)
     bench.put("s.scenario", text)
-    bench.ends(f"run: {name}", ["run", "s.scenario", "outdir"], status, b"", f"nicbench: {fault}\n".encode())
-    bench.check(f"run: {name}: what is written", held(path), {file: b"" for file in files or []})
+    for before in [b"", b"old"] if files else [b""]:
+        bench.ends(f"run: {name}", ["run", "s.scenario", "outdir"], status, b"", refusal(fault))
+        bench.check(f"run: {name}: what is written", held(path), {file: before for file in files})
+        for file in files:
+            bench.put(f"outdir/{file}", b"old")
 
 
 def played(bench):
@@ -141,7 +151,7 @@ def feeds(bench):
 
 
 def faults(bench):
-    """Traces that can't be fed: nothing is made."""
+    """Traces that can't be fed: no file is created."""
     feed = TO_SOCKET + b"feed a %s\n"
     for name, data, fault in [
         ("no header", b"", "E60 Header"),
@@ -161,7 +171,7 @@ def faults(bench):
 
 
 def lines(bench):
-    """Lines that are refused, by their number. Nothing is made."""
+    """Invalid lines, with their numbers. No file is created."""
     long = b"#" + b"x" * 8192
     for name, text, fault in [
         ("an unknown word", EXAMPLE + b"fly b\n", "line 12: E50 Word"),
@@ -211,7 +221,7 @@ def lines(bench):
 
 
 def plans(bench):
-    """Plans that are refused: the files in OUTDIR are made, and stay empty."""
+    """Invalid plans: new files in OUTDIR are created, empty; existing files don't change."""
     hosts = [b"host h%d 02:00:00:00:00:%02x w%d\n" % (n, n, n // 8) for n in range(17)]
     socket = b"socket b all\n"
     made = ["b.0.pcap"]
@@ -237,7 +247,7 @@ def plans(bench):
 
 
 def places(bench):
-    """Files and folders that are missing, or that can't be made."""
+    """Files and folders that are missing or can't be created."""
     folder(bench)
     bench.put("s.scenario", EXAMPLE)
     bench.put("none.scenario", TWO_HOSTS)
@@ -247,7 +257,6 @@ def places(bench):
     for name, words, fault, status in [
         ("no scenario", ["missing.scenario", "outdir"], "E68 Open", 3),
         ("a folder as scenario", ["outdir", "outdir"], "E66 Read", 3),
-        ("a device as scenario has no length, and reads as empty", ["/dev/zero", "outdir"], "E42 Hosts", 1),
         ("no OUTDIR", ["s.scenario", "missing"], "E68 Open", 3),
         ("no OUTDIR, and no file to make", ["none.scenario", "missing"], "E68 Open", 3),
         ("a file as OUTDIR", ["s.scenario", "s.scenario"], "E68 Open", 3),
@@ -257,7 +266,7 @@ def places(bench):
         ("a trace before OUTDIR", ["feed.scenario", "s.scenario"], "E68 Open", 3),
         ("OUTDIR before a plan", ["plan.scenario", "missing"], "E68 Open", 3),
     ]:
-        bench.ends(f"run: {name}", ["run", *words], status, b"", f"nicbench: {fault}\n".encode())
+        bench.ends(f"run: {name}", ["run", *words], status, b"", refusal(fault))
     bench.check("run: OUTDIR stays empty", os.listdir(bench.path("outdir")), [])
     bench.check("run: OUTDIR isn't made", os.path.exists(bench.path("missing")), False)
     for name in ["x/y", "../b", "/b"]:
@@ -268,7 +277,7 @@ def places(bench):
 
 
 def replaced(bench):
-    """Files of OUTDIR are replaced, and others are left; OUTDIR may be a link, or end in a slash."""
+    """`run` replaces its files in OUTDIR, and doesn't change others; OUTDIR may be a link, or end in a slash."""
     path = folder(bench)
     bench.put("s.scenario", EXAMPLE)
     os.symlink(path, bench.path("link"))
@@ -280,15 +289,23 @@ def replaced(bench):
 
 
 def full(bench):
-    """Files that can't be made or written, and outputs that take nothing."""
+    """Files that can't be created or written, and outputs that accept no bytes."""
     path = folder(bench)
     os.mkdir(os.path.join(path, "b.0.pcap"))
-    bench.ends("run: a folder in the place of a file", ["run", "s.scenario", "outdir"], 3, b"", b"nicbench: E68 Open\n")
+    bench.ends("run: a folder in the place of a file", ["run", "s.scenario", "outdir"], 3, b"", refusal("E68 Open"))
+    bench.put("three.scenario", EXAMPLE.replace(b"socket", b"socket a all\nsocket b 0806\nsocket", 1))
+    bench.put("outdir/a.0.pcap", b"old")
+    bench.ends("run: a folder in the place of the second file", ["run", "three.scenario", "outdir"], 3, b"", refusal("E68 Open"))
+    bench.check("run: a folder in the place of the second file: the first", bench.get("outdir/a.0.pcap"), b"old")
     os.rmdir(os.path.join(path, "b.0.pcap"))
-    bench.put("two.scenario", EXAMPLE.replace(b"socket", b"socket a all\nsocket", 1))
     os.symlink("/dev/full", os.path.join(path, "b.0.pcap"))
-    bench.ends("run: a full device in OUTDIR", ["run", "two.scenario", "outdir"], 3, b"", b"nicbench: E67 Write\n")
-    bench.check("run: a full device in OUTDIR: the file before it", bench.get("outdir/a.0.pcap"), FILE_HEADER)
+    bench.put("outdir/b.1.pcap", b"old")
+    bench.ends("run: a full device in OUTDIR", ["run", "three.scenario", "outdir"], 3, b"", b"nicbench: E67 Write\n")
+    bench.check("run: a full device in OUTDIR: the files before and after it", (bench.get("outdir/a.0.pcap"), bench.get("outdir/b.1.pcap")),
+                (FILE_HEADER, b"old"))
+    os.remove(os.path.join(path, "b.0.pcap"))
+    os.symlink("/dev/null", os.path.join(path, "b.0.pcap"))
+    bench.ends("run: a device in OUTDIR that has no bytes to drop", ["run", "s.scenario", "outdir"], 0, EXAMPLE_LINES)
     os.remove(os.path.join(path, "b.0.pcap"))
     for name, line, status, err in [("standard output is full", "run s.scenario outdir >/dev/full", 3, b"nicbench: E67 Write\n"),
                                     ("standard error is full", "run bad.scenario outdir 2>/dev/full", 1, b"")]:
@@ -297,7 +314,7 @@ def full(bench):
 
 
 class Drawing:
-    """The words of `auto`: PCG XSH RR 64/32 (O'Neill, 2014), seeded from a number as the crate rand_core does it."""
+    """The words of `auto`: PCG XSH RR 64/32 (O'Neill, 2014), seeded from a number as in the crate rand_core."""
 
     MASK = 2**64 - 1
     MULTIPLIER = 6364136223846793005
@@ -324,13 +341,13 @@ class Drawing:
 
 
 def words_from(start, count):
-    """The first words from a start."""
+    """The first words for a seed."""
     drawing = Drawing(start)
     return [drawing.next() for _ in range(count)]
 
 
 def event_of(word, hosts):
-    """The line of the event that a word draws."""
+    """The line of the event for a word."""
     name, address = hosts[word // 8 % len(hosts)]
     kinds = [b"tick txtake:%s", b"tick txput:%s", b"tick rxdata:%s", b"tick rxdone:%s", b"tick deliver:%s",
              b"interrupt %s / go rxdata:%s rxdone:%s", b"recv %s 0", b"send %s ffffffffffff" + address.replace(b":", b"") + b"88b5"]
@@ -339,7 +356,7 @@ def event_of(word, hosts):
 
 
 def all_fit(bench, hosts, summary):
-    """All frames that are drawn are broadcasts of a legal length, and pass the filter: each that reached a host was stored or missed."""
+    """All random frames are broadcasts of a legal length, and pass the filter: each frame that reached a host was stored or missed."""
     line = r"(\w+) accepted \d+ put \d+ reached (\d+) stored (\d+) missed (\d+) (exact|atleast) given \d+ unclaimed \d+"
     told_of = [found.groups() for found in map(re.compile(line).fullmatch, summary.splitlines()) if found]
     bench.check("auto: the lines of the hosts", [name.encode() for name, *_ in told_of], [name for name, _ in hosts])
@@ -349,7 +366,7 @@ def all_fit(bench, hosts, summary):
 
 
 def drawn(bench):
-    """Events that are drawn: twice the same, and the same as their lines."""
+    """Random events: the same in two runs, and the same as their lines."""
     bench.check("auto: the first words from 0", words_from(0, 4), [298703107, 4236525527, 336081875, 1056616254])
     hosts = [(b"a", b"02:00:00:00:00:01"), (b"b", b"02:00:00:00:00:02"), (b"c", b"02:00:00:00:00:03")]
     setup = b"".join(b"host %s %s w rxa 4\n" % host for host in hosts) + b"socket a all\nsocket b 88b5\nsocket c 0800\n"

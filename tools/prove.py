@@ -24,7 +24,7 @@ class ProofFailed(Exception):
 
 
 def copy_sources(crates):
-    """Makes a repository of the crates of the program alone."""
+    """Makes a repository with only the crates of the program."""
     shutil.rmtree(WORK, ignore_errors=True)
     for crate in crates:
         shutil.copytree(os.path.join(sources.CRATES, crate), os.path.join(WORK, "crates", crate),
@@ -37,7 +37,7 @@ def copy_sources(crates):
 
 
 class Progress:
-    """Tells which crates are proved, and every half minute how long the build has run."""
+    """Prints which crates are proved, and every half minute the time since the start."""
 
     def __init__(self, crates, tell):
         self.count, self.tell, self.done = len(crates), tell, 0

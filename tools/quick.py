@@ -34,7 +34,7 @@ class QuickBuildFailed(Exception):
 
 
 def link_all(source, target, but):
-    """Links all entries of a folder, but those named, into a new one."""
+    """Links all entries of a folder, except the named ones, into a new folder."""
     os.makedirs(target)
     for name in os.listdir(source):
         if name not in but:
@@ -42,7 +42,7 @@ def link_all(source, target, but):
 
 
 def links_to(kit, work):
-    """A folder of links to the toolchain, with copies of `rt` and its library, which look for the toolchain beside them."""
+    """A folder of links to the toolchain, with copies of `rt` and its library, which look for the toolchain next to them."""
     top = os.path.join(work, "kit")
     link_all(kit, top, ("bin", "toolchain"))
     link_all(os.path.join(kit, "bin"), os.path.join(top, "bin"), ("rt", "rtlib.py"))
@@ -59,7 +59,7 @@ def links_to(kit, work):
 
 
 def run(words, log, cwd, env=None):
-    """Runs a command, and returns whether it ended well."""
+    """Runs a command, and returns whether it succeeded."""
     with open(log, "ab") as file:
         return subprocess.run(words, cwd=cwd, env=env, stdin=subprocess.DEVNULL, stdout=file, stderr=file).returncode == 0
 

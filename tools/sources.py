@@ -1,12 +1,15 @@
-"""The sources of the program: its crates, their files, and a sum of all that a build reads."""
+"""The sources of the program: its crates, their files, a checksum of all files that a build reads, and the program's version."""
 
 import hashlib
 import os
+import re
 
 TOP = os.path.dirname(os.path.dirname(os.path.realpath(__file__)))
 CRATES = os.path.join(TOP, "crates")
 BUILD = os.path.join(TOP, ".build")
 PROGRAM = "nicbench"
+# The source that has the version, as a constant.
+VERSIONED = os.path.join(CRATES, "command_line", "src", "help.rt")
 # Folders of a crate that no build of the program reads.
 UNREAD = ("out", "must-fail")
 
@@ -42,9 +45,21 @@ def all_files(names):
 
 
 def checksum(names):
-    """The sum of all that a build of the program reads."""
+    """The checksum of all files that a build of the program reads."""
     total = hashlib.sha256()
     for path in all_files(names):
         with open(path, "rb") as file:
             total.update(f"{os.path.relpath(path, TOP)}\0{hashlib.sha256(file.read()).hexdigest()}\n".encode())
     return total.hexdigest()
+
+
+def version():
+    """The program's version, as its sources have it."""
+    with open(VERSIONED) as file:
+        return re.search(r'^pub\(crate\) const VERSION: &str = "(\d+\.\d+\.\d+)";$', file.read(), re.M)[1]
+
+
+def released(changelog):
+    """The newest release in the text of CHANGELOG.md, or None if there is none yet."""
+    found = re.search(r"^## \[(\d+\.\d+\.\d+)\]", changelog, re.M)
+    return found[1] if found else None

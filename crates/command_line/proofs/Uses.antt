@@ -70,10 +70,11 @@ without_keeps id rows h = at_row_keeps id (λ _. []) [] rows (λ r has. tt) tt h
 
 -- ---- a use of an argument
 
--- a use with this action and at least n values has a value, or asks for help
+-- a use with this action and at least n values has a value, or asks for help or the version
 abbrev pub gives_by : ArgAction → ℕ → Bool
 gives_by Set n = nat_lt 0 n
 gives_by Help n = true
+gives_by Version n = true
 gives_by _ n = false
 
 abbrev pub gives : Rule → Bool
@@ -102,13 +103,13 @@ use_as_keeps Set n again a [] rows g few f h =
 use_as_keeps Set n again a (v ∷ vs) rows g few f h = with_values_keeps a.id (reading_by a) _ v vs (without a.id rows)
     (without_keeps a.id rows h)
 use_as_keeps Help n again a values rows g few f h = some_kind _ _ f
+use_as_keeps Version n again a values rows g few f h = some_kind _ _ f
 use_as_keeps Append n again a values rows g few f h = absurd (true≢false (sym g))
 use_as_keeps SetTrue n again a values rows g few f h = absurd (true≢false (sym g))
 use_as_keeps SetFalse n again a values rows g few f h = absurd (true≢false (sym g))
 use_as_keeps Count n again a values rows g few f h = absurd (true≢false (sym g))
 use_as_keeps HelpShort n again a values rows g few f h = absurd (true≢false (sym g))
 use_as_keeps HelpLong n again a values rows g few f h = absurd (true≢false (sym g))
-use_as_keeps Version n again a values rows g few f h = absurd (true≢false (sym g))
 
 pub use_keeps : (again : Bool) (a : Rule) (values : List Text) (rows : List Row) → gives a ≡ true → use_fault again a values rows ≡ []
     → EachHasValue rows → EachHasValue (used a values rows)

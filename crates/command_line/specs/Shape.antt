@@ -35,12 +35,13 @@ serve_app =
     (option_rule (codes "memory"))) (option_rule (codes "registers"))) (option_rule (codes "address")))
     (option_rule (codes "link"))) (option_rule (codes "rxa"))) (option_rule (codes "seed"))
 
--- the program, which has to be told what to do
+-- the program, which has a version and a subcommand, and shows its help if there are no words
 unfoldable pub program_app : App
 unfolding pass_app run_app show_app serve_app
 program_app =
     with_subcommand (with_subcommand (with_subcommand (with_subcommand
-    (on_top (λ s. record s { subcommand_required = true; arg_required_else_help = true }) (new_app (codes "nicbench")))
+    (on_top (λ s. record s { has_version = true; subcommand_required = true; arg_required_else_help = true })
+    (new_app (codes "nicbench")))
     pass_app.top) run_app.top) show_app.top) serve_app.top
 
 -- the kinds of error that clap answers the words with, none where it takes them

@@ -9,7 +9,7 @@ ghost use Rattle.command_line.specs.Shape.{show_app};
 use crate::help::{
     ADDRESS_HELP, GROUP_HELP, IMAGE_HELP, LINK_HELP, MEMORY_HELP, PASS_ABOUT, PASS_NOTE,
     PROGRAM_NOTE, REGISTERS_HELP, RUN_ABOUT, RUN_NOTE, RXA_HELP, SEED_HELP, SERVE_ABOUT,
-    SERVE_NOTE, SHOW_ABOUT, SHOW_NOTE, VLAN_HELP,
+    SERVE_NOTE, SHOW_ABOUT, SHOW_NOTE, VERSION, VLAN_HELP,
 };
 use clap::{Arg, ArgAction, Command};
 use std::alloc::{AllocError, Global};
@@ -87,7 +87,10 @@ const PASS_ARGUMENTS: [Argument<'static>; 5] = [
     Argument::Value("address", "A", ADDRESS_HELP),
     Argument::Value("group", "G", GROUP_HELP),
     Argument::Value("vlan", "N", VLAN_HELP),
-    Argument::File("IN", "The trace to read, a pcap file"),
+    Argument::File(
+        "IN",
+        "The trace to read, a pcap file, or - for standard input",
+    ),
     Argument::File("OUT", "The trace to write, a pcap file"),
 ];
 
@@ -101,7 +104,10 @@ fn pass_command<'a>(alloc: Global) -> Result<Command<'a>, AllocError>
 }
 
 const RUN_ARGUMENTS: [Argument<'static>; 2] = [
-    Argument::File("SCENARIO", "The scenario to run, a text file"),
+    Argument::File(
+        "SCENARIO",
+        "The scenario to run, a text file, or - for standard input",
+    ),
     Argument::File("OUTDIR", "The folder to write traces into; it must exist"),
 ];
 
@@ -116,7 +122,7 @@ fn run_command<'a>(alloc: Global) -> Result<Command<'a>, AllocError>
 
 const SHOW_ARGUMENTS: [Argument<'static>; 1] = [Argument::File(
     "TRACE",
-    "The trace to read, a pcap file",
+    "The trace to read, a pcap file, or - for standard input",
 )];
 
 /// `show TRACE`.
@@ -167,6 +173,7 @@ pub(crate) fn program<'a>(alloc: Global) -> Result<Command<'a>, AllocError>
 {
     let about = "A bench for a driver of the Intel 82540EM and a model of that adapter";
     let bare = described(Command::new(alloc, "nicbench"), about, PROGRAM_NOTE)
+        .version(VERSION)
         .subcommand_required(true)
         .arg_required_else_help(true);
     let with_pass = with_command(Ok(bare), pass_command(alloc));

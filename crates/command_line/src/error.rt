@@ -15,7 +15,7 @@ use thiserror::Error;
 /// the others is the whole text for it, its last line feed included.
 #[derive(Debug, Drop, Error)]
 pub enum LineError<'a> {
-    /// clap refused the words, or was asked for help: its text is clap's.
+    /// clap refused the words, or was asked for help or the version: its text is clap's.
     #[error("{0}")]
     Words(clap::Error),
     /// clap took the words, and the value of an option isn't of its form.

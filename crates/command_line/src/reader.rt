@@ -1,6 +1,5 @@
 //! The reading of the program's words.
-ghost use Rattle.std.specs.Prelude.{◌≡◌, ◌≢◌, IfErr, IfOk, OnOk, [], true};
-ghost use Rattle.clap.specs.Walk.{texts};
+ghost use Rattle.std.specs.Prelude.{◌≡◌, ◌≢◌, IfErr, IfOk, OnOk, [], map, true};
 ghost use Rattle.clap.specs.Words.{found_of, has_subcommand, rows_of, subcommand_rows_of};
 ghost use Rattle.command_line.specs.Errors.{IfValue, IfWords, IsRefusalOf, IsRefusedBy};
 ghost use Rattle.command_line.specs.Jobs.{HasBounds, IsAskedBy, IsInvalidIn, IsJobOf};
@@ -16,6 +15,7 @@ use crate::show::show_job;
 use crate::{InvalidValue, Job, LineError};
 use clap::ArgMatches;
 use std::alloc::Global;
+use std::convert::AsStr;
 
 /// The job of a command with these matches.
 fn job_of<'a>(name: &str, matches: &ArgMatches<'a>) -> Result<Job<'a>, InvalidValue<'a>>
@@ -34,11 +34,11 @@ fn job_of<'a>(name: &str, matches: &ArgMatches<'a>) -> Result<Job<'a>, InvalidVa
 }
 
 /// What clap finds in the words, a subcommand among it.
-fn matches_of<'a>(alloc: Global, words: &'a [&'a str]) -> Result<ArgMatches<'a>, LineError<'a>>
-    ensures taken { OnOk result (refusals (texts words.entry.now) ≡ []) }
+fn matches_of<'a, S: AsStr>(alloc: Global, words: &'a [S]) -> Result<ArgMatches<'a>, LineError<'a>>
+    ensures taken { OnOk result (refusals (map S.text words.entry.now) ≡ []) }
     ensures found { IfOk result (λ matches. has_subcommand matches ≡ true
-        × (subcommand_rows_of matches ≡ found_in (texts words.entry.now))) }
-    ensures refused { IfErr result (IsRefusedBy (refusals (texts words.entry.now))) }
+        × (subcommand_rows_of matches ≡ found_in (map S.text words.entry.now))) }
+    ensures refused { IfErr result (IsRefusedBy (refusals (map S.text words.entry.now))) }
 {
     let command = program(alloc)?;
     let matches = command.try_get_matches_from(words)?;
@@ -49,13 +49,13 @@ fn matches_of<'a>(alloc: Global, words: &'a [&'a str]) -> Result<ArgMatches<'a>,
 ///
 /// # Errors
 ///
-/// `Words` where clap refuses the words, or is asked for help, `Value` where the value of an option isn't of its form,
-/// and E57 where memory was refused. `NotUnicode` never comes.
-pub fn line<'a>(alloc: Global, words: &'a [&'a str]) -> Result<Job<'a>, LineError<'a>>
-    ensures job { IfOk result (IsAskedBy (texts words.entry.now)) }
+/// `Words` if clap refuses the words, or is asked for help or the version; `Value` if the value of an option isn't of
+/// its form; E57 if memory was refused. `NotUnicode` never comes.
+pub fn line<'a, S: AsStr>(alloc: Global, words: &'a [S]) -> Result<Job<'a>, LineError<'a>>
+    ensures job { IfOk result (IsAskedBy (map S.text words.entry.now)) }
     ensures bounds { IfOk result HasBounds }
-    ensures words { IfErr result (λ error. IfWords error (IsRefusalOf (texts words.entry.now))) }
-    ensures value { IfErr result (λ error. IfValue error (IsRefusedIn (texts words.entry.now))) }
+    ensures words { IfErr result (λ error. IfWords error (IsRefusalOf (map S.text words.entry.now))) }
+    ensures value { IfErr result (λ error. IfValue error (IsRefusedIn (map S.text words.entry.now))) }
     ensures unicode { IfErr result (λ error. error ≢ NotUnicode) }
 {
     let matches = matches_of(alloc, words)?;

@@ -1,5 +1,5 @@
 //! The texts of addresses, groups, VLANs, numbers and links, as options write them.
-ghost use Rattle.std.specs.Prelude.{◌≡◌, ◌≤◌, ◌+◌, ◌*◌, ℕ, List, IfSome, IfNone};
+ghost use Rattle.std.specs.Prelude.{ℕ, List, IfSome, IfNone};
 ghost use Rattle.std.specs.Option.{SomeIff};
 ghost use Rattle.command_line.specs.Spelling.{IsHexadecimalDigit, SpellsAddress, SpellsByte};
 ghost use Rattle.command_line.specs.Spelling.{SpellsDecimal, SpellsGroup, SpellsHexadecimal, SpellsKilobytes};

@@ -4,7 +4,7 @@ ghost use Rattle.nicbench.specs.Faults.{status_of};
 ghost use Rattle.nicbench.specs.declared.fault.Fault.TheVariants as faults;
 
 use adapter_server::ServeError;
-use pcap_bench::{ProgramError, WriteError};
+use pcap_bench::{PassError, ProgramError, ReadError, WriteError};
 use scenario::Refusal;
 use scenario_bench::BenchError;
 use std::alloc::{AllocError, AllocFailed};
@@ -46,6 +46,15 @@ impl Fault {
             Fault::Memory => NO_MEMORY,
         }
     }
+
+    /// Whether a run that ended for this has left the files in OUTDIR as they were. It writes them last, so it has,
+    /// unless a file or standard output failed (E67).
+    pub(crate) fn leaves_files(&self) -> bool {
+        !matches!(
+            self,
+            Fault::Program(ProgramError::Write(_)) | Fault::Bench(BenchError::Write(_))
+        )
+    }
 }
 
 impl From<ProgramError> for Fault {
@@ -53,6 +62,18 @@ impl From<ProgramError> for Fault {
 
     fn from(error: ProgramError) -> Fault {
         Fault::Program(error)
+    }
+}
+
+impl From<ReadError> for Fault {
+    fn from(error: ReadError) -> Fault {
+        Fault::Program(ProgramError::Read(error))
+    }
+}
+
+impl From<PassError> for Fault {
+    fn from(error: PassError) -> Fault {
+        Fault::Program(ProgramError::Pass(error))
     }
 }
 

@@ -2,56 +2,40 @@
 //! a scenario of hosts on wires, lists the frames of a trace, or serves a modelled adapter to a driver.
 #![tactic(auto)]
 
+ghost use Rattle.command_line.specs.Jobs.{HasBounds};
+
 mod fault;
 mod files;
+mod late_file;
 mod pass;
+mod progress;
 mod run;
 mod serve;
 mod show;
 
 use crate::fault::Fault;
 use crate::pass::run_pass;
+use crate::progress::Watched;
 use crate::run::run_scenario;
 use crate::serve::run_serve;
 use crate::show::run_show;
 use command_line::{Job, LineError, line};
-use std::alloc::Global;
 use std::env;
-use std::io::ErrorKind;
+use std::io::{ErrorKind, Input};
 use std::process::ExitCode;
-use std::rt::Env;
+use std::rt::{Env, Files};
 
-/// The words that the program was called with, which are texts.
+/// The words that the program was called with.
 fn words<R: Env + AllocGlobal>(rt: &R) -> Result<Vec<String>, LineError<'static>> {
-    let args = match env::args(rt) {
-        Ok(args) => args,
-        Err(error) if error.kind() == ErrorKind::InvalidData => return Err(LineError::NotUnicode),
-        Err(_) => return Err(LineError::Memory),
-    };
-    let mut words = Vec::new(rt.alloc());
-    for word in args {
-        words.push(word).map_err(|_| LineError::Memory)?;
+    match env::args(rt) {
+        Ok(args) => Ok(args.collect(rt.alloc())?),
+        Err(error) if error.kind() == ErrorKind::InvalidData => Err(LineError::NotUnicode),
+        Err(_) => Err(LineError::Memory),
     }
-    Ok(words)
 }
 
-/// The same words, borrowed.
-fn borrowed<'a>(alloc: Global, words: &'a [String]) -> Result<Vec<&'a str>, LineError<'a>> {
-    let mut texts = Vec::new(alloc);
-    for word in words {
-        texts.push(word.as_str()).map_err(|_| LineError::Memory)?;
-    }
-    Ok(texts)
-}
-
-/// Tells a fault on standard error. The status is the fault's also where standard error takes nothing.
-fn tell<R: Eprint>(rt: &R, fault: &Fault) -> ExitCode {
-    let _ = eprintln!(rt; "nicbench: {fault}");
-    ExitCode::from(fault.status())
-}
-
-/// Tells why the words were refused: the text for words is whole, that for memory is a fault's.
-fn tell_line<R: Eprint>(rt: &R, error: &LineError<'_>) -> ExitCode {
+/// Reports on standard error why the words were refused: the text for words is whole, that for memory is a fault's.
+fn refuse<R: Eprint>(rt: &R, error: &LineError<'_>) -> ExitCode {
     let _ = match error {
         LineError::Memory => eprintln!(rt; "nicbench: {error}"),
         LineError::Words(_) | LineError::Value(_) | LineError::NotUnicode => {
@@ -61,27 +45,38 @@ fn tell_line<R: Eprint>(rt: &R, error: &LineError<'_>) -> ExitCode {
     ExitCode::from(error.status())
 }
 
-fn main(rt: HostRuntime) -> ExitCode {
-    let words = match words(&rt) {
-        Ok(words) => words,
-        Err(error) => return tell_line(&rt, &error),
-    };
-    let texts = match borrowed(rt.alloc(), &words) {
-        Ok(texts) => texts,
-        Err(error) => return tell_line(&rt, &error),
-    };
-    let job = match line(rt.alloc(), texts.as_slice()) {
-        Ok(job) => job,
-        Err(error) => return tell_line(&rt, &error),
-    };
+/// Reports a fault of a job on standard error. The status is the fault's even if standard error accepts nothing.
+fn report<R: Eprint>(rt: &R, job: &Job<'_>, fault: &Fault) -> ExitCode {
+    let _ = eprintln!(rt; "nicbench: {fault}");
+    if matches!(job, Job::Run(_)) && fault.leaves_files() {
+        let _ = eprintln!(rt; "nicbench: existing files in OUTDIR are unchanged");
+    }
+    ExitCode::from(fault.status())
+}
+
+/// Does what the words asked for.
+fn obey<R: Files + Input + Print + Watched + AllocGlobal>(rt: &R, job: &Job<'_>) -> ExitCode
+    requires { HasBounds job.now }
+{
     let outcome = match job {
-        Job::Pass(job) => run_pass(&rt, &job),
-        Job::Run(job) => run_scenario(&rt, &job),
-        Job::Show(job) => run_show(&rt, &job),
-        Job::Serve(job) => run_serve(&rt, &job),
+        Job::Pass(job) => run_pass(rt, job),
+        Job::Run(job) => run_scenario(rt, job),
+        Job::Show(job) => run_show(rt, job),
+        Job::Serve(job) => run_serve(rt, job),
     };
     match outcome {
         Ok(()) => ExitCode::SUCCESS,
-        Err(fault) => tell(&rt, &fault),
+        Err(fault) => report(rt, job, &fault),
+    }
+}
+
+fn main(rt: HostRuntime) -> ExitCode {
+    let words = match words(&rt) {
+        Ok(words) => words,
+        Err(error) => return refuse(&rt, &error),
+    };
+    match line(rt.alloc(), words.as_slice()) {
+        Ok(job) => obey(&rt, &job),
+        Err(error) => refuse(&rt, &error),
     }
 }

@@ -3,16 +3,17 @@ ghost use Rattle.pcap_bench.specs.Options.{HasVlanNumber};
 
 use crate::fault::Fault;
 use crate::files::{create, read_trace};
+use crate::progress::Watched;
 use command_line::PassJob;
-use pcap_bench::{PassCounts, ProgramError, Trace, WriterSink, pass, print_pass};
-use std::io;
+use pcap_bench::{PassCounts, Trace, WriterSink, pass, print_pass};
+use std::io::{self, Input};
 use std::rt::Files;
 
-/// Reads a trace file, and writes what passes to another.
-fn pass_file<R: Files + AllocGlobal>(
+/// Reads a trace, and writes what passes to another.
+fn pass_trace<R: Files + Input + Watched + AllocGlobal>(
     rt: &R,
     job: &PassJob<'_>,
-) -> Result<(Trace, PassCounts), ProgramError>
+) -> Result<(Trace, PassCounts), Fault>
     requires { HasVlanNumber job.now.filter }
 {
     let trace = read_trace(rt, job.input)?;
@@ -22,13 +23,13 @@ fn pass_file<R: Files + AllocGlobal>(
 }
 
 /// Its line goes to standard output.
-pub(crate) fn run_pass<R: Files + Print + AllocGlobal>(
+pub(crate) fn run_pass<R: Files + Input + Print + Watched + AllocGlobal>(
     rt: &R,
     job: &PassJob<'_>,
 ) -> Result<(), Fault>
     requires { HasVlanNumber job.now.filter }
 {
-    let (trace, counts) = pass_file(rt, job)?;
+    let (trace, counts) = pass_trace(rt, job)?;
     print_pass(&trace, &counts, &mut WriterSink::new(io::writer(rt)))?;
     Ok(())
 }

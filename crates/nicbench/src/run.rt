@@ -3,24 +3,28 @@ ghost use Rattle.std.specs.Prelude.{◌≡◌, ◌+◌, All, IfOk, OnOk, length}
 ghost use Rattle.nicbench.specs.Sinks.{sockets_in};
 
 use crate::fault::Fault;
-use crate::files::{create, find_folder, read_bytes, read_trace};
+use crate::files::{FileSink, create, find_folder, read_bytes, read_trace};
+use crate::progress::{Watched, report_play};
 use command_line::RunJob;
 use network_plan::HostPlan;
 use pcap_bench::{ProgramError, Sink, Trace, WriterSink};
 use scenario::Scenario;
 use scenario_bench::{bench, print_summary};
-use std::io;
+use std::io::{self, Input};
 use std::rt::Files;
 
-/// Reads the scenario of a file.
-fn read_scenario<R: Files + AllocGlobal>(rt: &R, path: &str) -> Result<Scenario, Fault> {
+/// Reads a scenario.
+fn read_scenario<R: Files + Input + AllocGlobal>(rt: &R, path: &str) -> Result<Scenario, Fault> {
     let text = read_bytes(rt, path)?;
     let scenario = Scenario::read(rt.alloc(), text.as_slice())?;
     Ok(scenario)
 }
 
 /// Reads the traces of these names, in order.
-fn read_traces<R: Files + AllocGlobal>(rt: &R, names: &[String]) -> Result<Vec<Trace>, Fault>
+fn read_traces<R: Files + Input + Watched + AllocGlobal>(
+    rt: &R,
+    names: &[String],
+) -> Result<Vec<Trace>, Fault>
     ensures { IfOk result (λ traces. length traces.items ≡ length names.now) }
 {
     let mut traces = Vec::new(rt.alloc());
@@ -36,8 +40,8 @@ fn create_one<R: Files + AllocGlobal>(
     directory: &str,
     host: &str,
     socket: usize,
-) -> Result<WriterSink<R::File>, Fault>
-    ensures { IfOk result (λ sink. ⟦<WriterSink<R::File> as Sink>⟧.failures sink ≡ 0) }
+) -> Result<FileSink<R::File>, Fault>
+    ensures { IfOk result (λ sink. ⟦<FileSink<R::File> as Sink>⟧.failures sink ≡ 0) }
 {
     if host.contains('/') {
         return Err(Fault::Program(ProgramError::Open));
@@ -52,12 +56,12 @@ fn push_sinks<R: Files + AllocGlobal>(
     rt: &R,
     directory: &str,
     plan: &HostPlan,
-    sinks: &mut Vec<WriterSink<R::File>>,
+    sinks: &mut Vec<FileSink<R::File>>,
 ) -> Result<(), Fault>
-    requires { All (λ sink. ⟦<WriterSink<R::File> as Sink>⟧.failures sink ≡ 0) sinks.old.items }
+    requires { All (λ sink. ⟦<FileSink<R::File> as Sink>⟧.failures sink ≡ 0) sinks.old.items }
     ensures count { OnOk result (length sinks.new.items ≡ length sinks.old.items + length plan.now.sockets.items) }
     ensures countable { OnOk result
-        (All (λ sink. ⟦<WriterSink<R::File> as Sink>⟧.failures sink ≡ 0) sinks.new.items) }
+        (All (λ sink. ⟦<FileSink<R::File> as Sink>⟧.failures sink ≡ 0) sinks.new.items) }
 {
     for socket in 0..plan.sockets.len() {
         sinks.push(create_one(rt, directory, plan.name.as_str(), socket)?)?;
@@ -70,10 +74,10 @@ fn create_sinks<R: Files + AllocGlobal>(
     rt: &R,
     directory: &str,
     plans: &[HostPlan],
-) -> Result<Vec<WriterSink<R::File>>, Fault>
+) -> Result<Vec<FileSink<R::File>>, Fault>
     ensures count { IfOk result (λ sinks. length sinks.items ≡ sockets_in plans.now) }
     ensures countable { IfOk result (λ sinks.
-        All (λ sink. ⟦<WriterSink<R::File> as Sink>⟧.failures sink ≡ 0) sinks.items) }
+        All (λ sink. ⟦<FileSink<R::File> as Sink>⟧.failures sink ≡ 0) sinks.items) }
 {
     find_folder(rt, directory)?;
     let mut sinks = Vec::new(rt.alloc());
@@ -83,14 +87,16 @@ fn create_sinks<R: Files + AllocGlobal>(
     Ok(sinks)
 }
 
-/// Its lines go to standard output.
-pub(crate) fn run_scenario<R: Files + Print + AllocGlobal>(
+/// Reads SCENARIO and the traces that it feeds, makes sure that the files in OUTDIR can be written, plays the scenario,
+/// writes the files, and prints a line for each host.
+pub(crate) fn run_scenario<R: Files + Input + Print + Watched + AllocGlobal>(
     rt: &R,
     job: &RunJob<'_>,
 ) -> Result<(), Fault> {
     let scenario = read_scenario(rt, job.scenario)?;
     let traces = read_traces(rt, scenario.trace_names())?;
     let mut sinks = create_sinks(rt, job.directory, scenario.plan.hosts.as_slice())?;
+    report_play(rt, traces.as_slice());
     let summary = bench(
         rt.alloc(),
         &scenario,

@@ -2,13 +2,14 @@
 
 use crate::fault::Fault;
 use crate::files::read_trace;
+use crate::progress::Watched;
 use command_line::ShowJob;
 use pcap_bench::{WriterSink, show};
-use std::io;
+use std::io::{self, Input};
 use std::rt::Files;
 
 /// Its lines go to standard output.
-pub(crate) fn run_show<R: Files + Print + AllocGlobal>(
+pub(crate) fn run_show<R: Files + Input + Print + Watched + AllocGlobal>(
     rt: &R,
     job: &ShowJob<'_>,
 ) -> Result<(), Fault> {

@@ -1,5 +1,5 @@
 -- The sets that the filter's registers stand for, once the options of a pass are written to a new adapter.
-use Rattle.std.proofs.Common.{◌≡◌, ◌<◌, ◌≤◌, ◌+◌, ◌/◌, ◌%◌, ◌^◌, ◌↔◌, ◌&&◌, inl, inr, ℕ, Bool, true, false, IsTrue, List, replicate}
+use Rattle.std.proofs.Common.{◌≡◌, ◌<◌, ◌≤◌, ◌+◌, ◌/◌, ◌%◌, ◌^◌, ◌↔◌, ◌&&◌, inl, inr, ℕ, Bool, true, false, List, replicate}
 use Rattle.std.proofs.Common.{slice_index, Option, Some, None, refl, sym, ap, subst, ◌∙◌, arith}
 use Rattle.std.specs.Prelude.{slice_set, IfSome, is_none, is_some}
 use Rattle.std.specs.Int.Bits.{or_zero_l}

@@ -112,17 +112,19 @@ SoFar-start keeps frames rest dropped turned_away out before after all d t o wen
   sum = omega arith;
 }
 
--- the done frames and one more
-more_parts : (frames done rest : List (List ℕ)) (f : List ℕ) → frames ≡ done ++ f ∷ rest → frames ≡ (done ++ f ∷ []) ++ rest
-more_parts frames done rest f parts = parts ∙ sym (append_assoc done (f ∷ []) rest)
+-- the done frames and one more, the first of those that are left
+more_parts : (frames done left rest : List (List ℕ)) (f : List ℕ) → left ≡ f ∷ rest → frames ≡ done ++ left
+    → frames ≡ (done ++ f ∷ []) ++ rest
+more_parts frames done left rest f first parts =
+    parts ∙ ap (λ (x : List (List ℕ)). done ++ x) first ∙ sym (append_assoc done (f ∷ []) rest)
 
-pub SoFar-illegal : (keeps : Filter) (frames rest : List (List ℕ)) (f : List ℕ) (next dropped turned_away out : ℕ)
-    (before after : Option (List ℕ)) → is_sendable f ≡ false
-    → SoFar keeps frames (f ∷ rest) next dropped turned_away out before after
+pub SoFar-illegal : (keeps : Filter) (frames left rest : List (List ℕ)) (f : List ℕ) (next dropped turned_away out : ℕ)
+    (before after : Option (List ℕ)) → left ≡ f ∷ rest → is_sendable f ≡ false
+    → SoFar keeps frames left next dropped turned_away out before after
     → SoFar keeps frames rest (next + 1) (dropped + 1) turned_away out before after
-SoFar-illegal keeps frames rest f next dropped turned_away out before after bad s = record {
+SoFar-illegal keeps frames left rest f next dropped turned_away out before after first bad s = record {
   done = s.done ++ f ∷ [];
-  parts = more_parts frames s.done rest f s.parts;
+  parts = more_parts frames s.done left rest f first s.parts;
   fates = s.fates ++ illegal ∷ [];
   right = HaveFates-push keeps s.done s.fates f illegal s.right bad;
   went = subst (λ (x : List Timed). Appends before after (written x))
@@ -134,13 +136,13 @@ SoFar-illegal keeps frames rest f next dropped turned_away out before after bad 
   sum = omega (arith, s.sum);
 }
 
-pub SoFar-filtered : (keeps : Filter) (frames rest : List (List ℕ)) (f : List ℕ) (next dropped turned_away out : ℕ)
-    (before after : Option (List ℕ)) → is_sendable f ≡ true → (keeps (padded f) → ⊥)
-    → SoFar keeps frames (f ∷ rest) next dropped turned_away out before after
+pub SoFar-filtered : (keeps : Filter) (frames left rest : List (List ℕ)) (f : List ℕ) (next dropped turned_away out : ℕ)
+    (before after : Option (List ℕ)) → left ≡ f ∷ rest → is_sendable f ≡ true → (keeps (padded f) → ⊥)
+    → SoFar keeps frames left next dropped turned_away out before after
     → SoFar keeps frames rest (next + 1) dropped (turned_away + 1) out before after
-SoFar-filtered keeps frames rest f next dropped turned_away out before after good away s = record {
+SoFar-filtered keeps frames left rest f next dropped turned_away out before after first good away s = record {
   done = s.done ++ f ∷ [];
-  parts = more_parts frames s.done rest f s.parts;
+  parts = more_parts frames s.done left rest f first s.parts;
   fates = s.fates ++ filtered ∷ [];
   right = HaveFates-push keeps s.done s.fates f filtered s.right (good, away);
   went = subst (λ (x : List Timed). Appends before after (written x))
@@ -152,12 +154,12 @@ SoFar-filtered keeps frames rest f next dropped turned_away out before after goo
   sum = omega (arith, s.sum);
 }
 
-pub SoFar-kept : (keeps : Filter) (frames rest : List (List ℕ)) (f : List ℕ) (next dropped turned_away out : ℕ)
-    (before mid after : Option (List ℕ)) → is_sendable f ≡ true → keeps (padded f)
-    → SoFar keeps frames (f ∷ rest) next dropped turned_away out before mid
+pub SoFar-kept : (keeps : Filter) (frames left rest : List (List ℕ)) (f : List ℕ) (next dropped turned_away out : ℕ)
+    (before mid after : Option (List ℕ)) → left ≡ f ∷ rest → is_sendable f ≡ true → keeps (padded f)
+    → SoFar keeps frames left next dropped turned_away out before mid
     → Appends mid after (packet_of (record { time = next; frame = padded f }))
     → SoFar keeps frames rest (next + 1) dropped turned_away (out + 1) before after
-SoFar-kept keeps frames rest f next dropped turned_away out before mid after good keep s went =
+SoFar-kept keeps frames left rest f next dropped turned_away out before mid after first good keep s went =
     let ts = kept_from 0 s.done s.fates in
     let t : Timed = record { time = next; frame = padded f } in
     let now : kept_of (0 + length s.done) f kept ≡ t ∷ [] = ap (λ (k : ℕ). kept_of k f kept) (omega (arith, s.next_is)) in
@@ -165,7 +167,7 @@ SoFar-kept keeps frames rest f next dropped turned_away out before mid after goo
     ∙ ap (λ (x : List Timed). ts ++ x) now in
     record {
       done = s.done ++ f ∷ [];
-      parts = more_parts frames s.done rest f s.parts;
+      parts = more_parts frames s.done left rest f first s.parts;
       fates = s.fates ++ kept ∷ [];
       right = HaveFates-push keeps s.done s.fates f kept s.right (good, keep);
       went = subst (Appends before after) (sym (ap written all ∙ written-push ts t))

@@ -1,5 +1,5 @@
 //! An adapter that receives into a host's memory, with the driver that empties its ring.
-ghost use Rattle.std.specs.Prelude.{◌≡◌, ◌↔◌, ◌+◌, ◌*◌, ◌%◌, IsTrue, IfOk, true, length};
+ghost use Rattle.std.specs.Prelude.{◌≡◌, ◌↔◌, ◌+◌, ◌*◌, ◌%◌, IsTrue, IfOk};
 ghost use Rattle.descriptors.specs.Frames.{padded, is_sendable, IsLegal};
 ghost use Rattle.descriptors.specs.RxStatus.{status_bits};
 ghost use Rattle.rx_engine.specs.Descriptors.{descriptor_at};

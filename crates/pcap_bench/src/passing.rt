@@ -1,7 +1,7 @@
 //! The frames of a trace, through an adapter.
 ghost use Rattle.std.specs.Prelude.{◌≡◌, ◌<◌, ◌≤◌, length, IfOk, IfErr, OnOk, OnErr};
 ghost use Rattle.std.specs.Io.KnownBytes.{Appends, append_known};
-ghost use Rattle.descriptors.specs.Frames.{padded, is_sendable};
+ghost use Rattle.descriptors.specs.Frames.{is_sendable};
 ghost use Rattle.pcap_trace.specs.Devices.{AppendsFront, CountsFailures, Grows};
 ghost use Rattle.pcap_trace.specs.Format.{file_header, packet_of};
 ghost use Rattle.rx_engine.specs.Passing.{Passes};

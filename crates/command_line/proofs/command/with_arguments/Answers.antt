@@ -18,7 +18,7 @@ one_more start before after rule arguments i d below rule_is after_is left =
 pub loop-argument-preserved : goal.loop-argument-preserved
 loop-argument-preserved c = record {
   left = one_more (app_of c.args.command) (app_of c.loop-argument.command) (app_of c.in_ok-command.command) _ c.args.arguments.now
-      c.loop-argument.argument-index _ (omega arith) c.clap_argument.ensures.rule (c.in_ok-command.ensures.shape c.clap_argument.ensures.local)
-      c.loop-argument.invariant.left;
+      c.loop-argument.argument-index _ (omega arith) c.clap_argument.ensures.rule
+      (c.in_ok-command.ensures.shape c.clap_argument.ensures.local) c.loop-argument.invariant.left;
   local = search rules;
 }

@@ -1,4 +1,3 @@
-use Rattle.std.proofs.Common.{◌≡◌}
 use Rattle.std.proofs.lemmas.Result.{err_from_is_err_and}
 use Rattle.rx_engine.specs.Passing.{Passes}
 use Rattle.rx_engine.specs.Registers.{filter_of}

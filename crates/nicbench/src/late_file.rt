@@ -1,0 +1,44 @@
+//! A file that keeps its bytes until the first new one is written.
+
+use std::fs::OpenFile;
+use std::io::{self, Write};
+
+/// A file that is written from its front. What it had is dropped before the first byte is written: a program that ends
+/// before that leaves the file as it was.
+#[derive(Drop)]
+pub(crate) struct LateFile<F> {
+    file: F,
+    has_old_bytes: bool,
+}
+
+impl<F: OpenFile> LateFile<F> {
+    /// A file that was opened for writing, and not truncated.
+    pub(crate) fn new(file: F) -> LateFile<F> {
+        LateFile {
+            file,
+            has_old_bytes: true,
+        }
+    }
+
+    /// Drops what the file had. A device or a pipe has nothing to drop.
+    fn drop_old_bytes(&mut self) -> io::Result<()> {
+        if self.file.metadata()?.is_file() {
+            self.file.set_len(0)?;
+        }
+        self.has_old_bytes = false;
+        Ok(())
+    }
+}
+
+impl<F: Write + OpenFile> Write for LateFile<F> {
+    fn write(&mut self, buf: &[u8]) -> io::Result<usize> {
+        if self.has_old_bytes {
+            self.drop_old_bytes()?;
+        }
+        self.file.write(buf)
+    }
+
+    fn flush(&mut self) -> io::Result<()> {
+        self.file.flush()
+    }
+}

@@ -1,0 +1,86 @@
+//! How far a long job is, for somebody who waits at a terminal.
+
+use pcap_bench::Trace;
+use std::io::{self, IsTerminal, Read};
+
+/// The shortest file of which it is reported how much was read: 256 MiB.
+const LONG_FILE: u64 = 1 << 28;
+
+/// How often that is reported.
+const STEPS: u64 = 10;
+
+/// The fewest frames of traces of which it is reported that they are fed.
+const MANY_FRAMES: u64 = 100_000;
+
+const MEBIBYTE: u64 = 1 << 20;
+
+/// Standard error, with the knowledge whether somebody reads it while the program runs.
+pub(crate) trait Watched: Eprint {
+    /// Whether standard error is a terminal.
+    fn is_watched(&self) -> bool;
+}
+
+impl Watched for HostRuntime {
+    fn is_watched(&self) -> bool {
+        self.stderr().is_terminal()
+    }
+}
+
+/// A reader that reports how much of a long file was read, if that is watched.
+#[derive(Drop)]
+pub(crate) struct ReportingReader<'a, R, F> {
+    rt: &'a R,
+    file: F,
+    length: u64,
+    done: u64,
+    is_reported: bool,
+}
+
+impl<'a, R: Watched, F> ReportingReader<'a, R, F> {
+    /// A file of this length, in bytes.
+    pub(crate) fn new(rt: &'a R, file: F, length: u64) -> ReportingReader<'a, R, F> {
+        ReportingReader {
+            rt,
+            file,
+            length,
+            done: 0,
+            is_reported: length >= LONG_FILE && rt.is_watched(),
+        }
+    }
+
+    /// So many bytes more were read.
+    fn count(&mut self, bytes: u64) {
+        let step = self.length / STEPS + 1;
+        let before = self.done / step;
+        self.done = self.done.saturating_add(bytes);
+        if self.is_reported && before < self.done / step {
+            let (done, all) = (self.done / MEBIBYTE, self.length / MEBIBYTE);
+            let _ = eprintln!(self.rt; "nicbench: read {done} of {all} MiB");
+        }
+    }
+}
+
+impl<R: Watched, F: Read> Read for ReportingReader<'_, R, F> {
+    fn read(&mut self, buf: &mut [u8]) -> io::Result<usize> {
+        let count = self.file.read(buf)?;
+        self.count(count as u64);
+        Ok(count)
+    }
+}
+
+/// The frames of all traces.
+fn frames_of(traces: &[Trace]) -> u64 {
+    let mut frames: u64 = 0;
+    for trace in traces {
+        frames = frames.saturating_add(trace.frames.len() as u64);
+    }
+    frames
+}
+
+/// Reports that a run begins to play its scenario, if it feeds many frames and somebody watches.
+pub(crate) fn report_play<R: Watched>(rt: &R, traces: &[Trace]) {
+    let frames = frames_of(traces);
+    if frames >= MANY_FRAMES && rt.is_watched() {
+        let _ = eprintln!(rt; "nicbench: playing the scenario, which feeds {frames} frames");
+    }
+}
