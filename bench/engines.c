@@ -1,5 +1,5 @@
-/* What the bytes alone cost: a frame of so many bytes is copied into a packet buffer and from there into memory, a descriptor is read,
-   written back and offered again, so many times. It knows no registers, no filter and no rules.
+/* Measures only the copies: COUNT times, it copies a frame of LENGTH bytes into a packet buffer and from there into memory, and reads,
+   writes back and offers a descriptor. It has no registers, no filter and no rules.
 
    usage: engines LENGTH COUNT */
 #include <stdint.h>
