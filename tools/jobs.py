@@ -2,8 +2,8 @@
 
 usage: python3 tools/jobs.py, which prints the number
 
-By itself `rt` gives a crate that nothing else waits for several processors, which costs more time of each and saves
-little. The environment's RT_JOBS goes first.
+By itself, `rt` gives a crate several processors if no other crate waits for one. In `./test` the must-fail edits use them.
+The environment's RT_JOBS goes first.
 """
 
 import os

@@ -10,7 +10,6 @@ import shutil
 import subprocess
 import time
 
-import jobs
 import sources
 
 WORK = os.path.join(sources.BUILD, "proved")
@@ -87,8 +86,7 @@ def last_lines():
 def prove(rt, progress):
     """Runs `rt ci` over the copy, and returns its exit status."""
     with open(LOG, "wb") as log:
-        process = subprocess.Popen([rt, "ci"], cwd=WORK, stdin=subprocess.DEVNULL, stdout=log, stderr=subprocess.STDOUT,
-                                   env={**os.environ, "RT_JOBS": str(jobs.count())})
+        process = subprocess.Popen([rt, "ci"], cwd=WORK, stdin=subprocess.DEVNULL, stdout=log, stderr=subprocess.STDOUT)
     try:
         return follow(process, progress)
     except BaseException:
