@@ -27,8 +27,9 @@ use Rattle.bus.proofs.IdleRings.{offered-none, outstanding-none}
 use Rattle.bus.proofs.Lists.{all-head, all-none, all-tail, pairs-head, pairs-tail}
 use Rattle.bus.proofs.WritableSlots.{drivers_receive_slots_can_be_written}
 use Rattle.bus.proofs.Rings.{outstanding-inside}
+use Rattle.driver_law.specs.Calls.{Ran, at, only}
 use Rattle.driver_law.specs.DriverState.{DriverState, receive_slot, receive_tail, transmit_slot}
-use Rattle.driver_law.specs.Stretches.{GoesTo, RanBy}
+use Rattle.driver_law.specs.Stretches.{GoesTo, driver_did, driver_in}
 use Rattle.driver_law.specs.ReadyDrivers.{ReadyWith}
 use Rattle.driver_law.proofs.Accesses.{ran_by-acts, store-sets}
 use Rattle.driver_law.proofs.Places.{place-add, place-below, places-differ}
@@ -52,11 +53,11 @@ abbrev ring_of_one : ℕ → RingRegisters
 ring_of_one address = record { base_low = address; base_high = 0; length_bytes = 16; head = 0; tail = 0 }
 
 -- Such a ring could be set up, so the slot is apart from all that is received.
-sent-own : (d : DriverState) (slot : ℕ) (world : World) → ReadyWith false d world → slot < d.counts.tx
-    → CanClear d world (transmit_slot d.counts slot)
+sent-own : (d : DriverState) (slot : ℕ) (world : World) → ReadyWith false d world → slot < d.layout.tx
+    → CanClear d world (transmit_slot d.layout slot)
 sent-own d slot world ready below =
     let o = d.oldest_receive in
-    let address = transmit_slot d.counts slot in
+    let address = transmit_slot d.layout slot in
     let ring = ring_of_one address in
     let bare = with_transmit_ring ring world in
     let set = (transmit_ring_is_written d ring world ready refl (record { from = omega arith; to = omega (arith, below) })).flows.ready in
@@ -64,7 +65,7 @@ sent-own d slot world ready below =
     let t = area_at address 16 in
     let Lies : Area → Type 0 = λ area. LiesIn world.memory area.address area.size in
     let start : 0 * 2 ^ 32 + address ≡ address = omega arith in
-    let separate = subst (λ (from : ℕ). AreSeparate world.memory (r ∷ area_at from 16 ∷ frame_areas o bare)) start set.sound.separate in
+    let separate = subst (λ (from : ℕ). AreSeparate world.memory (r ∷ area_at from 16 ∷ frame_areas o bare)) start set.law.sound.separate in
     let lie = all-head Lies t (frame_areas o bare) (all-tail Lies r (t ∷ frame_areas o bare) separate.lie) in
     let from_ring = all-head (AreApart r) t (frame_areas o bare) (pairs-head AreApart r (t ∷ frame_areas o bare) separate.apart) in
     let away = pairs-head AreApart t (frame_areas o bare) (pairs-tail AreApart r (t ∷ frame_areas o bare) separate.apart) in
@@ -78,7 +79,7 @@ sent-own d slot world ready below =
     let none : outstanding (transmit_ring world) d.oldest_transmit
     ≡ [] = subst (λ (oldest : ℕ). outstanding (transmit_ring world) oldest ≡ []) ready.transmit.last
     (outstanding-none (transmit_ring world)) in
-    let inside = outstanding-inside (receive_ring world) o ready.sound.receive_slots.slot in
+    let inside = outstanding-inside (receive_ring world) o ready.law.sound.receive_slots.slot in
     record {
       lies = lie;
       own = record {
@@ -89,11 +90,12 @@ sent-own d slot world ready below =
       };
     }
 
-clears-sent : (d : DriverState) (slot : ℕ) (world : World) → ReadyWith false d world → slot < d.counts.tx
-    → GoesTo false d world d (world_after_store (transmit_slot d.counts slot) zeros world) [] [] nothing
+clears-sent : (d : DriverState) (slot : ℕ) (world : World) → ReadyWith false d world → slot < d.layout.tx
+    → GoesTo false (driver_in d world) (driver_in d (world_after_store (transmit_slot d.layout slot) zeros world)) (driver_did [] [])
+    nothing
 clears-sent d slot world ready below =
-    let n = d.counts.rx in
-    let address = transmit_slot d.counts slot in
+    let n = d.layout.rx in
+    let address = transmit_slot d.layout slot in
     let can = sent-own d slot world ready below in
     let memory' = with_bytes world.memory address zeros in
     let others : (i : ℕ) → i < length d.staged
@@ -102,28 +104,29 @@ clears-sent d slot world ready below =
     let within = place-below n (receive_tail d) i (place-below n d.oldest_receive (length d.buffers) ready.driver_is.oldest_slot) in
     bytes_at-elsewhere world.memory zeros address (receive_slot (place n (receive_tail d) i)) 16 can.lies (inr (omega (arith, within))) in
     goes-stores d d.staged d.pool world address zeros ready can.lies can.own ready.driver_is
-    (stored-kept world.memory memory' d.counts (receive_tail d) d.staged others ready.stored)
+    (stored-kept world.memory memory' d.layout (receive_tail d) d.staged others ready.slots.stored)
     (λ number known.
-    apart-inside (area_at address 16) (area_of d.counts TransmitRing) (area_of d.counts (ReceiveBuffer number))
+    apart-inside (area_at address 16) (area_of d.layout TransmitRing) (area_of d.layout (ReceiveBuffer number))
     (record { from = omega arith; to = omega (arith, below) })
-    (places-apart d.counts TransmitRing (ReceiveBuffer number) tt known (λ same. absurd (cc))))
+    (places-apart d.layout TransmitRing (ReceiveBuffer number) tt known (λ same. absurd (cc))))
 
--- A receive slot behind those that are staged.
+-- A receive slot after those that are staged.
 
 slots-apart : (x y : ℕ) → ¬ (y ≡ x) → AreApart (area_at (receive_slot x) 16) (area_at (receive_slot y) 16)
 slots-apart x y differ = grind arith
 
 clears-received : {up : Bool} (d : DriverState) (i : ℕ) (world : World) → ReadyWith up d world → length d.staged ≤ i
-    → length d.buffers + i < d.counts.rx
-    → GoesTo up d world d (world_after_store (receive_slot (place d.counts.rx (receive_tail d) i)) zeros world) [] [] nothing
+    → length d.buffers + i < d.layout.rx
+    → GoesTo up (driver_in d world)
+    (driver_in d (world_after_store (receive_slot (place d.layout.rx (receive_tail d) i)) zeros world)) (driver_did [] []) nothing
 clears-received {up} d i world ready behind short =
-    let n = d.counts.rx in
+    let n = d.layout.rx in
     let first = d.oldest_receive in
     let slot = place n (receive_tail d) i in
     let address = receive_slot slot in
     let at : address_of (receive_ring world) slot ≡ address = omega (arith, ready.receive.begins) in
     let can : CanBeWritten first d.oldest_transmit world address = subst (CanBeWritten first d.oldest_transmit world) at
-    (drivers_receive_slots_can_be_written first d.oldest_transmit slot world ready.sound (own-staged d world i ready short)) in
+    (drivers_receive_slots_can_be_written first d.oldest_transmit slot world ready.law.sound (own-staged d world i ready short)) in
     let memory' = with_bytes world.memory address zeros in
     let below : slot < n = place-below n (receive_tail d) i (place-below n first (length d.buffers) ready.driver_is.oldest_slot) in
     let others : (j : ℕ) → j < length d.staged
@@ -135,11 +138,11 @@ clears-received {up} d i world ready behind short =
     (omega (arith, before, behind)) short
     (place-add n first (length d.buffers) j ∙ equal ∙ sym (place-add n first (length d.buffers) i)))) in
     goes-stores d d.staged d.pool world address zeros ready can.lies can.own ready.driver_is
-    (stored-kept world.memory memory' d.counts (receive_tail d) d.staged others ready.stored)
+    (stored-kept world.memory memory' d.layout (receive_tail d) d.staged others ready.slots.stored)
     (λ number known.
-    apart-inside (area_at address 16) (area_of d.counts ReceiveRing) (area_of d.counts (ReceiveBuffer number))
+    apart-inside (area_at address 16) (area_of d.layout ReceiveRing) (area_of d.layout (ReceiveBuffer number))
     (record { from = omega arith; to = omega (arith, below) })
-    (places-apart d.counts ReceiveRing (ReceiveBuffer number) tt known (λ same. absurd (cc))))
+    (places-apart d.layout ReceiveRing (ReceiveBuffer number) tt known (λ same. absurd (cc))))
 
 -- A walk that doesn't go around.
 walked : (n from i : ℕ) → from + i < n → place n from i ≡ from + i
@@ -148,11 +151,12 @@ walked n from (suc i) short =
     let inside : from + 1 < n = omega (arith, short) in
     ap (λ (index : ℕ). place n index i) (mod-eq_of_lt inside) ∙ walked n (from + 1) i (omega (arith, short)) ∙ omega arith
 
--- The last one, where the first is the oldest.
+-- The last one, if the first is the oldest.
 clears-last : {up : Bool} (d : DriverState) (world : World) → ReadyWith up d world → d.oldest_receive ≡ 0
-    → GoesTo up d world d (world_after_store (receive_slot (d.counts.rx - 1)) zeros world) [] [] nothing
+    → GoesTo up (driver_in d world) (driver_in d (world_after_store (receive_slot (d.layout.rx - 1)) zeros world)) (driver_did [] [])
+    nothing
 clears-last {up} d world ready oldest =
-    let n = d.counts.rx in
+    let n = d.layout.rx in
     let first = d.oldest_receive in
     let room = ready.driver_is.room in
     let slot = ready.driver_is.oldest_slot in
@@ -161,7 +165,9 @@ clears-last {up} d world ready oldest =
     let sum : first + (n - 1) ≡ n - 1 = omega (arith, oldest) in
     let at : place n (receive_tail d) i ≡ n - 1 = sym (place-add n first (length d.buffers) i) ∙ ap (place n first) all
     ∙ walked n first (n - 1) (omega (arith, oldest, slot)) ∙ sum in
-    subst (λ (index : ℕ). GoesTo up d world d (world_after_store (receive_slot index) zeros world) [] [] nothing) at
+    subst
+    (λ (index : ℕ). GoesTo up (driver_in d world) (driver_in d (world_after_store (receive_slot index) zeros world)) (driver_did [] [])
+    nothing) at
     (clears-received d i world ready (omega (arith, room)) (omega (arith, all, slot)))
 
 -- Over a bus.
@@ -172,27 +178,29 @@ StoreActs bus old new address = Acts bus.world bus.happened bus.lively old new (
 
 ran_by-clears : {up : Bool} {B : Type 0} (bus : Ghosts B) (old new : B) (d : DriverState) (address place : ℕ) → address ≡ place
     → StoreActs bus old new address → ReadyWith up d (bus.world old)
-    → ((middle : World) → ReadyWith up d middle → GoesTo up d middle d (world_after_store place zeros middle) [] [] nothing)
-    → RanBy up bus.world bus.happened (clears address ∷ []) old new d d [] []
+    → ((middle : World) → ReadyWith up d middle
+    → GoesTo up (driver_in d middle) (driver_in d (world_after_store place zeros middle)) (driver_did [] []) nothing)
+    → Ran bus up (only (clears address ∷ [])) (at old d) (at new d)
 ran_by-clears {up} bus old new d address place at acts ready goes =
-    ran_by-acts bus.world bus.happened bus.lively old new (Stores address zeros)
+    ran_by-acts bus old new (Stores address zeros)
     (λ before after. after ≡ world_after_store address zeros before) d d [] [] acts (store-sets address zeros (bus.world new)) ready
     (λ middle there stored.
-    subst (λ (w : World). GoesTo up d middle d w [] [] nothing) (sym (stored ∙ ap (λ (x : ℕ). world_after_store x zeros middle) at))
+    subst (λ (w : World). GoesTo up (driver_in d middle) (driver_in d w) (driver_did [] []) nothing)
+    (sym (stored ∙ ap (λ (x : ℕ). world_after_store x zeros middle) at))
     (goes middle there))
 
 pub ran_by-clears_sent : {B : Type 0} (bus : Ghosts B) (old new : B) (d : DriverState) (slot address : ℕ)
-    → slot < d.counts.tx → address ≡ transmit_slot d.counts slot
+    → slot < d.layout.tx → address ≡ transmit_slot d.layout slot
     → StoreActs bus old new address → ReadyWith false d (bus.world old)
-    → RanBy false bus.world bus.happened (clears address ∷ []) old new d d [] []
+    → Ran bus false (only (clears address ∷ [])) (at old d) (at new d)
 ran_by-clears_sent bus old new d slot address below at acts ready =
-    ran_by-clears bus old new d address (transmit_slot d.counts slot) at acts ready
+    ran_by-clears bus old new d address (transmit_slot d.layout slot) at acts ready
     (λ middle there. clears-sent d slot middle there below)
 
 pub ran_by-clears_received : {up : Bool} {B : Type 0} (bus : Ghosts B) (old new : B) (d : DriverState) (address : ℕ)
-    → d.oldest_receive ≡ 0 → address ≡ receive_slot (d.counts.rx - 1)
+    → d.oldest_receive ≡ 0 → address ≡ receive_slot (d.layout.rx - 1)
     → StoreActs bus old new address → ReadyWith up d (bus.world old)
-    → RanBy up bus.world bus.happened (clears address ∷ []) old new d d [] []
+    → Ran bus up (only (clears address ∷ [])) (at old d) (at new d)
 ran_by-clears_received bus old new d address oldest at acts ready =
-    ran_by-clears bus old new d address (receive_slot (d.counts.rx - 1)) at acts ready
+    ran_by-clears bus old new d address (receive_slot (d.layout.rx - 1)) at acts ready
     (λ middle there. clears-last d middle there oldest)

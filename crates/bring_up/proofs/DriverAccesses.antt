@@ -1,4 +1,4 @@
--- Writes of registers as stretches of a driver's run, of which is known where each begins.
+-- Writes of registers as stretches of a driver's run, if it is known in which world each begins.
 use Rattle.std.proofs.Common.{Bool, true, false, ◌≡◌, ◌<◌, ◌+◌, ◌*◌, ◌⊎◌, ⊎_elim, ◌++◌, ◌∷◌, [], ℕ, List, length, Option, bit_and, map, inl}
 use Rattle.std.proofs.Common.{inr, refl, sym, ap, subst, ◌∙◌, arith}
 use Rattle.std.proofs.lemmas.List.{append-nil}
@@ -28,8 +28,9 @@ use Rattle.bus.proofs.Lists.{append-empty, map-empty}
 use Rattle.bus.proofs.Settings.{happens-off}
 use Rattle.bus.proofs.WaitingRings.{offers_wait}
 use Rattle.driver_law.specs.Beginnings.{Enabled}
+use Rattle.driver_law.specs.Calls.{Ran, at, only}
 use Rattle.driver_law.specs.DriverState.{DriverState, transmit_tail}
-use Rattle.driver_law.specs.Stretches.{Goes, GoesTo, RanBy}
+use Rattle.driver_law.specs.Stretches.{Goes, GoesTo, driver_did, driver_in}
 use Rattle.driver_law.specs.ReadyDrivers.{Ready, ReadyWith}
 use Rattle.driver_law.proofs.Accesses.{SetsBy, access-link, access-set, write-sets}
 use Rattle.driver_law.proofs.TransmitControl.{causes_are_enabled, transmitter_is_enabled}
@@ -44,8 +45,8 @@ unfoldable pub ran_by-begins : {first_up up : Bool} {B : Type 0} (bus : Ghosts B
     (effect : World → World → Type 0) (d : DriverState) (acts : Acts bus.world bus.happened bus.lively old new access effect)
     → SetsBy access effect (bus.world new)
     → ReadyWith first_up d (bus.world old)
-    → (ReadyWith first_up d acts.middle → GoesTo up d acts.middle d (bus.world new) [] [] nothing)
-    → RanBy up bus.world bus.happened (access ∷ []) old new d d [] []
+    → (ReadyWith first_up d acts.middle → GoesTo up (driver_in d acts.middle) (driver_in d (bus.world new)) (driver_did [] []) nothing)
+    → Ran bus up (only (access ∷ [])) (at old d) (at new d)
 ran_by-begins {first_up} {up} bus old new access effect d acts sets ready step =
     let first = goes-happens d (bus.world old) acts.middle acts.past ready acts.before in
     record {
@@ -53,11 +54,13 @@ ran_by-begins {first_up} {up} bus old new access effect d acts sets ready step =
       told = acts.told;
       only = acts.only;
       goes =
-          subst (GoesTo up d (bus.world old) d (bus.world new) [] []) (joined-nothing acts.past)
+          subst (GoesTo up (driver_in d (bus.world old)) (driver_in d (bus.world new)) (driver_did [] [])) (joined-nothing acts.past)
           (goes_join d d d (bus.world old) acts.middle (bus.world new) [] [] [] [] acts.past nothing first (step first.flows.ready));
-      set = access-set bus.world bus.happened bus.lively old new access effect acts sets;
-      off = λ off leaves. happens-off (bus.world old) acts.middle acts.past acts.before off;
-      link = access-link bus.world bus.happened bus.lively old new access effect acts sets;
+      follows = record {
+        set = access-set bus old new access effect acts sets;
+        off = λ off leaves. happens-off (bus.world old) acts.middle acts.past acts.before off;
+        link = access-link bus old new access effect acts sets;
+      };
     }
 
 abbrev pub WriteActs : {B : Type 0} (bus : Ghosts B) (old new : B) (offset value : ℕ) → Type 0
@@ -105,14 +108,14 @@ lets-frames-in bus old new promiscuous by_vlan value d is written ready none off
     let acts = subst (WriteActs bus old new 0x0100) is written in
     let middle = acts.middle in
     let within : o < count_of (receive_ring (bus.world old)) = omega (arith, ready.driver_is.oldest_slot, ready.receive.slots) in
-    let waits = offers_wait o d.oldest_transmit (bus.world old) middle acts.past ready.sound within off none acts.before in
+    let waits = offers_wait o d.oldest_transmit (bus.world old) middle acts.past ready.law.sound within off none acts.before in
     let arrives = acts.before.steady.off off in
-    let between = acts.before.between o d.oldest_transmit ready.sound in
+    let between = acts.before.between o d.oldest_transmit ready.law.sound in
     let empty : frames_held o middle ≡ [] = between.holds ∙ ap (λ (frames : List (List ℕ)). frames ++ acts.past.stored) none ∙ arrives.0 in
     let done : bus.world new ≡ with_receive_control control middle = acts.effect_is ∙ receive_control-written promiscuous by_vlan middle in
     let ready_there = (goes-happens d (bus.world old) middle acts.past ready acts.before).flows.ready in
-    let goes : GoesTo false d middle d (bus.world new) [] [] nothing =
-    subst (λ (w : World). GoesTo false d middle d w [] [] nothing) (sym done)
+    let goes : GoesTo false (driver_in d middle) (driver_in d (bus.world new)) (driver_did [] []) nothing =
+    subst (λ (w : World). GoesTo false (driver_in d middle) (driver_in d w) (driver_did [] []) nothing) (sym done)
     (receiver_is_enabled d control middle ready_there waits.none_finished waits.no_work (not-extended promiscuous by_vlan)
     (big-buffers promiscuous by_vlan middle)) in
     let none_held : frames_held o (bus.world new) ≡ [] = goes.flows.holds ∙ append-nil (frames_held o middle) ∙ empty in
@@ -137,8 +140,8 @@ transmit_control-written world =
 
 pub lets-frames-out : {B : Type 0} (bus : Ghosts B) (old new : B) (value : ℕ) (d : DriverState)
     → value ≡ 0x000400FA → WriteActs bus old new 0x0400 value → ReadyWith false d (bus.world old)
-    → d.oldest_transmit < d.counts.tx
-    → KnowsRing (transmit_ring (bus.world old)) (16 * d.counts.rx) d.counts.tx (transmit_tail d)
+    → d.oldest_transmit < d.layout.tx
+    → KnowsRing (transmit_ring (bus.world old)) (16 * d.layout.rx) d.layout.tx (transmit_tail d)
     → LeavesDriver bus transmit_writes true d old new
 lets-frames-out bus old new value d is written ready below knows =
     let acts = subst (WriteActs bus old new 0x0400) is written in
@@ -146,7 +149,7 @@ lets-frames-out bus old new value d is written ready below knows =
     let still = known_transmit_ring_stays (bus.world old) middle acts.past _ _ _ acts.before.steady knows in
     let done : bus.world new ≡ with_transmit_control 0x000400FA middle = acts.effect_is ∙ transmit_control-written middle in
     ran_by-begins bus old new (Writes 0x0400 0x000400FA) _ d acts (write-sets 0x0400 0x000400FA (bus.world new)) ready
-    (λ there. subst (λ (w : World). Goes d middle d w [] [] nothing) (sym done)
+    (λ there. subst (λ (w : World). Goes (driver_in d middle) (driver_in d w) (driver_did [] []) nothing) (sym done)
     (transmitter_is_enabled d 0x000400FA middle there below still refl))
 
 -- IMS.
@@ -156,7 +159,7 @@ no-slots [] none = refl
 no-slots (slot ∷ slots) none = absurd (omega (arith, none))
 
 -- What was told of finished slots before it.
-pub asked-still : (d : DriverState) (a b : World) (past : Past) → Goes d a d b [] [] past
+pub asked-still : (d : DriverState) (a b : World) (past : Past) → Goes (driver_in d a) (driver_in d b) (driver_did [] []) past
     → (finished d.oldest_receive a ≡ []) ⊎ HasBit a.adapter.causes.recorded 7
     → (finished d.oldest_receive b ≡ []) ⊎ HasBit b.adapter.causes.recorded 7
 asked-still d a b past goes asked =
@@ -186,9 +189,11 @@ enables-causes bus old new value d is written ready =
         past = acts.past;
         told = acts.told;
         only = acts.only;
-        set = access-set bus.world bus.happened bus.lively old new (Writes 0x00D0 0xD1) _ acts sets;
-        off = λ off leaves. happens-off (bus.world old) middle acts.past acts.before off;
-        link = access-link bus.world bus.happened bus.lively old new (Writes 0x00D0 0xD1) _ acts sets;
+        follows = record {
+          set = access-set bus old new (Writes 0x00D0 0xD1) _ acts sets;
+          off = λ off leaves. happens-off (bus.world old) middle acts.past acts.before off;
+          link = access-link bus old new (Writes 0x00D0 0xD1) _ acts sets;
+        };
       };
       middle = middle;
       goes = goes;

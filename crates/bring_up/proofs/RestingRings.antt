@@ -182,11 +182,14 @@ drivers_begin_at_rest counts pool world allowed owner lies has =
     let buffer = ap (λ (transmitter : Transmitter). transmitter.buffer) rest.transmitter in
     let transmits = has.transmits in
     let begun : HasBegun false counts pool world = record {
+      driver_is = record {
+        oldest_slot = omega (arith, allowed.rx.least);
+        room = omega (arith, allowed.rx.least);
+        one_owner = subst (HasOneOwner counts.buffers) (sym (append-nil pool)) owner;
+        addresses = small;
+      };
       idle = idle.0;
       runs = idle.1;
-      slots = omega (arith, allowed.rx.least);
-      one_owner = subst (HasOneOwner counts.buffers) (sym (append-nil pool)) owner;
-      addresses = small;
       lies = lies;
       size = ap (λ (control : ℕ). buffer_size_of (field control 16 2)) rest.control;
       receive = has.knows;

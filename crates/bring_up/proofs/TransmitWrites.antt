@@ -14,8 +14,9 @@ use Rattle.bus.specs.PastOfStretch.{nothing}
 use Rattle.bus.specs.declared.bus.Bus.{Ghosts}
 use Rattle.bus.specs.declared.event.Access.{Access}
 use Rattle.bus.specs.declared.event.Access.TheVariants.{Writes}
+use Rattle.driver_law.specs.Calls.{Ran, at, only}
 use Rattle.driver_law.specs.DriverState.{DriverState}
-use Rattle.driver_law.specs.Stretches.{GoesTo, RanBy}
+use Rattle.driver_law.specs.Stretches.{GoesTo, driver_did, driver_in}
 use Rattle.driver_law.specs.ReadyDrivers.{ReadyWith}
 use Rattle.driver_law.proofs.Accesses.{ran_by-join, write-sets}
 use Rattle.driver_law.proofs.Steps.{goes-happens}
@@ -27,17 +28,17 @@ use Rattle.bring_up.proofs.RingWrites.{IsRingPlace, high-written, length-written
 use Rattle.bring_up.proofs.RingWrites.{transmit-written}
 use Rattle.bring_up.proofs.Steps.{StretchesJoin}
 
--- The driver stays as it is, and the transmit ring has these registers behind it.
+-- The driver stays as it is, and the transmit ring has these registers after it.
 record LeavesRing {B : Type 0} (bus : Ghosts B) (accesses : List Access) (old new : B) (d : DriverState)
     (after : RingRegisters) : Type 0 where
-  ran : RanBy false bus.world bus.happened accesses old new d d [] []
+  ran : Ran bus false (only accesses) (at old d) (at new d)
   ring : (bus.world new).adapter.transmit_ring ≡ after
 
 -- A ring with its head at its tail, at the place that the layout has for it.
 record IsIdleRing (d : DriverState) (ring : RingRegisters) : Type 0 where
   idle : ring.head ≡ ring.tail
   last : ring.tail ≡ d.oldest_transmit
-  inside : IsInside (ring_area (ring_of ring)) (area_of d.counts TransmitRing)
+  inside : IsInside (ring_area (ring_of ring)) (area_of d.layout TransmitRing)
 
 -- One register is written.
 transmit-write : {B : Type 0} (bus : Ghosts B) (old new : B) (part : RingRegister) (value word : ℕ) (d : DriverState)
@@ -57,15 +58,17 @@ transmit-write bus old new part value word d before after is written fits acted 
     acts.effect_is ∙ transmit-written part word middle
     ∙ ap (λ (ring : RingRegisters). with_transmit_ring (ring_written part word ring) middle) same
     ∙ ap (λ (ring : RingRegisters). with_transmit_ring ring middle) written in
-    let goes : GoesTo false d middle d (with_transmit_ring after middle) [] [] nothing =
-    subst (λ (oldest : ℕ). GoesTo false d middle (record d { oldest_transmit = oldest }) (with_transmit_ring after middle) [] [] nothing)
+    let goes : GoesTo false (driver_in d middle) (driver_in d (with_transmit_ring after middle)) (driver_did [] []) nothing =
+    subst
+    (λ (oldest : ℕ). GoesTo false (driver_in d middle)
+    (driver_in (record d { oldest_transmit = oldest }) (with_transmit_ring after middle)) (driver_did [] []) nothing)
     fits.last
     (transmit_ring_is_written d after middle there fits.idle fits.inside) in
     record {
       ran =
           ran_by-begins bus old new (Writes (0x3800 + ring_distance part) word) _ d acts
           (write-sets (0x3800 + ring_distance part) word (bus.world new)) ready
-          (λ begins. subst (λ (w : World). GoesTo false d middle d w [] [] nothing) (sym done) goes);
+          (λ begins. subst (λ (w : World). GoesTo false (driver_in d middle) (driver_in d w) (driver_did [] []) nothing) (sym done) goes);
       ring = ap (λ (w : World). w.adapter.transmit_ring) done;
     }
 
@@ -76,13 +79,13 @@ transmit-then : {B : Type 0} (bus : Ghosts B) → StretchesJoin bus
     → LeavesRing bus (xs ++ ys) a c d after
 transmit-then bus joins xs ys a b c d between after one rest =
     let two = rest one.ran.goes.flows.ready one.ring in
-    record { ran = ran_by-join bus.world bus.happened joins xs ys a b c d d d [] [] [] [] one.ran two.ran; ring = two.ring }
+    record { ran = ran_by-join bus joins xs ys a b c d d d [] [] [] [] one.ran two.ran; ring = two.ring }
 
 -- All five.
 pub sets-transmit_ring : {B : Type 0} (bus : Ghosts B) → StretchesJoin bus
     → (b0 b1 b2 b3 b4 b5 : B) (low high base bytes : ℕ) (d : DriverState) → low ≡ base % 2 ^ 32 → high ≡ base / 2 ^ 32
-    → base ≡ 16 * d.counts.rx → bytes ≡ 16 * d.counts.tx
-    → IsRingSize d.counts.rx → IsRingSize d.counts.tx → d.oldest_transmit ≡ 0
+    → base ≡ 16 * d.layout.rx → bytes ≡ 16 * d.layout.tx
+    → IsRingSize d.layout.rx → IsRingSize d.layout.tx → d.oldest_transmit ≡ 0
     → WriteActs bus b0 b1 0x3800 low → WriteActs bus b1 b2 0x3804 high
     → WriteActs bus b2 b3 0x3808 bytes
     → WriteActs bus b3 b4 0x3810 0 → WriteActs bus b4 b5 0x3818 0
@@ -90,7 +93,7 @@ pub sets-transmit_ring : {B : Type 0} (bus : Ghosts B) → StretchesJoin bus
     → SetsTransmitRing bus (ring_writes 0x3800 base bytes) d b0 b5
 sets-transmit_ring bus joins b0 b1 b2 b3 b4 b5 low high base bytes d low_is high_is first long rx tx oldest one two three
     four five ready new =
-    let place : IsRingPlace base d.counts.tx = record { sixteens = omega (arith, first); below = omega (arith, first, rx.most); size = tx }
+    let place : IsRingPlace base d.layout.tx = record { sixteens = omega (arith, first); below = omega (arith, first, rx.most); size = tx }
     in
     let r0 = ring_at base 0 in
     let r1 = ring_at base bytes in
@@ -100,18 +103,18 @@ sets-transmit_ring bus joins b0 b1 b2 b3 b4 b5 low high base bytes d low_is high
     { idle = refl; last = sym oldest; inside = record { from = omega (arith, first); to = omega (arith, first, long) } } in
     let all = transmit-then bus joins _ _ b0 b1 b5 d r0 r1
     (transmit-write bus b0 b1 BaseLow low (base % 2 ^ 32) d new_ring r0 low_is
-    (low-written base d.counts.tx place) fits0 one ready new)
+    (low-written base d.layout.tx place) fits0 one ready new)
     (λ ready1 ring1. transmit-then bus joins _ _ b1 b2 b5 d r0 r1
     (transmit-write bus b1 b2 BaseHigh high (base / 2 ^ 32) d r0 r0 high_is
-    (high-written base d.counts.tx place) fits0 two ready1 ring1)
+    (high-written base d.layout.tx place) fits0 two ready1 ring1)
     (λ ready2 ring2. transmit-then bus joins _ _ b2 b3 b5 d r1 r1
     (transmit-write bus b2 b3 Length bytes bytes d r0 r1 refl
-    (length-written base d.counts.tx bytes place long) fits1 three ready2 ring2)
+    (length-written base d.layout.tx bytes place long) fits1 three ready2 ring2)
     (λ ready3 ring3. transmit-then bus joins _ _ b3 b4 b5 d r1 r1
     (transmit-write bus b3 b4 Head 0 0 d r1 r1 refl refl fits1 four ready3 ring3)
     (λ ready4 ring4. transmit-write bus b4 b5 Tail 0 0 d r1 r1 refl refl fits1 five ready4 ring4)))) in
     record {
       ran = all.ran;
-      knows = subst (λ (ring : RingRegisters). KnowsRing (ring_of ring) (16 * d.counts.rx) d.counts.tx 0) (sym all.ring)
-          (subst (λ (from : ℕ). KnowsRing (ring_of r1) from d.counts.tx 0) first (ring-known base d.counts.tx bytes place long));
+      knows = subst (λ (ring : RingRegisters). KnowsRing (ring_of ring) (16 * d.layout.rx) d.layout.tx 0) (sym all.ring)
+          (subst (λ (from : ℕ). KnowsRing (ring_of r1) from d.layout.tx 0) first (ring-known base d.layout.tx bytes place long));
     }

@@ -9,9 +9,8 @@ use Rattle.adapter.specs.Rings.{new_ring}
 use Rattle.adapter.specs.Slots.{finished}
 use Rattle.adapter.specs.World.{World, transmit_ring}
 use Rattle.adapter.specs.declared.offsets.TheConstants.{IMS}
-use Rattle.bus.specs.Link.{KeepsLink}
 use Rattle.bus.specs.PastOfStretch.{Past}
-use Rattle.bus.specs.Settings.{AreSet, NoArrival, WhileOff, Write}
+use Rattle.bus.specs.Settings.{NoArrival, Write}
 use Rattle.bus.specs.declared.bus.Bus.{Ghosts}
 use Rattle.bus.specs.declared.event.Access.{Access}
 use Rattle.bus.specs.declared.event.Access.TheVariants.{Writes}
@@ -19,7 +18,7 @@ use Rattle.driver_law.specs.Beginnings.{Enabled}
 use Rattle.driver_law.specs.Calls.{Ran, at, only}
 use Rattle.driver_law.specs.DriverState.{DriverState}
 use Rattle.driver_law.specs.ReadyDrivers.{Ready}
-use Rattle.driver_law.specs.Stretches.{Goes, HasNoForgottenWork}
+use Rattle.driver_law.specs.Stretches.{FollowsWrites, Goes, HasNoForgottenWork, driver_did, driver_in}
 
 -- these writes, and no other access
 abbrev pub accesses_of : List Write → List Access
@@ -42,32 +41,29 @@ pub record LetsFramesIn {B : Type 0} (bus : Ghosts B) (writes : List Write) (d :
 pub record CanSetTransmitRing (base bytes : ℕ) (d : DriverState) (world : World) : Type 0 where
   pub oldest : d.oldest_transmit ≡ 0
   pub new : world.adapter.transmit_ring ≡ new_ring
-  pub receive_size : IsRingSize d.counts.rx
-  pub transmit_size : IsRingSize d.counts.tx
-  pub begins : base ≡ 16 * d.counts.rx
-  pub long : bytes ≡ 16 * d.counts.tx
+  pub receive_size : IsRingSize d.layout.rx
+  pub transmit_size : IsRingSize d.layout.tx
+  pub begins : base ≡ 16 * d.layout.rx
+  pub long : bytes ≡ 16 * d.layout.tx
 
 -- These writes set up the transmit ring, with no slot offered: the driver knows it.
 pub record SetsTransmitRing {B : Type 0} (bus : Ghosts B) (writes : List Write) (d : DriverState) (old new : B) : Type 0 where
   pub ran : LeavesDriver bus writes false d old new
-  pub knows : KnowsRing (transmit_ring (bus.world new)) (16 * d.counts.rx) d.counts.tx 0
+  pub knows : KnowsRing (transmit_ring (bus.world new)) (16 * d.layout.rx) d.layout.tx 0
 
--- The accesses are exactly these. The settings are what the writes among them make of them, no frame arrives while RCTL.EN is 0, and a
--- link that is up stays up if CTRL and MDIC aren't written.
+-- The accesses are exactly these. Settings, arrivals of frames and the link follow from the writes among them.
 pub record Accessed {B : Type 0} (bus : Ghosts B) (accesses : List Access) (old new : B) : Type 0 where
   pub past : Past
   pub told : bus.happened old new past
   pub only : past.accesses ≡ accesses
-  pub set : AreSet (bus.world old) (bus.world new) past
-  pub off : WhileOff (bus.world old) past
-  pub link : KeepsLink (bus.world old) (bus.world new) past
+  pub follows : FollowsWrites (bus.world old) (bus.world new) past
 
 -- One write of IMS enables causes. First something happens, and then the mask alone changes.
 pub record EnablesCauses {B : Type 0} (bus : Ghosts B) (causes : ℕ) (d : DriverState) (old new : B) : Type 0 where
   pub accessed : Accessed bus (Writes IMS causes ∷ []) old new
   -- the world in which the write begins
   pub middle : World
-  pub goes : Goes d (bus.world old) d middle [] [] accessed.past
+  pub goes : Goes (driver_in d (bus.world old)) (driver_in d middle) (driver_did [] []) accessed.past
   pub enabled : Enabled true d causes middle (bus.world new)
   -- The driver is ready, the frames held are those before and those stored meanwhile, and RXT0 is enabled.
   pub ready : Ready d (bus.world new)

@@ -10,7 +10,7 @@ use Rattle.bus.specs.PastOfStretch.{Past}
 use Rattle.bus.specs.AdaptersAtRest.{NoFrame}
 use Rattle.bus.specs.Settings.{AreSet, IsOff, LeavesReceiver, WhileOff, Write, writes_in}
 use Rattle.driver_law.specs.DriverState.{DriverState}
-use Rattle.driver_law.specs.Stretches.{GoesTo}
+use Rattle.driver_law.specs.Stretches.{GoesTo, driver_did, driver_in}
 use Rattle.driver_law.specs.ReadyDrivers.{ReadyWith}
 
 -- RCTL.EN is 0, no frame is held, and none is to be sent.
@@ -22,8 +22,8 @@ pub record HasNoFrames (d : DriverState) (world : World) : Type 0 where
 -- This stays over an interval in which RCTL isn't written and no frame is accepted to be sent, and no frame arrives or leaves.
 abbrev pub NoFramesStay : Type 0
 NoFramesStay =
-    (d d' : DriverState) (a b : World) (past : Past) → GoesTo false d a d' b [] [] past → AreSet a b past → WhileOff a past
-    → All LeavesReceiver (writes_in past.accesses) → HasNoFrames d a → HasNoFrames d' b × NoFrame past
+    (d d' : DriverState) (a b : World) (past : Past) → GoesTo false (driver_in d a) (driver_in d' b) (driver_did [] []) past
+    → AreSet a b past → WhileOff a past → All LeavesReceiver (writes_in past.accesses) → HasNoFrames d a → HasNoFrames d' b × NoFrame past
 
 abbrev pub IsNotTransmitRing : Option Register → Type 0
 IsNotTransmitRing (Some (Transmit part)) = ⊥

@@ -19,10 +19,10 @@ pub fn clear_descriptor<B: Bus>(bus: &mut B, address: u64)
     requires { address + 16 ≤ B.extent bus.old }
     ensures keeps { Keeps B.Bus bus.old bus.new }
     ensures sent { (d : DriverState) (slot : ℕ) → IsReady B.Bus false (at bus.old d)
-        → slot < d.counts.tx → address ≡ transmit_slot d.counts slot
+        → slot < d.layout.tx → address ≡ transmit_slot d.layout slot
         → Ran B.Bus false (only (clears address ∷ [])) (at bus.old d) (at bus.new d) }
     ensures received { (up : Bool) (d : DriverState) → IsReady B.Bus up (at bus.old d)
-        → d.oldest_receive ≡ 0 → address ≡ receive_slot (d.counts.rx - 1)
+        → d.oldest_receive ≡ 0 → address ≡ receive_slot (d.layout.rx - 1)
         → Ran B.Bus up (only (clears address ∷ [])) (at bus.old d) (at bus.new d) }
 {
     bus.store(address, &CLEAR);
@@ -35,7 +35,7 @@ pub fn clear_descriptors<B: Bus>(bus: &mut B, first: u64, count: u16)
     requires addresses { first + 16 * count < 2 ^ 64 }
     ensures keeps { Keeps B.Bus bus.old bus.new }
     ensures ran { (d : DriverState) → IsReady B.Bus false (at bus.old d)
-        → first ≡ transmit_slot d.counts 0 → count ≤ d.counts.tx
+        → first ≡ transmit_slot d.layout 0 → count ≤ d.layout.tx
         → Ran B.Bus false (only (clears_from first count)) (at bus.old d) (at bus.new d) }
 {
     for slot in 0..count {

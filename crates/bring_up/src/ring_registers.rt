@@ -103,8 +103,8 @@ fn receive_control(promiscuous: bool, by_vlan: bool) -> u32
 pub fn enable_transmitter<B: Bus>(bus: &mut B)
     ensures keeps { Keeps B.Bus bus.old bus.new }
     ensures sets { B.honest bus.old → Sets B.Bus transmit_writes bus.old bus.new }
-    ensures ran { (d : DriverState) → IsReady B.Bus false (at bus.old d) → d.oldest_transmit < d.counts.tx
-        → KnowsRing (transmit_ring (B.world bus.old)) (16 * d.counts.rx) d.counts.tx (transmit_tail d)
+    ensures ran { (d : DriverState) → IsReady B.Bus false (at bus.old d) → d.oldest_transmit < d.layout.tx
+        → KnowsRing (transmit_ring (B.world bus.old)) (16 * d.layout.rx) d.layout.tx (transmit_tail d)
         → LeavesDriver B.Bus transmit_writes true d bus.old bus.new }
 {
     bus.write(TCTL, transmit_control());

@@ -8,7 +8,7 @@ use Rattle.adapter.specs.declared.register.Register.TheVariants.{Receive, Transm
 use Rattle.adapter.specs.declared.register.RingRegister.TheVariants.{Tail}
 use Rattle.bus.specs.declared.event.Access.{Access}
 use Rattle.bus.specs.declared.event.Access.TheVariants.{Loads, Reads, Stores, Writes}
-use Rattle.delivery.specs.Fates.{AreRightFates, Mark}
+use Rattle.delivery.specs.Fates.{AreRightFates, Mark, occupied_by}
 
 -- RDT or TDT
 abbrev pub IsTail : Register → Type 0
@@ -28,4 +28,4 @@ LeavesReception (Stores address bytes) = ⊤
 pub record ReceivesRightly (a : AdapterState) (all : List Mark) (b : AdapterState) : Type 0 where
   pub filter : b.filter ≡ a.filter
   pub kilobytes : b.receive_kilobytes ≡ a.receive_kilobytes
-  pub fates : AreRightFates a.filter (room a) (length a.receiver.buffer) all (length b.receiver.buffer)
+  pub fates : AreRightFates a.filter (room a) (occupied_by a.receiver.buffer) all (occupied_by b.receiver.buffer)

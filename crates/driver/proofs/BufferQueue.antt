@@ -249,7 +249,7 @@ given-inside d m pool receives known out given count = record {
       ∙ out) (taken-first m d.pool.free pool.free d.buffers.items given);
 }
 
--- RDT is written where any are.
+-- RDT is written if any slot is staged.
 
 pub tail_write-none : (slot : ℕ) (staged : List ℕ) → length staged ≡ 0 → tail_write slot staged ≡ []
 tail_write-none slot [] none = refl

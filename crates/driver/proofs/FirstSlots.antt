@@ -26,7 +26,7 @@ use Rattle.bring_up.specs.ClearedDescriptors.{clears}
 use Rattle.driver.specs.Initialisation.{OffersFirst}
 use Rattle.driver.specs.RefillSteps.{Stages}
 
--- Where no frame is held, the slot at the head is the oldest.
+-- If no frame is held, the slot at the head is the oldest.
 
 distance-same : (n head : ℕ) → 0 < n → head < n → (n - 1 + n - head) % n ≡ n - 1 → head ≡ 0
 distance-same n head some below is =
@@ -39,13 +39,13 @@ last-place n k full =
     place-distance n k 0 (n - 1) (omega (arith, full)) (omega (arith, full))
     (distance-forward n 0 (n - 1) (omega (arith, full)) (omega arith) ∙ omega (arith, full))
 
-pub head-first : (d : DriverState) (world : World) → Ready d world → d.oldest_receive ≡ 0 → length d.buffers + 1 ≡ d.counts.rx
+pub head-first : (d : DriverState) (world : World) → Ready d world → d.oldest_receive ≡ 0 → length d.buffers + 1 ≡ d.layout.rx
     → frames_held d.oldest_receive world ≡ [] → (receive_ring world).head ≡ 0
 head-first d world ready first full none =
     let ring = receive_ring world in
-    let n = d.counts.rx in
+    let n = d.layout.rx in
     let knows = ready.receive in
-    let same = all-offered d.oldest_receive d.oldest_transmit world ready.sound (holds-none d.oldest_receive world none) in
+    let same = all-offered d.oldest_receive d.oldest_transmit world ready.law.sound (holds-none d.oldest_receive world none) in
     let from : Ring = record ring { head = d.oldest_receive } in
     let long : distance_of from d.oldest_receive ring.tail ≡ distance_of ring ring.head ring.tail =
     sym (length-places from) ∙ sym (length-map (offered_places from) (address_of from)) ∙ ap length same
@@ -87,10 +87,10 @@ offering counts pool numbers left = with_owners (new_driver counts pool) numbers
 pub offers-first : {B : Type 0} (bus : Ghosts B) → StretchesJoin bus
     → (b0 b1 b2 b3 : B) (counts : Counts) (pool numbers : List ℕ) (d2 d3 : DriverState)
     → HasOneOwner counts.buffers pool → counts.rx ≤ counts.buffers → 1 < counts.rx
-    → Stages bus.honest bus.world bus.happened b0 b1 (new_driver counts pool) d2 numbers
-    → length d2.buffers + length d2.staged < d2.counts.rx → (d2.pool ≡ []) ⊎ (length d2.buffers + length d2.staged + 1 ≡ d2.counts.rx)
+    → Stages bus numbers (at b0 (new_driver counts pool)) (at b1 d2)
+    → length d2.buffers + length d2.staged < d2.layout.rx → (d2.pool ≡ []) ⊎ (length d2.buffers + length d2.staged + 1 ≡ d2.layout.rx)
     → d3 ≡ with_owners d2 (d2.buffers ++ d2.staged) [] d2.pool [] → Keeps bus b0 b1 → Keeps bus b1 b2
-    → ((d : DriverState) → IsReady bus false (at b1 d) → d.oldest_receive ≡ 0 → counts.rx ≡ d.counts.rx
+    → ((d : DriverState) → IsReady bus false (at b1 d) → d.oldest_receive ≡ 0 → counts.rx ≡ d.layout.rx
     → Ran bus false (only (clears (receive_slot (counts.rx - 1)) ∷ [])) (at b1 d) (at b2 d))
     → (IsReady bus false (at b2 (holding [] d2))
     → Ran bus false (only (tail_write (next_receive d2) d2.staged)) (at b2 (holding [] d2)) (at b3 (holding [] d3)))
@@ -100,10 +100,10 @@ offers-first bus joins b0 b1 b2 b3 counts pool numbers d2 d3 owner enough some s
     let staged : d2 ≡ staging counts pool numbers d2.pool = stages.others in
     let done : d3 ≡ offering counts pool numbers d2.pool = behind
     ∙ ap (λ (d : DriverState). with_owners d (d.buffers ++ d.staged) [] d.pool []) staged in
-    let few : 0 + length numbers < n = subst (λ (d : DriverState). length d.buffers + length d.staged < d.counts.rx) staged room in
+    let few : 0 + length numbers < n = subst (λ (d : DriverState). length d.buffers + length d.staged < d.layout.rx) staged room in
     let count : length numbers + 1 ≡ n =
     all-staged n counts.buffers pool numbers d2.pool owner enough stages.pool (omega (arith, few))
-    (subst (λ (d : DriverState). (d.pool ≡ []) ⊎ (length d.buffers + length d.staged + 1 ≡ d.counts.rx)) staged full) in
+    (subst (λ (d : DriverState). (d.pool ≡ []) ⊎ (length d.buffers + length d.staged + 1 ≡ d.layout.rx)) staged full) in
     let left : d3.pool ≡ d2.pool = ap (λ (d : DriverState). d.pool) done in
     let same2 : holding [] d2 ≡ d2 = ap (holding []) staged ∙ sym staged in
     let same3 : holding [] d3 ≡ d3 = ap (holding []) done ∙ sym done in
@@ -117,18 +117,18 @@ offers-first bus joins b0 b1 b2 b3 counts pool numbers d2 d3 owner enough some s
       others = done ∙ ap (offering counts pool numbers) (sym left);
       pool = λ k. stages.pool k ∙ ap (λ (rest : List ℕ). copies k (numbers ++ rest)) (sym left);
       ran = λ is.
-          let first = stages.ran false [] is.honest is.ready in
+          let first = stages.ran false [] is in
           let is1 : IsReady bus false (at b1 (holding [] d2)) =
           record { honest = keeps1.honest is.honest; ready = first.goes.flows.ready } in
           let second = clearing (holding [] d2) is1 (ap (λ (d : DriverState). d.oldest_receive) staged)
-          (sym (ap (λ (d : DriverState). d.counts.rx) staged)) in
+          (sym (ap (λ (d : DriverState). d.layout.rx) staged)) in
           let third = offers (record { honest = keeps2.honest is1.honest; ready = second.goes.flows.ready }) in
           let d1 = new_driver counts pool in
-          let later = ran_by-join bus.world bus.happened joins _ _ b1 b2 b3 (holding [] d2) (holding [] d2) (holding [] d3) [] [] [] []
+          let later = ran_by-join bus joins _ _ b1 b2 b3 (holding [] d2) (holding [] d2) (holding [] d3) [] [] [] []
           second
-          (ran_by-same bus.world bus.happened _ _ b2 b3 (holding [] d2) (holding [] d3) (holding [] d3) [] [] [] tail refl refl third) in
-          ran_by-same bus.world bus.happened _ _ b0 b3 d1 (holding [] d3) d3 [] [] [] refl same3 refl
-          (ran_by-join bus.world bus.happened joins _ _ b0 b1 b3 d1 (holding [] d2) (holding [] d3) [] [] [] [] first later);
+          (ran_by-same bus _ _ b2 b3 (holding [] d2) (holding [] d3) (holding [] d3) [] [] [] tail refl refl third) in
+          ran_by-same bus _ _ b0 b3 d1 (holding [] d3) d3 [] [] [] refl same3 refl
+          (ran_by-join bus joins _ _ b0 b1 b3 d1 (holding [] d2) (holding [] d3) [] [] [] [] first later);
     }
 
 -- Each buffer has one owner then.

@@ -9,7 +9,6 @@ use Rattle.dma_memory.specs.Layout.{Counts}
 use Rattle.descriptors.specs.Ring.{slots_from}
 use Rattle.descriptors.specs.RingLaws.{next-below, place}
 use Rattle.adapter.specs.Slots.{written_back}
-use Rattle.adapter.specs.World.{World}
 use Rattle.bus.specs.Law.{Acts}
 use Rattle.bus.specs.PastOfStretch.{Past, joined, nothing}
 use Rattle.bus.specs.Keeping.{Keeps}
@@ -22,22 +21,22 @@ use Rattle.driver_law.proofs.Places.{place-next}
 use Rattle.driver_law.proofs.RunsWith.{RanWith}
 use Rattle.driver_law.proofs.TransmitRuns.{run-frees, run-waits}
 use Rattle.driver_law.specs.DriverState.{DriverState, holding, transmit_slot, transmit_tail}
-use Rattle.driver_law.specs.Calls.{Moment, Ran, WhereUp, held_at, only}
-use Rattle.driver_law.specs.Stretches.{RanBy}
+use Rattle.driver_law.specs.Calls.{Moment, Ran, WhereUp, at, held_at, only}
 use Rattle.driver_law.specs.ReadyDrivers.{Ready}
-use Rattle.driver_law.specs.TransmitSteps.{transmit_loads, with_freed}
+use Rattle.driver_law.specs.Accesses.{transmit_loads}
+use Rattle.driver_law.specs.TransmitSteps.{with_freed}
 use Rattle.driver.specs.InsideDriver.{IsSending}
 use Rattle.driver.specs.SendSteps.{FreesOldest, LooksBack, Reclaims, oldest_loads, slots_looked_at, with_transmit_slots}
 
 -- How many loads.
 
-loads-none : (d : DriverState) → d.sending ≡ 0 → transmit_loads d.counts d.oldest_transmit (min d.sending 1) ≡ []
-loads-none d none = let zero_loads : min d.sending 1 ≡ 0 = omega (arith, none) in ap (transmit_loads d.counts d.oldest_transmit) zero_loads
+loads-none : (d : DriverState) → d.sending ≡ 0 → transmit_loads d.layout d.oldest_transmit (min d.sending 1) ≡ []
+loads-none d none = let zero_loads : min d.sending 1 ≡ 0 = omega (arith, none) in ap (transmit_loads d.layout d.oldest_transmit) zero_loads
 
 loads-one : (d : DriverState) → 0 < d.sending
-    → transmit_loads d.counts d.oldest_transmit (min d.sending 1) ≡ Loads (transmit_slot d.counts d.oldest_transmit) 16 ∷ []
+    → transmit_loads d.layout d.oldest_transmit (min d.sending 1) ≡ Loads (transmit_slot d.layout d.oldest_transmit) 16 ∷ []
 loads-one d some = let one_load : min d.sending 1 ≡ suc zero =
-    omega (arith, some) in ap (transmit_loads d.counts d.oldest_transmit) one_load
+    omega (arith, some) in ap (transmit_loads d.layout d.oldest_transmit) one_load
 
 slots-join : (n from i j : ℕ) → slots_from n from (i + j) ≡ slots_from n from i ++ slots_from n (place n from i) j
 slots-join n from zero j = let none : 0 + j ≡ j = omega arith in ap (slots_from n from) none
@@ -45,7 +44,7 @@ slots-join n from (suc i) j =
     let more : suc i + j ≡ suc (i + j) = omega arith in
     ap (slots_from n from) more ∙ ap (λ (slots : List ℕ). from ∷ slots) (slots-join n ((from + 1) % n) i j)
 
--- Loads of some slots, and then of those behind them.
+-- Loads of some slots, and then of those after them.
 pub loads-join : (counts : Counts) (from i j : ℕ)
     → transmit_loads counts from i ++ transmit_loads counts (place counts.tx from i) j ≡ transmit_loads counts from (i + j)
 loads-join counts from i j =
@@ -55,7 +54,7 @@ loads-join counts from i j =
 
 -- One slot.
 
--- The place behind the outstanding slots stays.
+-- The place after the outstanding slots stays.
 pub tail-freed : (n oldest sending : ℕ) → 0 < sending → place n ((oldest + 1) % n) (sending - 1) ≡ place n oldest sending
 tail-freed n oldest sending some = let more : sending ≡ suc (sending - 1) = omega (arith, some) in sym (ap (place n oldest) more)
 
@@ -68,48 +67,46 @@ sending-freed counts oldest next sending some sends = record {
 }
 
 -- None is outstanding,
-pub frees-none : {B : Type 0} (world : B → World) (happened : B → B → Past → Type 0) → ((b : B) → happened b b nothing)
-    → (b : B) (d : DriverState) → d.sending ≡ 0 → Ready d (world b)
-    → RanBy true world happened (transmit_loads d.counts d.oldest_transmit (min d.sending 1)) b b d d [] []
-frees-none world happened stays b d none ready =
-    subst (λ (accesses : List Access). RanBy true world happened accesses b b d d [] []) (sym (loads-none d none))
-    (ran_by-stays world happened stays b d ready)
+pub frees-none : {B : Type 0} (bus : Ghosts B) → ((b : B) → bus.happened b b nothing)
+    → (b : B) (d : DriverState) → d.sending ≡ 0 → Ready d (bus.world b)
+    → Ran bus true (only (transmit_loads d.layout d.oldest_transmit (min d.sending 1))) (at b d) (at b d)
+frees-none bus stays b d none ready =
+    subst (λ (accesses : List Access). Ran bus true (only accesses) (at b d) (at b d)) (sym (loads-none d none))
+    (ran_by-stays bus stays b d ready)
 
 -- a load of bytes at an address
-abbrev pub LoadsAt : {B : Type 0} (world : B → World) (happened : B → B → Past → Type 0) (lively : B
-    → Type 0) (old new : B) (bytes : List ℕ) (address : ℕ) → Type 0
-LoadsAt world happened lively old new bytes address =
-    Acts world happened lively old new (Loads address 16) (λ before after. (bytes ≡ bytes_at before.memory address 16) × (after ≡ before))
+abbrev pub LoadsAt : {B : Type 0} (bus : Ghosts B) (old new : B) (bytes : List ℕ) (address : ℕ) → Type 0
+LoadsAt bus old new bytes address =
+    Acts bus.world bus.happened bus.lively old new (Loads address 16)
+    (λ before after. (bytes ≡ bytes_at before.memory address 16) × (after ≡ before))
 
 -- or the oldest is done and freed,
-pub frees-oldest : {B : Type 0} (world : B → World) (happened : B → B → Past → Type 0) (lively : B
-    → Type 0) (old new : B) (d : DriverState) (address : ℕ) (bytes : List ℕ)
-    → address ≡ transmit_slot d.counts d.oldest_transmit → 0 < d.sending → is_set (slice_index bytes 12) 0 ≡ true
-    → Acts world happened lively old new (Loads address 16) (λ before after. (bytes ≡ bytes_at before.memory address 16) × (after ≡ before))
-    → Ready d (world old)
-    → RanBy true world happened (transmit_loads d.counts d.oldest_transmit (min d.sending 1)) old new d (with_freed d) [] []
-frees-oldest world happened lively old new d address bytes at some done acts ready =
-    subst (λ (accesses : List Access). RanBy true world happened accesses old new d (with_freed d) [] []) (sym (loads-one d some))
-    (run-frees world happened lively old new d bytes some done (subst (LoadsAt world happened lively old new bytes) at acts) ready)
+pub frees-oldest : {B : Type 0} (bus : Ghosts B) (old new : B) (d : DriverState) (address : ℕ) (bytes : List ℕ)
+    → address ≡ transmit_slot d.layout d.oldest_transmit → 0 < d.sending → is_set (slice_index bytes 12) 0 ≡ true
+    → LoadsAt bus old new bytes address
+    → Ready d (bus.world old)
+    → Ran bus true (only (transmit_loads d.layout d.oldest_transmit (min d.sending 1))) (at old d) (at new (with_freed d))
+frees-oldest bus old new d address bytes address_is some done acts ready =
+    subst (λ (accesses : List Access). Ran bus true (only accesses) (at old d) (at new (with_freed d))) (sym (loads-one d some))
+    (run-frees bus old new d bytes some done (subst (LoadsAt bus old new bytes) address_is acts) ready)
 
 -- or it isn't done.
-pub waits-oldest : {B : Type 0} (world : B → World) (happened : B → B → Past → Type 0) (lively : B
-    → Type 0) (old new : B) (d : DriverState) (address : ℕ) (bytes : List ℕ)
-    → address ≡ transmit_slot d.counts d.oldest_transmit → 0 < d.sending → is_set (slice_index bytes 12) 0 ≡ false
-    → Acts world happened lively old new (Loads address 16) (λ before after. (bytes ≡ bytes_at before.memory address 16) × (after ≡ before))
-    → Ready d (world old)
-    → RanWith true world happened (transmit_loads d.counts d.oldest_transmit (min d.sending 1)) old new d d [] []
+pub waits-oldest : {B : Type 0} (bus : Ghosts B) (old new : B) (d : DriverState) (address : ℕ) (bytes : List ℕ)
+    → address ≡ transmit_slot d.layout d.oldest_transmit → 0 < d.sending → is_set (slice_index bytes 12) 0 ≡ false
+    → LoadsAt bus old new bytes address
+    → Ready d (bus.world old)
+    → RanWith bus true (only (transmit_loads d.layout d.oldest_transmit (min d.sending 1))) (at old d) (at new d)
     (λ after. written_back d.oldest_transmit after ≡ [])
-waits-oldest world happened lively old new d address bytes at some clear acts ready =
-    subst (λ (accesses : List Access). RanWith true world happened accesses old new d d [] []
+waits-oldest bus old new d address bytes address_is some clear acts ready =
+    subst (λ (accesses : List Access). RanWith bus true (only accesses) (at old d) (at new d)
     (λ after. written_back d.oldest_transmit after ≡ [])) (sym (loads-one d some))
-    (run-waits world happened lively old new d bytes clear (subst (LoadsAt world happened lively old new bytes) at acts) ready)
+    (run-waits bus old new d bytes clear (subst (LoadsAt bus old new bytes) address_is acts) ready)
 
 -- Some slots, and then the oldest of those that are left.
 frees-more : {B : Type 0} (bus : Ghosts B)
     → ((a b c : B) (first later : Past) → bus.happened a b first → bus.happened b c later → bus.happened a c (joined first later))
-    → (a b c : Moment B) (k total : ℕ) → b.driver.counts ≡ a.driver.counts
-    → b.driver.oldest_transmit ≡ place a.driver.counts.tx a.driver.oldest_transmit k → k + min b.driver.sending 1 ≡ total
+    → (a b c : Moment B) (k total : ℕ) → b.driver.layout ≡ a.driver.layout
+    → b.driver.oldest_transmit ≡ place a.driver.layout.tx a.driver.oldest_transmit k → k + min b.driver.sending 1 ≡ total
     → Ran bus true (only (oldest_loads a.driver k)) a b → Ran bus true (only (oldest_loads b.driver (min b.driver.sending 1))) b c
     → Ran bus true (only (oldest_loads a.driver total)) a c
 frees-more bus joins a b c k total counts walked sum one two =
@@ -118,30 +115,30 @@ frees-more bus joins a b c k total counts walked sum one two =
     let xs = oldest_loads d1 k in
     let same : xs ++ oldest_loads d2 (min d2.sending 1) ≡ oldest_loads d1 total =
     ap (λ (other : Counts). xs ++ transmit_loads other d2.oldest_transmit (min d2.sending 1)) counts
-    ∙ ap (λ (slot : ℕ). xs ++ transmit_loads d1.counts slot (min d2.sending 1)) walked
-    ∙ loads-join d1.counts d1.oldest_transmit k (min d2.sending 1)
+    ∙ ap (λ (slot : ℕ). xs ++ transmit_loads d1.layout slot (min d2.sending 1)) walked
+    ∙ loads-join d1.layout d1.oldest_transmit k (min d2.sending 1)
     ∙ ap (oldest_loads d1) sum in
     subst (λ (accesses : List Access). Ran bus true (only accesses) a c) same (ran-on bus joins one two)
 
--- The driver's own state as slots are freed: some of its outstanding slots are left, and the place behind them stays.
+-- The driver's own state as slots are freed: some of its outstanding slots are left, and the place after them stays.
 pub record IsFreeing (d d' : DriverState) : Type 0 where
   pub others : d' ≡ with_transmit_slots d d'.oldest_transmit d'.sending
   pub fewer : d'.sending ≤ d.sending
-  pub walked : d'.oldest_transmit ≡ place d.counts.tx d.oldest_transmit (d.sending - d'.sending)
+  pub walked : d'.oldest_transmit ≡ place d.layout.tx d.oldest_transmit (d.sending - d'.sending)
   pub tail : transmit_tail d' ≡ transmit_tail d
 
 freeing-none : (d : DriverState) → IsFreeing d d
 freeing-none d =
     let none : d.sending - d.sending ≡ 0 = omega arith in
-    record { others = refl; fewer = omega arith; walked = sym (ap (place d.counts.tx d.oldest_transmit) none); tail = refl }
+    record { others = refl; fewer = omega arith; walked = sym (ap (place d.layout.tx d.oldest_transmit) none); tail = refl }
 
 freeing-more : (d1 d2 d3 : DriverState) → IsFreeing d1 d2 → 0 < d2.sending → d3 ≡ with_freed d2 → IsFreeing d1 d3
 freeing-more d1 d2 d3 freeing some freed =
-    let n = d1.counts.tx in
-    let next = (d2.oldest_transmit + 1) % d2.counts.tx in
+    let n = d1.layout.tx in
+    let next = (d2.oldest_transmit + 1) % d2.layout.tx in
     let left = d2.sending - 1 in
     let sending : d3.sending ≡ left = ap (λ (d : DriverState). d.sending) freed in
-    let counts : d2.counts ≡ d1.counts = ap (λ (d : DriverState). d.counts) freeing.others in
+    let counts : d2.layout ≡ d1.layout = ap (λ (d : DriverState). d.layout) freeing.others in
     let more : d1.sending - d2.sending + 1 ≡ d1.sending - d3.sending = omega (arith, freeing.fewer, some, sending) in
     record {
       others = freed ∙ ap (λ (d : DriverState). with_transmit_slots d next left) freeing.others
@@ -153,7 +150,7 @@ freeing-more d1 d2 d3 freeing some freed =
           ∙ ap (λ (slot : ℕ). (slot + 1) % n) freeing.walked
           ∙ sym (place-next n d1.oldest_transmit (d1.sending - d2.sending))
           ∙ ap (place n d1.oldest_transmit) more;
-      tail = ap transmit_tail freed ∙ tail-freed d2.counts.tx d2.oldest_transmit d2.sending some ∙ freeing.tail;
+      tail = ap transmit_tail freed ∙ tail-freed d2.layout.tx d2.oldest_transmit d2.sending some ∙ freeing.tail;
     }
 
 -- Some slots were freed over a bus, by one load each.
@@ -169,7 +166,7 @@ has_freed-none bus stays now =
       freeing = freeing-none d;
       ran = λ held is.
           subst (λ (k : ℕ). Ran bus true (only (oldest_loads d k)) (held_at held now) (held_at held now)) (sym none)
-          (ran_by-stays bus.world bus.happened stays now.bus (holding held d) is.ready);
+          (ran_by-stays bus stays now.bus (holding held d) is.ready);
     }
 
 -- One more turn, and how many loads there are then.
@@ -181,7 +178,7 @@ frees-turn : {B : Type 0} (bus : Ghosts B)
 frees-turn bus joins a b c total found keeps freed turn sum held is =
     let before = freed.ran held is in
     frees-more bus joins (held_at held a) (held_at held b) (held_at held c) (a.driver.sending - b.driver.sending) total
-    (ap (λ (d : DriverState). d.counts) freed.freeing.others) freed.freeing.walked sum before
+    (ap (λ (d : DriverState). d.layout) freed.freeing.others) freed.freeing.walked sum before
     (turn held (ready-on bus _ _ keeps is before)).ran
 
 pub has_freed-more : {B : Type 0} (bus : Ghosts B)

@@ -13,7 +13,7 @@ use Rattle.driver_law.proofs.Places.{place-add}
 use Rattle.driver_law.proofs.Stretches.{flows_join, work_kept}
 use Rattle.driver_law.specs.Accesses.{last_load, stores_from, tail_write, takes_from}
 use Rattle.bus.specs.declared.bus.Bus.{Ghosts}
-use Rattle.driver_law.specs.Calls.{Moment, Ran, held_at, only}
+use Rattle.driver_law.specs.Calls.{Moment, Ran, at, held_at, only}
 use Rattle.driver_law.specs.DriverState.{DriverState, HandedOut, holding, next_receive, numbers_of, with_owners}
 use Rattle.driver_law.specs.Stretches.{HasNoForgottenWork}
 use Rattle.driver_law.specs.RegisterReadings.{ReadsCauses, with_missed}
@@ -27,11 +27,11 @@ use Rattle.driver.specs.declared.receiver.Receiver.{Ghosts as OfReceiver}
 pub handled-timer : (causes : ℕ) → causes < 2 ^ 32 → HasBit causes 7 → Meet causes handled_causes
 handled-timer causes fits bit = (Meet-places causes handled_causes fits).1 (7, bit, refl)
 
--- The driver's parts behind what it does: d1 at the beginning, d2 with the sum of misses, d3 with slots taken, and d4 refilled.
+-- The states of the driver, one after the other: d1 at the beginning, d2 with the sum of misses, d3 with slots taken, and d4 refilled.
 pub record Follows (misses n : ℕ) (d1 d2 d3 d4 : DriverState) : Type 0 where
   pub counted : d2 ≡ with_missed misses d1
   pub taken : d3 ≡ record d2 { oldest_receive = d3.oldest_receive; buffers = d3.buffers; pool = d3.pool; bad = d3.bad }
-  pub place : d3.oldest_receive ≡ place d3.counts.rx d2.oldest_receive n
+  pub place : d3.oldest_receive ≡ place d3.layout.rx d2.oldest_receive n
   pub refilled : d4 ≡ with_owners d3 d4.buffers [] d4.pool []
 
 -- The same, but for what changes.
@@ -41,23 +41,23 @@ changed d1 d2 d3 d4 follows =
     follows.taken ∙ ap (λ (d : DriverState). let s : DriverState = record d
     { oldest_receive = d3.oldest_receive; buffers = d3.buffers; pool = d3.pool; bad = d3.bad } in s) follows.counted
 
--- Where the next descriptor is stored.
+-- The next place to store a descriptor stays.
 next-same : {misses n : ℕ} (d1 d2 d3 d4 : DriverState) (numbers : List ℕ) → Follows misses n d1 d2 d3 d4 → length numbers ≡ n
     → d1.buffers ≡ numbers ++ d3.buffers → next_receive d3 ≡ next_receive d1
 next-same {misses} {n} d1 d2 d3 d4 numbers follows many oldest =
     let same = changed d1 d2 d3 d4 follows in
-    let counts : d3.counts.rx ≡ d1.counts.rx = ap (λ (d : DriverState). d.counts.rx) same in
+    let counts : d3.layout.rx ≡ d1.layout.rx = ap (λ (d : DriverState). d.layout.rx) same in
     let left : DriverState = record (with_missed misses d1)
     { oldest_receive = d3.oldest_receive; buffers = d3.buffers; pool = d3.pool; bad = d3.bad } in
-    let at : d3.oldest_receive ≡ place d1.counts.rx d1.oldest_receive n = follows.place
+    let oldest_is : d3.oldest_receive ≡ place d1.layout.rx d1.oldest_receive n = follows.place
     ∙ ap (λ (count : ℕ). place count d2.oldest_receive n) counts
-    ∙ ap (λ (d : DriverState). place d1.counts.rx d.oldest_receive n) follows.counted in
+    ∙ ap (λ (d : DriverState). place d1.layout.rx d.oldest_receive n) follows.counted in
     let sum : n + (length d3.buffers + length d1.staged)
     ≡ length d1.buffers + length d1.staged = omega (arith, many, ap length oldest, length-append numbers d3.buffers) in
     ap next_receive same
-    ∙ ap (λ (slot : ℕ). place d1.counts.rx slot (length d3.buffers + length d1.staged)) at
-    ∙ sym (place-add d1.counts.rx d1.oldest_receive n (length d3.buffers + length d1.staged))
-    ∙ ap (place d1.counts.rx d1.oldest_receive) sum
+    ∙ ap (λ (slot : ℕ). place d1.layout.rx slot (length d3.buffers + length d1.staged)) oldest_is
+    ∙ sym (place-add d1.layout.rx d1.oldest_receive n (length d3.buffers + length d1.staged))
+    ∙ ap (place d1.layout.rx d1.oldest_receive) sum
 
 -- The same, told otherwise.
 ran-same : {B : Type 0} (bus : Ghosts B) {up : Bool} {xs ys : List Access} {t1 t2 accepted : List (List ℕ)} {a b : Moment B}
@@ -86,48 +86,53 @@ works {up} bus receivers joins a b c e misses n held follows counts takes refill
     let same = changed d1 d2 d3 d4 follows in
     let many : length numbers ≡ n = length-map takes.taken (λ (x : HandedOut). x.number) ∙ takes.count in
     let oldest : d1.buffers ≡ numbers ++ d3.buffers = ap (λ (d : DriverState). d.buffers) (sym follows.counted) ∙ takes.oldest in
-    let at : d3.oldest_receive ≡ place d1.counts.rx d1.oldest_receive (length numbers) =
+    let oldest_is : d3.oldest_receive ≡ place d1.layout.rx d1.oldest_receive (length numbers) =
     follows.place
-    ∙ ap (λ (d : DriverState). place d.counts.rx d2.oldest_receive n) same
-    ∙ ap (λ (d : DriverState). place d1.counts.rx d.oldest_receive n) follows.counted
-    ∙ ap (place d1.counts.rx d1.oldest_receive) (sym many) in
-    let tail : List Access = stores_from d3.counts (next_receive d3) xs ++ tail_write (next_receive d4) (d3.staged ++ xs) in
+    ∙ ap (λ (d : DriverState). place d.layout.rx d2.oldest_receive n) same
+    ∙ ap (λ (d : DriverState). place d1.layout.rx d.oldest_receive n) follows.counted
+    ∙ ap (place d1.layout.rx d1.oldest_receive) (sym many) in
+    let tail : List Access = stores_from d3.layout (next_receive d3) xs ++ tail_write (next_receive d4) (d3.staged ++ xs) in
     let head : List Access = Reads 0x4010 misses
-    ∷ (takes_from d1.counts d1.oldest_receive numbers ++ last_load (place d1.counts.rx d1.oldest_receive (length numbers)) d3.buffers)
+    ∷ (takes_from d1.layout d1.oldest_receive numbers ++ last_load (place d1.layout.rx d1.oldest_receive (length numbers)) d3.buffers)
     in
-    let accesses : (Reads 0x4010 misses ∷ (takes_from d2.counts d2.oldest_receive numbers ++ last_load d3.oldest_receive d3.buffers))
+    let accesses : (Reads 0x4010 misses ∷ (takes_from d2.layout d2.oldest_receive numbers ++ last_load d3.oldest_receive d3.buffers))
     ++ tail ≡ handled_accesses d1 misses numbers d3.buffers xs (next_receive d4) =
     ap (λ (d : DriverState).
-    (Reads 0x4010 misses ∷ (takes_from d.counts d.oldest_receive numbers ++ last_load d3.oldest_receive d3.buffers)) ++ tail)
+    (Reads 0x4010 misses ∷ (takes_from d.layout d.oldest_receive numbers ++ last_load d3.oldest_receive d3.buffers)) ++ tail)
     follows.counted
-    ∙ ap (λ (slot : ℕ). (Reads 0x4010 misses ∷ (takes_from d1.counts d1.oldest_receive numbers ++ last_load slot d3.buffers)) ++ tail) at
-    ∙ ap (λ (d : DriverState). head ++ (stores_from d.counts (next_receive d3) xs ++ tail_write (next_receive d4) (d.staged ++ xs))) same
-    ∙ ap (λ (slot : ℕ). head ++ (stores_from d1.counts slot xs ++ tail_write (next_receive d4) (d1.staged ++ xs)))
+    ∙ ap (λ (slot : ℕ). (Reads 0x4010 misses ∷ (takes_from d1.layout d1.oldest_receive numbers ++ last_load slot d3.buffers)) ++ tail)
+    oldest_is
+    ∙ ap (λ (d : DriverState). head ++ (stores_from d.layout (next_receive d3) xs ++ tail_write (next_receive d4) (d.staged ++ xs))) same
+    ∙ ap (λ (slot : ℕ). head ++ (stores_from d1.layout slot xs ++ tail_write (next_receive d4) (d1.staged ++ xs)))
     (next-same d1 d2 d3 d4 numbers follows many oldest) in
     let all = ran-on bus joins (ran-on bus joins counts takes.ran) refills.ran in
     record {
-      misses = misses;
       taken = takes.taken;
       handed_out = takes.handed_out;
-      rest = d3.buffers;
-      offered = xs;
       told = takes.told;
       part = takes.part;
       count = takes.count;
-      oldest = oldest;
-      newest = refills.offered ∙ ap (λ (d : DriverState). d3.buffers ++ (d.staged ++ xs)) same;
-      missed = ap (λ (d : DriverState). d.missed) follows.refilled ∙ ap (λ (d : DriverState). d.missed) same;
-      exact = ap (λ (d : DriverState). d.exact) follows.refilled ∙ ap (λ (d : DriverState). d.exact) same;
-      bad = ap (λ (d : DriverState). d.bad) follows.refilled ∙ takes.bad ∙ ap (λ (d : DriverState). d.bad) follows.counted;
+      served = record {
+        misses = misses;
+        rest = d3.buffers;
+        offered = xs;
+        oldest = oldest;
+        newest = refills.offered ∙ ap (λ (d : DriverState). d3.buffers ++ (d.staged ++ xs)) same;
+      };
+      misses = record {
+        missed = ap (λ (d : DriverState). d.missed) follows.refilled ∙ ap (λ (d : DriverState). d.missed) same;
+        exact = ap (λ (d : DriverState). d.exact) follows.refilled ∙ ap (λ (d : DriverState). d.exact) same;
+        bad = ap (λ (d : DriverState). d.bad) follows.refilled ∙ takes.bad ∙ ap (λ (d : DriverState). d.bad) follows.counted;
+      };
       ran = ran-same bus accesses (append-nil _) all;
     }
 
--- Behind ICR, where it had a cause.
+-- After the read of ICR, if that had a cause.
 pub handles-it : {up : Bool} {B R : Type 0} (bus : Ghosts B) (receivers : OfReceiver R)
     → ((a b c : B) (first later : Past) → bus.happened a b first → bus.happened b c later → bus.happened a c (joined first later))
     → (o : B) (a b c e : Scene B R) (causes misses n : ℕ) (held : List HandedOut) → Follows misses n a.driver b.driver c.driver e.driver
     → Meet causes handled_causes
-    → (reads : ReadsCauses up bus.world bus.happened o a.bus (holding held a.driver) causes)
+    → (reads : ReadsCauses bus up causes (at o (holding held a.driver)) a.bus)
     → Ran bus up (only (Reads 0x4010 misses ∷ [])) (held_at held (moment a)) (held_at held (moment b))
     → (all : TakesAll bus receivers n up (held_in held (record b { receiver = a.receiver }))
     (held_in held (record c { receiver = e.receiver })))

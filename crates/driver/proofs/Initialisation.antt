@@ -34,7 +34,7 @@ use Rattle.driver_law.specs.Accesses.{stores_from}
 use Rattle.driver_law.specs.Beginnings.{new_driver}
 use Rattle.driver_law.specs.Calls.{Ran, at, only}
 use Rattle.driver_law.specs.DriverState.{DriverState, transmit_tail}
-use Rattle.driver_law.specs.Stretches.{GoesTo}
+use Rattle.driver_law.specs.Stretches.{GoesTo, driver_did, driver_in}
 use Rattle.driver_law.specs.ReadyDrivers.{ReadyWith}
 use Rattle.bring_up.specs.ClearedDescriptors.{clears_from}
 use Rattle.bring_up.specs.Configuration.{CanBeHad, counts_of}
@@ -101,27 +101,27 @@ none-leaves_transmits accesses past only none = subst (All LeavesTransmitRing) (
     (all-none LeavesTransmitRing)
 
 pub sets-transmitter : {B : Type 0} (bus : Ghosts B) → StretchesJoin bus
-    → (b0 b1 b2 b3 : B) (d : DriverState) (counts : Counts) → d.counts ≡ counts → d.oldest_transmit ≡ 0 → d.sending ≡ 0 → 0 < counts.tx
+    → (b0 b1 b2 b3 : B) (d : DriverState) (counts : Counts) → d.layout ≡ counts → d.oldest_transmit ≡ 0 → d.sending ≡ 0 → 0 < counts.tx
     → (bus.world b0).adapter.transmit_ring ≡ new_ring
     → Ran bus false (only (clears_from (16 * counts.rx) counts.tx)) (at b0 d) (at b1 d)
     → (ReadyWith false d (bus.world b1) → (bus.world b1).adapter.transmit_ring ≡ new_ring
     → SetsTransmitRing bus (ring_writes 0x3800 (16 * counts.rx) (16 * counts.tx)) d b1 b2)
-    → (ReadyWith false d (bus.world b2) → d.oldest_transmit < d.counts.tx
-    → KnowsRing (transmit_ring (bus.world b2)) (16 * d.counts.rx) d.counts.tx (transmit_tail d)
+    → (ReadyWith false d (bus.world b2) → d.oldest_transmit < d.layout.tx
+    → KnowsRing (transmit_ring (bus.world b2)) (16 * d.layout.rx) d.layout.tx (transmit_tail d)
     → LeavesDriver bus transmit_writes true d b2 b3)
     → Ran bus true (only (transmit_accesses counts)) (at b0 d) (at b3 d)
 sets-transmitter bus joins b0 b1 b2 b3 d counts is oldest none some new clearing rings enables =
-    let n1 = new_transmit_ring_stays d (bus.world b0) (bus.world b1) clearing.past clearing.goes.flows.ready clearing.set
+    let n1 = new_transmit_ring_stays d (bus.world b0) (bus.world b1) clearing.past clearing.goes.flows.ready clearing.follows.set
     (none-leaves_transmits (clears_from (16 * counts.rx) counts.tx) clearing.past clearing.only
     (clears-write_none (16 * counts.rx) counts.tx)) new in
     let sets = rings clearing.goes.flows.ready n1 in
     let tail : 0 ≡ transmit_tail d =
-    ap (λ (o : ℕ). place d.counts.tx o 0) (sym oldest) ∙ ap (place d.counts.tx d.oldest_transmit) (sym none) in
-    let below : d.oldest_transmit < d.counts.tx = omega (arith, oldest, some, ap (λ (c : Counts). c.tx) is) in
+    ap (λ (o : ℕ). place d.layout.tx o 0) (sym oldest) ∙ ap (place d.layout.tx d.oldest_transmit) (sym none) in
+    let below : d.oldest_transmit < d.layout.tx = omega (arith, oldest, some, ap (λ (c : Counts). c.tx) is) in
     let runs = enables sets.ran.goes.flows.ready below
-    (subst (KnowsRing (transmit_ring (bus.world b2)) (16 * d.counts.rx) d.counts.tx) tail sets.knows) in
-    ran_by-join bus.world bus.happened joins (clears_from (16 * counts.rx) counts.tx) _ b0 b1 b3 d d d [] [] [] [] clearing
-    (ran_by-join bus.world bus.happened joins _ (accesses_of transmit_writes) b1 b2 b3 d d d [] [] [] [] sets.ran runs)
+    (subst (KnowsRing (transmit_ring (bus.world b2)) (16 * d.layout.rx) d.layout.tx) tail sets.knows) in
+    ran_by-join bus joins (clears_from (16 * counts.rx) counts.tx) _ b0 b1 b3 d d d [] [] [] [] clearing
+    (ran_by-join bus joins _ (accesses_of transmit_writes) b1 b2 b3 d d d [] [] [] [] sets.ran runs)
 
 -- The device is found, and its receive ring set up.
 
@@ -144,7 +144,7 @@ filtered config address groups vlans settings =
     (append_assoc reset_writes (allocation_writes config.rxa ++ link_writes) tables
     ∙ ap (λ (writes : List Write). reset_writes ++ writes) (append_assoc (allocation_writes config.rxa) link_writes tables))
 
--- what is written behind the registers of the receive ring
+-- what is written after the registers of the receive ring
 abbrev behind-receive : Config → List Write
 behind-receive config =
     (write_at 0x2818 (config.rx - 1) ∷ []) ++ (receive_writes config.promiscuous (names_vlans config.vlans)
@@ -202,7 +202,7 @@ finds-ring bus b0 b1 b2 b3 config size image had room found filter ring =
 
 -- The whole.
 
--- The mask is written behind the transmit side.
+-- The mask is written after the transmit side is set up.
 settings-all : (config : Config) (address groups vlans : List ℕ) (s0 s1 s2 s3 s4 s5 : Settings)
     → s1 ≡ settings_after_all (writes_before_rings config address groups vlans ++ ring_writes 0x2800 0 (16 * config.rx)) s0
     → s2 ≡ settings_after_all (write_at 0x2818 (config.rx - 1) ∷ []) s1
@@ -233,7 +233,8 @@ settings-all config address groups vlans s0 s1 s2 s3 s4 s5 one two three four fi
 -- The receive slots are offered, and all is quiet still, and the transmit ring new.
 pub stays-quiet : (counts : Counts) (numbers : List ℕ) (d d' : DriverState) (a b : World) (past : Past)
     → past.accesses ≡ first_accesses counts numbers
-    → GoesTo false d a d' b [] [] past → AreSet a b past → WhileOff a past → HasNoFrames d a → a.adapter.transmit_ring ≡ new_ring
+    → GoesTo false (driver_in d a) (driver_in d' b) (driver_did [] []) past → AreSet a b past → WhileOff a past → HasNoFrames d a
+    → a.adapter.transmit_ring ≡ new_ring
     → HasNoFrames d' b × ((b.adapter.transmit_ring ≡ new_ring) × NoFrame past)
 stays-quiet counts numbers d d' a b past only goes set off quiet new =
     let slot = counts.rx - 1 in
@@ -255,7 +256,7 @@ new-still promiscuous by_vlan d a b past only ready set new =
     new_transmit_ring_stays d a b past ready set
     (subst (All LeavesTransmitRing) (sym (ap writes_in only)) (control-leaves_transmits (receive_control promiscuous by_vlan))) new
 
--- From where frames are let in, up to where the mask is written.
+-- From the write that lets frames in, up to the write of the mask.
 record Counts-from (d : DriverState) (a b c : World) (first later : Past) : Type 0 where
   none_put : first.put ++ later.put ≡ []
   none_to_send : frames_to_send c ≡ []
@@ -263,8 +264,9 @@ record Counts-from (d : DriverState) (a b c : World) (first later : Past) : Type
   missed_most : c.adapter.missed_packets ≤ first.missed + later.missed
   missed : IsTrue d.exact → c.adapter.missed_packets < greatest_count → c.adapter.missed_packets ≡ first.missed + later.missed
 
-counts-from : {up1 up2 : Bool} (d : DriverState) (a b c : World) (first later : Past) → GoesTo up1 d a d b [] [] first
-    → GoesTo up2 d b d c [] [] later
+counts-from : {up1 up2 : Bool} (d : DriverState) (a b c : World) (first later : Past)
+    → GoesTo up1 (driver_in d a) (driver_in d b) (driver_did [] []) first
+    → GoesTo up2 (driver_in d b) (driver_in d c) (driver_did [] []) later
     → frames_to_send a ≡ [] → frames_held d.oldest_receive a ≡ [] → a.adapter.missed_packets ≡ 0 → Counts-from d a b c first later
 counts-from d a b c first later one two none_to_send none_held none_missed =
     let out1 = append-empty first.put (frames_to_send b) (one.flows.sends ∙ append-nil (frames_to_send a) ∙ none_to_send) in
@@ -275,14 +277,14 @@ counts-from d a b c first later one two none_to_send none_held none_missed =
       held =
           two.flows.holds ∙ ap (λ (frames : List (List ℕ)). frames ++ later.stored)
           (one.flows.holds ∙ ap (λ (frames : List (List ℕ)). frames ++ first.stored) none_held);
-      missed_most = omega (arith, one.flows.at_most, two.flows.at_most, none_missed);
+      missed_most = omega (arith, one.flows.misses.at_most, two.flows.misses.at_most, none_missed);
       missed = λ exact below_greatest.
-          let behind = two.flows.exactly exact below_greatest in
-          let before = one.flows.exactly behind.exact behind.below_greatest in
+          let behind = two.flows.misses.exactly exact below_greatest in
+          let before = one.flows.misses.exactly behind.exact behind.below_greatest in
           omega (arith, before.sum, behind.sum, none_missed);
     }
 
--- frames_held where none was stored
+-- If no frame is held, no slot is finished.
 none-finished : (oldest : ℕ) (world : World) → frames_held oldest world ≡ [] → finished oldest world ≡ []
 none-finished oldest world none = (holds-none oldest world none).none_finished
 
@@ -316,7 +318,7 @@ pub initialises : {B : Type 0} (bus : Ghosts B) → StretchesJoin bus
     → HasNoFrames d (bus.world b2) → NoFrame first.past
     → LetsFramesIn bus (receive_writes config.promiscuous (names_vlans config.vlans)) d b2 b3
     → Ran bus true (only (transmit_accesses (counts_of config))) (at b3 d) (at b4 d) → EnablesCauses bus 0xD1 d b4 b5
-    → Initialises bus.world bus.happened b0 b5 config d
+    → Initialises bus config b0 b5 d
 initialises bus joins b0 b1 b2 b3 b4 b5 config size pool numbers d past had told found count is first quiet no_frame lets sends
     masks =
     let counts = counts_of config in
@@ -329,8 +331,8 @@ initialises bus joins b0 b1 b2 b3 b4 b5 config size pool numbers d past had told
     let none_missed : (bus.world b3).adapter.missed_packets ≡ 0 =
     omega (
       arith,
-      first.goes.flows.at_most,
-      lets.ran.goes.flows.at_most,
+      first.goes.flows.misses.at_most,
+      lets.ran.goes.flows.misses.at_most,
       no_frame.none_missed,
       lets.no_arrival.none_missed,
       found.ring.rest.none_missed,
@@ -344,13 +346,13 @@ initialises bus joins b0 b1 b2 b3 b4 b5 config size pool numbers d past had told
     settings-all config words found.groups found.vlans (settings_of device.adapter) (settings_of (bus.world b1).adapter)
     (settings_of (bus.world b2).adapter)
     (settings_of (bus.world b3).adapter) (settings_of (bus.world b4).adapter) (settings_of (bus.world b5).adapter) found.settings
-    (first.set ∙ ap (λ (writes : List Write). settings_after_all writes (settings_of (bus.world b1).adapter))
+    (first.follows.set ∙ ap (λ (writes : List Write). settings_after_all writes (settings_of (bus.world b1).adapter))
     (ap writes_in first.only ∙ first-writes counts numbers))
-    (lets.ran.set ∙ ap (λ (writes : List Write). settings_after_all writes (settings_of (bus.world b2).adapter))
+    (lets.ran.follows.set ∙ ap (λ (writes : List Write). settings_after_all writes (settings_of (bus.world b2).adapter))
     (ap writes_in lets.ran.only))
-    (sends.set ∙ ap (λ (writes : List Write). settings_after_all writes (settings_of (bus.world b3).adapter))
+    (sends.follows.set ∙ ap (λ (writes : List Write). settings_after_all writes (settings_of (bus.world b3).adapter))
     (ap writes_in sends.only ∙ transmit-writes counts))
-    (masks.accessed.set ∙ ap (λ (writes : List Write). settings_after_all writes (settings_of (bus.world b4).adapter))
+    (masks.accessed.follows.set ∙ ap (λ (writes : List Write). settings_after_all writes (settings_of (bus.world b4).adapter))
     (ap writes_in masks.accessed.only)) in
     let set = writes-configure config words found.groups found.vlans size (settings_of device.adapter) had found.address found.groups_are
     found.vlans_are found.has_groups found.has_vlans in
@@ -362,37 +364,45 @@ initialises bus joins b0 b1 b2 b3 b4 b5 config size pool numbers d past had told
       told_first = joins b0 b1 b3 past (joined first.past lets.ran.past) told
           (joins b1 b2 b3 first.past lets.ran.past first.told lets.ran.told);
       told_later = joins b3 b4 b5 sends.past masks.accessed.past sends.told masks.accessed.told;
-      ends = record {
-        earlier = past.accesses;
-        whole =
-            rw (first.only, lets.ran.only) refl
-            ∙ ap (λ (slots : List ℕ). past.accesses ++
-            (first_accesses counts slots ++ accesses_of (receive_writes config.promiscuous (names_vlans config.vlans))))
-            (sym (ap (λ (s : DriverState). s.buffers) is))
-            ∙ ap (λ (c : Counts). past.accesses ++
-            (first_accesses c d.buffers ++ accesses_of (receive_writes config.promiscuous (names_vlans config.vlans))))
-            (sym (ap (λ (s : DriverState). s.counts) is));
+      accesses = record {
+        ends = record {
+          earlier = past.accesses;
+          whole =
+              rw (first.only, lets.ran.only) refl
+              ∙ ap (λ (slots : List ℕ). past.accesses ++
+              (first_accesses counts slots ++ accesses_of (receive_writes config.promiscuous (names_vlans config.vlans))))
+              (sym (ap (λ (s : DriverState). s.buffers) is))
+              ∙ ap (λ (c : Counts). past.accesses ++
+              (first_accesses c d.buffers ++ accesses_of (receive_writes config.promiscuous (names_vlans config.vlans))))
+              (sym (ap (λ (s : DriverState). s.layout) is));
+        };
+        rest = rw (sends.only, masks.accessed.only, is) refl;
       };
-      accesses = rw (sends.only, masks.accessed.only, is) refl;
-      ready = masks.ready;
-      work = masks.work (asked-still d (bus.world b3) (bus.world b4) sends.past sends.goes (inl lets.none_finished));
-      held = held;
-      none_put = from.none_put;
-      none_to_send = masks.enabled.to_send ∙ from.none_to_send;
-      missed_most = omega (arith, from.missed_most, masks.enabled.missed);
-      missed = λ below_greatest. masks.enabled.missed ∙ from.missed exact (omega (arith, below_greatest, masks.enabled.missed));
-      sum = found.sum;
-      image = ap (λ (settings : Settings). settings.image) all ∙ set.1;
-      configured = subst (IsConfigured config words) (sym all) set.0;
-      up = link-up config words found.groups found.vlans found.has_groups.words found.has_vlans.words (bus.world b1) (bus.world b2)
-          (bus.world b3) (bus.world b4) (bus.world b5) first.past lets.ran.past sends.past masks.accessed.past
-          (ap writes_in first.only ∙ first-writes counts numbers) (ap writes_in lets.ran.only)
-          (ap writes_in sends.only ∙ transmit-writes counts) (ap writes_in masks.accessed.only)
-          first.link lets.ran.link sends.link masks.accessed.link found.up;
-      none_finished = λ none. none-finished d.oldest_receive (bus.world b5) (held ∙ none);
-      head = λ none.
-          head-first d (bus.world b5) masks.ready (ap (λ (s : DriverState). s.oldest_receive) is)
-          (ap (λ (s : DriverState). length s.buffers + 1) is ∙ count ∙ sym (ap (λ (s : DriverState). s.counts.rx) is)) (held ∙ none);
+      started = record {
+        ready = masks.ready;
+        work = masks.work (asked-still d (bus.world b3) (bus.world b4) sends.past sends.goes (inl lets.none_finished));
+        frames = record {
+          held = held;
+          none_put = from.none_put;
+          none_to_send = masks.enabled.to_send ∙ from.none_to_send;
+          none_finished = λ none. none-finished d.oldest_receive (bus.world b5) (held ∙ none);
+          head = λ none.
+              head-first d (bus.world b5) masks.ready (ap (λ (s : DriverState). s.oldest_receive) is)
+              (ap (λ (s : DriverState). length s.buffers + 1) is ∙ count ∙ sym (ap (λ (s : DriverState). s.layout.rx) is)) (held ∙ none);
+          missed_most = omega (arith, from.missed_most, masks.enabled.missed);
+          missed = λ below_greatest. masks.enabled.missed ∙ from.missed exact (omega (arith, below_greatest, masks.enabled.missed));
+        };
+      };
+      adapter = record {
+        sum = found.sum;
+        image = ap (λ (settings : Settings). settings.image) all ∙ set.1;
+        configured = subst (IsConfigured config words) (sym all) set.0;
+        up = link-up config words found.groups found.vlans found.has_groups.words found.has_vlans.words (bus.world b1) (bus.world b2)
+            (bus.world b3) (bus.world b4) (bus.world b5) first.past lets.ran.past sends.past masks.accessed.past
+            (ap writes_in first.only ∙ first-writes counts numbers) (ap writes_in lets.ran.only)
+            (ap writes_in sends.only ∙ transmit-writes counts) (ap writes_in masks.accessed.only)
+            first.follows.link lets.ran.follows.link sends.follows.link masks.accessed.follows.link found.up;
+      };
     }
 
 -- Whether VLANs are named.

@@ -10,7 +10,7 @@ use Rattle.driver_law.proofs.Calls.{ran-on}
 use Rattle.driver_law.proofs.Places.{place-below, place-next}
 use Rattle.driver_law.specs.DriverState.{DriverState, transmit_slot, transmit_tail}
 use Rattle.driver_law.specs.Calls.{IsReady, Moment, Ran}
-use Rattle.driver_law.specs.TransmitSteps.{send_accesses, transmit_buffer, whole_descriptor}
+use Rattle.driver_law.specs.Accesses.{send_accesses, transmit_buffer, whole_descriptor}
 use Rattle.driver.specs.InsideDriver.{IsSending}
 use Rattle.driver.specs.SendSteps.{IsAnswer, Reclaims, Sends, accesses_by, loads_to_free, sent_now}
 use Rattle.driver.specs.declared.transmit.SendError.TheVariants.{RingFull}
@@ -31,7 +31,7 @@ sending-more counts oldest next sending room sends = record {
 
 -- A ring that is full after the freeing was full before it, with no slot written back.
 pub was-full : {B : Type 0} (bus : Ghosts B) (old new : Moment B) → IsReady bus true old → Reclaims bus old new
-    → new.driver.sending + 1 ≡ old.driver.counts.tx → IsAnswer bus (Err RingFull) old new
+    → new.driver.sending + 1 ≡ old.driver.layout.tx → IsAnswer bus (Err RingFull) old new
 was-full bus old new is reclaims full =
     let room = is.ready.transmit.room in
     let count = reclaims.ran.goes.flows.frees in (
@@ -39,7 +39,7 @@ was-full bus old new is reclaims full =
         omega (arith, full, count, room, ap length reclaims.none),
         none-of (written_back old.driver.oldest_transmit (bus.world old.bus)) (omega (arith, full, count, room, ap length reclaims.none)),
       ),
-      (full ∙ sym (ap (λ (layout : Counts). layout.tx) reclaims.ran.goes.flows.counts), reclaims.none),
+      (full ∙ sym (ap (λ (layout : Counts). layout.tx) reclaims.ran.goes.flows.layout), reclaims.none),
     )
   where
     none-of : (slots : List ℕ) → length slots ≡ 0 → slots ≡ []
@@ -47,18 +47,18 @@ was-full bus old new is reclaims full =
     none-of (slot ∷ slots) none = absurd (omega (arith, none))
 
 -- The accesses tell of the place alone.
-sends-same : (d d' : DriverState) (frame : List ℕ) → d'.counts ≡ d.counts → transmit_tail d' ≡ transmit_tail d
+sends-same : (d d' : DriverState) (frame : List ℕ) → d'.layout ≡ d.layout → transmit_tail d' ≡ transmit_tail d
     → send_accesses d' frame ≡ send_accesses d frame
 sends-same d d' frame counts tail =
     let at : Counts → ℕ → List Access = λ layout slot.
     Stores (transmit_buffer layout slot) frame ∷ Stores (transmit_slot layout slot)
     (whole_descriptor (transmit_buffer layout slot) (length frame)) ∷ Writes 0x3818 ((slot + 1) % layout.tx) ∷ [] in
-    ap (λ (layout : Counts). at layout (transmit_tail d')) counts ∙ ap (at d.counts) tail
+    ap (λ (layout : Counts). at layout (transmit_tail d')) counts ∙ ap (at d.layout) tail
 
 -- Slots are freed, and then it is sent.
 pub frees-and-sends : {B : Type 0} (bus : Ghosts B)
     → ((a b c : B) (first later : Past) → bus.happened a b first → bus.happened b c later → bus.happened a c (joined first later))
-    → (a b c : Moment B) (frame : List ℕ) → b.driver.counts ≡ a.driver.counts → transmit_tail b.driver ≡ transmit_tail a.driver
+    → (a b c : Moment B) (frame : List ℕ) → b.driver.layout ≡ a.driver.layout → transmit_tail b.driver ≡ transmit_tail a.driver
     → c.driver.sending ≡ b.driver.sending + 1 → Reclaims bus a b → Ran bus true (sent_now b.driver frame) b c
     → Sends bus frame (Ok tt) a c
 frees-and-sends bus joins a b c frame counts tail more reclaims sends =

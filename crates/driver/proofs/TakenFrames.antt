@@ -8,32 +8,34 @@ use Rattle.dma_memory.specs.Layout.{Counts}
 use Rattle.dma_memory.specs.Owners.{copies}
 use Rattle.dma_memory.specs.OwnersLaws.{copies-append, copies-cons}
 use Rattle.descriptors.specs.RingLaws.{place}
+use Rattle.bus.specs.Keeping.{Keeps}
 use Rattle.bus.specs.PastOfStretch.{Past, joined, nothing}
 use Rattle.bus.specs.declared.event.Access.{Access}
 use Rattle.bus.specs.declared.event.Access.TheVariants.{Loads}
 use Rattle.bus.proofs.Lists.{all-left, all-none}
 use Rattle.driver_law.proofs.Accesses.{ran_by-itself, ran_by-join, ran_by-same, ran_by-stays}
+use Rattle.driver_law.proofs.Calls.{ready-on}
 use Rattle.driver_law.proofs.Owners.{owners-count}
 use Rattle.driver_law.proofs.Places.{place-next}
 use Rattle.driver_law.proofs.ReceiveAccesses.{takes-push}
 use Rattle.driver_law.proofs.TakenSlots.{buffers_can_come_back}
 use Rattle.driver_law.specs.Accesses.{takes_from}
 use Rattle.driver_law.specs.DriverState.{DriverState, HandedOut, buffer_at, holding, numbers_of, owners, receive_slot}
-use Rattle.driver_law.specs.Stretches.{RanBy}
 use Rattle.driver_law.specs.OldestSlot.{TakesOldest}
 use Rattle.driver_law.specs.ReadyDrivers.{ReadyWith, Stands}
 use Rattle.driver_law.specs.ReceiveSteps.{behind_oldest}
-use Rattle.driver.specs.TakenFrames.{GrowsBy, IsPart, part_none, part_with, part_without, HandsOn, HandsOver, IsFrameSize, ShowsAll, Takes}
-use Rattle.driver.specs.TakenFrames.{buffers_of, received_of}
+use Rattle.driver.specs.TakenFrames.{FindsOne, GrowsBy, HandsOn, HandsOver, IsFrameSize, IsPart, LeavesRing, Scene, ShowsAll, Takes}
+use Rattle.driver.specs.TakenFrames.{WhereReadyIn, WhereTaken, buffers_of, part_none, part_with, part_without, received_of, scene}
+use Rattle.driver.specs.declared.receive.Finished.{Finished}
 use Rattle.driver.specs.declared.receiver.Received.{Received}
 use Rattle.driver.specs.declared.receiver.Receiver.{Ghosts as OfReceiver}
 use Rattle.bus.specs.declared.bus.Bus.{Ghosts}
-use Rattle.driver.specs.TakenFrames.{Scene, WhereReadyIn, scene}
+use Rattle.driver_law.specs.Calls.{Ran, WhereReady, at, only}
 
 -- So many slots were taken, and their frames shown to the receiver.
 pub record Walks {B R : Type 0} (bus : Ghosts B) (receivers : OfReceiver R) (n : ℕ) (old new : Scene B R) : Type 0 where
   pub others : new.driver ≡ record old.driver {
-    oldest_receive = place old.driver.counts.rx old.driver.oldest_receive n;
+    oldest_receive = place old.driver.layout.rx old.driver.oldest_receive n;
     buffers = new.driver.buffers;
     pool = new.driver.pool;
     bad = new.driver.bad;
@@ -67,9 +69,9 @@ walks-none bus receivers stays waits b r d = record {
     count = refl;
     oldest = refl;
     bad = refl;
-    ran = subst (λ (list : List HandedOut). RanBy up bus.world bus.happened [] b b (holding held d) (holding list d) [] [])
+    ran = subst (λ (list : List HandedOut). Ran bus up (only []) (at b (holding held d)) (at b (holding list d)))
         (sym (append-nil held))
-        (ran_by-stays bus.world bus.happened stays b (holding held d) is.ready);
+        (ran_by-stays bus stays b (holding held d) is.ready);
   };
 }
 
@@ -101,13 +103,13 @@ is-kept P held one received kept is whether stand =
     ∙ sym some) (record { entries = one ∷ []; told = refl; part = part_with part_none; numbers = refl; stand = stand }))
     whether
 
--- Parts of two lists, one behind the other.
+-- Parts of two lists, one after the other.
 part-append : {some all later more : List HandedOut} → IsPart some all → IsPart later more → IsPart (some ++ later) (all ++ more)
 part-append part_none behind = behind
 part-append (part_with first) behind = part_with (part-append first behind)
 part-append (part_without first) behind = part_without (part-append first behind)
 
--- Two counts of bad slots, one behind the other.
+-- Two counts of bad slots, one after the other.
 grows : (a b c m n : ℕ) → GrowsBy a b m → GrowsBy b c n → GrowsBy a c (m + n)
 grows a b c m n one two = record {
   least = omega (arith, one.least, two.least);
@@ -168,26 +170,26 @@ takes-next : {up : Bool} {B R : Type 0} (bus : Ghosts B) (receivers : OfReceiver
     → ((a b c : R) (shown kept later more : List Received) → receivers.took a b shown kept → receivers.took b c later more
     → receivers.took a c (shown ++ later) (kept ++ more))
     → (a b c e : B) (r s t : R) (d1 d2 d3 d4 : DriverState) (n m size : ℕ) (held : List HandedOut)
-    → d2.oldest_receive ≡ place d1.counts.rx d1.oldest_receive n → d2.counts ≡ d1.counts → d2.bad ≡ d1.bad → d2.buffers ≡ m ∷ d3.buffers
+    → d2.oldest_receive ≡ place d1.layout.rx d1.oldest_receive n → d2.layout ≡ d1.layout → d2.bad ≡ d1.bad → d2.buffers ≡ m ∷ d3.buffers
     → d3 ≡ behind_oldest d2 d3.buffers d2.handed_out
     → d4 ≡ record d3 { pool = d4.pool; bad = d4.bad }
     → (before : Takes bus receivers [] n up (scene a (holding held d1) r) (scene b (holding held d2) s))
-    → (take : TakesOldest up bus.world bus.happened b c (holding (held ++ before.handed_out) d2) m size d3.buffers)
+    → (take : TakesOldest bus up m size d3.buffers (at b (holding (held ++ before.handed_out) d2)) c)
     → ((one : HandedOut) → ReadyWith up (holding ((held ++ before.handed_out) ++ one ∷ []) d3) (bus.world c) → one.number ≡ m
     → length one.frame ≡ size
-    → HandsOver up bus.world bus.happened receivers.took c e s t one (holding ((held ++ before.handed_out) ++ one ∷ []) d3)
-    (holding ((held ++ before.handed_out) ++ one ∷ []) d4))
+    → HandsOver bus receivers one up (scene c (holding ((held ++ before.handed_out) ++ one ∷ []) d3) s)
+    (scene e (holding ((held ++ before.handed_out) ++ one ∷ []) d4) t))
     → Takes bus receivers [] (suc n) up (scene a (holding held d1) r) (scene e (holding held d4) t)
-takes-next {up} bus receivers stays joins also a b c e r s t d1 d2 d3 d4 n m size held at known clean first behind given before take
-    over =
+takes-next {up} bus receivers stays joins also a b c e r s t d1 d2 d3 d4 n m size held oldest_is known clean first behind given before
+    take over =
     let held2 = held ++ before.handed_out in
     let one : HandedOut = record { number = m; frame = take.frame } in
     let held3 = held2 ++ one ∷ [] in
     let end : behind_oldest (holding held2 d2) d3.buffers held3 ≡ holding held3 d3 = ap (holding held3) (sym behind) in
-    let taking = ran_by-same bus.world bus.happened _ _ b c (holding held2 d2) _ (holding held3 d3) _ _ [] refl end refl take.ran in
+    let taking = ran_by-same bus _ _ b c (holding held2 d2) _ (holding held3 d3) _ _ [] refl end refl take.ran in
     let hands = over one taking.goes.flows.ready refl take.long in
     let looked = hands.ran in
-    let kept = is-kept (Stands d3.counts (bus.world e).memory) held2 one
+    let kept = is-kept (Stands d3.layout (bus.world e).memory) held2 one
     (received_of one) hands.shows.kept refl hands.shows.whether looked.goes.flows.ready.stand in
     let held4 = held2 ++ kept.entries in
     let number_of : HandedOut → ℕ = λ x. x.number in
@@ -204,28 +206,28 @@ takes-next {up} bus receivers stays joins also a b c e r s t d1 d2 d3 d4 n m siz
       copies-append k (numbers_of held2) (m ∷ []),
       copies-cons k m [],
     ) in
-    let comes = ran_by-itself bus.world bus.happened stays e (holding held3 d3) _ [] []
+    let comes = ran_by-itself bus stays e (holding held3 d3) _ [] []
     (buffers_can_come_back up (holding held3 d3) d4.pool held4 (bus.world e) looked.goes.flows.ready moves kept.stand) in
-    let two = ran_by-join bus.world bus.happened joins _ _ a b c (holding held d1) (holding held2 d2)
+    let two = ran_by-join bus joins _ _ a b c (holding held d1) (holding held2 d2)
     (holding held3 d3) _ _ [] [] before.ran taking in
-    let three = ran_by-join bus.world bus.happened joins _ _ a c e (holding held d1) (holding held3 d3) (holding held3 d3) _ _ [] [] two
+    let three = ran_by-join bus joins _ _ a c e (holding held d1) (holding held3 d3) (holding held3 d3) _ _ [] [] two
     looked in
-    let four = ran_by-join bus.world bus.happened joins _ _ a e e (holding held d1) (holding held3 d3) _ _ _ [] [] three comes in
-    let load : Access = Loads (buffer_at d3.counts m + 12) 2 in
+    let four = ran_by-join bus joins _ _ a e e (holding held d1) (holding held3 d3) _ _ _ [] [] three comes in
+    let load : Access = Loads (buffer_at d3.layout m + 12) 2 in
     let numbers = numbers_of before.taken in
     let many : length numbers ≡ n = length-map before.taken number_of ∙ before.count in
-    let slot : d2.oldest_receive ≡ place d1.counts.rx d1.oldest_receive (length numbers) = at
-    ∙ ap (place d1.counts.rx d1.oldest_receive) (sym many) in
-    let counts : d3.counts ≡ d1.counts = ap (λ (d : DriverState). d.counts) behind ∙ known in
-    let all = takes_from d1.counts d1.oldest_receive in
+    let slot : d2.oldest_receive ≡ place d1.layout.rx d1.oldest_receive (length numbers) = oldest_is
+    ∙ ap (place d1.layout.rx d1.oldest_receive) (sym many) in
+    let counts : d3.layout ≡ d1.layout = ap (λ (d : DriverState). d.layout) behind ∙ known in
+    let all = takes_from d1.layout d1.oldest_receive in
     let accesses : ((((all numbers ++ []) ++ Loads (receive_slot d2.oldest_receive) 16 ∷ []) ++ load ∷ []) ++ [])
     ≡ all (numbers_of (before.taken ++ one ∷ [])) ++ [] =
     ap (λ (list : List Access). ((list ++ Loads (receive_slot d2.oldest_receive) 16 ∷ []) ++ load ∷ []) ++ []) (append-nil (all numbers))
     ∙ ap (λ (list : List Access). list ++ []) (append_assoc (all numbers) (Loads (receive_slot d2.oldest_receive) 16 ∷ []) (load ∷ [])
     ∙ ap (λ (place : ℕ). all numbers ++ Loads (receive_slot place) 16 ∷ load ∷ []) slot
-    ∙ ap (λ (n : Counts). all numbers ++ Loads (receive_slot (place d1.counts.rx d1.oldest_receive (length numbers))) 16
+    ∙ ap (λ (n : Counts). all numbers ++ Loads (receive_slot (place d1.layout.rx d1.oldest_receive (length numbers))) 16
     ∷ Loads (buffer_at n m + 12) 2 ∷ []) counts
-    ∙ sym (takes-push d1.counts d1.oldest_receive m numbers)
+    ∙ sym (takes-push d1.layout d1.oldest_receive m numbers)
     ∙ ap all (sym (map-append number_of before.taken (one ∷ [])))) in
     let shape : ℕ → DriverState = λ bad. record d3 { pool = d4.pool; bad = bad } in
     let last : holding held4 (shape d3.bad) ≡ holding (held ++ (before.handed_out ++ kept.entries)) d4 =
@@ -256,7 +258,7 @@ takes-next {up} bus receivers stays joins also a b c e r s t d1 d2 d3 d4 n m siz
           ∙ sym (append_assoc numbers (m ∷ []) d4.buffers)
           ∙ ap (λ (list : List ℕ). list ++ d4.buffers) (sym (map-append number_of before.taken (one ∷ [])));
       bad = hands.bad ∙ ap (λ (d : DriverState). d.bad) behind ∙ clean;
-      ran = ran_by-same bus.world bus.happened _ _ a e (holding held d1) (holding held4 (shape d3.bad)) _ _ _ [] accesses last frames four;
+      ran = ran_by-same bus _ _ a e (holding held d1) (holding held4 (shape d3.bad)) _ _ _ [] accesses last frames four;
     }
 
 pub walks-next : {B R : Type 0} (bus : Ghosts B) (receivers : OfReceiver R)
@@ -264,22 +266,15 @@ pub walks-next : {B R : Type 0} (bus : Ghosts B) (receivers : OfReceiver R)
     → ((a b c : B) (first later : Past) → bus.happened a b first → bus.happened b c later → bus.happened a c (joined first later))
     → ((a b c : R) (shown kept later more : List Received) → receivers.took a b shown kept → receivers.took b c later more
     → receivers.took a c (shown ++ later) (kept ++ more))
-    → (a b c e : B) → (bus.honest a → bus.honest b) → (r s t : R) (d1 d2 d3 d4 : DriverState) (n m size : ℕ)
-    → Walks bus receivers n (scene a d1 r) (scene b d2 s)
-    → d2.buffers ≡ m ∷ d3.buffers → d3 ≡ behind_oldest d2 d3.buffers d2.handed_out
-    → ((up : Bool) (held : List HandedOut) → bus.honest b → ReadyWith up (holding held d2) (bus.world b)
-    → TakesOldest up bus.world bus.happened b c (holding held d2) m size d3.buffers)
-    → d4 ≡ record d3 { pool = d4.pool; bad = d4.bad } → HandsOn receivers.took s t m d3 d4
-    → ((up : Bool) (held before : List HandedOut) (one : HandedOut) → bus.honest b → ReadyWith up (holding before d2) (bus.world b)
-    → ReadyWith up (holding (held ++ one ∷ []) d3) (bus.world c)
-    → one.number ≡ m → length one.frame ≡ size
-    → HandsOver up bus.world bus.happened receivers.took c e s t one (holding (held ++ one ∷ []) d3) (holding (held ++ one ∷ []) d4))
+    → (a b c e : B) (r s t : R) (d1 d2 d3 d4 : DriverState) (n : ℕ) (slot : Finished) → Keeps bus a b → Keeps bus b c
+    → Walks bus receivers n (scene a d1 r) (scene b d2 s) → LeavesRing slot d2 d3 → WhereReady bus (at b d2) (at c d3) (FindsOne bus slot)
+    → d4 ≡ record d3 { pool = d4.pool; bad = d4.bad } → HandsOn receivers.took s t slot.buffer d3 d4
+    → WhereTaken bus slot (scene c d3 s) (scene e d4 t) (HandsOver bus receivers)
     → Walks bus receivers (suc n) (scene a d1 r) (scene e d4 t)
-walks-next bus receivers stays joins also a b c e goes_on r s t d1 d2 d3 d4 n m size walks first behind takes given hands
-    over =
-    let n1 = d1.counts.rx in
+walks-next bus receivers stays joins also a b c e r s t d1 d2 d3 d4 n slot keeps1 keeps2 walks leaves finds given hands over =
+    let n1 = d1.layout.rx in
     let o1 = d1.oldest_receive in
-    let at : place n1 o1 (suc n) ≡ (place n1 o1 n + 1) % n1 = let more : suc n ≡ n + 1 = omega arith in ap (place n1 o1) more
+    let next : place n1 o1 (suc n) ≡ (place n1 o1 n + 1) % n1 = let more : suc n ≡ n + 1 = omega arith in ap (place n1 o1) more
     ∙ place-next n1 o1 n in
     let shape : ℕ → List ℕ
     → DriverState = λ oldest buffers. record d1 { oldest_receive = oldest; buffers = buffers; pool = d4.pool; bad = d4.bad } in
@@ -287,21 +282,24 @@ walks-next bus receivers stays joins also a b c e goes_on r s t d1 d2 d3 d4 n m 
     record {
       others =
           given
-          ∙ ap (λ (d : DriverState). let s : DriverState = record d { pool = d4.pool; bad = d4.bad } in s) behind
+          ∙ ap (λ (d : DriverState). let s : DriverState = record d { pool = d4.pool; bad = d4.bad } in s) leaves.behind
           ∙ ap (λ (d : DriverState). let s : DriverState = record d
-          { oldest_receive = (d.oldest_receive + 1) % d.counts.rx; buffers = d3.buffers; pool = d4.pool; bad = d4.bad } in s)
+          { oldest_receive = (d.oldest_receive + 1) % d.layout.rx; buffers = d3.buffers; pool = d4.pool; bad = d4.bad } in s)
           walks.others
-          ∙ ap (λ (oldest : ℕ). shape oldest d3.buffers) (sym at)
+          ∙ ap (λ (oldest : ℕ). shape oldest d3.buffers) (sym next)
           ∙ ap (shape (place n1 o1 (suc n))) (sym left);
-      count = omega (arith, walks.count, ap length first, ap length left);
-      shows = shows-next receivers.took also r s t d1 d2 d3 d4 n m walks.shows first behind given hands;
+      count = omega (arith, walks.count, ap length leaves.first, ap length left);
+      shows = shows-next receivers.took also r s t d1 d2 d3 d4 n slot.buffer walks.shows leaves.first leaves.behind given hands;
       takes = λ up held is.
           let before = walks.takes up held is in
-          takes-next bus receivers stays joins also a b c e r s t d1 d2 d3 d4 n m size held
-          (ap (λ (d : DriverState). d.oldest_receive) walks.others) (ap (λ (d : DriverState). d.counts) walks.others)
-          before.bad first behind given before (takes up (held ++ before.handed_out) (goes_on is.honest) before.ran.goes.flows.ready)
-          (λ one standing. over up (held ++ before.handed_out) (held ++ before.handed_out) one
-          (goes_on is.honest) before.ran.goes.flows.ready standing);
+          let later = held ++ before.handed_out in
+          let there = ready-on bus (at a (holding held d1)) (at b (holding later d2)) keeps1 is before.ran in
+          let found = finds up later there in
+          takes-next bus receivers stays joins also a b c e r s t d1 d2 d3 d4 n slot.buffer slot.length held
+          (ap (λ (d : DriverState). d.oldest_receive) walks.others) (ap (λ (d : DriverState). d.layout) walks.others)
+          before.bad leaves.first leaves.behind given before found.takes
+          (λ one ready number long. over up later one found.whole number long
+          (record { honest = keeps2.honest there.honest; ready = ready }));
     }
 
 -- A last look, at a slot that isn't finished.
@@ -309,8 +307,7 @@ pub walks-look : {up : Bool} {B R : Type 0} (bus : Ghosts B) (receivers : OfRece
     → ((a b c : B) (first later : Past) → bus.happened a b first → bus.happened b c later → bus.happened a c (joined first later))
     → (ys : List Access) (a b c : B) (r s : R) (d d' : DriverState) (n : ℕ)
     → (takes : Takes bus receivers [] n up (scene a d r) (scene b d' s))
-    → RanBy up bus.world bus.happened ys b c (holding (d.handed_out ++ takes.handed_out) d')
-    (holding (d.handed_out ++ takes.handed_out) d') [] []
+    → Ran bus up (only ys) (at b (holding (d.handed_out ++ takes.handed_out) d')) (at c (holding (d.handed_out ++ takes.handed_out) d'))
     → Takes bus receivers ys n up (scene a d r) (scene c d' s)
 walks-look bus receivers joins ys a b c r s d d' n takes looks =
     let held = d.handed_out ++ takes.handed_out in
@@ -323,6 +320,6 @@ walks-look bus receivers joins ys a b c r s d d' n takes looks =
       oldest = takes.oldest;
       bad = takes.bad;
       ran =
-          ran_by-same bus.world bus.happened _ _ a c d (holding held d') _ _ _ [] (append_assoc _ [] ys) refl (append-nil _)
-          (ran_by-join bus.world bus.happened joins _ ys a b c d (holding held d') (holding held d') _ _ [] [] takes.ran looks);
+          ran_by-same bus _ _ a c d (holding held d') _ _ _ [] (append_assoc _ [] ys) refl (append-nil _)
+          (ran_by-join bus joins _ ys a b c d (holding held d') (holding held d') _ _ [] [] takes.ran looks);
     }

@@ -12,9 +12,9 @@ use Rattle.bus.specs.declared.event.Access.{Access}
 use Rattle.bus.specs.declared.event.Access.TheVariants.{Reads}
 use Rattle.bring_up.specs.WrittenRegisters.{handled_causes}
 use Rattle.driver_law.specs.Accesses.{last_load, stores_from, tail_write, takes_from}
-use Rattle.driver_law.specs.Calls.{Moment, Ran, held_at}
-use Rattle.driver_law.specs.DriverState.{DriverState, HandedOut, holding, next_receive, numbers_of, owners}
-use Rattle.driver_law.specs.Stretches.{FlowsTo, HasNoForgottenWork, IsRefilled}
+use Rattle.driver_law.specs.Calls.{Moment, Ran, held_at, in_world_of}
+use Rattle.driver_law.specs.DriverState.{DriverState, HandedOut, next_receive, numbers_of, owners}
+use Rattle.driver_law.specs.Stretches.{FlowsTo, HasNoForgottenWork, IsRefilled, driver_did}
 use Rattle.driver_law.specs.RegisterReadings.{ReadsCauses, with_missed}
 use Rattle.driver.specs.TakenFrames.{IsPart, Scene, ShowsAll, frames_of, moment, received_of}
 use Rattle.driver.specs.declared.interrupt.Handled.{Handled}
@@ -37,27 +37,36 @@ IfNotMine (answers.Handled taken) P = Unit {0}
 abbrev pub handled_accesses : DriverState → (misses : ℕ) → (taken rest offered : List ℕ) → (last : ℕ) → List Access
 handled_accesses d misses taken rest offered last =
     Reads MPC misses ∷
-    (takes_from d.counts d.oldest_receive taken ++ last_load (place d.counts.rx d.oldest_receive (length taken)) rest)
-    ++ (stores_from d.counts (next_receive d) offered ++ tail_write last (d.staged ++ offered))
+    (takes_from d.layout d.oldest_receive taken ++ last_load (place d.layout.rx d.oldest_receive (length taken)) rest)
+    ++ (stores_from d.layout (next_receive d) offered ++ tail_write last (d.staged ++ offered))
+
+-- The slots of the buffers `taken` were the oldest. Then slots are offered after the others: those that were staged, and new ones with the
+-- buffers `offered`. `misses` is the value read from MPC.
+pub record Served (d d' : DriverState) (taken : List ℕ) : Type 0 where
+  pub misses : ℕ
+  pub rest : List ℕ
+  pub offered : List ℕ
+  pub oldest : d.buffers ≡ taken ++ rest
+  pub newest : d'.buffers ≡ rest ++ (d.staged ++ offered)
+
+-- The value read from MPC is added to the driver's sum. No slot is bad.
+pub record AddsMisses (misses : ℕ) (d d' : DriverState) : Type 0 where
+  pub missed : d'.missed ≡ (with_missed misses d).missed
+  pub exact : d'.exact ≡ (with_missed misses d).exact
+  pub bad : d'.bad ≡ d.bad
 
 -- n slots are taken, and their frames are shown to the receiver, in order. It keeps those in `handed_out`.
 pub record Works {B R : Type 0} (bus : Ghosts B) (receivers : OfReceiver R) (n : ℕ) (up : Bool) (old new : Scene B R) : Type 0 where
-  pub misses : ℕ
   pub taken : List HandedOut
   pub handed_out : List HandedOut
-  pub rest : List ℕ
-  pub offered : List ℕ
   pub told : receivers.took old.receiver new.receiver (map received_of taken) (map received_of handed_out)
   pub part : IsPart handed_out taken
   pub count : length taken ≡ n
-  pub oldest : old.driver.buffers ≡ numbers_of taken ++ rest
-  pub newest : new.driver.buffers ≡ rest ++ (old.driver.staged ++ offered)
-  pub missed : new.driver.missed ≡ (with_missed misses old.driver).missed
-  pub exact : new.driver.exact ≡ (with_missed misses old.driver).exact
-  pub bad : new.driver.bad ≡ old.driver.bad
+  pub served : Served old.driver new.driver (numbers_of taken)
+  pub misses : AddsMisses served.misses old.driver new.driver
   pub ran :
       Ran bus up (record {
-        accesses = handled_accesses old.driver misses (numbers_of taken) rest offered (next_receive new.driver);
+        accesses = handled_accesses old.driver served.misses (numbers_of taken) served.rest served.offered (next_receive new.driver);
         taken = frames_of taken;
         accepted = [];
       }) (moment old) (held_at (old.driver.handed_out ++ handed_out) (moment new))
@@ -66,7 +75,7 @@ pub record Works {B R : Type 0} (bus : Ghosts B) (receivers : OfReceiver R) (n :
 pub record Asked {B : Type 0} (bus : Ghosts B) (up : Bool) (old : Moment B) : Type 0 where
   pub causes : ℕ
   pub after_read : B
-  pub reads : ReadsCauses up bus.world bus.happened old.bus after_read old.driver causes
+  pub reads : ReadsCauses bus up causes old after_read
 
 -- It does nothing: ICR had none of its causes.
 pub record LeavesIt {B : Type 0} (bus : Ghosts B) {up : Bool} (old new : Moment B) (asked : Asked bus up old) : Type 0 where
@@ -83,8 +92,9 @@ pub record HandlesIt {B R : Type 0} (bus : Ghosts B) (receivers : OfReceiver R) 
   pub least : length (finished old.driver.oldest_receive (bus.world old.bus)) ≤ n
   pub work : HasBit (bus.world old.bus).adapter.causes.mask rxt0 → HasNoForgottenWork new.driver (bus.world new.bus)
   -- both parts together
-  pub flows : FlowsTo up old.driver (bus.world old.bus) (holding (old.driver.handed_out ++ works.handed_out) new.driver)
-      (bus.world new.bus) (frames_of works.taken) [] (joined asked.reads.past works.ran.past)
+  pub flows : FlowsTo up (in_world_of bus (moment old))
+      (in_world_of bus (held_at (old.driver.handed_out ++ works.handed_out) (moment new)))
+      (driver_did (frames_of works.taken) []) (joined asked.reads.past works.ran.past)
 
 -- by the answer
 abbrev pub HandlesBy : {B R : Type 0} (bus : Ghosts B) → OfReceiver R → Handled → {up : Bool} → (old new : Scene B R)
@@ -102,7 +112,7 @@ pub record Handles {B R : Type 0} (bus : Ghosts B) (receivers : OfReceiver R) (r
 
 -- The sizes of rings and pool and the transmit slots don't change.
 pub record OnlyReceives (d d' : DriverState) : Type 0 where
-  pub counts : d'.counts ≡ d.counts
+  pub layout : d'.layout ≡ d.layout
   pub oldest : d'.oldest_transmit ≡ d.oldest_transmit
   pub sending : d'.sending ≡ d.sending
 
@@ -111,4 +121,4 @@ pub record Serves {R : Type 0} (receivers : OfReceiver R) (before after : R) (d 
   pub shows : ShowsAll receivers.took before after d d' n
   pub refilled : IsRefilled d'
   pub offered : d'.staged ≡ []
-  pub one_owner : HasNoSecondOwner d'.counts.buffers (owners d')
+  pub one_owner : HasNoSecondOwner d'.layout.buffers (owners d')

@@ -45,12 +45,11 @@ IsErrorOfInit errors.Config image accesses = accesses ≡ 0
 IsErrorOfInit error image accesses = IsErrorOf error image accesses
 
 -- An adapter isn't initialized.
-pub record Refuses {B : Type 0} (world : B → World) (happened : B → B → Past → Type 0) (lively : B → Type 0) (old new : B)
-    (error : InitError) : Type 0 where
+pub record Refuses {B : Type 0} (bus : Ghosts B) (old new : B) (error : InitError) : Type 0 where
   pub past : Past
-  pub told : happened old new past
-  pub why : IsErrorOfInit error (world old).adapter.image (length past.accesses)
-  pub why_lively : lively old → IsErrorOfLively error (world old)
+  pub told : bus.happened old new past
+  pub why : IsErrorOfInit error (bus.world old).adapter.image (length past.accesses)
+  pub why_lively : bus.lively old → IsErrorOfLively error (bus.world old)
 
 -- Its steps.
 
@@ -85,11 +84,11 @@ first_accesses counts numbers =
 
 pub record OffersFirst {B : Type 0} (bus : Ghosts B) (old new : Moment B) : Type 0 where
   pub numbers : List ℕ
-  pub count : length numbers + 1 ≡ old.driver.counts.rx
+  pub count : length numbers + 1 ≡ old.driver.layout.rx
   pub others : new.driver ≡ with_owners old.driver numbers [] new.driver.pool []
   pub pool : HaveSameNumbers old.driver.pool (numbers ++ new.driver.pool)
   -- If the driver is ready with its transmit side off, over a bus that obeys the law, the accesses are exactly these.
-  pub ran : IsReady bus false old → Ran bus false (only (first_accesses old.driver.counts numbers)) old new
+  pub ran : IsReady bus false old → Ran bus false (only (first_accesses old.driver.layout numbers)) old new
 
 -- The transmit descriptors are cleared, the ring set up, and TCTL written.
 abbrev pub transmit_accesses : Counts → List Access
@@ -104,42 +103,56 @@ pub record EndsWith (accesses last : List Access) : Type 0 where
   pub earlier : List Access
   pub whole : accesses ≡ earlier ++ last
 
+-- The receive slots are stored and offered, and RCTL is written, which ends the accesses `first`. Then the transmit side is set up, and the
+-- mask is written.
+pub record InitAccesses (config : Config) (d : DriverState) (first later : List Access) : Type 0 where
+  pub ends : EndsWith first
+      (first_accesses d.layout d.buffers ++ accesses_of (receive_writes config.promiscuous (names_vlans config.vlans)))
+  pub rest : later ≡ transmit_accesses d.layout ++ accesses_of mask_writes
+
+-- Frames since the write of RCTL. `later` is what happened after it.
+pub record FramesSinceStart (d : DriverState) (world : World) (later : Past) : Type 0 where
+  -- The frames held are those that were stored. Nothing was put, and nothing is to be sent.
+  pub held : frames_held d.oldest_receive world ≡ later.stored
+  pub none_put : later.put ≡ []
+  pub none_to_send : frames_to_send world ≡ []
+  -- If no frame was stored, no slot is finished, and RDH is 0.
+  pub none_finished : later.stored ≡ [] → finished d.oldest_receive world ≡ []
+  pub head : later.stored ≡ [] → world.adapter.receive_ring.head ≡ 0
+  -- MPC counts those missed, exactly while it doesn't saturate.
+  pub missed_most : world.adapter.missed_packets ≤ later.missed
+  pub missed : world.adapter.missed_packets < greatest_count → world.adapter.missed_packets ≡ later.missed
+
+-- The driver is ready, and no work is forgotten.
+pub record IsStarted (d : DriverState) (world : World) (later : Past) : Type 0 where
+  pub ready : Ready d world
+  pub work : HasNoForgottenWork d world
+  pub frames : FramesSinceStart d world later
+
+-- The EEPROM's words have the right sum, and their first three are the address. The adapter is set up as the configuration says, and the
+-- link is up.
+pub record IsSetUp (config : Config) (old new : World) : Type 0 where
+  pub sum : HasRightSum old.adapter.image
+  pub image : new.adapter.image ≡ old.adapter.image
+  pub configured : IsConfigured config (address_bytes old.adapter.image) (settings_of new.adapter)
+  pub up : HasLink new
+
 -- An adapter is initialized. Frames count from the write of RCTL on.
-pub record Initialises {B : Type 0} (world : B → World) (happened : B → B → Past → Type 0) (old new : B) (config : Config)
-    (d : DriverState) : Type 0 where
+pub record Initialises {B : Type 0} (bus : Ghosts B) (config : Config) (old new : B) (d : DriverState) : Type 0 where
   -- up to the write of RCTL, and after it
   pub middle : B
   pub first : Past
   pub later : Past
-  pub told_first : happened old middle first
-  pub told_later : happened middle new later
-  -- The receive slots are stored and offered, RCTL is written; then the transmit side is set up, and the mask written.
-  pub ends : EndsWith first.accesses
-      (first_accesses d.counts d.buffers ++ accesses_of (receive_writes config.promiscuous (names_vlans config.vlans)))
-  pub accesses : later.accesses ≡ transmit_accesses d.counts ++ accesses_of mask_writes
-  -- The driver is ready, and no work is forgotten.
-  pub ready : Ready d (world new)
-  pub work : HasNoForgottenWork d (world new)
-  -- The frames held are those stored since RCTL was written; nothing was put since then, and nothing is to be sent.
-  pub held : frames_held d.oldest_receive (world new) ≡ later.stored
-  pub none_put : later.put ≡ []
-  pub none_to_send : frames_to_send (world new) ≡ []
-  -- MPC counts those missed since then, exactly while it doesn't saturate.
-  pub missed_most : (world new).adapter.missed_packets ≤ later.missed
-  pub missed : (world new).adapter.missed_packets < greatest_count → (world new).adapter.missed_packets ≡ later.missed
-  -- The EEPROM's words have the right sum, and their first three are the address; the link is up.
-  pub sum : HasRightSum (world old).adapter.image
-  pub image : (world new).adapter.image ≡ (world old).adapter.image
-  pub configured : IsConfigured config (address_bytes (world old).adapter.image) (settings_of (world new).adapter)
-  pub up : HasLink (world new)
-  -- If no frame was stored, no slot is finished, and RDH is 0.
-  pub none_finished : later.stored ≡ [] → finished d.oldest_receive (world new) ≡ []
-  pub head : later.stored ≡ [] → (world new).adapter.receive_ring.head ≡ 0
+  pub told_first : bus.happened old middle first
+  pub told_later : bus.happened middle new later
+  pub accesses : InitAccesses config d first.accesses later.accesses
+  pub started : IsStarted d (bus.world new) later
+  pub adapter : IsSetUp config (bus.world old) (bus.world new)
 
 -- The driver of an adapter that was initialized, over any bus.
 pub record IsFresh (config : Config) (driver : DriverState) : Type 0 where
-  pub counts : driver.counts ≡ counts_of config
+  pub layout : driver.layout ≡ counts_of config
   pub new : driver ≡ with_owners (new_driver (counts_of config) []) driver.buffers [] driver.pool []
-  pub one_owner : HasOneOwner driver.counts.buffers (owners driver)
+  pub one_owner : HasOneOwner driver.layout.buffers (owners driver)
   pub none_out : driver.handed_out ≡ []
   pub refilled : IsRefilled driver

@@ -16,7 +16,7 @@ offered_count driver = length driver.buffers.items - driver.staged
 
 abbrev pub state_of : Inside → DriverState
 state_of driver = record {
-  counts = driver.layout;
+  layout = driver.layout;
   oldest_receive = driver.oldest_receive;
   buffers = take (offered_count driver) driver.buffers.items;
   staged = drop (offered_count driver) driver.buffers.items;

@@ -1,30 +1,24 @@
 -- What a driver does to offer receive slots.
 use Rattle.std.specs.Prelude.{◌≡◌, ◌++◌, ◌∷◌, ℕ, Bool, List, []}
 use Rattle.dma_memory.specs.Owners.{HasNoSecondOwner, HaveSameNumbers}
-use Rattle.adapter.specs.World.{World}
-use Rattle.bus.specs.PastOfStretch.{Past}
 use Rattle.driver_law.specs.Accesses.{stores_from, tail_write}
 use Rattle.bus.specs.declared.bus.Bus.{Ghosts}
-use Rattle.driver_law.specs.Calls.{IsReady, Moment, Ran, held_at, only}
-use Rattle.driver_law.specs.DriverState.{DriverState, HandedOut, holding, next_receive, owners, with_owners}
-use Rattle.driver_law.specs.Stretches.{IsRefilled, RanBy}
-use Rattle.driver_law.specs.ReadyDrivers.{ReadyWith}
+use Rattle.driver_law.specs.Calls.{IsReady, Moment, Ran, Runs, held_at, only}
+use Rattle.driver_law.specs.DriverState.{DriverState, HandedOut, next_receive, owners, with_owners}
+use Rattle.driver_law.specs.Stretches.{IsRefilled}
 
 -- The next slots are staged with these buffers of the pool: over a bus that obeys the law, by storing their descriptors one after the
 -- other.
-pub record Stages {B : Type 0} (honest : B → Type 0) (world : B → World) (happened : B → B → Past → Type 0) (old new : B)
-    (d d' : DriverState) (numbers : List ℕ) : Type 0 where
-  pub others : d' ≡ with_owners d d.buffers (d.staged ++ numbers) d'.pool d.handed_out
-  pub pool : HaveSameNumbers d.pool (numbers ++ d'.pool)
-  pub ran :
-      (up : Bool) (held : List HandedOut) → honest old → ReadyWith up (holding held d) (world old)
-      → RanBy up world happened (stores_from d.counts (next_receive d) numbers) old new (holding held d) (holding held d') [] []
+pub record Stages {B : Type 0} (bus : Ghosts B) (numbers : List ℕ) (old new : Moment B) : Type 0 where
+  pub others :
+      new.driver ≡ with_owners old.driver old.driver.buffers (old.driver.staged ++ numbers) new.driver.pool old.driver.handed_out
+  pub pool : HaveSameNumbers old.driver.pool (numbers ++ new.driver.pool)
+  pub ran : Runs bus (only (stores_from old.driver.layout (next_receive old.driver) numbers)) old new
 
 -- Some slots are staged.
-pub record StagesSome {B : Type 0} (honest : B → Type 0) (world : B → World) (happened : B → B → Past → Type 0) (old new : B)
-    (d d' : DriverState) : Type 0 where
+pub record StagesSome {B : Type 0} (bus : Ghosts B) (old new : Moment B) : Type 0 where
   pub numbers : List ℕ
-  pub stages : Stages honest world happened old new d d' numbers
+  pub stages : Stages bus numbers old new
 
 -- The next slots are offered with these buffers, after those that were staged before: their descriptors are stored, and then RDT is written
 -- once, if any slot was staged.
@@ -32,14 +26,14 @@ pub record Refills {B : Type 0} (bus : Ghosts B) (up : Bool) (old new : Moment B
   pub numbers : List ℕ
   pub offered : new.driver.buffers ≡ old.driver.buffers ++ (old.driver.staged ++ numbers)
   pub ran :
-      Ran bus up (only (stores_from old.driver.counts (next_receive old.driver) numbers
+      Ran bus up (only (stores_from old.driver.layout (next_receive old.driver) numbers
       ++ tail_write (next_receive new.driver) (old.driver.staged ++ numbers))) old new
 
 -- Over any bus: the ring is refilled, no slot is staged then, and nothing else changes.
 pub record OffersAll (d d' : DriverState) : Type 0 where
   pub others : d' ≡ with_owners d d'.buffers [] d'.pool []
   pub refilled : IsRefilled d'
-  pub one_owner : HasNoSecondOwner d'.counts.buffers (owners d')
+  pub one_owner : HasNoSecondOwner d'.layout.buffers (owners d')
 
 -- A call takes back the buffer of this number. If the bus obeys the law, and the driver is ready before the call with a frame held in that
 -- buffer, `Holds` relates the moments before and after it.

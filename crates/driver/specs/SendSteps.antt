@@ -7,7 +7,8 @@ use Rattle.bus.specs.declared.bus.Bus.{Ghosts}
 use Rattle.bus.specs.declared.event.Access.{Access}
 use Rattle.driver_law.specs.DriverState.{DriverState}
 use Rattle.driver_law.specs.Calls.{Did, Moment, Ran, WhereUp, only}
-use Rattle.driver_law.specs.TransmitSteps.{send_accesses, transmit_loads, with_freed}
+use Rattle.driver_law.specs.Accesses.{send_accesses, transmit_loads}
+use Rattle.driver_law.specs.TransmitSteps.{with_freed}
 use Rattle.driver.specs.declared.transmit.SendError.{SendError}
 use Rattle.driver.specs.declared.transmit.SendError.TheVariants.{TooShort, TooLong, RingFull}
 
@@ -17,7 +18,7 @@ with_transmit_slots d oldest sending = record d { oldest_transmit = oldest; send
 
 -- the descriptors of k of its slots are loaded, from the oldest on
 abbrev pub oldest_loads : DriverState → ℕ → List Access
-oldest_loads d k = transmit_loads d.counts d.oldest_transmit k
+oldest_loads d k = transmit_loads d.layout d.oldest_transmit k
 
 -- The oldest slot is freed.
 pub record FreesOldest (d d' : DriverState) : Type 0 where
@@ -60,7 +61,7 @@ accesses_by (Err RingFull) d d' frame = loads_to_free d d'.sending
 
 -- All slots but one are outstanding, and none of them is written back.
 abbrev pub IsFull : {B : Type 0} → Ghosts B → Moment B → Type 0
-IsFull bus now = (now.driver.sending + 1 ≡ now.driver.counts.tx) × (written_back now.driver.oldest_transmit (bus.world now.bus) ≡ [])
+IsFull bus now = (now.driver.sending + 1 ≡ now.driver.layout.tx) × (written_back now.driver.oldest_transmit (bus.world now.bus) ≡ [])
 
 -- What an answer says of the ring. Ok: each slot that was written back at entry is freed, and one more is outstanding. RingFull: the ring
 -- was full at entry, and it is full at the return, after the last load.

@@ -6,15 +6,12 @@ use Rattle.dma_memory.specs.Owners.{HaveSameNumbers, copies}
 use Rattle.rx_engine.specs.Addresses.{ether_type}
 use Rattle.descriptors.specs.RingLaws.{place}
 use Rattle.adapter.specs.Slots.{finished}
-use Rattle.adapter.specs.World.{World}
 use Rattle.bus.specs.declared.bus.Bus.{Ghosts}
-use Rattle.bus.specs.PastOfStretch.{Past}
 use Rattle.bus.specs.declared.event.Access.{Access}
 use Rattle.bus.specs.declared.event.Access.TheVariants.{Loads}
 use Rattle.driver_law.specs.Accesses.{last_load, takes_from}
-use Rattle.driver_law.specs.Calls.{IsReady, Moment, Ran, held_at, only}
+use Rattle.driver_law.specs.Calls.{IsReady, Moment, Ran, at, held_at, only}
 use Rattle.driver_law.specs.DriverState.{DriverState, HandedOut, buffer_at, holding, numbers_of, owners}
-use Rattle.driver_law.specs.Stretches.{RanBy}
 use Rattle.driver_law.specs.OldestSlot.{TakesOldest}
 use Rattle.driver_law.specs.ReceiveSteps.{behind_oldest}
 use Rattle.driver.specs.declared.receive.Finished.{Finished}
@@ -68,14 +65,6 @@ pub record HandsOn {R : Type 0} (took : R → R → List Received → List Recei
   pub bad : GrowsBy d.bad d'.bad (1 - length shown)
   pub buffers : HaveSameNumbers (number ∷ d.pool) (d'.pool ++ buffers_of kept)
 
--- Over a bus that obeys the law its frame was shown, after one load of its bytes 12 and 13.
-pub record HandsOver (up : Bool) {B R : Type 0} (world : B → World) (happened : B → B → Past → Type 0)
-    (took : R → R → List Received → List Received → Type 0) (old new : B) (before after : R) (one : HandedOut)
-    (d d' : DriverState) : Type 0 where
-  pub shows : Shows took before after (received_of one) d.pool d'.pool
-  pub bad : d'.bad ≡ d.bad
-  pub ran : RanBy up world happened (Loads (buffer_at d.counts one.number + 12) 2 ∷ []) old new d d [] []
-
 -- n slots were taken. Frames were shown one after the other, and the receiver kept some of them; the other slots were bad. Each buffer has
 -- the same number of owners as before, with the receiver among them.
 pub record ShowsAll {R : Type 0} (took : R → R → List Received → List Received → Type 0) (before after : R) (d d' : DriverState)
@@ -94,7 +83,7 @@ pub record ShowsAll {R : Type 0} (took : R → R → List Received → List Rece
 pub record LeavesRing (slot : Finished) (d d' : DriverState) : Type 0 where
   pub first : d.buffers ≡ slot.buffer ∷ d'.buffers
   pub behind : d' ≡ behind_oldest d d'.buffers d.handed_out
-  pub known : slot.buffer < d'.counts.buffers
+  pub known : slot.buffer < d'.layout.buffers
   pub out : copies slot.buffer (owners d') ≡ 0
   pub size : IsTrue slot.whole → IsFrameSize slot.length
 
@@ -106,7 +95,7 @@ pub record FindsNone {B : Type 0} (bus : Ghosts B) (up : Bool) (old new : Moment
 -- Over such a bus: it is done, and others hold its frame then.
 pub record FindsOne {B : Type 0} (bus : Ghosts B) (slot : Finished) (up : Bool) (old new : Moment B) : Type 0 where
   pub whole : IsTrue slot.whole
-  pub takes : TakesOldest up bus.world bus.happened old.bus new.bus old.driver slot.buffer slot.length new.driver.buffers
+  pub takes : TakesOldest bus up slot.buffer slot.length new.driver.buffers old new.bus
 
 abbrev pub LooksAt : {B : Type 0} → Ghosts B → Option Finished → Bool → (old new : Moment B) → Type 0
 LooksAt bus None = FindsNone bus
@@ -136,6 +125,23 @@ abbrev pub WhereReadyIn : {B R : Type 0} → Ghosts B → (old new : Scene B R) 
 WhereReadyIn bus old new Holds =
     (up : Bool) (held : List HandedOut) → IsReady bus up (held_at held (moment old)) → Holds up (held_in held old) (held_in held new)
 
+-- Over a bus that obeys the law, while others hold the frame of a whole slot that was taken, `Holds` relates the moments before and after
+-- a call that passes the slot on.
+abbrev pub WhereTaken : {B R : Type 0} → Ghosts B → Finished → (old new : Scene B R)
+    → (HandedOut → Bool → Scene B R → Scene B R → Type 0) → Type 0
+WhereTaken bus slot old new Holds =
+    (up : Bool) (held : List HandedOut) (one : HandedOut) → IsTrue slot.whole → one.number ≡ slot.buffer → length one.frame ≡ slot.length
+    → IsReady bus up (held_at (held ++ one ∷ []) (moment old))
+    → Holds one up (held_in (held ++ one ∷ []) old) (held_in (held ++ one ∷ []) new)
+
+-- Its frame was shown, after one load of its bytes 12 and 13.
+pub record HandsOver {B R : Type 0} (bus : Ghosts B) (receivers : OfReceiver R) (one : HandedOut) (up : Bool) (old new : Scene B R) : Type 0
+  where
+    pub shows : Shows receivers.took old.receiver new.receiver (received_of one) old.driver.pool new.driver.pool
+    pub bad : new.driver.bad ≡ old.driver.bad
+    pub ran :
+        Ran bus up (only (Loads (buffer_at old.driver.layout one.number + 12) 2 ∷ [])) (moment old) (at new.bus old.driver)
+
 -- the frames of slots that were taken
 abbrev pub frames_of : List HandedOut → List (List ℕ)
 frames_of taken = map (λ (one : HandedOut). one.frame) taken
@@ -153,7 +159,7 @@ pub record Takes {B R : Type 0} (bus : Ghosts B) (receivers : OfReceiver R) (lat
   pub bad : new.driver.bad ≡ old.driver.bad
   pub ran :
       Ran bus up (record {
-        accesses = takes_from old.driver.counts old.driver.oldest_receive (numbers_of taken) ++ later;
+        accesses = takes_from old.driver.layout old.driver.oldest_receive (numbers_of taken) ++ later;
         taken = frames_of taken;
         accepted = [];
       }) (moment old) (held_at (old.driver.handed_out ++ handed_out) (moment new))
@@ -161,7 +167,7 @@ pub record Takes {B R : Type 0} (bus : Ghosts B) (receivers : OfReceiver R) (lat
 -- Over any bus: n slots left the ring, and their frames were shown.
 pub record TakesSlots {R : Type 0} (receivers : OfReceiver R) (n : ℕ) (before after : R) (d d' : DriverState) : Type 0 where
   pub others : d' ≡ record d { oldest_receive = d'.oldest_receive; buffers = d'.buffers; pool = d'.pool; bad = d'.bad }
-  pub next : d'.oldest_receive ≡ place d'.counts.rx d.oldest_receive n
+  pub next : d'.oldest_receive ≡ place d'.layout.rx d.oldest_receive n
   pub count : n + length d'.buffers ≡ length d.buffers
   pub shows : ShowsAll receivers.took before after d d' n
 
@@ -169,6 +175,12 @@ pub record TakesSlots {R : Type 0} (receivers : OfReceiver R) (n : ℕ) (before 
 pub record TakesAll {B R : Type 0} (bus : Ghosts B) (receivers : OfReceiver R) (n : ℕ) (up : Bool) (old new : Scene B R) : Type 0 where
   pub none_left : finished new.driver.oldest_receive (bus.world new.bus) ≡ []
   pub takes : Takes bus receivers (last_load new.driver.oldest_receive new.driver.buffers) n up old new
+
+-- What is read as bytes 12 and 13 of a frame that is held in a buffer, over a bus that obeys the law.
+abbrev pub ReadsEtherType : {B : Type 0} → Ghosts B → (buffer : ℕ) → Moment B → (read : ℕ) → Type 0
+ReadsEtherType bus buffer now read =
+    (up : Bool) (held : List HandedOut) (one : HandedOut) → IsReady bus up (held_at (held ++ one ∷ []) now)
+    → one.number ≡ buffer → 14 ≤ length one.frame → read ≡ ether_type one.frame
 
 -- The bytes of a frame that is held, as they are read over a bus that obeys the law.
 abbrev pub ReadsHeld : {B : Type 0} → Ghosts B → Received → Moment B → List ℕ → Type 0

@@ -54,7 +54,7 @@ impl Model for Driver {
 impl Driver {
     /// Where its rings and buffers are, and the size of the memory that they need.
     pub fn layout(&self) -> Layout
-        ensures { result ≡ self.now.counts }
+        ensures { result ≡ self.now.layout }
     {
         self.layout
     }
@@ -62,7 +62,7 @@ impl Driver {
     /// The number of receive slots that are outstanding or staged. No buffer has two owners, at any time.
     pub fn receiving(&self) -> usize
         ensures count { result ≡ length self.now.buffers + length self.now.staged }
-        ensures one_owner { HasNoSecondOwner self.now.counts.buffers (owners self.now) }
+        ensures one_owner { HasNoSecondOwner self.now.layout.buffers (owners self.now) }
     {
         self.buffers.len()
     }

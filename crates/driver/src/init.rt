@@ -59,7 +59,7 @@ fn set_up_transmitter<B: Bus>(bus: &mut B, layout: Layout)
     requires allowed { IsAllowed layout }
     requires memory { size_of layout ≤ B.extent bus.old }
     ensures keeps { Keeps B.Bus bus.old bus.new }
-    ensures ran { (d : DriverState) → IsReady B.Bus false (at bus.old d) → d.counts ≡ layout
+    ensures ran { (d : DriverState) → IsReady B.Bus false (at bus.old d) → d.layout ≡ layout
         → d.oldest_transmit ≡ 0 → d.sending ≡ 0 → (B.world bus.old).adapter.transmit_ring ≡ new_ring
         → Ran B.Bus true (only (transmit_accesses layout)) (at bus.old d) (at bus.new d) }
 {
@@ -93,10 +93,10 @@ impl Driver {
 
     /// Offers all receive slots but the last, whose descriptor it clears.
     fn offer_first<B: Bus>(&mut self, bus: &mut B)
-        requires memory { size_of self.old.counts ≤ B.extent bus.old }
-        requires new { self.old ≡ new_driver self.old.counts self.old.pool }
-        requires one_owner { HasOneOwner self.old.counts.buffers self.old.pool }
-        requires enough { self.old.counts.rx ≤ self.old.counts.buffers }
+        requires memory { size_of self.old.layout ≤ B.extent bus.old }
+        requires new { self.old ≡ new_driver self.old.layout self.old.pool }
+        requires one_owner { HasOneOwner self.old.layout.buffers self.old.pool }
+        requires enough { self.old.layout.rx ≤ self.old.layout.buffers }
         ensures keeps { Keeps B.Bus bus.old bus.new }
         ensures offers { OffersFirst B.Bus (at bus.old self.old) (at bus.new self.new) }
     {
@@ -124,8 +124,8 @@ impl Driver {
 
         // And over one that obeys the law.
         ensures initialises { B.honest bus.old
-            → IfOk result (Initialises B.world B.happened bus.old bus.new config.now) }
-        ensures refuses { B.honest bus.old → IfErr result (Refuses B.world B.happened B.lively bus.old bus.new) }
+            → IfOk result (Initialises B.Bus config.now bus.old bus.new) }
+        ensures refuses { B.honest bus.old → IfErr result (Refuses B.Bus bus.old bus.new) }
     {
         let layout = config.layout(bus.size())?;
         let mut driver = Driver::new(alloc, layout)?;

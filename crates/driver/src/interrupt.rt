@@ -1,6 +1,6 @@
 // A driver handles an interrupt.
 
-ghost use Rattle.std.specs.Prelude.{◌≡◌, ◌↔◌, ◌⊎◌, ◌+◌, ◌<◌, ◌≤◌, ◌∷◌, [], IsTrue};
+ghost use Rattle.std.specs.Prelude.{◌≡◌, ◌↔◌, ◌<◌, ◌≤◌, ◌∷◌, [], IsTrue};
 ghost use Rattle.registers.specs.Bits.{Meet};
 ghost use Rattle.dma_memory.specs.Layout.{size_of};
 ghost use Rattle.bus.specs.declared.event.Access.TheVariants.{Reads};
@@ -60,7 +60,7 @@ impl Driver {
     /// Handles an interrupt. It reads ICR first. If ICR has none of TXDW, RXDMT0, RXO and RXT0, it does nothing more.
     /// Otherwise it reads MPC, takes every finished receive slot, and refills.
     pub fn interrupt<B: Bus, R: Receiver>(&mut self, bus: &mut B, receiver: &mut R) -> Handled
-        requires memory { size_of self.old.counts ≤ B.extent bus.old }
+        requires memory { size_of self.old.layout ≤ B.extent bus.old }
         ensures keeps { Keeps B.Bus bus.old bus.new }
 
         // What it does over any bus.

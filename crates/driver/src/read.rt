@@ -14,15 +14,15 @@ use bus::Bus;
 impl Driver {
     /// Copies a received frame to the front of `into`, by one load from its buffer, and returns its size in bytes.
     pub fn read<B: Bus>(&self, bus: &mut B, received: &Received, into: &mut [u8; 1518]) -> usize
-        requires memory { size_of self.now.counts ≤ B.extent bus.old }
-        requires known { received.now.buffer < self.now.counts.buffers }
+        requires memory { size_of self.now.layout ≤ B.extent bus.old }
+        requires known { received.now.buffer < self.now.layout.buffers }
         requires size { received.now.length ≤ 1518 }
         ensures keeps { Keeps B.Bus bus.old bus.new }
         ensures length { result ≡ received.now.length }
         ensures rest { drop result into.new ≡ drop result into.old }
 
         // And over a bus that obeys the law.
-        ensures ran { Runs B.Bus (only (Loads (buffer_at self.now.counts received.now.buffer) result ∷ []))
+        ensures ran { Runs B.Bus (only (Loads (buffer_at self.now.layout received.now.buffer) result ∷ []))
             (at bus.old self.now) (at bus.new self.now) }
         ensures frame { ReadsHeld B.Bus received.now (at bus.old self.now) (take result into.new) }
     {

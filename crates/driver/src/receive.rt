@@ -1,20 +1,17 @@
 // A driver takes received frames off its ring.
 
-ghost use Rattle.std.specs.Prelude.{◌≡◌, ◌↔◌, ◌+◌, ◌<◌, ◌≤◌, ◌++◌, ◌∷◌, Bool, List, [], length, IfNone, IfSome, IsTrue};
+ghost use Rattle.std.specs.Prelude.{◌≡◌, ◌↔◌, ◌+◌, ◌<◌, ◌≤◌, ◌∷◌, [], IfNone, IfSome, IsTrue};
 ghost use Rattle.dma_memory.specs.Layout.{size_of};
 ghost use Rattle.dma_memory.specs.Owners.{HasNoSecondOwner, copies};
 ghost use Rattle.registers.specs.Bits.{HasBit, is_set};
 ghost use Rattle.descriptors.specs.RxStatus.{dd, eop, status_bits};
-ghost use Rattle.rx_engine.specs.Addresses.{ether_type};
 ghost use Rattle.adapter.specs.Conditions.{IsWhole};
 ghost use Rattle.bus.specs.Keeping.{Keeps};
 ghost use Rattle.bus.specs.declared.event.Access.TheVariants.{Loads};
-ghost use Rattle.driver_law.specs.Calls.{WhereReady, at};
-ghost use Rattle.driver_law.specs.DriverState.{HandedOut, buffer_at, holding, owners};
-ghost use Rattle.driver_law.specs.Stretches.{RanBy};
-ghost use Rattle.driver_law.specs.ReadyDrivers.{ReadyWith};
-ghost use Rattle.driver.specs.TakenFrames.{HandsOn, HandsOver, IsFrameSize, LeavesRing, LooksAt, Shows};
-ghost use Rattle.driver.specs.TakenFrames.{TakesAll, TakesSlots, WhereReadyIn, scene};
+ghost use Rattle.driver_law.specs.Calls.{Runs, WhereReady, at, only};
+ghost use Rattle.driver_law.specs.DriverState.{buffer_at, owners};
+ghost use Rattle.driver.specs.TakenFrames.{HandsOn, HandsOver, IsFrameSize, LeavesRing, LooksAt, ReadsEtherType};
+ghost use Rattle.driver.specs.TakenFrames.{Shows, TakesAll, TakesSlots, WhereReadyIn, WhereTaken, scene};
 
 use crate::refill::receive_slot;
 use crate::{Driver, Received, Receiver};
@@ -69,7 +66,7 @@ impl Driver {
     /// Loads the descriptor of the oldest outstanding receive slot, and takes the slot if that has DD. DD and the
     /// length are of the same load.
     fn take_next<B: Bus>(&mut self, bus: &mut B) -> Option<Finished>
-        requires memory { size_of self.old.counts ≤ B.extent bus.old }
+        requires memory { size_of self.old.layout ≤ B.extent bus.old }
         ensures keeps { Keeps B.Bus bus.old bus.new }
         ensures stays { IfNone result (self.new ≡ self.old) }
         ensures leaves { IfSome result (λ slot. LeavesRing slot self.old self.new) }
@@ -97,16 +94,12 @@ impl Driver {
 
     /// Bytes 12 and 13 of the frame in a buffer, by one load.
     fn ether_type<B: Bus>(&self, bus: &mut B, buffer: u16) -> u16
-        requires memory { size_of self.now.counts ≤ B.extent bus.old }
-        requires known { buffer < self.now.counts.buffers }
+        requires memory { size_of self.now.layout ≤ B.extent bus.old }
+        requires known { buffer < self.now.layout.buffers }
         ensures keeps { Keeps B.Bus bus.old bus.new }
-        ensures ran { (up : Bool) (held : List HandedOut) → B.honest bus.old
-            → ReadyWith up (holding held self.now) (B.world bus.old)
-            → RanBy up B.world B.happened (Loads (buffer_at self.now.counts buffer + 12) 2 ∷ []) bus.old bus.new
-            (holding held self.now) (holding held self.now) [] [] }
-        ensures shows { (up : Bool) (held : List HandedOut) (one : HandedOut) → B.honest bus.old
-            → ReadyWith up (holding (held ++ one ∷ []) self.now) (B.world bus.old)
-            → one.number ≡ buffer → 14 ≤ length one.frame → result ≡ ether_type one.frame }
+        ensures ran { Runs B.Bus (only (Loads (buffer_at self.now.layout buffer + 12) 2 ∷ []))
+            (at bus.old self.now) (at bus.new self.now) }
+        ensures shows { ReadsEtherType B.Bus buffer (at bus.old self.now) result }
     {
         let mut bytes = [0; 2];
         bus.load(self.layout.receive_buffer(buffer) + ETHER_TYPE, &mut bytes);
@@ -115,7 +108,7 @@ impl Driver {
 
     /// Shows a frame to the receiver, and puts its buffer into the pool if the receiver returns it.
     fn show<R: Receiver>(&mut self, received: Received, receiver: &mut R)
-        requires known { received.buffer < self.old.counts.buffers }
+        requires known { received.buffer < self.old.layout.buffers }
         requires out { copies received.buffer (owners self.old) ≡ 0 }
         ensures others { self.new ≡ record self.old { pool = self.new.pool } }
         ensures shows { Shows R.took receiver.old receiver.new received self.old.pool self.new.pool }
@@ -128,18 +121,16 @@ impl Driver {
     /// Passes on a slot that was taken. If its descriptor is that of a whole frame, the receiver takes it. Otherwise
     /// its buffer goes back to the pool, and it counts as bad.
     fn hand_on<B: Bus, R: Receiver>(&mut self, bus: &mut B, finished: Finished, receiver: &mut R)
-        requires memory { size_of self.old.counts ≤ B.extent bus.old }
-        requires known { finished.buffer < self.old.counts.buffers }
+        requires memory { size_of self.old.layout ≤ B.extent bus.old }
+        requires known { finished.buffer < self.old.layout.buffers }
         requires out { copies finished.buffer (owners self.old) ≡ 0 }
         requires size { IsTrue finished.whole → IsFrameSize finished.length }
         ensures keeps { Keeps B.Bus bus.old bus.new }
         ensures others { self.new ≡ record self.old { pool = self.new.pool; bad = self.new.bad } }
         ensures hands { HandsOn R.took receiver.old receiver.new finished.buffer self.old self.new }
-        ensures over { (up : Bool) (held : List HandedOut) (one : HandedOut) → B.honest bus.old
-            → ReadyWith up (holding (held ++ one ∷ []) self.old) (B.world bus.old)
-            → one.number ≡ finished.buffer → length one.frame ≡ finished.length → IsTrue finished.whole
-            → HandsOver up B.world B.happened R.took bus.old bus.new receiver.old receiver.new one
-            (holding (held ++ one ∷ []) self.old) (holding (held ++ one ∷ []) self.new) }
+        ensures over { WhereTaken B.Bus finished
+            (scene bus.old self.old receiver.old) (scene bus.new self.new receiver.new)
+            (HandsOver B.Bus R.Receiver) }
     {
         if !finished.whole {
             self.put_back(finished.buffer);
@@ -159,10 +150,10 @@ impl Driver {
     /// frame to the receiver, and returns the number of slots taken. Each descriptor is loaded once. After that of a
     /// whole frame, bytes 12 and 13 of the frame are loaded.
     pub fn take_finished<B: Bus, R: Receiver>(&mut self, bus: &mut B, receiver: &mut R) -> usize
-        requires memory { size_of self.old.counts ≤ B.extent bus.old }
+        requires memory { size_of self.old.layout ≤ B.extent bus.old }
         ensures keeps { Keeps B.Bus bus.old bus.new }
         ensures slots { TakesSlots R.Receiver result receiver.old receiver.new self.old self.new }
-        ensures one_owner { HasNoSecondOwner self.new.counts.buffers (owners self.new) }
+        ensures one_owner { HasNoSecondOwner self.new.layout.buffers (owners self.new) }
         ensures takes { WhereReadyIn B.Bus (scene bus.old self.old receiver.old) (scene bus.new self.new receiver.new)
             (TakesAll B.Bus R.Receiver result) }
     {

@@ -44,15 +44,15 @@ impl Driver {
     /// Stores the descriptor of the next receive slot, with a free buffer, if there is one, and if one slot more is
     /// left after that. Returns whether it did.
     fn stage<B: Bus>(&mut self, bus: &mut B) -> bool
-        requires memory { size_of self.old.counts ≤ B.extent bus.old }
+        requires memory { size_of self.old.layout ≤ B.extent bus.old }
         ensures keeps { Keeps B.Bus bus.old bus.new }
         ensures stages { OnTrue result ((number : ℕ)
-            × Stages B.honest B.world B.happened bus.old bus.new self.old self.new (number ∷ [])) }
-        ensures room { length self.new.buffers + length self.new.staged < self.new.counts.rx }
+            × Stages B.Bus (number ∷ []) (at bus.old self.old) (at bus.new self.new)) }
+        ensures room { length self.new.buffers + length self.new.staged < self.new.layout.rx }
         ensures stays { OnFalse result (self.new ≡ self.old) }
         ensures still { OnFalse result (bus.new ≡ bus.old) }
         ensures full { OnFalse result
-            ((self.new.pool ≡ []) ⊎ (length self.new.buffers + length self.new.staged + 1 ≡ self.new.counts.rx)) }
+            ((self.new.pool ≡ []) ⊎ (length self.new.buffers + length self.new.staged + 1 ≡ self.new.layout.rx)) }
     {
         let count = self.layout.rx();
         if self.buffers.len() + 1 == usize::from(count) {
@@ -71,12 +71,12 @@ impl Driver {
 
     /// Stages slots until no buffer is free, or one slot is left, which stays the driver's.
     pub(crate) fn stage_all<B: Bus>(&mut self, bus: &mut B)
-        requires memory { size_of self.old.counts ≤ B.extent bus.old }
+        requires memory { size_of self.old.layout ≤ B.extent bus.old }
         ensures keeps { Keeps B.Bus bus.old bus.new }
-        ensures stages { StagesSome B.honest B.world B.happened bus.old bus.new self.old self.new }
-        ensures room { length self.new.buffers + length self.new.staged < self.new.counts.rx }
+        ensures stages { StagesSome B.Bus (at bus.old self.old) (at bus.new self.new) }
+        ensures room { length self.new.buffers + length self.new.staged < self.new.layout.rx }
         ensures full { (self.new.pool ≡ [])
-            ⊎ (length self.new.buffers + length self.new.staged + 1 ≡ self.new.counts.rx) }
+            ⊎ (length self.new.buffers + length self.new.staged + 1 ≡ self.new.layout.rx) }
     {
         while self.stage(bus) {}
     }
@@ -86,7 +86,7 @@ impl Driver {
         ensures keeps { Keeps B.Bus bus.old bus.new }
         ensures others { self.new ≡ with_owners self.old (self.old.buffers ++ self.old.staged) [] self.old.pool [] }
         ensures owners { HaveSameNumbers (owners self.old) (owners self.new) }
-        ensures one_owner { HasNoSecondOwner self.new.counts.buffers (owners self.new) }
+        ensures one_owner { HasNoSecondOwner self.new.layout.buffers (owners self.new) }
         ensures ran { Runs B.Bus (only (tail_write (next_receive self.old) self.old.staged))
             (at bus.old self.old) (at bus.new self.new) }
     {
@@ -99,11 +99,11 @@ impl Driver {
 
     /// Puts a buffer back into the pool.
     pub(crate) fn put_back(&mut self, buffer: BufId)
-        requires known { buffer < self.old.counts.buffers }
+        requires known { buffer < self.old.layout.buffers }
         requires out { copies buffer (owners self.old) ≡ 0 }
         ensures others { self.new ≡ record self.old { pool = self.new.pool } }
         ensures back { HaveSameNumbers (buffer ∷ self.old.pool) self.new.pool }
-        ensures one_owner { HasNoSecondOwner self.new.counts.buffers (owners self.new) }
+        ensures one_owner { HasNoSecondOwner self.new.layout.buffers (owners self.new) }
     {
         self.pool.give(buffer);
     }
@@ -111,7 +111,7 @@ impl Driver {
     /// Offers receive slots with free buffers, until no buffer is free, or one slot is left, which stays the driver's.
     /// It stores their descriptors, and then writes RDT once, if any were stored.
     pub fn refill<B: Bus>(&mut self, bus: &mut B)
-        requires memory { size_of self.old.counts ≤ B.extent bus.old }
+        requires memory { size_of self.old.layout ≤ B.extent bus.old }
         ensures keeps { Keeps B.Bus bus.old bus.new }
         ensures offers { OffersAll self.old self.new }
         ensures owners { HaveSameNumbers (owners self.old) (owners self.new) }
@@ -123,8 +123,8 @@ impl Driver {
 
     /// Puts the buffer of a frame that a receiver kept back into the pool, and refills.
     pub fn give<B: Bus>(&mut self, bus: &mut B, buffer: BufId)
-        requires memory { size_of self.old.counts ≤ B.extent bus.old }
-        requires known { buffer < self.old.counts.buffers }
+        requires memory { size_of self.old.layout ≤ B.extent bus.old }
+        requires known { buffer < self.old.layout.buffers }
         requires out { copies buffer (owners self.old) ≡ 0 }
         ensures keeps { Keeps B.Bus bus.old bus.new }
         ensures offers { OffersAll self.old self.new }

@@ -8,7 +8,7 @@ ghost use Rattle.descriptors.specs.TxFields.{tx_dd};
 ghost use Rattle.bus.specs.Keeping.{Keeps};
 ghost use Rattle.driver_law.specs.Calls.{Ran, WhereUp, at};
 ghost use Rattle.driver_law.specs.DriverState.{transmit_slot, transmit_tail};
-ghost use Rattle.driver_law.specs.TransmitSteps.{whole_descriptor};
+ghost use Rattle.driver_law.specs.Accesses.{whole_descriptor};
 ghost use Rattle.driver.specs.SendSteps.{FreesOldest, HasWrongLength, LooksBack, Reclaims, Transmits};
 ghost use Rattle.driver.specs.SendSteps.{sent_now, with_transmit_slots};
 
@@ -77,7 +77,7 @@ fn whole_packet(buffer: u64, size: u16) -> [u8; 16]
 impl Driver {
     /// Frees the oldest transmit slot if its descriptor has DD, and returns whether it did.
     fn free_oldest<B: Bus>(&mut self, bus: &mut B) -> bool
-        requires memory { size_of self.old.counts ≤ B.extent bus.old }
+        requires memory { size_of self.old.layout ≤ B.extent bus.old }
         ensures keeps { Keeps B.Bus bus.old bus.new }
         ensures freed { OnTrue result (FreesOldest self.old self.new) }
         ensures stays { OnFalse result (self.new ≡ self.old) }
@@ -102,7 +102,7 @@ impl Driver {
     /// Frees the oldest transmit slots whose descriptors have DD, up to the first without it, or until none is
     /// outstanding.
     pub(crate) fn reclaim<B: Bus>(&mut self, bus: &mut B)
-        requires memory { size_of self.old.counts ≤ B.extent bus.old }
+        requires memory { size_of self.old.layout ≤ B.extent bus.old }
         ensures keeps { Keeps B.Bus bus.old bus.new }
         ensures others { self.new ≡ with_transmit_slots self.old self.new.oldest_transmit self.new.sending }
         ensures tail { transmit_tail self.new ≡ transmit_tail self.old }
@@ -114,8 +114,8 @@ impl Driver {
     /// Sends a frame in the slot after the outstanding ones: stores its bytes into the slot's buffer, then its
     /// descriptor, and then writes TDT.
     fn send<B: Bus>(&mut self, bus: &mut B, frame: &[u8])
-        requires memory { size_of self.old.counts ≤ B.extent bus.old }
-        requires room { self.old.sending + 1 < self.old.counts.tx }
+        requires memory { size_of self.old.layout ≤ B.extent bus.old }
+        requires room { self.old.sending + 1 < self.old.layout.tx }
         requires least { 14 ≤ length frame.now }
         requires most { length frame.now ≤ 1518 }
         ensures keeps { Keeps B.Bus bus.old bus.new }
@@ -144,7 +144,7 @@ impl Driver {
     /// [`TooLong`](SendError::TooLong) if it has more than 1,518; in both cases there is no access. E22
     /// [`RingFull`](SendError::RingFull) if all slots of the ring but one are still outstanding.
     pub fn transmit<B: Bus>(&mut self, bus: &mut B, frame: &[u8]) -> Result<(), SendError>
-        requires memory { size_of self.old.counts ≤ B.extent bus.old }
+        requires memory { size_of self.old.layout ≤ B.extent bus.old }
         ensures keeps { Keeps B.Bus bus.old bus.new }
 
         // What it does over any bus.

@@ -26,39 +26,44 @@ pub record SameParts (a b : World) : Type 0 where
   pub buffer : b.adapter.transmitter.buffer ≡ a.adapter.transmitter.buffer
 
 transmit-left : (up : Bool) (driver : DriverState) (a b : World) → SameParts a b
-    → TransmitIs up driver.counts driver.oldest_transmit driver.sending a.memory
+    → TransmitIs up driver.layout driver.oldest_transmit driver.sending a.memory
     (transmit_ring a) a.adapter.transmit_control a.adapter.transmitter.buffer
-    → TransmitIs up driver.counts driver.oldest_transmit driver.sending b.memory
+    → TransmitIs up driver.layout driver.oldest_transmit driver.sending b.memory
     (transmit_ring b) b.adapter.transmit_control b.adapter.transmitter.buffer
 transmit-left up driver a b same transmit =
-    let Is = TransmitIs up driver.counts driver.oldest_transmit driver.sending in
+    let Is = TransmitIs up driver.layout driver.oldest_transmit driver.sending in
     subst (λ (memory : List ℕ). Is memory (transmit_ring b) b.adapter.transmit_control b.adapter.transmitter.buffer) (sym same.memory)
     (subst (λ (ring : RingRegisters). Is a.memory (ring_of ring) b.adapter.transmit_control b.adapter.transmitter.buffer)
     (sym same.transmits)
     (subst (λ (control : ℕ). Is a.memory (transmit_ring a) control b.adapter.transmitter.buffer) (sym same.transmit_control)
     (subst (λ (buffer : List Queued). Is a.memory (transmit_ring a) a.adapter.transmit_control buffer) (sym same.buffer) transmit)))
 
--- A driver is ready in the one as in the other, where frames and slots are the same.
+-- A driver is ready in both worlds if frames and slots are the same.
 pub ready-left : {up : Bool} (driver : DriverState) (a b : World) → ReadyWith up driver a
     → LeavesFrames driver.oldest_receive driver.oldest_transmit a b → SameParts a b → ReadyWith up driver b
 ready-left {up} driver a b ready leaves same =
-    let counts = driver.counts in
+    let counts = driver.layout in
     let size : buffer_size b ≡ buffer_size a = ap (λ (rctl : ℕ). buffer_size_of (field rctl 16 2)) same.receive_control in
     record {
       driver_is = ready.driver_is;
-      sound = leaves.same.sound;
-      runs = leaves.runs ready.runs;
-      fit = leaves.same.fits (omega (arith, size)) ready.fit;
-      whole = leaves.same.whole ready.whole;
+      law = record {
+        sound = leaves.same.sound;
+        runs = leaves.runs ready.law.runs;
+        fit = leaves.same.fits (omega (arith, size)) ready.law.fit;
+        whole = leaves.same.whole ready.law.whole;
+      };
       lies = subst (λ (memory : List ℕ). size_of counts ≤ length memory) (sym same.memory) ready.lies;
       size = size ∙ ready.size;
       receive = subst (λ (ring : RingRegisters). KnowsRing (ring_of ring) 0 counts.rx (receive_tail driver))
           (sym same.receives) ready.receive;
       transmit = transmit-left up driver a b same ready.transmit;
-      names =
-          ap (λ (memory : List ℕ). map (named_address memory) (outstanding (receive_ring b) driver.oldest_receive)) same.memory
-          ∙ ap (λ (ring : RingRegisters). map (named_address a.memory) (outstanding (ring_of ring) driver.oldest_receive)) same.receives
-          ∙ ready.names;
-      stored = subst (λ (memory : List ℕ). AreStored memory counts (receive_tail driver) driver.staged) (sym same.memory) ready.stored;
+      slots = record {
+        names =
+            ap (λ (memory : List ℕ). map (named_address memory) (outstanding (receive_ring b) driver.oldest_receive)) same.memory
+            ∙ ap (λ (ring : RingRegisters). map (named_address a.memory) (outstanding (ring_of ring) driver.oldest_receive)) same.receives
+            ∙ ready.slots.names;
+        stored = subst (λ (memory : List ℕ). AreStored memory counts (receive_tail driver) driver.staged) (sym same.memory)
+            ready.slots.stored;
+      };
       stand = subst (λ (memory : List ℕ). All (Stands counts memory) driver.handed_out) (sym same.memory) ready.stand;
     }

@@ -38,16 +38,20 @@ drivers_begin up counts pool world begun =
     ≡ [] = subst (λ (oldest : ℕ). outstanding (receive_ring world) oldest ≡ []) first (outstanding-none (receive_ring world)) in
     let none : finished 0 world ≡ [] = ap (take_while (is_done world.memory)) clear in
     record {
-      driver_is = record { oldest_slot = begun.slots; room = begun.slots; one_owner = begun.one_owner; addresses = begun.addresses };
-      sound = subst (λ (oldest : ℕ). Sound 0 oldest world) last own;
-      runs = begun.runs;
-      fit = begun-fits world none begun.idle.work;
-      whole = subst (AreWhole world.memory) (sym none) (all-none _);
+      driver_is = begun.driver_is;
+      law = record {
+        sound = subst (λ (oldest : ℕ). Sound 0 oldest world) last own;
+        runs = begun.runs;
+        fit = begun-fits world none begun.idle.work;
+        whole = subst (AreWhole world.memory) (sym none) (all-none _);
+      };
       lies = begun.lies;
       size = begun.size;
       receive = begun.receive;
       transmit = begun.transmit;
-      names = ap (map (named_address world.memory)) clear;
-      stored = tt;
+      slots = record {
+        names = ap (map (named_address world.memory)) clear;
+        stored = tt;
+      };
       stand = all-none _;
     }

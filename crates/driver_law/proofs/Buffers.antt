@@ -65,43 +65,43 @@ transmit-away false counts p sending world number known side =
       sources = subst (λ (list : List ℕ). All (λ slot. AreApart (data_of world.memory slot) area) list) (sym none) (all-none _);
     }
 
-buffer-spare : {up : Bool} (d : DriverState) (world : World) (number : ℕ) → ReadyWith up d world → number < d.counts.buffers
+buffer-spare : {up : Bool} (d : DriverState) (world : World) (number : ℕ) → ReadyWith up d world → number < d.layout.buffers
     → copies number d.buffers ≡ 0
-    → IsSpare d.oldest_receive d.oldest_transmit world (area_of d.counts (ReceiveBuffer number))
+    → IsSpare d.oldest_receive d.oldest_transmit world (area_of d.layout (ReceiveBuffer number))
 buffer-spare {up} d world number ready known free =
-    let area = area_of d.counts (ReceiveBuffer number) in
+    let area = area_of d.layout (ReceiveBuffer number) in
     let Away : ℕ → Type 0 = λ address. AreApart (area_at address (buffer_size world)) area in
-    let each : All Away (map (buffer_at d.counts) d.buffers) = All-map Away (buffer_at d.counts) d.buffers
-    (all-copies (λ m. Away (buffer_at d.counts m)) d.buffers (λ m some.
+    let each : All Away (map (buffer_at d.layout) d.buffers) = All-map Away (buffer_at d.layout) d.buffers
+    (all-copies (λ m. Away (buffer_at d.layout m)) d.buffers (λ m some.
     let differ : m ≢ number = λ same. absurd (omega (arith, some, free, ap (λ (k : ℕ). copies k d.buffers) same)) in
-    subst (λ (size : ℕ). AreApart (area_at (buffer_at d.counts m) size) area) (sym ready.size)
-    (places-apart d.counts (ReceiveBuffer m) (ReceiveBuffer number) (outstanding-number d m ready.driver_is some) known
+    subst (λ (size : ℕ). AreApart (area_at (buffer_at d.layout m) size) area) (sym ready.size)
+    (places-apart d.layout (ReceiveBuffer m) (ReceiveBuffer number) (outstanding-number d m ready.driver_is some) known
     (λ same. differ (cc))))) in
-    let away = transmit-away up d.counts d.oldest_transmit d.sending world number known ready.transmit in
+    let away = transmit-away up d.layout d.oldest_transmit d.sending world number known ready.transmit in
     record {
       receive_slots = subst (λ (other : Area). AreApart other area) (sym (known-area _ _ _ _ ready.receive))
-          (places-apart d.counts ReceiveRing (ReceiveBuffer number) tt known (λ same. absurd (cc)));
+          (places-apart d.layout ReceiveRing (ReceiveBuffer number) tt known (λ same. absurd (cc)));
       transmit_slots = away.ring;
       buffers = all-unmapped Away (named_address world.memory) (outstanding (receive_ring world) d.oldest_receive)
-          (subst (λ (list : List ℕ). All Away list) (sym ready.names) each);
+          (subst (λ (list : List ℕ). All Away list) (sym ready.slots.names) each);
       sources = away.sources;
     }
 
 -- Each buffer lies in memory.
-pub buffer-lies : {up : Bool} (d : DriverState) (world : World) (number : ℕ) → ReadyWith up d world → number < d.counts.buffers
-    → LiesIn world.memory (buffer_at d.counts number) 2048
-buffer-lies {up} d world number ready known = let ends = place-below_size d.counts (ReceiveBuffer number) known in omega
+pub buffer-lies : {up : Bool} (d : DriverState) (world : World) (number : ℕ) → ReadyWith up d world → number < d.layout.buffers
+    → LiesIn world.memory (buffer_at d.layout number) 2048
+buffer-lies {up} d world number ready known = let ends = place-below_size d.layout (ReceiveBuffer number) known in omega
     (arith, ends, ready.lies)
 
 -- It lies in memory, apart from all that the conditions of the law name, and isn't the adapter's to write. This ends what is said of areas:
 -- from
 -- here on numbers are counted.
 pub record IsAside (d : DriverState) (world : World) (number : ℕ) : Type 0 where
-  pub lies : LiesIn world.memory (buffer_at d.counts number) 2048
-  pub apart : All (λ other. AreApart other (area_of d.counts (ReceiveBuffer number))) (areas d.oldest_receive world)
-  pub foreign : IsForeign world (area_of d.counts (ReceiveBuffer number))
+  pub lies : LiesIn world.memory (buffer_at d.layout number) 2048
+  pub apart : All (λ other. AreApart other (area_of d.layout (ReceiveBuffer number))) (areas d.oldest_receive world)
+  pub foreign : IsForeign world (area_of d.layout (ReceiveBuffer number))
 
-pub buffer-aside : {up : Bool} (d : DriverState) (world : World) (number : ℕ) → ReadyWith up d world → number < d.counts.buffers
+pub buffer-aside : {up : Bool} (d : DriverState) (world : World) (number : ℕ) → ReadyWith up d world → number < d.layout.buffers
     → copies number d.buffers ≡ 0 → IsAside d world number
 buffer-aside {up} d world number ready known free =
     let o = d.oldest_receive in
@@ -109,11 +109,11 @@ buffer-aside {up} d world number ready known free =
     let spare = buffer-spare d world number ready known free in
     record {
       lies = buffer-lies d world number ready known;
-      apart = spare-apart o p world _ ready.sound ready.fit spare;
-      foreign = spare-foreign o p world _ ready.sound ready.fit spare;
+      apart = spare-apart o p world _ ready.law.sound ready.law.fit spare;
+      foreign = spare-foreign o p world _ ready.law.sound ready.law.fit spare;
     }
 
--- The first bytes of an area stay where all of them do.
+-- The first bytes of an area are the same if all its bytes are.
 pub front-same : (memory memory' : List ℕ) (address n size : ℕ) → n ≤ size → bytes_at memory' address size ≡ bytes_at memory address size
     → bytes_at memory' address n ≡ bytes_at memory address n
 front-same memory memory' address n size short same =
@@ -125,18 +125,18 @@ front-same memory memory' address n size short same =
     take-shorter (suc i) (suc j) [] below = refl
     take-shorter (suc i) (suc j) (x ∷ xs) below = ap (λ (list : List ℕ). x ∷ list) (take-shorter i j xs (omega (arith, below)))
 
--- Frames that were handed out stand, where the buffers stay that no outstanding slot has.
+-- Frames that others hold are still in their buffers, if the buffers without an outstanding slot are the same.
 pub stand-kept : {up : Bool} (d : DriverState) (a b : World) → ReadyWith up d a
-    → ((number : ℕ) → number < d.counts.buffers → copies number d.buffers ≡ 0
-    → bytes_in b.memory (area_of d.counts (ReceiveBuffer number)) ≡ bytes_in a.memory (area_of d.counts (ReceiveBuffer number)))
-    → All (Stands d.counts b.memory) d.handed_out
+    → ((number : ℕ) → number < d.layout.buffers → copies number d.buffers ≡ 0
+    → bytes_in b.memory (area_of d.layout (ReceiveBuffer number)) ≡ bytes_in a.memory (area_of d.layout (ReceiveBuffer number)))
+    → All (Stands d.layout b.memory) d.handed_out
 stand-kept {up} d a b ready same = each d.handed_out (λ k. omega arith) ready.stand
   where
     Before : HandedOut → Type 0
-    Before = Stands d.counts a.memory
+    Before = Stands d.layout a.memory
 
     Behind : HandedOut → Type 0
-    Behind = Stands d.counts b.memory
+    Behind = Stands d.layout b.memory
 
     each : (list : List HandedOut) → ((k : ℕ) → copies k (numbers_of list) ≤ copies k (numbers_of d.handed_out)) → All Before list
         → All Behind list
@@ -147,7 +147,7 @@ stand-kept {up} d a b ready same = each d.handed_out (λ k. omega arith) ready.s
         let stands = all-head Before one list stand in
         All-cons Behind one list
         (record {
-          bytes = front-same a.memory b.memory (buffer_at d.counts one.number) (length one.frame) 2048 (omega (arith, stands.short))
+          bytes = front-same a.memory b.memory (buffer_at d.layout one.number) (length one.frame) 2048 (omega (arith, stands.short))
               (same one.number elsewhere.known elsewhere.free) ∙ stands.bytes;
           short = stands.short;
         })

@@ -15,10 +15,10 @@ pub ran-on : {B : Type 0} (bus : Ghosts B)
     → {first_up up : Bool} {one two : Did} {a b c : Moment B} → Ran bus first_up one a b → Ran bus up two b c
     → Ran bus up (both one two) a c
 ran-on bus joins {first_up} {up} {one} {two} {a} {b} {c} ran later =
-    ran_by-join bus.world bus.happened joins one.accesses two.accesses a.bus b.bus c.bus a.driver b.driver c.driver one.taken two.taken
+    ran_by-join bus joins one.accesses two.accesses a.bus b.bus c.bus a.driver b.driver c.driver one.taken two.taken
     one.accepted two.accepted ran later
 
--- What it is ready for next.
+-- The driver is ready for the next call.
 pub ready-on : {B : Type 0} (bus : Ghosts B) {up : Bool} {did : Did} (a b : Moment B) → Keeps bus a.bus b.bus → IsReady bus up a
     → Ran bus up did a b → IsReady bus up b
 ready-on bus a b keeps is ran = record { honest = keeps.honest is.honest; ready = ran.goes.flows.ready }

@@ -32,7 +32,7 @@ frames-count memory ring buffer =
 pub slots_have_frames : SlotsHaveFrames
 slots_have_frames driver world ready =
     let up = ready.transmit in
-    let counts = driver.counts in
+    let counts = driver.layout in
     let o = driver.oldest_transmit in
     let ring = transmit_ring world in
     let known = outstanding-known ring (16 * counts.rx) counts.tx o driver.sending up.knows up.oldest_slot up.room in
@@ -40,7 +40,7 @@ slots_have_frames driver world ready =
     let all : length (outstanding ring o) ≡ driver.sending =
     ap length known ∙ length-map (slots_from counts.tx o driver.sending) (λ (slot : ℕ). 16 * counts.rx + 16 * slot)
     ∙ length-slots_from counts.tx o driver.sending in
-    let dealt = ap length ready.sound.transmit_slots.classes in
+    let dealt = ap length ready.law.sound.transmit_slots.classes in
     let count : length (frames_to_send world) + length (written_back o world) ≡ driver.sending =
     omega (
       arith,

@@ -1,4 +1,4 @@
--- Stores of initialisation: to the receive slot that stays the driver's, and to the transmit ring while its side is off.
+-- Stores of initialization: to the receive slot that stays the driver's, and to the transmit ring while its side is off.
 use Rattle.std.proofs.Common.{false, ◌≡◌, ◌<◌, ◌+◌, ◌*◌, ℕ, List, length, sym, ap, subst, ◌∙◌, arith}
 use Rattle.std.specs.List.{All}
 use Rattle.dma_memory.specs.Areas.{AreApart, Area, IsInside, area_at, descriptor_area}
@@ -28,7 +28,7 @@ use Rattle.driver_law.proofs.TransmitSlots.{stored-elsewhere}
 
 pub last_slot_is_stored : LastSlotIsStored
 last_slot_is_stored up driver bytes world ready long =
-    let n = driver.counts.rx in
+    let n = driver.layout.rx in
     let o = driver.oldest_receive in
     let p = driver.oldest_transmit in
     let i = length driver.buffers in
@@ -40,10 +40,10 @@ last_slot_is_stored up driver bytes world ready long =
     let at : address_of (receive_ring world) (place n (receive_tail driver) j)
     ≡ slot = omega (arith, ready.receive.begins, ap (λ (index : ℕ). 16 * index) walked) in
     let own : CanBeWritten o p world slot = subst (CanBeWritten o p world) at
-    (drivers_receive_slots_can_be_written o p _ world ready.sound (own-staged driver world j ready room)) in
+    (drivers_receive_slots_can_be_written o p _ world ready.law.sound (own-staged driver world j ready room)) in
     let lies : LiesIn world.memory slot (length bytes) = subst (LiesIn world.memory slot) (sym long) own.lies in
     let below : next_receive driver < n = place-below n o (i + j) ready.driver_is.oldest_slot in
-    let inside : IsInside area (area_of driver.counts ReceiveRing) = record { from = omega arith; to = omega (arith, long, below) } in
+    let inside : IsInside area (area_of driver.layout ReceiveRing) = record { from = omega arith; to = omega (arith, long, below) } in
     let staged : ℕ → ℕ = λ k. receive_slot (place n (receive_tail driver) k) in
     let others : (k : ℕ) → k < j
     → bytes_at (with_bytes world.memory slot bytes) (staged k) 16 ≡ bytes_at world.memory (staged k) 16 = λ k before.
@@ -52,22 +52,23 @@ last_slot_is_stored up driver bytes world ready long =
     (λ same. places-differ n o (i + k) (i + j) ready.driver_is.oldest_slot (omega (arith, before)) room (place-add n o i k ∙ same))) in
     goes-stores driver driver.staged driver.pool world slot bytes ready lies
     (subst (λ (size : ℕ). IsDriversArea o p world (area_at slot size)) (sym long) own.own) ready.driver_is
-    (stored-kept world.memory (with_bytes world.memory slot bytes) driver.counts (receive_tail driver) driver.staged others ready.stored)
+    (stored-kept world.memory (with_bytes world.memory slot bytes) driver.layout (receive_tail driver) driver.staged others
+    ready.slots.stored)
     (λ number known.
-    apart-inside area (area_of driver.counts ReceiveRing) (area_of driver.counts (ReceiveBuffer number)) inside
-    (places-apart driver.counts ReceiveRing (ReceiveBuffer number) tt known (λ same. absurd (cc))))
+    apart-inside area (area_of driver.layout ReceiveRing) (area_of driver.layout (ReceiveBuffer number)) inside
+    (places-apart driver.layout ReceiveRing (ReceiveBuffer number) tt known (λ same. absurd (cc))))
 
 -- While the side is off, the place of the transmit ring is the driver's own.
 place-own : (driver : DriverState) (area : Area) (world : World) → ReadyWith false driver world
-    → IsInside area (area_of driver.counts TransmitRing) → IsDriversArea driver.oldest_receive driver.oldest_transmit world area
+    → IsInside area (area_of driver.layout TransmitRing) → IsDriversArea driver.oldest_receive driver.oldest_transmit world area
 place-own driver area world ready inside =
     let o = driver.oldest_receive in
     let p = driver.oldest_transmit in
     let r = ring_area (receive_ring world) in
-    let whole = area_of driver.counts TransmitRing in
-    let received = outstanding-inside (receive_ring world) o ready.sound.receive_slots.slot in
+    let whole = area_of driver.layout TransmitRing in
+    let received = outstanding-inside (receive_ring world) o ready.law.sound.receive_slots.slot in
     let rings : AreApart whole r = subst (AreApart whole) (sym (known-area _ _ _ _ ready.receive))
-    (places-apart driver.counts TransmitRing ReceiveRing tt tt (λ same. absurd (cc))) in
+    (places-apart driver.layout TransmitRing ReceiveRing tt tt (λ same. absurd (cc))) in
     let away : All (λ other. AreApart area other) (received_areas o world) = λ k d below. apart-inside area whole _ inside
     (apart-sym _ whole (place-away driver world ready k d below)) in
     record {
@@ -79,7 +80,7 @@ place-own driver area world ready inside =
 
 pub transmit_place_is_stored : TransmitPlaceIsStored
 transmit_place_is_stored driver address bytes world ready inside =
-    let counts = driver.counts in
+    let counts = driver.layout in
     let area = area_at address (length bytes) in
     let whole = area_of counts TransmitRing in
     let ends = place-below_size counts TransmitRing tt in

@@ -33,7 +33,8 @@ use Rattle.bus.specs.SlotOffers.{CanSend, OfferedFrame, offering_frame}
 use Rattle.bus.specs.TakingSlots.{behind_oldest_transmit}
 use Rattle.driver_law.specs.DriverState.{DriverState, transmit_slot, transmit_tail}
 use Rattle.driver_law.specs.ReadyDrivers.{Ready}
-use Rattle.driver_law.specs.TransmitSteps.{FrameIsOffered, NoneIsWrittenBack, SlotIsFreed, transmit_buffer, whole_descriptor, with_freed}
+use Rattle.driver_law.specs.Accesses.{transmit_buffer, whole_descriptor}
+use Rattle.driver_law.specs.TransmitSteps.{FrameIsOffered, NoneIsWrittenBack, SlotIsFreed, with_freed}
 use Rattle.driver_law.proofs.Places.{outstanding-known, place-next, places-differ}
 use Rattle.driver_law.proofs.StepsWithoutFrames.{goes-rests}
 use Rattle.driver_law.proofs.TransmitSlots.{next_slot_belongs_to_driver, drivers-buffer}
@@ -91,13 +92,13 @@ whole-says memory slot address size fits short bytes =
 
 -- It is offered.
 
--- the transmit slots whose data stands in their own buffers
+-- the transmit slots whose data is in their own buffers
 abbrev HasSource : DriverState → List ℕ → ℕ → Type 0
-HasSource driver memory slot = IsInside (data_of memory (transmit_slot driver.counts slot)) (area_of driver.counts (TransmitBuffer slot))
+HasSource driver memory slot = IsInside (data_of memory (transmit_slot driver.layout slot)) (area_of driver.layout (TransmitBuffer slot))
 
 pub frame_is_offered : FrameIsOffered
 frame_is_offered driver frame world ready room least short stands =
-    let counts = driver.counts in
+    let counts = driver.layout in
     let n = counts.tx in
     let o = driver.oldest_receive in
     let p = driver.oldest_transmit in
@@ -134,7 +135,7 @@ frame_is_offered driver frame world ready room least short stands =
       lies = subst (λ (there : Area). LiesIn world.memory there.address there.size) (sym says.place_of) lies;
       apart = subst (λ (there : Area). All (λ other. AreApart other there) (areas o world)) (sym says.place_of) apart;
     } in
-    let done : OfferedFrame o p world (offering_frame world) = frames_can_be_offered o p world ready.sound can in
+    let done : OfferedFrame o p world (offering_frame world) = frames_can_be_offered o p world ready.law.sound can in
     let Source = HasSource driver world.memory in
     let here : Source slot = subst (λ (there : Area). IsInside there whole) (sym reads.place_of) inside in
     let sources : All Source (slots_from n p (k + 1)) =
@@ -150,10 +151,12 @@ frame_is_offered driver frame world ready room least short stands =
                 ready.driver_is.one_owner;
             addresses = ready.driver_is.addresses;
           };
-          sound = done.sound;
-          runs = done.runs (says.transmittable least lies) ready.runs;
-          fit = done.fits ready.fit;
-          whole = done.whole ready.whole;
+          law = record {
+            sound = done.sound;
+            runs = done.runs (says.transmittable least lies) ready.law.runs;
+            fit = done.fits ready.law.fit;
+            whole = done.whole ready.law.whole;
+          };
           lies = ready.lies;
           size = ready.size;
           receive = ready.receive;
@@ -164,23 +167,24 @@ frame_is_offered driver frame world ready room least short stands =
             knows = record { begins = up.knows.begins; slots = up.knows.slots; last = next ∙ sym moved; head_slot = up.knows.head_slot };
             sources = sources;
           };
-          names = ready.names;
-          stored = ready.stored;
+          slots = record { names = ready.slots.names; stored = ready.slots.stored };
           stand = ready.stand;
         };
-        counts = refl;
+        layout = refl;
         sends = done.to_send ∙ ap (λ (last : List ℕ). frames_to_send world ++ last ∷ []) (says.frame ∙ ap padded stands.bytes);
         holds = done.held ∙ sym (append-nil (frames_held o world));
         least = omega (arith, ap length done.finished_same);
         frees = omega (arith, ap length done.written_same);
         mask = refl;
-        sum = omega arith;
-        counted = λ fits low. omega arith;
-        sticks = λ fits much. omega (arith, much);
-        at_most = omega arith;
-        exactly = λ exact below_greatest. record { exact = exact; below_greatest = below_greatest; sum = omega arith };
-        stays_exact = λ exact below low. exact;
-        small = λ was. was;
+        misses = record {
+          sum = omega arith;
+          counted = λ fits low. omega arith;
+          sticks = λ fits much. omega (arith, much);
+          at_most = omega arith;
+          exactly = λ exact below_greatest. record { exact = exact; below_greatest = below_greatest; sum = omega arith };
+          stays_exact = λ exact below low. exact;
+          small = λ was. was;
+        };
       };
       causes = λ bit has. has;
       told = inl (omega (arith, ap length done.finished_same));
@@ -191,28 +195,28 @@ frame_is_offered driver frame world ready room least short stands =
 -- The outstanding slots begin with the oldest.
 outstanding-first : (driver : DriverState) (world : World) → Ready driver world → 0 < driver.sending
     → outstanding (transmit_ring world) driver.oldest_transmit
-    ≡ transmit_slot driver.counts driver.oldest_transmit ∷ map (transmit_slot driver.counts)
-    (slots_from driver.counts.tx ((driver.oldest_transmit + 1) % driver.counts.tx) (driver.sending - 1))
+    ≡ transmit_slot driver.layout driver.oldest_transmit ∷ map (transmit_slot driver.layout)
+    (slots_from driver.layout.tx ((driver.oldest_transmit + 1) % driver.layout.tx) (driver.sending - 1))
 outstanding-first driver world ready some =
     let up = ready.transmit in
     let more : driver.sending ≡ suc (driver.sending - 1) = omega (arith, some) in
-    outstanding-known (transmit_ring world) (16 * driver.counts.rx) driver.counts.tx driver.oldest_transmit driver.sending up.knows
+    outstanding-known (transmit_ring world) (16 * driver.layout.rx) driver.layout.tx driver.oldest_transmit driver.sending up.knows
     up.oldest_slot up.room
-    ∙ ap (λ (k : ℕ). map (transmit_slot driver.counts) (slots_from driver.counts.tx driver.oldest_transmit k)) more
+    ∙ ap (λ (k : ℕ). map (transmit_slot driver.layout) (slots_from driver.layout.tx driver.oldest_transmit k)) more
 
--- So it is written back where it is done, and else none is.
+-- So it is written back if it is done; otherwise none is.
 written-first : (driver : DriverState) (world : World) (done : Bool) → Ready driver world → 0 < driver.sending
-    → is_done world.memory (transmit_slot driver.counts driver.oldest_transmit) ≡ done
+    → is_done world.memory (transmit_slot driver.layout driver.oldest_transmit) ≡ done
     → written_back driver.oldest_transmit world
-    ≡ cond done (transmit_slot driver.counts driver.oldest_transmit
+    ≡ cond done (transmit_slot driver.layout driver.oldest_transmit
     ∷ take_while (is_done world.memory)
-    (map (transmit_slot driver.counts)
-    (slots_from driver.counts.tx ((driver.oldest_transmit + 1) % driver.counts.tx) (driver.sending - 1)))) []
+    (map (transmit_slot driver.layout)
+    (slots_from driver.layout.tx ((driver.oldest_transmit + 1) % driver.layout.tx) (driver.sending - 1)))) []
 written-first driver world done ready some is =
     let test = is_done world.memory in
-    let first = transmit_slot driver.counts driver.oldest_transmit in
-    let others = map (transmit_slot driver.counts)
-    (slots_from driver.counts.tx ((driver.oldest_transmit + 1) % driver.counts.tx) (driver.sending - 1)) in
+    let first = transmit_slot driver.layout driver.oldest_transmit in
+    let others = map (transmit_slot driver.layout)
+    (slots_from driver.layout.tx ((driver.oldest_transmit + 1) % driver.layout.tx) (driver.sending - 1)) in
     ap (take_while test) (outstanding-first driver world ready some) ∙ take_while-cons test first others
     ∙ ap (λ (b : Bool). cond b (first ∷ take_while test others) []) is
 
@@ -221,9 +225,9 @@ none-outstanding : (driver : DriverState) (world : World) → Ready driver world
 none-outstanding driver world ready none =
     let up = ready.transmit in
     ap (take_while (is_done world.memory))
-    (outstanding-known (transmit_ring world) (16 * driver.counts.rx) driver.counts.tx driver.oldest_transmit driver.sending up.knows
+    (outstanding-known (transmit_ring world) (16 * driver.layout.rx) driver.layout.tx driver.oldest_transmit driver.sending up.knows
     up.oldest_slot up.room
-    ∙ ap (λ (k : ℕ). map (transmit_slot driver.counts) (slots_from driver.counts.tx driver.oldest_transmit k)) none)
+    ∙ ap (λ (k : ℕ). map (transmit_slot driver.layout) (slots_from driver.layout.tx driver.oldest_transmit k)) none)
 
 pub none_is_written_back : NoneIsWrittenBack
 none_is_written_back driver world ready (inl none) = none-outstanding driver world ready none
@@ -241,13 +245,13 @@ record FreedTo (driver : DriverState) (world : World) (later : List ℕ) (next :
 
 pub slot_is_freed : SlotIsFreed
 slot_is_freed driver world ready some done =
-    let n = driver.counts.tx in
+    let n = driver.layout.tx in
     let p = driver.oldest_transmit in
     let next = (p + 1) % n in
     let up = ready.transmit in
-    let later = take_while (is_done world.memory) (map (transmit_slot driver.counts) (slots_from n next (driver.sending - 1))) in
-    let first : written_back p world ≡ transmit_slot driver.counts p ∷ later = written-first driver world true ready some done in
-    let freed = written_slots_can_be_freed driver.oldest_receive p world (transmit_slot driver.counts p) later ready.sound first in
+    let later = take_while (is_done world.memory) (map (transmit_slot driver.layout) (slots_from n next (driver.sending - 1))) in
+    let first : written_back p world ≡ transmit_slot driver.layout p ∷ later = written-first driver world true ready some done in
+    let freed = written_slots_can_be_freed driver.oldest_receive p world (transmit_slot driver.layout p) later ready.law.sound first in
     let here : FreedTo driver world later (behind_oldest_transmit p world) = record { sound = freed.sound; behind = freed.behind } in
     let there : FreedTo driver world later next = subst (FreedTo driver world later)
     (ap (λ (count : ℕ). (p + 1) % count) up.knows.slots) here in
@@ -263,10 +267,12 @@ slot_is_freed driver world ready some done =
         one_owner = ready.driver_is.one_owner;
         addresses = ready.driver_is.addresses;
       };
-      sound = there.sound;
-      runs = ready.runs;
-      fit = ready.fit;
-      whole = ready.whole;
+      law = record {
+        sound = there.sound;
+        runs = ready.law.runs;
+        fit = ready.law.fit;
+        whole = ready.law.whole;
+      };
       lies = ready.lies;
       size = ready.size;
       receive = ready.receive;
@@ -283,12 +289,11 @@ slot_is_freed driver world ready some done =
         };
         sources = all-tail Source p (slots_from n next (driver.sending - 1)) sources;
       };
-      names = ready.names;
-      stored = ready.stored;
+      slots = record { names = ready.slots.names; stored = ready.slots.stored };
       stand = ready.stand;
     })
     (record {
-      counts = refl;
+      layout = refl;
       missed = refl;
       exact = refl;
       to_send = refl;

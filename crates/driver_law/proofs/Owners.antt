@@ -21,7 +21,7 @@ owners-count k d =
           (numbers_of d.handed_out),
     )
 
--- Where each number has as many owners as before, it has one.
+-- If each number has as many owners as before, it has one.
 pub one_owner-dealt : (n : ℕ) (d d' : DriverState)
     → ((k : ℕ) → copies k d'.pool + (copies k d'.buffers + (copies k d'.staged + copies k (numbers_of d'.handed_out)))
     ≡ copies k d.pool + (copies k d.buffers + (copies k d.staged + copies k (numbers_of d.handed_out))))
@@ -29,26 +29,26 @@ pub one_owner-dealt : (n : ℕ) (d d' : DriverState)
 one_owner-dealt n d d' same one k = owners-count k d' ∙ same k ∙ sym (owners-count k d) ∙ one k
 
 -- What a slot of the ring has is a buffer.
-pub outstanding-number : (d : DriverState) (m : ℕ) → IsDriver d → 0 < copies m d.buffers → m < d.counts.buffers
+pub outstanding-number : (d : DriverState) (m : ℕ) → IsDriver d → 0 < copies m d.buffers → m < d.layout.buffers
 outstanding-number d m driver some =
-    known_from_no_second d.counts.buffers m (owners d) (no_second_from_one d.counts.buffers (owners d) driver.one_owner)
+    known_from_no_second d.layout.buffers m (owners d) (no_second_from_one d.layout.buffers (owners d) driver.one_owner)
     (omega (arith, some, owners-count m d))
 
 -- What is staged or handed out is a buffer too, and no outstanding slot has it.
 pub record IsElsewhere (d : DriverState) (m : ℕ) : Type 0 where
-  pub known : m < d.counts.buffers
+  pub known : m < d.layout.buffers
   pub free : copies m d.buffers ≡ 0
 
 pub elsewhere-number : (d : DriverState) (m : ℕ) → IsDriver d → 0 < copies m d.staged + copies m (numbers_of d.handed_out) → IsElsewhere d m
 elsewhere-number d m driver some =
-    let none_twice = no_second_from_one d.counts.buffers (owners d) driver.one_owner in
+    let none_twice = no_second_from_one d.layout.buffers (owners d) driver.one_owner in
     let sum = owners-count m d in
     record {
-      known = known_from_no_second d.counts.buffers m (owners d) none_twice (omega (arith, some, sum));
-      free = let once = once_from_no_second d.counts.buffers m (owners d) none_twice in omega (arith, some, sum, once);
+      known = known_from_no_second d.layout.buffers m (owners d) none_twice (omega (arith, some, sum));
+      free = let once = once_from_no_second d.layout.buffers m (owners d) none_twice in omega (arith, some, sum, once);
     }
 
--- What holds of each number that stands in a list holds of all of it.
+-- A statement about each number that is in a list holds for all elements of the list.
 pub all-copies : (P : ℕ → Type 0) (xs : List ℕ) → ((m : ℕ) → 0 < copies m xs → P m) → All P xs
 all-copies P [] each = all-none P
 all-copies P (x ∷ xs) each =

@@ -1,4 +1,4 @@
--- Places of a ring, by how far they stand behind a driver's oldest slot.
+-- Places of a ring, by their distance from a driver's oldest slot.
 use Rattle.std.proofs.Common.{◌≡◌, ◌≢◌, ◌≤◌, ◌<◌, ◌+◌, ◌-◌, ◌*◌, ◌%◌, ℕ, zero, suc, List, map, sym, ap, subst, ◌∙◌, ⊎_elim, arith}
 use Rattle.std.specs.List.{All}
 use Rattle.std.proofs.lemmas.Bool.{cases_lt}
@@ -69,7 +69,7 @@ outstanding-known ring base n oldest i knows slot short =
     ∙ ap (λ (count : ℕ). map (address_of ring) (slots_from count oldest i)) knows.slots
     ∙ ap (λ (first : ℕ). map (λ (index : ℕ). first + 16 * index) (slots_from n oldest i)) knows.begins
 
--- A place behind them is the driver's own.
+-- A place after them is the driver's own.
 pub own-behind : (ring : Ring) (base n oldest i j : ℕ) → KnowsRing ring base n (place n oldest i) → oldest < n → i + j < n
     → IsDriversSlot ring oldest (place n (place n oldest i) j)
 own-behind ring base n oldest i j knows slot short = subst (IsDriversSlot ring oldest) (place-add n oldest i j) (record {

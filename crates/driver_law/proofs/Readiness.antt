@@ -1,4 +1,4 @@
--- A driver stays ready from one world to another, where slots keep what they name.
+-- A driver is still ready in another world if its slots name the same buffers there.
 use Rattle.std.proofs.Common.{true, ◌⊎◌, false, Bool, ◌≡◌, ◌≤◌, ◌<◌, ◌+◌, ◌*◌, ◌%◌, ◌++◌, ◌∷◌, [], ℕ, suc, List, length, get_or, map, sym}
 use Rattle.std.proofs.Common.{ap, subst, ◌∙◌, arith}
 use Rattle.std.specs.List.{All}
@@ -17,12 +17,10 @@ use Rattle.rx_engine.specs.Descriptors.{named_address}
 use Rattle.tx_engine.specs.Fetching.{frame_at}
 use Rattle.tx_engine.specs.ToSend.{to_send}
 use Rattle.tx_engine.specs.Transmitter.{Queued}
-use Rattle.adapter.specs.Conditions.{AreWhole, FitBuffers, Sound}
 use Rattle.adapter.specs.HostAreas.{buffer_size, data_of}
 use Rattle.adapter.specs.HostFrames.{frames_to_send}
 use Rattle.adapter.specs.Rings.{ring_of}
-use Rattle.adapter.specs.Running.{CanRun}
-use Rattle.adapter.specs.Slots.{finished, offered, outstanding}
+use Rattle.adapter.specs.Slots.{offered, outstanding}
 use Rattle.adapter.specs.World.{World, receive_ring, transmit_ring}
 use Rattle.adapter.specs.declared.ring.RingRegisters.{RingRegisters}
 use Rattle.bus.specs.Law.{Happens}
@@ -35,7 +33,7 @@ use Rattle.bus.proofs.Rings.{each-outstanding}
 use Rattle.bus.proofs.KnownRings.{knows-carried}
 use Rattle.driver_law.proofs.Places.{outstanding-known, own-behind}
 use Rattle.driver_law.specs.DriverState.{DriverState, receive_slot, receive_tail, transmit_slot, with_owners}
-use Rattle.driver_law.specs.ReadyDrivers.{AreStored, IsDriver, ReadyWith, Stands, TransmitIs, TransmitIsOff}
+use Rattle.driver_law.specs.ReadyDrivers.{AreStored, IsDriver, MeetsLaw, ReadyWith, Stands, TransmitIs, TransmitIsOff}
 
 -- the same driver, but for what is staged and what is free
 abbrev pub with_staged : DriverState → (staged pool : List ℕ) → DriverState
@@ -55,19 +53,15 @@ stored-kept memory memory' counts slot (number ∷ later) same stored = (
       (λ i below. same (suc i) (omega (arith, below))) stored.1,
 )
 
--- A slot behind the tail is the driver's own.
-pub own-staged : {up : Bool} (d : DriverState) (world : World) (i : ℕ) → ReadyWith up d world → length d.buffers + i < d.counts.rx
-    → IsDriversSlot (receive_ring world) d.oldest_receive (place d.counts.rx (receive_tail d) i)
-own-staged {up} d world i ready below = own-behind (receive_ring world) 0 d.counts.rx d.oldest_receive
+-- A slot after the tail is the driver's own.
+pub own-staged : {up : Bool} (d : DriverState) (world : World) (i : ℕ) → ReadyWith up d world → length d.buffers + i < d.layout.rx
+    → IsDriversSlot (receive_ring world) d.oldest_receive (place d.layout.rx (receive_tail d) i)
+own-staged {up} d world i ready below = own-behind (receive_ring world) 0 d.layout.rx d.oldest_receive
     (length d.buffers) i ready.receive ready.driver_is.oldest_slot below
 
--- What a driver rests on stays from the first world to the second: the conditions, and what outstanding slots name; registers but the
--- heads.
+-- What a driver relies on is the same in both worlds: the conditions, what outstanding slots name, and registers except the heads.
 pub record Keeps (o p : ℕ) (a b : World) : Type 0 where
-  pub sound : Sound o p b
-  pub runs : CanRun b
-  pub fit : FitBuffers o b
-  pub whole : AreWhole b.memory (finished o b)
+  pub law : MeetsLaw o p b
   pub size : length b.memory ≡ length a.memory
   pub filter : b.adapter.filter ≡ a.adapter.filter
   pub control : b.adapter.transmit_control ≡ a.adapter.transmit_control
@@ -130,46 +124,47 @@ transmit-kept false o counts p sending a b keeps side =
 -- All of it.
 pub ready-kept : {up : Bool} (d : DriverState) (staged pool : List ℕ) (a b : World) → ReadyWith up d a
     → Keeps d.oldest_receive d.oldest_transmit a b
-    → IsDriver (with_staged d staged pool) → AreStored b.memory d.counts (receive_tail d) staged
-    → All (Stands d.counts b.memory) d.handed_out
+    → IsDriver (with_staged d staged pool) → AreStored b.memory d.layout (receive_tail d) staged
+    → All (Stands d.layout b.memory) d.handed_out
     → ReadyWith up (with_staged d staged pool) b
 ready-kept {up} d staged pool a b ready keeps driver stored stand =
     let before = a.adapter.receive_ring in
     let behind = b.adapter.receive_ring in
     record {
       driver_is = driver;
-      sound = keeps.sound;
-      runs = keeps.runs;
-      fit = keeps.fit;
-      whole = keeps.whole;
-      lies = subst (λ (n : ℕ). size_of d.counts ≤ n) (sym keeps.size) ready.lies;
+      law = keeps.law;
+      lies = subst (λ (n : ℕ). size_of d.layout ≤ n) (sym keeps.size) ready.lies;
       size = ap (λ (filter : FilterRegisters). buffer_size_of (field filter.rctl 16 2)) keeps.filter ∙ ready.size;
-      receive = knows-carried before behind 0 d.counts.rx (receive_tail d) keeps.receives keeps.receive_head ready.receive;
-      transmit = transmit-kept up d.oldest_receive d.counts d.oldest_transmit d.sending a b keeps ready.transmit;
-      names =
-          ap (λ (ring : RingRegisters). map (named_address b.memory) (outstanding (ring_of ring) d.oldest_receive)) keeps.receives
-          ∙ map-same (named_address b.memory) (named_address a.memory) (outstanding (receive_ring a) d.oldest_receive) keeps.addresses
-          ∙ ready.names;
-      stored = stored;
+      receive = knows-carried before behind 0 d.layout.rx (receive_tail d) keeps.receives keeps.receive_head ready.receive;
+      transmit = transmit-kept up d.oldest_receive d.layout d.oldest_transmit d.sending a b keeps ready.transmit;
+      slots = record {
+        names =
+            ap (λ (ring : RingRegisters). map (named_address b.memory) (outstanding (ring_of ring) d.oldest_receive)) keeps.receives
+            ∙ map-same (named_address b.memory) (named_address a.memory) (outstanding (receive_ring a) d.oldest_receive) keeps.addresses
+            ∙ ready.slots.names;
+        stored = stored;
+      };
       stand = stand;
     }
 
--- What happens keeps it.
+-- Whatever happens, it is the same.
 pub keeps-happening : {up : Bool} (d : DriverState) (a b : World) (past : Past) → ReadyWith up d a → Happens a b past
     → Keeps d.oldest_receive d.oldest_transmit a b
 keeps-happening {up} d a b past ready happens =
     let o = d.oldest_receive in
     let p = d.oldest_transmit in
     let steady = happens.steady in
-    let between = happens.between o p ready.sound in
-    let own = drivers_side_stays o p a b past ready.sound happens in
+    let between = happens.between o p ready.law.sound in
+    let own = drivers_side_stays o p a b past ready.law.sound happens in
     let Fits : List ℕ → Type 0 = λ frame. length frame ≤ buffer_size a in
     record {
-      sound = between.sound;
-      runs = between.runs (all-weaker IsLegal Fits past.stored (λ frame legal. omega (arith, legal.most, ready.size)) steady.legal)
-          ready.runs;
-      fit = between.fits ready.fit;
-      whole = between.whole ready.whole;
+      law = record {
+        sound = between.sound;
+        runs = between.runs (all-weaker IsLegal Fits past.stored (λ frame legal. omega (arith, legal.most, ready.size)) steady.legal)
+            ready.law.runs;
+        fit = between.fits ready.law.fit;
+        whole = between.whole ready.law.whole;
+      };
       size = steady.size;
       filter = steady.filter;
       control = steady.transmit_control;
@@ -178,9 +173,9 @@ keeps-happening {up} d a b past ready happens =
       receive_head = steady.receive_head;
       transmit_head = steady.transmit_head;
       addresses = each-outstanding (receive_ring a) o (λ slot. named_address b.memory slot
-          ≡ named_address a.memory slot) ready.sound.receive_slots.slot own.addresses;
+          ≡ named_address a.memory slot) ready.law.sound.receive_slots.slot own.addresses;
       sources =
-          each-outstanding (transmit_ring a) p (λ slot. data_of b.memory slot ≡ data_of a.memory slot) ready.sound.transmit_slots.slot
+          each-outstanding (transmit_ring a) p (λ slot. data_of b.memory slot ≡ data_of a.memory slot) ready.law.sound.transmit_slots.slot
           (λ slot below. ap (λ (desc : TxDesc). area_at desc.address desc.length) (own.requests slot below).fields);
       none_to_send = λ none. (append-empty past.put (frames_to_send b) (between.sends ∙ none)).1;
     }

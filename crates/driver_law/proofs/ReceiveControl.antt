@@ -33,7 +33,7 @@ use Rattle.driver_law.proofs.StepsWithoutFrames.{goes-rests}
 abbrev buffers_of : Counts → List ℕ → List Area
 buffers_of counts numbers = map (λ number. area_of counts (ReceiveBuffer number)) numbers
 
--- Where each number stands once they are apart,
+-- They are apart if each number is in the list at most once.
 buffers-apart : (counts : Counts) (numbers : List ℕ) → ((number : ℕ) → copies number numbers ≤ 1)
     → ((number : ℕ) → 0 < copies number numbers → number < counts.buffers) → AllPairs AreApart (buffers_of counts numbers)
 buffers-apart counts [] once known = pairs-none AreApart
@@ -49,20 +49,20 @@ buffers-apart counts (first ∷ numbers) once known =
     (buffers-apart counts numbers (λ number. omega (arith, once number, copies-cons number first numbers))
     (λ number some. known number (omega (arith, some, copies-cons number first numbers))))
 
--- and with both rings they are separate, while the transmit side is off.
+-- With both rings they are separate, while the transmit side is off.
 rings-and-buffers : (driver : DriverState) (world : World) → ReadyWith false driver world → (on : Bool)
     → AreSeparate world.memory (ring_area (receive_ring world) ∷ ring_area (transmit_ring world)
-    ∷ (if on then buffers_of driver.counts driver.buffers else []))
+    ∷ (if on then buffers_of driver.layout driver.buffers else []))
 rings-and-buffers driver world ready false = first-two world.memory (ring_area (receive_ring world))
-    (ring_area (transmit_ring world)) _ ready.sound.separate
+    (ring_area (transmit_ring world)) _ ready.law.sound.separate
 rings-and-buffers driver world ready true =
-    let counts = driver.counts in
+    let counts = driver.layout in
     let numbers = driver.buffers in
     let r = ring_area (receive_ring world) in
     let t = ring_area (transmit_ring world) in
     let at : ℕ → Area = λ number. area_of counts (ReceiveBuffer number) in
     let Lies : Area → Type 0 = λ area. LiesIn world.memory area.address area.size in
-    let two = first-two world.memory r t _ ready.sound.separate in
+    let two = first-two world.memory r t _ ready.law.sound.separate in
     let known : (number : ℕ) → 0 < copies number numbers
     → number < counts.buffers = λ number. outstanding-number driver number ready.driver_is in
     let once : (number : ℕ)
@@ -108,11 +108,11 @@ receiver_is_enabled driver control world ready none idle plain big =
     let r = ring_area ring in
     let t = ring_area (transmit_ring world) in
     let on = receives b in
-    let accepted : outstanding ring o ≡ offered ring = ready.sound.receive_slots.classes
+    let accepted : outstanding ring o ≡ offered ring = ready.law.sound.receive_slots.classes
     ∙ ap (λ (slots : List ℕ). slots ++ (in_work world ++ offered ring)) none
     ∙ ap (λ (work : Option Work). slot_of_work work ++ offered ring) idle in
-    let named_at = named-buffers driver.counts memory (buffer_size b) (offered ring) driver.buffers big
-    (ap (map (named_address memory)) (sym accepted) ∙ ready.names) in
+    let named_at = named-buffers driver.layout memory (buffer_size b) (offered ring) driver.buffers big
+    (ap (map (named_address memory)) (sym accepted) ∙ ready.slots.names) in
     let bufs = map (λ slot. area_at (named_address memory slot) (buffer_size b)) (offered ring) in
     let count = if on then bufs else [] in
     let one = subst (λ (list : List Area). AreSeparate memory (r ∷ t ∷ (if on then list else []))) (sym named_at)
@@ -125,25 +125,28 @@ receiver_is_enabled driver control world ready none idle plain big =
     (r ∷ t ∷ (map (data_of memory) slots
     ++ (map (named memory) (finished o world) ++ (work_areas memory world.adapter.receiver.work ++ count)))))
     (sym (offered-none (transmit_ring world) ready.transmit.idle)) three in
-    let set = receiver_can_be_set o driver.oldest_transmit control world ready.sound separate in
+    let set = receiver_can_be_set o driver.oldest_transmit control world ready.law.sound separate in
     goes-rests driver world driver b
     (record {
       driver_is = ready.driver_is;
-      sound = set.same.sound;
-      runs = set.runs plain (subst (λ (size : ℕ). AreWithin size world.adapter.receiver.buffer) (ready.size ∙ sym big) ready.runs.frames)
-          ready.runs;
-      fit = set.same.fits (omega (arith, ready.size, big)) ready.fit;
-      whole = ready.whole;
+      law = record {
+        sound = set.same.sound;
+        runs =
+            set.runs plain
+            (subst (λ (size : ℕ). AreWithin size world.adapter.receiver.buffer) (ready.size ∙ sym big) ready.law.runs.frames)
+            ready.law.runs;
+        fit = set.same.fits (omega (arith, ready.size, big)) ready.law.fit;
+        whole = ready.law.whole;
+      };
       lies = ready.lies;
       size = big;
       receive = ready.receive;
       transmit = ready.transmit;
-      names = ready.names;
-      stored = ready.stored;
+      slots = record { names = ready.slots.names; stored = ready.slots.stored };
       stand = ready.stand;
     })
     (record {
-      counts = refl;
+      layout = refl;
       missed = refl;
       exact = refl;
       to_send = refl;

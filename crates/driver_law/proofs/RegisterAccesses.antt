@@ -8,16 +8,18 @@ use Rattle.adapter.specs.World.{World, world_after_read}
 use Rattle.bus.proofs.RegisterSetting.{reads_leave_frames}
 use Rattle.bus.proofs.Settings.{happens-off}
 use Rattle.bus.specs.Law.{Acts}
-use Rattle.bus.specs.PastOfStretch.{Past, nothing}
+use Rattle.bus.specs.PastOfStretch.{nothing}
 use Rattle.bus.specs.declared.event.Access.TheVariants.{Reads}
 use Rattle.driver_law.proofs.Accesses.{access-link, access-set, ran_by-acts, read-sets}
 use Rattle.driver_law.proofs.RegisterReads.{causes_are_read, misses_are_read}
 use Rattle.driver_law.proofs.Steps.{goes-happens}
 use Rattle.driver_law.proofs.Stretches.{flows_join, joined-nothing, work_kept}
 use Rattle.driver_law.specs.DriverState.{DriverState}
-use Rattle.driver_law.specs.Stretches.{FlowsTo, GoesTo, RanBy}
+use Rattle.driver_law.specs.Stretches.{FlowsTo, GoesTo, driver_did, driver_in}
 use Rattle.driver_law.specs.RegisterReadings.{ReadsCauses, with_missed}
 use Rattle.driver_law.specs.ReadyDrivers.{ReadyWith}
+use Rattle.driver_law.specs.Calls.{Ran, at, only}
+use Rattle.bus.specs.declared.bus.Bus.{Ghosts}
 
 -- A register shows its value, and is read.
 abbrev IsRead : (offset value : ℕ) → World → World → Type 0
@@ -27,32 +29,32 @@ shown-causes : (world : World) → answer_at 0xC0 world.adapter ≡ world.adapte
 unfolding register_at
 shown-causes world = refl
 
-pub reads-causes : {up : Bool} {B : Type 0} (world : B → World) (happened : B → B → Past → Type 0) (lively : B
-    → Type 0) (old new : B) (d : DriverState) (value : ℕ)
-    → Acts world happened lively old new (Reads 0xC0 value) (IsRead 0xC0 value) → ReadyWith up d (world old)
-    → ReadsCauses up world happened old new d value
-reads-causes {up} world happened lively old new d value acts ready =
+pub reads-causes : {up : Bool} {B : Type 0} (bus : Ghosts B) (old new : B) (d : DriverState) (value : ℕ)
+    → Acts bus.world bus.happened bus.lively old new (Reads 0xC0 value) (IsRead 0xC0 value) → ReadyWith up d (bus.world old)
+    → ReadsCauses bus up value (at old d) new
+reads-causes {up} bus old new d value acts ready =
     let middle = acts.middle in
     let effect = acts.effect_is in
-    let first = goes-happens d (world old) middle acts.past ready acts.before in
-    let sets = read-sets 0xC0 value (λ before. value ≡ answer_at 0xC0 before.adapter) (world new) in
+    let first = goes-happens d (bus.world old) middle acts.past ready acts.before in
+    let sets = read-sets 0xC0 value (λ before. value ≡ answer_at 0xC0 before.adapter) (bus.world new) in
     let read = causes_are_read up d middle first.flows.ready in
-    let later = subst (λ (w : World). FlowsTo up d middle d w [] [] nothing) (sym effect.1) read.flows in
-    let leaves = reads_leave_frames d.oldest_receive d.oldest_transmit 0xC0 middle first.flows.ready.sound in
-    let same : finished d.oldest_receive (world new) ≡ finished d.oldest_receive middle = ap (finished d.oldest_receive) effect.1
+    let later = subst (λ (w : World). FlowsTo up (driver_in d middle) (driver_in d w) (driver_did [] []) nothing) (sym effect.1)
+    read.flows in
+    let leaves = reads_leave_frames d.oldest_receive d.oldest_transmit 0xC0 middle first.flows.ready.law.sound in
+    let same : finished d.oldest_receive (bus.world new) ≡ finished d.oldest_receive middle = ap (finished d.oldest_receive) effect.1
     ∙ leaves.same.finished_same in
     record {
       past = acts.past;
       told = acts.told;
       only = acts.only;
       flows =
-          subst (FlowsTo up d (world old) d (world new) [] []) (joined-nothing acts.past)
-          (flows_join d d d (world old) middle (world new) [] [] [] [] acts.past nothing first.flows later);
+          subst (FlowsTo up (driver_in d (bus.world old)) (driver_in d (bus.world new)) (driver_did [] [])) (joined-nothing acts.past)
+          (flows_join d d d (bus.world old) middle (bus.world new) [] [] [] [] acts.past nothing first.flows later);
       seen = λ place bit.
           subst (λ (causes : ℕ). HasBit causes place) (sym (effect.0 ∙ shown-causes middle)) (first.causes place bit);
       cleared = ap (λ (w : World). w.adapter.causes.recorded) effect.1 ∙ read.cleared;
       work = λ unread work.
-          let before = work_kept d d (world old) middle [] [] acts.past first work in
+          let before = work_kept d d (bus.world old) middle [] [] acts.past first work in
           record {
             enabled = subst (λ (mask : ℕ). HasBit mask 7) (sym later.mask) before.enabled;
             asked =
@@ -62,19 +64,22 @@ reads-causes {up} world happened lively old new d value acts ready =
                 absurd (unread (subst (λ (causes : ℕ). HasBit causes 7) (sym (effect.0 ∙ shown-causes middle)) bit)))
                 before.asked;
           };
-      set = access-set world happened lively old new (Reads 0xC0 value) (IsRead 0xC0 value) acts sets;
-      off = λ off leaves. happens-off (world old) middle acts.past acts.before off;
-      link = access-link world happened lively old new (Reads 0xC0 value) (IsRead 0xC0 value) acts sets;
+      follows = record {
+        set = access-set bus old new (Reads 0xC0 value) (IsRead 0xC0 value) acts sets;
+        off = λ off leaves. happens-off (bus.world old) middle acts.past acts.before off;
+        link = access-link bus old new (Reads 0xC0 value) (IsRead 0xC0 value) acts sets;
+      };
     }
 
-pub ran_by-misses : {up : Bool} {B : Type 0} (world : B → World) (happened : B → B → Past → Type 0) (lively : B
-    → Type 0) (old new : B) (d : DriverState) (value : ℕ) → d.missed < 2 ^ 64
-    → Acts world happened lively old new (Reads 0x4010 value) (IsRead 0x4010 value) → ReadyWith up d (world old)
-    → RanBy up world happened (Reads 0x4010 value ∷ []) old new d (with_missed value d) [] []
-ran_by-misses {up} world happened lively old new d value fits acts ready =
-    ran_by-acts world happened lively old new (Reads 0x4010 value) (IsRead 0x4010 value) d (with_missed value d) [] [] acts
-    (read-sets 0x4010 value (λ before. value ≡ answer_at 0x4010 before.adapter) (world new)) ready
+pub ran_by-misses : {up : Bool} {B : Type 0} (bus : Ghosts B) (old new : B) (d : DriverState) (value : ℕ) → d.missed < 2 ^ 64
+    → Acts bus.world bus.happened bus.lively old new (Reads 0x4010 value) (IsRead 0x4010 value) → ReadyWith up d (bus.world old)
+    → Ran bus up (only (Reads 0x4010 value ∷ [])) (at old d) (at new (with_missed value d))
+ran_by-misses {up} bus old new d value fits acts ready =
+    ran_by-acts bus old new (Reads 0x4010 value) (IsRead 0x4010 value) d (with_missed value d) [] [] acts
+    (read-sets 0x4010 value (λ before. value ≡ answer_at 0x4010 before.adapter) (bus.world new)) ready
     (λ middle set read.
-    subst (λ (shown : ℕ). GoesTo up d middle (with_missed shown d) (world new) [] [] nothing) (sym read.0)
-    (subst (λ (w : World). GoesTo up d middle (with_missed (answer_at 0x4010 middle.adapter) d) w [] [] nothing) (sym read.1)
+    subst (λ (shown : ℕ). GoesTo up (driver_in d middle) (driver_in (with_missed shown d) (bus.world new)) (driver_did [] []) nothing)
+    (sym read.0)
+    (subst (λ (w : World). GoesTo up (driver_in d middle) (driver_in (with_missed (answer_at 0x4010 middle.adapter) d) w)
+    (driver_did [] []) nothing) (sym read.1)
     (misses_are_read up d middle fits set)))

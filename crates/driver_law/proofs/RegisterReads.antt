@@ -16,12 +16,12 @@ use Rattle.adapter.specs.declared.register.Register.TheVariants.{Icr, Mpc, Gprc,
 use Rattle.bus.proofs.RegisterSetting.{reads_leave_frames}
 use Rattle.bus.specs.PastOfStretch.{nothing}
 use Rattle.driver_law.specs.DriverState.{DriverState}
-use Rattle.driver_law.specs.Stretches.{FlowsTo, IsExact}
+use Rattle.driver_law.specs.Stretches.{FlowsTo, IsExactSum, driver_did, driver_in}
 use Rattle.driver_law.specs.RegisterReadings.{adds_exactly, CausesAreRead, MissesAreRead, OthersAreRead}
 use Rattle.driver_law.specs.ReadyDrivers.{ReadyWith}
 use Rattle.driver_law.proofs.AlikeWorlds.{SameParts, ready-left}
 
--- What a read leaves, and that it leaves the mask.
+-- What a read doesn't change, among it the mask.
 record Read (a b : World) : Type 0 where
   parts : SameParts a b
   mask : b.adapter.causes.mask ≡ a.adapter.causes.mask
@@ -68,20 +68,16 @@ resummed driver missed exact world ready = record {
     one_owner = ready.driver_is.one_owner;
     addresses = ready.driver_is.addresses;
   };
-  sound = ready.sound;
-  runs = ready.runs;
-  fit = ready.fit;
-  whole = ready.whole;
+  law = ready.law;
   lies = ready.lies;
   size = ready.size;
   receive = ready.receive;
   transmit = ready.transmit;
-  names = ready.names;
-  stored = ready.stored;
+  slots = record { names = ready.slots.names; stored = ready.slots.stored };
   stand = ready.stand;
 }
 
--- The sum and MPC together are what they were, while neither sticks.
+-- The sum and MPC together are as before, while neither saturates.
 abbrev IsCounted : ℕ → ℕ → ℕ → ℕ → Type 0
 IsCounted missed packets missed' packets' = packets + 0 ≤ greatest_count → missed + packets + 0 < 2 ^ 64
     → missed' + packets' ≡ missed + packets + 0
@@ -90,43 +86,46 @@ IsCounted missed packets missed' packets' = packets + 0 ≤ greatest_count → m
 abbrev Sticks : ℕ → ℕ → ℕ → ℕ → Type 0
 Sticks missed packets missed' packets' = packets + 0 ≤ greatest_count → 2 ^ 64 - 1 ≤ missed + packets + 0 → 2 ^ 64 - 1 ≤ missed' + packets'
 
--- A read of any register, where it is known what becomes of the sum.
+-- A read of any register, if the sum after it is known.
 flows-read : {up : Bool} (driver : DriverState) (offset missed : ℕ) (exact : Bool) (a : World) → ReadyWith up driver a
     → driver.missed ≤ missed
     → IsCounted driver.missed a.adapter.missed_packets missed (world_after_read offset a).adapter.missed_packets
     → Sticks driver.missed a.adapter.missed_packets missed (world_after_read offset a).adapter.missed_packets
     → missed + (world_after_read offset a).adapter.missed_packets ≤ driver.missed + a.adapter.missed_packets
     → (IsTrue exact → (world_after_read offset a).adapter.missed_packets < greatest_count
-    → IsExact driver a (record driver { missed = missed; exact = exact }) (world_after_read offset a) nothing)
+    → IsExactSum (driver_in driver a) (driver_in (record driver { missed = missed; exact = exact }) (world_after_read offset a)) nothing)
     → (IsTrue driver.exact → a.adapter.missed_packets + 0 < greatest_count → driver.missed + a.adapter.missed_packets + 0 < 2 ^ 64
     → IsTrue exact)
     → ((driver.missed < greatest_count → IsTrue driver.exact) → missed < greatest_count → IsTrue exact)
-    → FlowsTo up driver a (record driver { missed = missed; exact = exact }) (world_after_read offset a) [] [] nothing
+    → FlowsTo up (driver_in driver a) (driver_in (record driver { missed = missed; exact = exact }) (world_after_read offset a))
+    (driver_did [] []) nothing
 flows-read {up} driver offset missed exact a ready more counted sticks most exactly stays_exact small =
     let b = world_after_read offset a in
     let read = read-offset offset a in
-    let leaves = reads_leave_frames driver.oldest_receive driver.oldest_transmit offset a ready.sound in
+    let leaves = reads_leave_frames driver.oldest_receive driver.oldest_transmit offset a ready.law.sound in
     record {
       ready = resummed driver missed exact b (ready-left driver a b ready leaves read.parts);
-      counts = refl;
+      layout = refl;
       sends = leaves.same.to_send ∙ sym (append-nil (frames_to_send a));
       holds = leaves.same.held ∙ sym (append-nil (frames_held driver.oldest_receive a));
       least = omega (arith, ap length leaves.same.finished_same);
       frees = omega (arith, ap length leaves.same.written_same);
       mask = read.mask;
-      sum = more;
-      counted = counted;
-      sticks = sticks;
-      at_most = omega (arith, most);
-      exactly = exactly;
-      stays_exact = stays_exact;
-      small = small;
+      misses = record {
+        sum = more;
+        counted = counted;
+        sticks = sticks;
+        at_most = omega (arith, most);
+        exactly = exactly;
+        stays_exact = stays_exact;
+        small = small;
+      };
     }
 
--- Where MPC and the sum are as they were.
+-- If MPC and the sum are as before.
 flows-same : {up : Bool} (driver : DriverState) (offset : ℕ) (a : World) → ReadyWith up driver a
     → (world_after_read offset a).adapter.missed_packets ≡ a.adapter.missed_packets
-    → FlowsTo up driver a driver (world_after_read offset a) [] [] nothing
+    → FlowsTo up (driver_in driver a) (driver_in driver (world_after_read offset a)) (driver_did [] []) nothing
 flows-same driver offset a ready same =
     flows-read driver offset driver.missed driver.exact a ready (omega arith) (λ fits low. omega (arith, same))
     (λ fits much. omega (arith, same, much)) (omega (arith, same))
@@ -143,7 +142,7 @@ causes_are_read up driver world ready =
 
 -- MPC
 
--- An exact sum stays exact where neither sticks.
+-- An exact sum stays exact if neither saturates.
 adds : (exact : Bool) (missed value : ℕ) → IsTrue exact → value < greatest_count → missed + value < 2 ^ 64
     → IsTrue (exact && adds_exactly missed value)
 adds exact missed value is below fits =
@@ -177,7 +176,7 @@ misses_are_read up driver world fits ready =
 
 -- Any other.
 
--- What a driver is told by causes and MPC.
+-- What causes and MPC tell a driver.
 record SameButAdapter (a b : World) : Type 0 where
   recorded : b.adapter.causes.recorded ≡ a.adapter.causes.recorded
   missed_packets : b.adapter.missed_packets ≡ a.adapter.missed_packets
@@ -206,7 +205,7 @@ pub others_are_read : OthersAreRead
 others_are_read up driver offset world no_causes no_count ready =
     let b = world_after_read offset world in
     let quiet = same-offset offset world no_causes no_count in
-    let leaves = reads_leave_frames driver.oldest_receive driver.oldest_transmit offset world ready.sound in
+    let leaves = reads_leave_frames driver.oldest_receive driver.oldest_transmit offset world ready.law.sound in
     let flows = flows-same driver offset world ready quiet.missed_packets in
     record {
       flows = flows;

@@ -1,4 +1,4 @@
--- What a write of a register leaves.
+-- The state after a write of a register.
 use Rattle.std.proofs.Common.{ℕ, Option, ap}
 use Rattle.adapter.specs.Registers.{left_by_write}
 use Rattle.adapter.specs.TableLaws.{register_at-there}
@@ -7,7 +7,7 @@ use Rattle.adapter.specs.declared.register.Register.{Register}
 use Rattle.adapter.specs.declared.register.Register.TheVariants.{Rctl, Tctl, Transmit}
 use Rattle.driver_law.specs.ControlWrites.{ReceiveControlWrites, TransmitControlWrites, TransmitRingWrites}
 
--- the world that a write leaves, by the register that it finds
+-- the world after a write, by the register at its offset
 abbrev left : ℕ → World → Option Register → World
 left value world found = record world { adapter = left_by_write found value world.adapter }
 

@@ -26,7 +26,7 @@ use Rattle.driver_law.proofs.Steps.{goes-passes, goes-stays, passes-same}
 use Rattle.driver_law.proofs.Stores.{empty-stored}
 use Rattle.driver_law.proofs.Stretches.{goes_join}
 use Rattle.driver_law.specs.DriverState.{DriverState, buffer_at, next_receive, receive_slot, receive_tail, with_owners}
-use Rattle.driver_law.specs.Stretches.{GoesTo}
+use Rattle.driver_law.specs.Stretches.{GoesTo, driver_did, driver_in}
 use Rattle.driver_law.specs.ReadyDrivers.{AreStored, ReadyWith}
 use Rattle.driver_law.specs.ReceiveSteps.{StagedCanBeOffered}
 
@@ -34,26 +34,26 @@ use Rattle.driver_law.specs.ReceiveSteps.{StagedCanBeOffered}
 abbrev pub with_offered : DriverState → (numbers staged : List ℕ) → DriverState
 with_offered d numbers staged = with_owners d (d.buffers ++ numbers) staged d.pool d.handed_out
 
--- What is known of the slot at the tail, where its descriptor is staged.
+-- What is known of the slot at the tail, if its descriptor is staged.
 record IsNext (d : DriverState) (a : World) (m : ℕ) : Type 0 where
-  free : All (λ other. AreApart other (area_of d.counts (ReceiveBuffer m))) (areas d.oldest_receive a)
-  names : named_address a.memory (address_of (receive_ring a) a.adapter.receive_ring.tail) ≡ buffer_at d.counts m
-  moved : next_of (receive_ring a) a.adapter.receive_ring.tail ≡ place d.counts.rx d.oldest_receive (length d.buffers + 1)
+  free : All (λ other. AreApart other (area_of d.layout (ReceiveBuffer m))) (areas d.oldest_receive a)
+  names : named_address a.memory (address_of (receive_ring a) a.adapter.receive_ring.tail) ≡ buffer_at d.layout m
+  moved : next_of (receive_ring a) a.adapter.receive_ring.tail ≡ place d.layout.rx d.oldest_receive (length d.buffers + 1)
   can : CanOffer d.oldest_receive a
 
 next-offer : {up : Bool} (d : DriverState) (m : ℕ) (rest : List ℕ) (a : World) → d.staged ≡ m ∷ rest → ReadyWith up d a → IsNext d a m
 next-offer {up} d m rest a staged ready =
-    let n = d.counts.rx in
+    let n = d.layout.rx in
     let o = d.oldest_receive in
     let i = length d.buffers in
     let ring = receive_ring a in
     let slot = address_of ring ring.tail in
-    let at = buffer_at d.counts m in
-    let area : Area = area_of d.counts (ReceiveBuffer m) in
+    let at = buffer_at d.layout m in
+    let area : Area = area_of d.layout (ReceiveBuffer m) in
     let elsewhere = elsewhere-number d m ready.driver_is (omega (arith, ap (copies m) staged, copies-itself m rest)) in
     let aside = buffer-aside d a m ready elsewhere.known elsewhere.free in
-    let ends = place-below_size d.counts (ReceiveBuffer m) elsewhere.known in
-    let here = subst (λ (list : List ℕ). AreStored a.memory d.counts (receive_tail d) list) staged ready.stored in
+    let ends = place-below_size d.layout (ReceiveBuffer m) elsewhere.known in
+    let here = subst (λ (list : List ℕ). AreStored a.memory d.layout (receive_tail d) list) staged ready.slots.stored in
     let is : slot ≡ receive_slot (receive_tail d) = omega (arith, ready.receive.begins, ready.receive.last) in
     let empty = empty-stored a.memory slot at (omega (arith, ends, ready.driver_is.addresses))
     (ap (λ (address : ℕ). bytes_at a.memory address 16) is ∙ here.0) in
@@ -78,30 +78,32 @@ next-offer {up} d m rest a staged ready =
     }
 
 goes-offers_one : {up : Bool} (d : DriverState) (m : ℕ) (rest : List ℕ) (a : World) → d.staged ≡ m ∷ rest → ReadyWith up d a
-    → GoesTo up d a (with_offered d (m ∷ []) rest) (offering a) [] [] nothing
+    → GoesTo up (driver_in d a) (driver_in (with_offered d (m ∷ []) rest) (offering a)) (driver_did [] []) nothing
 goes-offers_one {up} d m rest a staged ready =
     let o = d.oldest_receive in
     let ring = receive_ring a in
     let next = next-offer d m rest a staged ready in
-    let done = slots_can_be_offered o d.oldest_transmit a ready.sound next.can in
+    let done = slots_can_be_offered o d.oldest_transmit a ready.law.sound next.can in
     let d' = with_offered d (m ∷ []) rest in
-    let here = subst (λ (list : List ℕ). AreStored a.memory d.counts (receive_tail d) list) staged ready.stored in
+    let here = subst (λ (list : List ℕ). AreStored a.memory d.layout (receive_tail d) list) staged ready.slots.stored in
     let longer = length-append d.buffers (m ∷ []) in
-    let tail : receive_tail d' ≡ place d.counts.rx o (length d.buffers + 1) = ap (place d.counts.rx o) longer in
+    let tail : receive_tail d' ≡ place d.layout.rx o (length d.buffers + 1) = ap (place d.layout.rx o) longer in
     goes-passes d (d.buffers ++ m ∷ []) rest d.pool d.handed_out a (offering a) nothing
     (passes-same o d.oldest_transmit a (offering a) done.same refl refl)
     (record {
       driver_is = record {
         oldest_slot = ready.driver_is.oldest_slot;
         room = omega (arith, ready.driver_is.room, longer, ap length staged);
-        one_owner = one_owner-dealt d.counts.buffers d d'
+        one_owner = one_owner-dealt d.layout.buffers d d'
             (λ k. omega (arith, copies-push k m d.buffers, ap (copies k) staged, copies-cons k m rest)) ready.driver_is.one_owner;
         addresses = ready.driver_is.addresses;
       };
-      sound = done.same.sound;
-      runs = done.runs ready.runs;
-      fit = done.same.fits (omega arith) ready.fit;
-      whole = done.same.whole ready.whole;
+      law = record {
+        sound = done.same.sound;
+        runs = done.runs ready.law.runs;
+        fit = done.same.fits (omega arith) ready.law.fit;
+        whole = done.same.whole ready.law.whole;
+      };
       lies = ready.lies;
       size = ready.size;
       receive = record {
@@ -112,27 +114,30 @@ goes-offers_one {up} d m rest a staged ready =
         head_slot = ready.receive.head_slot;
       };
       transmit = ready.transmit;
-      names =
-          ap (map (named_address a.memory)) done.last
-          ∙ map-append (named_address a.memory) (outstanding ring o) (address_of ring ring.tail ∷ [])
-          ∙ ap (λ (list : List ℕ). list ++ named_address a.memory (address_of ring ring.tail) ∷ []) ready.names
-          ∙ ap (λ (address : ℕ). map (buffer_at d.counts) d.buffers ++ address ∷ []) next.names
-          ∙ sym (map-append (buffer_at d.counts) d.buffers (m ∷ []));
-      stored = subst (λ (slot : ℕ). AreStored a.memory d.counts slot rest)
-          (sym (tail ∙ place-next d.counts.rx o (length d.buffers))) here.1;
+      slots = record {
+        names =
+            ap (map (named_address a.memory)) done.last
+            ∙ map-append (named_address a.memory) (outstanding ring o) (address_of ring ring.tail ∷ [])
+            ∙ ap (λ (list : List ℕ). list ++ named_address a.memory (address_of ring ring.tail) ∷ []) ready.slots.names
+            ∙ ap (λ (address : ℕ). map (buffer_at d.layout) d.buffers ++ address ∷ []) next.names
+            ∙ sym (map-append (buffer_at d.layout) d.buffers (m ∷ []));
+        stored = subst (λ (slot : ℕ). AreStored a.memory d.layout slot rest)
+            (sym (tail ∙ place-next d.layout.rx o (length d.buffers))) here.1;
+      };
       stand = ready.stand;
     })
 
 goes-offers : {up : Bool} (numbers : List ℕ) (d : DriverState) (a : World) → d.staged ≡ numbers → ReadyWith up d a
-    → GoesTo up d a (with_offered d numbers []) (with_tail (next_receive d) a) [] [] nothing
+    → GoesTo up (driver_in d a) (driver_in (with_offered d numbers []) (with_tail (next_receive d) a)) (driver_did [] []) nothing
 goes-offers {up} [] d a staged ready =
     let driver : d ≡ with_offered d [] [] =
     ap (λ (list : List ℕ). with_owners d d.buffers list d.pool d.handed_out) staged
     ∙ ap (λ (list : List ℕ). with_owners d list [] d.pool d.handed_out) (sym (append-nil d.buffers)) in
     let none : length d.buffers + length d.staged ≡ length d.buffers = omega (arith, ap length staged) in
-    let last : a.adapter.receive_ring.tail ≡ next_receive d = ready.receive.last ∙ ap (place d.counts.rx d.oldest_receive) (sym none) in
-    subst (λ (d' : DriverState). GoesTo up d a d' (with_tail (next_receive d) a) [] [] nothing) driver
-    (subst (λ (b : World). GoesTo up d a d b [] [] nothing) (ap (λ (tail : ℕ). with_tail tail a) last) (goes-stays d a ready))
+    let last : a.adapter.receive_ring.tail ≡ next_receive d = ready.receive.last ∙ ap (place d.layout.rx d.oldest_receive) (sym none) in
+    subst (λ (d' : DriverState). GoesTo up (driver_in d a) (driver_in d' (with_tail (next_receive d) a)) (driver_did [] []) nothing) driver
+    (subst (λ (b : World). GoesTo up (driver_in d a) (driver_in d b) (driver_did [] []) nothing) (ap (λ (tail : ℕ). with_tail tail a) last)
+    (goes-stays d a ready))
 goes-offers {up} (m ∷ numbers) d a staged ready =
     let d1 = with_offered d (m ∷ []) numbers in
     let one = goes-offers_one d m numbers a staged ready in
@@ -144,9 +149,10 @@ goes-offers {up} (m ∷ numbers) d a staged ready =
     (append_assoc d.buffers (m ∷ []) numbers) in
     let count : length (d.buffers ++ m ∷ []) + length numbers
     ≡ length d.buffers + length d.staged = omega (arith, length-append d.buffers (m ∷ []), ap length staged) in
-    let next : next_receive d1 ≡ next_receive d = ap (place d.counts.rx d.oldest_receive) count in
-    subst (λ (d' : DriverState). GoesTo up d a d' (with_tail (next_receive d) a) [] [] nothing) driver
-    (subst (λ (tail : ℕ). GoesTo up d a (with_offered d1 numbers []) (with_tail tail a) [] [] nothing) next both)
+    let next : next_receive d1 ≡ next_receive d = ap (place d.layout.rx d.oldest_receive) count in
+    subst (λ (d' : DriverState). GoesTo up (driver_in d a) (driver_in d' (with_tail (next_receive d) a)) (driver_did [] []) nothing) driver
+    (subst (λ (tail : ℕ). GoesTo up (driver_in d a) (driver_in (with_offered d1 numbers []) (with_tail tail a)) (driver_did [] []) nothing)
+    next both)
 
 pub staged_can_be_offered : StagedCanBeOffered
 staged_can_be_offered up d a ready = goes-offers d.staged d a refl ready

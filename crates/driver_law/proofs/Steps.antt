@@ -1,4 +1,4 @@
--- Steps that take no slot and give no frame: what they leave of frames, slots and causes makes a stretch of a driver's run.
+-- A step that takes no slot and accepts no frame is an interval of a driver's run.
 use Rattle.std.proofs.Common.{Bool, max, min, inl, inr, ⊎_elim, ◌≡◌, ◌≤◌, ◌<◌, ◌⊎◌, ◌+◌, ◌++◌, [], ℕ, List, length, refl, sym, ap, subst}
 use Rattle.std.proofs.Common.{◌∙◌, length-append, arith}
 use Rattle.std.specs.List.{All}
@@ -20,7 +20,7 @@ use Rattle.bus.proofs.DriversSlots.{drivers_side_stays}
 use Rattle.driver_law.proofs.Buffers.{buffer-aside, stand-kept}
 use Rattle.driver_law.proofs.Readiness.{keeps-happening, own-staged, ready-kept, stored-kept}
 use Rattle.driver_law.specs.DriverState.{DriverState, HandedOut, receive_slot, receive_tail, with_owners}
-use Rattle.driver_law.specs.Stretches.{GoesTo}
+use Rattle.driver_law.specs.Stretches.{GoesTo, driver_did, driver_in}
 use Rattle.driver_law.specs.ReadyDrivers.{ReadyWith, Stands}
 
 -- Frames only leave and come, slots only become finished and written back, causes are only added, and MPC counts.
@@ -42,27 +42,29 @@ pub record Passes (o p : ℕ) (a b : World) (past : Past) : Type 0 where
 pub goes-passes : {up : Bool} (d : DriverState) (buffers staged pool : List ℕ) (handed_out : List HandedOut) (a b : World) (past : Past)
     → Passes d.oldest_receive d.oldest_transmit a b past
     → ReadyWith up (with_owners d buffers staged pool handed_out) b
-    → GoesTo up d a (with_owners d buffers staged pool handed_out) b [] [] past
+    → GoesTo up (driver_in d a) (driver_in (with_owners d buffers staged pool handed_out) b) (driver_did [] []) past
 goes-passes {up} d buffers staged pool handed_out a b past passes ready =
     let longer = length-append (finished d.oldest_receive a) passes.more in
     record {
       flows = record {
         ready = ready;
-        counts = refl;
+        layout = refl;
         sends = passes.sends ∙ sym (append-nil (frames_to_send a));
         holds = passes.holds;
         least = omega (arith, ap length passes.done, longer);
         frees = omega
             (arith, ap length passes.written, length-append (written_back d.oldest_transmit a) passes.reported, passes.each_reported);
         mask = passes.mask;
-        sum = omega arith;
-        counted = λ fits low. let same = passes.missed fits in omega (arith, same);
-        sticks = λ fits much. let same = passes.missed fits in omega (arith, same, much);
-        at_most = omega (arith, passes.missed_most);
-        exactly = λ exact below_greatest. let same = passes.missed_below_greatest below_greatest in record
-            { exact = exact; below_greatest = omega (arith, same, below_greatest); sum = omega (arith, same) };
-        stays_exact = λ exact below low. exact;
-        small = λ was. was;
+        misses = record {
+          sum = omega arith;
+          counted = λ fits low. let same = passes.missed fits in omega (arith, same);
+          sticks = λ fits much. let same = passes.missed fits in omega (arith, same, much);
+          at_most = omega (arith, passes.missed_most);
+          exactly = λ exact below_greatest. let same = passes.missed_below_greatest below_greatest in record
+              { exact = exact; below_greatest = omega (arith, same, below_greatest); sum = omega (arith, same) };
+          stays_exact = λ exact below low. exact;
+          small = λ was. was;
+        };
       };
       causes = passes.causes;
       told =
@@ -92,12 +94,13 @@ passes-same o p a b same causes missed = record {
 }
 
 -- Nothing is done.
-pub goes-stays : {up : Bool} (d : DriverState) (a : World) → ReadyWith up d a → GoesTo up d a d a [] [] nothing
+pub goes-stays : {up : Bool} (d : DriverState) (a : World) → ReadyWith up d a
+    → GoesTo up (driver_in d a) (driver_in d a) (driver_did [] []) nothing
 goes-stays {up} d a ready =
     goes-passes d d.buffers d.staged d.pool d.handed_out a a nothing
     (passes-same d.oldest_receive d.oldest_transmit a a
     (record {
-      sound = ready.sound;
+      sound = ready.law.sound;
       held = refl;
       to_send = refl;
       finished_same = refl;
@@ -110,21 +113,21 @@ goes-stays {up} d a ready =
 
 -- Something happens.
 pub goes-happens : {up : Bool} (d : DriverState) (a b : World) (past : Past) → ReadyWith up d a → Happens a b past
-    → GoesTo up d a d b [] [] past
+    → GoesTo up (driver_in d a) (driver_in d b) (driver_did [] []) past
 goes-happens {up} d a b past ready happens =
     let o = d.oldest_receive in
     let p = d.oldest_transmit in
-    let between = happens.between o p ready.sound in
-    let own = drivers_side_stays o p a b past ready.sound happens in
-    let slot : ℕ → ℕ = λ i. place d.counts.rx (receive_tail d) i in
+    let between = happens.between o p ready.law.sound in
+    let own = drivers_side_stays o p a b past ready.law.sound happens in
+    let slot : ℕ → ℕ = λ i. place d.layout.rx (receive_tail d) i in
     let kept : (i : ℕ) → i < length d.staged
     → bytes_at b.memory (receive_slot (slot i)) 16 ≡ bytes_at a.memory (receive_slot (slot i)) 16 = λ i below.
     let stays = own.receive_slots _ (own-staged d a i ready (omega (arith, below, ready.driver_is.room))) in
     let at : address_of (receive_ring a) (slot i) ≡ receive_slot (slot i) = omega (arith, ready.receive.begins) in
     subst (λ (address : ℕ). bytes_at b.memory address 16 ≡ bytes_at a.memory address 16) at stays.bytes in
-    let stand : All (Stands d.counts b.memory) d.handed_out = stand-kept d a b ready (λ number known free.
+    let stand : All (Stands d.layout b.memory) d.handed_out = stand-kept d a b ready (λ number known free.
     let aside = buffer-aside d a number ready known free in
-    between.untouched (area_of d.counts (ReceiveBuffer number)) aside.foreign) in
+    between.untouched (area_of d.layout (ReceiveBuffer number)) aside.foreign) in
     goes-passes d d.buffers d.staged d.pool d.handed_out a b past
     (record {
       sends = between.sends;
@@ -144,7 +147,7 @@ goes-happens {up} d a b past ready happens =
           omega (arith, same, happens.steady.missed);
     })
     (ready-kept d d.staged d.pool a b ready (keeps-happening d a b past ready happens) ready.driver_is
-    (stored-kept a.memory b.memory d.counts (receive_tail d) d.staged kept ready.stored) stand)
+    (stored-kept a.memory b.memory d.layout (receive_tail d) d.staged kept ready.slots.stored) stand)
   where
     grown : (x y : ℕ) → x + y ≤ greatest_count → max x (min (x + y) greatest_count) ≡ x + y
     grown x y fits = omega (arith, fits)

@@ -7,12 +7,12 @@ use Rattle.adapter.specs.Slots.{finished, written_back}
 use Rattle.adapter.specs.World.{World}
 use Rattle.bus.specs.PastOfStretch.{nothing}
 use Rattle.driver_law.specs.DriverState.{DriverState}
-use Rattle.driver_law.specs.Stretches.{GoesTo}
+use Rattle.driver_law.specs.Stretches.{GoesTo, driver_did, driver_in}
 use Rattle.driver_law.specs.ReadyDrivers.{ReadyWith}
 
--- Frames, finished slots, causes and counts are the same; slots are freed where they were written back.
+-- Frames, finished slots, causes and counts are the same; slots are freed if they were written back.
 pub record Rests (driver : DriverState) (a : World) (driver' : DriverState) (b : World) : Type 0 where
-  pub counts : driver'.counts ≡ driver.counts
+  pub layout : driver'.layout ≡ driver.layout
   pub missed : driver'.missed ≡ driver.missed
   pub exact : driver'.exact ≡ driver.exact
   pub to_send : frames_to_send b ≡ frames_to_send a
@@ -25,28 +25,29 @@ pub record Rests (driver : DriverState) (a : World) (driver' : DriverState) (b :
   pub missed_packets : b.adapter.missed_packets ≡ a.adapter.missed_packets
 
 pub goes-rests : {up : Bool} (driver : DriverState) (a : World) (driver' : DriverState) (b : World) → ReadyWith up driver' b
-    → Rests driver a driver' b → GoesTo up driver a driver' b [] [] nothing
+    → Rests driver a driver' b → GoesTo up (driver_in driver a) (driver_in driver' b) (driver_did [] []) nothing
 goes-rests {up} driver a driver' b ready rests = record {
   flows = record {
     ready = ready;
-    counts = rests.counts;
+    layout = rests.layout;
     sends = rests.to_send ∙ sym (append-nil (frames_to_send a));
     holds = rests.held ∙ sym (append-nil (frames_held driver.oldest_receive a));
     least = omega (arith, ap length rests.finished_same);
     frees = omega (arith, rests.frees);
     mask = rests.mask;
-    sum = omega (arith, rests.missed);
-    counted = λ fits low. omega (arith, rests.missed, rests.missed_packets);
-    sticks = λ fits much. omega (arith, rests.missed, rests.missed_packets, much);
-    at_most = omega (arith, rests.missed, rests.missed_packets);
-    exactly = λ exact below_greatest. record {
-      exact = subst IsTrue rests.exact exact;
-      below_greatest = omega (arith, below_greatest, rests.missed_packets);
-      sum = omega
-          (arith, rests.missed, rests.missed_packets);
+    misses = record {
+      sum = omega (arith, rests.missed);
+      counted = λ fits low. omega (arith, rests.missed, rests.missed_packets);
+      sticks = λ fits much. omega (arith, rests.missed, rests.missed_packets, much);
+      at_most = omega (arith, rests.missed, rests.missed_packets);
+      exactly = λ exact below_greatest. record {
+        exact = subst IsTrue rests.exact exact;
+        below_greatest = omega (arith, below_greatest, rests.missed_packets);
+        sum = omega (arith, rests.missed, rests.missed_packets);
+      };
+      stays_exact = λ exact below low. subst IsTrue (sym rests.exact) exact;
+      small = λ was below. subst IsTrue (sym rests.exact) (was (omega (arith, below, rests.missed)));
     };
-    stays_exact = λ exact below low. subst IsTrue (sym rests.exact) exact;
-    small = λ was below. subst IsTrue (sym rests.exact) (was (omega (arith, below, rests.missed)));
   };
   causes = λ place has. subst (λ (causes : ℕ). HasBit causes place) (sym rests.recorded) has;
   told = inl (omega (arith, ap length rests.finished_same));

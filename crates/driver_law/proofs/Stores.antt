@@ -32,11 +32,11 @@ use Rattle.driver_law.proofs.Places.{place-add, place-below, places-differ}
 use Rattle.driver_law.proofs.Readiness.{Keeps, own-staged, ready-kept, stored-kept, with_staged}
 use Rattle.driver_law.proofs.Steps.{goes-passes, passes-same}
 use Rattle.driver_law.specs.DriverState.{DriverState, buffer_at, next_receive, receive_slot, receive_tail}
-use Rattle.driver_law.specs.Stretches.{GoesTo}
+use Rattle.driver_law.specs.Stretches.{GoesTo, driver_did, driver_in}
 use Rattle.driver_law.specs.ReadyDrivers.{AreStored, IsDriver, ReadyWith, empty_descriptor}
 use Rattle.driver_law.specs.ReceiveSteps.{SlotsCanBeStaged}
 
--- It keeps what the driver rests on.
+-- The store changes nothing that the driver relies on.
 keeps-store : {up : Bool} (d : DriverState) (a : World) (address : ℕ) (bytes : List ℕ) → ReadyWith up d a
     → LiesIn a.memory address (length bytes)
     → IsDriversArea d.oldest_receive d.oldest_transmit a (area_at address (length bytes))
@@ -44,17 +44,19 @@ keeps-store : {up : Bool} (d : DriverState) (a : World) (address : ℕ) (bytes :
 keeps-store {up} d a address bytes ready lies own =
     let o = d.oldest_receive in
     let p = d.oldest_transmit in
-    let leaves = drivers_stores_leave_frames o p a address bytes ready.sound lies own in
+    let leaves = drivers_stores_leave_frames o p a address bytes ready.law.sound lies own in
     let memory' = with_bytes a.memory address bytes in
     let area = area_at address (length bytes) in
     let changes = changes_only_stored a.memory bytes address lies in
     let received = same-apart a.memory memory' area (outstanding (receive_ring a) o) changes own.received in
     let sent = same-apart a.memory memory' area (outstanding (transmit_ring a) p) changes own.sent in
     record {
-      sound = leaves.same.sound;
-      runs = leaves.runs ready.runs;
-      fit = leaves.same.fits (omega arith) ready.fit;
-      whole = leaves.same.whole ready.whole;
+      law = record {
+        sound = leaves.same.sound;
+        runs = leaves.runs ready.law.runs;
+        fit = leaves.same.fits (omega arith) ready.law.fit;
+        whole = leaves.same.whole ready.law.whole;
+      };
       size = length-with_bytes a.memory bytes address lies;
       filter = refl;
       control = refl;
@@ -71,19 +73,19 @@ keeps-store {up} d a address bytes ready lies own =
 pub goes-stores : {up : Bool} (d : DriverState) (staged pool : List ℕ) (a : World) (address : ℕ) (bytes : List ℕ) → ReadyWith up d a
     → LiesIn a.memory address (length bytes)
     → IsDriversArea d.oldest_receive d.oldest_transmit a (area_at address (length bytes)) → IsDriver (with_staged d staged pool)
-    → AreStored (with_bytes a.memory address bytes) d.counts (receive_tail d) staged
-    → ((number : ℕ) → number < d.counts.buffers → AreApart (area_at address (length bytes)) (area_of d.counts (ReceiveBuffer number)))
-    → GoesTo up d a (with_staged d staged pool) (world_after_store address bytes a) [] [] nothing
+    → AreStored (with_bytes a.memory address bytes) d.layout (receive_tail d) staged
+    → ((number : ℕ) → number < d.layout.buffers → AreApart (area_at address (length bytes)) (area_of d.layout (ReceiveBuffer number)))
+    → GoesTo up (driver_in d a) (driver_in (with_staged d staged pool) (world_after_store address bytes a)) (driver_did [] []) nothing
 goes-stores {up} d staged pool a address bytes ready lies own driver stored away =
     let b = world_after_store address bytes a in
-    let leaves = drivers_stores_leave_frames d.oldest_receive d.oldest_transmit a address bytes ready.sound lies own in
+    let leaves = drivers_stores_leave_frames d.oldest_receive d.oldest_transmit a address bytes ready.law.sound lies own in
     let changes = changes_only_stored a.memory bytes address lies in
-    let stand = stand-kept d a b ready (λ number known free. changes.others (area_of d.counts (ReceiveBuffer number)) (away number known))
+    let stand = stand-kept d a b ready (λ number known free. changes.others (area_of d.layout (ReceiveBuffer number)) (away number known))
     in
     goes-passes d d.buffers staged pool d.handed_out a b nothing (passes-same d.oldest_receive d.oldest_transmit a b leaves.same refl refl)
     (ready-kept d staged pool a b ready (keeps-store d a address bytes ready lies own) driver stored stand)
 
--- A descriptor that names a buffer, and is else 0.
+-- A descriptor that names a buffer, and is otherwise 0.
 
 abbrev empty_fields : ℕ → RxDesc
 empty_fields buffer = record { address = buffer; length = 0; checksum = 0; status = status_of 0; errors = 0; special = 0 }
@@ -139,20 +141,20 @@ slots-apart x y size long differ =
 
 pub slots_can_be_staged : SlotsCanBeStaged
 slots_can_be_staged up d m pool a ready room known moves =
-    let n = d.counts.rx in
+    let n = d.layout.rx in
     let i = length d.buffers in
     let j = length d.staged in
     let first = d.oldest_receive in
     let slot = receive_slot (next_receive d) in
-    let bytes = empty_descriptor (buffer_at d.counts m) in
+    let bytes = empty_descriptor (buffer_at d.layout m) in
     let memory' = with_bytes a.memory slot bytes in
     let staged' = d.staged ++ m ∷ [] in
-    let long = length-empty_descriptor (buffer_at d.counts m) in
+    let long = length-empty_descriptor (buffer_at d.layout m) in
     let walked : place n (receive_tail d) j ≡ next_receive d = sym (place-add n first i j) in
     let at : address_of (receive_ring a) (place n (receive_tail d) j)
     ≡ slot = omega (arith, ready.receive.begins, ap (λ (index : ℕ). 16 * index) walked) in
     let own : CanBeWritten first d.oldest_transmit a slot = subst (CanBeWritten first d.oldest_transmit a) at
-    (drivers_receive_slots_can_be_written first d.oldest_transmit _ a ready.sound (own-staged d a j ready (omega (arith, room)))) in
+    (drivers_receive_slots_can_be_written first d.oldest_transmit _ a ready.law.sound (own-staged d a j ready (omega (arith, room)))) in
     let lies : LiesIn a.memory slot (length bytes) = subst (λ (size : ℕ). LiesIn a.memory slot size) (sym long) own.lies in
     let mine : IsDriversArea first d.oldest_transmit a (area_at slot (length bytes)) = subst
     (λ (size : ℕ). IsDriversArea first d.oldest_transmit a (area_at slot size)) (sym long) own.own in
@@ -171,13 +173,13 @@ slots_can_be_staged up d m pool a ready room known moves =
     (record {
       oldest_slot = ready.driver_is.oldest_slot;
       room = omega (arith, room, length-append d.staged (m ∷ []));
-      one_owner = one_owner-dealt d.counts.buffers d (with_staged d staged' pool)
+      one_owner = one_owner-dealt d.layout.buffers d (with_staged d staged' pool)
           (λ k. omega (arith, moves k, copies-cons k m pool, copies-push k m d.staged)) ready.driver_is.one_owner;
       addresses = ready.driver_is.addresses;
     })
-    (stored-push memory' d.counts (receive_tail d) d.staged m
-    (stored-kept a.memory memory' d.counts (receive_tail d) d.staged others ready.stored) here)
+    (stored-push memory' d.layout (receive_tail d) d.staged m
+    (stored-kept a.memory memory' d.layout (receive_tail d) d.staged others ready.slots.stored) here)
     (λ number within.
-    apart-inside (area_at slot (length bytes)) (area_of d.counts ReceiveRing) (area_of d.counts (ReceiveBuffer number))
+    apart-inside (area_at slot (length bytes)) (area_of d.layout ReceiveRing) (area_of d.layout (ReceiveBuffer number))
     (record { from = omega arith; to = omega (arith, long, below) })
-    (places-apart d.counts ReceiveRing (ReceiveBuffer number) tt within (λ same. absurd (cc))))
+    (places-apart d.layout ReceiveRing (ReceiveBuffer number) tt within (λ same. absurd (cc))))

@@ -1,26 +1,23 @@
--- Two stretches of a driver's run join, and no work is forgotten over one.
+-- Two intervals of a driver's run join, and no work is forgotten in one.
 use Rattle.std.proofs.Common.{Bool, ◌≡◌, ◌≤◌, ◌<◌, ◌^◌, ◌+◌, ◌++◌, ◌∷◌, [], ℕ, List, length, refl, inl, inr, ⊎_elim, subst, sym, ap, ◌∙◌}
 use Rattle.std.proofs.Common.{add-zero, append_assoc, length-append, arith}
 use Rattle.std.proofs.lemmas.Bool.{cases_lt}
 use Rattle.std.proofs.lemmas.List.{append-nil}
-use Rattle.std.proofs.lemmas.List.Elements.{All-append}
 use Rattle.registers.specs.Bits.{HasBit}
 use Rattle.adapter.specs.HostFrames.{frames_held, frames_to_send}
 use Rattle.adapter.specs.Slots.{finished}
 use Rattle.adapter.specs.World.{World}
-use Rattle.bus.proofs.Links.{link_stretches_join}
-use Rattle.bus.proofs.Settings.{settings_join, while_off-joins}
 use Rattle.bus.specs.PastOfStretch.{Past, joined, nothing}
-use Rattle.bus.specs.declared.event.Access.{Access}
 use Rattle.driver_law.specs.DriverState.{DriverState}
-use Rattle.driver_law.specs.Stretches.{FlowsTo, GoesTo, HasNoForgottenWork, RanTo}
+use Rattle.driver_law.specs.Stretches.{FlowsTo, GoesTo, HasNoForgottenWork, driver_did, driver_in}
 
 pub flows_join : {first_up up : Bool} (d1 d2 d3 : DriverState) (a b c : World) (t1 t2 g1 g2 : List (List ℕ)) (first later : Past)
-    → FlowsTo first_up d1 a d2 b t1 g1 first → FlowsTo up d2 b d3 c t2 g2 later
-    → FlowsTo up d1 a d3 c (t1 ++ t2) (g1 ++ g2) (joined first later)
+    → FlowsTo first_up (driver_in d1 a) (driver_in d2 b) (driver_did t1 g1) first
+    → FlowsTo up (driver_in d2 b) (driver_in d3 c) (driver_did t2 g2) later
+    → FlowsTo up (driver_in d1 a) (driver_in d3 c) (driver_did (t1 ++ t2) (g1 ++ g2)) (joined first later)
 flows_join d1 d2 d3 a b c t1 t2 g1 g2 first later one two = record {
   ready = two.ready;
-  counts = two.counts ∙ one.counts;
+  layout = two.layout ∙ one.layout;
   sends =
       append_assoc first.put later.put (frames_to_send c)
       ∙ ap (λ (frames : List (List ℕ)). first.put ++ frames) two.sends
@@ -36,35 +33,38 @@ flows_join d1 d2 d3 a b c t1 t2 g1 g2 first later one two = record {
   least = omega (arith, one.least, two.least, length-append t1 t2);
   frees = omega (arith, one.frees, two.frees, length-append first.put later.put, length-append g1 g2);
   mask = two.mask ∙ one.mask;
-  sum = omega (arith, one.sum, two.sum);
-  counted = λ fits low.
-      let before = one.counted (omega (arith, fits)) (omega (arith, low)) in
-      let behind = two.counted (omega (arith, before, one.sum, fits)) (omega (arith, before, low)) in
-      omega (arith, before, behind);
-  sticks = λ fits much.
-      let behind = two.sticks (omega (arith, one.at_most, one.sum, fits)) in
-      ⊎_elim
-      (λ (low : d1.missed + a.adapter.missed_packets + first.missed < 2 ^ 64).
-      let before = one.counted (omega (arith, fits)) low in
-      behind (omega (arith, before, much)))
-      (λ (high : 2 ^ 64 ≤ d1.missed + a.adapter.missed_packets + first.missed).
-      let before = one.sticks (omega (arith, fits)) (omega (arith, high)) in
-      behind (omega (arith, before)))
-      (cases_lt (d1.missed + a.adapter.missed_packets + first.missed) (2 ^ 64));
-  at_most = omega (arith, one.at_most, two.at_most);
-  exactly = λ exact below_greatest.
-      let behind = two.exactly exact below_greatest in
-      let before = one.exactly behind.exact behind.below_greatest in
-      record { exact = before.exact; below_greatest = before.below_greatest; sum = omega (arith, before.sum, behind.sum) };
-  stays_exact = λ exact below low.
-      let before = one.stays_exact exact (omega (arith, below)) (omega (arith, low)) in
-      two.stays_exact before (omega (arith, one.at_most, one.sum, below)) (omega (arith, one.at_most, low));
-  small = λ was. two.small (one.small was);
+  misses = record {
+    sum = omega (arith, one.misses.sum, two.misses.sum);
+    counted = λ fits low.
+        let before = one.misses.counted (omega (arith, fits)) (omega (arith, low)) in
+        let behind = two.misses.counted (omega (arith, before, one.misses.sum, fits)) (omega (arith, before, low)) in
+        omega (arith, before, behind);
+    sticks = λ fits much.
+        let behind = two.misses.sticks (omega (arith, one.misses.at_most, one.misses.sum, fits)) in
+        ⊎_elim
+        (λ (low : d1.missed + a.adapter.missed_packets + first.missed < 2 ^ 64).
+        let before = one.misses.counted (omega (arith, fits)) low in
+        behind (omega (arith, before, much)))
+        (λ (high : 2 ^ 64 ≤ d1.missed + a.adapter.missed_packets + first.missed).
+        let before = one.misses.sticks (omega (arith, fits)) (omega (arith, high)) in
+        behind (omega (arith, before)))
+        (cases_lt (d1.missed + a.adapter.missed_packets + first.missed) (2 ^ 64));
+    at_most = omega (arith, one.misses.at_most, two.misses.at_most);
+    exactly = λ exact below_greatest.
+        let behind = two.misses.exactly exact below_greatest in
+        let before = one.misses.exactly behind.exact behind.below_greatest in
+        record { exact = before.exact; below_greatest = before.below_greatest; sum = omega (arith, before.sum, behind.sum) };
+    stays_exact = λ exact below low.
+        let before = one.misses.stays_exact exact (omega (arith, below)) (omega (arith, low)) in
+        two.misses.stays_exact before (omega (arith, one.misses.at_most, one.misses.sum, below)) (omega (arith, one.misses.at_most, low));
+    small = λ was. two.misses.small (one.misses.small was);
+  };
 }
 
 pub goes_join : {first_up up : Bool} (d1 d2 d3 : DriverState) (a b c : World) (t1 t2 g1 g2 : List (List ℕ)) (first later : Past)
-    → GoesTo first_up d1 a d2 b t1 g1 first → GoesTo up d2 b d3 c t2 g2 later
-    → GoesTo up d1 a d3 c (t1 ++ t2) (g1 ++ g2) (joined first later)
+    → GoesTo first_up (driver_in d1 a) (driver_in d2 b) (driver_did t1 g1) first
+    → GoesTo up (driver_in d2 b) (driver_in d3 c) (driver_did t2 g2) later
+    → GoesTo up (driver_in d1 a) (driver_in d3 c) (driver_did (t1 ++ t2) (g1 ++ g2)) (joined first later)
 goes_join d1 d2 d3 a b c t1 t2 g1 g2 first later one two = record {
   flows = flows_join d1 d2 d3 a b c t1 t2 g1 g2 first later one.flows two.flows;
   causes = λ place has. two.causes place (one.causes place has);
@@ -80,22 +80,6 @@ goes_join d1 d2 d3 a b c t1 t2 g1 g2 first later one two = record {
       two.told;
 }
 
--- Over a bus.
-pub ran_join : {first_up up : Bool} {B : Type 0} (world : B → World) (happened : B → B → Past → Type 0) (allowed : Access → Type 0)
-    → ((a b c : B) (first later : Past) → happened a b first → happened b c later → happened a c (joined first later))
-    → (a b c : B) (d1 d2 d3 : DriverState) (t1 t2 g1 g2 : List (List ℕ))
-    → RanTo first_up world happened allowed a b d1 d2 t1 g1 → RanTo up world happened allowed b c d2 d3 t2 g2
-    → RanTo up world happened allowed a c d1 d3 (t1 ++ t2) (g1 ++ g2)
-ran_join world happened allowed joins a b c d1 d2 d3 t1 t2 g1 g2 one two = record {
-  past = joined one.past two.past;
-  told = joins a b c one.past two.past one.told two.told;
-  only = All-append allowed one.past.accesses two.past.accesses one.only two.only;
-  goes = goes_join d1 d2 d3 (world a) (world b) (world c) t1 t2 g1 g2 one.past two.past one.goes two.goes;
-  set = settings_join (world a) (world b) (world c) one.past two.past one.set two.set;
-  off = while_off-joins (world a) (world b) one.past two.past one.set one.off two.off;
-  link = link_stretches_join (world a) (world b) (world c) one.past two.past one.link two.link;
-}
-
 pub joined-nothing : (past : Past) → joined past nothing ≡ past
 joined-nothing past =
     let same : record {
@@ -109,9 +93,9 @@ joined-nothing past =
     } ≡ past = refl in
     rw (append-nil, append-nil, append-nil, add-zero, add-zero, add-zero) same
 
--- Where ICR isn't read no work is forgotten.
+-- If ICR isn't read no work is forgotten.
 pub work_kept : {up : Bool} (d d' : DriverState) (a b : World) (taken accepted : List (List ℕ)) (past : Past)
-    → GoesTo up d a d' b taken accepted past → HasNoForgottenWork d a → HasNoForgottenWork d' b
+    → GoesTo up (driver_in d a) (driver_in d' b) (driver_did taken accepted) past → HasNoForgottenWork d a → HasNoForgottenWork d' b
 work_kept d d' a b taken accepted past goes work = record {
   enabled = subst (λ (mask : ℕ). HasBit mask 7) (sym goes.flows.mask) work.enabled;
   asked =

@@ -1,4 +1,4 @@
--- The oldest receive slot is taken where it is finished, and a buffer comes back.
+-- The oldest receive slot is taken if it is finished, and a buffer comes back.
 use Rattle.std.proofs.Common.{inl, ◌≡◌, ◌+◌, ◌*◌, ◌%◌, ◌++◌, ◌∷◌, [], Bool, true, false, cond, ℕ, suc, List, length, map, refl, sym, ap}
 use Rattle.std.proofs.Common.{subst, ◌∙◌, arith}
 use Rattle.std.specs.List.{take_while}
@@ -34,14 +34,14 @@ cons-parts x y xs ys same = (cc, cc)
 
 -- What the oldest slot shows says whether any slot is finished.
 
--- the slots behind the oldest, where so many are outstanding besides it
+-- the slots after the oldest, if this many are outstanding besides it
 abbrev behind_it : DriverState → ℕ → List ℕ
-behind_it d i = map receive_slot (slots_from d.counts.rx ((d.oldest_receive + 1) % d.counts.rx) i)
+behind_it d i = map receive_slot (slots_from d.layout.rx ((d.oldest_receive + 1) % d.layout.rx) i)
 
 oldest-first : {up : Bool} (d : DriverState) (world : World) (m : ℕ) (rest : List ℕ) → d.buffers ≡ m ∷ rest → ReadyWith up d world
     → outstanding (receive_ring world) d.oldest_receive ≡ receive_slot d.oldest_receive ∷ behind_it d (length rest)
 oldest-first {up} d world m rest buffers ready =
-    let n = d.counts.rx in
+    let n = d.layout.rx in
     outstanding-known (receive_ring world) 0 n d.oldest_receive (length d.buffers) ready.receive ready.driver_is.oldest_slot
     (omega (arith, ready.driver_is.room))
     ∙ ap (λ (i : ℕ). map (λ (slot : ℕ). 0 + 16 * slot) (slots_from n d.oldest_receive i)) (ap length buffers)
@@ -76,27 +76,27 @@ pub finished-empty : {up : Bool} (d : DriverState) (world : World) → d.buffers
     → finished d.oldest_receive world ≡ []
 finished-empty {up} d world none ready =
     ap (take_while (is_done world.memory))
-    (outstanding-known (receive_ring world) 0 d.counts.rx d.oldest_receive (length d.buffers) ready.receive ready.driver_is.oldest_slot
+    (outstanding-known (receive_ring world) 0 d.layout.rx d.oldest_receive (length d.buffers) ready.receive ready.driver_is.oldest_slot
     (omega (arith, ready.driver_is.room))
-    ∙ ap (λ (i : ℕ). map (λ (slot : ℕ). 0 + 16 * slot) (slots_from d.counts.rx d.oldest_receive i)) (ap length none))
+    ∙ ap (λ (i : ℕ). map (λ (slot : ℕ). 0 + 16 * slot) (slots_from d.layout.rx d.oldest_receive i)) (ap length none))
 
 -- What the law says of it, with its frame.
 record IsFirst (d : DriverState) (world : World) (m : ℕ) (slots : List ℕ) : Type 0 where
   taken : Taken d.oldest_receive d.oldest_transmit world (receive_slot d.oldest_receive) slots
   size : length (frame_named world (receive_slot d.oldest_receive)) ≡ (descriptor_at world.memory (receive_slot d.oldest_receive)).length
-  stands : Stands d.counts world.memory (oldest_frame d m world)
+  stands : Stands d.layout world.memory (oldest_frame d m world)
 
 first-known : {up : Bool} (d : DriverState) (world : World) (m : ℕ) (rest slots : List ℕ) → d.buffers ≡ m ∷ rest → ReadyWith up d world
     → finished d.oldest_receive world ≡ receive_slot d.oldest_receive ∷ slots → IsFirst d world m slots
 first-known {up} d world m rest slots buffers ready done =
     let slot = receive_slot d.oldest_receive in
-    let at = buffer_at d.counts m in
+    let at = buffer_at d.layout m in
     let desc = descriptor_at world.memory slot in
-    let taken = finished_slots_can_be_taken d.oldest_receive d.oldest_transmit world slot slots ready.sound done in
-    let whole = (taken.whole ready.whole).0 in
-    let names : map (named_address world.memory) (slot ∷ behind_it d (length rest)) ≡ map (buffer_at d.counts) (m ∷ rest) =
-    sym (ap (map (named_address world.memory)) (oldest-first d world m rest buffers ready)) ∙ ready.names
-    ∙ ap (map (buffer_at d.counts)) buffers in
+    let taken = finished_slots_can_be_taken d.oldest_receive d.oldest_transmit world slot slots ready.law.sound done in
+    let whole = (taken.whole ready.law.whole).0 in
+    let names : map (named_address world.memory) (slot ∷ behind_it d (length rest)) ≡ map (buffer_at d.layout) (m ∷ rest) =
+    sym (ap (map (named_address world.memory)) (oldest-first d world m rest buffers ready)) ∙ ready.slots.names
+    ∙ ap (map (buffer_at d.layout)) buffers in
     let address : desc.address ≡ at = (cons-parts _ _ _ _ names).0 in
     let lies = buffer-lies d world m ready
     (outstanding-number d m ready.driver_is (omega (arith, ap (copies m) buffers, copies-itself m rest))) in
@@ -117,7 +117,8 @@ pub oldest_is_whole : {up : Bool} (d : DriverState) (m : ℕ) (rest slots : List
     → d.buffers ≡ m ∷ rest
     → finished d.oldest_receive world ≡ receive_slot d.oldest_receive ∷ slots
     → IsWhole (descriptor_at world.memory (receive_slot d.oldest_receive))
-oldest_is_whole d m rest slots world ready buffers done = ((first-known d world m rest slots buffers ready done).taken.whole ready.whole).0
+oldest_is_whole d m rest slots world ready buffers done =
+    ((first-known d world m rest slots buffers ready done).taken.whole ready.law.whole).0
 
 -- With the next place in the driver's own words.
 record IsNextOldest (d : DriverState) (world : World) (slots : List ℕ) (next : ℕ) : Type 0 where
@@ -129,7 +130,7 @@ record IsNextOldest (d : DriverState) (world : World) (slots : List ℕ) (next :
 
 pub oldest_can_be_taken : OldestCanBeTaken
 oldest_can_be_taken up d m rest slots a ready buffers done =
-    let n = d.counts.rx in
+    let n = d.layout.rx in
     let o = d.oldest_receive in
     let next = (o + 1) % n in
     let slot = receive_slot o in
@@ -138,15 +139,15 @@ oldest_can_be_taken up d m rest slots a ready buffers done =
     let known = first-known d a m rest slots buffers ready done in
     let taken = known.taken in
     let here : IsNextOldest d a slots (behind_oldest_receive o a) = record
-    { sound = taken.sound; behind = taken.behind; held = taken.held; first = taken.first; fits = taken.fits ready.fit } in
+    { sound = taken.sound; behind = taken.behind; held = taken.held; first = taken.first; fits = taken.fits ready.law.fit } in
     let at : IsNextOldest d a slots next = subst (IsNextOldest d a slots) (ap (λ (count : ℕ). (o + 1) % count) ready.receive.slots) here in
     let count : length d.buffers ≡ suc (length rest) = ap length buffers in
     let tail : receive_tail d ≡ place n next (length rest) = ap (place n o) count in
-    let names : map (named_address a.memory) (slot ∷ outstanding (receive_ring a) next) ≡ map (buffer_at d.counts) (m ∷ rest) =
-    sym (ap (map (named_address a.memory)) at.first) ∙ ready.names ∙ ap (map (buffer_at d.counts)) buffers in
+    let names : map (named_address a.memory) (slot ∷ outstanding (receive_ring a) next) ≡ map (buffer_at d.layout) (m ∷ rest) =
+    sym (ap (map (named_address a.memory)) at.first) ∙ ready.slots.names ∙ ap (map (buffer_at d.layout)) buffers in
     let numbers : numbers_of (d.handed_out ++ one ∷ []) ≡ numbers_of d.handed_out ++ m
     ∷ [] = map-append (λ (entry : HandedOut). entry.number) d.handed_out (one ∷ []) in
-    let Standing = Stands d.counts a.memory in
+    let Standing = Stands d.layout a.memory in
     record {
       flows = record {
         ready = record {
@@ -154,7 +155,7 @@ oldest_can_be_taken up d m rest slots a ready buffers done =
             oldest_slot = next-below n o ready.driver_is.oldest_slot;
             room = omega (arith, ready.driver_is.room, count);
             one_owner =
-                one_owner-dealt d.counts.buffers d d'
+                one_owner-dealt d.layout.buffers d d'
                 (λ k. omega (
                   arith,
                   ap (copies k) buffers,
@@ -166,10 +167,12 @@ oldest_can_be_taken up d m rest slots a ready buffers done =
                 ready.driver_is.one_owner;
             addresses = ready.driver_is.addresses;
           };
-          sound = at.sound;
-          runs = ready.runs;
-          fit = at.fits;
-          whole = subst (AreWhole a.memory) (sym at.behind) (taken.whole ready.whole).1;
+          law = record {
+            sound = at.sound;
+            runs = ready.law.runs;
+            fit = at.fits;
+            whole = subst (AreWhole a.memory) (sym at.behind) (taken.whole ready.law.whole).1;
+          };
           lies = ready.lies;
           size = ready.size;
           receive = record {
@@ -180,23 +183,27 @@ oldest_can_be_taken up d m rest slots a ready buffers done =
             head_slot = ready.receive.head_slot;
           };
           transmit = ready.transmit;
-          names = (cons-parts _ _ _ _ names).1;
-          stored = subst (λ (place : ℕ). AreStored a.memory d.counts place d.staged) tail ready.stored;
+          slots = record {
+            names = (cons-parts _ _ _ _ names).1;
+            stored = subst (λ (place : ℕ). AreStored a.memory d.layout place d.staged) tail ready.slots.stored;
+          };
           stand = All-append Standing d.handed_out (one ∷ []) ready.stand (All-cons Standing one [] known.stands (all-none Standing));
         };
-        counts = refl;
+        layout = refl;
         sends = sym (append-nil (frames_to_send a));
         holds = sym at.held ∙ sym (append-nil (frames_held o a));
         least = omega (arith, ap length done, ap length at.behind);
         frees = omega arith;
         mask = refl;
-        sum = omega arith;
-        counted = λ fits low. omega arith;
-        sticks = λ fits much. omega (arith, much);
-        at_most = omega arith;
-        exactly = λ exact below_greatest. record { exact = exact; below_greatest = below_greatest; sum = omega arith };
-        stays_exact = λ exact below low. exact;
-        small = λ was. was;
+        misses = record {
+          sum = omega arith;
+          counted = λ fits low. omega arith;
+          sticks = λ fits much. omega (arith, much);
+          at_most = omega arith;
+          exactly = λ exact below_greatest. record { exact = exact; below_greatest = below_greatest; sum = omega arith };
+          stays_exact = λ exact below low. exact;
+          small = λ was. was;
+        };
       };
       causes = λ place has. has;
       told = inl (omega (arith, ap length done, ap length at.behind));
@@ -207,7 +214,7 @@ buffers_can_come_back up d pool handed_out a ready moves stand =
     goes-passes d d.buffers d.staged pool handed_out a a nothing
     (passes-same d.oldest_receive d.oldest_transmit a a
     (record {
-      sound = ready.sound;
+      sound = ready.law.sound;
       held = refl;
       to_send = refl;
       finished_same = refl;
@@ -220,19 +227,15 @@ buffers_can_come_back up d pool handed_out a ready moves stand =
       driver_is = record {
         oldest_slot = ready.driver_is.oldest_slot;
         room = ready.driver_is.room;
-        one_owner = one_owner-dealt d.counts.buffers d (with_owners d d.buffers d.staged pool handed_out)
+        one_owner = one_owner-dealt d.layout.buffers d (with_owners d d.buffers d.staged pool handed_out)
             (λ k. omega (arith, moves k)) ready.driver_is.one_owner;
         addresses = ready.driver_is.addresses;
       };
-      sound = ready.sound;
-      runs = ready.runs;
-      fit = ready.fit;
-      whole = ready.whole;
+      law = ready.law;
       lies = ready.lies;
       size = ready.size;
       receive = ready.receive;
       transmit = ready.transmit;
-      names = ready.names;
-      stored = ready.stored;
+      slots = record { names = ready.slots.names; stored = ready.slots.stored };
       stand = stand;
     })

@@ -23,17 +23,19 @@ use Rattle.driver_law.proofs.StepsWithoutFrames.{goes-rests}
 
 pub transmitter_is_enabled : TransmitterIsEnabled
 transmitter_is_enabled driver control world ready below knows pads =
-    let counts = driver.counts in
+    let counts = driver.layout in
     let none : driver.sending ≡ 0 = ready.transmit.nothing in
     let Inside : ℕ → Type 0 = λ slot. IsInside (data_of world.memory (transmit_slot counts slot)) (area_of counts (TransmitBuffer slot)) in
-    let leaves = transmitter_can_be_set driver.oldest_receive driver.oldest_transmit control world ready.sound (λ differ. pads) in
+    let leaves = transmitter_can_be_set driver.oldest_receive driver.oldest_transmit control world ready.law.sound (λ differ. pads) in
     goes-rests driver world driver (with_transmit_control control world)
     (record {
       driver_is = ready.driver_is;
-      sound = leaves.same.sound;
-      runs = leaves.runs ready.runs;
-      fit = leaves.same.fits (omega arith) ready.fit;
-      whole = ready.whole;
+      law = record {
+        sound = leaves.same.sound;
+        runs = leaves.runs ready.law.runs;
+        fit = leaves.same.fits (omega arith) ready.law.fit;
+        whole = ready.law.whole;
+      };
       lies = ready.lies;
       size = ready.size;
       receive = ready.receive;
@@ -44,12 +46,11 @@ transmitter_is_enabled driver control world ready below knows pads =
         knows = knows;
         sources = subst (λ (k : ℕ). All Inside (slots_from counts.tx driver.oldest_transmit k)) (sym none) (all-none Inside);
       };
-      names = ready.names;
-      stored = ready.stored;
+      slots = record { names = ready.slots.names; stored = ready.slots.stored };
       stand = ready.stand;
     })
     (record {
-      counts = refl;
+      layout = refl;
       missed = refl;
       exact = refl;
       to_send = refl;
@@ -66,7 +67,7 @@ unfolding register_at
 causes_are_enabled up driver causes world ready =
     let b = world_after_write 0xD0 causes world in
     let leaves : LeavesFrames driver.oldest_receive driver.oldest_transmit world b = other_writes_leave_frames driver.oldest_receive
-    driver.oldest_transmit Ims causes world ready.sound (λ no. no) refl in
+    driver.oldest_transmit Ims causes world ready.law.sound (λ no. no) refl in
     let same : SameParts world b = record
     { memory = refl; receives = refl; transmits = refl; receive_control = refl; transmit_control = refl; buffer = refl } in
     record {

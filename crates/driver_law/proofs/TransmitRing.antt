@@ -49,19 +49,19 @@ separate-replaced memory first old area rest separate lies apart away =
           (AllPairs-cons AreApart area rest away rest_apart);
     }
 
--- The receive buffers that outstanding slots name are apart from an area where the layout keeps them apart from it.
+-- The receive buffers that outstanding slots name are apart from an area if the layout keeps them apart from it.
 pub outstanding-buffers : {up : Bool} (driver : DriverState) (world : World) (area : Area) → ReadyWith up driver world
-    → ((number : ℕ) → number < driver.counts.buffers → AreApart (area_of driver.counts (ReceiveBuffer number)) area)
+    → ((number : ℕ) → number < driver.layout.buffers → AreApart (area_of driver.layout (ReceiveBuffer number)) area)
     → All (λ slot. AreApart (buffer_of world slot) area) (outstanding (receive_ring world) driver.oldest_receive)
 outstanding-buffers driver world area ready away =
-    let counts = driver.counts in
+    let counts = driver.layout in
     let Away : ℕ → Type 0 = λ address. AreApart (area_at address (buffer_size world)) area in
     let each : All Away (map (buffer_at counts) driver.buffers) = All-map Away (buffer_at counts) driver.buffers
     (all-copies (λ number. Away (buffer_at counts number)) driver.buffers (λ number some.
     subst (λ (size : ℕ). AreApart (area_at (buffer_at counts number) size) area) (sym ready.size)
     (away number (outstanding-number driver number ready.driver_is some)))) in
     all-unmapped Away (named_address world.memory) (outstanding (receive_ring world) driver.oldest_receive)
-    (subst (λ (list : List ℕ). All Away list) (sym ready.names) each)
+    (subst (λ (list : List ℕ). All Away list) (sym ready.slots.names) each)
 
 -- A transmit side that is off.
 
@@ -91,39 +91,39 @@ ring-set driver ring world ready idle lies apart away =
     let o = driver.oldest_receive in
     let r = ring_area (receive_ring world) in
     let before = subst (λ (list : List Area). AreSeparate world.memory (r ∷ ring_area (transmit_ring world) ∷ list))
-    (areas-idle o world ready.transmit.idle) ready.sound.separate in
+    (areas-idle o world ready.transmit.idle) ready.law.sound.separate in
     let after = separate-replaced world.memory r (ring_area (transmit_ring world)) (ring_area (ring_of ring))
     (received_areas o world) before lies apart away in
-    transmit_ring_can_be_set o driver.oldest_transmit ring world ready.sound ready.transmit.empty idle
+    transmit_ring_can_be_set o driver.oldest_transmit ring world ready.law.sound ready.transmit.empty idle
     (subst (λ (list : List Area). AreSeparate world.memory (r ∷ ring_area (ring_of ring) ∷ list))
     (sym (areas-idle o (with_transmit_ring ring world) idle)) after)
 
--- The place of the transmit ring is apart from all that is received: this is seen where the ring itself has no slots, as after a reset.
+-- The place of the transmit ring is apart from all receive areas, also if the ring itself has no slots, as after a reset.
 pub place-away : (driver : DriverState) (world : World) → ReadyWith false driver world
-    → All (λ other. AreApart other (area_of driver.counts TransmitRing)) (received_areas driver.oldest_receive world)
+    → All (λ other. AreApart other (area_of driver.layout TransmitRing)) (received_areas driver.oldest_receive world)
 place-away driver world ready =
     let o = driver.oldest_receive in
-    let area = area_of driver.counts TransmitRing in
+    let area = area_of driver.layout TransmitRing in
     let bare = with_transmit_ring new_ring world in
     let set = ring-set driver new_ring world ready refl (omega arith) (inr (omega arith)) (λ k d below. inl (omega arith)) in
     let Apart : Area → Type 0 = λ other. AreApart other area in
     let spare : IsSpare o 0 bare area = record {
       receive_slots = subst Apart (sym (known-area _ _ _ _ ready.receive))
-          (places-apart driver.counts ReceiveRing TransmitRing tt tt (λ same. absurd (cc)));
+          (places-apart driver.layout ReceiveRing TransmitRing tt tt (λ same. absurd (cc)));
       transmit_slots = inl (omega arith);
       buffers = outstanding-buffers driver world area ready
-          (λ number known. places-apart driver.counts (ReceiveBuffer number) TransmitRing known tt (λ same. absurd (cc)));
+          (λ number known. places-apart driver.layout (ReceiveBuffer number) TransmitRing known tt (λ same. absurd (cc)));
       sources = subst (λ (slots : List ℕ). All (λ slot. AreApart (data_of world.memory slot) area) slots) (sym set.none_outstanding)
           (all-none _);
     } in
-    let all = spare-apart o 0 bare area set.sound (set.fits ready.fit) spare in
+    let all = spare-apart o 0 bare area set.sound (set.fits ready.law.fit) spare in
     let behind = all-tail Apart (ring_area (transmit_ring bare)) (frame_areas o bare)
     (all-tail Apart (ring_area (receive_ring bare)) (ring_area (transmit_ring bare) ∷ frame_areas o bare) all) in
     subst (λ (list : List Area). All Apart list) (areas-idle o bare refl) behind
 
 pub transmit_ring_is_written : TransmitRingIsWritten
 transmit_ring_is_written driver ring world ready idle inside =
-    let counts = driver.counts in
+    let counts = driver.layout in
     let o = driver.oldest_receive in
     let b = with_transmit_ring ring world in
     let place = area_of counts TransmitRing in
@@ -143,10 +143,12 @@ transmit_ring_is_written driver ring world ready idle inside =
         one_owner = ready.driver_is.one_owner;
         addresses = ready.driver_is.addresses;
       };
-      sound = set.sound;
-      runs = set.runs ready.runs;
-      fit = set.fits ready.fit;
-      whole = ready.whole;
+      law = record {
+        sound = set.sound;
+        runs = set.runs ready.law.runs;
+        fit = set.fits ready.law.fit;
+        whole = ready.law.whole;
+      };
       lies = ready.lies;
       size = ready.size;
       receive = ready.receive;
@@ -158,12 +160,11 @@ transmit_ring_is_written driver ring world ready idle inside =
         empty =
             ready.transmit.empty;
       };
-      names = ready.names;
-      stored = ready.stored;
+      slots = record { names = ready.slots.names; stored = ready.slots.stored };
       stand = ready.stand;
     })
     (record {
-      counts = refl;
+      layout = refl;
       missed = refl;
       exact = refl;
       to_send = set.none_to_send

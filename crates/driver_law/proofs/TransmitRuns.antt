@@ -20,11 +20,10 @@ use Rattle.bus.specs.Law.{Acts, Happens}
 use Rattle.bus.specs.PastOfStretch.{Past, joined, nothing}
 use Rattle.bus.specs.declared.event.Access.TheVariants.{Loads, Stores, Writes}
 use Rattle.driver_law.specs.DriverState.{DriverState, transmit_slot, transmit_tail}
-use Rattle.driver_law.specs.Stretches.{Goes, RanBy}
+use Rattle.driver_law.specs.Stretches.{Goes, driver_did, driver_in}
 use Rattle.driver_law.specs.ReadyDrivers.{Ready}
-use Rattle.driver_law.specs.TransmitSteps.{FrameStands, IsLoadOrStore, SendsEndWithTail, TailIsMoved, tail_buffer, tail_slot}
-use Rattle.driver_law.specs.TransmitSteps.{transmit_loads}
-use Rattle.driver_law.specs.TransmitSteps.{send_accesses, transmit_buffer, whole_descriptor, with_freed}
+use Rattle.driver_law.specs.Accesses.{send_accesses, tail_buffer, tail_slot, transmit_buffer, transmit_loads, whole_descriptor}
+use Rattle.driver_law.specs.TransmitSteps.{FrameStands, IsLoadOrStore, SendsEndWithTail, TailIsMoved, with_freed}
 use Rattle.driver_law.proofs.Accesses.{load-sets, ran_by-join, store-sets, write-sets}
 use Rattle.driver_law.proofs.Buffers.{front-same}
 use Rattle.driver_law.proofs.OfferedAndFreedSlots.{frame_is_offered, length-whole, none_is_written_back, slot_is_freed}
@@ -33,17 +32,19 @@ use Rattle.driver_law.proofs.Steps.{goes-stays}
 use Rattle.driver_law.proofs.TransmitSlots.{data_is_stored, descriptor_is_stored, next_slot_belongs_to_driver, drivers-buffer}
 use Rattle.driver_law.proofs.TransmitSlots.{own-descriptor}
 use Rattle.driver_law.proofs.TransmitSlots.{slots_keep_bytes}
+use Rattle.driver_law.specs.Calls.{Ran, at, call_did, only}
+use Rattle.bus.specs.declared.bus.Bus.{Ghosts}
 
 -- A frame is sent.
 
 abbrev HasBytes : DriverState → List ℕ → World → Type 0
-HasBytes d frame world = bytes_at world.memory (transmit_buffer d.counts (transmit_tail d)) (length frame) ≡ frame
+HasBytes d frame world = bytes_at world.memory (transmit_buffer d.layout (transmit_tail d)) (length frame) ≡ frame
 
 bytes-stay : (d : DriverState) (frame : List ℕ) → length frame ≤ 1518 → (a b : World) (past : Past) → Ready d a → Happens a b past
     → HasBytes d frame a → HasBytes d frame b
 bytes-stay d frame short a b past ready happens has =
     let same = slots_keep_bytes d (transmit_tail d) a b past ready (next_slot_belongs_to_driver d a ready) happens in
-    front-same a.memory b.memory (transmit_buffer d.counts (transmit_tail d)) (length frame) 2048 (omega (arith, short)) same.data_same
+    front-same a.memory b.memory (transmit_buffer d.layout (transmit_tail d)) (length frame) 2048 (omega (arith, short)) same.data_same
     ∙ has
 
 stands-stay : (d : DriverState) (frame : List ℕ) → length frame ≤ 1518 → (a b : World) (past : Past) → Ready d a → Happens a b past
@@ -52,34 +53,34 @@ stands-stay d frame short a b past ready happens stands =
     let same = slots_keep_bytes d (transmit_tail d) a b past ready (next_slot_belongs_to_driver d a ready) happens in
     record { bytes = bytes-stay d frame short a b past ready happens stands.bytes; descriptor = same.descriptor_same ∙ stands.descriptor }
 
--- The descriptor's store leaves the frame's bytes.
+-- The store of the descriptor doesn't change the frame's bytes.
 stands-stored : (d : DriverState) (frame : List ℕ) (world : World) → Ready d world → length frame ≤ 1518 → HasBytes d frame world
     → FrameStands d frame
-    (world_after_store (transmit_slot d.counts (transmit_tail d))
-    (whole_descriptor (transmit_buffer d.counts (transmit_tail d)) (length frame)) world)
+    (world_after_store (transmit_slot d.layout (transmit_tail d))
+    (whole_descriptor (transmit_buffer d.layout (transmit_tail d)) (length frame)) world)
 stands-stored d frame world ready short has =
-    let counts = d.counts in
+    let counts = d.layout in
     let slot = transmit_tail d in
-    let at = transmit_slot counts slot in
+    let place = transmit_slot counts slot in
     let start = transmit_buffer counts slot in
     let bytes = whole_descriptor start (length frame) in
-    let b = world_after_store at bytes world in
+    let b = world_after_store place bytes world in
     let long = length-whole start (length frame) in
     let own = next_slot_belongs_to_driver d world ready in
     let below = (drivers-buffer d slot world ready own).below in
-    let lies : LiesIn world.memory at (length bytes) = subst (LiesIn world.memory at) (sym long)
+    let lies : LiesIn world.memory place (length bytes) = subst (LiesIn world.memory place) (sym long)
     (own-descriptor d slot world ready own).lies in
-    let in_ring : IsInside (area_at at (length bytes)) (area_of counts TransmitRing) = record
+    let in_ring : IsInside (area_at place (length bytes)) (area_of counts TransmitRing) = record
     { from = omega arith; to = omega (arith, long, below) } in
     let in_buffer : IsInside (area_at start (length frame)) (area_of counts (TransmitBuffer slot)) = record
     { from = omega arith; to = omega (arith, short) } in
     let apart =
-    apart-inside (area_at at (length bytes)) (area_of counts TransmitRing) (area_at start (length frame)) in_ring
+    apart-inside (area_at place (length bytes)) (area_of counts TransmitRing) (area_at start (length frame)) in_ring
     (inside-apart (area_of counts TransmitRing) (area_at start (length frame)) (area_of counts (TransmitBuffer slot)) in_buffer
     (places-apart counts TransmitRing (TransmitBuffer slot) tt below (λ same. absurd (cc)))) in
     record {
-      bytes = bytes_at-elsewhere world.memory bytes at start (length frame) lies apart ∙ has;
-      descriptor = subst (λ (size : ℕ). bytes_at b.memory at size ≡ bytes) long (bytes_at-stored world.memory bytes at lies);
+      bytes = bytes_at-elsewhere world.memory bytes place start (length frame) lies apart ∙ has;
+      descriptor = subst (λ (size : ℕ). bytes_at b.memory place size ≡ bytes) long (bytes_at-stored world.memory bytes place lies);
     }
 
 pub tail_is_moved : TailIsMoved
@@ -87,123 +88,123 @@ tail_is_moved d world ready =
     let ring = world.adapter.transmit_ring in
     let up = ready.transmit in
     let below = (drivers-buffer d (transmit_tail d) world ready (next_slot_belongs_to_driver d world ready)).below in
-    let next : (transmit_tail d + 1) % d.counts.tx
-    ≡ next_of (transmit_ring world) ring.tail = ap (λ (tail : ℕ). (tail + 1) % d.counts.tx) (sym up.knows.last)
+    let next : (transmit_tail d + 1) % d.layout.tx
+    ≡ next_of (transmit_ring world) ring.tail = ap (λ (tail : ℕ). (tail + 1) % d.layout.tx) (sym up.knows.last)
     ∙ ap (λ (count : ℕ). (ring.tail + 1) % count) (sym up.knows.slots) in
-    transmit_tail-written ((transmit_tail d + 1) % d.counts.tx) world
-    (omega (arith, up.knows.slots, next-below d.counts.tx (transmit_tail d) below))
+    transmit_tail-written ((transmit_tail d + 1) % d.layout.tx) world
+    (omega (arith, up.knows.slots, next-below d.layout.tx (transmit_tail d) below))
     ∙ ap (λ (tail : ℕ). let after : World = record world
     { adapter = record world.adapter { transmit_ring = record world.adapter.transmit_ring { tail = tail } } } in after) next
 
-pub run-sends : {B : Type 0} (world : B → World) (happened : B → B → Past → Type 0) (lively : B → Type 0)
-    → ((a b c : B) (s t : Past) → happened a b s → happened b c t → happened a c (joined s t))
-    → (old one two new : B) (d : DriverState) (frame : List ℕ) → d.sending + 1 < d.counts.tx → 14 ≤ length frame → length frame ≤ 1518
-    → (buffer slot next : ℕ) (bytes : List ℕ) → buffer ≡ transmit_buffer d.counts (transmit_tail d)
-    → slot ≡ transmit_slot d.counts (transmit_tail d)
-    → bytes ≡ whole_descriptor (transmit_buffer d.counts (transmit_tail d)) (length frame) → next ≡ (transmit_tail d + 1) % d.counts.tx
-    → Acts world happened lively old one (Stores buffer frame) (λ before after. after ≡ world_after_store buffer frame before)
-    → Acts world happened lively one two (Stores slot bytes) (λ before after. after ≡ world_after_store slot bytes before)
-    → Acts world happened lively two new (Writes 0x3818 next) (λ before after. after ≡ world_after_write 0x3818 next before)
-    → Ready d (world old)
-    → RanBy true world happened (send_accesses d frame) old new d (record d { sending = d.sending + 1 }) [] (padded frame ∷ [])
-run-sends {B} world happened lively joins old one two new d frame room least short buffer slot next bytes buffer_is slot_is bytes_is next_is
+pub run-sends : {B : Type 0} (bus : Ghosts B)
+    → ((a b c : B) (s t : Past) → bus.happened a b s → bus.happened b c t → bus.happened a c (joined s t))
+    → (old one two new : B) (d : DriverState) (frame : List ℕ) → d.sending + 1 < d.layout.tx → 14 ≤ length frame → length frame ≤ 1518
+    → (buffer slot next : ℕ) (bytes : List ℕ) → buffer ≡ transmit_buffer d.layout (transmit_tail d)
+    → slot ≡ transmit_slot d.layout (transmit_tail d)
+    → bytes ≡ whole_descriptor (transmit_buffer d.layout (transmit_tail d)) (length frame) → next ≡ (transmit_tail d + 1) % d.layout.tx
+    → Acts bus.world bus.happened bus.lively old one (Stores buffer frame) (λ before after. after ≡ world_after_store buffer frame before)
+    → Acts bus.world bus.happened bus.lively one two (Stores slot bytes) (λ before after. after ≡ world_after_store slot bytes before)
+    → Acts bus.world bus.happened bus.lively two new (Writes 0x3818 next) (λ before after. after ≡ world_after_write 0x3818 next before)
+    → Ready d (bus.world old)
+    → Ran bus true (call_did (send_accesses d frame) [] (padded frame ∷ [])) (at old d) (at new (record d { sending = d.sending + 1 }))
+run-sends {B} bus joins old one two new d frame room least short buffer slot next bytes buffer_is slot_is bytes_is next_is
     stores_data stores_descriptor writes ready =
-    let at = transmit_slot d.counts (transmit_tail d) in
-    let start = transmit_buffer d.counts (transmit_tail d) in
+    let place = transmit_slot d.layout (transmit_tail d) in
+    let start = transmit_buffer d.layout (transmit_tail d) in
     let descriptor = whole_descriptor start (length frame) in
-    let tail = (transmit_tail d + 1) % d.counts.tx in
+    let tail = (transmit_tail d + 1) % d.layout.tx in
     let sent : DriverState = record d { sending = d.sending + 1 } in
     let Stored : B → B → ℕ → List ℕ
-    → Type 0 = λ a b address list. Acts world happened lively a b (Stores address list)
+    → Type 0 = λ a b address list. Acts bus.world bus.happened bus.lively a b (Stores address list)
     (λ before after. after ≡ world_after_store address list before) in
-    let Written : ℕ → Type 0 = λ value. Acts world happened lively two new (Writes 0x3818 value)
+    let Written : ℕ → Type 0 = λ value. Acts bus.world bus.happened bus.lively two new (Writes 0x3818 value)
     (λ before after. after ≡ world_after_write 0x3818 value before) in
     let first : Stored old one start frame = subst (λ (address : ℕ). Stored old one address frame) buffer_is stores_data in
-    let second : Stored one two at descriptor = subst (Stored one two at) bytes_is
+    let second : Stored one two place descriptor = subst (Stored one two place) bytes_is
     (subst (λ (address : ℕ). Stored one two address bytes) slot_is stores_descriptor) in
     let third : Written tail = subst Written next_is writes in
-    let stored_data : RanWith true world happened (Stores start frame ∷ []) old one d d [] []
-    (HasBytes d frame) = run-with world happened lively old one (Stores start frame)
+    let stored_data : RanWith bus true (only (Stores start frame ∷ [])) (at old d) (at one d) (HasBytes d frame) =
+    run-with bus old one (Stores start frame)
     (λ before after. after ≡ world_after_store start frame before) d d [] [] (λ world. Unit {0}) (HasBytes d frame) first
-    (store-sets start frame (world one)) ready tt (λ a b past set happens u. tt)
+    (store-sets start frame (bus.world one)) ready tt (λ a b past set happens u. tt)
     (λ middle set u stored.
     let own = next_slot_belongs_to_driver d middle set in
     let lies : LiesIn middle.memory start (length frame) =
     omega (arith, (drivers-buffer d (transmit_tail d) middle set own).lies, short) in (
-      subst (λ (after : World). Goes d middle d after [] [] nothing) (sym stored)
+      subst (λ (after : World). Goes (driver_in d middle) (driver_in d after) (driver_did [] []) nothing) (sym stored)
           (data_is_stored d (transmit_tail d) frame middle set own (omega (arith, short))),
       subst (HasBytes d frame) (sym stored) (bytes_at-stored middle.memory frame start lies),
     )) in
-    let named : RanWith true world happened (Stores at descriptor ∷ []) one two d d [] []
-    (FrameStands d frame) = run-with world happened lively one two (Stores at descriptor)
-    (λ before after. after ≡ world_after_store at descriptor before) d d [] [] (HasBytes d frame) (FrameStands d frame) second
-    (store-sets at descriptor (world two)) stored_data.ran.goes.flows.ready stored_data.behind (bytes-stay d frame short)
+    let named : RanWith bus true (only (Stores place descriptor ∷ [])) (at one d) (at two d) (FrameStands d frame) =
+    run-with bus one two (Stores place descriptor)
+    (λ before after. after ≡ world_after_store place descriptor before) d d [] [] (HasBytes d frame) (FrameStands d frame) second
+    (store-sets place descriptor (bus.world two)) stored_data.ran.goes.flows.ready stored_data.behind (bytes-stay d frame short)
     (λ middle set has stored. (
-      subst (λ (after : World). Goes d middle d after [] [] nothing) (sym stored)
+      subst (λ (after : World). Goes (driver_in d middle) (driver_in d after) (driver_did [] []) nothing) (sym stored)
           (descriptor_is_stored d (transmit_tail d) descriptor middle set (next_slot_belongs_to_driver d middle set)
           (length-whole start (length frame))),
       subst (FrameStands d frame) (sym stored) (stands-stored d frame middle set short has),
     )) in
-    let offered : RanWith true world happened (Writes 0x3818 tail ∷ []) two new d sent [] (padded frame ∷ [])
-    (λ world. Unit {0}) = run-with world happened lively two new (Writes 0x3818 tail)
+    let offered : RanWith bus true (call_did (Writes 0x3818 tail ∷ []) [] (padded frame ∷ [])) (at two d) (at new sent)
+    (λ world. Unit {0}) = run-with bus two new (Writes 0x3818 tail)
     (λ before after. after ≡ world_after_write 0x3818 tail before) d sent [] (padded frame ∷ []) (FrameStands d frame)
-    (λ world. Unit {0}) third (write-sets 0x3818 tail (world new)) named.ran.goes.flows.ready named.behind
+    (λ world. Unit {0}) third (write-sets 0x3818 tail (bus.world new)) named.ran.goes.flows.ready named.behind
     (stands-stay d frame short)
     (λ middle set stands written. (
-      subst (λ (after : World). Goes d middle sent after [] (padded frame ∷ []) nothing) (sym (written ∙ tail_is_moved d middle set))
+      subst (λ (after : World). Goes (driver_in d middle) (driver_in sent after) (driver_did [] (padded frame ∷ [])) nothing)
+          (sym (written ∙ tail_is_moved d middle set))
           (frame_is_offered d frame middle set room least short stands),
       tt,
     )) in
-    ran_by-join world happened joins (Stores start frame ∷ Stores at descriptor ∷ [])
+    ran_by-join bus joins (Stores start frame ∷ Stores place descriptor ∷ [])
     (Writes 0x3818 tail ∷ []) old two new d d sent [] [] [] (padded frame ∷ [])
-    (ran_by-join world happened joins (Stores start frame ∷ [])
-    (Stores at descriptor ∷ []) old one two d d d [] [] [] [] stored_data.ran named.ran) offered.ran
+    (ran_by-join bus joins (Stores start frame ∷ [])
+    (Stores place descriptor ∷ []) old one two d d d [] [] [] [] stored_data.ran named.ran) offered.ran
 
 -- The oldest slot's descriptor is loaded.
 
-abbrev pub LoadsOldest : {B : Type 0} (world : B → World) (happened : B → B → Past → Type 0) (lively : B
-    → Type 0) (old new : B) (d : DriverState) (bytes : List ℕ) → Type 0
-LoadsOldest world happened lively old new d bytes =
-    Acts world happened lively old new (Loads (transmit_slot d.counts d.oldest_transmit) 16)
-    (λ before after. (bytes ≡ bytes_at before.memory (transmit_slot d.counts d.oldest_transmit) 16) × (after ≡ before))
+abbrev pub LoadsOldest : {B : Type 0} (bus : Ghosts B) (old new : B) (d : DriverState) (bytes : List ℕ) → Type 0
+LoadsOldest bus old new d bytes =
+    Acts bus.world bus.happened bus.lively old new (Loads (transmit_slot d.layout d.oldest_transmit) 16)
+    (λ before after. (bytes ≡ bytes_at before.memory (transmit_slot d.layout d.oldest_transmit) 16) × (after ≡ before))
 
 -- It is done: the slot is freed.
-pub run-frees : {B : Type 0} (world : B → World) (happened : B → B → Past → Type 0) (lively : B
-    → Type 0) (old new : B) (d : DriverState) (bytes : List ℕ) → 0 < d.sending → is_set (slice_index bytes 12) 0 ≡ true
-    → LoadsOldest world happened lively old new d bytes → Ready d (world old)
-    → RanBy true world happened (Loads (transmit_slot d.counts d.oldest_transmit) 16 ∷ []) old new d (with_freed d) [] []
-run-frees world happened lively old new d bytes some done acts ready =
-    (run-with world happened lively old new (Loads (transmit_slot d.counts d.oldest_transmit) 16)
-    (λ before after. (bytes ≡ bytes_at before.memory (transmit_slot d.counts d.oldest_transmit) 16)
+pub run-frees : {B : Type 0} (bus : Ghosts B) (old new : B) (d : DriverState) (bytes : List ℕ) → 0 < d.sending
+    → is_set (slice_index bytes 12) 0 ≡ true
+    → LoadsOldest bus old new d bytes → Ready d (bus.world old)
+    → Ran bus true (only (Loads (transmit_slot d.layout d.oldest_transmit) 16 ∷ [])) (at old d) (at new (with_freed d))
+run-frees bus old new d bytes some done acts ready =
+    (run-with bus old new (Loads (transmit_slot d.layout d.oldest_transmit) 16)
+    (λ before after. (bytes ≡ bytes_at before.memory (transmit_slot d.layout d.oldest_transmit) 16)
     × (after ≡ before)) d (with_freed d) [] [] (λ world. Unit {0}) (λ world. Unit {0}) acts
-    (load-sets (transmit_slot d.counts d.oldest_transmit) 16
-    (λ before. bytes ≡ bytes_at before.memory (transmit_slot d.counts d.oldest_transmit) 16) (world new)) ready tt
+    (load-sets (transmit_slot d.layout d.oldest_transmit) 16
+    (λ before. bytes ≡ bytes_at before.memory (transmit_slot d.layout d.oldest_transmit) 16) (bus.world new)) ready tt
     (λ a b past set happens u. tt)
     (λ middle set u loaded.
-    let is : is_done middle.memory (transmit_slot d.counts d.oldest_transmit)
+    let is : is_done middle.memory (transmit_slot d.layout d.oldest_transmit)
     ≡ true = ap (λ (list : List ℕ). is_set (slice_index list 12) 0) (sym loaded.0) ∙ done in (
-      subst (λ (after : World). Goes d middle (with_freed d) after [] [] nothing) (sym loaded.1)
+      subst (λ (after : World). Goes (driver_in d middle) (driver_in (with_freed d) after) (driver_did [] []) nothing) (sym loaded.1)
           (slot_is_freed d middle set some is),
       tt,
     ))).ran
 
 -- It isn't: none is written back.
-pub run-waits : {B : Type 0} (world : B → World) (happened : B → B → Past → Type 0) (lively : B
-    → Type 0) (old new : B) (d : DriverState) (bytes : List ℕ) → is_set (slice_index bytes 12) 0 ≡ false
-    → LoadsOldest world happened lively old new d bytes → Ready d (world old)
-    → RanWith true world happened (Loads (transmit_slot d.counts d.oldest_transmit) 16 ∷ []) old new d d [] []
+pub run-waits : {B : Type 0} (bus : Ghosts B) (old new : B) (d : DriverState) (bytes : List ℕ) → is_set (slice_index bytes 12) 0 ≡ false
+    → LoadsOldest bus old new d bytes → Ready d (bus.world old)
+    → RanWith bus true (only (Loads (transmit_slot d.layout d.oldest_transmit) 16 ∷ [])) (at old d) (at new d)
     (λ world. written_back d.oldest_transmit world ≡ [])
-run-waits world happened lively old new d bytes clear acts ready =
-    run-with world happened lively old new (Loads (transmit_slot d.counts d.oldest_transmit) 16)
-    (λ before after. (bytes ≡ bytes_at before.memory (transmit_slot d.counts d.oldest_transmit) 16)
+run-waits bus old new d bytes clear acts ready =
+    run-with bus old new (Loads (transmit_slot d.layout d.oldest_transmit) 16)
+    (λ before after. (bytes ≡ bytes_at before.memory (transmit_slot d.layout d.oldest_transmit) 16)
     × (after ≡ before)) d d [] [] (λ world. Unit {0}) (λ world. written_back d.oldest_transmit world ≡ []) acts
-    (load-sets (transmit_slot d.counts d.oldest_transmit) 16
-    (λ before. bytes ≡ bytes_at before.memory (transmit_slot d.counts d.oldest_transmit) 16) (world new)) ready tt
+    (load-sets (transmit_slot d.layout d.oldest_transmit) 16
+    (λ before. bytes ≡ bytes_at before.memory (transmit_slot d.layout d.oldest_transmit) 16) (bus.world new)) ready tt
     (λ a b past set happens u. tt)
     (λ middle set u loaded.
-    let is : is_done middle.memory (transmit_slot d.counts d.oldest_transmit)
+    let is : is_done middle.memory (transmit_slot d.layout d.oldest_transmit)
     ≡ false = ap (λ (list : List ℕ). is_set (slice_index list 12) 0) (sym loaded.0) ∙ clear in (
-      subst (λ (after : World). Goes d middle d after [] [] nothing) (sym loaded.1) (goes-stays d middle set),
+      subst (λ (after : World). Goes (driver_in d middle) (driver_in d after) (driver_did [] []) nothing) (sym loaded.1)
+          (goes-stays d middle set),
       subst (λ (after : World). written_back d.oldest_transmit after ≡ []) (sym loaded.1) (none_is_written_back d middle set (inr is)),
     ))
 
@@ -211,7 +212,7 @@ run-waits world happened lively old new d bytes clear acts ready =
 
 pub sends_end_with_tail : SendsEndWithTail
 sends_end_with_tail d frame k =
-    let loads = transmit_loads d.counts d.oldest_transmit k in
+    let loads = transmit_loads d.layout d.oldest_transmit k in
     let data_store = Stores (tail_buffer d) frame in
     let descriptor_store = Stores (tail_slot d) (whole_descriptor (tail_buffer d) (length frame)) in
     let stores = data_store ∷ descriptor_store ∷ [] in
@@ -219,9 +220,9 @@ sends_end_with_tail d frame k =
       quiet = loads ++ stores;
       all =
           All-append IsLoadOrStore loads stores
-          (All-map IsLoadOrStore (λ slot. Loads (transmit_slot d.counts slot) 16) (slots_from d.counts.tx d.oldest_transmit k)
+          (All-map IsLoadOrStore (λ slot. Loads (transmit_slot d.layout slot) 16) (slots_from d.layout.tx d.oldest_transmit k)
           (λ i index below. tt))
           (All-cons IsLoadOrStore data_store (descriptor_store ∷ []) tt
           (All-cons IsLoadOrStore descriptor_store [] tt (all-none IsLoadOrStore)));
-      whole = sym (append_assoc loads stores (Writes 0x3818 ((transmit_tail d + 1) % d.counts.tx) ∷ []));
+      whole = sym (append_assoc loads stores (Writes 0x3818 ((transmit_tail d + 1) % d.layout.tx) ∷ []));
     }

@@ -22,7 +22,8 @@ use Rattle.bus.specs.DriversStores.{IsDriversArea}
 use Rattle.bus.specs.SpareMemory.{IsSpare}
 use Rattle.driver_law.specs.DriverState.{DriverState, receive_slot, receive_tail, transmit_slot}
 use Rattle.driver_law.specs.ReadyDrivers.{AreStored, Ready, ReadyWith}
-use Rattle.driver_law.specs.TransmitSteps.{DataIsStored, DescriptorIsStored, NextSlotBelongsToDriver, SlotsKeepBytes, transmit_buffer}
+use Rattle.driver_law.specs.Accesses.{transmit_buffer}
+use Rattle.driver_law.specs.TransmitSteps.{DataIsStored, DescriptorIsStored, NextSlotBelongsToDriver, SlotsKeepBytes}
 use Rattle.driver_law.proofs.Buffers.{known-area}
 use Rattle.bus.proofs.WritableSlots.{drivers_transmit_slots_can_be_written}
 use Rattle.driver_law.proofs.Places.{outstanding-known, own-behind, place-below}
@@ -34,32 +35,32 @@ pub next_slot_belongs_to_driver : NextSlotBelongsToDriver
 next_slot_belongs_to_driver driver world ready =
     let up = ready.transmit in
     own-behind (transmit_ring world)
-    (16 * driver.counts.rx) driver.counts.tx driver.oldest_transmit driver.sending 0 up.knows up.oldest_slot
+    (16 * driver.layout.rx) driver.layout.tx driver.oldest_transmit driver.sending 0 up.knows up.oldest_slot
     (omega (arith, up.room))
 
 -- Its descriptor.
 
 pub own-descriptor : (driver : DriverState) (slot : ℕ) (world : World) → Ready driver world
     → IsDriversSlot (transmit_ring world) driver.oldest_transmit slot
-    → CanBeWritten driver.oldest_receive driver.oldest_transmit world (transmit_slot driver.counts slot)
+    → CanBeWritten driver.oldest_receive driver.oldest_transmit world (transmit_slot driver.layout slot)
 own-descriptor driver slot world ready own =
-    let at : address_of (transmit_ring world) slot ≡ transmit_slot driver.counts slot = omega (arith, ready.transmit.knows.begins) in
+    let at : address_of (transmit_ring world) slot ≡ transmit_slot driver.layout slot = omega (arith, ready.transmit.knows.begins) in
     subst (CanBeWritten driver.oldest_receive driver.oldest_transmit world) at
-    (drivers_transmit_slots_can_be_written driver.oldest_receive driver.oldest_transmit slot world ready.sound own)
+    (drivers_transmit_slots_can_be_written driver.oldest_receive driver.oldest_transmit slot world ready.law.sound own)
 
 -- Its buffer.
 
 below-count : (driver : DriverState) (slot : ℕ) (world : World) → Ready driver world
-    → IsDriversSlot (transmit_ring world) driver.oldest_transmit slot → slot < driver.counts.tx
+    → IsDriversSlot (transmit_ring world) driver.oldest_transmit slot → slot < driver.layout.tx
 below-count driver slot world ready own = omega (arith, own.below, ready.transmit.knows.slots)
 
 -- It is apart from the data of each outstanding slot,
 sources-apart : (driver : DriverState) (slot : ℕ) (world : World) → Ready driver world
     → IsDriversSlot (transmit_ring world) driver.oldest_transmit slot
-    → All (λ other. AreApart (data_of world.memory other) (area_of driver.counts (TransmitBuffer slot)))
+    → All (λ other. AreApart (data_of world.memory other) (area_of driver.layout (TransmitBuffer slot)))
     (outstanding (transmit_ring world) driver.oldest_transmit)
 sources-apart driver slot world ready own =
-    let counts = driver.counts in
+    let counts = driver.layout in
     let up = ready.transmit in
     let area = area_of counts (TransmitBuffer slot) in
     let slots = slots_from counts.tx driver.oldest_transmit driver.sending in
@@ -84,9 +85,9 @@ sources-apart driver slot world ready own =
 -- so no outstanding slot uses it.
 buffer-spare : (driver : DriverState) (slot : ℕ) (world : World) → Ready driver world
     → IsDriversSlot (transmit_ring world) driver.oldest_transmit slot
-    → IsSpare driver.oldest_receive driver.oldest_transmit world (area_of driver.counts (TransmitBuffer slot))
+    → IsSpare driver.oldest_receive driver.oldest_transmit world (area_of driver.layout (TransmitBuffer slot))
 buffer-spare driver slot world ready own =
-    let counts = driver.counts in
+    let counts = driver.layout in
     let area = area_of counts (TransmitBuffer slot) in
     let below = below-count driver slot world ready own in
     let Apart : Area → Type 0 = λ other. AreApart other area in
@@ -102,41 +103,41 @@ buffer-spare driver slot world ready own =
 
 -- It lies in memory, a store to its first bytes leaves what the law speaks of, and the adapter doesn't write it.
 pub record DriversBuffer (driver : DriverState) (slot : ℕ) (world : World) : Type 0 where
-  pub below : slot < driver.counts.tx
-  pub lies : LiesIn world.memory (transmit_buffer driver.counts slot) 2048
-  pub apart : All (λ other. AreApart other (area_of driver.counts (TransmitBuffer slot))) (areas driver.oldest_receive world)
-  pub foreign : IsForeign world (area_of driver.counts (TransmitBuffer slot))
+  pub below : slot < driver.layout.tx
+  pub lies : LiesIn world.memory (transmit_buffer driver.layout slot) 2048
+  pub apart : All (λ other. AreApart other (area_of driver.layout (TransmitBuffer slot))) (areas driver.oldest_receive world)
+  pub foreign : IsForeign world (area_of driver.layout (TransmitBuffer slot))
 
 pub drivers-buffer : (driver : DriverState) (slot : ℕ) (world : World) → Ready driver world
     → IsDriversSlot (transmit_ring world) driver.oldest_transmit slot → DriversBuffer driver slot world
 drivers-buffer driver slot world ready own =
     let o = driver.oldest_receive in
     let p = driver.oldest_transmit in
-    let area = area_of driver.counts (TransmitBuffer slot) in
+    let area = area_of driver.layout (TransmitBuffer slot) in
     let below = below-count driver slot world ready own in
     let spare = buffer-spare driver slot world ready own in
-    let ends = place-below_size driver.counts (TransmitBuffer slot) below in
+    let ends = place-below_size driver.layout (TransmitBuffer slot) below in
     record {
       below = below;
       lies = omega (arith, ends, ready.lies);
-      apart = spare-apart o p world area ready.sound ready.fit spare;
-      foreign = spare-foreign o p world area ready.sound ready.fit spare;
+      apart = spare-apart o p world area ready.law.sound ready.law.fit spare;
+      foreign = spare-foreign o p world area ready.law.sound ready.law.fit spare;
     }
 
 buffer-own : (driver : DriverState) (slot size : ℕ) (world : World) → Ready driver world → DriversBuffer driver slot world → size ≤ 2048
-    → IsDriversArea driver.oldest_receive driver.oldest_transmit world (area_at (transmit_buffer driver.counts slot) size)
+    → IsDriversArea driver.oldest_receive driver.oldest_transmit world (area_at (transmit_buffer driver.layout slot) size)
 buffer-own driver slot size world ready buffer short =
     let o = driver.oldest_receive in
     let p = driver.oldest_transmit in
-    let whole = area_of driver.counts (TransmitBuffer slot) in
-    let area = area_at (transmit_buffer driver.counts slot) size in
+    let whole = area_of driver.layout (TransmitBuffer slot) in
+    let area = area_at (transmit_buffer driver.layout slot) size in
     let inside : IsInside area whole = record { from = omega arith; to = omega (arith, short) } in
     let Apart : Area → Type 0 = λ other. AreApart other whole in
     let r = ring_area (receive_ring world) in
     let t = ring_area (transmit_ring world) in
     let behind = all-tail Apart r (t ∷ frame_areas o world) buffer.apart in
-    let received = outstanding-inside (receive_ring world) o ready.sound.receive_slots.slot in
-    let sent = outstanding-inside (transmit_ring world) p ready.sound.transmit_slots.slot in
+    let received = outstanding-inside (receive_ring world) o ready.law.sound.receive_slots.slot in
+    let sent = outstanding-inside (transmit_ring world) p ready.law.sound.transmit_slots.slot in
     record {
       received = λ k d below. apart-inside area whole _ inside
           (inside-apart whole _ r (received k d below) (apart-sym r whole (all-head Apart r (t ∷ frame_areas o world) buffer.apart)));
@@ -147,26 +148,26 @@ buffer-own driver slot size world ready buffer short =
 
 -- Stores.
 
--- Where nothing of the receive ring is stored to, what is staged stays.
+-- If nothing is stored to the receive ring, the staged slots are the same.
 pub stored-elsewhere : {up : Bool} (d : DriverState) (a : World) (address : ℕ) (bytes : List ℕ) → ReadyWith up d a
     → LiesIn a.memory address (length bytes)
-    → AreApart (area_of d.counts ReceiveRing) (area_at address (length bytes))
-    → AreStored (with_bytes a.memory address bytes) d.counts (receive_tail d) d.staged
+    → AreApart (area_of d.layout ReceiveRing) (area_at address (length bytes))
+    → AreStored (with_bytes a.memory address bytes) d.layout (receive_tail d) d.staged
 stored-elsewhere d a address bytes ready lies apart =
-    stored-kept a.memory (with_bytes a.memory address bytes) d.counts (receive_tail d) d.staged
+    stored-kept a.memory (with_bytes a.memory address bytes) d.layout (receive_tail d) d.staged
     (λ i below.
-    let index = place-below d.counts.rx (receive_tail d) i
-    (place-below d.counts.rx d.oldest_receive (length d.buffers) ready.driver_is.oldest_slot) in
-    let slot = receive_slot (place d.counts.rx (receive_tail d) i) in
-    let inside : IsInside (area_at slot 16) (area_of d.counts ReceiveRing) = record { from = omega arith; to = omega (arith, index) } in
+    let index = place-below d.layout.rx (receive_tail d) i
+    (place-below d.layout.rx d.oldest_receive (length d.buffers) ready.driver_is.oldest_slot) in
+    let slot = receive_slot (place d.layout.rx (receive_tail d) i) in
+    let inside : IsInside (area_at slot 16) (area_of d.layout ReceiveRing) = record { from = omega arith; to = omega (arith, index) } in
     bytes_at-elsewhere a.memory bytes address slot 16 lies
     (apart-sym (area_at slot 16) (area_at address (length bytes))
-    (apart-inside (area_at slot 16) (area_of d.counts ReceiveRing) (area_at address (length bytes)) inside apart)))
-    ready.stored
+    (apart-inside (area_at slot 16) (area_of d.layout ReceiveRing) (area_at address (length bytes)) inside apart)))
+    ready.slots.stored
 
 pub data_is_stored : DataIsStored
 data_is_stored driver slot bytes world ready own short =
-    let counts = driver.counts in
+    let counts = driver.layout in
     let buffer = drivers-buffer driver slot world ready own in
     let whole = area_of counts (TransmitBuffer slot) in
     let area = area_at (transmit_buffer counts slot) (length bytes) in
@@ -182,7 +183,7 @@ data_is_stored driver slot bytes world ready own short =
 
 pub descriptor_is_stored : DescriptorIsStored
 descriptor_is_stored driver slot bytes world ready own long =
-    let counts = driver.counts in
+    let counts = driver.layout in
     let below = below-count driver slot world ready own in
     let address = transmit_slot counts slot in
     let area = area_at address (length bytes) in
@@ -202,9 +203,9 @@ descriptor_is_stored driver slot bytes world ready own long =
 
 pub slots_keep_bytes : SlotsKeepBytes
 slots_keep_bytes driver slot a b past ready own happens =
-    let between = happens.between driver.oldest_receive driver.oldest_transmit ready.sound in
+    let between = happens.between driver.oldest_receive driver.oldest_transmit ready.law.sound in
     record {
-      data_same = between.untouched (area_of driver.counts (TransmitBuffer slot)) (drivers-buffer driver slot a ready own).foreign;
-      descriptor_same = between.untouched (descriptor_area (transmit_slot driver.counts slot))
+      data_same = between.untouched (area_of driver.layout (TransmitBuffer slot)) (drivers-buffer driver slot a ready own).foreign;
+      descriptor_same = between.untouched (descriptor_area (transmit_slot driver.layout slot))
           (own-descriptor driver slot a ready own).foreign;
     }

@@ -1,4 +1,4 @@
--- What stays in initialisation, whatever happens: that no frame comes while RCTL.EN is 0, and the registers of a transmit ring that is off.
+-- Whatever happens in initialization, no frame arrives while RCTL.EN is 0, and the registers of a transmit ring that is off are the same.
 use Rattle.std.proofs.Common.{◌≡◌, ◌++◌, [], ℕ, List, Option, None, Some, map, refl, sym, ap, subst, ◌∙◌}
 use Rattle.std.proofs.lemmas.List.{append-nil}
 use Rattle.registers.specs.Bits.{HasBit}
@@ -15,7 +15,7 @@ use Rattle.driver_law.specs.Beginnings.{NoFrameComes, NothingIsHeld, RingsThatAr
 
 pub no_frame_comes : NoFrameComes
 no_frame_comes up driver a b past ready happens waits =
-    let between = happens.between driver.oldest_receive driver.oldest_transmit ready.sound in
+    let between = happens.between driver.oldest_receive driver.oldest_transmit ready.law.sound in
     let stored = (happens.steady.off waits.disabled).0 in
     record {
       disabled = subst (λ (filter : FilterRegisters). ¬ (HasBit filter.rctl 1)) (sym happens.steady.filter) waits.disabled;

@@ -1,11 +1,10 @@
 -- The state in which a driver begins, and what it writes into registers up to the end of its initialization (our choice).
-use Rattle.std.specs.Prelude.{◌≡◌, ◌≤◌, ◌<◌, ◌⊎◌, ◌*◌, ◌^◌, ◌++◌, ℕ, Bool, true, false, List, [], None, length}
+use Rattle.std.specs.Prelude.{◌≡◌, ◌≤◌, ◌<◌, ◌⊎◌, ◌*◌, ℕ, Bool, true, false, List, [], None, length}
 use Rattle.adapter.specs.declared.offsets.TheConstants.{IMS}
 use Rattle.registers.specs.Bits.{HasBit, union}
 use Rattle.registers.specs.Kept.{causes_of}
 use Rattle.dma_memory.specs.Areas.{IsInside, area_at}
 use Rattle.dma_memory.specs.Layout.{Counts, TransmitRing, area_of, buffer_bytes, size_of}
-use Rattle.dma_memory.specs.Owners.{HasOneOwner}
 use Rattle.adapter.specs.HostAreas.{buffer_size, ring_area}
 use Rattle.adapter.specs.HostFrames.{frames_held, frames_to_send}
 use Rattle.adapter.specs.Rings.{ring_of}
@@ -19,8 +18,8 @@ use Rattle.bus.specs.Law.{Happens}
 use Rattle.bus.specs.PastOfStretch.{Past, nothing}
 use Rattle.adapter.specs.KnownRing.{KnowsRing}
 use Rattle.driver_law.specs.DriverState.{DriverState, next_receive, receive_slot, transmit_tail}
-use Rattle.driver_law.specs.Stretches.{Goes, GoesTo, HasNoForgottenWork}
-use Rattle.driver_law.specs.ReadyDrivers.{ReadyWith, TransmitIs}
+use Rattle.driver_law.specs.Stretches.{Goes, GoesTo, HasNoForgottenWork, driver_did, driver_in}
+use Rattle.driver_law.specs.ReadyDrivers.{IsDriver, ReadyWith, TransmitIs}
 use Rattle.registers.specs.Places.{rctl_bsex, rctl_en, rxt0, tctl_psp}
 
 -- The beginning.
@@ -28,7 +27,7 @@ use Rattle.registers.specs.Places.{rctl_bsex, rctl_en, rxt0, tctl_psp}
 -- a driver that has offered nothing yet, and all of whose buffers are free
 abbrev pub new_driver : Counts → List ℕ → DriverState
 new_driver counts pool = record {
-  counts = counts;
+  layout = counts;
   oldest_receive = 0;
   buffers = [];
   staged = [];
@@ -43,38 +42,37 @@ new_driver counts pool = record {
 
 -- The receive ring is set up, the transmit ring is set up or off, and neither offers a slot.
 pub record HasBegun (up : Bool) (counts : Counts) (pool : List ℕ) (world : World) : Type 0 where
+  pub driver_is : IsDriver (new_driver counts pool)
   pub idle : IsIdle world
   pub runs : CanRun world
-  pub slots : 0 < counts.rx
-  pub one_owner : HasOneOwner counts.buffers (pool ++ [])
-  pub addresses : size_of counts < 2 ^ 64
   pub lies : size_of counts ≤ length world.memory
   pub size : buffer_size world ≡ buffer_bytes
   pub receive : KnowsRing (receive_ring world) 0 counts.rx 0
   pub transmit : TransmitIs up counts 0 0 world.memory (transmit_ring world) world.adapter.transmit_control world.adapter.transmitter.buffer
 
--- A driver that begins there is ready.
+-- A driver that begins in such a world is ready.
 abbrev pub DriversBegin : Type 0
 DriversBegin =
     (up : Bool) (counts : Counts) (pool : List ℕ) (world : World)
     → HasBegun up counts pool world → ReadyWith up (new_driver counts pool) world
 
--- Writes of registers other than RDT, which offers staged slots. The world after them is named as in the bus law.
+-- Writes of registers other than RDT, which offers staged slots. Functions of the bus law give the world after them.
 
--- A register of the transmit ring is written while the transmit side is off. After it head equals tail, the ring is inside its place, and
--- the side is still off. This applies to each of the writes of TDBAL, TDBAH, TDLEN, TDH and TDT, in this order.
+-- A register of the transmit ring is written while the transmit side is off. The side stays off if after the write head equals tail and
+-- the ring is inside its place. This applies to each of the writes of TDBAL, TDBAH, TDLEN, TDH and TDT, in this order.
 abbrev pub TransmitRingIsWritten : Type 0
 TransmitRingIsWritten =
     (driver : DriverState) (ring : RingRegisters) (world : World) → ReadyWith false driver world → ring.head ≡ ring.tail
-    → IsInside (ring_area (ring_of ring)) (area_of driver.counts TransmitRing)
-    → GoesTo false driver world (record driver { oldest_transmit = ring.tail }) (with_transmit_ring ring world) [] [] nothing
+    → IsInside (ring_area (ring_of ring)) (area_of driver.layout TransmitRing)
+    → GoesTo false (driver_in driver world) (driver_in (record driver { oldest_transmit = ring.tail }) (with_transmit_ring ring world))
+    (driver_did [] []) nothing
 
 -- TCTL is written with PSP, bit 3, after all registers of the transmit ring. Then the transmit side is set up.
 abbrev pub TransmitterIsEnabled : Type 0
 TransmitterIsEnabled =
-    (driver : DriverState) (control : ℕ) (world : World) → ReadyWith false driver world → driver.oldest_transmit < driver.counts.tx
-    → KnowsRing (transmit_ring world) (16 * driver.counts.rx) driver.counts.tx (transmit_tail driver) → HasBit control tctl_psp
-    → Goes driver world driver (with_transmit_control control world) [] [] nothing
+    (driver : DriverState) (control : ℕ) (world : World) → ReadyWith false driver world → driver.oldest_transmit < driver.layout.tx
+    → KnowsRing (transmit_ring world) (16 * driver.layout.rx) driver.layout.tx (transmit_tail driver) → HasBit control tctl_psp
+    → Goes (driver_in driver world) (driver_in driver (with_transmit_control control world)) (driver_did [] []) nothing
 
 -- RCTL is written, with EN or without it, while no receive slot is finished or in progress and the transmit side is off. BSEX is 0, and
 -- buffers have 2,048 bytes.
@@ -83,7 +81,7 @@ ReceiverIsEnabled =
     (driver : DriverState) (control : ℕ) (world : World) → ReadyWith false driver world
     → finished driver.oldest_receive world ≡ [] → world.adapter.receiver.work ≡ None → ¬ (HasBit control rctl_bsex)
     → buffer_size (with_receive_control control world) ≡ buffer_bytes
-    → GoesTo false driver world driver (with_receive_control control world) [] [] nothing
+    → GoesTo false (driver_in driver world) (driver_in driver (with_receive_control control world)) (driver_did [] []) nothing
 
 -- Causes were enabled, and nothing else happened.
 pub record Enabled (up : Bool) (driver : DriverState) (causes : ℕ) (a b : World) : Type 0 where
@@ -102,7 +100,7 @@ CausesAreEnabled =
     (up : Bool) (driver : DriverState) (causes : ℕ) (world : World) → ReadyWith up driver world
     → Enabled up driver causes world (world_after_write IMS causes world)
 
--- If RXT0, bit 7, is enabled, and the oldest receive slot isn't finished or RXT0 is recorded, no work is forgotten.
+-- After RXT0, bit 7, was enabled, no work is forgotten if before that no receive slot was finished or RXT0 was recorded.
 abbrev pub EnabledForgetsNoWork : Type 0
 EnabledForgetsNoWork =
     (up : Bool) (driver : DriverState) (causes : ℕ) (a b : World) → Enabled up driver causes a b → HasBit (causes_of causes) rxt0
@@ -114,14 +112,15 @@ EnabledForgetsNoWork =
 abbrev pub LastSlotIsStored : Type 0
 LastSlotIsStored =
     (up : Bool) (driver : DriverState) (bytes : List ℕ) (world : World) → ReadyWith up driver world → length bytes ≡ 16
-    → GoesTo up driver world driver (world_after_store (receive_slot (next_receive driver)) bytes world) [] [] nothing
+    → GoesTo up (driver_in driver world) (driver_in driver (world_after_store (receive_slot (next_receive driver)) bytes world))
+    (driver_did [] []) nothing
 
 -- Bytes are stored to the place of the transmit ring, while the transmit side is off.
 abbrev pub TransmitPlaceIsStored : Type 0
 TransmitPlaceIsStored =
     (driver : DriverState) (address : ℕ) (bytes : List ℕ) (world : World) → ReadyWith false driver world
-    → IsInside (area_at address (length bytes)) (area_of driver.counts TransmitRing)
-    → GoesTo false driver world driver (world_after_store address bytes world) [] [] nothing
+    → IsInside (area_at address (length bytes)) (area_of driver.layout TransmitRing)
+    → GoesTo false (driver_in driver world) (driver_in driver (world_after_store address bytes world)) (driver_did [] []) nothing
 
 -- What doesn't change during initialization, whatever happens.
 
@@ -130,7 +129,7 @@ pub record IsWaiting (driver : DriverState) (world : World) : Type 0 where
   pub disabled : ¬ (HasBit world.adapter.filter.rctl rctl_en)
   pub none : frames_held driver.oldest_receive world ≡ []
 
--- Then no frame arrives.
+-- Then no frame arrives, whatever happens.
 abbrev pub NoFrameComes : Type 0
 NoFrameComes =
     (up : Bool) (driver : DriverState) (a b : World) (past : Past) → ReadyWith up driver a → Happens a b past
@@ -142,7 +141,7 @@ NothingIsHeld =
     (driver : DriverState) (world : World) → IsWaiting driver world
     → (finished driver.oldest_receive world ≡ []) × (world.adapter.receiver.work ≡ None)
 
--- The registers of the transmit ring don't change while the side is off, TDH among them.
+-- The registers of the transmit ring, TDH among them, don't change while the transmit side is off.
 abbrev pub RingsThatAreOffStay : Type 0
 RingsThatAreOffStay =
     (driver : DriverState) (a b : World) (past : Past) → ReadyWith false driver a → Happens a b past

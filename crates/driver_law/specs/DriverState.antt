@@ -12,7 +12,7 @@ abbrev pub numbers_of : List HandedOut → List ℕ
 numbers_of handed_out = map (λ (one : HandedOut). one.number) handed_out
 
 pub record DriverState : Type 0 where
-  pub counts : Counts
+  pub layout : Counts
   -- the place of the oldest outstanding receive slot, and the numbers of the buffers of all that are outstanding, the oldest first
   pub oldest_receive : ℕ
   pub buffers : List ℕ
@@ -45,7 +45,7 @@ holding handed_out driver = record driver { handed_out = handed_out }
 abbrev pub owners : DriverState → List ℕ
 owners driver = driver.pool ++ (driver.buffers ++ (driver.staged ++ numbers_of driver.handed_out))
 
--- Where things are.
+-- Places of rings, slots and buffers.
 
 -- the receive buffer of a number
 abbrev pub buffer_at : Counts → ℕ → ℕ
@@ -61,12 +61,12 @@ transmit_slot counts slot = 16 * counts.rx + 16 * slot
 
 -- the place that RDT names: after the last outstanding receive slot
 abbrev pub receive_tail : DriverState → ℕ
-receive_tail driver = place driver.counts.rx driver.oldest_receive (length driver.buffers)
+receive_tail driver = place driver.layout.rx driver.oldest_receive (length driver.buffers)
 
 -- the place after the last receive slot whose descriptor is stored
 abbrev pub next_receive : DriverState → ℕ
-next_receive driver = place driver.counts.rx driver.oldest_receive (length driver.buffers + length driver.staged)
+next_receive driver = place driver.layout.rx driver.oldest_receive (length driver.buffers + length driver.staged)
 
 -- the place that TDT names
 abbrev pub transmit_tail : DriverState → ℕ
-transmit_tail driver = place driver.counts.tx driver.oldest_transmit driver.sending
+transmit_tail driver = place driver.layout.tx driver.oldest_transmit driver.sending

@@ -1,4 +1,4 @@
--- What a driver knows of its adapter and its memory whenever it does nothing, and what it relies on (our choice).
+-- What a driver knows of its adapter and its memory between its actions, and what it relies on (our choice).
 use Rattle.std.specs.Prelude.{⊤, ◌≡◌, ◌≤◌, ◌<◌, ◌+◌, ◌*◌, ◌%◌, ◌^◌, ℕ, Bool, true, false, List, [], ◌∷◌, All, map, length}
 use Rattle.descriptors.specs.Frames.{longest_frame}
 use Rattle.registers.specs.Bits.{HasBit}
@@ -22,12 +22,15 @@ use Rattle.adapter.specs.Slots.{finished, outstanding}
 use Rattle.adapter.specs.World.{World, receive_ring, transmit_ring}
 use Rattle.driver_law.specs.DriverState.{DriverState, HandedOut, buffer_at, owners, receive_slot, receive_tail, transmit_slot}
 
--- What always holds of the driver's own state: at least one slot isn't outstanding, and each buffer has one owner.
+-- What always holds of the driver's own state.
 pub record IsDriver (driver : DriverState) : Type 0 where
-  pub oldest_slot : driver.oldest_receive < driver.counts.rx
-  pub room : length driver.buffers + length driver.staged < driver.counts.rx
-  pub one_owner : HasOneOwner driver.counts.buffers (owners driver)
-  pub addresses : size_of driver.counts < 2 ^ 64
+  pub oldest_slot : driver.oldest_receive < driver.layout.rx
+  -- At least one receive slot is neither outstanding nor staged.
+  pub room : length driver.buffers + length driver.staged < driver.layout.rx
+  -- Each buffer has one owner.
+  pub one_owner : HasOneOwner driver.layout.buffers (owners driver)
+  -- Each address of the layout fits into 64 bits.
+  pub addresses : size_of driver.layout < 2 ^ 64
 
 -- The receive side.
 
@@ -72,24 +75,36 @@ abbrev pub TransmitIs : Bool → Counts → ℕ → ℕ → List ℕ → Ring �
 TransmitIs true counts oldest sending memory ring control buffer = TransmitIsUp counts oldest sending memory ring control
 TransmitIs false counts oldest sending memory ring control buffer = TransmitIsOff counts oldest sending ring buffer
 
+-- What the bus law asks of the adapter and its memory, and engines that can run.
+pub record MeetsLaw (oldest_receive oldest_transmit : ℕ) (world : World) : Type 0 where
+  pub sound : Sound oldest_receive oldest_transmit world
+  pub runs : CanRun world
+  -- A receive buffer is large enough for each finished frame, and for the one that is being stored.
+  pub fit : FitBuffers oldest_receive world
+  -- Each finished descriptor is that of a whole frame.
+  pub whole : AreWhole world.memory (finished oldest_receive world)
+
+-- The descriptors of receive slots in memory agree with the driver's state.
+pub record SlotsAreStored (driver : DriverState) (world : World) : Type 0 where
+  -- Each outstanding slot names the buffer that the driver has for it.
+  pub names : map (named_address world.memory) (outstanding (receive_ring world) driver.oldest_receive) ≡ map
+      (buffer_at driver.layout) driver.buffers
+  -- Each staged slot has an empty descriptor that names its buffer.
+  pub stored : AreStored world.memory driver.layout (receive_tail driver) driver.staged
+
 -- The driver is ready, with its transmit side set up or off.
 pub record ReadyWith (up : Bool) (driver : DriverState) (world : World) : Type 0 where
   pub driver_is : IsDriver driver
-  -- the conditions of the law, and engines that can run
-  pub sound : Sound driver.oldest_receive driver.oldest_transmit world
-  pub runs : CanRun world
-  pub fit : FitBuffers driver.oldest_receive world
-  pub whole : AreWhole world.memory (finished driver.oldest_receive world)
-  pub lies : size_of driver.counts ≤ length world.memory
+  pub law : MeetsLaw driver.oldest_receive driver.oldest_transmit world
+  -- Memory contains the whole layout.
+  pub lies : size_of driver.layout ≤ length world.memory
+  -- RCTL.BSIZE is the size of the layout's receive buffers.
   pub size : buffer_size world ≡ buffer_bytes
-  pub receive : KnowsRing (receive_ring world) 0 driver.counts.rx (receive_tail driver)
-  pub transmit : TransmitIs up driver.counts driver.oldest_transmit driver.sending world.memory
+  pub receive : KnowsRing (receive_ring world) 0 driver.layout.rx (receive_tail driver)
+  pub transmit : TransmitIs up driver.layout driver.oldest_transmit driver.sending world.memory
       (transmit_ring world) world.adapter.transmit_control world.adapter.transmitter.buffer
-  -- Each outstanding slot names the buffer that the driver has for it.
-  pub names : map (named_address world.memory) (outstanding (receive_ring world) driver.oldest_receive) ≡ map
-      (buffer_at driver.counts) driver.buffers
-  pub stored : AreStored world.memory driver.counts (receive_tail driver) driver.staged
-  pub stand : All (Stands driver.counts world.memory) driver.handed_out
+  pub slots : SlotsAreStored driver world
+  pub stand : All (Stands driver.layout world.memory) driver.handed_out
 
 abbrev pub Ready : DriverState → World → Type 0
 Ready = ReadyWith true

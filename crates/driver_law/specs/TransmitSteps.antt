@@ -1,15 +1,10 @@
 -- The steps of a driver's transmit side (our choice).
-use Rattle.std.specs.Prelude.{⊤, ◌≡◌, ◌≤◌, ◌<◌, ◌+◌, ◌-◌, ◌%◌, ◌⊎◌, ◌++◌, ℕ, true, false, List, [], ◌∷◌, All, length, map}
+use Rattle.std.specs.Prelude.{⊤, ◌≡◌, ◌≤◌, ◌<◌, ◌+◌, ◌-◌, ◌%◌, ◌⊎◌, ◌++◌, ℕ, true, false, List, [], ◌∷◌, All, length}
 use Rattle.adapter.specs.declared.offsets.TheConstants.{TDT}
 use Rattle.dma_memory.specs.Areas.{bytes_in}
 use Rattle.dma_memory.specs.HostMemory.{bytes_at}
-use Rattle.dma_memory.specs.Layout.{Counts, TransmitBuffer, area_of, buffer_bytes, descriptor_bytes, start_of}
+use Rattle.dma_memory.specs.Layout.{Counts, TransmitBuffer, area_of, buffer_bytes, descriptor_bytes}
 use Rattle.descriptors.specs.Frames.{longest_frame, padded, shortest_sent}
-use Rattle.descriptors.specs.Ring.{slots_from}
-use Rattle.descriptors.specs.TxDesc.{tx_desc_bytes}
-use Rattle.descriptors.specs.TxFields.{command_of, sent_of, tx_eop, tx_ifcs, tx_rs}
-use Rattle.registers.specs.Bits.{union}
-use Rattle.registers.specs.Places.{alone}
 use Rattle.adapter.specs.HostFrames.{frames_to_send}
 use Rattle.adapter.specs.Slots.{is_done, written_back}
 use Rattle.adapter.specs.World.{World, transmit_ring, world_after_store, world_after_write}
@@ -19,40 +14,14 @@ use Rattle.bus.specs.DriversSlots.{IsDriversSlot}
 use Rattle.bus.specs.PastOfStretch.{Past, nothing}
 use Rattle.bus.specs.declared.event.Access.{Access}
 use Rattle.bus.specs.declared.event.Access.TheVariants.{Loads, Stores, Writes}
+use Rattle.driver_law.specs.Accesses.{send_accesses, tail_buffer, tail_slot, transmit_buffer, transmit_loads, whole_descriptor}
 use Rattle.driver_law.specs.DriverState.{DriverState, transmit_slot, transmit_tail}
-use Rattle.driver_law.specs.Stretches.{Goes}
+use Rattle.driver_law.specs.Stretches.{Goes, driver_did, driver_in}
 use Rattle.driver_law.specs.ReadyDrivers.{Ready}
-
--- the buffer of a transmit slot
-abbrev pub transmit_buffer : Counts → ℕ → ℕ
-transmit_buffer counts slot = start_of counts (TransmitBuffer slot)
-
--- the descriptor and the buffer of the slot at the tail
-abbrev pub tail_slot : DriverState → ℕ
-tail_slot driver = transmit_slot driver.counts (transmit_tail driver)
-
-abbrev pub tail_buffer : DriverState → ℕ
-tail_buffer driver = transmit_buffer driver.counts (transmit_tail driver)
 
 -- the descriptor of the oldest outstanding slot
 abbrev pub oldest_slot : DriverState → ℕ
-oldest_slot driver = transmit_slot driver.counts driver.oldest_transmit
-
--- the command of a whole packet (EOP), with a check sequence (IFCS), and with its write-back requested (RS)
-abbrev pub whole_packet_command : ℕ
-whole_packet_command = union (union (alone tx_eop) (alone tx_ifcs)) (alone tx_rs)
-
--- a transmit descriptor that names `size` bytes at an address, as a whole packet
-abbrev pub whole_descriptor : (address size : ℕ) → List ℕ
-whole_descriptor address size = tx_desc_bytes (record {
-  address = address;
-  length = size;
-  cso = 0;
-  command = command_of whole_packet_command;
-  status = sent_of 0;
-  css = 0;
-  special = 0;
-})
+oldest_slot driver = transmit_slot driver.layout driver.oldest_transmit
 
 -- A slot that isn't outstanding.
 
@@ -69,14 +38,16 @@ abbrev pub DataIsStored : Type 0
 DataIsStored =
     (driver : DriverState) (slot : ℕ) (bytes : List ℕ) (world : World) → Ready driver world → IsDriversTransmitSlot driver slot world
     → length bytes ≤ buffer_bytes
-    → Goes driver world driver (world_after_store (transmit_buffer driver.counts slot) bytes world) [] [] nothing
+    → Goes (driver_in driver world) (driver_in driver (world_after_store (transmit_buffer driver.layout slot) bytes world))
+    (driver_did [] []) nothing
 
 -- Its descriptor is stored.
 abbrev pub DescriptorIsStored : Type 0
 DescriptorIsStored =
     (driver : DriverState) (slot : ℕ) (bytes : List ℕ) (world : World) → Ready driver world → IsDriversTransmitSlot driver slot world
     → length bytes ≡ descriptor_bytes
-    → Goes driver world driver (world_after_store (transmit_slot driver.counts slot) bytes world) [] [] nothing
+    → Goes (driver_in driver world) (driver_in driver (world_after_store (transmit_slot driver.layout slot) bytes world))
+    (driver_did [] []) nothing
 
 -- Its buffer and its descriptor have the same bytes in both worlds.
 pub record SameSlot (counts : Counts) (slot : ℕ) (a b : World) : Type 0 where
@@ -87,7 +58,7 @@ pub record SameSlot (counts : Counts) (slot : ℕ) (a b : World) : Type 0 where
 abbrev pub SlotsKeepBytes : Type 0
 SlotsKeepBytes =
     (driver : DriverState) (slot : ℕ) (a b : World) (past : Past) → Ready driver a → IsDriversTransmitSlot driver slot a → Happens a b past
-    → SameSlot driver.counts slot a b
+    → SameSlot driver.layout slot a b
 
 -- A frame is sent.
 
@@ -100,25 +71,27 @@ pub record FrameStands (driver : DriverState) (frame : List ℕ) (world : World)
 abbrev pub TailIsMoved : Type 0
 TailIsMoved =
     (driver : DriverState) (world : World) → Ready driver world
-    → world_after_write TDT ((transmit_tail driver + 1) % driver.counts.tx) world ≡ offering_frame world
+    → world_after_write TDT ((transmit_tail driver + 1) % driver.layout.tx) world ≡ offering_frame world
 
 -- Then the frame, padded, is the last that is to be sent.
 abbrev pub FrameIsOffered : Type 0
 FrameIsOffered =
-    (driver : DriverState) (frame : List ℕ) (world : World) → Ready driver world → driver.sending + 1 < driver.counts.tx
+    (driver : DriverState) (frame : List ℕ) (world : World) → Ready driver world → driver.sending + 1 < driver.layout.tx
     → shortest_sent ≤ length frame → length frame ≤ longest_frame → FrameStands driver frame world
-    → Goes driver world (record driver { sending = driver.sending + 1 }) (offering_frame world) [] (padded frame ∷ []) nothing
+    → Goes (driver_in driver world) (driver_in (record driver { sending = driver.sending + 1 }) (offering_frame world))
+    (driver_did [] (padded frame ∷ [])) nothing
 
 -- A slot is freed.
 
+-- the driver after its oldest slot was freed
 abbrev pub with_freed : DriverState → DriverState
-with_freed driver = record driver { oldest_transmit = (driver.oldest_transmit + 1) % driver.counts.tx; sending = driver.sending - 1 }
+with_freed driver = record driver { oldest_transmit = (driver.oldest_transmit + 1) % driver.layout.tx; sending = driver.sending - 1 }
 
 -- The oldest one is freed if it is done.
 abbrev pub SlotIsFreed : Type 0
 SlotIsFreed =
     (driver : DriverState) (world : World) → Ready driver world → 0 < driver.sending → is_done world.memory (oldest_slot driver) ≡ true
-    → Goes driver world (with_freed driver) world [] [] nothing
+    → Goes (driver_in driver world) (driver_in (with_freed driver) world) (driver_did [] []) nothing
 
 -- If it isn't done, or none is outstanding, none is written back.
 abbrev pub NoneIsWrittenBack : Type 0
@@ -130,23 +103,12 @@ NoneIsWrittenBack =
 -- sent are at most the number of slots less one.
 pub record HasFrames (driver : DriverState) (world : World) : Type 0 where
   pub count : length (frames_to_send world) + length (written_back driver.oldest_transmit world) ≡ driver.sending
-  pub most : length (frames_to_send world) + 1 ≤ driver.counts.tx
+  pub most : length (frames_to_send world) + 1 ≤ driver.layout.tx
 
 abbrev pub SlotsHaveFrames : Type 0
 SlotsHaveFrames = (driver : DriverState) (world : World) → Ready driver world → HasFrames driver world
 
--- Over a bus.
-
--- The descriptors of k slots are loaded, from a place on.
-abbrev pub transmit_loads : Counts → (oldest : ℕ) → ℕ → List Access
-transmit_loads counts oldest k = map (λ slot. Loads (transmit_slot counts slot) 16) (slots_from counts.tx oldest k)
-
--- A frame is sent in the slot at the tail: its bytes are stored, then the descriptor, and then TDT is written.
-abbrev pub send_accesses : DriverState → List ℕ → List Access
-send_accesses driver frame =
-    Stores (tail_buffer driver) frame
-    ∷ Stores (tail_slot driver) (whole_descriptor (tail_buffer driver) (length frame))
-    ∷ Writes TDT ((transmit_tail driver + 1) % driver.counts.tx) ∷ []
+-- The last access of a call that sends a frame is the write of TDT.
 
 -- loads and stores, which change no register
 abbrev pub IsLoadOrStore : Access → Type 0
@@ -154,15 +116,15 @@ IsLoadOrStore (Loads address size) = ⊤
 IsLoadOrStore (Stores address bytes) = ⊤
 IsLoadOrStore access = ⊥
 
--- Loads and stores, and then a write of TDT.
+-- These accesses are loads and stores, and then a write of TDT.
 pub record EndsWithTail (accesses : List Access) (slot : ℕ) : Type 0 where
   pub quiet : List Access
   pub all : All IsLoadOrStore quiet
   pub whole : accesses ≡ quiet ++ Writes TDT slot ∷ []
 
--- So end the accesses that free slots and then send a frame.
+-- The accesses that free slots and then send a frame end with it.
 abbrev pub SendsEndWithTail : Type 0
 SendsEndWithTail =
     (driver : DriverState) (frame : List ℕ) (k : ℕ)
-    → EndsWithTail (transmit_loads driver.counts driver.oldest_transmit k ++ send_accesses driver frame)
-    ((transmit_tail driver + 1) % driver.counts.tx)
+    → EndsWithTail (transmit_loads driver.layout driver.oldest_transmit k ++ send_accesses driver frame)
+    ((transmit_tail driver + 1) % driver.layout.tx)

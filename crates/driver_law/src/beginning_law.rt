@@ -13,11 +13,11 @@ pub fn drivers_begin()
 
 /// A driver that is ready stays so at each write of a register during its initialization.
 /// - `receiver`: of RCTL, while no receive slot is finished or in progress, and the transmit side is off.
-/// - `transmit_ring`: of one of the transmit ring's, while the transmit side is off. After each of them the ring is
-///   inside its place in the layout, and the side is still off.
+/// - `transmit_ring`: of one of the transmit ring's, while the transmit side is off. The side stays off if after the
+///   write head equals tail and the ring is inside its place in the layout.
 /// - `transmitter`: of TCTL, with PSP. After it the transmit side is set up.
 /// - `causes`: of IMS, which changes only the mask.
-/// - `work`: after that no work is forgotten, if RXT0 is enabled, and no slot was finished or RXT0 was recorded.
+/// - `work`: after RXT0 was enabled, no work is forgotten if before that no slot was finished or RXT0 was recorded.
 pub fn registers_are_set()
     ensures receiver { ReceiverIsEnabled }
     ensures transmit_ring { TransmitRingIsWritten }

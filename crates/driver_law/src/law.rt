@@ -5,7 +5,7 @@ ghost use Rattle.adapter.specs.World.{World};
 ghost use Rattle.bus.specs.Law.{Happens};
 ghost use Rattle.bus.specs.PastOfStretch.{Past, joined};
 ghost use Rattle.driver_law.specs.DriverState.{DriverState};
-ghost use Rattle.driver_law.specs.Stretches.{FlowsTo, GoesTo, HasNoForgottenWork};
+ghost use Rattle.driver_law.specs.Stretches.{FlowsTo, GoesTo, HasNoForgottenWork, driver_did, driver_in};
 ghost use Rattle.driver_law.specs.ReadyDrivers.{ReadyWith, Stands};
 ghost use Rattle.driver_law.specs.ReceiveSteps.{BuffersCanComeBack, OldestCanBeTaken, OldestIsAsLong};
 ghost use Rattle.driver_law.specs.ReceiveSteps.{SlotsCanBeStaged, StagedCanBeOffered};
@@ -17,12 +17,14 @@ ghost use Rattle.driver_law.specs.ReceiveSteps.{SlotsCanBeStaged, StagedCanBeOff
 pub fn stretches_join()
     ensures flows { (first_up up : Bool) (d1 d2 d3 : DriverState) (a b c : World)
         (t1 t2 g1 g2 : List (List ℕ)) (s1 s2 : Past)
-        → FlowsTo first_up d1 a d2 b t1 g1 s1 → FlowsTo up d2 b d3 c t2 g2 s2
-        → FlowsTo up d1 a d3 c (t1 ++ t2) (g1 ++ g2) (joined s1 s2) }
+        → FlowsTo first_up (driver_in d1 a) (driver_in d2 b) (driver_did t1 g1) s1
+        → FlowsTo up (driver_in d2 b) (driver_in d3 c) (driver_did t2 g2) s2
+        → FlowsTo up (driver_in d1 a) (driver_in d3 c) (driver_did (t1 ++ t2) (g1 ++ g2)) (joined s1 s2) }
     ensures goes { (first_up up : Bool) (d1 d2 d3 : DriverState) (a b c : World)
         (t1 t2 g1 g2 : List (List ℕ)) (s1 s2 : Past)
-        → GoesTo first_up d1 a d2 b t1 g1 s1 → GoesTo up d2 b d3 c t2 g2 s2
-        → GoesTo up d1 a d3 c (t1 ++ t2) (g1 ++ g2) (joined s1 s2) }
+        → GoesTo first_up (driver_in d1 a) (driver_in d2 b) (driver_did t1 g1) s1
+        → GoesTo up (driver_in d2 b) (driver_in d3 c) (driver_did t2 g2) s2
+        → GoesTo up (driver_in d1 a) (driver_in d3 c) (driver_did (t1 ++ t2) (g1 ++ g2)) (joined s1 s2) }
 {}
 
 /// What a driver may rely on between two of its calls, whatever happens.
@@ -32,11 +34,12 @@ pub fn stretches_join()
 /// - `handed_out`: frames that others hold stay in their buffers.
 pub fn drivers_go_on()
     ensures goes { (up : Bool) (d : DriverState) (a b : World) (past : Past)
-        → ReadyWith up d a → Happens a b past → GoesTo up d a d b [] [] past }
+        → ReadyWith up d a → Happens a b past → GoesTo up (driver_in d a) (driver_in d b) (driver_did [] []) past }
     ensures work { (up : Bool) (d d' : DriverState) (a b : World) (taken accepted : List (List ℕ)) (past : Past)
-        → GoesTo up d a d' b taken accepted past → HasNoForgottenWork d a → HasNoForgottenWork d' b }
+        → GoesTo up (driver_in d a) (driver_in d' b) (driver_did taken accepted) past
+        → HasNoForgottenWork d a → HasNoForgottenWork d' b }
     ensures handed_out { (up : Bool) (d : DriverState) (a b : World) (past : Past)
-        → ReadyWith up d a → Happens a b past → All (Stands d.counts b.memory) d.handed_out }
+        → ReadyWith up d a → Happens a b past → All (Stands d.layout b.memory) d.handed_out }
 {}
 
 /// What a driver does with the slots of its receive ring. Each step is an interval of its run.

@@ -116,7 +116,7 @@ count_work world = length (slot_of_work world.adapter.receiver.work)
 abbrev count_asked : World → ℕ
 count_asked world = count_pending world.adapter.receiver.work (count_line world.adapter.causes)
 
--- A step of an adapter is one of the drain, where it brings frames nearer to their end, and nothing else happens.
+-- A step of an adapter is one of the drain if it brings frames nearer to their end, and nothing else happens.
 step-on : (steps moves place : ℕ) (kind : StepKind) (answer : Stepped) (a b : List StationState) (h : HostState)
     → (kind ≡ RxData) ⊎ (kind ≡ RxDone) → CanBeDrained h (world_at a place) → TakesStep place kind answer a b
     → happened_in (At place (Steps kind true answer) ∷ []) ≡ replicate moves (Moved place)
@@ -139,14 +139,18 @@ step-on steps moves place kind answer a b h receives stands takes moved buffered
       only = All-cons (IsDrainStep place) (At place (Steps kind true answer)) [] (refl, receives) (all-none (IsDrainStep place));
       taken = [];
       runs = runs;
-      moves = moves;
-      moved = moved;
-      buffered = buffered;
-      alone = λ k other. elsewhere place k (Steps kind true answer) other;
-      filter = filter;
-      most = omega (arith, total, fewer, one, two);
-      least = omega (arith, least);
-      held = omega (arith, total);
+      moves = record {
+        count = moves;
+        moved = moved;
+        buffered = buffered;
+        alone = λ k other. elsewhere place k (Steps kind true answer) other;
+        filter = filter;
+      };
+      counts = record {
+        most = omega (arith, total, fewer, one, two);
+        least = omega (arith, least);
+        held = omega (arith, total);
+      };
     }
 
 -- The frame in work is ended.
@@ -196,7 +200,7 @@ finishes-none place a b h outcome.Nothing below adapter answers is other stands 
 finishes-none place a b h outcome.Done below adapter answers is other stands = absurd (other refl)
 finishes-none place a b h result below adapter answers is other stands = absurd answers
 
--- Behind it no frame is in work.
+-- After it no frame is in work.
 pub finishes-free : (place : ℕ) (a b : List StationState) (result : StepOutcome) → place < length a
     → IsAdapter (world_at a place).adapter
     → Answers RxDone true (world_at a place).memory (world_at a place).adapter (stepped_of result (world_at a place).adapter)
@@ -260,7 +264,7 @@ moves-none place a b h outcome.Nothing below adapter answers is other stands =
     record { on = idle-steps place RxData a b h (inl refl) stands takes same; takes = takes; same = same }
 moves-none place a b h outcome.Fault below adapter answers is other stands =
     let takes = takes-step place RxData stepped.Fault a b below (λ e. absurd (cc e)) adapter answers is in
-    let runs = (step-runs place RxData stepped.Fault a b h stands takes).flows.flows.ready.runs.receiver_runs in
+    let runs = (step-runs place RxData stepped.Fault a b h stands takes).flows.flows.ready.law.runs.receiver_runs in
     let stopped = ap (λ (w : World). w.adapter.receiver.stopped) takes.world in
     let contrary : true ≡ false = sym stopped ∙ runs in absurd (cc contrary)
 moves-none place a b h outcome.Moved below adapter answers is other stands = absurd (other refl)

@@ -99,7 +99,7 @@ by-answer : (a m : LentBus) (h h' : HostState) (asked : Asked lent true (driver_
     → EarlyRun a.host early a.stations.now b asked.causes
     → AnswersCauses result a.host (world_here a).adapter.causes.recorded early
 by-answer a m h h' asked NotMine early b ready behind run =
-    quiet-answer a.host early a.stations.now b asked.causes _ _ run ready.ready.sound behind.leaves.none
+    quiet-answer a.host early a.stations.now b asked.causes _ _ run ready.ready.law.sound behind.leaves.none
 by-answer a m h h' asked (answers.Handled taken) early b ready behind run =
     mine-answer a.host early a.stations.now b asked.causes run behind.some
 

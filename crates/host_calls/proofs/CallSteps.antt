@@ -64,7 +64,7 @@ quiet place played a b counts leads none own =
       only = drain-steps place played are;
     }
 
--- The line isn't asserted behind a call where it wasn't before.
+-- The line isn't asserted after a call if it wasn't before.
 line-stays : (a b : AdapterState) → LeavesEngine a b → count_line b.causes ≤ count_line a.causes
 line-stays a b leaves = ⊎_elim
     (λ (same : b.causes.recorded ≡ a.causes.recorded).
@@ -111,7 +111,7 @@ one-call : (place n : ℕ) (played : List AtomicStep) (a b : List StationState) 
     + (length given + length taken)
     → StepsOn 1 place given (connected h a) (connected h' b)
 one-call place n played a b h h' taken given leads none runs fits fits' known free few line =
-    let calm = quiet place played a b h.driver.counts leads none runs.accesses in
+    let calm = quiet place played a b h.driver.layout leads none runs.accesses in
     let flow = flows place n played a b h h' taken given leads calm.happened runs fits fits' known in
     let before = work-none (world_at a place).adapter.receiver.work free in
     let behind = work-none (world_at b place).adapter.receiver.work
@@ -127,14 +127,18 @@ one-call place n played a b h h' taken given leads none runs fits fits' known fr
       only = calm.only;
       taken = taken;
       runs = runs;
-      moves = 0;
-      moved = calm.happened;
-      buffered = omega (arith, buffer);
-      alone = calm.alone;
-      filter = calm.engine.filter;
-      most = omega (arith, flow.ring, flow.queues, before.0, behind.0, buffer, pending, pending', one, two, line);
-      least = omega (arith, before.0, behind.0, buffer, few);
-      held = omega (arith, flow.ring, flow.queues);
+      moves = record {
+        count = 0;
+        moved = calm.happened;
+        buffered = omega (arith, buffer);
+        alone = calm.alone;
+        filter = calm.engine.filter;
+      };
+      counts = record {
+        most = omega (arith, flow.ring, flow.queues, before.0, behind.0, buffer, pending, pending', one, two, line);
+        least = omega (arith, before.0, behind.0, buffer, few);
+        held = omega (arith, flow.ring, flow.queues);
+      };
     }
 
 -- An interrupt.
@@ -166,7 +170,7 @@ pub handled-steps : (result : Handled) (place : ℕ) (a b : List StationState) (
     → StepsOn 1 place [] (connected h a) (connected h' b)
 handled-steps result place a b before behind accesses h h' runs free meets =
     let told = runs.runs.are_told in
-    let recorded = clears place runs.runs.steps runs.tells.early a b h.driver.counts runs.causes told.leads told.played
+    let recorded = clears place runs.runs.steps runs.tells.early a b h.driver.layout runs.causes told.leads told.played
     runs.runs.runs.accesses runs.tells.first in
     let causes = (world_at b place).adapter.causes in
     let none : bit_and causes.recorded causes.mask ≡ 0 =
@@ -188,7 +192,7 @@ pub given-steps : (place socket : ℕ) (frame : List ℕ) (a b : List StationSta
 given-steps place socket frame a b before behind accesses h h' made runs free =
     let told = runs.are_told in
     let n = length h.queues + (length h'.queues + (socket + 1)) in
-    let calm = quiet place runs.steps a b h.driver.counts told.leads told.played runs.runs.accesses in
+    let calm = quiet place runs.steps a b h.driver.layout told.leads told.played runs.runs.accesses in
     let line = line-stays (world_at a place).adapter (world_at b place).adapter calm.engine in
     let known = given-sum n (record { socket = socket; frame = frame }) (omega arith) in
     one-call place n runs.steps a b h h' [] (given_by socket (Ok frame)) told.leads told.played runs.runs
@@ -199,7 +203,7 @@ pub not-refused : (result : Result (List ℕ) RecvError) (error : RecvError) (so
     → AnswersRecv result socket h world → socket < length h.kinds → queue_at h.queues socket ≢ [] → result ≡ Err error → ⊥
 not-refused result Empty socket h world answers known some is =
     some (Rattle.bus.proofs.Lists.map-empty
-    (Rattle.packet_socket.specs.HeldFrames.waiting_frame h.driver.counts world.memory) (queue_at h.queues socket)
+    (Rattle.packet_socket.specs.HeldFrames.waiting_frame h.driver.layout world.memory) (queue_at h.queues socket)
     (answers.empty.0 is).1)
 not-refused result NoSocket socket h world answers known some is =
     let none = answers.no_socket.0 is in omega (arith, none, known)

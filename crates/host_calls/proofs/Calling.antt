@@ -62,8 +62,8 @@ runs-alone k steps a b h ready happens none =
     let goes = host-happens h (world_at a k) (world_at b k) (past_at k steps) ready happens in
     record {
       flows = flows-of h (world_at a k) h (world_at b k) [] [] [] (past_at k steps) goes;
-      accesses = subst (λ (accesses : List Access). All (IsOfDriver h.driver.counts) accesses) (sym none)
-          (all-none (IsOfDriver h.driver.counts));
+      accesses = subst (λ (accesses : List Access). All (IsOfDriver h.driver.layout) accesses) (sym none)
+          (all-none (IsOfDriver h.driver.layout));
       work = work-goes h (world_at a k) h (world_at b k) [] [] [] (past_at k steps) goes;
       refilled = λ refilled. refilled;
       offered = λ offered. offered;
@@ -72,7 +72,7 @@ runs-alone k steps a b h ready happens none =
 -- Two stretches of a host's run.
 pub runs-join : (k : ℕ) (first later : List AtomicStep) (a b c : List StationState) (h1 h2 h3 : HostState) (t1 t2 : List (List ℕ))
     (given more : List Given) (s1 s2 : List (List ℕ))
-    → h2.driver.counts ≡ h1.driver.counts
+    → h2.driver.layout ≡ h1.driver.layout
     → HostRuns k first (did t1 given s1) (connected h1 a) (connected h2 b)
     → HostRuns k later (did t2 more s2) (connected h2 b) (connected h3 c)
     → HostRuns k (first ++ later) (did (t1 ++ t2) (given ++ more) (s1 ++ s2)) (connected h1 a) (connected h3 c)
@@ -83,15 +83,15 @@ runs-join k first later a b c h1 h2 h3 t1 t2 given more s1 s2 counts one two = r
       (host-flows-join (in_world h1 (world_at a k)) (in_world h2 (world_at b k)) (in_world h3 (world_at c k)) (did t1 given s1)
       (did t2 more s2) (past_at k first) (past_at k later) one.flows two.flows);
   accesses =
-      subst (λ (past : Past). All (IsOfDriver h1.driver.counts) past.accesses) (sym (past_join k first later))
-      (All-append (IsOfDriver h1.driver.counts) (past_at k first).accesses (past_at k later).accesses one.accesses
+      subst (λ (past : Past). All (IsOfDriver h1.driver.layout) past.accesses) (sym (past_join k first later))
+      (All-append (IsOfDriver h1.driver.layout) (past_at k first).accesses (past_at k later).accesses one.accesses
       (subst (λ (own : Counts). All (IsOfDriver own) (past_at k later).accesses) counts two.accesses));
   work = λ work. two.work (one.work work);
   refilled = λ refilled. two.refilled (one.refilled refilled);
   offered = λ offered. two.offered (one.offered offered);
 }
 
--- Ticks behind a call add no access.
+-- Ticks after a call add no access.
 whole-accesses : (k : ℕ) (first last : List AtomicStep) → (past_at k last).accesses ≡ []
     → (past_at k (first ++ last)).accesses ≡ (past_at k first).accesses
 whole-accesses k first last none =
@@ -108,7 +108,7 @@ pub call-runs_by : (a m b : LentBus) (past : Past) (h h' : HostState) (taken : L
     (accepted : List (List ℕ)) (made : List Access → Type 0)
     → a.accesses ≡ 0 → (told : Retells a m past)
     → HostFlowsTo true (in_world h (world_here a)) (in_world h' (world_here m)) (did taken given accepted) past
-    → All (IsOfDriver h.driver.counts) past.accesses → OnlyLastWrites past.accesses → made past.accesses
+    → All (IsOfDriver h.driver.layout) past.accesses → OnlyLastWrites past.accesses → made past.accesses
     → (HasNoForgottenWork h.driver (world_here a) → HasNoForgottenWork h'.driver (world_here m))
     → (IsRefilled h.driver → IsRefilled h'.driver)
     → (h.driver.staged ≡ [] → h'.driver.staged ≡ [])
@@ -130,12 +130,12 @@ call-runs_by a m b past h h' taken given accepted made zero told flows accesses 
     (λ f w. record {
       flows = subst (HostFlowsTo true (in_world h (world_here a)) (in_world h' (world_at m.stations.now a.host))
           (did taken given accepted)) told.past_is f;
-      accesses = subst (λ (p : Past). All (IsOfDriver h.driver.counts) p.accesses) told.past_is accesses;
+      accesses = subst (λ (p : Past). All (IsOfDriver h.driver.layout) p.accesses) told.past_is accesses;
       work = w;
       refilled = refilled;
       offered = offered;
     }) flows work in
-    let counts : h'.driver.counts ≡ h.driver.counts = flows.flows.counts in
+    let counts : h'.driver.layout ≡ h.driver.layout = flows.flows.layout in
     let same_accesses = sym (whole-accesses a.host first last (none-alone a.host last finished.plays.are)) in
     let ready = ready-behind h (world_at a.stations.now a.host) h' (world_at m.stations.now a.host) taken given accepted
     (past_at a.host first) here.flows in
@@ -173,7 +173,7 @@ pub call-runs : (a m b : LentBus) (past : Past) (h h' : HostState) (taken : List
     (made : List Access → Type 0)
     → a.accesses ≡ 0 → Retells a m past
     → HostFlowsTo true (in_world h (world_here a)) (in_world h' (world_here m)) (did taken given accepted) past
-    → All (IsOfDriver h.driver.counts) past.accesses → OnlyLastWrites past.accesses → made past.accesses
+    → All (IsOfDriver h.driver.layout) past.accesses → OnlyLastWrites past.accesses → made past.accesses
     → (HasNoForgottenWork h.driver (world_here a) → HasNoForgottenWork h'.driver (world_here m))
     → (IsRefilled h.driver → IsRefilled h'.driver)
     → (h.driver.staged ≡ [] → h'.driver.staged ≡ [])

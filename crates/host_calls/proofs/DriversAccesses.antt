@@ -10,9 +10,9 @@ use Rattle.descriptors.specs.RingLaws.{place}
 use Rattle.bus.proofs.Lists.{all-none}
 use Rattle.bus.specs.declared.event.Access.{Access}
 use Rattle.bus.specs.declared.event.Access.TheVariants.{Loads, Reads, Stores, Writes}
-use Rattle.driver_law.specs.Accesses.{last_load, stores_from, tail_write, takes_from}
+use Rattle.driver_law.specs.Accesses.{last_load, send_accesses, stores_from, tail_buffer, tail_slot, tail_write, takes_from}
+use Rattle.driver_law.specs.Accesses.{transmit_loads, whole_descriptor}
 use Rattle.driver_law.specs.DriverState.{DriverState, buffer_at, next_receive, receive_slot, transmit_slot, transmit_tail}
-use Rattle.driver_law.specs.TransmitSteps.{send_accesses, tail_buffer, tail_slot, transmit_loads, whole_descriptor}
 use Rattle.driver.specs.HandlerSteps.{handled_accesses}
 use Rattle.driver.specs.SendSteps.{Answer, accesses_by, slots_looked_at}
 use Rattle.driver.specs.declared.transmit.SendError.TheVariants.{TooShort, TooLong, RingFull}
@@ -27,9 +27,9 @@ all-loads counts own [] = all-none (IsOfDriver own)
 all-loads counts own (slot ∷ later) = All-cons (IsOfDriver own) (Loads (transmit_slot counts slot) 16)
     (map (λ slot. Loads (transmit_slot counts slot) 16) later) tt (all-loads counts own later)
 
-all-sent : (own : Counts) (d : DriverState) (frame : List ℕ) → d.counts ≡ own → 0 < own.tx → All (IsOfDriver own) (send_accesses d frame)
+all-sent : (own : Counts) (d : DriverState) (frame : List ℕ) → d.layout ≡ own → 0 < own.tx → All (IsOfDriver own) (send_accesses d frame)
 all-sent own d frame same some =
-    let slot = (transmit_tail d + 1) % d.counts.tx in
+    let slot = (transmit_tail d + 1) % d.layout.tx in
     let below : slot < own.tx = subst (λ (c : Counts). (transmit_tail d + 1) % c.tx < own.tx) (sym same)
     (mod_below (transmit_tail d + 1) own.tx some) in
     let tail = Writes TDT slot ∷ [] in
@@ -38,16 +38,16 @@ all-sent own d frame same some =
     (All-cons (IsOfDriver own) descriptor tail tt
     (All-cons (IsOfDriver own) (Writes TDT slot) [] (inr (refl, below)) (all-none (IsOfDriver own))))
 
-pub sends-of_driver : (own : Counts) (result : Answer) (d d' : DriverState) (frame : List ℕ) → d.counts ≡ own → 0 < own.tx
+pub sends-of_driver : (own : Counts) (result : Answer) (d d' : DriverState) (frame : List ℕ) → d.layout ≡ own → 0 < own.tx
     → All (IsOfDriver own) (accesses_by result d d' frame)
 sends-of_driver own (Ok u) d d' frame same some =
     let k = slots_looked_at d.sending (d'.sending - 1) in
-    All-append (IsOfDriver own) (transmit_loads d.counts d.oldest_transmit k) (send_accesses d frame)
-    (all-loads d.counts own (slots_from d.counts.tx d.oldest_transmit k)) (all-sent own d frame same some)
+    All-append (IsOfDriver own) (transmit_loads d.layout d.oldest_transmit k) (send_accesses d frame)
+    (all-loads d.layout own (slots_from d.layout.tx d.oldest_transmit k)) (all-sent own d frame same some)
 sends-of_driver own (Err TooShort) d d' frame same some = all-none (IsOfDriver own)
 sends-of_driver own (Err TooLong) d d' frame same some = all-none (IsOfDriver own)
 sends-of_driver own (Err RingFull) d d' frame same some =
-    all-loads d.counts own (slots_from d.counts.tx d.oldest_transmit (slots_looked_at d.sending d'.sending))
+    all-loads d.layout own (slots_from d.layout.tx d.oldest_transmit (slots_looked_at d.sending d'.sending))
 
 -- Offering slots.
 
@@ -65,7 +65,7 @@ pub receives-of_driver : (own : Counts) (d d' : DriverState) (buffer size : ℕ)
     → All (IsOfDriver own) (receive_accesses d d' buffer size offered)
 receives-of_driver own d d' buffer size offered below =
     All-cons (IsOfDriver own) _ _ tt
-    (All-append (IsOfDriver own) _ _ (all-stores d.counts own (next_receive d) offered)
+    (All-append (IsOfDriver own) _ _ (all-stores d.layout own (next_receive d) offered)
     (all-tail own (next_receive d') (d.staged ++ offered) below))
 
 -- Handling an interrupt.
@@ -87,8 +87,8 @@ pub handles-of_driver : (own : Counts) (d : DriverState) (misses : ℕ) (taken r
 handles-of_driver own d misses taken rest offered last below =
     All-cons (IsOfDriver own) (Reads MPC misses) _ (inr refl)
     (All-append (IsOfDriver own) _ _
-    (All-append (IsOfDriver own) _ _ (all-takes d.counts own d.oldest_receive taken) (all-last own _ rest))
-    (All-append (IsOfDriver own) _ _ (all-stores d.counts own (next_receive d) offered)
+    (All-append (IsOfDriver own) _ _ (all-takes d.layout own d.oldest_receive taken) (all-last own _ rest))
+    (All-append (IsOfDriver own) _ _ (all-stores d.layout own (next_receive d) offered)
     (all-tail own last (d.staged ++ offered) below)))
 
 pub causes-of_driver : (own : Counts) (causes : ℕ) → All (IsOfDriver own) (Reads ICR causes ∷ [])
@@ -108,11 +108,11 @@ behind-loads counts (slot ∷ later) behind last = behind-loads counts later beh
 pub sends-last : (result : Answer) (d d' : DriverState) (frame : List ℕ) → OnlyLastWrites (accesses_by result d d' frame)
 sends-last (Ok u) d d' frame =
     let looked = slots_looked_at d.sending (d'.sending - 1) in
-    behind-loads d.counts (slots_from d.counts.tx d.oldest_transmit looked) (send_accesses d frame) refl
+    behind-loads d.layout (slots_from d.layout.tx d.oldest_transmit looked) (send_accesses d frame) refl
 sends-last (Err TooShort) d d' frame = tt
 sends-last (Err TooLong) d d' frame = tt
 sends-last (Err RingFull) d d' frame =
-    loads-last d.counts (slots_from d.counts.tx d.oldest_transmit (slots_looked_at d.sending d'.sending))
+    loads-last d.layout (slots_from d.layout.tx d.oldest_transmit (slots_looked_at d.sending d'.sending))
 
 tail-last : (slot : ℕ) (staged : List ℕ) → OnlyLastWrites (tail_write slot staged)
 tail-last slot [] = tt
@@ -126,7 +126,7 @@ behind-stores counts slot (number ∷ later) behind last = behind-stores counts 
 pub receives-last : (d d' : DriverState) (buffer size : ℕ) (offered : List ℕ)
     → OnlyLastWrites (receive_accesses d d' buffer size offered)
 receives-last d d' buffer size offered =
-    behind-stores d.counts (next_receive d) offered (tail_write (next_receive d') (d.staged ++ offered))
+    behind-stores d.layout (next_receive d) offered (tail_write (next_receive d') (d.staged ++ offered))
     (tail-last (next_receive d') (d.staged ++ offered))
 
 behind-last : (slot : ℕ) (outstanding : List ℕ) (behind : List Access) → OnlyLastWrites behind
@@ -143,7 +143,7 @@ pub handles-last : (d : DriverState) (misses : ℕ) (taken rest offered : List �
     → OnlyLastWrites (handled_accesses d misses taken rest offered last)
 handles-last d misses taken rest offered last =
     let tail = tail_write last (d.staged ++ offered) in
-    let behind = stores_from d.counts (next_receive d) offered ++ tail in
-    let slot = place d.counts.rx d.oldest_receive (length taken) in
-    behind-takes d.counts d.oldest_receive taken (last_load slot rest) behind
-    (behind-last slot rest behind (behind-stores d.counts (next_receive d) offered tail (tail-last last (d.staged ++ offered))))
+    let behind = stores_from d.layout (next_receive d) offered ++ tail in
+    let slot = place d.layout.rx d.oldest_receive (length taken) in
+    behind-takes d.layout d.oldest_receive taken (last_load slot rest) behind
+    (behind-last slot rest behind (behind-stores d.layout (next_receive d) offered tail (tail-last last (d.staged ++ offered))))

@@ -21,7 +21,7 @@ use Rattle.host_calls.specs.InterruptCauses.{ReadsIcrFirst}
 abbrev bears_zero : Numbered → Bool
 bears_zero one = one.accesses == 0
 
--- Behind an access none does.
+-- After an access none does.
 skipped : (n : ℕ) (outcome : Outcome) (rest : List Numbered) → 0 < n
     → filter bears_zero ((let one : Numbered = record { accesses = n; outcome = outcome } in one) ∷ rest) ≡ filter bears_zero rest
 skipped n outcome rest some =

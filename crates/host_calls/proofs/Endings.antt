@@ -1,4 +1,4 @@
--- Where a drain ends, and what it did.
+-- When a drain ends, and what it did.
 use Rattle.std.proofs.Common.{◌≡◌, ◌≢◌, ◌≤◌, ◌<◌, ◌+◌, ◌-◌, ◌*◌, ◌^◌, ◌⊎◌, ◌++◌, ◌∷◌, [], ℕ, zero, suc, None, List, Option, bit_and}
 use Rattle.std.proofs.Common.{length, map}
 use Rattle.std.proofs.Common.{refl, sym, ap, subst, ◌∙◌, arith, replicate, length-append, ⊎_elim}
@@ -47,12 +47,12 @@ is-empty (x ∷ xs) none = absurd (none (λ same. absurd (cc same)))
 
 -- each buffer is free, in an outstanding slot, or in a queue
 buffers-counted : (h : HostState) (world : World) → CanBeDrained h world
-    → length h.driver.pool + (length h.driver.buffers + length (all_of h.queues)) ≡ h.driver.counts.buffers
+    → length h.driver.pool + (length h.driver.buffers + length (all_of h.queues)) ≡ h.driver.layout.buffers
 buffers-counted h world stands =
     let d = driver_of h world in
-    let all = length-one_owner h.driver.counts.buffers (owners d) stands.ready.ready.driver_is.one_owner in
+    let all = length-one_owner h.driver.layout.buffers (owners d) stands.ready.ready.driver_is.one_owner in
     let handed = length-map d.handed_out (λ (one : HandedOut). one.number) in
-    let waiting = length-map (all_of h.queues) (waiting_entry h.driver.counts world.memory) in
+    let waiting = length-map (all_of h.queues) (waiting_entry h.driver.layout world.memory) in
     omega (
       arith,
       all,
@@ -71,8 +71,8 @@ slots-counted : (h : HostState) (world : World) → CanBeDrained h world
 slots-counted h world stands =
     let ring = receive_ring world in
     let o = h.driver.oldest_receive in
-    let classes = ap length stands.ready.ready.sound.receive_slots.classes in
-    let names = ap length stands.ready.ready.names in
+    let classes = ap length stands.ready.ready.law.sound.receive_slots.classes in
+    let names = ap length stands.ready.ready.slots.names in
     omega (
       arith,
       classes,
@@ -80,12 +80,12 @@ slots-counted h world stands =
       length-append (finished o world) (in_work world ++ offered ring),
       length-append (in_work world) (offered ring),
       length-map (outstanding ring o) (named_address world.memory),
-      length-map h.driver.buffers (buffer_at h.driver.counts),
+      length-map h.driver.buffers (buffer_at h.driver.layout),
     )
 
 -- So a host holds at most as many frames as it has buffers, and those of the packet buffer.
 pub held-at_most : (h : HostState) (world : World) → CanBeDrained h world → IsAdapter world.adapter
-    → count_held h world ≤ h.driver.counts.buffers + 24
+    → count_held h world ≤ h.driver.layout.buffers + 24
 held-at_most h world stands adapter =
     omega (
       arith,
@@ -111,7 +111,7 @@ none-finished h world stands quiet = ⊎_elim
 
 -- While no frame is finished, in work or queued, a slot is offered.
 some-offered : (h : HostState) (world : World) → CanBeDrained h world → finished h.driver.oldest_receive world ≡ []
-    → world.adapter.receiver.work ≡ None → all_of h.queues ≡ [] → 2 ≤ h.driver.counts.rx → 0 < h.driver.counts.buffers
+    → world.adapter.receiver.work ≡ None → all_of h.queues ≡ [] → 2 ≤ h.driver.layout.rx → 0 < h.driver.layout.buffers
     → world.adapter.receive_ring.head ≢ world.adapter.receive_ring.tail
 some-offered h world stands none free empty rings buffers same =
     let ring = receive_ring world in
@@ -124,7 +124,7 @@ some-offered h world stands none free empty rings buffers same =
     (λ (free_none : h.driver.pool ≡ []).
     let all = buffers-counted h world stands in
     absurd (omega (arith, all, ap length free_none, outstanding_none, ap length empty, buffers)))
-    (λ (full : length h.driver.buffers + 1 ≡ h.driver.counts.rx). absurd (omega (arith, full, outstanding_none, rings)))
+    (λ (full : length h.driver.buffers + 1 ≡ h.driver.layout.rx). absurd (omega (arith, full, outstanding_none, rings)))
     stands.refilled
 
 holds-none : (h : HostState) (world : World) → count_held h world ≡ 0 → HoldsNothing h world
@@ -133,11 +133,11 @@ holds-none h world none = record {
   queued = none-long (all_of h.queues) (omega (arith, none));
 }
 
--- Where no frame is in work, the line isn't asserted, none waits for a socket, and none is moved, none is held.
+-- No frame is held if none is in work, the line isn't asserted, none waits for a socket, and none is moved.
 pub nothing-left : (place : ℕ) (a b : List StationState) (h : HostState) → CanBeDrained h (world_at a place) → MovesNone place a b h
     → (world_at a place).adapter.receiver.work ≡ None
     → ¬ (Meet (world_at a place).adapter.causes.recorded (world_at a place).adapter.causes.mask) → all_of h.queues ≡ []
-    → 2 ≤ h.driver.counts.rx → 0 < h.driver.counts.buffers → HoldsNothing h (world_at b place)
+    → 2 ≤ h.driver.layout.rx → 0 < h.driver.layout.buffers → HoldsNothing h (world_at b place)
 nothing-left place a b h stands moves free quiet empty rings buffers =
     let world = world_at a place in
     let o = h.driver.oldest_receive in
@@ -146,13 +146,13 @@ nothing-left place a b h stands moves free quiet empty rings buffers =
     let buffer : world.adapter.receiver.buffer ≡ [] =
     is-empty world.adapter.receiver.buffer (λ some. moves.takes.answers (record {
       enabled = stands.enabled;
-      ready = record { running = stands.ready.ready.runs.receiver_runs; free = free; frames = some };
+      ready = record { running = stands.ready.ready.law.runs.receiver_runs; free = free; frames = some };
       offered = slot;
     })) in
     let work = (work-none world.adapter.receiver.work free).0 in
     let before = held-counted o world in
     holds-none h (world_at b place)
-    (omega (arith, moves.on.held, before, ap length none, work, ap length buffer, ap length empty))
+    (omega (arith, moves.on.counts.held, before, ap length none, work, ap length buffer, ap length empty))
 
 -- What a drain did.
 
@@ -178,7 +178,7 @@ nothing-waits : (h : HostState) (socket : ℕ) (world : World) → HoldsNothing 
 nothing-waits h socket world none =
     let queue : queue_at h.queues socket ≡ [] =
     none-long (queue_at h.queues socket) (let within = queue-within h.queues socket in omega (arith, within, ap length none.queued)) in
-    ap (λ (list : List Received). map (waiting_frame h.driver.counts world.memory) list
+    ap (λ (list : List Received). map (waiting_frame h.driver.layout world.memory) list
     ++ socket_frames h.kinds socket (frames_held h.driver.oldest_receive world)) queue
     ∙ ap (socket_frames h.kinds socket) none.held
 
@@ -191,9 +191,9 @@ drains steps place a b h h' given on none stands adapter =
     let two = world_at b place in
     let past = past_at place on.played in
     let moves = frames-move place place on.played a b on.leads in
-    let stored : past.stored ≡ [] = nothing-stored place place on.played a b on.moves on.leads on.moved in
-    let gone : past.put ≡ [] = sym moves.put ∙ ap (put place) on.moved ∙ moves-put place on.moves place in
-    let lost : past.missed ≡ 0 = sym moves.missed ∙ ap (missed place) on.moved ∙ moves-missed place on.moves place in
+    let stored : past.stored ≡ [] = nothing-stored place place on.played a b on.moves.count on.leads on.moves.moved in
+    let gone : past.put ≡ [] = sym moves.put ∙ ap (put place) on.moves.moved ∙ moves-put place on.moves.count place in
+    let lost : past.missed ≡ 0 = sym moves.missed ∙ ap (missed place) on.moves.moved ∙ moves-missed place on.moves.count place in
     let flows = on.runs.flows.flows in
     let small = adapter.registers.counters.missed in
     let accounts = on.runs.flows.accounts in
@@ -204,7 +204,7 @@ drains steps place a b h h' given on none stands adapter =
     let without : without_socket h'.kinds (frames_held h'.driver.oldest_receive two) ≡ 0 = ap (without_socket h'.kinds) none.held in
     let without_stored : without_socket h.kinds past.stored ≡ 0 = ap (without_socket h.kinds) stored in
     record {
-      steps_are = record { at_most = omega (arith, on.most, most); at_least = omega (arith, on.least, behind, empty) };
+      steps_are = record { at_most = omega (arith, on.counts.most, most); at_least = omega (arith, on.counts.least, behind, empty) };
       all_given = λ socket.
           sym (append-nil (given_for socket given))
           ∙ ap (λ (list : List (List ℕ)). given_for socket given ++ list) (sym (nothing-waits h' socket two none))
@@ -223,21 +223,21 @@ drains steps place a b h h' given on none stands adapter =
         lines = λ k.
             let there = frames-move place k on.played a b on.leads in
             ap (λ (list : List (List ℕ)). list ++ backlog_at b k)
-            (sym (moves-reached k on.moves place) ∙ ap (reached k) (sym on.moved))
+            (sym (moves-reached k on.moves.count place) ∙ ap (reached k) (sym on.moves.moved))
             ∙ there.waits
             ∙ ap (λ (list : List (List ℕ)). backlog_at a k ++ list)
-            (ap (toward (wire_at a) k) on.moved ∙ moves-toward (wire_at a) k on.moves place)
+            (ap (toward (wire_at a) k) on.moves.moved ∙ moves-toward (wire_at a) k on.moves.count place)
             ∙ append-nil (backlog_at a k);
         others = λ k other.
-            subst (λ (list : List Event). Trail list (world_at a k) (world_at b k)) (on.alone k other)
+            subst (λ (list : List Event). Trail list (world_at a k) (world_at b k)) (on.moves.alone k other)
             (trail-of place k on.played a b on.leads);
       };
       misses = record {
-        sum = λ fits. let all = flows.counted (omega (arith, small, lost)) (omega (arith, fits, lost)) in omega (arith, all, lost);
-        sticks = λ much. flows.sticks (omega (arith, small, lost)) (omega (arith, much, lost));
+        sum = λ fits. let all = flows.misses.counted (omega (arith, small, lost)) (omega (arith, fits, lost)) in omega (arith, all, lost);
+        sticks = λ much. flows.misses.sticks (omega (arith, small, lost)) (omega (arith, much, lost));
         exact = λ exact below fits. (
-          flows.stays_exact exact (omega (arith, below, lost)) (omega (arith, fits, lost)),
-          omega (arith, flows.at_most, flows.sum, below, lost),
+          flows.misses.stays_exact exact (omega (arith, below, lost)) (omega (arith, fits, lost)),
+          omega (arith, flows.misses.at_most, flows.misses.sum, below, lost),
         );
       };
       by = record {
@@ -246,7 +246,7 @@ drains steps place a b h h' given on none stands adapter =
         only = on.only;
         taken = on.taken;
         runs = on.runs;
-        moved = on.moved ∙ ap (λ (n : ℕ). replicate n (Moved place)) (omega (arith, on.buffered, behind, empty));
+        moved = on.moves.moved ∙ ap (λ (n : ℕ). replicate n (Moved place)) (omega (arith, on.moves.buffered, behind, empty));
       };
     }
 
@@ -261,7 +261,7 @@ drains-into steps place a b h h' before behind places left into none stands adap
   drains = drains steps place a b h h' into.given into.on none stands adapter;
 }
 
--- Where nothing waits for any socket, all queues are empty.
+-- If nothing waits for any socket, all queues are empty.
 pub all-wait_for_none : (queues : List (List Received)) (n : ℕ) → length queues ≤ n
     → ((k : ℕ) → k < n → queue_at queues k ≡ []) → all_of queues ≡ []
 all-wait_for_none [] n fits none = refl

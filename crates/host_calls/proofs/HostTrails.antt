@@ -49,7 +49,7 @@ happens-elsewhere caller k steps a b other leads =
     trail_happens (events_at k steps) (world_at a k) (world_at b k) (steps-elsewhere caller k steps a b other leads)
     (trail-of caller k steps a b leads)
 
--- and at every host where ticks alone are played.
+-- and at every host if only ticks are played.
 pub happens-alone : (caller k : ℕ) (steps : List AtomicStep) (a b : List StationState) → All IsTick steps → LeadsTo caller steps a b
     → Happens (world_at a k) (world_at b k) (past_at k steps)
 happens-alone caller k steps a b are leads =

@@ -54,7 +54,7 @@ taken-unclaimed : (kinds : List SocketKind) (taken : List HandedOut) (before beh
     → GrowsBy before behind (unclaimed_of kinds (map received_of taken)) → GrowsBy before behind (without_socket kinds (frames_of taken))
 taken-unclaimed kinds taken before behind grows = subst (GrowsBy before behind) (same-count kinds taken) grows
 
--- What the whole call tells of causes, where its first part does.
+-- What the first part of a call tells of causes, the whole call tells.
 tells-on : (caller : ℕ) (first last steps : List AtomicStep) (causes recorded : ℕ) (result : Handled)
     → TellsCauses caller first causes recorded result → steps ≡ first ++ last → TellsCauses caller steps causes recorded result
 tells-on caller first last steps causes recorded result tells is =
@@ -70,8 +70,8 @@ leaves-runs a m b h h' zero ready handles finished =
     let only = handles.asked.reads.only in
     let told = subst (λ (bus : LentBus). Retells a bus past) (sym leaves.leaves.still) handles.asked.reads.told in
     let made = call-runs_by a m b past h h' [] [] [] (MakesInterrupt NotMine h h') zero told leaves.flows
-    (subst (λ (accesses : List Access). All (IsOfDriver h.driver.counts) accesses) (sym only)
-    (causes-of_driver h.driver.counts handles.asked.causes))
+    (subst (λ (accesses : List Access). All (IsOfDriver h.driver.layout) accesses) (sym only)
+    (causes-of_driver h.driver.layout handles.asked.causes))
     (subst OnlyLastWrites (sym only) tt)
     (handles.asked.causes, only)
     (λ before. let behind = leaves.leaves.work (record { enabled = before.enabled; asked = before.asked }) in record
@@ -110,11 +110,11 @@ works-runs a m b h h' n zero ready refilled offered handles finished =
     let served = works.served in
     let past = handles.asked.reads.past in
     let only = handles.asked.reads.only in
-    let own = h.driver.counts in
-    let counts = it.flows.flows.counts in
+    let own = h.driver.layout in
+    let counts = it.flows.flows.layout in
     let driver = it.flows.flows.ready.driver_is in
-    let below : next_receive h'.driver < h'.driver.counts.rx =
-    place-below h'.driver.counts.rx h'.driver.oldest_receive (length h'.driver.buffers + length h'.driver.staged) driver.oldest_slot in
+    let below : next_receive h'.driver < h'.driver.layout.rx =
+    place-below h'.driver.layout.rx h'.driver.oldest_receive (length h'.driver.buffers + length h'.driver.staged) driver.oldest_slot in
     let driver_accesses = handles-of_driver own h.driver served.misses (numbers_of works.taken) served.rest served.offered
     (next_receive h'.driver) (subst (λ (c : Counts). next_receive h'.driver < c.rx) counts below) in
     let told = retells_join a handles.asked.after_read m past works.ran.past handles.asked.reads.told works.ran.told in

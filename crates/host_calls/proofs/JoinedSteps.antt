@@ -1,4 +1,4 @@
--- Steps of a drain, one behind the other.
+-- Steps of a drain, one after the other.
 use Rattle.std.proofs.Common.{◌≡◌, ◌+◌, ◌++◌, [], ℕ, zero, suc, Bool, false, List, replicate, refl, sym, ap, subst, ◌∙◌}
 use Rattle.std.proofs.Common.{arith, length-append}
 use Rattle.std.proofs.lemmas.List.{replicate-append-replicate}
@@ -32,7 +32,7 @@ stands-on steps place a b h h' given on stands = record {
   work = on.runs.work stands.work;
   refilled = on.runs.refilled stands.refilled;
   offered = on.runs.offered stands.offered;
-  enabled = subst (λ (filter : FilterRegisters). HasBit filter.rctl rctl_en) (sym on.filter) stands.enabled;
+  enabled = subst (λ (filter : FilterRegisters). HasBit filter.rctl rctl_en) (sym on.moves.filter) stands.enabled;
 }
 
 -- None.
@@ -45,14 +45,8 @@ steps-none place a h stands = record {
   taken = [];
   runs = runs-alone place [] a a h stands.ready (happens-alone place place [] a a (all-none IsTick) refl)
       (none-alone place [] (all-none IsTick));
-  moves = 0;
-  moved = refl;
-  buffered = omega arith;
-  alone = λ k other. refl;
-  filter = refl;
-  most = omega arith;
-  least = omega arith;
-  held = omega arith;
+  moves = record { count = 0; moved = refl; buffered = omega arith; alone = λ k other. refl; filter = refl };
+  counts = record { most = omega arith; least = omega arith; held = omega arith };
 }
 
 -- Some, and then others.
@@ -66,23 +60,27 @@ steps-join m n place a b c h1 h2 h3 given more one two =
       leads = leads_join place one.played two.played a b c one.leads two.leads;
       only = All-append (IsDrainStep place) one.played two.played one.only two.only;
       taken = one.taken ++ two.taken;
-      runs = runs-join place one.played two.played a b c h1 h2 h3 one.taken two.taken given more [] [] one.runs.flows.flows.counts
+      runs = runs-join place one.played two.played a b c h1 h2 h3 one.taken two.taken given more [] [] one.runs.flows.flows.layout
           one.runs two.runs;
-      moves = one.moves + two.moves;
-      moved =
-          flat_map-append happened_by one.played two.played
-          ∙ ap (λ (list : List Happening). list ++ happened_in two.played) one.moved
-          ∙ ap (λ (list : List Happening). replicate one.moves (Moved place) ++ list) two.moved
-          ∙ replicate-append-replicate one.moves two.moves (Moved place);
-      buffered = omega (arith, one.buffered, two.buffered);
-      alone = λ k other.
-          flat_map-append (events_by k) one.played two.played
-          ∙ ap (λ (list : List Event). list ++ events_at k two.played) (one.alone k other)
-          ∙ two.alone k other;
-      filter = two.filter ∙ one.filter;
-      most = omega (arith, one.most, two.most);
-      least = omega (arith, one.least, two.least, both);
-      held = omega (arith, one.held, two.held, both);
+      moves = record {
+        count = one.moves.count + two.moves.count;
+        moved =
+            flat_map-append happened_by one.played two.played
+            ∙ ap (λ (list : List Happening). list ++ happened_in two.played) one.moves.moved
+            ∙ ap (λ (list : List Happening). replicate one.moves.count (Moved place) ++ list) two.moves.moved
+            ∙ replicate-append-replicate one.moves.count two.moves.count (Moved place);
+        buffered = omega (arith, one.moves.buffered, two.moves.buffered);
+        alone = λ k other.
+            flat_map-append (events_by k) one.played two.played
+            ∙ ap (λ (list : List Event). list ++ events_at k two.played) (one.moves.alone k other)
+            ∙ two.moves.alone k other;
+        filter = two.moves.filter ∙ one.moves.filter;
+      };
+      counts = record {
+        most = omega (arith, one.counts.most, two.counts.most);
+        least = omega (arith, one.counts.least, two.counts.least, both);
+        held = omega (arith, one.counts.held, two.counts.held, both);
+      };
     }
 
 -- A look that did nothing comes first.

@@ -1,4 +1,4 @@
--- Where no handled cause is recorded at the end of a trail, nothing has happened that records one.
+-- If no handled cause is recorded at the end of a trail, nothing has happened that records one.
 use Rattle.std.proofs.Common.{◌≡◌, ◌==◌, ◌<◌, ◌^◌, ◌++◌, ◌∷◌, [], ℕ, Bool, true, false, List, if◌then◌else◌, refl, sym, subst}
 use Rattle.std.proofs.Common.{arith}
 use Rattle.std.specs.List.{All}
@@ -87,7 +87,7 @@ tick-quiet : (has_work : Bool) (answer : Stepped) → answer ≡ ticked has_work
 tick-quiet true answer is = subst (λ (s : Stepped). IsQuietOutcome (outcome_of_step s)) (sym is) tt
 tick-quiet false answer is = subst (λ (s : Stepped). IsQuietOutcome (outcome_of_step s)) (sym is) tt
 
--- One event, where its causes would be seen at the end.
+-- One event, if its causes would be seen at the end.
 quiet-event : (event : Event) (later : List Event) (a b : World) (oldest_receive oldest_transmit : ℕ) → IsStep event
     → All LeavesCauses (past_of later).accesses → Trail (event ∷ later) a b → Sound oldest_receive oldest_transmit a
     → ¬ (Meet b.adapter.causes.recorded handled_causes) → IsQuietOutcome (outcome_of_event event)

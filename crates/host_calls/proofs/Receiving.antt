@@ -42,14 +42,14 @@ recv-runs a m b h h' socket size bytes zero ready long receives refilled offered
     let given = given_by socket (Ok bytes) in
     let goes : HostGoesTo true (in_world h (world_here a)) (in_world h' (world_here m)) (did [] given []) ran.past =
     record { sizes = receives.ran.sizes; goes = ran.goes; accounts = receives.ran.accounts } in
-    let counts = ran.goes.flows.counts in
+    let counts = ran.goes.flows.layout in
     let driver = ran.goes.flows.ready.driver_is in
-    let below : next_receive h'.driver < h'.driver.counts.rx =
-    place-below h'.driver.counts.rx h'.driver.oldest_receive (length h'.driver.buffers + length h'.driver.staged) driver.oldest_slot in
+    let below : next_receive h'.driver < h'.driver.layout.rx =
+    place-below h'.driver.layout.rx h'.driver.oldest_receive (length h'.driver.buffers + length h'.driver.staged) driver.oldest_slot in
     call-runs a m b ran.past h h' [] given [] (MakesRecv (Ok bytes) socket h h') zero ran.told
     (flows-of h (world_here a) h' (world_here m) [] given [] ran.past goes)
-    (subst (λ (accesses : List Access). All (IsOfDriver h.driver.counts) accesses) (sym ran.only)
-    (receives-of_driver h.driver.counts h.driver h'.driver receives.received.buffer size receives.offered
+    (subst (λ (accesses : List Access). All (IsOfDriver h.driver.layout) accesses) (sym ran.only)
+    (receives-of_driver h.driver.layout h.driver h'.driver receives.received.buffer size receives.offered
     (subst (λ (c : Rattle.dma_memory.specs.Layout.Counts). next_receive h'.driver < c.rx) counts below)))
     (subst OnlyLastWrites (sym ran.only)
     (receives-last h.driver h'.driver receives.received.buffer size receives.offered))
@@ -64,7 +64,7 @@ recv-runs a m b h h' socket size bytes zero ready long receives refilled offered
     (work-goes h (world_here a) h' (world_here m) [] given [] ran.past goes)
     (λ before. refilled) (λ before. offered) finished
 
--- Where none is given nothing moves but ticks.
+-- If no frame is given, only ticks are played.
 pub none-runs : (a m b : LentBus) (h h' : HostState) (socket : ℕ) (error : RecvError) → a.accesses ≡ 0 → HostReady h (world_here a)
     → m ≡ a → h' ≡ h → Finished m b
     → CallRuns (lent_call a b) (did [] (given_by socket (Err error)) []) (MakesRecv (Err error) socket h h') (connected h a.stations.now)
@@ -76,7 +76,7 @@ none-runs a m b h h' socket error zero ready same stays finished =
     (sym stays)
     (call-runs a a b nothing h h [] [] [] (λ (accesses : List Access). accesses ≡ []) zero (retells_none a)
     (flows-of h (world_here a) h (world_here a) [] [] [] nothing goes)
-    (all-none (IsOfDriver h.driver.counts)) tt refl (λ work. work) (λ refilled. refilled) (λ offered. offered)
+    (all-none (IsOfDriver h.driver.layout)) tt refl (λ work. work) (λ refilled. refilled) (λ offered. offered)
     (subst (λ (bus : LentBus). Finished bus b) same finished))
 
 -- The answers.
@@ -85,9 +85,9 @@ queue-empty : (h : HostState) (socket : ℕ) (world : World) (queue : List Recei
     → ((queue ≡ []) ↔ (waiting_frames h socket world ≡ []))
 queue-empty h socket world queue is = (
   λ (none : queue ≡ []). ap (λ (list : List Received). Rattle.std.proofs.Common.map
-      (Rattle.packet_socket.specs.HeldFrames.waiting_frame h.driver.counts world.memory) list) (is ∙ none),
+      (Rattle.packet_socket.specs.HeldFrames.waiting_frame h.driver.layout world.memory) list) (is ∙ none),
   λ (none : waiting_frames h socket world ≡ []). sym is ∙ Rattle.bus.proofs.Lists.map-empty
-      (Rattle.packet_socket.specs.HeldFrames.waiting_frame h.driver.counts world.memory) (queue_at h.queues socket) none,
+      (Rattle.packet_socket.specs.HeldFrames.waiting_frame h.driver.layout world.memory) (queue_at h.queues socket) none,
 )
 
 pub ok-answers : (a m : LentBus) (h h' : HostState) (socket size : ℕ) (bytes : List ℕ)

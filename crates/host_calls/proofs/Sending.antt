@@ -41,11 +41,11 @@ send-runs a m b h h' frame result zero ready others sent finished =
     let ran = sent.ran.ran in
     let goes : HostGoesTo true (in_world h (world_here a)) (in_world h' (world_here m)) (did [] [] (accepted_by result frame)) ran.past =
     record { sizes = sent.ran.sizes; goes = ran.goes; accounts = sent.ran.accounts } in
-    let some : 0 < h.driver.counts.tx = omega (arith, ready.ready.transmit.oldest_slot) in
+    let some : 0 < h.driver.layout.tx = omega (arith, ready.ready.transmit.oldest_slot) in
     call-runs a m b ran.past h h' [] [] (accepted_by result frame) (MakesSend result frame h h') zero ran.told
     (record { sizes = sent.ran.sizes; flows = ran.goes.flows; accounts = sent.ran.accounts })
-    (subst (λ (accesses : List Access). All (IsOfDriver h.driver.counts) accesses) (sym ran.only)
-    (sends-of_driver h.driver.counts result (driver_of h (world_here a)) (driver_of h' (world_here m)) frame refl some))
+    (subst (λ (accesses : List Access). All (IsOfDriver h.driver.layout) accesses) (sym ran.only)
+    (sends-of_driver h.driver.layout result (driver_of h (world_here a)) (driver_of h' (world_here m)) frame refl some))
     (subst OnlyLastWrites (sym ran.only) (sends-last result (driver_of h (world_here a)) (driver_of h' (world_here m)) frame))
     (ran.only ∙ sends-as result h h' (world_here a) (world_here m) frame)
     (work-goes h (world_here a) h' (world_here m) [] [] (accepted_by result frame) ran.past goes)
@@ -56,7 +56,7 @@ send-runs a m b h h' frame result zero ready others sent finished =
 full-count : (old new : Moment LentBus) (result : Answer) → result ≡ Err RingFull → IsAnswer lent result old new
     → length (frames_to_send (world_here old.bus)) + length (written_back old.driver.oldest_transmit (world_here old.bus))
     ≡ old.driver.sending
-    → length (frames_to_send (world_here old.bus)) + 1 ≡ old.driver.counts.tx
+    → length (frames_to_send (world_here old.bus)) + 1 ≡ old.driver.layout.tx
 full-count old new result is answer count =
     let full : IsAnswer lent (Err RingFull) old new = subst (λ (r : Answer). IsAnswer lent r old new) is answer in
     omega (arith, full.0.0, ap length full.0.1, count)
@@ -64,7 +64,7 @@ full-count old new result is answer count =
 pub send-answers : (a m : LentBus) (h h' : HostState) (frame : List ℕ) (result : Answer) → HostReady h (world_here a)
     → ((result ≡ Err TooShort) ↔ (length frame < 14)) → ((result ≡ Err TooLong) ↔ (1518 < length frame))
     → IsAnswer lent result (driver_at lent (host_at a h)) (driver_at lent (host_at m h'))
-    → AnswersSend result frame h.driver.counts (world_here a)
+    → AnswersSend result frame h.driver.layout (world_here a)
 send-answers a m h h' frame result ready short long answer = record {
   too_short = short;
   too_long = long;

@@ -150,7 +150,7 @@ held-counted oldest world =
     works None = refl
     works (Some work) = refl
 
--- Where nothing is stored, frames leave the ring and the adapter only as they are taken,
+-- If nothing is stored, frames leave the ring and the adapter only as they are taken,
 pub held-flows : (taken now held stored : List (List ℕ)) → taken ++ now ≡ held ++ stored → stored ≡ []
     → length taken + length now ≡ length held
 held-flows taken now held stored holds none =
@@ -185,8 +185,8 @@ socket-flows h a h' b taken given stored accounts holds socket =
       length-append (waiting_frames h' socket b) (part now),
       length-append (waiting_frames h socket a ++ part held) (part stored),
       length-append (waiting_frames h socket a) (part held),
-      length-map (queue_at h'.queues socket) (waiting_frame h'.driver.counts b.memory),
-      length-map (queue_at h.queues socket) (waiting_frame h.driver.counts a.memory),
+      length-map (queue_at h'.queues socket) (waiting_frame h'.driver.layout b.memory),
+      length-map (queue_at h.queues socket) (waiting_frame h.driver.layout a.memory),
     )
 
 -- So all queues together: with what was given they have at most what they had and what was taken.

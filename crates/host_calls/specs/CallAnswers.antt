@@ -129,7 +129,7 @@ MakesInterrupt (answers.Handled n) h h' accesses = MakesHandling n h h' accesses
 -- A frame is sent.
 pub record SendRuns (call : PlayedCall) (frame : List ℕ) (result : Answer) (old new : ConnectedHost) : Type 0 where
   pub runs : CallRuns call (did [] [] (accepted_by result frame)) (MakesSend result frame old.host new.host) old new
-  pub answers : AnswersSend result frame old.host.driver.counts (world_at old.stations call.caller)
+  pub answers : AnswersSend result frame old.host.driver.layout (world_at old.stations call.caller)
   pub leaves : LeavesSend result old.host new.host call.accesses
 
 -- A socket is asked for its oldest frame.

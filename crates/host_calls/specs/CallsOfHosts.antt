@@ -48,7 +48,7 @@ pub record StepsAreTold (call : PlayedCall) (steps : List AtomicStep) (old new :
 pub record HostRuns (k : ℕ) (steps : List AtomicStep) (done : HostDid) (old new : ConnectedHost) : Type 0 where
   pub flows : HostFlowsTo true (in_world old.host (world_at old.stations k)) (in_world new.host (world_at new.stations k)) done
       (past_at k steps)
-  pub accesses : All (IsOfDriver old.host.driver.counts) (past_at k steps).accesses
+  pub accesses : All (IsOfDriver old.host.driver.layout) (past_at k steps).accesses
   pub work : HasNoForgottenWork old.host.driver (world_at old.stations k) → HasNoForgottenWork new.host.driver (world_at new.stations k)
   pub refilled : IsRefilled old.host.driver → IsRefilled new.host.driver
   -- no slot is staged and not offered

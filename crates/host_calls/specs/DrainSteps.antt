@@ -6,7 +6,7 @@ use Rattle.rx_engine.specs.declared.engine.Work.{Work}
 use Rattle.adapter.specs.Slots.{finished}
 use Rattle.adapter.specs.World.{World}
 use Rattle.stations.specs.AtomicSteps.{AtomicStep}
-use Rattle.stations.specs.Stations.{world_at}
+use Rattle.stations.specs.Stations.{StationState, world_at}
 use Rattle.stations.specs.AtomicRuns.{LeadsTo, events_at}
 use Rattle.delivery.specs.Happenings.{Moved, happened_in}
 use Rattle.packet_socket.specs.HostState.{HostState}
@@ -39,6 +39,22 @@ count_steps host world =
 abbrev pub steps_of : Bool → ℕ
 steps_of stepped = if stepped then 1 else 0
 
+-- Some frames were moved out of the packet buffer, and nothing else happened, at this host only.
+pub record MovesFrames (place : ℕ) (played : List AtomicStep) (old new : List StationState) : Type 0 where
+  pub count : ℕ
+  pub moved : happened_in played ≡ replicate count (Moved place)
+  pub buffered : length (world_at old place).adapter.receiver.buffer ≡ count + length (world_at new place).adapter.receiver.buffer
+  pub alone : (k : ℕ) → k ≢ place → events_at k played ≡ []
+  -- the registers of the filter, RCTL among them, are unchanged
+  pub filter : (world_at new place).adapter.filter ≡ (world_at old place).adapter.filter
+
+-- How the counts change over these steps, in which this number of frames was given.
+pub record CountsSteps (steps place given : ℕ) (old new : ConnectedHost) : Type 0 where
+  -- each step makes the measure less by one
+  pub most : steps + count_steps new.host (world_at new.stations place) ≤ count_steps old.host (world_at old.stations place)
+  pub least : given + count_adapter_steps (world_at old.stations place) ≤ steps + count_adapter_steps (world_at new.stations place)
+  pub held : given + count_held new.host (world_at new.stations place) ≤ count_held old.host (world_at old.stations place)
+
 -- These steps of the drain were made, and the host gave these frames.
 pub record StepsOn (steps place : ℕ) (given : List Given) (old new : ConnectedHost) : Type 0 where
   pub played : List AtomicStep
@@ -46,19 +62,8 @@ pub record StepsOn (steps place : ℕ) (given : List Given) (old new : Connected
   pub only : All (IsDrainStep place) played
   pub taken : List (List ℕ)
   pub runs : HostRuns place played (did taken given []) old new
-  -- this number of frames was moved out of the packet buffer, and nothing else happened, at this host only
-  pub moves : ℕ
-  pub moved : happened_in played ≡ replicate moves (Moved place)
-  pub buffered : length (world_at old.stations place).adapter.receiver.buffer
-      ≡ moves + length (world_at new.stations place).adapter.receiver.buffer
-  pub alone : (k : ℕ) → k ≢ place → events_at k played ≡ []
-  -- the registers of the filter, RCTL among them, are unchanged
-  pub filter : (world_at new.stations place).adapter.filter ≡ (world_at old.stations place).adapter.filter
-  -- each step makes the measure less by one
-  pub most : steps + count_steps new.host (world_at new.stations place) ≤ count_steps old.host (world_at old.stations place)
-  pub least : length given + count_adapter_steps (world_at old.stations place)
-      ≤ steps + count_adapter_steps (world_at new.stations place)
-  pub held : length given + count_held new.host (world_at new.stations place) ≤ count_held old.host (world_at old.stations place)
+  pub moves : MovesFrames place played old.stations new.stations
+  pub counts : CountsSteps steps place (length given) old new
 
 -- An outlet: the frames that it has, and for how many more it has room.
 pub record OutletState : Type 0 where

@@ -30,7 +30,7 @@ pub fn drain<S: Outlet>(
 ) -> u64
     requires there { place < length stations.old }
     requires stands { CanBeDrained host.old (world_at stations.old place) }
-    requires room { host.old.driver.counts.buffers + 24 ≤ S.places sink.old }
+    requires room { host.old.driver.layout.buffers + 24 ≤ S.places sink.old }
     ensures drains { DrainsInto result place (S.frames sink.old) (S.frames sink.new)
         (connected host.old stations.old) (connected host.new stations.new) }
     ensures left { length (S.frames sink.old) + S.places sink.old ≤ length (S.frames sink.new) + S.places sink.new }

@@ -38,7 +38,7 @@ entry-splits driver before after socket count received host below size is = spli
 -- A buffer of a queue.
 
 pub record CanComeBack (driver : DriverState) (received : Received) : Type 0 where
-  pub known : received.buffer < driver.counts.buffers
+  pub known : received.buffer < driver.layout.buffers
   pub out : copies received.buffer (owners driver) ≡ 0
   pub size : IsFrameSize received.length
 
@@ -63,7 +63,7 @@ pub can-come-back : (driver : DriverState) (sockets : SocketsState) (socket : �
 can-come-back driver sockets socket received later host parts =
     let k = received.buffer in
     let all = owners driver ++ buffers_of (all_of sockets.queues) in
-    let n = driver.counts.buffers in
+    let n = driver.layout.buffers in
     let sum : copies k all ≡ copies k (owners driver) + (1 + copies k (buffers_of (parts.first ++ parts.last))) =
     omega (
       arith,
@@ -84,7 +84,7 @@ can-come-back driver sockets socket received later host parts =
 pub stays-host : (driver driver' : DriverState) (before after : SocketsState) (socket : ℕ) (received : Received) → IsHost driver before
     → (parts : Splits before.queues socket received (queue_at after.queues socket))
     → after ≡ record before { queues = slice_set before.queues socket (queue_at after.queues socket) }
-    → driver'.counts ≡ driver.counts → HaveSameNumbers (received.buffer ∷ owners driver) (owners driver') → IsHost driver' after
+    → driver'.layout ≡ driver.layout → HaveSameNumbers (received.buffer ∷ owners driver) (owners driver') → IsHost driver' after
 stays-host driver driver' before after socket received host parts others counts numbers =
     let left : all_of after.queues ≡ parts.first ++ parts.last = ap (λ (s : SocketsState). all_of s.queues) others ∙ parts.behind in
     record {
@@ -136,7 +136,7 @@ pub has-room : (driver driver' : DriverState) (before : SocketsState) (kept : Li
 has-room driver driver' before kept host numbers =
     let of : Received → ℕ = λ r. r.buffer in
     let waiting = buffers_of (all_of before.queues) in
-    let once : HasNoSecondOwner driver.counts.buffers (waiting ++ buffers_of kept) = λ k.
+    let once : HasNoSecondOwner driver.layout.buffers (waiting ++ buffers_of kept) = λ k.
     omega (
       arith,
       host.owners k,
@@ -147,7 +147,7 @@ has-room driver driver' before kept host numbers =
     ) in
     omega (
       arith,
-      length-no_second driver.counts.buffers (waiting ++ buffers_of kept) once,
+      length-no_second driver.layout.buffers (waiting ++ buffers_of kept) once,
       length-append waiting (buffers_of kept),
       length-map (all_of before.queues) of,
       length-map kept of,
@@ -160,7 +160,7 @@ pub shown-queues : (driver driver' : DriverState) (before after : SocketsState) 
 shown-queues driver driver' before after n host shows = shows.told.queues (has-room driver driver' before shows.kept host shows.buffers)
 
 pub shown-host : (driver driver' : DriverState) (before after : SocketsState) (n : ℕ) → IsHost driver before
-    → ShowsAll Sorts before after driver driver' n → driver'.counts ≡ driver.counts
+    → ShowsAll Sorts before after driver driver' n → driver'.layout ≡ driver.layout
     → IsHost driver' after
 shown-host driver driver' before after n host shows counts =
     let frame : Received → Type 0 = λ r. IsFrameSize r.length in
@@ -186,7 +186,7 @@ shown-host driver driver' before after n host shows counts =
 
 pub handled-host : (result : Handled) (driver driver' : DriverState) (before after : SocketsState) → IsHost driver before
     → IfNotMine result ((driver' ≡ driver) × (after ≡ before))
-    → IfHandled result (Serves (record { took = Sorts }) before after driver driver') → driver'.counts ≡ driver.counts
+    → IfHandled result (Serves (record { took = Sorts }) before after driver driver') → driver'.layout ≡ driver.layout
     → IsHost driver' after
 handled-host NotMine driver driver' before after host stays serves counts = subst (λ (s : SocketsState). IsHost driver' s)
     (sym stays.1) (subst (λ (d : DriverState). IsHost d before) (sym stays.0) host)
@@ -195,8 +195,8 @@ handled-host (answers.Handled taken) driver driver' before after host stays serv
 
 -- At first nothing waits.
 pub new-host : (driver : DriverState) (sockets : SocketsState) (kinds : List SocketKind) (room : ℕ)
-    → sockets ≡ record { kinds = kinds; queues = replicate (length kinds) []; room = room; unclaimed = 0 } → room ≡ driver.counts.buffers
-    → HasNoSecondOwner driver.counts.buffers (owners driver)
+    → sockets ≡ record { kinds = kinds; queues = replicate (length kinds) []; room = room; unclaimed = 0 } → room ≡ driver.layout.buffers
+    → HasNoSecondOwner driver.layout.buffers (owners driver)
     → IsHost driver sockets
 new-host driver sockets kinds room is size owns =
     let none : all_of sockets.queues ≡ [] = ap (λ (s : SocketsState). all_of s.queues) is ∙ none-wait (length kinds) in
@@ -241,7 +241,7 @@ pub new-ready : {up : Bool} (driver : DriverState) (sockets : SocketsState) (kin
 new-ready {up} driver sockets kinds room world is out ready =
     let none : all_of sockets.queues ≡ [] = ap (λ (s : SocketsState). all_of s.queues) is ∙ none-wait (length kinds) in
     let same : driver_of (host_with driver sockets) world ≡ driver =
-    ap (λ (list : List Received). holding (map (waiting_entry driver.counts world.memory) list) driver) none
+    ap (λ (list : List Received). holding (map (waiting_entry driver.layout world.memory) list) driver) none
     ∙ ap (λ (list : List HandedOut). holding list driver) (sym out) in
     record {
       sizes = subst AreFrames (sym none) (all-none (λ (r : Received). IsFrameSize r.length));

@@ -12,10 +12,9 @@ use Rattle.bus.specs.declared.bus.Bus.{Ghosts}
 use Rattle.bus.specs.declared.event.Access.{Access}
 use Rattle.bus.specs.declared.event.Access.TheVariants.{Loads}
 use Rattle.driver_law.proofs.Accesses.{ran_by-join}
-use Rattle.driver_law.specs.Calls.{at}
+use Rattle.driver_law.specs.Calls.{Ran, at, only}
 use Rattle.driver_law.specs.Accesses.{stores_from, tail_write}
 use Rattle.driver_law.specs.DriverState.{DriverState, HandedOut, buffer_at, holding, next_receive, with_owners}
-use Rattle.driver_law.specs.Stretches.{RanBy}
 use Rattle.driver_law.specs.ReadyDrivers.{ReadyWith, Stands}
 use Rattle.driver.specs.RefillSteps.{Refills}
 use Rattle.driver.specs.TakenFrames.{AreFrames, IsFrameSize}
@@ -61,8 +60,8 @@ pub host-receives : {up : Bool} {B : Type 0} (bus : Ghosts B)
     → ((a b c : B) (first later : Past) → bus.happened a b first → bus.happened b c later → bus.happened a c (joined first later))
     → (old new : HostMoment B) (b : B) (socket size : ℕ) (received : Received) (bytes : List ℕ) → IsReadyHost bus up old
     → Splits old.host.queues socket received (queue_at new.host.queues socket) → Leaves old.host new.host socket size received
-    → RanBy up bus.world bus.happened (Loads (buffer_at old.host.driver.counts received.buffer) size ∷ []) old.bus b
-    (driver_at bus old).driver (driver_at bus old).driver [] []
+    → Ran bus up (only (Loads (buffer_at old.host.driver.layout received.buffer) size ∷ [])) (driver_at bus old)
+    (at b (driver_at bus old).driver)
     → ((first later : List HandedOut) (one : HandedOut) → ReadyWith up (holding (first ++ one ∷ later) old.host.driver) (bus.world old.bus)
     → one.number ≡ received.buffer → length one.frame ≡ received.length → bytes ≡ one.frame)
     → ((first later : List HandedOut) (one : HandedOut) → one.number ≡ received.buffer
@@ -76,7 +75,7 @@ host-receives {up} bus joins old new b socket size received bytes is parts leave
     let h' = new.host in
     let host = is.ready in
     let d = driver_of h (bus.world a) in
-    let counts = h.driver.counts in
+    let counts = h.driver.layout in
     let m = (bus.world a).memory in
     let mc = (bus.world c).memory in
     let waiting : Received → HandedOut = waiting_entry counts m in
@@ -94,22 +93,22 @@ host-receives {up} bus joins old new b socket size received bytes is parts leave
     let d2 = holding (first ++ one ∷ later) h.driver in
     let ready : ReadyWith up d2 (bus.world a) = subst (λ (s : DriverState). ReadyWith up s (bus.world a)) split host.ready in
     let loads : List Access = Loads (buffer_at counts received.buffer) size ∷ [] in
-    let reads2 : RanBy up bus.world bus.happened loads a b d2 d2 [] [] = subst
-    (λ (s : DriverState). RanBy up bus.world bus.happened loads a b s s [] []) split reads in
+    let reads2 : Ran bus up (only loads) (at a d2) (at b d2) = subst
+    (λ (s : DriverState). Ran bus up (only loads) (at a s) (at b s)) split reads in
     let refills = gives first later one refl reads2.goes.flows.ready in
     let e = holding (first ++ later) h'.driver in
     let stores : List Access = stores_from counts (next_receive h.driver) refills.numbers
     ++ tail_write (next_receive h'.driver) (h.driver.staged ++ refills.numbers) in
-    let both : RanBy up bus.world bus.happened (loads ++ stores) a c d2 e [] [] =
-    ran_by-join bus.world bus.happened joins loads stores a b c d2 d2 e [] [] [] [] reads2 refills.ran in
-    let from : RanBy up bus.world bus.happened (loads ++ stores) a c d e [] [] = subst
-    (λ (s : DriverState). RanBy up bus.world bus.happened (loads ++ stores) a c s e [] []) (sym split) both in
-    let size_is : h'.driver.counts ≡ counts = from.goes.flows.counts in
+    let both : Ran bus up (only (loads ++ stores)) (at a d2) (at c e) =
+    ran_by-join bus joins loads stores a b c d2 d2 e [] [] [] [] reads2 refills.ran in
+    let from : Ran bus up (only (loads ++ stores)) (at a d) (at c e) = subst
+    (λ (s : DriverState). Ran bus up (only (loads ++ stores)) (at a s) (at c e)) (sym split) both in
+    let size_is : h'.driver.layout ≡ counts = from.goes.flows.layout in
     let left = parts.first ++ parts.last in
     let all : all_of h'.queues ≡ left = ap all_of leaves.others ∙ parts.behind in
     let stand : All (Stands counts mc) (map waiting left) =
     subst (λ (k : Counts). All (Stands k mc) (map waiting left)) size_is
-    (subst (λ (list : List HandedOut). All (Stands h'.driver.counts mc) list)
+    (subst (λ (list : List HandedOut). All (Stands h'.driver.layout mc) list)
     (sym (map-append waiting parts.first parts.last)) from.goes.flows.ready.stand) in
     let same : AreSame counts m mc left = all-same counts m mc left (all-without Long parts.first received parts.last long) stand in
     let end : e ≡ driver_of h' (bus.world c) =
@@ -149,7 +148,7 @@ host-receives {up} bus joins old new b socket size received bytes is parts leave
         sizes = subst AreFrames (sym all)
             (all-without (λ (r : Received). IsFrameSize r.length) parts.first received parts.last
             (subst AreFrames parts.before host.sizes));
-        ran = ran-as bus.world bus.happened (loads ++ stores) (receive_accesses h.driver h'.driver received.buffer size refills.numbers)
+        ran = ran-as bus (loads ++ stores) (receive_accesses h.driver h'.driver received.buffer size refills.numbers)
             a c d e (driver_of h' (bus.world c)) [] [] refl end from;
         accounts =
             accounts h (bus.world a) h' (bus.world c) given [] from.past.stored leaves.kinds from.goes.flows.holds moved

@@ -17,7 +17,7 @@ use Rattle.driver_law.proofs.TakenSlots.{buffers_can_come_back}
 use Rattle.bus.specs.declared.bus.Bus.{Ghosts}
 use Rattle.driver_law.specs.Calls.{at}
 use Rattle.driver_law.specs.DriverState.{DriverState, HandedOut, buffer_at, holding, numbers_of}
-use Rattle.driver_law.specs.Stretches.{FlowsTo}
+use Rattle.driver_law.specs.Stretches.{FlowsTo, driver_did, driver_in}
 use Rattle.driver_law.specs.ReadyDrivers.{ReadyWith, Stands}
 use Rattle.driver.specs.HandlerSteps.{Asked, Handles, HandlesIt, LeavesIt, IfNotMine, IfHandled}
 use Rattle.driver.specs.TakenFrames.{GrowsBy, IsPart, Scene, buffers_of, frames_of as frames_of_slots, held_in, received_of}
@@ -49,8 +49,9 @@ leaves {up} {B} bus old new asked is it =
     let h = old.host in
     let past = asked.reads.past in
     let d = (driver_at bus old).driver in
-    let flows : FlowsTo up d (bus.world old.bus) d (bus.world new) [] [] past = subst
-    (λ (b : B). FlowsTo up d (bus.world old.bus) d (bus.world b) [] [] past) (sym it.still) asked.reads.flows in
+    let flows : FlowsTo up (driver_in d (bus.world old.bus)) (driver_in d (bus.world new)) (driver_did [] []) past = subst
+    (λ (b : B). FlowsTo up (driver_in d (bus.world old.bus)) (driver_in d (bus.world b)) (driver_did [] []) past) (sym it.still)
+    asked.reads.flows in
     let stand = flows.ready.stand in
     record {
       stays = refl;
@@ -61,7 +62,8 @@ leaves {up} {B} bus old new asked is it =
       };
       flows = record {
         sizes = is.ready.sizes;
-        flows = subst (λ (end : DriverState). FlowsTo up d (bus.world old.bus) end (bus.world new) [] [] past)
+        flows = subst
+            (λ (end : DriverState). FlowsTo up (driver_in d (bus.world old.bus)) (driver_in end (bus.world new)) (driver_did [] []) past)
             (sym (driver-stays h h.driver (bus.world old.bus) (bus.world new) is.ready refl stand)) flows;
         accounts = accounts-stay h h.driver (bus.world old.bus) (bus.world new) past.stored is.ready refl stand flows.holds;
       };
@@ -74,14 +76,14 @@ waiting-numbers counts memory (received ∷ later) = ap (λ (numbers : List ℕ)
     (waiting-numbers counts memory later)
 
 -- There is room for all that it hands out.
-has-room : {up : Bool} (d : DriverState) (b : World) → ReadyWith up d b → length d.handed_out ≤ d.counts.buffers
+has-room : {up : Bool} (d : DriverState) (b : World) → ReadyWith up d b → length d.handed_out ≤ d.layout.buffers
 has-room d b ready =
     let number : HandedOut → ℕ = λ one. one.number in
-    let once : HasNoSecondOwner d.counts.buffers (numbers_of d.handed_out) = λ k. omega
+    let once : HasNoSecondOwner d.layout.buffers (numbers_of d.handed_out) = λ k. omega
     (arith, ready.driver_is.one_owner k, owners-count k d) in
-    omega (arith, length-no_second d.counts.buffers (numbers_of d.handed_out) once, length-map d.handed_out number)
+    omega (arith, length-no_second d.layout.buffers (numbers_of d.handed_out) once, length-map d.handed_out number)
 
--- What stands where it waits.
+-- An entry of a queue, read from memory, stands there.
 stands-there : (counts : Counts) (memory : List ℕ) (received : Received) → length (waiting_frame counts memory received) ≡ received.length
     → received.length ≤ 1518 → Stands counts memory (waiting_entry counts memory received)
 stands-there counts memory received long short = record {
@@ -89,7 +91,7 @@ stands-there counts memory received long short = record {
   short = omega (arith, long, short);
 }
 
--- Behind it, the queues have what the driver handed out: the driver is ready with that.
+-- After the driver's work, the queues have what it handed out, and the driver is ready with that.
 pub record Sorted (up : Bool) (driver driver' : DriverState) (before after : SocketsState) (a b : World)
     (taken handed_out : List HandedOut) : Type 0 where
   pub queues : Queues before.kinds before.queues after.queues (map received_of handed_out)
@@ -100,7 +102,7 @@ pub record Sorted (up : Bool) (driver driver' : DriverState) (before after : Soc
 
 pub sorted : {up : Bool} (driver driver' : DriverState) (before after : SocketsState) (a b : World) (taken handed_out : List HandedOut)
     → IsHost driver before → IsHost driver' after
-    → HostReadyWith up (host_with driver before) a → driver'.counts ≡ driver.counts
+    → HostReadyWith up (host_with driver before) a → driver'.layout ≡ driver.layout
     → ReadyWith up (holding ((driver_of (host_with driver before) a).handed_out ++ handed_out) driver') b → IsPart handed_out taken
     → Sorts before after (map received_of taken) (map received_of handed_out) → Sorted up driver driver' before after a b taken handed_out
 sorted {up} driver driver' before after a b taken handed_out sound sound' host counts ready part told =
@@ -112,10 +114,10 @@ sorted {up} driver driver' before after a b taken handed_out sound sound' host c
     let new = b.memory in
     let kept = map received_of handed_out in
     let waits = all_of before.queues in
-    let P = Stands driver'.counts new in
-    let frame : Received → List ℕ = waiting_frame driver'.counts new in
+    let P = Stands driver'.layout new in
+    let frame : Received → List ℕ = waiting_frame driver'.layout new in
     let number : HandedOut → ℕ = λ one. one.number in
-    let same : AreSame driver.counts old new waits = queues-stand h driver' a b host counts (all-left P held handed_out ready.stand) in
+    let same : AreSame driver.layout old new waits = queues-stand h driver' a b host counts (all-left P held handed_out ready.stand) in
     let outs : All (λ (one : HandedOut). frame (received_of one) ≡ one.frame) handed_out = λ k one below.
     (all-right P held handed_out ready.stand k one below).bytes in
     let fits : length waits + length kept ≤ before.room =
@@ -123,32 +125,32 @@ sorted {up} driver driver' before after a b taken handed_out sound sound' host c
       arith,
       has-room last b ready,
       length-append held handed_out,
-      length-map waits (waiting_entry driver.counts old),
+      length-map waits (waiting_entry driver.layout old),
       length-map handed_out received_of,
       sound.room,
       ap (λ (c : Counts). c.buffers) counts,
     ) in
     let queues = told.queues fits in
-    let list = map (waiting_entry driver'.counts new) (all_of after.queues) in
+    let list = map (waiting_entry driver'.layout new) (all_of after.queues) in
     let moves : (k : ℕ) → copies k driver'.pool + copies k (numbers_of list)
     ≡ copies k driver'.pool + copies k (numbers_of (held ++ handed_out)) = λ k.
     omega (
       arith,
-      ap (copies k) (waiting-numbers driver'.counts new (all_of after.queues)),
+      ap (copies k) (waiting-numbers driver'.layout new (all_of after.queues)),
       kept-copies k before.kinds before.queues after.queues kept queues,
       ap (copies k) (received-numbers handed_out),
-      ap (copies k) (waiting-numbers driver.counts old waits),
+      ap (copies k) (waiting-numbers driver.layout old waits),
       ap (copies k) (map-append number held handed_out),
       copies-append k (numbers_of held) (numbers_of handed_out),
     ) in
-    let Long : Received → Type 0 = λ r. length (waiting_frame driver'.counts new r) ≡ r.length in
-    let long_before : AreLong driver'.counts new waits = subst (λ (c : Counts). AreLong c new waits) (sym counts)
+    let Long : Received → Type 0 = λ r. length (waiting_frame driver'.layout new r) ≡ r.length in
+    let long_before : AreLong driver'.layout new waits = subst (λ (c : Counts). AreLong c new waits) (sym counts)
     (λ k r below. ap length (same k r below) ∙ all-long h a host k r below) in
     let long_kept : All Long kept = All-map Long received_of handed_out (λ k one below. ap length (outs k one below)) in
     let long : All Long (all_of after.queues) = All-permutation Long (waits ++ kept) (all_of after.queues) queues.all
     (All-append Long waits kept long_before long_kept) in
-    let stand : All P list = All-map P (waiting_entry driver'.counts new) (all_of after.queues)
-    (λ k r below. stands-there driver'.counts new (slice_index_or (all_of after.queues) k r) (long k r below) (sound'.sizes k r below).most)
+    let stand : All P list = All-map P (waiting_entry driver'.layout new) (all_of after.queues)
+    (λ k r below. stands-there driver'.layout new (slice_index_or (all_of after.queues) k r) (long k r below) (sound'.sizes k r below).most)
     in
     record {
       queues = queues;
@@ -158,7 +160,7 @@ sorted {up} driver driver' before after a b taken handed_out sound sound' host c
           ∙ map-append frame (queue_at before.queues socket) (frames_of before.kinds socket kept)
           ∙ ap (λ (front : List (List ℕ)). front ++ map frame (frames_of before.kinds socket kept))
           (ap (λ (c : Counts). map (waiting_frame c new) (queue_at before.queues socket)) counts
-          ∙ queue-frames-same driver.counts old new before.queues same socket)
+          ∙ queue-frames-same driver.layout old new before.queues same socket)
           ∙ ap (λ (behind : List (List ℕ)). waiting_frames h socket a ++ behind)
           (queue-frames before.kinds socket frame handed_out taken part told.claimed outs);
     }
@@ -184,7 +186,7 @@ works {up} bus old new n sound sound' is asked it =
     let last = holding (d.handed_out ++ w.handed_out) e in
     let frames = frames_of_slots w.taken in
     let past = joined asked.reads.past w.ran.past in
-    let all = sorted old.driver driver' before after a b w.taken w.handed_out sound sound' is.ready it.flows.counts
+    let all = sorted old.driver driver' before after a b w.taken w.handed_out sound sound' is.ready it.flows.layout
     w.ran.goes.flows.ready w.part w.told in
     let list = (driver_of h' b).handed_out in
     let grows : GrowsBy before.unclaimed after.unclaimed (without_socket before.kinds frames) = subst
@@ -194,8 +196,14 @@ works {up} bus old new n sound sound' is asked it =
       works = record {
         taken = w.taken;
         count = w.count;
-        served = record { misses = w.misses; rest = w.rest; offered = w.offered; oldest = w.oldest; newest = w.newest };
-        misses = record { missed = w.missed; exact = w.exact; bad = w.bad };
+        served = record {
+          misses = w.served.misses;
+          rest = w.served.rest;
+          offered = w.served.offered;
+          oldest = w.served.oldest;
+          newest = w.served.newest;
+        };
+        misses = record { missed = w.misses.missed; exact = w.misses.exact; bad = w.misses.bad };
         sorted = record {
           queues = subst (Queues before.kinds before.queues after.queues) w.told.claimed all.queues;
           unclaimed = w.told.unclaimed;
@@ -205,9 +213,7 @@ works {up} bus old new n sound sound' is asked it =
           told = w.ran.told;
           only = w.ran.only;
           goes = goes-hold d (bus.world asked.after_read) last b frames [] w.ran.past list w.ran.goes all.ready;
-          set = w.ran.set;
-          off = w.ran.off;
-          link = w.ran.link;
+          follows = w.ran.follows;
         };
       };
       least = it.least;
@@ -241,7 +247,7 @@ host-handles {up} {B} bus old new (answers.Handled taken) sound sound' is stays 
   then_does = works bus old new taken sound sound' is it.asked it.then_does;
 }
 
--- What holds where slots were taken says less, too.
+-- What holds if slots were taken says less, too.
 pub taken-less : (result : Handled) (P Q : ℕ → Type 0) → ((n : ℕ) → P n → Q n) → IfHandled result P → IfHandled result Q
 taken-less NotMine P Q less holds = tt
 taken-less (answers.Handled taken) P Q less holds = less taken holds

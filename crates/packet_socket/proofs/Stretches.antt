@@ -11,9 +11,9 @@ use Rattle.bus.specs.declared.event.Access.{Access}
 use Rattle.driver_law.proofs.Steps.{goes-happens}
 use Rattle.driver_law.proofs.Stretches.{flows_join, goes_join}
 use Rattle.bus.specs.declared.bus.Bus.{Ghosts}
-use Rattle.driver_law.specs.Calls.{Moment, at, held_at}
+use Rattle.driver_law.specs.Calls.{Moment, Ran, at, call_did, held_at}
 use Rattle.driver_law.specs.DriverState.{DriverState, HandedOut, holding}
-use Rattle.driver_law.specs.Stretches.{FlowsTo, GoesTo, RanBy}
+use Rattle.driver_law.specs.Stretches.{FlowsTo, GoesTo, driver_did, driver_in}
 use Rattle.driver_law.specs.ReadyDrivers.{ReadyWith, Stands}
 use Rattle.driver.specs.SendSteps.{Answer, IsAnswer, Sends, accesses_by, accepted_by}
 use Rattle.packet_socket.specs.HostCalls.{HostMoment, HostSends, IsReadyHost, driver_at, host_at}
@@ -28,22 +28,22 @@ use Rattle.packet_socket.proofs.WaitingFrames.{AreSame, all-long, all-same, ends
 abbrev pub with_driver : DriverState → HostState → HostState
 with_driver driver host = record host { driver = driver }
 
--- Its queues stay: the frames in them are the same behind a stretch in which they stand.
-pub queues-stand : {up : Bool} (h : HostState) (d : DriverState) (a b : World) → HostReadyWith up h a → d.counts ≡ h.driver.counts
-    → All (Stands d.counts b.memory) (driver_of h a).handed_out → AreSame h.driver.counts a.memory b.memory (all_of h.queues)
+-- Its queues stay: the frames in them are the same after a stretch in which they stand.
+pub queues-stand : {up : Bool} (h : HostState) (d : DriverState) (a b : World) → HostReadyWith up h a → d.layout ≡ h.driver.layout
+    → All (Stands d.layout b.memory) (driver_of h a).handed_out → AreSame h.driver.layout a.memory b.memory (all_of h.queues)
 queues-stand h d a b host counts stand =
-    all-same h.driver.counts a.memory b.memory (all_of h.queues) (all-long h a host)
+    all-same h.driver.layout a.memory b.memory (all_of h.queues) (all-long h a host)
     (subst (λ (c : Counts). All (Stands c b.memory) (driver_of h a).handed_out) counts stand)
 
-pub driver-stays : {up : Bool} (h : HostState) (d : DriverState) (a b : World) → HostReadyWith up h a → d.counts ≡ h.driver.counts
-    → All (Stands d.counts b.memory) (driver_of h a).handed_out → driver_of (with_driver d h) b ≡ holding (driver_of h a).handed_out d
-driver-stays h d a b host counts stand = ends-as (with_driver d h) b h.driver.counts a.memory (all_of h.queues) refl counts
+pub driver-stays : {up : Bool} (h : HostState) (d : DriverState) (a b : World) → HostReadyWith up h a → d.layout ≡ h.driver.layout
+    → All (Stands d.layout b.memory) (driver_of h a).handed_out → driver_of (with_driver d h) b ≡ holding (driver_of h a).handed_out d
+driver-stays h d a b host counts stand = ends-as (with_driver d h) b h.driver.layout a.memory (all_of h.queues) refl counts
     (queues-stand h d a b host counts stand)
 
 -- Nothing is taken or given.
 pub accounts-stay : {up : Bool} (h : HostState) (d : DriverState) (a b : World) (stored : List (List ℕ)) → HostReadyWith up h a
-    → d.counts ≡ h.driver.counts
-    → All (Stands d.counts b.memory) (driver_of h a).handed_out
+    → d.layout ≡ h.driver.layout
+    → All (Stands d.layout b.memory) (driver_of h a).handed_out
     → frames_held d.oldest_receive b ≡ frames_held h.driver.oldest_receive a ++ stored
     → Accounts h a (with_driver d h) b [] stored
 accounts-stay h d a b stored host counts stand holds =
@@ -51,35 +51,37 @@ accounts-stay h d a b stored host counts stand holds =
     accounts h a (with_driver d h) b [] [] stored refl holds
     (λ socket.
     ap (λ (c : Counts). map (waiting_frame c b.memory) (queue_at h.queues socket)) counts
-    ∙ queue-frames-same h.driver.counts a.memory b.memory h.queues same socket
+    ∙ queue-frames-same h.driver.layout a.memory b.memory h.queues same socket
     ∙ sym (append-nil (waiting_frames h socket a)))
     (record { least = omega arith; most = omega arith; exactly = λ below. omega arith })
 
 -- The same stretch, while others hold other frames at its end.
 abbrev pub flows-hold : {up : Bool} (d : DriverState) (a : World) (e : DriverState) (b : World) (taken sent : List (List ℕ)) (past : Past)
-    (held : List HandedOut)
-    → FlowsTo up d a e b taken sent past → ReadyWith up (holding held e) b → FlowsTo up d a (holding held e) b taken sent past
+    (held : List HandedOut) → FlowsTo up (driver_in d a) (driver_in e b) (driver_did taken sent) past → ReadyWith up (holding held e) b
+    → FlowsTo up (driver_in d a) (driver_in (holding held e) b) (driver_did taken sent) past
 flows-hold d a e b taken sent past held flows ready = record {
   ready = ready;
-  counts = flows.counts;
+  layout = flows.layout;
   sends = flows.sends;
   holds = flows.holds;
   least = flows.least;
   frees = flows.frees;
   mask = flows.mask;
-  sum = flows.sum;
-  counted = flows.counted;
-  sticks = flows.sticks;
-  at_most = flows.at_most;
-  exactly = λ exact below_greatest. let all =
-      flows.exactly exact below_greatest in record { exact = all.exact; below_greatest = all.below_greatest; sum = all.sum };
-  stays_exact = flows.stays_exact;
-  small = flows.small;
+  misses = record {
+    sum = flows.misses.sum;
+    counted = flows.misses.counted;
+    sticks = flows.misses.sticks;
+    at_most = flows.misses.at_most;
+    exactly = λ exact below_greatest. let all =
+        flows.misses.exactly exact below_greatest in record { exact = all.exact; below_greatest = all.below_greatest; sum = all.sum };
+    stays_exact = flows.misses.stays_exact;
+    small = flows.misses.small;
+  };
 }
 
 abbrev pub goes-hold : {up : Bool} (d : DriverState) (a : World) (e : DriverState) (b : World) (taken sent : List (List ℕ)) (past : Past)
-    (held : List HandedOut)
-    → GoesTo up d a e b taken sent past → ReadyWith up (holding held e) b → GoesTo up d a (holding held e) b taken sent past
+    (held : List HandedOut) → GoesTo up (driver_in d a) (driver_in e b) (driver_did taken sent) past → ReadyWith up (holding held e) b
+    → GoesTo up (driver_in d a) (driver_in (holding held e) b) (driver_did taken sent) past
 goes-hold d a e b taken sent past held goes ready = record {
   flows = flows-hold d a e b taken sent past held goes.flows ready;
   causes = goes.causes;
@@ -87,17 +89,17 @@ goes-hold d a e b taken sent past held goes ready = record {
 }
 
 -- A stretch over a bus, whose end is told otherwise.
-abbrev pub ran-as : {up : Bool} {B : Type 0} (world : B → World) (happened : B → B → Past
-    → Type 0) (xs ys : List Access) (old new : B) (d e e' : DriverState) (taken sent : List (List ℕ))
-    → xs ≡ ys → e ≡ e' → RanBy up world happened xs old new d e taken sent → RanBy up world happened ys old new d e' taken sent
-ran-as {up} world happened xs ys old new d e e' taken sent accesses last ran = record {
+abbrev pub ran-as : {up : Bool} {B : Type 0} (bus : Ghosts B) (xs ys : List Access) (old new : B) (d e e' : DriverState)
+    (taken sent : List (List ℕ)) → xs ≡ ys → e ≡ e' → Ran bus up (call_did xs taken sent) (at old d) (at new e)
+    → Ran bus up (call_did ys taken sent) (at old d) (at new e')
+ran-as {up} bus xs ys old new d e e' taken sent accesses last ran = record {
   past = ran.past;
   told = ran.told;
   only = ran.only ∙ accesses;
-  goes = subst (λ (end : DriverState). GoesTo up d (world old) end (world new) taken sent ran.past) last ran.goes;
-  set = ran.set;
-  off = ran.off;
-  link = ran.link;
+  goes = subst
+      (λ (end : DriverState). GoesTo up (driver_in d (bus.world old)) (driver_in end (bus.world new)) (driver_did taken sent) ran.past) last
+      ran.goes;
+  follows = ran.follows;
 }
 
 -- A frame is sent.
@@ -110,14 +112,14 @@ host-transmits bus old new frame result is sends =
     let e = holding d.handed_out new.driver in
     let e' = driver_of (with_driver new.driver h) (bus.world new.bus) in
     let flows = sends.ran.goes.flows in
-    let end : e ≡ e' = sym (driver-stays h new.driver (bus.world old.bus) (bus.world new.bus) is.ready flows.counts flows.ready.stand) in
+    let end : e ≡ e' = sym (driver-stays h new.driver (bus.world old.bus) (bus.world new.bus) is.ready flows.layout flows.ready.stand) in
     record {
       ran = record {
         sizes = is.ready.sizes;
-        ran = ran-as bus.world bus.happened (accesses_by result d e frame) (accesses_by result d e' frame) old.bus new.bus d e e' []
+        ran = ran-as bus (accesses_by result d e frame) (accesses_by result d e' frame) old.bus new.bus d e e' []
             (accepted_by result frame)
             (ap (λ (s : DriverState). accesses_by result d s frame) end) end sends.ran;
-        accounts = accounts-stay h new.driver (bus.world old.bus) (bus.world new.bus) sends.ran.past.stored is.ready flows.counts
+        accounts = accounts-stay h new.driver (bus.world old.bus) (bus.world new.bus) sends.ran.past.stored is.ready flows.layout
             flows.ready.stand flows.holds;
       };
       answer = subst (λ (s : DriverState). IsAnswer bus result (driver_at bus old) (at new.bus s)) end sends.answer;
@@ -132,7 +134,8 @@ host-happens {up} h a b past host happens =
     let stand = goes.flows.ready.stand in
     record {
       sizes = host.sizes;
-      goes = subst (λ (end : DriverState). GoesTo up d a end b [] [] past) (sym (driver-stays h h.driver a b host refl stand)) goes;
+      goes = subst (λ (end : DriverState). GoesTo up (driver_in d a) (driver_in end b) (driver_did [] []) past)
+          (sym (driver-stays h h.driver a b host refl stand)) goes;
       accounts = accounts-stay h h.driver a b past.stored host refl stand goes.flows.holds;
     }
 

@@ -27,10 +27,10 @@ queue-all P (queue ∷ later) (suc socket) all = queue-all P later socket (all-r
 abbrev pub AreLong : Counts → List ℕ → List Received → Type 0
 AreLong counts memory list = All (λ (received : Received). length (waiting_frame counts memory received) ≡ received.length) list
 
-pub all-long : {up : Bool} (h : HostState) (a : World) → HostReadyWith up h a → AreLong h.driver.counts a.memory (all_of h.queues)
+pub all-long : {up : Bool} (h : HostState) (a : World) → HostReadyWith up h a → AreLong h.driver.layout a.memory (all_of h.queues)
 all-long h a host =
     let d = driver_of h a in
-    let counts = h.driver.counts in
+    let counts = h.driver.layout in
     let list = all_of h.queues in
     let number : HandedOut → ℕ = λ one. one.number in
     let Known : ℕ → Type 0 = λ m. m < counts.buffers in
@@ -73,7 +73,7 @@ waiting-same counts memory memory' list same =
 
 -- The driver behind a stretch.
 pub ends-as : (h : HostState) (b : World) (counts : Counts) (memory : List ℕ) (list : List Received) → all_of h.queues ≡ list
-    → h.driver.counts ≡ counts
+    → h.driver.layout ≡ counts
     → AreSame counts memory b.memory list → driver_of h b ≡ holding (map (waiting_entry counts memory) list) h.driver
 ends-as h b counts memory list all is same =
     ap (λ (c : Counts). holding (map (waiting_entry c b.memory) (all_of h.queues)) h.driver) is

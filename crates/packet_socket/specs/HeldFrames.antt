@@ -24,7 +24,7 @@ waiting_entry counts memory received = record { number = received.buffer; frame 
 
 -- the host's driver; the frames of the host's queues are those that others hold
 abbrev pub driver_of : HostState → World → DriverState
-driver_of host world = holding (map (waiting_entry host.driver.counts world.memory) (all_of host.queues)) host.driver
+driver_of host world = holding (map (waiting_entry host.driver.layout world.memory) (all_of host.queues)) host.driver
 
 -- The host is ready, with its transmit side set up or off: its driver is ready, and each queued entry has 60 to 1,518
 -- bytes.
@@ -37,7 +37,7 @@ HostReady = HostReadyWith true
 
 -- the frames queued for a socket, the oldest first
 abbrev pub waiting_frames : HostState → (socket : ℕ) → World → List (List ℕ)
-waiting_frames host socket world = map (waiting_frame host.driver.counts world.memory) (queue_at host.queues socket)
+waiting_frames host socket world = map (waiting_frame host.driver.layout world.memory) (queue_at host.queues socket)
 
 -- the frames of a list that go to a socket
 abbrev pub socket_frames : List SocketKind → (socket : ℕ) → List (List ℕ) → List (List ℕ)

@@ -10,9 +10,8 @@ use Rattle.driver_law.specs.Accesses.{stores_from, tail_write}
 use Rattle.driver_law.specs.Calls.{Did, Moment, Ran, at, only}
 use Rattle.driver_law.specs.DriverState.{DriverState, HandedOut, buffer_at, next_receive, numbers_of, with_owners}
 use Rattle.driver_law.specs.Stretches.{HasNoForgottenWork, IsRefilled}
-use Rattle.driver_law.specs.RegisterReadings.{with_missed}
 use Rattle.bring_up.specs.WrittenRegisters.{handled_causes}
-use Rattle.driver.specs.HandlerSteps.{Asked, LeavesIt, handled_accesses}
+use Rattle.driver.specs.HandlerSteps.{AddsMisses, Asked, LeavesIt, Served, handled_accesses}
 use Rattle.driver.specs.SendSteps.{Answer, IsAnswer, sent_by}
 use Rattle.driver.specs.TakenFrames.{AreFrames, GrowsBy, IsFrameSize, frames_of, received_of}
 use Rattle.driver.specs.declared.interrupt.Handled.{Handled}
@@ -82,8 +81,8 @@ pub record Leaves (h h' : HostState) (socket size : ℕ) (received : Received) :
 -- The frame is loaded. Then slots are offered with these buffers; the frame's buffer may be one of them.
 abbrev pub receive_accesses : (d d' : DriverState) → (buffer size : ℕ) → (offered : List ℕ) → List Access
 receive_accesses d d' buffer size offered =
-    Loads (buffer_at d.counts buffer) size ∷
-    (stores_from d.counts (next_receive d) offered ++ tail_write (next_receive d') (d.staged ++ offered))
+    Loads (buffer_at d.layout buffer) size ∷
+    (stores_from d.layout (next_receive d) offered ++ tail_write (next_receive d') (d.staged ++ offered))
 
 -- The oldest frame of a socket's queue is returned, and its buffer goes back to the driver.
 pub record Receives {B : Type 0} (bus : Ghosts B) (given : Given) (size : ℕ) (up : Bool) (old new : HostMoment B) : Type 0 where
@@ -131,21 +130,6 @@ pub record HostServes (h h' : HostState) (n : ℕ) : Type 0 where
   pub sorts : SortsAll h h' n
   pub refilled : IsRefilled h'.driver
   pub offered : h'.driver.staged ≡ []
-
--- The slots of the buffers `taken` were the oldest. Then slots are offered after the others: those that were staged, and new ones with the
--- buffers `offered`. `misses` is the value read from MPC.
-pub record Served (d d' : DriverState) (taken : List ℕ) : Type 0 where
-  pub misses : ℕ
-  pub rest : List ℕ
-  pub offered : List ℕ
-  pub oldest : d.buffers ≡ taken ++ rest
-  pub newest : d'.buffers ≡ rest ++ (d.staged ++ offered)
-
--- The value read from MPC is added to the driver's sum. No slot is bad.
-pub record AddsMisses (misses : ℕ) (d d' : DriverState) : Type 0 where
-  pub missed : d'.missed ≡ (with_missed misses d).missed
-  pub exact : d'.exact ≡ (with_missed misses d).exact
-  pub bad : d'.bad ≡ d.bad
 
 -- Each frame taken went to the end of its socket's queue, in order, or was counted as unclaimed.
 pub record SortsTaken (h h' : HostState) (taken : List HandedOut) : Type 0 where

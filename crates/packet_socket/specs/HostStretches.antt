@@ -3,7 +3,7 @@ use Rattle.std.specs.Prelude.{◌≡◌, ◌≤◌, ◌<◌, ◌+◌, ◌-◌, �
 use Rattle.adapter.specs.HostFrames.{frames_held}
 use Rattle.adapter.specs.World.{World}
 use Rattle.bus.specs.PastOfStretch.{Past}
-use Rattle.driver_law.specs.Stretches.{FlowsTo, GoesTo}
+use Rattle.driver_law.specs.Stretches.{DriverInWorld, FlowsTo, GoesTo, driver_did, driver_in}
 use Rattle.driver.specs.TakenFrames.{AreFrames}
 use Rattle.packet_socket.specs.HostState.{HostState}
 use Rattle.packet_socket.specs.HeldFrames.{driver_of, socket_frames, held_for_socket, without_socket}
@@ -40,6 +40,10 @@ pub record HostInWorld : Type 0 where
 abbrev pub in_world : HostState → World → HostInWorld
 in_world host world = record { host = host; world = world }
 
+-- its driver in the same world; the frames of its queues are those that others hold
+abbrev pub host_driver_in : HostInWorld → DriverInWorld
+host_driver_in now = driver_in (driver_of now.host now.world) now.world
+
 -- What a host did with frames: those it took off its receive ring, those its sockets returned, and those it accepted for sending.
 pub record HostDid : Type 0 where
   pub taken : List (List ℕ)
@@ -60,12 +64,11 @@ did_both first later = did (first.taken ++ later.taken) (first.given ++ later.gi
 -- `flows.ready`.
 pub record HostFlowsTo (up : Bool) (old new : HostInWorld) (done : HostDid) (past : Past) : Type 0 where
   pub sizes : AreFrames (all_of new.host.queues)
-  pub flows :
-      FlowsTo up (driver_of old.host old.world) old.world (driver_of new.host new.world) new.world done.taken done.accepted past
+  pub flows : FlowsTo up (host_driver_in old) (host_driver_in new) (driver_did done.taken done.accepted) past
   pub accounts : Accounts old.host old.world new.host new.world done.given past.stored
 
 -- The same, and ICR wasn't read.
 pub record HostGoesTo (up : Bool) (old new : HostInWorld) (done : HostDid) (past : Past) : Type 0 where
   pub sizes : AreFrames (all_of new.host.queues)
-  pub goes : GoesTo up (driver_of old.host old.world) old.world (driver_of new.host new.world) new.world done.taken done.accepted past
+  pub goes : GoesTo up (host_driver_in old) (host_driver_in new) (driver_did done.taken done.accepted) past
   pub accounts : Accounts old.host old.world new.host new.world done.given past.stored

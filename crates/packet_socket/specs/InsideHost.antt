@@ -16,9 +16,9 @@ host_of host = host_with host.driver host.sockets
 
 -- Each queue has room for all buffers. No buffer has two owners; the queues count as owners.
 pub record IsHost (driver : DriverState) (sockets : SocketsState) : Type 0 where
-  pub room : sockets.room ≡ driver.counts.buffers
+  pub room : sockets.room ≡ driver.layout.buffers
   pub count : length sockets.queues ≡ length sockets.kinds
-  pub owners : HasNoSecondOwner driver.counts.buffers (owners driver ++ buffers_of (all_of sockets.queues))
+  pub owners : HasNoSecondOwner driver.layout.buffers (owners driver ++ buffers_of (all_of sockets.queues))
   pub sizes : AreFrames (all_of sockets.queues)
 
 abbrev pub IsConsistent : Inside → Type 0

@@ -71,9 +71,9 @@ impl Host {
 
         // And over one that obeys the law.
         ensures initialises { B.honest bus.old
-            → IfOk result (λ host. Initialises B.world B.happened bus.old bus.new config.now host.driver) }
+            → IfOk result (λ host. Initialises B.Bus config.now bus.old bus.new host.driver) }
         ensures ready { B.honest bus.old → IfOk result (λ host. HostReady host (B.world bus.new)) }
-        ensures refuses { B.honest bus.old → IfErr result (Refuses B.world B.happened B.lively bus.old bus.new) }
+        ensures refuses { B.honest bus.old → IfErr result (Refuses B.Bus bus.old bus.new) }
     {
         let layout = config.layout(bus.size())?;
         let sockets = Sockets::new(alloc, kinds, usize::from(layout.buffers()))?;
@@ -84,7 +84,7 @@ impl Host {
     /// The places of the driver's rings and buffers. Calls that access memory need a bus with at least
     /// `layout().size()` bytes.
     pub fn layout(&self) -> Layout
-        ensures { result ≡ self.now.driver.counts }
+        ensures { result ≡ self.now.driver.layout }
     {
         self.driver.layout()
     }
@@ -103,7 +103,7 @@ impl Host {
         ensures count { result ≡ length (queue_at self.now.queues socket) }
         ensures table { length self.now.queues ≡ length self.now.kinds }
         ensures sizes { AreFrames (all_of self.now.queues) }
-        ensures one_owner { HasNoSecondOwner self.now.driver.counts.buffers
+        ensures one_owner { HasNoSecondOwner self.now.driver.layout.buffers
             (owners self.now.driver ++ buffers_of (all_of self.now.queues)) }
     {
         self.sockets.waiting(socket)
@@ -134,7 +134,7 @@ impl Host {
     /// if it has more than 1,518; both without an access. E22 [`RingFull`](SendError::RingFull) if all slots of the
     /// transmit ring but one are outstanding.
     pub fn send<B: Bus>(&mut self, bus: &mut B, frame: &[u8]) -> Result<(), SendError>
-        requires memory { size_of self.old.driver.counts ≤ B.extent bus.old }
+        requires memory { size_of self.old.driver.layout ≤ B.extent bus.old }
         ensures keeps { Keeps B.Bus bus.old bus.new }
 
         // What it does over any bus.

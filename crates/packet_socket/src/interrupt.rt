@@ -15,7 +15,7 @@ impl Host {
     /// end of its socket's queue; a frame without a socket is counted ([`unclaimed`](Host::unclaimed)). `bus` must have
     /// at least `layout().size()` bytes.
     pub fn interrupt<B: Bus>(&mut self, bus: &mut B) -> Handled
-        requires memory { size_of self.old.driver.counts ≤ B.extent bus.old }
+        requires memory { size_of self.old.driver.layout ≤ B.extent bus.old }
         ensures keeps { Keeps B.Bus bus.old bus.new }
 
         // What it does over any bus.

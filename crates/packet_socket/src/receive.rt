@@ -37,7 +37,7 @@ impl Host {
         socket: usize,
         into: &mut [u8; 1518],
     ) -> Result<usize, RecvError>
-        requires memory { size_of self.old.driver.counts ≤ B.extent bus.old }
+        requires memory { size_of self.old.driver.layout ≤ B.extent bus.old }
         ensures keeps { Keeps B.Bus bus.old bus.new }
 
         // What it does over any bus.

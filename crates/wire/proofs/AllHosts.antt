@@ -1,4 +1,4 @@
--- All hosts are brought up, one behind the other.
+-- All hosts are brought up, one after the other.
 use Rattle.std.proofs.Common.{◌≡◌, ◌≢◌, ◌≤◌, ◌<◌, ◌+◌, ◌++◌, ◌∷◌, [], zero, suc, Bool, true, false, ℕ, List, Some, None, String, length}
 use Rattle.std.proofs.Common.{slice_get, string_eq, cond, nat_lt, not, position, unwrap_or, inl, inr, ◌⊎◌, refl, sym, ap, subst, ◌∙◌}
 use Rattle.std.proofs.Common.{arith, length-append}

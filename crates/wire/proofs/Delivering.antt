@@ -136,7 +136,7 @@ delivers-join k first later a b c h1 h2 h3 wires one two =
       plan_is_kept = record {
         wire = next.wire ∙ plan.wire;
         kinds = next.kinds ∙ plan.kinds;
-        counts = next.counts ∙ plan.counts;
+        layout = next.layout ∙ plan.layout;
         filter = next.filter ∙ plan.filter;
         kilobytes = next.kilobytes ∙ plan.kilobytes;
       };
@@ -174,7 +174,7 @@ delivers-join k first later a b c h1 h2 h3 wires one two =
           plan.kinds two.unclaimed_is_counted);
     }
 
--- What happenings say of a host, where these atomic steps were taken, and it gave and was given these frames.
+-- What happenings say of a host that gave and accepted these frames while these atomic steps were taken.
 pub record Tells (k : ℕ) (happened : List Happening) (steps : List AtomicStep) (wires : ℕ → Option ℕ) (given_are : List Given)
     (accepted_are : List (List ℕ)) : Type 0 where
   pub put : put k happened ≡ put k (happened_in steps)
@@ -198,14 +198,14 @@ delivers-runs caller k steps happened a b h h' taken given_are accepted_are lead
     let flows = runs.flows.flows in
     let accounts = runs.flows.accounts in
     let past = past_at k steps in
-    let right = fates-right caller k steps a b leads (all-leave h.driver.counts past.accesses runs.accesses) enabled in
+    let right = fates-right caller k steps a b leads (all-leave h.driver.layout past.accesses runs.accesses) enabled in
     let stored_are : stored k happened ≡ past.stored = tells.stored ∙ moves.stored in
     let missed_are : missed k happened ≡ past.missed = tells.missed ∙ moves.missed in
     record {
       plan_is_kept = record {
         wire = moves.wires;
         kinds = accounts.kinds;
-        counts = flows.counts;
+        layout = flows.layout;
         filter = right.filter;
         kilobytes = right.kilobytes;
       };
@@ -226,15 +226,15 @@ delivers-runs caller k steps happened a b h h' taken given_are accepted_are lead
           subst (λ (all : List Mark). ReceivesRightly (world_at a k).adapter all (world_at b k).adapter) (sym tells.marks) right;
       misses_are_counted =
           misses-of h (world_at a k) h' (world_at b k) (missed k happened)
-          (let most = flows.at_most in omega (arith, most, missed_are))
+          (let most = flows.misses.at_most in omega (arith, most, missed_are))
           (λ exact below.
-          let exactly = flows.exactly exact below in
+          let exactly = flows.misses.exactly exact below in
           let sum = exactly.sum in
           (exactly.exact, exactly.below_greatest, omega (arith, sum, missed_are)))
-          flows.sum
+          flows.misses.sum
           (λ exact small fits.
-          let stays = flows.stays_exact exact (omega (arith, small, missed_are)) (omega (arith, fits, missed_are)) in
-          let sum = flows.counted (omega (arith, small, missed_are)) (omega (arith, fits, missed_are)) in
+          let stays = flows.misses.stays_exact exact (omega (arith, small, missed_are)) (omega (arith, fits, missed_are)) in
+          let sum = flows.misses.counted (omega (arith, small, missed_are)) (omega (arith, fits, missed_are)) in
           (stays, omega (arith, sum, missed_are)));
       unclaimed_is_counted =
           subst (λ (frames : List (List ℕ)). CountsUnclaimed h (world_at a k) (without_socket h.kinds frames) h' (world_at b k))
@@ -244,7 +244,7 @@ delivers-runs caller k steps happened a b h h' taken given_are accepted_are lead
 -- Over nothing.
 pub delivers-none : (k : ℕ) (a : List StationState) (h : HostState) → Delivers k [] a a h h
 delivers-none k a h = record {
-  plan_is_kept = record { wire = refl; kinds = refl; counts = refl; filter = refl; kilobytes = refl };
+  plan_is_kept = record { wire = refl; kinds = refl; layout = refl; filter = refl; kilobytes = refl };
   sent_is_accepted = sym (append-nil (frames_to_send (world_at a k)));
   reached_is_put = sym (append-nil (backlog_at a k));
   given_is_kept = λ socket. sym (append-nil (held_for_socket h socket (world_at a k)));

@@ -1,5 +1,6 @@
 -- A host is brought up over a bus of its own.
 use Rattle.std.proofs.Common.{◌≡◌, ◌≢◌, ◌<◌, ◌-◌, [], true, false, ℕ, List, length, replicate, refl, sym, ap, subst, ◌∙◌, arith}
+use Rattle.std.specs.Bool.{⊤}
 use Rattle.dma_memory.specs.Layout.{Counts, size_of}
 use Rattle.descriptors.specs.Ring.{HasValidIndices, count_of}
 use Rattle.descriptors.specs.declared.ring.Ring.{Ring}
@@ -14,6 +15,7 @@ use Rattle.adapter.specs.Registers.{new_adapter}
 use Rattle.adapter.specs.State.{AdapterState}
 use Rattle.adapter.specs.World.{World, receive_ring, transmit_ring}
 use Rattle.bus.specs.Settings.{settings_of}
+use Rattle.bus.specs.declared.bus.Bus.{Ghosts}
 use Rattle.bring_up.specs.Configuration.{CanBeHad, counts_of}
 use Rattle.bring_up.specs.ConfiguredAdapters.{IsConfigured, names_vlans}
 use Rattle.driver_law.specs.Beginnings.{new_driver}
@@ -33,6 +35,17 @@ use Rattle.wire.proofs.ArrivalsAlone.{alone-stays}
 use Rattle.wire.proofs.OwnTicks.{IsAdapterOf, IsPhyOf}
 use Rattle.wire.proofs.PlansFilters.{Controls, controls, plans-filter}
 
+-- what a solo bus shows of itself
+abbrev pub solo : Ghosts SoloState
+solo = record {
+  extent = λ bus. length bus.world.memory;
+  honest = λ bus. ⊤;
+  lively = λ bus. bus.lively ≡ true;
+  world = λ bus. bus.world;
+  happened = λ a b past. Recounts a b past;
+  lent_stays = λ a b. b.lively ≡ a.lively;
+}
+
 -- a host on a wire, at whose end nothing waits
 abbrev pub station_on : (wire : ℕ) → World → StationState
 station_on wire world = record { world = world; wire = wire; backlog = [] }
@@ -47,25 +60,25 @@ valid : (ring : Ring) (count tail : ℕ) → count_of ring ≡ count → ring.he
 valid ring count tail slots head is below = record { head = omega (arith, slots, head); tail = omega (arith, slots, is, below) }
 
 -- Both sides are enabled, and heads and tails are slots.
-can-answer : (plan : HostPlan) (size : ℕ) (d : DriverState) (world : World) → CanBeHad plan.config size → d.counts ≡ counts_of plan.config
+can-answer : (plan : HostPlan) (size : ℕ) (d : DriverState) (world : World) → CanBeHad plan.config size → d.layout ≡ counts_of plan.config
     → Ready d world → IsConfigured plan.config (address_bytes plan.image) (settings_of world.adapter) → CanAnswer world.adapter
 can-answer plan size d world had counts ready configured =
     let control = subst (Controls plan.config.promiscuous (names_vlans plan.config.vlans)) (sym configured.receive_control_is)
     (controls plan.config.promiscuous (names_vlans plan.config.vlans)) in
-    let rx : d.counts.rx ≡ plan.config.rx = ap (λ (c : Counts). c.rx) counts in
-    let tx : d.counts.tx ≡ plan.config.tx = ap (λ (c : Counts). c.tx) counts in
+    let rx : d.layout.rx ≡ plan.config.rx = ap (λ (c : Counts). c.rx) counts in
+    let tx : d.layout.tx ≡ plan.config.tx = ap (λ (c : Counts). c.tx) counts in
     record {
       receives = control.receives;
       transmits = subst (λ (word : ℕ). HasBit word tctl_en) (sym configured.transmit_control) refl;
       receive =
-          valid (receive_ring world) d.counts.rx (plan.config.rx - 1) ready.receive.slots ready.receive.head_slot configured.receive_tail
+          valid (receive_ring world) d.layout.rx (plan.config.rx - 1) ready.receive.slots ready.receive.head_slot configured.receive_tail
           (omega (arith, rx, had.counts.rx.least));
       transmit =
-          valid (transmit_ring world) d.counts.tx 0 ready.transmit.knows.slots ready.transmit.knows.head_slot configured.transmit_tail
+          valid (transmit_ring world) d.layout.tx 0 ready.transmit.knows.slots ready.transmit.knows.head_slot configured.transmit_tail
           (omega (arith, tx, had.counts.tx.least));
     }
 
--- What bring-up begins with, and what is known behind it.
+-- What bring-up begins with, and what is known after it.
 pub record IsBroughtUp (plan : HostPlan) (old new : SoloState) (host : HostState) : Type 0 where
   pub size : ℕ
   pub had : CanBeHad plan.config size
@@ -76,8 +89,7 @@ pub record IsBroughtUp (plan : HostPlan) (old new : SoloState) (host : HostState
   pub host_is : host ≡ new_host host.driver plan.sockets.items
   pub fresh : host.driver ≡ with_owners (new_driver (counts_of plan.config) []) host.driver.buffers [] host.driver.pool []
   pub refilled : IsRefilled host.driver
-  pub initialises : Initialises (λ (bus : SoloState). bus.world) (λ (a b : SoloState) past. Recounts a b past) old new plan.config
-      host.driver
+  pub initialises : Initialises solo plan.config old new host.driver
   pub ready : HostReady host new.world
 
 -- a link that is up isn't one that never comes up
@@ -108,8 +120,8 @@ no-frames plan old new host wire is =
     let later = alone-stays init.middle new init.later first.waiting init.told_later in
     let counts = (left-alone plan old new host is).1 in
     record {
-      to_send = init.none_to_send;
-      held = init.held ∙ later.none.none_stored;
+      to_send = init.started.frames.none_to_send;
+      held = init.started.frames.held ∙ later.none.none_stored;
       queues =
           ap (λ (h : HostState). h.queues) is.host_is
           ∙ ap (λ (kinds : List SocketKind). replicate (length kinds) []) (sym (ap (λ (h : HostState). h.kinds) is.host_is));
@@ -117,7 +129,7 @@ no-frames plan old new host wire is =
       counts = record {
         missed = ap (λ (d : DriverState). d.missed) is.fresh;
         exact = ap (λ (d : DriverState). d.exact) is.fresh;
-        missed_packets = omega (arith, init.missed_most, later.none.none_missed);
+        missed_packets = omega (arith, init.started.frames.missed_most, later.none.none_missed);
         without_descriptor = counts.no_descriptor;
         received = counts.none_received;
         transmitted = counts.none_transmitted;
@@ -129,33 +141,33 @@ pub comes-up : (plan : HostPlan) (old new : SoloState) (host : HostState) (wire 
     → ComesUp plan host (station_on wire new.world)
 comes-up plan old new host wire is =
     let init = is.initialises in
-    let counts : host.driver.counts ≡ counts_of plan.config = ap (λ (d : DriverState). d.counts) is.fresh in
+    let counts : host.driver.layout ≡ counts_of plan.config = ap (λ (d : DriverState). d.layout) is.fresh in
     let phy = (left-alone plan old new host is).0 in
     let image : old.world.adapter.image ≡ plan.image = ap (λ (adapter : AdapterState). adapter.image) is.adapter in
     let configured : IsConfigured plan.config (address_bytes plan.image) (settings_of new.world.adapter) =
     subst (λ (words : List ℕ). IsConfigured plan.config (address_bytes words) (settings_of new.world.adapter)) image
-    init.configured in
+    init.adapter.configured in
     record {
       ready = record {
         ready = is.ready;
-        work = init.work;
+        work = init.started.work;
         refilled = is.refilled;
         offered = ap (λ (d : DriverState). d.staged) is.fresh;
-        can = can-answer plan is.size host.driver new.world is.had counts init.ready configured;
+        can = can-answer plan is.size host.driver new.world is.had counts init.started.ready configured;
       };
       sizes = record {
-        counts = counts;
+        layout = counts;
         memory = is.memory;
         kinds = ap (λ (h : HostState). h.kinds) is.host_is;
         allocation = configured.allocation;
         filter = plans-filter plan (settings_of new.world.adapter) is.address configured;
       };
       devices = record {
-        image = init.image ∙ image;
-        sum = subst HasRightSum image init.sum;
+        image = init.adapter.image ∙ image;
+        sum = subst HasRightSum image init.adapter.sum;
         link_is = phy.link_is;
-        comes = link-comes plan.link new.world.adapter.phy phy init.up.up;
-        link = init.up;
+        comes = link-comes plan.link new.world.adapter.phy phy init.adapter.up.up;
+        link = init.adapter.up;
       };
       no_frames = no-frames plan old new host wire is;
     }

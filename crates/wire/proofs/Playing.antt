@@ -76,7 +76,7 @@ call-played caller ticks old stations before behind h h' taken given accepted ma
         played = runs.are_told.played;
         accesses = λ was then.
             let same_host : was ≡ h = let e : Some h ≡ Some was = sym there ∙ then in cc in (
-              subst (λ (w : HostState). All (IsOfDriver w.driver.counts) (past_at caller runs.steps).accesses) (sym same_host)
+              subst (λ (w : HostState). All (IsOfDriver w.driver.layout) (past_at caller runs.steps).accesses) (sym same_host)
                   runs.runs.accesses,
               runs.last_writes,
             );

@@ -9,7 +9,6 @@ use Rattle.stations.specs.Stations.{StationState, wire_at}
 use Rattle.stations.specs.declared.tick.Tick.{Tick}
 use Rattle.delivery.proofs.Waiting.{wires-stay}
 use Rattle.delivery.specs.Happenings.{Happening, told, told_alone}
-use Rattle.host_calls.proofs.HostTrails.{none-alone}
 use Rattle.network_plan.specs.declared.event.Event.{Event}
 use Rattle.network_plan.specs.declared.event.Event.TheVariants.{Interrupt, Recv, Send, Tick as Alone}
 use Rattle.network_plan.specs.declared.reply.Reply.{Reply}
@@ -54,16 +53,8 @@ tick-event old stations tick reply stands played =
       stood = stands;
       steps = played.steps;
       go = go;
-      told = record {
-        played = played.played;
-        accesses = λ k. none-alone k played.steps played.are;
-        counted = played.counted;
-        outcomes = played.outcomes;
-        numbered = played.numbered;
-        answer = played.answer;
-        others = refl;
-      };
-      answer = λ was is then now. played.answer;
+      told = played.told old.hosts;
+      answer = λ was is then now. (played.told old.hosts).answer;
     }
 
 -- Runs.

@@ -1,4 +1,4 @@
--- Hosts stand behind each event.
+-- Hosts stand after each event.
 use Rattle.std.proofs.Common.{◌≡◌, ◌≢◌, ◌<◌, [], ℕ, Bool, List, Some, inl, inr, ⊎_elim}
 use Rattle.std.proofs.Common.{length, slice_get}
 use Rattle.std.proofs.Common.{refl, sym, subst, ◌∙◌, arith, if◌then◌else◌, slice_set}
@@ -66,10 +66,10 @@ counts-one counts (Loads address size) is = tt
 counts-one counts (Stores address bytes) is = tt
 
 -- of an adapter whose rings the driver knows
-pub all-counted : (h : HostState) (world : World) (accesses : List Access) → HostReady h world → All (IsOfDriver h.driver.counts) accesses
+pub all-counted : (h : HostState) (world : World) (accesses : List Access) → HostReady h world → All (IsOfDriver h.driver.layout) accesses
     → All (IsCounted (count_of (receive_ring world)) (count_of (transmit_ring world))) accesses
 all-counted h world accesses ready are =
-    let own = h.driver.counts in
+    let own = h.driver.layout in
     subst (λ (n : ℕ). All (IsCounted n (count_of (transmit_ring world))) accesses) (sym ready.ready.receive.slots)
     (subst (λ (n : ℕ). All (IsCounted own.rx n) accesses) (sym ready.ready.transmit.knows.slots)
     (all-weaker (IsOfDriver own) (IsCounted own.rx own.tx) accesses (counts-one own) are))
@@ -108,7 +108,7 @@ stands-behind caller k steps a b h h' taken given accepted leads stands runs =
     (count_of (transmit_ring (world_at a k))) refl refl
     (all-counted h (world_at a k) (past_at k steps).accesses stands.ready runs.accesses) (trail-of caller k steps a b leads)
     stands.can).can
-    (runs.flows.flows.small stands.exact.reads)
+    (runs.flows.flows.misses.small stands.exact.reads)
 
 -- Which host is which.
 
@@ -161,7 +161,7 @@ each-runs caller k steps a b hosts h h' was is taken given accepted leads there 
 
 -- A host that stands can be counted over accesses of its driver.
 can-count : (k : ℕ) (steps : List AtomicStep) (a : List StationState) (h : HostState) → HostStands h (world_at a k)
-    → All (IsOfDriver h.driver.counts) (past_at k steps).accesses → CanBeCounted k steps a
+    → All (IsOfDriver h.driver.layout) (past_at k steps).accesses → CanBeCounted k steps a
 can-count k steps a h stands accesses = record {
   can = stands.can;
   accesses = all-counted h (world_at a k) (past_at k steps).accesses stands.ready accesses;
@@ -190,7 +190,7 @@ hosts-go caller happened steps old new taken given accepted stands leads same ru
         (past_at k steps) run.flows in
         ticks-answered caller k steps old.stations new.stations leads
         (can-count k steps old.stations was stood run.accesses)
-        (record { receiver = behind.ready.runs.receiver_runs; transmitter = behind.ready.runs.transmitter_runs });
+        (record { receiver = behind.ready.law.runs.receiver_runs; transmitter = behind.ready.law.runs.transmitter_runs });
     absent = λ k past.
         absent-nothing caller k steps old.stations new.stations leads
         (slice_get_past old.stations k (let length_same = stands.same in omega (arith, past, length_same)));

@@ -76,7 +76,7 @@ tells-send k host frame (Ok u) steps wires =
     }
 tells-send k host frame (Err error) steps wires = tells-call k host steps wires
 
--- Frames that were given come behind them.
+-- Frames that were given come after them.
 
 abbrev pub gives : ℕ → List Given → List Happening
 gives host list = map (λ (one : Given). WasGiven host one.socket one.frame) list
@@ -113,7 +113,7 @@ same-socket : (s socket : ℕ) → (s == socket) ≡ (socket == s)
 same-socket s socket =
     same_from_decides (s == socket) (socket == s) (Decides-eqb s socket) (Decides-like (socket == s) sym sym (Decides-eqb socket s))
 
--- the list of a socket, where the frames are this host's
+-- the list of a socket, if the frames are this host's
 listed : (here : Bool) (s : ℕ) (list : List Given) → List (List ℕ)
 listed here s [] = []
 listed here s (one ∷ list) = (if here && (s == one.socket) then one.frame ∷ [] else []) ++ listed here s list

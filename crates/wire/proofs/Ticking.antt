@@ -16,6 +16,7 @@ use Rattle.stations.specs.AtomicRuns.{IsTick, counted_of, is_go, noted_of}
 use Rattle.delivery.proofs.Telling.{leads-alone, said-alone}
 use Rattle.delivery.specs.Happenings.{told_alone}
 use Rattle.delivery.specs.TickNumbers.{numbers_of}
+use Rattle.host_calls.proofs.HostTrails.{none-alone}
 use Rattle.network_plan.specs.declared.reply.Answer.TheVariants.{Ticked}
 use Rattle.network_plan.specs.declared.reply.Reply.{Reply}
 use Rattle.wire.specs.EventParts.{AreOutcomesAlone, TickPlayed}
@@ -46,19 +47,24 @@ tick-played tick old new before reply empty not answer zero plays =
     let leads = leads-alone old new tick plays.outcome plays.plays not in
     let one : reply.outcomes.list ≡ record { accesses = 0; outcome = plays.outcome } ∷ [] =
     plays.noted.list ∙ ap (λ (list : List Numbered). list ++ record { accesses = 0; outcome = plays.outcome } ∷ []) empty in
+    let are = All-cons IsTick step [] leads.is_tick (all-none IsTick) in
     record {
       steps = step ∷ [];
-      are = All-cons IsTick step [] leads.is_tick (all-none IsTick);
+      are = are;
       leads = leads.leads;
-      played = ap (λ (t : Tick). without_go is_go (t ∷ [])) plays.plays.tick_is;
-      counted = zero ∙ sym (counted-tick step leads.is_tick);
       said = ap (told_alone tick) one ∙ said-alone old new tick plays.outcome plays.plays;
-      outcomes =
-          alone tick (step ∷ []) reply.outcomes.list not
-          (one ∙ ap (λ (o : Outcome). record { accesses = 0; outcome = o } ∷ []) (sym plays.plays.outcome_is)
-          ∙ sym (noted-tick step leads.is_tick));
-      numbered = ap numbers_of one;
-      answer = answer;
+      told = λ hosts. record {
+        played = ap (λ (t : Tick). without_go is_go (t ∷ [])) plays.plays.tick_is;
+        accesses = λ k. none-alone k (step ∷ []) are;
+        counted = zero ∙ sym (counted-tick step leads.is_tick);
+        outcomes =
+            alone tick (step ∷ []) reply.outcomes.list not
+            (one ∙ ap (λ (o : Outcome). record { accesses = 0; outcome = o } ∷ []) (sym plays.plays.outcome_is)
+            ∙ sym (noted-tick step leads.is_tick));
+        numbered = ap numbers_of one;
+        answer = answer;
+        others = refl;
+      };
     }
 
 -- Go does nothing.
@@ -72,12 +78,16 @@ go-played old before reply empty answer zero noted =
       steps = [];
       are = all-none IsTick;
       leads = λ caller. refl;
-      played = refl;
-      counted = zero;
       said = ap (told_alone Go) one;
-      outcomes = (refl, one);
-      numbered = ap numbers_of one;
-      answer = answer;
+      told = λ hosts. record {
+        played = refl;
+        accesses = λ k. none-alone k [] (all-none IsTick);
+        counted = zero;
+        outcomes = (refl, one);
+        numbered = ap numbers_of one;
+        answer = answer;
+        others = refl;
+      };
     }
 
 pub not-go : (tick : Tick) → tick ≢ Go → is_go tick ≡ false

@@ -55,7 +55,7 @@ pub record CountsUnclaimed (h : HostState) (a : World) (frames : ℕ) (h' : Host
 pub record KeepsPlan (k : ℕ) (old new : List StationState) (h h' : HostState) : Type 0 where
   pub wire : wire_at new k ≡ wire_at old k
   pub kinds : h'.kinds ≡ h.kinds
-  pub counts : h'.driver.counts ≡ h.driver.counts
+  pub layout : h'.driver.layout ≡ h.driver.layout
   pub filter : (world_at new k).adapter.filter ≡ (world_at old k).adapter.filter
   pub kilobytes : (world_at new k).adapter.receive_kilobytes ≡ (world_at old k).adapter.receive_kilobytes
 

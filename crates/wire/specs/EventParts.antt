@@ -54,7 +54,7 @@ pub record HostsGo (caller : ℕ) (happened : List Happening) (steps : List Atom
 pub record IsSendAnswer (host : ℕ) (frame : List ℕ) (answer : Answer) (steps : List AtomicStep) (old new : ConnectedHost) : Type 0 where
   pub result : SendAnswer
   pub is : answer ≡ Sent result
-  pub answers : AnswersSend result frame old.host.driver.counts (world_at old.stations host)
+  pub answers : AnswersSend result frame old.host.driver.layout (world_at old.stations host)
   pub leaves : LeavesSend result old.host new.host (counted_of 0 steps)
   -- the accesses of its driver are exactly these, in order
   pub makes : MakesSend result frame old.host new.host (past_at host steps).accesses
@@ -102,7 +102,7 @@ pub record CallTold (reply : Reply) (steps : List AtomicStep) (old new : Network
   pub played : without_go is_go (map tick_of steps) ≡ without_go is_go call.ticks
   -- each access is one of a driver that is up, and only the last may write a register
   pub accesses : (h : HostState) → IsHost old call.host h
-      → All (IsOfDriver h.driver.counts) (past_at call.host steps).accesses × OnlyLastWrites (past_at call.host steps).accesses
+      → All (IsOfDriver h.driver.layout) (past_at call.host steps).accesses × OnlyLastWrites (past_at call.host steps).accesses
   -- a call of a host that isn't there makes none, and answers NoHost; no other call does
   pub unmade : length old.hosts ≤ call.host → (past_at call.host steps).accesses ≡ []
   pub no_host : reply.answer ≡ NoHost ↔ (length old.hosts ≤ call.host)
@@ -116,7 +116,7 @@ pub record CallTold (reply : Reply) (steps : List AtomicStep) (old new : Network
 
 -- A call was made, and this answers it.
 pub record CallPlayed (call : TickedCall) (happened : List Happening) (reply : Reply)
-    (answers : Answer → List AtomicStep → (old new : ConnectedHost) → Type 0) (old new : NetworkState) : Type 0 where
+    (answers : Answer → List AtomicStep → ConnectedHost → ConnectedHost → Type 0) (old new : NetworkState) : Type 0 where
   pub steps : List AtomicStep
   pub go : HostsGo call.host happened steps old new
   pub told : CallTold reply steps old new call
@@ -145,9 +145,7 @@ pub record TickPlayed (tick : Tick) (reply : Reply) (old new : List StationState
   pub steps : List AtomicStep
   pub are : All IsTick steps
   pub leads : (caller : ℕ) → LeadsTo caller steps old new
-  pub played : without_go is_go (map tick_of steps) ≡ without_go is_go (tick ∷ [])
-  pub counted : reply.accesses ≡ counted_of 0 steps
   pub said : told_alone tick reply.outcomes.list ≡ happened_in steps
-  pub outcomes : AreOutcomesAlone tick steps reply.outcomes.list
-  pub numbered : numbers_of reply.outcomes.list ≡ 0 ∷ []
-  pub answer : reply.answer ≡ Ticked
+  -- whatever hosts there are
+  pub told : (hosts : List HostState)
+      → TickTold reply steps (record { hosts = hosts; stations = old }) (record { hosts = hosts; stations = new }) tick

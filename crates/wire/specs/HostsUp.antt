@@ -52,7 +52,7 @@ pub record IsReadyToRun (host : HostState) (world : World) : Type 0 where
 
 -- Its rings, buffers, sockets, packet buffer and filter are the plan's, and its memory ends with its last buffer.
 pub record HasPlansSizes (plan : HostPlan) (host : HostState) (world : World) : Type 0 where
-  pub counts : host.driver.counts ≡ counts_of plan.config
+  pub layout : host.driver.layout ≡ counts_of plan.config
   pub memory : length world.memory ≡ size_of (counts_of plan.config)
   pub kinds : host.kinds ≡ plan.sockets.items
   pub allocation : world.adapter.receive_kilobytes ≡ plan.config.rxa

@@ -39,9 +39,9 @@ pub record HostStands (host : HostState) (world : World) : Type 0 where
   -- both sides of its adapter are enabled
   pub can : CanAnswer world.adapter
   -- No buffer has two owners. A socket's queue is an owner.
-  pub one_owner : HasOneOwner host.driver.counts.buffers (owners (driver_of host world))
+  pub one_owner : HasOneOwner host.driver.layout.buffers (owners (driver_of host world))
   -- fewer frames are to be sent than the transmit ring has slots
-  pub sends_at_most : length (frames_to_send world) + 1 ≤ host.driver.counts.tx
+  pub sends_at_most : length (frames_to_send world) + 1 ≤ host.driver.layout.tx
   pub exact : CountsExactly host world
 
 -- Each host has its station, and stands.

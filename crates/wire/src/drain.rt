@@ -20,7 +20,7 @@ impl Lan {
     /// frames that its packet buffer may hold. A host never holds more for its sockets. It is 0 if the host isn't
     /// there.
     pub fn drain_room(&self, host: usize) -> usize
-        ensures there { (state : HostState) → IsHost self.now host state → result ≡ state.driver.counts.buffers + 24 }
+        ensures there { (state : HostState) → IsHost self.now host state → result ≡ state.driver.layout.buffers + 24 }
         ensures enough { (state : HostState) → IsHost self.now host state
             → count_held state (world_at self.now.stations host) ≤ result }
         ensures none { length self.now.hosts ≤ host → result ≡ 0 }
@@ -43,7 +43,7 @@ impl Lan {
     /// first such socket gives its oldest. If the receive packet buffer has a frame, the adapter moves it to the ring.
     pub fn drain<S: Outlet>(&mut self, host: usize, sink: &mut S) -> u64
         requires room { (state : HostState) → IsHost self.old host state
-            → state.driver.counts.buffers + 24 ≤ S.places sink.old }
+            → state.driver.layout.buffers + 24 ≤ S.places sink.old }
         ensures drains { NetworkDrains self.old host result (S.frames sink.old) (S.frames sink.new) self.new }
         ensures left { length (S.frames sink.old) + S.places sink.old ≤ length (S.frames sink.new) + S.places sink.new }
     {
@@ -63,7 +63,7 @@ fn drain<S: Outlet>(
 ) -> u64
     requires stands { NetworkStands (record { hosts = hosts.old; stations = stations.old }) }
     requires room { (state : HostState) → IsHost (record { hosts = hosts.old; stations = stations.old }) host state
-        → state.driver.counts.buffers + 24 ≤ S.places sink.old }
+        → state.driver.layout.buffers + 24 ≤ S.places sink.old }
     ensures drains { NetworkDrains (record { hosts = hosts.old; stations = stations.old }) host result
         (S.frames sink.old) (S.frames sink.new) (record { hosts = hosts.new; stations = stations.new }) }
     ensures left { length (S.frames sink.old) + S.places sink.old ≤ length (S.frames sink.new) + S.places sink.new }

@@ -8,7 +8,7 @@ use Rattle.bring_up.proofs.descriptors_clearing.clear_descriptors.Goals as goal
 pub loop-slot-init : goal.loop-slot-init
 loop-slot-init g c = record {
   keeps = keeps-here g.B.Bus g.met.B.Bus.composes.lent_stays_here c.args.bus.now;
-  ran = λ d is first below. ran_by-stays g.B.Bus.world g.B.Bus.happened g.met.B.Bus.composes.stays c.args.bus.now d is.ready;
+  ran = λ d is first below. ran_by-stays g.B.Bus g.met.B.Bus.composes.stays c.args.bus.now d is.ready;
 }
 
 pub loop-slot-preserved : goal.loop-slot-preserved
@@ -26,7 +26,7 @@ loop-slot-preserved g c =
           (record { honest = so_far.keeps.honest is.honest; ready = before.goes.flows.ready }) (omega (arith, below))
           (omega (arith, address, first)) in
           subst (λ (n : ℕ). Ran g.B.Bus false (only (clears_from c.args.first n)) (at start d) (at later d)) (sym (add-one here.slot))
-          (ran_by-join g.B.Bus.world g.B.Bus.happened g.met.B.Bus.composes.joins (clears_from c.args.first here.slot)
+          (ran_by-join g.B.Bus g.met.B.Bus.composes.joins (clears_from c.args.first here.slot)
           (clears (c.args.first + 16 * here.slot) ∷ []) start here.bus later d d d [] [] [] [] before
           (subst (λ (place : ℕ). Ran g.B.Bus false (only (clears place ∷ [])) (at here.bus d) (at later d)) address one));
     }

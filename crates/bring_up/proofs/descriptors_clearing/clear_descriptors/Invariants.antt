@@ -8,6 +8,6 @@ use Rattle.bring_up.proofs.descriptors_clearing.clear_descriptors.Given as goal
 abbrev pub invariant-loop-slot : goal.invariant-loop-slot
 invariant-loop-slot g l = record {
   keeps : Keeps g.B.Bus l.initial.bus l.bus;
-  ran : (d : DriverState) → IsReady g.B.Bus false (at l.initial.bus d) → l.first ≡ transmit_slot d.counts 0 → l.slot ≤ d.counts.tx
+  ran : (d : DriverState) → IsReady g.B.Bus false (at l.initial.bus d) → l.first ≡ transmit_slot d.layout 0 → l.slot ≤ d.layout.tx
       → Ran g.B.Bus false (only (clears_from l.first l.slot)) (at l.initial.bus d) (at l.bus d);
 }

@@ -15,9 +15,9 @@ returns-clause-ran g c d is counts oldest none new =
     let b2 = c.set_transmit_ring.new.bus in
     let layout = c.args.layout in
     let h1 = c.clear_descriptors.ensures.keeps.honest is.honest in
-    let allowed : IsAllowed d.counts = subst IsAllowed (sym counts) c.requires.allowed in
+    let allowed : IsAllowed d.layout = subst IsAllowed (sym counts) c.requires.allowed in
     let start : c.transmit_ring-ring.result ≡ 16 * layout.rx = c.transmit_ring-ring.ensures in
-    let most : c.tx.result ≤ d.counts.tx = omega (arith, c.tx.ensures.count, ap (λ (s : Counts). s.tx) counts) in
+    let most : c.tx.result ≤ d.layout.tx = omega (arith, c.tx.ensures.count, ap (λ (s : Counts). s.tx) counts) in
     let Clears : ℕ → ℕ → Type 0 = λ first count. Ran g.B.Bus false (only (clears_from first count)) (at b0 d) (at b1 d) in
     let cleared : Clears (16 * layout.rx) layout.tx =
     subst (λ (first : ℕ). Clears first layout.tx) start

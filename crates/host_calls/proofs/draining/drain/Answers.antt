@@ -18,7 +18,7 @@ pub step-requires-clause-room : goal.step-requires-clause-room
 step-requires-clause-room g c =
     let into = c.loop-steps.invariant.into in
     let most = held-at_most c.args.host.now (world_at c.args.stations.now c.args.place) c.requires.stands c.line_at-line.ensures.adapter in
-    omega (arith, into.room, into.on.held, most, c.requires.room)
+    omega (arith, into.room, into.on.counts.held, most, c.requires.room)
 
 pub overflow_add-steps : goal.overflow_add-steps
 overflow_add-steps g c =
@@ -30,7 +30,7 @@ overflow_add-steps g c =
     (connected c.loop-steps.host c.loop-steps.stations)
     (connected c.step.new.host c.step.new.stations)) c.loop-steps-test.true c.step.ensures.steps in
     let fit = steps-fit c.args.host.now (world_at c.args.stations.now c.args.place) c.requires.stands c.line_at-line.ensures.adapter in
-    omega (arith, into.on.most, step.on.most, fit)
+    omega (arith, into.on.counts.most, step.on.counts.most, fit)
 
 pub loop-steps-preserved : goal.loop-steps-preserved
 loop-steps-preserved g c =

@@ -2,12 +2,12 @@ use Rattle.std.proofs.Common.{Bool, ◌&&◌, ◌≡◌, ◌<◌, ◌-◌, ◌+�
 use Rattle.bus.specs.declared.event.Access.TheVariants.{Reads}
 use Rattle.driver_law.proofs.RegisterAccesses.{ran_by-misses}
 use Rattle.driver_law.specs.DriverState.{DriverState, holding}
-use Rattle.driver_law.specs.Stretches.{RanBy}
 use Rattle.driver_law.specs.RegisterReadings.{adds_exactly, with_missed}
 use Rattle.driver.specs.InsideDriver.{state_of}
 use Rattle.driver.proofs.driver.Driver.count_missed.Given.{Over}
 use Rattle.driver.proofs.driver.Driver.count_missed.Goals as goal
 use Rattle.driver.proofs.driver.Driver.count_missed.Goals.{then-self, else-self}
+use Rattle.driver_law.specs.Calls.{Ran, at, only}
 
 is_exact : (g : Over) (c : goal.After-self-2-1 g)
     → c.if-self.self ≡ (c.self.inside.exact && adds_exactly c.self.inside.missed c.read-value.result)
@@ -38,7 +38,7 @@ returns-clause-ran g c = rw (← c.self.view_is) (λ up held is.
     let d = holding held (state_of c.self.inside) in
     let new = c.read-value.new.self in
     let below : c.self.inside.missed < 2 ^ 64 = omega arith in
-    subst (λ (s : DriverState). RanBy up g.B.Bus.world g.B.Bus.happened (Reads 0x4010 c.read-value.result ∷ []) c.args.bus.now new d
-    (holding held s) [] []) (sym (left g c))
-    (ran_by-misses g.B.Bus.world g.B.Bus.happened g.B.Bus.lively c.args.bus.now new d c.read-value.result below
+    subst (λ (s : DriverState). Ran g.B.Bus up (only (Reads 0x4010 c.read-value.result ∷ [])) (at c.args.bus.now d)
+    (at new (holding held s))) (sym (left g c))
+    (ran_by-misses g.B.Bus c.args.bus.now new d c.read-value.result below
     (c.read-value.ensures.acts is.honest) is.ready))

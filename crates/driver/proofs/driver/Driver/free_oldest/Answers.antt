@@ -1,4 +1,4 @@
--- The oldest transmit slot is freed where the load shows that it is done.
+-- The oldest transmit slot is freed if the load shows that it is done.
 use Rattle.std.proofs.Common.{◌≡◌, ◌+◌, ◌-◌, ◌%◌, ℕ, sym, ap, subst, ◌∙◌, arith}
 use Rattle.driver_law.proofs.OfferedAndFreedSlots.{none_is_written_back}
 use Rattle.std.proofs.Common.{inl, min, true}
@@ -15,7 +15,7 @@ returns-then-self-eq0-clause-looks g c held is =
     let d = holding held c.args.self.now in
     let none : d.sending ≡ 0 = sym (ap (λ (s : DriverState). s.sending) c.self.view_is) ∙ c.if-self-eq0.true in
     record {
-      ran = frees-none g.B.Bus.world g.B.Bus.happened g.met.B.Bus.composes.stays c.args.bus.now d none is.ready;
+      ran = frees-none g.B.Bus g.met.B.Bus.composes.stays c.args.bus.now d none is.ready;
       none = none_is_written_back d (g.B.Bus.world c.args.bus.now) is.ready (inl none);
     }
 
@@ -23,10 +23,10 @@ pub returns-then-not-shows_done-clause-looks : goal.returns-then-not-shows_done-
 returns-then-not-shows_done-clause-looks g c held is =
     let d = holding held c.args.self.now in
     let same = ap (λ (s : DriverState). s.sending) c.self.view_is in
-    let at : c.descriptor_address.result ≡ transmit_slot d.counts d.oldest_transmit = c.descriptor_address.ensures.start
-    ∙ ap (λ (s : DriverState). transmit_slot s.counts s.oldest_transmit) c.self.view_is in
-    let waits = waits-oldest g.B.Bus.world g.B.Bus.happened g.B.Bus.lively c.args.bus.now c.load.new.self d c.descriptor_address.result
-    c.load.new.into at (omega (arith, same, c.if-self-eq0.false)) (sym c.shows_done.ensures
+    let slot : c.descriptor_address.result ≡ transmit_slot d.layout d.oldest_transmit = c.descriptor_address.ensures.start
+    ∙ ap (λ (s : DriverState). transmit_slot s.layout s.oldest_transmit) c.self.view_is in
+    let waits = waits-oldest g.B.Bus c.args.bus.now c.load.new.self d c.descriptor_address.result
+    c.load.new.into slot (omega (arith, same, c.if-self-eq0.false)) (sym c.shows_done.ensures
     ∙ c.if-not-shows_done.true) (c.load.ensures.acts is.honest) is.ready in
     record { ran = waits.ran; none = waits.behind }
 
@@ -46,9 +46,9 @@ returns-clause-looks g c held is =
     let d = holding held c.args.self.now in
     let s = c.self.inside in
     let same = ap (λ (state : DriverState). state.sending) c.self.view_is in
-    let slot : c.descriptor_address.result ≡ transmit_slot d.counts d.oldest_transmit = c.descriptor_address.ensures.start
-    ∙ ap (λ (state : DriverState). transmit_slot state.counts state.oldest_transmit) c.self.view_is in
-    let ran = frees-oldest g.B.Bus.world g.B.Bus.happened g.B.Bus.lively c.args.bus.now c.load.new.self d c.descriptor_address.result
+    let slot : c.descriptor_address.result ≡ transmit_slot d.layout d.oldest_transmit = c.descriptor_address.ensures.start
+    ∙ ap (λ (state : DriverState). transmit_slot state.layout state.oldest_transmit) c.self.view_is in
+    let ran = frees-oldest g.B.Bus c.args.bus.now c.load.new.self d c.descriptor_address.result
     c.load.new.into slot (omega (arith, same, c.if-self-eq0.false)) (sym c.shows_done.ensures
     ∙ c.if-not-shows_done.false) (c.load.ensures.acts is.honest) is.ready in
     let freed = sym (ap (λ (state : DriverState). with_freed (holding held state)) c.self.view_is)

@@ -1,7 +1,8 @@
-use Rattle.std.proofs.Common.{◌++◌, arith, ap}
+use Rattle.std.proofs.Common.{arith, ap}
 use Rattle.dma_memory.specs.Owners.{copies}
 use Rattle.dma_memory.specs.OwnersLaws.{copies-cons}
 use Rattle.driver_law.proofs.Owners.{owners-count}
+use Rattle.driver_law.specs.Calls.{at}
 use Rattle.driver_law.specs.DriverState.{DriverState, owners}
 use Rattle.driver.proofs.RefillSteps.{gives}
 use Rattle.driver.proofs.driver.Driver.give.Goals as goal
@@ -23,8 +24,6 @@ returns-clause-owners g c k =
     )
 
 pub returns-clause-gives : goal.returns-clause-gives
-returns-clause-gives g c up first later one number is =
-    gives g.B.Bus g.met.B.Bus.composes.stays g.met.B.Bus.composes.joins c.args.bus.now c.refill.new.bus c.args.self.now
-    c.put_back.new.self c.refill.new.self c.args.buffer
-    c.put_back.ensures.others c.put_back.ensures.back up first later one number is.ready
-    (λ ready. c.refill.ensures.refills up (first ++ later) (record { honest = is.honest; ready = ready }))
+returns-clause-gives g c =
+    gives g.B.Bus g.met.B.Bus.composes.stays g.met.B.Bus.composes.joins c.args.bus.now c.args.self.now c.put_back.new.self
+    (at c.refill.new.bus c.refill.new.self) c.args.buffer c.put_back.ensures.others c.put_back.ensures.back c.refill.ensures.refills

@@ -5,10 +5,10 @@ use Rattle.rx_engine.specs.Addresses.{ether_type}
 use Rattle.bus.proofs.Lists.{all-none}
 use Rattle.bus.specs.declared.event.Access.TheVariants.{Loads}
 use Rattle.driver_law.specs.DriverState.{DriverState, buffer_at, holding}
-use Rattle.driver_law.specs.Stretches.{RanBy}
 use Rattle.driver.specs.TakenFrames.{IsFrameSize, Shows, received_of}
 use Rattle.driver.specs.declared.receiver.Received.{Received}
 use Rattle.driver.proofs.driver.Driver.hand_on.Goals as goal
+use Rattle.driver_law.specs.Calls.{Ran, at, only}
 
 pub returns-then-not-finished-clause-hands : goal.returns-then-not-finished-clause-hands
 returns-then-not-finished-clause-hands g c =
@@ -35,24 +35,23 @@ returns-then-not-finished-clause-hands g c =
     }
 
 pub returns-clause-over : goal.returns-clause-over
-returns-clause-over g c up held one honest ready number long whole =
+returns-clause-over g c up held one whole number long is =
     let handed = held ++ one ∷ [] in
     let d = holding handed c.args.self.now in
     let new = c.ether_type-ether_type.new.bus in
     let legal = c.requires.size whole in
     let named : one.number ≡ c.number.result = number ∙ sym c.number.ensures in
-    let type = c.ether_type-ether_type.ensures.shows up held one honest ready named (omega (arith, legal.least, long)) in
+    let type = c.ether_type-ether_type.ensures.shows up held one is named (omega (arith, legal.least, long)) in
     let shape : ℕ → ℕ → ℕ → Received = λ buffer size type. record { buffer = buffer; length = size; ether_type = type } in
-    let is : received_of one ≡ shape c.args.finished.buffer c.args.finished.length c.ether_type-ether_type.result =
+    let shown : received_of one ≡ shape c.args.finished.buffer c.args.finished.length c.ether_type-ether_type.result =
     ap (λ (buffer : ℕ). shape buffer (length one.frame) (ether_type one.frame)) number
     ∙ ap (λ (size : ℕ). shape c.args.finished.buffer size (ether_type one.frame)) long
     ∙ ap (shape c.args.finished.buffer c.args.finished.length) (sym type) in
     record {
       shows = subst (λ (received : Received). Shows g.R.Receiver.took c.args.receiver.now c.show.new.receiver received d.pool
-          c.show.new.self.pool) (sym is) c.show.ensures.shows;
+          c.show.new.self.pool) (sym shown) c.show.ensures.shows;
       bad = ap (λ (s : DriverState). s.bad) c.show.ensures.others;
       ran =
-          subst (λ (buffer : ℕ). RanBy up g.B.Bus.world g.B.Bus.happened
-          (Loads (buffer_at d.counts buffer + 12) 2 ∷ []) c.args.bus.now new d d [] []) (sym named)
-          (c.ether_type-ether_type.ensures.ran up handed honest ready);
+          subst (λ (buffer : ℕ). Ran g.B.Bus up (only (Loads (buffer_at d.layout buffer + 12) 2 ∷ [])) (at c.args.bus.now d) (at new d))
+          (sym named) (c.ether_type-ether_type.ensures.ran up handed is);
     }

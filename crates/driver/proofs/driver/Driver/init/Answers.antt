@@ -23,14 +23,14 @@ pub returns-in_err-layout-clause-refuses : goal.returns-in_err-layout-clause-ref
 returns-in_err-layout-clause-refuses g c honest =
     let told = err_from_is_err_and c.from_residual.result c.from_residual.ensures.1 in
     let is : c.from_residual.result ≡ Err errors.Config = told.1 ∙ ap Err (told.2 ∙ c.in_err-layout.ensures.err) in
-    subst (λ result. IfErr result (Refuses g.B.Bus.world g.B.Bus.happened g.B.Bus.lively c.args.bus.now c.args.bus.now)) (sym is)
+    subst (λ result. IfErr result (Refuses g.B.Bus c.args.bus.now c.args.bus.now)) (sym is)
     (record { past = nothing; told = g.met.B.Bus.composes.stays c.args.bus.now; why = refl; why_lively = λ lively. tt })
 
 pub returns-in_err-driver-clause-refuses : goal.returns-in_err-driver-clause-refuses
 returns-in_err-driver-clause-refuses g c honest =
     let told = err_from_is_err_and c.from_residual-in_err-driver.result c.from_residual-in_err-driver.ensures.1 in
     let is : c.from_residual-in_err-driver.result ≡ Err Memory = told.1 ∙ ap Err told.2 in
-    subst (λ result. IfErr result (Refuses g.B.Bus.world g.B.Bus.happened g.B.Bus.lively c.args.bus.now c.args.bus.now)) (sym is)
+    subst (λ result. IfErr result (Refuses g.B.Bus c.args.bus.now c.args.bus.now)) (sym is)
     (record { past = nothing; told = g.met.B.Bus.composes.stays c.args.bus.now; why = refl; why_lively = λ lively. tt })
 
 -- The driver that is made.
@@ -55,13 +55,13 @@ returns-clause-fresh g c =
     let counts = counts_of c.args.config.now in
     let d = c.offer_first.new.self in
     record {
-      counts = ap (λ (s : DriverState). s.counts) o.others;
+      layout = ap (λ (s : DriverState). s.layout) o.others;
       new = o.others ∙ ap (λ (numbers : List ℕ). offering counts [] numbers d.pool) (sym (ap (λ (s : DriverState). s.buffers) o.others));
-      one_owner = subst (λ (d : DriverState). HasOneOwner d.counts.buffers (owners d)) (sym o.others)
+      one_owner = subst (λ (d : DriverState). HasOneOwner d.layout.buffers (owners d)) (sym o.others)
           (owners-offered counts.buffers counts c.in_ok-driver.driver.pool o.numbers d.pool (owner g c) o.pool);
       none_out = ap (λ (s : DriverState). s.handed_out) o.others;
       refilled = let size = ap (λ (s : DriverState). length s.buffers) o.others in
-          let rx = ap (λ (s : DriverState). s.counts.rx) o.others in
+          let rx = ap (λ (s : DriverState). s.layout.rx) o.others in
           inr (omega (arith, o.count, size, rx));
     }
 
@@ -89,15 +89,15 @@ returns-clause-initialises g c honest =
     (arith, had.room, g.met.B.Bus.sized b1 h1, c.in_ok-find_ring.ensures.keeps.extent) in
     let begins = drivers_begin_at_rest counts pool (world b1) had.counts (owner g c) lies finds.found.ring in
     let first = o.ran (record { honest = h1; ready = begins.ready }) in
-    let still = stays-quiet counts o.numbers (new_driver counts pool) d (world b1) (world b2) first.past first.only first.goes first.set
-    first.off begins.quiet finds.found.ring.transmits in
+    let still = stays-quiet counts o.numbers (new_driver counts pool) d (world b1) (world b2) first.past first.only first.goes
+    first.follows.set first.follows.off begins.quiet finds.found.ring.transmits in
     let tagged : c.is_some.result ≡ names_vlans config.vlans = c.is_some.ensures ∙ vlans-named config.vlans in
     let lets : LetsFramesIn g.B.Bus (receive_writes config.promiscuous (names_vlans config.vlans)) d b2 b3 =
     subst (λ (by_vlan : Bool). LetsFramesIn g.B.Bus (receive_writes config.promiscuous by_vlan) d b2 b3) tagged
     (c.enable_receiver.ensures.ran d (record { honest = h2; ready = first.goes.flows.ready }) still.0.none_held still.0.off) in
     let new = new-still config.promiscuous (names_vlans config.vlans) d (world b2) (world b3) lets.ran.past lets.ran.only
-    lets.ran.goes.flows.ready lets.ran.set still.1.0 in
-    let same : d.counts ≡ counts = ap (λ (s : DriverState). s.counts) o.others in
+    lets.ran.goes.flows.ready lets.ran.follows.set still.1.0 in
+    let same : d.layout ≡ counts = ap (λ (s : DriverState). s.layout) o.others in
     let sends : Ran g.B.Bus true (only (transmit_accesses counts)) (at b3 d) (at b4 d) =
     subst (λ (layout : Counts). Ran g.B.Bus true (only (transmit_accesses layout)) (at b3 d) (at b4 d)) c.in_ok-layout.ensures.counts
     (c.set_up_transmitter.ensures.ran d (record { honest = h3; ready = lets.ran.goes.flows.ready })

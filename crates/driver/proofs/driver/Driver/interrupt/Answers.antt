@@ -11,7 +11,7 @@ use Rattle.driver.proofs.driver.Driver.interrupt.Goals as goal
 
 pub returns-then-not-is_mine-clause-handles : goal.returns-then-not-is_mine-clause-handles
 returns-then-not-is_mine-clause-handles g c up held is =
-    let reads = reads-causes g.B.Bus.world g.B.Bus.happened g.B.Bus.lively c.args.bus.now c.read.new.self
+    let reads = reads-causes g.B.Bus c.args.bus.now c.read.new.self
     (holding held c.args.self.now) c.read.result (c.read.ensures.acts is.honest) is.ready in
     let none : ¬ Meet c.read.result handled_causes = λ meet.
     let is : c.is_mine.result ≡ true = c.is_mine.ensures.1 meet in
@@ -68,7 +68,7 @@ returns-clause-serves g c =
 pub returns-clause-handles : goal.returns-clause-handles
 returns-clause-handles g c up held is =
     let d1 = c.args.self.now in
-    let reads = reads-causes g.B.Bus.world g.B.Bus.happened g.B.Bus.lively c.args.bus.now c.read.new.self (holding held d1) c.read.result
+    let reads = reads-causes g.B.Bus c.args.bus.now c.read.new.self (holding held d1) c.read.result
     (c.read.ensures.acts is.honest) is.ready in
     let asking = c.read.ensures.keeps.honest is.honest in
     let counts = c.count_missed.ensures.ran up held (record { honest = asking; ready = reads.flows.ready }) in

@@ -5,11 +5,11 @@ use Rattle.driver_law.proofs.Accesses.{ran_by-stays}
 use Rattle.driver_law.proofs.ReceiveAccesses.{ran_by-offers}
 use Rattle.driver_law.specs.Accesses.{tail_write}
 use Rattle.driver_law.specs.DriverState.{DriverState, holding, next_receive}
-use Rattle.driver_law.specs.Stretches.{RanBy}
 use Rattle.driver.specs.InsideDriver.{state_of}
 use Rattle.driver.proofs.BufferQueue.{no_second-inside, none-staged, owners-offered, offered-inside, queue-split, tail_write-none}
 use Rattle.driver.proofs.BufferQueue.{tail_write-some}
 use Rattle.driver.proofs.driver.Driver.offer.Goals as goal
+use Rattle.driver_law.specs.Calls.{Ran, at, only}
 
 pub returns-then-self-eq0-clause-ran : goal.returns-then-self-eq0-clause-ran
 returns-then-self-eq0-clause-ran g c up held is =
@@ -17,9 +17,9 @@ returns-then-self-eq0-clause-ran g c up held is =
     let bus = c.args.bus.now in
     let none : length d.staged ≡ 0 = ap (λ (s : DriverState). length s.staged) (sym c.self.view_is)
     ∙ (queue-split c.self.inside c.self.invariant.receives).staged ∙ c.if-self-eq0.true in
-    subst (λ (list : List Access). RanBy up g.B.Bus.world g.B.Bus.happened list bus bus (holding held d) (holding held d) [] [])
+    subst (λ (list : List Access). Ran g.B.Bus up (only list) (at bus (holding held d)) (at bus (holding held d)))
     (sym (tail_write-none (next_receive d) d.staged none))
-    (ran_by-stays g.B.Bus.world g.B.Bus.happened g.met.B.Bus.composes.stays bus (holding held d) is.ready)
+    (ran_by-stays g.B.Bus g.met.B.Bus.composes.stays bus (holding held d) is.ready)
 
 pub returns-clause-ran : goal.returns-clause-ran
 returns-clause-ran g c =
@@ -28,15 +28,15 @@ returns-clause-ran g c =
     let new = c.write.new.self in
     let receives = c.self.invariant.receives in
     let split = queue-split d receives in
-    let at = next_receive (state_of d) in
+    let last = next_receive (state_of d) in
     rw (← c.self.view_is) (λ up held is.
-    let some : tail_write at (state_of d).staged ≡ Writes 0x2818 at
-    ∷ [] = tail_write-some at (state_of d).staged (λ none. c.if-self-eq0.false (sym split.staged ∙ none)) in
-    subst (λ (list : List Access). RanBy up g.B.Bus.world g.B.Bus.happened list old new (holding held (state_of d))
-    (holding held (state_of (record d { staged = 0 }))) [] []) (sym some)
-    (subst (λ (s : DriverState). RanBy up g.B.Bus.world g.B.Bus.happened (Writes 0x2818 at ∷ []) old new (holding held (state_of d))
-    (holding held s) [] []) (sym (offered-inside d receives))
-    (ran_by-offers g.B.Bus.world g.B.Bus.happened g.B.Bus.lively old new (holding held (state_of d)) c.from.result (c.from.ensures
+    let some : tail_write last (state_of d).staged ≡ Writes 0x2818 last
+    ∷ [] = tail_write-some last (state_of d).staged (λ none. c.if-self-eq0.false (sym split.staged ∙ none)) in
+    subst (λ (list : List Access). Ran g.B.Bus up (only list) (at old (holding held (state_of d)))
+    (at new (holding held (state_of (record d { staged = 0 }))))) (sym some)
+    (subst (λ (s : DriverState). Ran g.B.Bus up (only (Writes 0x2818 last ∷ [])) (at old (holding held (state_of d)))
+    (at new (holding held s))) (sym (offered-inside d receives))
+    (ran_by-offers g.B.Bus old new (holding held (state_of d)) c.from.result (c.from.ensures
     ∙ split.next) (c.write.ensures.acts is.honest) is.ready)))
 
 pub returns-then-self-eq0-clause-one_owner : goal.returns-then-self-eq0-clause-one_owner

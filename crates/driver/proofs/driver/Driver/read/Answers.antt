@@ -5,25 +5,25 @@ use Rattle.bus.specs.declared.event.Access.{Access}
 use Rattle.bus.specs.declared.event.Access.TheVariants.{Loads}
 use Rattle.driver_law.proofs.ReceiveAccesses.{frame-read, ran_by-reads}
 use Rattle.driver_law.specs.DriverState.{buffer_at, holding}
-use Rattle.driver_law.specs.Stretches.{RanBy}
 use Rattle.driver.proofs.driver.Driver.read.Given.{Over}
 use Rattle.driver.proofs.driver.Driver.read.Goals as goal
+use Rattle.driver_law.specs.Calls.{Ran, at, only}
 
 -- How much is loaded, and from where.
 part : (g : Over) (c : goal.After-load g) → length (take c.from-size.result c.args.into.now) ≡ c.from-size.result
 part g c = let size : length c.load.new.into ≡ c.from-size.result = omega (arith, c.load.ensures.length) in sym c.load.ensures.length ∙ size
 
-at : (g : Over) (c : goal.After-load g) → c.receive_buffer-buffer.result ≡ buffer_at c.args.self.now.counts c.args.received.now.buffer
-at g c = rw (← c.self.view_is) (c.receive_buffer-buffer.ensures.start ∙ ap (buffer_at c.self.inside.layout) c.number.ensures)
+place_is : (g : Over) (c : goal.After-load g) → c.receive_buffer-buffer.result ≡ buffer_at c.args.self.now.layout c.args.received.now.buffer
+place_is g c = rw (← c.self.view_is) (c.receive_buffer-buffer.ensures.start ∙ ap (buffer_at c.self.inside.layout) c.number.ensures)
 
 pub returns-clause-ran : goal.returns-clause-ran
 returns-clause-ran g c up held is =
     let d = holding held c.args.self.now in
     let access : Loads c.receive_buffer-buffer.result (length (take c.from-size.result c.args.into.now))
-    ≡ Loads (buffer_at c.args.self.now.counts c.args.received.now.buffer) c.from-size.result =
-    ap (Loads c.receive_buffer-buffer.result) (part g c) ∙ ap (λ (place : ℕ). Loads place c.from-size.result) (at g c) in
-    subst (λ (one : Access). RanBy up g.B.Bus.world g.B.Bus.happened (one ∷ []) c.args.bus.now c.load.new.self d d [] []) access
-    (ran_by-reads g.B.Bus.world g.B.Bus.happened g.B.Bus.lively c.args.bus.now c.load.new.self d c.receive_buffer-buffer.result
+    ≡ Loads (buffer_at c.args.self.now.layout c.args.received.now.buffer) c.from-size.result =
+    ap (Loads c.receive_buffer-buffer.result) (part g c) ∙ ap (λ (place : ℕ). Loads place c.from-size.result) (place_is g c) in
+    subst (λ (one : Access). Ran g.B.Bus up (only (one ∷ [])) (at c.args.bus.now d) (at c.load.new.self d)) access
+    (ran_by-reads g.B.Bus c.args.bus.now c.load.new.self d c.receive_buffer-buffer.result
     (length (take c.from-size.result c.args.into.now)) c.load.new.into
     (c.load.ensures.acts is.honest) is.ready)
 
@@ -32,13 +32,13 @@ returns-clause-frame g c up first later one is number long =
     let d = holding (first ++ one ∷ later) c.args.self.now in
     let n = length (take c.from-size.result c.args.into.now) in
     let whole : n ≡ length one.frame = omega (arith, part g c, c.from-size.ensures, long) in
-    let place : c.receive_buffer-buffer.result ≡ buffer_at c.args.self.now.counts one.number + 0 = omega (
+    let place : c.receive_buffer-buffer.result ≡ buffer_at c.args.self.now.layout one.number + 0 = omega (
       arith,
-      at g c
-          ∙ ap (buffer_at c.args.self.now.counts) (sym number),
+      place_is g c
+          ∙ ap (buffer_at c.args.self.now.layout) (sym number),
     ) in
     let bytes : c.load.new.into ≡ take n (drop 0 one.frame) =
-    frame-read g.B.Bus.world g.B.Bus.happened g.B.Bus.lively c.args.bus.now c.load.new.self d first later one c.receive_buffer-buffer.result
+    frame-read g.B.Bus c.args.bus.now c.load.new.self d first later one c.receive_buffer-buffer.result
     0 n c.load.new.into (c.load.ensures.acts is.honest) is.ready refl
     place (omega (arith, whole)) in
     take_at c.load.new.into _ c.from-size.result (c.load.ensures.length ∙ part g c) ∙ bytes

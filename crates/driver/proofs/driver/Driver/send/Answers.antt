@@ -1,9 +1,9 @@
--- The slot is the one behind the outstanding ones, as the driver keeps it.
+-- The slot is the one after the outstanding ones, as the driver keeps it.
 use Rattle.std.proofs.Common.{◌≡◌, ◌+◌, ◌%◌, ℕ, length, true, sym, ap, subst, ◌∙◌, arith}
 use Rattle.driver_law.proofs.TransmitRuns.{run-sends}
 use Rattle.driver_law.specs.DriverState.{DriverState, holding, transmit_slot, transmit_tail}
 use Rattle.driver_law.specs.Calls.{Ran, at}
-use Rattle.driver_law.specs.TransmitSteps.{transmit_buffer, whole_descriptor}
+use Rattle.driver_law.specs.Accesses.{transmit_buffer, whole_descriptor}
 use Rattle.driver.proofs.SentFrames.{next-slot, sending-more}
 use Rattle.driver.specs.SendSteps.{sent_now}
 use Rattle.driver.specs.InsideDriver.{IsSending}
@@ -20,7 +20,7 @@ descriptor_address-requires g c = let s =
 pub invariant_of-self : goal.invariant_of-self
 invariant_of-self g c =
     let s = c.self.inside in
-    let count = ap (λ (d : DriverState). d.counts.tx) c.self.view_is in
+    let count = ap (λ (d : DriverState). d.layout.tx) c.self.view_is in
     let sending = ap (λ (d : DriverState). d.sending) c.self.view_is in
     record {
       receives = c.self.invariant.receives;
@@ -39,19 +39,19 @@ returns-clause-sends g c held is =
     let next = c.self.invariant.sends.next_slot in
     let first = c.store.ensures.keeps.honest is.honest in
     let second = c.store-2.ensures.keeps.honest first in
-    let buffer : c.transmit_buffer-buffer.result ≡ transmit_buffer d.counts (transmit_tail d) =
+    let buffer : c.transmit_buffer-buffer.result ≡ transmit_buffer d.layout (transmit_tail d) =
     c.transmit_buffer-buffer.ensures.start ∙ ap (transmit_buffer s.layout) next
-    ∙ ap (λ (state : DriverState). transmit_buffer state.counts (transmit_tail state)) c.self.view_is in
-    let slot : c.descriptor_address.result ≡ transmit_slot d.counts (transmit_tail d) =
+    ∙ ap (λ (state : DriverState). transmit_buffer state.layout (transmit_tail state)) c.self.view_is in
+    let slot : c.descriptor_address.result ≡ transmit_slot d.layout (transmit_tail d) =
     c.descriptor_address.ensures.start ∙ ap (transmit_slot s.layout) next
-    ∙ ap (λ (state : DriverState). transmit_slot state.counts (transmit_tail state)) c.self.view_is in
-    let bytes : c.whole_packet-descriptor.result ≡ whole_descriptor (transmit_buffer d.counts (transmit_tail d)) (length frame) =
+    ∙ ap (λ (state : DriverState). transmit_slot state.layout (transmit_tail state)) c.self.view_is in
+    let bytes : c.whole_packet-descriptor.result ≡ whole_descriptor (transmit_buffer d.layout (transmit_tail d)) (length frame) =
     c.whole_packet-descriptor.ensures ∙ ap (λ (address : ℕ). whole_descriptor address (length frame)) buffer in
-    let tail : c.from.result ≡ (transmit_tail d + 1) % d.counts.tx =
+    let tail : c.from.result ≡ (transmit_tail d + 1) % d.layout.tx =
     c.from.ensures ∙ ap (λ (n : ℕ). (s.next_transmit + 1) % n) c.tx.ensures.count ∙ ap (λ (place : ℕ). (place + 1) % s.layout.tx) next
-    ∙ ap (λ (state : DriverState). (transmit_tail state + 1) % state.counts.tx) c.self.view_is in
+    ∙ ap (λ (state : DriverState). (transmit_tail state + 1) % state.layout.tx) c.self.view_is in
     let ran =
-    run-sends g.B.Bus.world g.B.Bus.happened g.B.Bus.lively g.met.B.Bus.composes.joins c.args.bus.now c.store.new.self c.store-2.new.self
+    run-sends g.B.Bus g.met.B.Bus.composes.joins c.args.bus.now c.store.new.self c.store-2.new.self
     c.write.new.self d frame c.requires.room c.requires.least c.requires.most
     c.transmit_buffer-buffer.result c.descriptor_address.result c.from.result c.whole_packet-descriptor.result buffer slot bytes tail
     (c.store.ensures.acts is.honest) (c.store-2.ensures.acts first) (c.write.ensures.acts second) is.ready in

@@ -1,5 +1,6 @@
-use Rattle.std.proofs.Common.{◌∷◌, []}
+use Rattle.std.proofs.Common.{[]}
 use Rattle.bus.proofs.Keeping.{keeps-here, keeps-on}
+use Rattle.driver_law.specs.Calls.{at}
 use Rattle.driver.proofs.RefillSteps.{stages-join, stages-none}
 use Rattle.driver.proofs.driver.Driver.stage_all.Goals as goal
 
@@ -8,8 +9,7 @@ loop-init g c = record {
   keeps = keeps-here g.B.Bus g.met.B.Bus.composes.lent_stays_here c.args.bus.now;
   stages = record {
     numbers = [];
-    stages = stages-none g.B.Bus.honest g.B.Bus.world g.B.Bus.happened g.met.B.Bus.composes.stays c.args.bus.now
-        c.args.self.now;
+    stages = stages-none g.B.Bus g.met.B.Bus.composes.stays (at c.args.bus.now c.args.self.now);
   };
 }
 
@@ -22,10 +22,7 @@ loop-preserved g c =
       keeps = keeps-on g.B.Bus g.met.B.Bus.composes.lent_stays_on _ _ _ l.keeps s.keeps;
       stages = record {
         numbers = _;
-        stages =
-            stages-join g.B.Bus.honest g.B.Bus.world g.B.Bus.happened g.met.B.Bus.composes.joins c.args.bus.now c.loop.bus c.stage.new.bus
-            l.keeps.honest c.args.self.now c.loop.self c.stage.new.self
-            l.stages.numbers (one.0 ∷ []) l.stages.stages one.1;
+        stages = stages-join g.B.Bus g.met.B.Bus.composes.joins _ _ _ _ _ l.keeps l.stages.stages one.1;
       };
     }
 

@@ -22,8 +22,7 @@ pub loop-finished-preserved : goal.loop-finished-preserved
 loop-finished-preserved g c =
     let l = c.loop-finished.invariant in
     let t = c.take_next.ensures in
-    let s = c.in-Some.ensures.leaves in
-    let looks = c.in-Some.ensures.looks in
+    let s = c.in-Some.ensures in
     let h = c.hand_on.ensures in
     record {
       keeps = keeps-on g.B.Bus g.met.B.Bus.composes.lent_stays_on _ _ _ l.keeps
@@ -31,13 +30,9 @@ loop-finished-preserved g c =
       walks = (
         _,
         walks-next g.B.Bus g.R.Receiver g.met.B.Bus.composes.stays g.met.B.Bus.composes.joins
-            g.met.R.Receiver.joins c.args.bus.now c.loop-finished.bus c.take_next.new.bus c.hand_on.new.bus l.keeps.honest
+            g.met.R.Receiver.joins c.args.bus.now c.loop-finished.bus c.take_next.new.bus c.hand_on.new.bus
             c.args.receiver.now c.loop-finished.receiver c.hand_on.new.receiver c.args.self.now c.loop-finished.self c.take_next.new.self
-            c.hand_on.new.self l.walks.0 c.in-Some.finished.buffer c.in-Some.finished.length l.walks.1
-            s.first s.behind (λ up held honest ready. (looks up held (record { honest = honest; ready = ready })).takes)
-            c.hand_on.ensures.others c.hand_on.ensures.hands
-            (λ up held before one honest ready standing number long. h.over up held one (t.keeps.honest honest) standing number long
-            (looks up before (record { honest = honest; ready = ready })).whole),
+            c.hand_on.new.self l.walks.0 c.in-Some.finished l.keeps t.keeps l.walks.1 s.leaves s.looks h.others h.hands h.over,
       );
     }
 

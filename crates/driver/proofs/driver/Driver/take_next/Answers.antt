@@ -33,7 +33,7 @@ returns-then-len-from-clause-looks g c = rw (← c.self.view_is) (λ up held is.
     record {
       none = finished-empty d (g.B.Bus.world bus) none is.ready;
       ran = subst (λ (list : List ℕ). Ran g.B.Bus up (only (last_load d.oldest_receive list)) (at bus d) (at bus d)) (sym none)
-          (ran_by-stays g.B.Bus.world g.B.Bus.happened g.met.B.Bus.composes.stays bus d is.ready);
+          (ran_by-stays g.B.Bus g.met.B.Bus.composes.stays bus d is.ready);
     })
 
 -- It isn't done.
@@ -45,7 +45,7 @@ returns-then-not-is_done-clause-looks g c = rw (← c.self.view_is) (λ up held 
     let new = c.load.new.self in
     let some = some-outstanding c.self.inside c.self.invariant.receives
     (λ none. c.if-len-from.false (c.len.ensures.len ∙ none ∙ sym c.from.ensures)) in
-    let leaves = ran_by-leaves g.B.Bus.world g.B.Bus.happened g.B.Bus.lively old new d some.0 c.receive_slot.result some.1 c.load.new.into
+    let leaves = ran_by-leaves g.B.Bus old new d some.0 c.receive_slot.result some.1 c.load.new.into
     some.2 c.receive_slot.ensures
     (done-bit c.load.new.into c.from_bytes-descriptor.result false c.from_bytes-descriptor.ensures c.if-not-is_done.ensures)
     (c.load.ensures.acts is.honest) is.ready in
@@ -85,13 +85,13 @@ returns-clause-looks g c = rw (← c.self.view_is) (λ up held is.
     let later = (state_of (without_oldest c.self.inside ((c.self.inside.oldest_receive + 1) % c.rx.result) c.pop_front.new.self)).buffers in
     let done = done-bit c.load.new.into c.from_bytes-descriptor.result true c.from_bytes-descriptor.ensures c.if-not-is_done.ensures in
     let acts = c.load.ensures.acts is.honest in
-    let whole = takes-whole g.B.Bus.world g.B.Bus.happened g.B.Bus.lively old new d c.in-Some.buffer c.receive_slot.result _
+    let whole = takes-whole g.B.Bus old new d c.in-Some.buffer c.receive_slot.result _
     c.load.new.into first c.receive_slot.ensures done acts is.ready in
     record {
       whole = c.is_whole.ensures.1 (subst IsWhole (sym c.from_bytes-descriptor.ensures) whole);
       takes =
-          subst (λ (size : ℕ). TakesOldest up g.B.Bus.world g.B.Bus.happened old new d c.in-Some.buffer size later)
+          subst (λ (size : ℕ). TakesOldest g.B.Bus up c.in-Some.buffer size later (at old d) new)
           (ap (λ (desc : RxDesc). desc.length) (sym c.from_bytes-descriptor.ensures))
-          (ran_by-takes g.B.Bus.world g.B.Bus.happened g.B.Bus.lively old new d c.in-Some.buffer c.receive_slot.result _
+          (ran_by-takes g.B.Bus old new d c.in-Some.buffer c.receive_slot.result _
           c.load.new.into first c.receive_slot.ensures done acts is.ready);
     })

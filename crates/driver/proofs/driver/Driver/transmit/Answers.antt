@@ -1,4 +1,4 @@
--- Slots are freed, and then the frame is sent where there is room.
+-- Slots are freed, and then the frame is sent if there is room.
 use Rattle.std.proofs.Common.{◌≡◌, ◌+◌, ap, arith}
 use Rattle.driver_law.proofs.Accesses.{ran_by-stays}
 use Rattle.driver_law.proofs.Calls.{ready-on}
@@ -9,23 +9,23 @@ use Rattle.driver.proofs.driver.Driver.transmit.Goals as goal
 
 pub returns-then-frame-lt-SHORTEST_SENT-clause-transmits : goal.returns-then-frame-lt-SHORTEST_SENT-clause-transmits
 returns-then-frame-lt-SHORTEST_SENT-clause-transmits g c held is = record {
-  ran = ran_by-stays g.B.Bus.world g.B.Bus.happened g.met.B.Bus.composes.stays c.args.bus.now (holding held c.args.self.now) is.ready;
+  ran = ran_by-stays g.B.Bus g.met.B.Bus.composes.stays c.args.bus.now (holding held c.args.self.now) is.ready;
   answer = tt;
 }
 
 pub returns-then-frame-gt-LONGEST_SENT-clause-transmits : goal.returns-then-frame-gt-LONGEST_SENT-clause-transmits
 returns-then-frame-gt-LONGEST_SENT-clause-transmits g c held is = record {
-  ran = ran_by-stays g.B.Bus.world g.B.Bus.happened g.met.B.Bus.composes.stays c.args.bus.now (holding held c.args.self.now) is.ready;
+  ran = ran_by-stays g.B.Bus g.met.B.Bus.composes.stays c.args.bus.now (holding held c.args.self.now) is.ready;
   answer = tt;
 }
 
 pub returns-then-self-tx-clause-transmits : goal.returns-then-self-tx-clause-transmits
 returns-then-self-tx-clause-transmits g c held is =
     let reclaims = c.reclaim.ensures.reclaims held is in
-    let count = ap (λ (state : DriverState). state.counts.tx) c.reclaim.ensures.others in
-    let inside = ap (λ (state : DriverState). state.counts.tx) c.self.view_is in
+    let count = ap (λ (state : DriverState). state.layout.tx) c.reclaim.ensures.others in
+    let inside = ap (λ (state : DriverState). state.layout.tx) c.self.view_is in
     let sending = ap (λ (state : DriverState). state.sending) c.self.view_is in
-    let full : c.reclaim.new.self.sending + 1 ≡ c.args.self.now.counts.tx =
+    let full : c.reclaim.new.self.sending + 1 ≡ c.args.self.now.layout.tx =
     omega (arith, c.if-self-tx.true, c.tx.ensures.count, count, inside, sending) in
     record { ran = reclaims.ran; answer = was-full g.B.Bus _ _ is reclaims full }
 
@@ -34,7 +34,7 @@ returns-clause-transmits g c held is =
     let d = c.args.self.now in
     let freed = c.reclaim.new.self in
     let reclaims = c.reclaim.ensures.reclaims held is in
-    let counts : freed.counts ≡ d.counts = ap (λ (state : DriverState). state.counts) c.reclaim.ensures.others in
+    let counts : freed.layout ≡ d.layout = ap (λ (state : DriverState). state.layout) c.reclaim.ensures.others in
     let more : c.send.new.self.sending ≡ freed.sending + 1 = ap (λ (state : DriverState). state.sending) c.send.ensures.others in
     let sends = c.send.ensures.sends held (ready-on g.B.Bus _ _ c.reclaim.ensures.keeps is reclaims.ran) in
     frees-and-sends g.B.Bus g.met.B.Bus.composes.joins (held_at held (at c.args.bus.now d)) (held_at held (at c.reclaim.new.bus freed))

@@ -10,7 +10,7 @@ sound : (g : Over) (c : goal.After-interrupt g) → IsHost c.interrupt.new.self 
 sound g c =
     let h = c.interrupt.ensures in
     handled-host c.interrupt.result c.self.inside.driver c.interrupt.new.self c.self.inside.sockets c.interrupt.new.receiver
-    c.self.invariant h.not_mine h.serves h.only_receives.counts
+    c.self.invariant h.not_mine h.serves h.only_receives.layout
 
 pub invariant_of-self : goal.invariant_of-self
 invariant_of-self g c = sound g c

@@ -15,28 +15,28 @@ pub returns-in_err-layout-clause-refuses : goal.returns-in_err-layout-clause-ref
 returns-in_err-layout-clause-refuses g c honest =
     let told = err_from_is_err_and c.from_residual.result c.from_residual.ensures.1 in
     let is : c.from_residual.result ≡ Err errors.Config = told.1 ∙ ap Err (told.2 ∙ c.in_err-layout.ensures.err) in
-    subst (λ result. IfErr result (Refuses g.B.Bus.world g.B.Bus.happened g.B.Bus.lively c.args.bus.now c.args.bus.now)) (sym is)
+    subst (λ result. IfErr result (Refuses g.B.Bus c.args.bus.now c.args.bus.now)) (sym is)
     (record { past = nothing; told = g.met.B.Bus.composes.stays c.args.bus.now; why = refl; why_lively = λ lively. tt })
 
 pub returns-in_err-sockets-clause-refuses : goal.returns-in_err-sockets-clause-refuses
 returns-in_err-sockets-clause-refuses g c honest =
     let told = err_from_is_err_and c.from_residual-in_err-sockets.result c.from_residual-in_err-sockets.ensures.1 in
     let is : c.from_residual-in_err-sockets.result ≡ Err Memory = told.1 ∙ ap Err told.2 in
-    subst (λ result. IfErr result (Refuses g.B.Bus.world g.B.Bus.happened g.B.Bus.lively c.args.bus.now c.args.bus.now)) (sym is)
+    subst (λ result. IfErr result (Refuses g.B.Bus c.args.bus.now c.args.bus.now)) (sym is)
     (record { past = nothing; told = g.met.B.Bus.composes.stays c.args.bus.now; why = refl; why_lively = λ lively. tt })
 
 pub invariant_of-result : goal.invariant_of-result
 invariant_of-result g c =
     new-host c.in_ok-driver.driver c.in_ok-sockets.sockets c.args.kinds.items c.from.result c.in_ok-sockets.ensures.new
     (c.from.ensures ∙ c.buffers.ensures.count
-    ∙ ap (λ (counts : Counts). counts.buffers) (c.in_ok-layout.ensures.counts ∙ sym c.in_ok-driver.ensures.fresh.counts))
-    (no_second_from_one c.in_ok-driver.driver.counts.buffers (owners c.in_ok-driver.driver) c.in_ok-driver.ensures.fresh.one_owner)
+    ∙ ap (λ (counts : Counts). counts.buffers) (c.in_ok-layout.ensures.counts ∙ sym c.in_ok-driver.ensures.fresh.layout))
+    (no_second_from_one c.in_ok-driver.driver.layout.buffers (owners c.in_ok-driver.driver) c.in_ok-driver.ensures.fresh.one_owner)
 
 pub returns-clause-ready : goal.returns-clause-ready
 returns-clause-ready g c honest =
     new-ready c.in_ok-driver.driver c.in_ok-sockets.sockets c.args.kinds.items c.from.result
     (g.B.Bus.world c.init.new.bus) c.in_ok-sockets.ensures.new c.in_ok-driver.ensures.fresh.none_out
-    (c.in_ok-driver.ensures.initialises honest).ready
+    (c.in_ok-driver.ensures.initialises honest).started.ready
 
 pub returns-clause-had : goal.returns-clause-had
 returns-clause-had g c = subst (CanBeHad c.args.config.now) c.size.ensures (c.in_ok-layout.ensures.ok.0 refl)

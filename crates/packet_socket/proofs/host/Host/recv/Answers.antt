@@ -48,7 +48,7 @@ invariant_of-self-2 g c =
     let parts = entry-splits d before c.next.new.self c.args.socket c.len.result c.in-Some.received c.self.invariant c.if-socket-len.false
     c.len.ensures.count c.in-Some.ensures.oldest in
     stays-host d c.give.new.self before c.next.new.self c.args.socket c.in-Some.received c.self.invariant parts c.in-Some.ensures.others
-    (ap (λ (s : DriverState). s.counts) c.give.ensures.offers.others) c.give.ensures.owners
+    (ap (λ (s : DriverState). s.layout) c.give.ensures.offers.others) c.give.ensures.owners
 
 pub returns-clause-ok : goal.returns-clause-ok
 returns-clause-ok g c = rw (← c.self.view_is) (

@@ -1,10 +1,9 @@
-use Rattle.std.proofs.Common.{rules, ◌≡◌, ◌≤◌, ◌+◌, List, Some, arith, ap, slice_get, slice_index_or, subst, sym, ◌∙◌}
+use Rattle.std.proofs.Common.{rules, ◌≡◌, List, Some, arith, ap, slice_get, slice_index_or, subst, sym, ◌∙◌}
 use Rattle.std.proofs.lemmas.Option.{slice_get-get_or}
 use Rattle.adapter.specs.State.{IsAdapter}
 use Rattle.dma_memory.specs.Layout.{Counts}
 use Rattle.packet_socket.specs.HostState.{HostState}
 use Rattle.stations.specs.Stations.{StationState, world_at}
-use Rattle.host_calls.specs.DrainedHosts.{count_held}
 use Rattle.host_calls.proofs.Endings.{held-at_most}
 use Rattle.wire.specs.LanView.{network_of}
 use Rattle.wire.specs.Networks.{NetworkStands}
@@ -28,7 +27,7 @@ returns-clause-enough c = λ state is.
     (let e : Some state ≡ Some own =
     sym is ∙ ap (λ (list : List HostState). slice_get list c.args.host) (sym hosts) ∙ there in cc) in
     let found : own ≡ c.index-hosts-host.result = search rules in
-    let counts : c.layout.result ≡ state.driver.counts =
-    c.layout.ensures ∙ ap (λ (h : HostState). h.driver.counts) (sym (state_is ∙ found)) in
+    let counts : c.layout.result ≡ state.driver.layout =
+    c.layout.ensures ∙ ap (λ (h : HostState). h.driver.layout) (sym (state_is ∙ found)) in
     let buffers = ap (λ (own : Counts). own.buffers) counts in
     omega (arith, held, buffers, c.buffers.ensures.count, c.from.ensures)
