@@ -70,5 +70,9 @@ frees-and-sends bus joins a b c frame counts tail more reclaims sends =
     record {
       ran = subst (λ (accesses : List Access). Ran bus true (record (sent_now a.driver frame) { accesses = accesses }) a c) same
           (ran-on bus joins reclaims.ran sends);
-      answer = omega (arith, reclaims.ran.goes.flows.frees, ap length reclaims.none, more);
+      answer = record {
+        freed = omega (arith, reclaims.ran.goes.flows.frees, ap length reclaims.none, more);
+        some = omega (arith, more);
+      };
+      frees_first = (b, reclaims, sends);
     }

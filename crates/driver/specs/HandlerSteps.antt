@@ -1,7 +1,7 @@
 -- What a driver does in its interrupt handler.
 use Rattle.std.specs.Prelude.{◌≡◌, ◌≤◌, ◌++◌, ◌∷◌, ℕ, Bool, List, [], length, map}
 use Rattle.adapter.specs.declared.offsets.TheConstants.{MPC}
-use Rattle.dma_memory.specs.Owners.{HasNoSecondOwner}
+use Rattle.dma_memory.specs.Owners.{HaveSameNumbers}
 use Rattle.bus.specs.declared.bus.Bus.{Ghosts}
 use Rattle.registers.specs.Bits.{HasBit, Meet}
 use Rattle.registers.specs.Places.{rxt0}
@@ -16,7 +16,8 @@ use Rattle.driver_law.specs.Calls.{Moment, Ran, held_at, in_world_of}
 use Rattle.driver_law.specs.DriverState.{DriverState, HandedOut, next_receive, numbers_of, owners}
 use Rattle.driver_law.specs.Stretches.{FlowsTo, HasNoForgottenWork, IsRefilled, driver_did}
 use Rattle.driver_law.specs.RegisterReadings.{ReadsCauses, with_missed}
-use Rattle.driver.specs.TakenFrames.{IsPart, Scene, ShowsAll, frames_of, moment, received_of}
+use Rattle.driver.specs.RefillSteps.{OffersAll}
+use Rattle.driver.specs.TakenFrames.{IsPart, Scene, TakesSlots, frames_of, moment, received_of}
 use Rattle.driver.specs.declared.interrupt.Handled.{Handled}
 use Rattle.driver.specs.declared.interrupt.Handled.TheVariants.{NotMine}
 use Rattle.driver.specs.declared.interrupt.Handled.TheVariants as answers
@@ -32,8 +33,8 @@ abbrev pub IfNotMine : Handled → Type 0 → Type 0
 IfNotMine NotMine P = P
 IfNotMine (answers.Handled taken) P = Unit {0}
 
--- After the read of ICR: MPC is read; the slots of these buffers are taken, the oldest first, up to one that isn't finished, if any is
--- left; and then slots are offered with these buffers.
+-- After the read of ICR: MPC is read; the slots of the buffers `taken` are taken, the oldest first; the next slot's descriptor is loaded, if
+-- one is left; and then slots are offered with the buffers `offered`.
 abbrev pub handled_accesses : DriverState → (misses : ℕ) → (taken rest offered : List ℕ) → (last : ℕ) → List Access
 handled_accesses d misses taken rest offered last =
     Reads MPC misses ∷
@@ -42,7 +43,7 @@ handled_accesses d misses taken rest offered last =
 
 -- The slots of the buffers `taken` were the oldest. Then slots are offered after the others: those that were staged, and new ones with the
 -- buffers `offered`. `misses` is the value read from MPC.
-pub record Served (d d' : DriverState) (taken : List ℕ) : Type 0 where
+pub record TakesAndOffers (d d' : DriverState) (taken : List ℕ) : Type 0 where
   pub misses : ℕ
   pub rest : List ℕ
   pub offered : List ℕ
@@ -62,7 +63,7 @@ pub record Works {B R : Type 0} (bus : Ghosts B) (receivers : OfReceiver R) (n :
   pub told : receivers.took old.receiver new.receiver (map received_of taken) (map received_of handed_out)
   pub part : IsPart handed_out taken
   pub count : length taken ≡ n
-  pub served : Served old.driver new.driver (numbers_of taken)
+  pub served : TakesAndOffers old.driver new.driver (numbers_of taken)
   pub misses : AddsMisses served.misses old.driver new.driver
   pub ran :
       Ran bus up (record {
@@ -78,7 +79,7 @@ pub record Asked {B : Type 0} (bus : Ghosts B) (up : Bool) (old : Moment B) : Ty
   pub reads : ReadsCauses bus up causes old after_read
 
 -- It does nothing: ICR had none of its causes.
-pub record LeavesIt {B : Type 0} (bus : Ghosts B) {up : Bool} (old new : Moment B) (asked : Asked bus up old) : Type 0 where
+pub record DoesNothing {B : Type 0} (bus : Ghosts B) {up : Bool} (old new : Moment B) (asked : Asked bus up old) : Type 0 where
   pub none : ¬ Meet asked.causes handled_causes
   pub still : new.bus ≡ asked.after_read
   pub work : HasNoForgottenWork old.driver (bus.world old.bus) → HasNoForgottenWork new.driver (bus.world new.bus)
@@ -99,7 +100,7 @@ pub record HandlesIt {B R : Type 0} (bus : Ghosts B) (receivers : OfReceiver R) 
 -- by the answer
 abbrev pub HandlesBy : {B R : Type 0} (bus : Ghosts B) → OfReceiver R → Handled → {up : Bool} → (old new : Scene B R)
     → Asked bus up (moment old) → Type 0
-HandlesBy bus receivers NotMine old new asked = LeavesIt bus (moment old) (moment new) asked
+HandlesBy bus receivers NotMine old new asked = DoesNothing bus (moment old) (moment new) asked
 HandlesBy bus receivers (answers.Handled taken) old new asked = HandlesIt bus receivers taken old new asked
 
 -- It reads ICR first. What it does next depends on the causes read.
@@ -116,9 +117,12 @@ pub record OnlyReceives (d d' : DriverState) : Type 0 where
   pub oldest : d'.oldest_transmit ≡ d.oldest_transmit
   pub sending : d'.sending ≡ d.sending
 
--- n slots are taken, and then the ring is refilled.
+-- The value read from MPC is added to the driver's sum, n slots are taken, and then the ring is refilled.
 pub record Serves {R : Type 0} (receivers : OfReceiver R) (before after : R) (d d' : DriverState) (n : ℕ) : Type 0 where
-  pub shows : ShowsAll receivers.took before after d d' n
-  pub refilled : IsRefilled d'
-  pub offered : d'.staged ≡ []
-  pub one_owner : HasNoSecondOwner d'.layout.buffers (owners d')
+  pub misses : ℕ
+  -- the driver after the slots were taken
+  pub taken : DriverState
+  pub takes : TakesSlots receivers n before after (with_missed misses d) taken
+  pub offers : OffersAll taken d'
+  -- No buffer is lost or has another number of owners.
+  pub owners : HaveSameNumbers (owners taken) (owners d')

@@ -43,16 +43,16 @@ pub record Reclaims {B : Type 0} (bus : Ghosts B) (old new : Moment B) : Type 0 
   pub ran : Ran bus true (only (loads_to_free old.driver new.driver.sending)) old new
   pub none : written_back new.driver.oldest_transmit (bus.world new.bus) ≡ []
 
-abbrev pub Answer : Type 0
-Answer = Result (Unit {0}) SendError
+abbrev pub SendAnswer : Type 0
+SendAnswer = Result (Unit {0}) SendError
 
 -- The frames accepted for sending, by the answer.
-abbrev pub accepted_by : Answer → List ℕ → List (List ℕ)
+abbrev pub accepted_by : SendAnswer → List ℕ → List (List ℕ)
 accepted_by (Ok u) frame = padded frame ∷ []
 accepted_by (Err error) frame = []
 
 -- The accesses, by the answer.
-abbrev pub accesses_by : Answer → (d d' : DriverState) → List ℕ → List Access
+abbrev pub accesses_by : SendAnswer → (d d' : DriverState) → List ℕ → List Access
 accesses_by (Ok u) d d' frame =
     loads_to_free d (d'.sending - 1) ++ send_accesses d frame
 accesses_by (Err TooShort) d d' frame = []
@@ -63,17 +63,20 @@ accesses_by (Err RingFull) d d' frame = loads_to_free d d'.sending
 abbrev pub IsFull : {B : Type 0} → Ghosts B → Moment B → Type 0
 IsFull bus now = (now.driver.sending + 1 ≡ now.driver.layout.tx) × (written_back now.driver.oldest_transmit (bus.world now.bus) ≡ [])
 
--- What an answer says of the ring. Ok: each slot that was written back at entry is freed, and one more is outstanding. RingFull: the ring
--- was full at entry, and it is full at the return, after the last load.
-abbrev pub IsAnswer : {B : Type 0} → Ghosts B → Answer → (old new : Moment B) → Type 0
-IsAnswer bus (Ok u) old new =
-    length (written_back old.driver.oldest_transmit (bus.world old.bus)) + new.driver.sending ≤ old.driver.sending + 1
+-- The frame was accepted: each slot that was written back at entry is freed, and the frame's slot is outstanding.
+pub record IsAccepted {B : Type 0} (bus : Ghosts B) (old new : Moment B) : Type 0 where
+  pub freed : length (written_back old.driver.oldest_transmit (bus.world old.bus)) + new.driver.sending ≤ old.driver.sending + 1
+  pub some : 0 < new.driver.sending
+
+-- What an answer says of the ring. RingFull: the ring was full at entry, and it is full at the return, after the last load.
+abbrev pub IsAnswer : {B : Type 0} → Ghosts B → SendAnswer → (old new : Moment B) → Type 0
+IsAnswer bus (Ok u) old new = IsAccepted bus old new
 IsAnswer bus (Err TooShort) old new = Unit {0}
 IsAnswer bus (Err TooLong) old new = Unit {0}
 IsAnswer bus (Err RingFull) old new = IsFull bus old × IsFull bus new
 
 -- the frame has fewer than 14 or more than 1,518 bytes
-abbrev pub HasWrongLength : Answer → Type 0
+abbrev pub HasWrongLength : SendAnswer → Type 0
 HasWrongLength (Err TooShort) = ⊤
 HasWrongLength (Err TooLong) = ⊤
 HasWrongLength answer = ⊥
@@ -83,13 +86,22 @@ abbrev pub sent_now : DriverState → List ℕ → Did
 sent_now d frame = record { accesses = send_accesses d frame; taken = []; accepted = padded frame ∷ [] }
 
 -- What it does, by the answer.
-abbrev pub sent_by : Answer → (d d' : DriverState) → List ℕ → Did
+abbrev pub sent_by : SendAnswer → (d d' : DriverState) → List ℕ → Did
 sent_by result d d' frame = record { accesses = accesses_by result d d' frame; taken = []; accepted = accepted_by result frame }
 
-pub record Sends {B : Type 0} (bus : Ghosts B) (frame : List ℕ) (result : Answer) (old new : Moment B) : Type 0 where
+-- Slots are freed first, up to one that isn't done, or until none is left. Then the frame is sent if it is accepted.
+abbrev pub FreesFirst : {B : Type 0} → Ghosts B → List ℕ → SendAnswer → (old new : Moment B) → Type 0
+FreesFirst {B} bus frame (Ok u) old new =
+    (freed : Moment B) × Reclaims bus old freed × Ran bus true (sent_now freed.driver frame) freed new
+FreesFirst bus frame (Err TooShort) old new = Unit {0}
+FreesFirst bus frame (Err TooLong) old new = Unit {0}
+FreesFirst bus frame (Err RingFull) old new = Reclaims bus old new
+
+pub record Sends {B : Type 0} (bus : Ghosts B) (frame : List ℕ) (result : SendAnswer) (old new : Moment B) : Type 0 where
   pub ran : Ran bus true (sent_by result old.driver new.driver frame) old new
   pub answer : IsAnswer bus result old new
+  pub frees_first : FreesFirst bus frame result old new
 
 -- This holds if the driver is ready, with its transmit side set up.
-abbrev pub Transmits : {B : Type 0} → Ghosts B → List ℕ → Answer → (old new : Moment B) → Type 0
+abbrev pub Transmits : {B : Type 0} → Ghosts B → List ℕ → SendAnswer → (old new : Moment B) → Type 0
 Transmits bus frame result old new = WhereUp bus old new (Sends bus frame result)

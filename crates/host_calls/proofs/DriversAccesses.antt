@@ -14,7 +14,7 @@ use Rattle.driver_law.specs.Accesses.{last_load, send_accesses, stores_from, tai
 use Rattle.driver_law.specs.Accesses.{transmit_loads, whole_descriptor}
 use Rattle.driver_law.specs.DriverState.{DriverState, buffer_at, next_receive, receive_slot, transmit_slot, transmit_tail}
 use Rattle.driver.specs.HandlerSteps.{handled_accesses}
-use Rattle.driver.specs.SendSteps.{Answer, accesses_by, slots_looked_at}
+use Rattle.driver.specs.SendSteps.{SendAnswer, accesses_by, slots_looked_at}
 use Rattle.driver.specs.declared.transmit.SendError.TheVariants.{TooShort, TooLong, RingFull}
 use Rattle.packet_socket.specs.HostCalls.{receive_accesses}
 use Rattle.std.specs.Prelude.{Ok, Err}
@@ -38,7 +38,7 @@ all-sent own d frame same some =
     (All-cons (IsOfDriver own) descriptor tail tt
     (All-cons (IsOfDriver own) (Writes TDT slot) [] (inr (refl, below)) (all-none (IsOfDriver own))))
 
-pub sends-of_driver : (own : Counts) (result : Answer) (d d' : DriverState) (frame : List ℕ) → d.layout ≡ own → 0 < own.tx
+pub sends-of_driver : (own : Counts) (result : SendAnswer) (d d' : DriverState) (frame : List ℕ) → d.layout ≡ own → 0 < own.tx
     → All (IsOfDriver own) (accesses_by result d d' frame)
 sends-of_driver own (Ok u) d d' frame same some =
     let k = slots_looked_at d.sending (d'.sending - 1) in
@@ -105,7 +105,7 @@ behind-loads : (counts : Counts) (slots : List ℕ) (behind : List Access) → O
 behind-loads counts [] behind last = last
 behind-loads counts (slot ∷ later) behind last = behind-loads counts later behind last
 
-pub sends-last : (result : Answer) (d d' : DriverState) (frame : List ℕ) → OnlyLastWrites (accesses_by result d d' frame)
+pub sends-last : (result : SendAnswer) (d d' : DriverState) (frame : List ℕ) → OnlyLastWrites (accesses_by result d d' frame)
 sends-last (Ok u) d d' frame =
     let looked = slots_looked_at d.sending (d'.sending - 1) in
     behind-loads d.layout (slots_from d.layout.tx d.oldest_transmit looked) (send_accesses d frame) refl

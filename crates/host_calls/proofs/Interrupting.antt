@@ -133,6 +133,7 @@ works-runs a m b h h' n zero ready refilled offered handles finished =
     (record {
       causes = handles.asked.causes;
       misses = served.misses;
+      missed = works.misses;
       enough = oldest.enough;
       offered = served.offered;
       newest = served.newest ∙ ap (λ (rest : List ℕ). rest ++ (h.driver.staged ++ served.offered)) (sym oldest.dropped);

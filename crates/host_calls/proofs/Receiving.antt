@@ -17,7 +17,7 @@ use Rattle.driver_law.specs.DriverState.{next_receive}
 use Rattle.driver_law.specs.Stretches.{IsRefilled}
 use Rattle.packet_socket.proofs.Stretches.{host-happens}
 use Rattle.packet_socket.specs.HeldFrames.{HostReady, waiting_frames}
-use Rattle.packet_socket.specs.HostCalls.{Leaves, Receives, Returns, ReturnsBy, host_at, receive_accesses}
+use Rattle.packet_socket.specs.HostCalls.{LeavesQueue, Receives, Returns, ReturnsBy, host_at, receive_accesses}
 use Rattle.packet_socket.specs.HostState.{HostState}
 use Rattle.packet_socket.specs.HostStretches.{HostGoesTo, did, in_world}
 use Rattle.packet_socket.specs.SocketsState.{queue_at}
@@ -137,9 +137,9 @@ front-long : (size : ℕ) (bytes : List ℕ) → size ≤ length bytes → lengt
 front-long size bytes fits = grind (arith, common_steps)
 
 pub ok-leaves : (h h' : HostState) (socket size accesses : ℕ) (bytes : List ℕ) (received : Received) → size ≤ length bytes
-    → Leaves h h' socket size received → LeavesRecv (Ok (take size bytes)) socket h h' accesses
+    → LeavesQueue h h' socket size received → LeavesRecv (Ok (take size bytes)) socket h h' accesses
 ok-leaves h h' socket size accesses bytes received fits leaves =
-    (received, subst (λ (n : ℕ). Leaves h h' socket n received) (sym (front-long size bytes fits)) leaves)
+    (received, subst (λ (n : ℕ). LeavesQueue h h' socket n received) (sym (front-long size bytes fits)) leaves)
 
 pub err-leaves : (a m b : LentBus) (h h' : HostState) (socket : ℕ) (error : RecvError) → a.accesses ≡ 0 → m ≡ a → h' ≡ h → Finished m b
     → LeavesRecv (Err error) socket h h' b.accesses

@@ -1,22 +1,21 @@
 -- What a call of a host answers, and which accesses it makes (our choice).
 use Rattle.std.specs.Prelude.{⊤, ◌≡◌, ◌↔◌, ◌≤◌, ◌<◌, ◌+◌, ◌++◌, ◌∷◌, [], ℕ, List, Result, Ok, Err, drop, length, take}
-use Rattle.dma_memory.specs.Layout.{Counts}
 use Rattle.descriptors.specs.Frames.{longest_frame, shortest_sent}
 use Rattle.adapter.specs.HostFrames.{frames_to_send}
-use Rattle.adapter.specs.Slots.{finished}
+use Rattle.adapter.specs.Slots.{finished, written_back}
 use Rattle.adapter.specs.World.{World}
 use Rattle.adapter.specs.declared.offsets.TheConstants.{ICR}
 use Rattle.bus.specs.declared.event.Access.{Access}
 use Rattle.bus.specs.declared.event.Access.TheVariants.{Reads}
 use Rattle.driver_law.specs.DriverState.{next_receive}
-use Rattle.driver.specs.HandlerSteps.{handled_accesses}
-use Rattle.driver.specs.SendSteps.{Answer, HasWrongLength, accepted_by, accesses_by, with_transmit_slots}
+use Rattle.driver.specs.HandlerSteps.{AddsMisses, handled_accesses}
+use Rattle.driver.specs.SendSteps.{SendAnswer, HasWrongLength, accepted_by, accesses_by, with_transmit_slots}
 use Rattle.driver.specs.declared.transmit.SendError.TheVariants.{TooShort, TooLong, RingFull}
 use Rattle.driver.specs.TakenFrames.{GrowsBy}
 use Rattle.driver.specs.declared.interrupt.Handled.{Handled}
 use Rattle.driver.specs.declared.interrupt.Handled.TheVariants.{NotMine}
 use Rattle.driver.specs.declared.interrupt.Handled.TheVariants as answers
-use Rattle.packet_socket.specs.HostCalls.{Leaves, receive_accesses}
+use Rattle.packet_socket.specs.HostCalls.{LeavesQueue, receive_accesses}
 use Rattle.packet_socket.specs.HostState.{HostState}
 use Rattle.packet_socket.specs.HostStretches.{Given, did}
 use Rattle.packet_socket.specs.HeldFrames.{waiting_frames, without_socket}
@@ -29,12 +28,22 @@ use Rattle.host_calls.specs.InterruptCauses.{TellsCauses}
 use Rattle.host_calls.specs.CallsOfHosts.{CallRuns}
 use Rattle.host_calls.specs.ConnectedHosts.{ConnectedHost, PlayedCall}
 
+-- A frame was accepted. Each transmit slot that was written back when the call began is freed, and the frame's slot is outstanding.
+pub record FreesWrittenBack (h h' : HostState) (world : World) : Type 0 where
+  pub freed : length (written_back h.driver.oldest_transmit world) + h'.driver.sending ≤ h.driver.sending + 1
+  pub some : 0 < h'.driver.sending
+
+abbrev pub FreesBy : SendAnswer → (h h' : HostState) → World → Type 0
+FreesBy (Ok u) h h' world = FreesWrittenBack h h' world
+FreesBy (Err error) h h' world = ⊤
+
 -- Sending. A frame is too short exactly below 14 bytes, and too long exactly above 1,518. The ring is full only if, when the call began,
 -- one frame fewer than it has slots was still to be sent.
-pub record AnswersSend (result : Answer) (frame : List ℕ) (counts : Counts) (world : World) : Type 0 where
+pub record AnswersSend (result : SendAnswer) (frame : List ℕ) (h h' : HostState) (world : World) : Type 0 where
   pub too_short : (result ≡ Err TooShort) ↔ (length frame < shortest_sent)
   pub too_long : (result ≡ Err TooLong) ↔ (longest_frame < length frame)
-  pub full : result ≡ Err RingFull → length (frames_to_send world) + 1 ≡ counts.tx
+  pub full : result ≡ Err RingFull → length (frames_to_send world) + 1 ≡ h.driver.layout.tx
+  pub frees : FreesBy result h h' world
 
 -- the frame that the socket returned, if any
 abbrev pub given_by : (socket : ℕ) → Result (List ℕ) RecvError → List Given
@@ -60,14 +69,14 @@ pub record AnswersRecv (result : Result (List ℕ) RecvError) (socket : ℕ) (h 
 -- What a call changes of its host, besides the frames.
 
 -- Sending changes only which transmit slots are outstanding. For a frame that is too short or too long no access is made.
-pub record LeavesSend (result : Answer) (h h' : HostState) (accesses : ℕ) : Type 0 where
+pub record LeavesSend (result : SendAnswer) (h h' : HostState) (accesses : ℕ) : Type 0 where
   pub others : h' ≡ record h { driver = with_transmit_slots h.driver h'.driver.oldest_transmit h'.driver.sending }
   pub unasked : HasWrongLength result → accesses ≡ 0
 
 -- Receiving removes the oldest entry of the socket's queue, and changes nothing else of the sockets. If no frame is returned, the host is
 -- unchanged and no access is made.
 abbrev pub LeavesRecv : Result (List ℕ) RecvError → (socket : ℕ) → (h h' : HostState) → (accesses : ℕ) → Type 0
-LeavesRecv (Ok frame) socket h h' accesses = (received : Received) × Leaves h h' socket (length frame) received
+LeavesRecv (Ok frame) socket h h' accesses = (received : Received) × LeavesQueue h h' socket (length frame) received
 LeavesRecv (Err error) socket h h' accesses = (h' ≡ h) × (accesses ≡ 0)
 
 -- Handling an interrupt took n frames, among them all that were finished when the call began. Those without a socket were counted, up to
@@ -91,7 +100,7 @@ AnswersInterrupt (answers.Handled n) h h' world taken = HandlesFrames h h' world
 
 -- Sending: none for a frame that is too short or too long. Else it loads the descriptor of each slot that it frees, and of the first that
 -- it doesn't free. Then, if there is a slot for the frame, it stores the frame and its descriptor, and writes TDT.
-abbrev pub MakesSend : Answer → (frame : List ℕ) → (h h' : HostState) → (accesses : List Access) → Type 0
+abbrev pub MakesSend : SendAnswer → (frame : List ℕ) → (h h' : HostState) → (accesses : List Access) → Type 0
 MakesSend result frame h h' accesses = accesses ≡ accesses_by result h.driver h'.driver frame
 
 -- Receiving a frame of this size: it loads the frame from the buffer of the oldest entry of the socket's queue, then offers slots with
@@ -108,11 +117,12 @@ abbrev pub MakesRecv : Result (List ℕ) RecvError → (socket : ℕ) → (h h' 
 MakesRecv (Ok frame) socket h h' accesses = MakesReceipt socket (length frame) h h' accesses
 MakesRecv (Err error) socket h h' accesses = accesses ≡ []
 
--- Handling an interrupt for which it takes n slots: it reads ICR, then MPC. It takes the slots of the n oldest buffers of the ring, up to a
--- slot that isn't finished. Then it offers slots with these buffers.
+-- Handling an interrupt for which it takes n slots: it reads ICR, then MPC, whose value it adds to the driver's sum. It takes the slots of
+-- the n oldest buffers of the ring. Then it offers slots with the buffers `offered`.
 pub record MakesHandling (n : ℕ) (h h' : HostState) (accesses : List Access) : Type 0 where
   pub causes : ℕ
   pub misses : ℕ
+  pub missed : AddsMisses misses h.driver h'.driver
   pub enough : n ≤ length h.driver.buffers
   pub offered : List ℕ
   pub newest : h'.driver.buffers ≡ drop n h.driver.buffers ++ (h.driver.staged ++ offered)
@@ -127,9 +137,9 @@ MakesInterrupt (answers.Handled n) h h' accesses = MakesHandling n h h' accesses
 -- The three calls, each with its ticks.
 
 -- A frame is sent.
-pub record SendRuns (call : PlayedCall) (frame : List ℕ) (result : Answer) (old new : ConnectedHost) : Type 0 where
+pub record SendRuns (call : PlayedCall) (frame : List ℕ) (result : SendAnswer) (old new : ConnectedHost) : Type 0 where
   pub runs : CallRuns call (did [] [] (accepted_by result frame)) (MakesSend result frame old.host new.host) old new
-  pub answers : AnswersSend result frame old.host.driver.layout (world_at old.stations call.caller)
+  pub answers : AnswersSend result frame old.host new.host (world_at old.stations call.caller)
   pub leaves : LeavesSend result old.host new.host call.accesses
 
 -- A socket is asked for its oldest frame.

@@ -1,5 +1,5 @@
 -- A host stays consistent in its calls, over any bus.
-use Rattle.std.proofs.Common.{◌≡◌, ◌+◌, ◌<◌, ◌≤◌, ◌++◌, ◌∷◌, [], ℕ, Bool, List, length, map, replicate, sym, ap, subst, ◌∙◌}
+use Rattle.std.proofs.Common.{◌≡◌, ◌+◌, ◌-◌, ◌<◌, ◌≤◌, ◌++◌, ◌∷◌, [], ℕ, Bool, List, length, map, replicate, sym, ap, subst, ◌∙◌}
 use Rattle.std.proofs.Common.{length-append, arith}
 use Rattle.std.specs.List.{slice_set}
 use Rattle.std.proofs.lemmas.List.{length-map, length-replicate, length-set, map-append}
@@ -9,18 +9,20 @@ use Rattle.dma_memory.specs.Owners.{HasNoSecondOwner, HaveSameNumbers, copies}
 use Rattle.dma_memory.specs.OwnersLaws.{copies-append, copies-cons, copies-itself, if_same, known_from_no_second, length-no_second}
 use Rattle.dma_memory.specs.OwnersLaws.{once_from_no_second}
 use Rattle.dma_memory.specs.Layout.{Counts}
+use Rattle.descriptors.specs.RingLaws.{place}
 use Rattle.adapter.specs.World.{World}
 use Rattle.bus.proofs.Lists.{all-head, all-none, all-right, all-without}
 use Rattle.driver_law.specs.DriverState.{DriverState, HandedOut, holding, owners}
 use Rattle.driver_law.specs.ReadyDrivers.{ReadyWith}
 use Rattle.driver.specs.HandlerSteps.{IfNotMine, IfHandled, Serves}
-use Rattle.driver.specs.TakenFrames.{AreFrames, IsFrameSize, ShowsAll, buffers_of}
+use Rattle.driver.specs.TakenFrames.{AreFrames, GrowsBy, IsFrameSize, ShowsAll, buffers_of}
 use Rattle.driver.specs.declared.interrupt.Handled.{Handled}
 use Rattle.driver.specs.declared.interrupt.Handled.TheVariants.{NotMine}
 use Rattle.driver.specs.declared.interrupt.Handled.TheVariants as answers
 use Rattle.driver.specs.declared.receiver.Received.{Received}
 use Rattle.packet_socket.specs.HostCalls.{HostServes}
 use Rattle.packet_socket.specs.HeldFrames.{HostReadyWith, driver_of, waiting_entry}
+use Rattle.packet_socket.specs.HostState.{host_owners}
 use Rattle.packet_socket.specs.InsideHost.{IsHost, host_with}
 use Rattle.packet_socket.specs.SocketKinds.{has_socket}
 use Rattle.packet_socket.specs.SocketsState.{Queues, SocketsState, Sorts, all_of, queue_at}
@@ -80,7 +82,26 @@ can-come-back driver sockets socket received later host parts =
       size = all-head (λ (r : Received). IsFrameSize r.length) received parts.last frames;
     }
 
--- It comes back.
+-- It comes back, and no buffer has another number of owners.
+pub stays-owners : (driver driver' : DriverState) (before after : SocketsState) (socket : ℕ) (received : Received)
+    → (parts : Splits before.queues socket received (queue_at after.queues socket))
+    → after ≡ record before { queues = slice_set before.queues socket (queue_at after.queues socket) }
+    → HaveSameNumbers (received.buffer ∷ owners driver) (owners driver')
+    → HaveSameNumbers (host_owners (host_with driver before)) (host_owners (host_with driver' after))
+stays-owners driver driver' before after socket received parts others numbers =
+    let left : all_of after.queues ≡ parts.first ++ parts.last = ap (λ (s : SocketsState). all_of s.queues) others ∙ parts.behind in
+    λ k. omega (
+      arith,
+      numbers k,
+      copies-append k (owners driver) (buffers_of (all_of before.queues)),
+      copies-append k (owners driver') (buffers_of (all_of after.queues)),
+      copies-cons k received.buffer (owners driver),
+      copies-cons k received.buffer [],
+      ap (λ (list : List Received). copies k (buffers_of list)) parts.before,
+      ap (λ (list : List Received). copies k (buffers_of list)) left,
+      middle-copies k parts.first parts.last received,
+    )
+
 pub stays-host : (driver driver' : DriverState) (before after : SocketsState) (socket : ℕ) (received : Received) → IsHost driver before
     → (parts : Splits before.queues socket received (queue_at after.queues socket))
     → after ≡ record before { queues = slice_set before.queues socket (queue_at after.queues socket) }
@@ -95,18 +116,7 @@ stays-host driver driver' before after socket received host parts others counts 
           ∙ host.count
           ∙ ap (λ (s : SocketsState). length s.kinds) (sym others);
       owners = subst (λ (c : Counts). HasNoSecondOwner c.buffers (owners driver' ++ buffers_of (all_of after.queues))) (sym counts) (λ k.
-          omega (
-            arith,
-            host.owners k,
-            numbers k,
-            copies-append k (owners driver) (buffers_of (all_of before.queues)),
-            copies-append k (owners driver') (buffers_of (all_of after.queues)),
-            copies-cons k received.buffer (owners driver),
-            copies-cons k received.buffer [],
-            ap (λ (list : List Received). copies k (buffers_of list)) parts.before,
-            ap (λ (list : List Received). copies k (buffers_of list)) left,
-            middle-copies k parts.first parts.last received,
-          ));
+          omega (arith, host.owners k, stays-owners driver driver' before after socket received parts others numbers k));
       sizes = subst AreFrames (sym left)
           (all-without (λ (r : Received). IsFrameSize r.length) parts.first received parts.last (subst AreFrames parts.before host.sizes));
     }
@@ -159,6 +169,20 @@ pub shown-queues : (driver driver' : DriverState) (before after : SocketsState) 
     → Queues before.kinds before.queues after.queues shows.kept
 shown-queues driver driver' before after n host shows = shows.told.queues (has-room driver driver' before shows.kept host shows.buffers)
 
+-- No buffer has another number of owners then.
+pub shown-owners : (driver driver' : DriverState) (before after : SocketsState) (n : ℕ) → IsHost driver before
+    → ShowsAll Sorts before after driver driver' n
+    → HaveSameNumbers (host_owners (host_with driver before)) (host_owners (host_with driver' after))
+shown-owners driver driver' before after n host shows = λ k.
+    omega (
+      arith,
+      shows.buffers k,
+      copies-append k (owners driver) (buffers_of (all_of before.queues)),
+      copies-append k (owners driver') (buffers_of shows.kept),
+      copies-append k (owners driver') (buffers_of (all_of after.queues)),
+      kept-copies k before.kinds before.queues after.queues shows.kept (shown-queues driver driver' before after n host shows),
+    )
+
 pub shown-host : (driver driver' : DriverState) (before after : SocketsState) (n : ℕ) → IsHost driver before
     → ShowsAll Sorts before after driver driver' n → driver'.layout ≡ driver.layout
     → IsHost driver' after
@@ -169,19 +193,40 @@ shown-host driver driver' before after n host shows counts =
       room = shows.told.room ∙ host.room ∙ ap (λ (c : Counts). c.buffers) (sym counts);
       count = shows.told.count ∙ host.count ∙ ap (λ (kinds : List SocketKind). length kinds) (sym shows.told.kinds);
       owners = subst (λ (c : Counts). HasNoSecondOwner c.buffers (owners driver' ++ buffers_of (all_of after.queues))) (sym counts) (λ k.
-          omega (
-            arith,
-            host.owners k,
-            shows.buffers k,
-            copies-append k (owners driver) (buffers_of (all_of before.queues)),
-            copies-append k (owners driver') (buffers_of shows.kept),
-            copies-append k (owners driver') (buffers_of (all_of after.queues)),
-            kept-copies k before.kinds before.queues after.queues shows.kept queues,
-          ));
+          omega (arith, host.owners k, shown-owners driver driver' before after n host shows k));
       sizes =
           All-permutation frame (all_of before.queues ++ shows.kept) (all_of after.queues) queues.all
           (All-append frame (all_of before.queues) shows.kept host.sizes
           (kept-are-frames before after shows.shown shows.kept shows.told shows.sizes));
+    }
+
+-- MPC is read before the slots are taken, and then the ring is refilled: neither changes what was shown.
+pub served-shows : (n : ℕ) (driver driver' : DriverState) (before after : SocketsState)
+    → Serves (record { took = Sorts }) before after driver driver' n → ShowsAll Sorts before after driver driver' n
+served-shows n driver driver' before after serves =
+    let shows = serves.takes.shows in
+    let bad : GrowsBy driver.bad serves.taken.bad (n - length shows.shown) = shows.bad in
+    let last : driver'.bad ≡ serves.taken.bad = ap (λ (d : DriverState). d.bad) serves.offers.others in
+    record {
+      shown = shows.shown;
+      kept = shows.kept;
+      told = shows.told;
+      count = shows.count;
+      sizes = shows.sizes;
+      bad = record {
+        least = omega (arith, bad.least, last);
+        most = omega (arith, bad.most, last);
+        exactly = λ below. let same = bad.exactly (omega (arith, below, last)) in omega (arith, same, last);
+      };
+      buffers = λ k.
+          let numbers : copies k (owners driver) ≡ copies k (owners serves.taken ++ buffers_of shows.kept) = shows.buffers k in
+          omega (
+            arith,
+            numbers,
+            serves.owners k,
+            copies-append k (owners serves.taken) (buffers_of shows.kept),
+            copies-append k (owners driver') (buffers_of shows.kept),
+          );
     }
 
 pub handled-host : (result : Handled) (driver driver' : DriverState) (before after : SocketsState) → IsHost driver before
@@ -191,7 +236,7 @@ pub handled-host : (result : Handled) (driver driver' : DriverState) (before aft
 handled-host NotMine driver driver' before after host stays serves counts = subst (λ (s : SocketsState). IsHost driver' s)
     (sym stays.1) (subst (λ (d : DriverState). IsHost d before) (sym stays.0) host)
 handled-host (answers.Handled taken) driver driver' before after host stays serves counts = shown-host driver driver' before after
-    taken host serves.shows counts
+    taken host (served-shows taken driver driver' before after serves) counts
 
 -- At first nothing waits.
 pub new-host : (driver : DriverState) (sockets : SocketsState) (kinds : List SocketKind) (room : ℕ)
@@ -219,20 +264,34 @@ pub sorts-all : (result : Handled) (driver driver' : DriverState) (before after 
     → IfHandled result (Serves (record { took = Sorts }) before after driver driver')
     → IfHandled result (HostServes (host_with driver before) (host_with driver' after))
 sorts-all NotMine driver driver' before after host serves = tt
-sorts-all (answers.Handled taken) driver driver' before after host serves = record {
-  sorts = record {
-    shown = serves.shows.shown;
-    count = serves.shows.count;
-    sizes = serves.shows.sizes;
-    kinds = serves.shows.told.kinds;
-    queues = subst (Queues before.kinds before.queues after.queues) serves.shows.told.claimed
-        (shown-queues driver driver' before after taken host serves.shows);
-    unclaimed = serves.shows.told.unclaimed;
-    bad = serves.shows.bad;
-  };
-  refilled = serves.refilled;
-  offered = serves.offered;
-}
+sorts-all (answers.Handled taken) driver driver' before after host serves =
+    let shows = served-shows taken driver driver' before after serves in
+    let count : taken + length serves.taken.buffers ≡ length driver.buffers = serves.takes.count in
+    record {
+      misses = record {
+        misses = serves.misses;
+        missed = ap (λ (d : DriverState). d.missed) serves.offers.others ∙ ap (λ (d : DriverState). d.missed) serves.takes.others;
+        exact = ap (λ (d : DriverState). d.exact) serves.offers.others ∙ ap (λ (d : DriverState). d.exact) serves.takes.others;
+      };
+      sorts = record {
+        shown = shows.shown;
+        count = shows.count;
+        sizes = shows.sizes;
+        kinds = shows.told.kinds;
+        queues = subst (Queues before.kinds before.queues after.queues) shows.told.claimed
+            (shown-queues driver driver' before after taken host shows);
+        unclaimed = shows.told.unclaimed;
+        bad = shows.bad;
+      };
+      outstanding = omega (arith, count);
+      next =
+          ap (λ (d : DriverState). d.oldest_receive) serves.offers.others
+          ∙ serves.takes.next
+          ∙ ap (λ (d : DriverState). place d.layout.rx driver.oldest_receive taken) serves.takes.others;
+      owners = shown-owners driver driver' before after taken host shows;
+      refilled = serves.offers.refilled;
+      offered = ap (λ (d : DriverState). d.staged) serves.offers.others;
+    }
 
 pub new-ready : {up : Bool} (driver : DriverState) (sockets : SocketsState) (kinds : List SocketKind) (room : ℕ) (world : World)
     → sockets ≡ record { kinds = kinds; queues = replicate (length kinds) []; room = room; unclaimed = 0 } → driver.handed_out ≡ []

@@ -19,7 +19,7 @@ use Rattle.driver_law.specs.ReadyDrivers.{ReadyWith, Stands}
 use Rattle.driver.specs.RefillSteps.{Refills}
 use Rattle.driver.specs.TakenFrames.{AreFrames, IsFrameSize}
 use Rattle.driver.specs.declared.receiver.Received.{Received}
-use Rattle.packet_socket.specs.HostCalls.{HostMoment, IsReadyHost, Leaves, Receives, driver_at, receive_accesses}
+use Rattle.packet_socket.specs.HostCalls.{HostMoment, IsReadyHost, LeavesQueue, Receives, driver_at, receive_accesses}
 use Rattle.packet_socket.specs.HostStretches.{Given, given_for}
 use Rattle.packet_socket.specs.HeldFrames.{driver_of, waiting_frame, waiting_frames, waiting_entry}
 use Rattle.packet_socket.specs.HostState.{HostState}
@@ -59,7 +59,7 @@ gives-others d d' before after driver kinds unclaimed =
 pub host-receives : {up : Bool} {B : Type 0} (bus : Ghosts B)
     → ((a b c : B) (first later : Past) → bus.happened a b first → bus.happened b c later → bus.happened a c (joined first later))
     → (old new : HostMoment B) (b : B) (socket size : ℕ) (received : Received) (bytes : List ℕ) → IsReadyHost bus up old
-    → Splits old.host.queues socket received (queue_at new.host.queues socket) → Leaves old.host new.host socket size received
+    → Splits old.host.queues socket received (queue_at new.host.queues socket) → LeavesQueue old.host new.host socket size received
     → Ran bus up (only (Loads (buffer_at old.host.driver.layout received.buffer) size ∷ [])) (driver_at bus old)
     (at b (driver_at bus old).driver)
     → ((first later : List HandedOut) (one : HandedOut) → ReadyWith up (holding (first ++ one ∷ later) old.host.driver) (bus.world old.bus)

@@ -19,13 +19,13 @@ use Rattle.driver_law.specs.Calls.{at}
 use Rattle.driver_law.specs.DriverState.{DriverState, HandedOut, buffer_at, holding, numbers_of}
 use Rattle.driver_law.specs.Stretches.{FlowsTo, driver_did, driver_in}
 use Rattle.driver_law.specs.ReadyDrivers.{ReadyWith, Stands}
-use Rattle.driver.specs.HandlerSteps.{Asked, Handles, HandlesIt, LeavesIt, IfNotMine, IfHandled}
+use Rattle.driver.specs.HandlerSteps.{Asked, Handles, HandlesIt, DoesNothing, IfNotMine, IfHandled}
 use Rattle.driver.specs.TakenFrames.{GrowsBy, IsPart, Scene, buffers_of, frames_of as frames_of_slots, held_in, received_of}
 use Rattle.driver.specs.declared.interrupt.Handled.{Handled}
 use Rattle.driver.specs.declared.interrupt.Handled.TheVariants.{NotMine}
 use Rattle.driver.specs.declared.interrupt.Handled.TheVariants as answers
 use Rattle.driver.specs.declared.receiver.Received.{Received}
-use Rattle.packet_socket.specs.HostCalls.{HostHandles, HostHandlesIt, HostLeaves, HostMoment, IsReadyHost, driver_at, host_at}
+use Rattle.packet_socket.specs.HostCalls.{HostHandles, HostHandlesIt, HostDoesNothing, HostMoment, IsReadyHost, driver_at, host_at}
 use Rattle.packet_socket.specs.HeldFrames.{HostReadyWith, driver_of, waiting_frame, socket_frames, waiting_frames, waiting_entry}
 use Rattle.packet_socket.specs.HeldFrames.{without_socket}
 use Rattle.packet_socket.specs.HostState.{HostState}
@@ -43,8 +43,8 @@ host_in now = record { bus = now.bus; host = host_with now.driver now.receiver }
 
 -- It does nothing.
 leaves : {up : Bool} {B : Type 0} (bus : Ghosts B) (old : HostMoment B) (new : B) (asked : Asked bus up (driver_at bus old))
-    → IsReadyHost bus up old → LeavesIt bus (driver_at bus old) (at new (driver_at bus old).driver) asked
-    → HostLeaves bus old (host_at new old.host) asked
+    → IsReadyHost bus up old → DoesNothing bus (driver_at bus old) (at new (driver_at bus old).driver) asked
+    → HostDoesNothing bus old (host_at new old.host) asked
 leaves {up} {B} bus old new asked is it =
     let h = old.host in
     let past = asked.reads.past in
@@ -235,11 +235,11 @@ host-handles {up} {B} bus old new NotMine sound sound' is stays it =
     let d = (driver_at bus (host_in old)).driver in
     let same : host_with new.driver new.receiver ≡ (host_in old).host = ap (λ (s : DriverState). host_with s new.receiver) stays.0
     ∙ ap (host_with old.driver) stays.1 in
-    let left : LeavesIt bus (driver_at bus (host_in old)) (at new.bus d) it.asked = subst
-    (λ (s : DriverState). LeavesIt bus (driver_at bus (host_in old)) (at new.bus (holding d.handed_out s)) it.asked) stays.0 it.then_does in
+    let left : DoesNothing bus (driver_at bus (host_in old)) (at new.bus d) it.asked = subst
+    (λ (s : DriverState). DoesNothing bus (driver_at bus (host_in old)) (at new.bus (holding d.handed_out s)) it.asked) stays.0 it.then_does in
     record {
       asked = it.asked;
-      then_does = subst (λ (end : HostState). HostLeaves bus (host_in old) (host_at new.bus end) it.asked) (sym same)
+      then_does = subst (λ (end : HostState). HostDoesNothing bus (host_in old) (host_at new.bus end) it.asked) (sym same)
           (leaves bus (host_in old) new.bus it.asked is left);
     }
 host-handles {up} {B} bus old new (answers.Handled taken) sound sound' is stays it = record {

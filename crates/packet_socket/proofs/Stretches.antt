@@ -15,7 +15,7 @@ use Rattle.driver_law.specs.Calls.{Moment, Ran, at, call_did, held_at}
 use Rattle.driver_law.specs.DriverState.{DriverState, HandedOut, holding}
 use Rattle.driver_law.specs.Stretches.{FlowsTo, GoesTo, driver_did, driver_in}
 use Rattle.driver_law.specs.ReadyDrivers.{ReadyWith, Stands}
-use Rattle.driver.specs.SendSteps.{Answer, IsAnswer, Sends, accesses_by, accepted_by}
+use Rattle.driver.specs.SendSteps.{SendAnswer, IsAnswer, Sends, accesses_by, accepted_by}
 use Rattle.packet_socket.specs.HostCalls.{HostMoment, HostSends, IsReadyHost, driver_at, host_at}
 use Rattle.packet_socket.specs.HostStretches.{Accounts, HostDid, HostFlowsTo, HostGoesTo, HostInWorld, did_both, did_nothing, in_world}
 use Rattle.packet_socket.specs.HeldFrames.{HostReadyWith, driver_of, waiting_frame, waiting_frames}
@@ -103,7 +103,7 @@ ran-as {up} bus xs ys old new d e e' taken sent accesses last ran = record {
 }
 
 -- A frame is sent.
-pub host-transmits : {B : Type 0} (bus : Ghosts B) (old : HostMoment B) (new : Moment B) (frame : List ℕ) (result : Answer)
+pub host-transmits : {B : Type 0} (bus : Ghosts B) (old : HostMoment B) (new : Moment B) (frame : List ℕ) (result : SendAnswer)
     → IsReadyHost bus true old → Sends bus frame result (driver_at bus old) (held_at (driver_at bus old).driver.handed_out new)
     → HostSends bus frame result old (host_at new.bus (with_driver new.driver old.host))
 host-transmits bus old new frame result is sends =

@@ -1,9 +1,11 @@
 -- A host, as plain data: its driver, the table of its sockets, and the frames queued for them (our choice).
-use Rattle.std.specs.Prelude.{◌≡◌, ℕ, List, [], length, replicate}
+use Rattle.std.specs.Prelude.{◌≡◌, ◌++◌, ℕ, List, [], length, replicate}
 use Rattle.driver.specs.declared.receiver.Received.{Received}
 use Rattle.bring_up.specs.declared.config.Config.{Config}
 use Rattle.driver.specs.Initialisation.{IsFresh}
-use Rattle.driver_law.specs.DriverState.{DriverState}
+use Rattle.driver_law.specs.DriverState.{DriverState, owners}
+use Rattle.driver.specs.TakenFrames.{buffers_of}
+use Rattle.packet_socket.specs.SocketsState.{all_of}
 use Rattle.packet_socket.specs.declared.socket_kind.SocketKind.{SocketKind}
 
 pub record HostState : Type 0 where
@@ -14,6 +16,10 @@ pub record HostState : Type 0 where
   pub queues : List (List Received)
   -- the number of frames that no socket took, up to the greatest u64
   pub unclaimed : ℕ
+
+-- the buffers of all owners, one after the other: of the driver, and of the queued frames
+abbrev pub host_owners : HostState → List ℕ
+host_owners host = owners host.driver ++ buffers_of (all_of host.queues)
 
 -- a host with empty queues that has counted nothing
 abbrev pub new_host : DriverState → List SocketKind → HostState

@@ -5,7 +5,7 @@ use Rattle.std.specs.Prelude.{Err, Ok, Result}
 use Rattle.std.proofs.lemmas.Bool.Decides.{Decides-eqb, Decides-like, same_from_decides}
 use Rattle.std.proofs.lemmas.List.{append-nil}
 use Rattle.descriptors.specs.Frames.{padded}
-use Rattle.driver.specs.SendSteps.{Answer as SendAnswer, accepted_by}
+use Rattle.driver.specs.SendSteps.{SendAnswer, accepted_by}
 use Rattle.packet_socket.specs.HostStretches.{Given, given_for}
 use Rattle.packet_socket.specs.declared.receive.RecvError.{RecvError}
 use Rattle.stations.specs.AtomicSteps.{AtomicStep}

@@ -1,6 +1,6 @@
 -- What an event and its reply say of all hosts (our choice).
 use Rattle.std.specs.Prelude.{◌≡◌, ◌≢◌, ◌≤◌, ◌↔◌, ◌++◌, ◌∷◌, [], ℕ, All, List, Result, length, map, slice_get}
-use Rattle.driver.specs.SendSteps.{Answer as SendAnswer}
+use Rattle.driver.specs.SendSteps.{SendAnswer}
 use Rattle.driver.specs.declared.interrupt.Handled.{Handled}
 use Rattle.packet_socket.specs.HostState.{HostState}
 use Rattle.packet_socket.specs.declared.receive.RecvError.{RecvError}
@@ -54,7 +54,7 @@ pub record HostsGo (caller : ℕ) (happened : List Happening) (steps : List Atom
 pub record IsSendAnswer (host : ℕ) (frame : List ℕ) (answer : Answer) (steps : List AtomicStep) (old new : ConnectedHost) : Type 0 where
   pub result : SendAnswer
   pub is : answer ≡ Sent result
-  pub answers : AnswersSend result frame old.host.driver.layout (world_at old.stations host)
+  pub answers : AnswersSend result frame old.host new.host (world_at old.stations host)
   pub leaves : LeavesSend result old.host new.host (counted_of 0 steps)
   -- the accesses of its driver are exactly these, in order
   pub makes : MakesSend result frame old.host new.host (past_at host steps).accesses

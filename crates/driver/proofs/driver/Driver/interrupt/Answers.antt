@@ -1,11 +1,9 @@
-use Rattle.std.proofs.Common.{◌≡◌, true, false, ◌++◌, refl, ap, arith}
-use Rattle.dma_memory.specs.Owners.{copies}
-use Rattle.dma_memory.specs.OwnersLaws.{copies-append}
+use Rattle.std.proofs.Common.{◌≡◌, true, false, ◌++◌, refl, subst}
 use Rattle.registers.specs.Bits.{Meet}
 use Rattle.driver_law.proofs.RegisterAccesses.{reads-causes}
-use Rattle.driver_law.specs.DriverState.{DriverState, holding, owners}
+use Rattle.driver_law.specs.DriverState.{DriverState, holding}
 use Rattle.bring_up.specs.WrittenRegisters.{handled_causes}
-use Rattle.driver.specs.TakenFrames.{buffers_of, scene}
+use Rattle.driver.specs.TakenFrames.{TakesSlots, scene}
 use Rattle.driver.proofs.HandlerSteps.{Follows, handled-timer, handles-it}
 use Rattle.driver.proofs.driver.Driver.interrupt.Goals as goal
 
@@ -27,43 +25,16 @@ returns-then-not-is_mine-clause-handles g c up held is =
     }
 
 pub returns-clause-serves : goal.returns-clause-serves
-returns-clause-serves g c =
-    let d1 = c.args.self.now in
-    let d2 = c.count_missed.new.self in
-    let d3 = c.take_finished-taken.new.self in
-    let d4 = c.refill.new.self in
-    let all = c.take_finished-taken.ensures.slots.shows in
-    let first : d2.bad ≡ d1.bad = ap (λ (s : DriverState). s.bad) c.count_missed.ensures.others in
-    let last : d4.bad ≡ d3.bad = ap (λ (s : DriverState). s.bad) c.refill.ensures.offers.others in
-    record {
-      shows = record {
-        shown = all.shown;
-        kept = all.kept;
-        told = all.told;
-        count = all.count;
-        sizes = all.sizes;
-        bad = record {
-          least = omega (arith, all.bad.least, first, last);
-          most = omega (arith, all.bad.most, first, last);
-          exactly = λ below. let same = all.bad.exactly (omega (arith, below, last)) in omega (arith, same, first, last);
-        };
-        buffers = λ k.
-            let same : copies k (owners d2)
-            ≡ copies k (owners d1) = ap (λ (s : DriverState). copies k (owners s)) c.count_missed.ensures.others in
-            omega (
-              arith,
-              same,
-              all.buffers k,
-              c.refill.ensures.owners k,
-              copies-append k (owners d3) (buffers_of all.kept),
-              copies-append k
-                  (owners d4) (buffers_of all.kept),
-            );
-      };
-      refilled = c.refill.ensures.offers.refilled;
-      offered = ap (λ (s : DriverState). s.staged) c.refill.ensures.offers.others;
-      one_owner = c.refill.ensures.offers.one_owner;
-    }
+returns-clause-serves g c = record {
+  misses = c.count_missed.result;
+  taken = c.take_finished-taken.new.self;
+  takes = subst (λ (d : DriverState).
+      TakesSlots g.R.Receiver c.take_finished-taken.result c.args.receiver.now c.take_finished-taken.new.receiver d
+      c.take_finished-taken.new.self) c.count_missed.ensures.others
+      c.take_finished-taken.ensures.slots;
+  offers = c.refill.ensures.offers;
+  owners = c.refill.ensures.owners;
+}
 
 pub returns-clause-handles : goal.returns-clause-handles
 returns-clause-handles g c up held is =

@@ -11,12 +11,14 @@ pub returns-then-frame-lt-SHORTEST_SENT-clause-transmits : goal.returns-then-fra
 returns-then-frame-lt-SHORTEST_SENT-clause-transmits g c held is = record {
   ran = ran_by-stays g.B.Bus g.met.B.Bus.composes.stays c.args.bus.now (holding held c.args.self.now) is.ready;
   answer = tt;
+  frees_first = tt;
 }
 
 pub returns-then-frame-gt-LONGEST_SENT-clause-transmits : goal.returns-then-frame-gt-LONGEST_SENT-clause-transmits
 returns-then-frame-gt-LONGEST_SENT-clause-transmits g c held is = record {
   ran = ran_by-stays g.B.Bus g.met.B.Bus.composes.stays c.args.bus.now (holding held c.args.self.now) is.ready;
   answer = tt;
+  frees_first = tt;
 }
 
 pub returns-then-self-tx-clause-transmits : goal.returns-then-self-tx-clause-transmits
@@ -27,7 +29,7 @@ returns-then-self-tx-clause-transmits g c held is =
     let sending = ap (λ (state : DriverState). state.sending) c.self.view_is in
     let full : c.reclaim.new.self.sending + 1 ≡ c.args.self.now.layout.tx =
     omega (arith, c.if-self-tx.true, c.tx.ensures.count, count, inside, sending) in
-    record { ran = reclaims.ran; answer = was-full g.B.Bus _ _ is reclaims full }
+    record { ran = reclaims.ran; answer = was-full g.B.Bus _ _ is reclaims full; frees_first = reclaims }
 
 pub returns-clause-transmits : goal.returns-clause-transmits
 returns-clause-transmits g c held is =

@@ -6,7 +6,7 @@ use Rattle.packet_socket.specs.HostCalls.{host_at}
 use Rattle.packet_socket.specs.InsideHost.{host_of, host_with}
 use Rattle.packet_socket.specs.SocketsState.{SocketsState}
 use Rattle.packet_socket.proofs.GivenFrames.{gives-others, host-receives}
-use Rattle.packet_socket.proofs.ConsistentHosts.{can-come-back, entry-splits, stays-host}
+use Rattle.packet_socket.proofs.ConsistentHosts.{can-come-back, entry-splits, stays-host, stays-owners}
 use Rattle.packet_socket.proofs.host.Host.recv.Goals as goal
 
 pub read-size-requires-clause-known : goal.read-size-requires-clause-known
@@ -67,6 +67,8 @@ returns-clause-ok g c = rw (← c.self.view_is) (
       };
       others = gives-others d c.give.new.self before c.next.new.self c.give.ensures.offers.others
           (ap (λ (s : SocketsState). s.kinds) c.in-Some.ensures.others) (ap (λ (s : SocketsState). s.unclaimed) c.in-Some.ensures.others);
+      owners = stays-owners d c.give.new.self before c.next.new.self c.args.socket c.in-Some.received parts c.in-Some.ensures.others
+          c.give.ensures.owners;
       refilled = c.give.ensures.offers.refilled;
       legal = subst IsFrameSize (sym c.read-size.ensures.length)
           (can-come-back d before c.args.socket c.in-Some.received _ c.self.invariant parts).size;
