@@ -28,10 +28,10 @@ from the top of the repository:
 
 Exit status: 0 success, 1 a trace or a scenario is invalid, 2 usage error, help or version, 3 a file failed,
 4 out of memory. After 1, 3 and 4 standard error has 'nicbench: CODE NAME'. IN is any input: also the TRACE
-of show, and the SCENARIO of run with each FILE that it feeds. Standard input is read if IN is -, once. Like
-a named pipe it is read to its end first, up to 1 GiB. OUT is any output: also each file in the OUTDIR of
-run. Codes E40 to E56 come from run only: nicbench run --help. For E57, E66 and E67 of serve: nicbench serve
---help
+of show, and the SCENARIO of run with each FILE that it feeds. If IN is -, it is standard input, which can be
+read only once. Standard input and named pipes are read to their end first, up to 1 GiB. OUT is any output:
+also each file in the OUTDIR of run. Codes E40 to E56 come from run only: nicbench run --help. For E57, E66
+and E67 of serve: nicbench serve --help
 
   E57 Memory    Out of memory before anything was written, or standard input or a pipe has more than
                 1 GiB. Free some, split IN, or copy it to a file first
@@ -58,9 +58,9 @@ Arguments:
   <OUT>  The trace to write, a pcap file
 
 Options:
-      --address <A>  Let frames for this address pass, as 02:00:00:00:00:01
-      --group <G>    Let frames for this group pass, as 01:00:5e:00:00:01
-      --vlan <N>     Let tagged frames pass only if they are of this VLAN, 0 to 4095, as 5
+      --address <A>  Let frames for this address pass, such as 02:00:00:00:00:01
+      --group <G>    Let frames for this group pass, such as 01:00:5e:00:00:01
+      --vlan <N>     Let tagged frames pass only if they are of this VLAN, 0 to 4095, such as 5
   -h, --help         Print help
 
 Frames for the broadcast address also pass. Without --address and --group, frames for every address pass.
@@ -117,15 +117,16 @@ bytes to another, and its adapter pads it to 60:
 First come the lines that set up hosts:
 
   # TEXT                  a comment
-  host NAME ADDRESS WIRE  a host with this Ethernet address at this wire. Options may follow: rx N and
-                          tx N, the descriptors of its rings (8); buffers N (16); rxa N, the KB of its
-                          receive packet buffer, 2 for each frame (48); link N, the ticks of its PHY
-                          until its link is up (1), or link never; promiscuous
+  host NAME ADDRESS WIRE  a host with this Ethernet address at this wire. Options may follow; defaults are in
+                          parentheses: rx N and tx N, the number of descriptors in each ring (8);
+                          buffers N, the number of receive buffers (16); rxa N, the KB of its receive
+                          packet buffer, 2 for each frame (48); link N, the ticks of its PHY until its
+                          link is up (1), or link never; promiscuous
   group HOST ADDRESS      a multicast address whose frames it also receives
   vlan HOST N             a VLAN; the host receives its tagged frames. Without a vlan line, it receives
                           those of any VLAN
-  socket HOST N           a socket for an EtherType, four hexadecimal digits as 88b5; or 'all', for the
-                          frames that no other socket is for. A host's sockets are numbered from 0
+  socket HOST N           a socket for an EtherType, four hexadecimal digits such as 88b5; or 'all', for
+                          the frames that no other socket takes. A host's sockets are numbered from 0
 
 Then come the events, numbered from 0:
 
@@ -144,9 +145,9 @@ Then come the events, numbered from 0:
                           input
   auto COUNT START        COUNT random events, up to 1000000; START is the seed
 
-OUTDIR/h.s.pcap is the trace of the frames that socket s of host h returned. The time of each frame is the
-number of its event, in microseconds. Files that don't exist are created, empty, before the first event. All
-files are written after the last event; an existing one loses its bytes when its first new byte is written.
+OUTDIR/h.s.pcap is the trace of the frames that socket s of host h returned. The timestamp of each frame, in
+microseconds, is the number of its event. Files that don't exist are created, empty, before the first event.
+All files are written after the last event; an existing one loses its bytes when its first new byte is written.
 So on an error existing files are unchanged, unless it is E67: then the files before the one that failed are
 complete, and those after it are unchanged. Standard output has a line for each host:
 
@@ -154,7 +155,7 @@ complete, and those after it are unchanged. Standard output has a line for each 
 
 The counts are of frames that its sends accepted, that its adapter put on the wire, that reached it, that
 it stored, and that it missed because its receive packet buffer was full ('atleast' in place of 'exact' if
-there may be more); then frames that its sockets returned, and frames that were for none of them.
+there may be more); then frames that its sockets returned, and frames that none of its sockets takes.
 
 For an error in a line, standard error has 'nicbench: line N: CODE NAME', and else 'nicbench: CODE NAME'. If
 existing files in OUTDIR are unchanged, a second line says so:
@@ -167,8 +168,8 @@ existing files in OUTDIR are unchanged, a second line says so:
                 to 4096, rxa even from 2 to 48, link at least 1; the first byte of a group is odd, and a
                 VLAN is at most 4095
   E45 Memory    Out of memory for the hosts. Free some, or use fewer buffers
-  E46 Init      An adapter could not be initialized; the reason follows, as E14 NoLink: its link is never
-                up, or only after more than 2000 ticks. Use a smaller link
+  E46 Init      An adapter could not be initialized; the reason follows, such as E14 NoLink: its link is
+                never up, or only after more than 2000 ticks. Use a smaller link
   E47 Memory    Out of memory during the run. Free some, or split the scenario
   E50 Word      The first word is none of those above. Correct it, or begin a comment with #
   E51 Count     There are too few or too many words, or an option twice. Compare with the list above
@@ -217,7 +218,7 @@ SERVE_HELP = b"""Serve an adapter and its memory to a driver, a request a line
 Usage: nicbench serve [OPTIONS]
 
 Options:
-      --memory <BYTES>       Bytes of memory, from address 0, as 0x100000 [1048576]
+      --memory <BYTES>       Bytes of memory, from address 0, such as 0x100000 [1048576]
       --registers <ADDRESS>  Address of the 131,072 bytes of registers [0xFEB00000]
       --address <A>          The Ethernet address in the EEPROM [02:00:00:00:00:01]
       --link <N|never>       Ticks of the PHY until the link is up, 1 to 65535 [1]

@@ -112,14 +112,14 @@ fn shown(option: ValueOption) -> (&'static str, &'static str) {
 }
 
 const ADDRESS_FORM: &str =
-    "an address is six pairs of hexadecimal digits joined by colons, as 02:00:00:00:00:01";
+    "an address is six pairs of hexadecimal digits joined by colons, such as 02:00:00:00:00:01";
 
-const GROUP_FORM: &str = "a group is an address whose first byte is odd, as 01:00:5e:00:00:01";
+const GROUP_FORM: &str = "a group is an address whose first byte is odd, such as 01:00:5e:00:00:01";
 
-const VLAN_FORM: &str = "a VLAN is a decimal number from 0 to 4095, as 5";
+const VLAN_FORM: &str = "a VLAN is a decimal number from 0 to 4095, such as 5";
 
 const MEMORY_FORM: &str =
-    "bytes are a decimal number below 2^64, or a hexadecimal one behind 0x, as 0x100000";
+    "bytes are a decimal number below 2^64, or a hexadecimal one after 0x, such as 0x100000";
 
 const REGISTERS_FORM: &str =
     "a place is a decimal number below 2^64, or a hexadecimal one behind 0x, as 0xFEB00000";
