@@ -170,7 +170,7 @@ def sending(bench):
         row(bench, name, schedule.does(RECV), *counts(len(taken)))
 
     row_of("a full ring rejects a frame", fill + refused, frames[:7])
-    row_of("a frame that was taken frees no slot", fill + refused + ["tick txtake:a"] + refused, frames[:7])
+    row_of("fetching a frame frees no transmit slot", fill + refused + ["tick txtake:a"] + refused, frames[:7])
     row_of("a frame that was put frees one slot", fill + ["tick txtake:a"] + refused + ["tick txput:a"] + send(frames[7]) + refused, frames[:8])
     row_of("a slot is done after its descriptor was loaded", fill + send(frame(50), "go txtake:a txput:a") + send(frames[7]), frames[:8])
     row_of("a slot is done before its descriptor is loaded", fill + send(frames[7], "txtake:a txput:a") + refused, frames[:8])
