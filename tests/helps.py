@@ -38,7 +38,7 @@ and E67 of serve: nicbench serve --help
   E60 Header    IN has fewer than 24 bytes, so it isn't a trace. Name another file, or check the program
                 that writes into the pipe
   E61 Magic     IN isn't a pcap file. Convert a pcapng file: editcap -F pcap IN OUT
-  E62 Version   IN isn't version 2.4 of the format. Convert it: editcap -F pcap IN OUT
+  E62 Version   IN isn't a pcap file of version 2.4. Convert it: editcap -F pcap IN OUT
   E63 LinkType  IN isn't a trace of Ethernet frames. Capture it at an Ethernet interface
   E64 Record    A packet of IN claims more than 262,144 bytes, so IN is damaged. Capture it again
   E65 Memory    Out of memory while IN was read. Free some, or split IN:
@@ -123,8 +123,8 @@ First come the lines that set up hosts:
                           packet buffer, 2 for each frame (48); link N, the ticks of its PHY until its
                           link is up (1), or link never; promiscuous
   group HOST ADDRESS      a multicast address whose frames it also receives
-  vlan HOST N             a VLAN; the host receives its tagged frames. Without a vlan line, it receives
-                          those of any VLAN
+  vlan HOST N             a VLAN. The host receives tagged frames of this VLAN only; without a vlan line,
+                          it receives those of any VLAN
   socket HOST N           a socket for an EtherType, four hexadecimal digits such as 88b5; or 'all', for
                           the frames that no other socket takes. A host's sockets are numbered from 0
 
@@ -238,7 +238,7 @@ cause (ICS), and reads the causes (ICR):
   IRQ lower 0
   OK 0x0000000000000080
 
-The requests; the first six are those of QEMU's qtest:
+The requests. QEMU's qtest protocol has the first six lines of this list, too:
 
   readl ADDR              reads 32 bits; also readb (8), readw (16) and readq (64)
   writel ADDR VALUE       writes 32 bits; also writeb, writew and writeq

@@ -1,4 +1,4 @@
--- The conditions under which a driver and its adapter share memory: without them no frame can be told from another (own).
+-- The conditions under which a driver and its adapter share memory: without them no frame can be told from another (our choice).
 use Rattle.std.specs.Prelude.{◌≡◌, ◌≤◌, ◌++◌, ℕ, true, List, All, map}
 use Rattle.descriptors.specs.Frames.{longest_frame, shortest_frame}
 use Rattle.dma_memory.specs.Areas.{AreSeparate}

@@ -1,4 +1,4 @@
--- The frames that an adapter holds, and what its steps and arrivals do to them (own): what the engines' laws are of an adapter.
+-- The frames that an adapter holds, and what its steps and arrivals do to them (our choice): what the engines' laws are of an adapter.
 use Rattle.std.specs.Prelude.{◌≡◌, ◌++◌, ◌∷◌, ℕ, List, All, Bool, length, Some}
 use Rattle.dma_memory.specs.Areas.{AreApart, area_at, descriptor_area}
 use Rattle.dma_memory.specs.HostMemory.{LiesIn}

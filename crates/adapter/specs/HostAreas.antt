@@ -1,4 +1,4 @@
--- The areas of a host's memory that its rings and frames need, and those that its adapter may write (own).
+-- The areas of a host's memory that its rings and frames need, and those that its adapter may write (our choice).
 use Rattle.std.specs.Prelude.{◌+◌, ◌*◌, ◌++◌, ℕ, Bool, List, [], ◌∷◌, All, Option, None, Some, map, if◌then◌else◌}
 use Rattle.dma_memory.specs.Areas.{AreApart, Area}
 use Rattle.registers.specs.Bits.{field, is_set}

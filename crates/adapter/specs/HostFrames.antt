@@ -1,4 +1,4 @@
--- The frames that a host and its adapter hold, read from memory's bytes and the indices of the rings (own).
+-- The frames that a host and its adapter hold, read from memory's bytes and the indices of the rings (our choice).
 use Rattle.std.specs.Prelude.{◌≤◌, ◌++◌, ℕ, true, List, All, length, map}
 use Rattle.dma_memory.specs.Areas.{Area, bytes_in}
 use Rattle.rx_engine.specs.Descriptors.{descriptor_at}

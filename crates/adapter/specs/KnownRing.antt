@@ -1,4 +1,4 @@
--- A descriptor ring as its driver knows it (own).
+-- A descriptor ring as its driver knows it (our choice).
 use Rattle.std.specs.Prelude.{◌≡◌, ◌<◌, ℕ}
 use Rattle.descriptors.specs.declared.ring.Ring.{Ring}
 use Rattle.descriptors.specs.Ring.{count_of}

@@ -1,7 +1,7 @@
 -- PBA, the packet buffer allocation register: how many kilobytes of the packet buffer are the receive part's (RXA).
 use Rattle.std.specs.Prelude.{◌≡◌, ◌≤◌, ◌+◌, ◌-◌, ◌*◌, ◌%◌, ◌==◌, ◌&&◌, ℕ, Bool, nat_le, if◌then◌else◌}
 
--- RXA is an even number from 2 to 48 (own)
+-- RXA is an even number from 2 to 48 (our choice)
 pub record IsAllocation (kilobytes : ℕ) : Type 0 where
   pub least : 2 ≤ kilobytes
   pub most : kilobytes ≤ 48
@@ -11,10 +11,10 @@ pub record IsAllocation (kilobytes : ℕ) : Type 0 where
 abbrev pub is_allocation : ℕ → Bool
 is_allocation kilobytes = nat_le 2 kilobytes && (nat_le kilobytes 48 && kilobytes % 2 == 0)
 
--- a write sets RXA, bits 15:0, at once where it may be that; any other write is ignored (own)
+-- a write sets RXA, bits 15:0, at once where it may be that; any other write is ignored (our choice)
 abbrev pub allocation_written : ℕ → ℕ → ℕ
 allocation_written value kilobytes = if is_allocation (value % 65536) then value % 65536 else kilobytes
 
--- PBA reads RXA in bits 15:0; its upper half reads what is left of 64 kilobytes for the transmit part (own)
+-- PBA reads RXA in bits 15:0; its upper half reads what is left of 64 kilobytes for the transmit part (our choice)
 abbrev pub allocation_shown : ℕ → ℕ
 allocation_shown kilobytes = (64 - kilobytes) * 65536 + kilobytes

@@ -26,7 +26,7 @@ use Rattle.adapter.specs.Transmitting.{moved_on}
 
 -- Arrivals.
 
--- how many frames the receive packet buffer has room for: each takes 2,048 bytes of its kilobytes (own)
+-- how many frames the receive packet buffer has room for: each takes 2,048 bytes of its kilobytes (our choice)
 abbrev pub room : AdapterState → ℕ
 room state = state.receive_kilobytes / 2
 
@@ -42,7 +42,7 @@ IsFate state frame Filtered = HasBit state.filter.rctl rctl_en × IsLegal frame 
 IsFate state frame Missed = GetsIn state frame × (room state ≤ length state.receiver.buffer)
 IsFate state frame Stored = GetsIn state frame × (length state.receiver.buffer < room state)
 
--- a frame that gets as far as the packet buffer while RDH equals RDT is counted by RNBC (own)
+-- a frame that gets as far as the packet buffer while RDH equals RDT is counted by RNBC (our choice)
 abbrev pub no_buffers_counted : AdapterState → ℕ
 no_buffers_counted state = if state.receive_ring.head == state.receive_ring.tail then one_more state.no_receive_buffers
     else state.no_receive_buffers

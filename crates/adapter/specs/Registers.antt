@@ -61,13 +61,13 @@ abbrev pub new_adapter : List ℕ → Link → AdapterState
 new_adapter words link = adapter_at_reset words (new_phy link) 48
 
 -- CTRL.RST leaves the PHY and PBA as they are, gives every other register its value after a reset, empties both packet buffers, drops the
--- frame in work and starts stopped engines again (own)
+-- frame in work and starts stopped engines again (our choice)
 abbrev pub after_reset : AdapterState → AdapterState
 after_reset state = adapter_at_reset state.image state.phy state.receive_kilobytes
 
 -- Reads.
 
--- STATUS shows the link of the PHY while CTRL.SLU, bit 6, is set (own)
+-- STATUS shows the link of the PHY while CTRL.SLU, bit 6, is set (our choice)
 abbrev pub shows_link : AdapterState → Bool
 shows_link state = link_is_up state.phy && is_set state.device_control ctrl_slu
 
@@ -132,7 +132,7 @@ by_rule Imc value state = record state { causes = record state.causes { mask = d
 by_rule Pba value state = record state { receive_kilobytes = allocation_written value state.receive_kilobytes }
 by_rule register value state = state
 
--- a write of CTRL with RST, bit 26, resets, and the rest of it is ignored (own)
+-- a write of CTRL with RST, bit 26, resets, and the rest of it is ignored (our choice)
 abbrev pub is_reset : Register → ℕ → Bool
 is_reset Ctrl value = is_set value ctrl_rst
 is_reset register value = false
@@ -147,7 +147,7 @@ abbrev pub write_of : Register → ℕ → AdapterState → AdapterState
 write_of register value state =
     if is_reset register value then after_reset state else by_row (row_of register).kept register value state
 
--- By offsets: where there is no register, a read answers 0, and neither a read nor a write changes anything (own).
+-- By offsets: where there is no register, a read answers 0, and neither a read nor a write changes anything (our choice).
 
 abbrev pub answer_of : Option Register → AdapterState → ℕ
 answer_of (Some register) state = answer register state

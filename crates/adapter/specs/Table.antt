@@ -28,11 +28,11 @@ plain offset kept reset = record { offset = offset; kept = Some kept; reset = λ
 abbrev pub ruled : ℕ → ℕ → Row
 ruled offset reset = record { offset = offset; kept = None; reset = λ words. reset }
 
--- RAL(0) is words 0 and 1 of the EEPROM, the earlier in the low half; the other entries are 0 (own)
+-- RAL(0) is words 0 and 1 of the EEPROM, the earlier in the low half; the other entries are 0 (our choice)
 abbrev pub address_low_at_reset : ℕ → List ℕ → ℕ
 address_low_at_reset entry words = if entry == 0 then slice_index words 1 * 65536 + slice_index words 0 else 0
 
--- RAH(0) is word 2 of the EEPROM with AV, bit 31; the other entries are 0 (own)
+-- RAH(0) is word 2 of the EEPROM with AV, bit 31; the other entries are 0 (our choice)
 abbrev pub address_high_at_reset : ℕ → List ℕ → ℕ
 address_high_at_reset entry words = if entry == 0 then alone rah_av + slice_index words 2 else 0
 

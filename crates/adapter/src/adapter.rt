@@ -81,7 +81,7 @@ impl Adapter {
     }
 
     /// A driver's read of the register at an offset in bytes. Where there is none it answers 0 and
-    /// changes nothing (own).
+    /// changes nothing (our choice).
     pub fn read(&mut self, offset: u32) -> u32
         ensures answer { result ≡ answer_at offset self.old }
         ensures state { self.new ≡ after_read offset self.old }
@@ -96,7 +96,7 @@ impl Adapter {
     }
 
     /// A driver's write of the register at an offset in bytes. Where there is none it is ignored
-    /// (own).
+    /// (our choice).
     pub fn write(&mut self, offset: u32, value: u32)
         ensures state { self.new ≡ after_write offset value self.old }
         ensures adapter { IsAdapter self.old }
@@ -108,7 +108,7 @@ impl Adapter {
         }
     }
 
-    /// Whether the interrupt line is asserted: exactly while a recorded cause is in the mask (own:
+    /// Whether the interrupt line is asserted: exactly while a recorded cause is in the mask (our choice:
     /// no throttling).
     pub fn line(&self) -> bool
         ensures line { IsTrue result ↔ Meet self.now.causes.recorded self.now.causes.mask }
@@ -127,7 +127,7 @@ impl Adapter {
 
     /// A step that the adapter takes by itself, on its host's memory; `wire_free` says whether the wire
     /// has room for a frame. `Nothing` changes nothing. A fault stops the engine until a reset, and
-    /// leaves memory and the indices of the rings (own).
+    /// leaves memory and the indices of the rings (our choice).
     ///
     /// Of memory a step changes at most the buffer that the receive descriptor at RDH names
     /// ([`RxData`](StepKind::RxData)), bytes 8 to 15 of the descriptor in work
@@ -265,7 +265,7 @@ impl Adapter {
     }
 
     /// A write of CTRL with RST resets, the packet buffers and engines too, and the rest of it is ignored
-    /// (own); PBA and the PHY stay. Any other write keeps its bits.
+    /// (our choice); PBA and the PHY stay. Any other write keeps its bits.
     fn write_ctrl(&mut self, value: u32)
         ensures state { self.new ≡ write_of Register.Ctrl value self.old }
     {
@@ -278,7 +278,7 @@ impl Adapter {
         }
     }
 
-    /// STATUS: the link of the PHY is shown while CTRL.SLU is set (own).
+    /// STATUS: the link of the PHY is shown while CTRL.SLU is set (our choice).
     fn status(&self) -> Status
         ensures { result.0 ≡ answer Register.Status self.now }
     {

@@ -32,7 +32,7 @@
 //! | 0x5404 + 8n | RAH(n), n 0 to 15 | 0x8000FFFF | RAH(0) from word 2 of the EEPROM with bit 31, AV; the others 0 |
 //! | 0x5600 to 0x57FC | VFTA, 128 words | 0xFFFFFFFF | 0 |
 //!
-//! Every other offset, one that isn't a multiple of 4 among them, reads 0 and ignores writes (own).
+//! Every other offset, one that isn't a multiple of 4 among them, reads 0 and ignores writes (our choice).
 
 /// The bytes of a register, by which the offsets of neighbours differ.
 pub const REGISTER_BYTES: u32 = 4;

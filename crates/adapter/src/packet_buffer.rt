@@ -28,7 +28,7 @@ const KILOBYTES_PER_FRAME: u32 = 2;
 const TXA_SHIFT: u32 = 16;
 
 /// PBA, the packet buffer allocation register: the kilobytes of the receive part, RXA, an even
-/// number from 2 to 48 (own).
+/// number from 2 to 48 (our choice).
 #[derive(Clone, Copy, Debug, PartialEq, Eq)]
 pub(crate) struct PacketBufferAllocation {
     receive_kilobytes: u32,
@@ -60,7 +60,7 @@ impl PacketBufferAllocation {
     }
 
     /// A write of PBA: RXA is set where it is an even number from 2 to 48; any other write is
-    /// ignored (own).
+    /// ignored (our choice).
     pub(crate) fn write(&mut self, value: u32)
         ensures { self.new ≡ allocation_written value self.old }
     {
@@ -79,7 +79,7 @@ impl PacketBufferAllocation {
         transmit_kilobytes << TXA_SHIFT | self.receive_kilobytes
     }
 
-    /// How many frames the receive part has room for: each takes 2,048 bytes (own).
+    /// How many frames the receive part has room for: each takes 2,048 bytes (our choice).
     pub(crate) fn frames(&self) -> u8
         ensures room { result ≡ self.now / 2 }
         ensures fits { result ≤ MOST_FRAMES }

@@ -23,7 +23,7 @@ impl Adapter {
     /// filter and the room that PBA gives the packet buffer.
     ///
     /// A frame that is missed is counted by MPC and records RXO. One that is stored or missed while RDH
-    /// equals RDT is counted by RNBC (own).
+    /// equals RDT is counted by RNBC (our choice).
     pub fn arrive(&mut self, frame: &[u8]) -> Fate
         ensures fate { IsFate self.old frame.now result }
         ensures state { self.new ≡ after_arrive result frame.now self.old }

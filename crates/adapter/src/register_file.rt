@@ -74,7 +74,7 @@ impl RegisterFile {
 }
 
 /// The filter after a reset: the address of the EEPROM is the first of the exact addresses, and VET
-/// is that of IEEE 802.1Q (own).
+/// is that of IEEE 802.1Q (our choice).
 #[tactic(auto, using(crate::proofs::Words::and_address_high))]
 fn filter_at_reset(image: &Image) -> Filter
     ensures filter { result ≡ filter_at_reset image.now }

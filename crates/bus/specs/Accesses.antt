@@ -1,4 +1,4 @@
--- What accesses of a driver leave as it is: the adapter, its engines, or the causes that it has recorded (own).
+-- What accesses of a driver leave as it is: the adapter, its engines, or the causes that it has recorded (our choice).
 use Rattle.std.specs.Prelude.{⊤, ◌≡◌, ◌≢◌, ℕ, false, Some, IfSome}
 use Rattle.adapter.specs.Registers.{is_reset}
 use Rattle.adapter.specs.Table.{register_at, row_of}

@@ -1,4 +1,4 @@
--- An adapter at rest (own): as a reset leaves it, and as it stays while a driver sets it up, until it lets frames come.
+-- An adapter at rest (our choice): as a reset leaves it, and as it stays while a driver sets it up, until it lets frames come.
 use Rattle.std.specs.Prelude.{⊤, ◌≡◌, [], Option, Some, length}
 use Rattle.rx_engine.specs.Receiver.{new_receiver}
 use Rattle.tx_engine.specs.Transmitter.{new_transmitter}

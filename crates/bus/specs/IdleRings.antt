@@ -1,5 +1,5 @@
--- Rings that offer nothing, of an adapter that has no slot of the host's (own): as after power-on, after a reset, and in each state of
--- initialisation up to the first slot that is offered ("14.4 Receive Initialization", "14.5 Transmit Initialization").
+-- Rings that offer nothing, of an adapter that has none of the host's slots (our choice): as after power-on, after a reset, and in each
+-- state of initialization before the first slot is offered ("14.4 Receive Initialization", "14.5 Transmit Initialization").
 use Rattle.std.specs.Prelude.{⊤, ◌≡◌, ℕ, List, [], ◌∷◌, None, length}
 use Rattle.dma_memory.specs.Areas.{AreSeparate}
 use Rattle.mdic_phy.specs.declared.phy.Link.{Link}

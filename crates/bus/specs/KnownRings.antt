@@ -1,4 +1,4 @@
--- What a driver knows of its rings stays known, and a write of a tail moves it alone (own).
+-- What a driver knows of its rings stays known, and a write of a tail moves it alone (our choice).
 use Rattle.std.specs.Prelude.{◌≡◌, ◌<◌, ℕ}
 use Rattle.adapter.specs.declared.offsets.TheConstants.{RDT, TDT}
 use Rattle.descriptors.specs.declared.ring.Ring.{Ring}

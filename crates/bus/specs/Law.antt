@@ -1,4 +1,4 @@
--- The bus law: what may happen to an adapter and its memory between two accesses of a driver (own).
+-- The bus law: what may happen to an adapter and its memory between two accesses of a driver (our choice).
 use Rattle.std.specs.Prelude.{◌≡◌, ◌≤◌, ◌+◌, ◌⊎◌, ◌++◌, ℕ, List, [], ◌∷◌, All, length, max, min, if◌then◌else◌}
 use Rattle.std.specs.Fn.{iterate}
 use Rattle.dma_memory.specs.Areas.{Area, bytes_in}

@@ -1,4 +1,4 @@
--- That a link which is up stays up while a driver sets the adapter up (own).
+-- That a link which is up stays up while a driver sets the adapter up (our choice).
 use Rattle.std.specs.Prelude.{⊤, ◌≡◌, true, [], ◌∷◌, All, Option, Some, None}
 use Rattle.mdic_phy.specs.Phy.{link_is_up}
 use Rattle.adapter.specs.Table.{register_at}

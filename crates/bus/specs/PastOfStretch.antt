@@ -1,4 +1,4 @@
--- What happened in a stretch of time (own).
+-- What happened in a stretch of time (our choice).
 use Rattle.std.specs.Prelude.{ℕ, ◌+◌, List, [], ◌++◌}
 use Rattle.bus.specs.declared.event.Access.{Access}
 

@@ -1,5 +1,5 @@
 -- What a driver does while the conditions of the law hold, besides offering slots one by one and storing to memory of its own: it writes
--- and reads registers, as in initialisation behind the first slot offered (own).
+-- and reads registers, as in initialisation behind the first slot offered (our choice).
 use Rattle.std.specs.Prelude.{⊤, ◌≡◌, ◌<◌, ◌+◌, ◌%◌, ◌++◌, ℕ, zero, suc, [], false, All, None, map}
 use Rattle.dma_memory.specs.Areas.{AreSeparate}
 use Rattle.registers.specs.Bits.{HasBit}

@@ -1,4 +1,4 @@
--- What a driver has set of an adapter: the registers that only its own writes change, beside what nothing changes (own).
+-- What a driver has set of an adapter: the registers that only its own writes change, beside what nothing changes (our choice).
 use Rattle.std.specs.Prelude.{⊤, ◌≡◌, ℕ, List, [], ◌∷◌, All, Option, Some}
 use Rattle.registers.specs.Bits.{HasBit}
 use Rattle.mdic_phy.specs.Phy.{new_phy}

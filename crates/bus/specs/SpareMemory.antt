@@ -1,4 +1,4 @@
--- Memory that no outstanding slot uses (own).
+-- Memory that no outstanding slot uses (our choice).
 use Rattle.std.specs.Prelude.{ℕ, All}
 use Rattle.dma_memory.specs.Areas.{AreApart, Area}
 use Rattle.adapter.specs.HostAreas.{areas, buffer_of, data_of, IsForeign, ring_area}

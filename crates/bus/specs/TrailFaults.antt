@@ -1,4 +1,4 @@
--- A fault stays visible: it stops an engine until the next reset (own).
+-- A fault stays visible: it stops an engine until the next reset (our choice).
 use Rattle.std.specs.Prelude.{⊤, ◌≡◌, ◌≢◌, true, false, List, All}
 use Rattle.adapter.specs.State.{AdapterState}
 use Rattle.adapter.specs.World.{World}

@@ -1,4 +1,4 @@
--- The driver's slots, the one at the tail among them, can be written (own).
+-- The driver's slots, the one at the tail among them, can be written (our choice).
 use Rattle.std.specs.Prelude.{◌≤◌, ◌<◌, ℕ}
 use Rattle.dma_memory.specs.Areas.{descriptor_area}
 use Rattle.dma_memory.specs.HostMemory.{LiesIn}

@@ -1,4 +1,4 @@
--- The arguments that the code gives a command, as clap's contracts see them (own).
+-- The arguments that the code gives a command, as clap's contracts see them (our choice).
 use Rattle.std.specs.Prelude.{List, [], ◌∷◌}
 use Rattle.clap.specs.Words.{App, Rule, with_rule}
 use Rattle.command_line.specs.Shape.{file_rule, option_rule}

@@ -1,4 +1,4 @@
--- What an error of the command line is made of, and the status that the program ends with (own).
+-- What an error of the command line is made of, and the status that the program ends with (our choice).
 use Rattle.std.specs.Prelude.{◌≡◌, ◌≢◌, ℕ, List, ⊤}
 use Rattle.clap.specs.Kinds.{IsAmong, Kinds}
 use Rattle.clap.specs.Words.{Text, kind_of}

@@ -1,4 +1,4 @@
--- What clap holds for the words, as a job or as the value that it is refused for (own).
+-- What clap holds for the words, as a job or as the value that it is refused for (our choice).
 use Rattle.std.specs.Prelude.{◌≡◌, ◌≤◌, ◌⊎◌, IfSome, ℕ, List, [], ◌∷◌, IsSomeAnd, Option, Some, None, ⊤, IsSome, codes}
 use Rattle.clap.specs.Words.{Row, Text, first_of}
 use Rattle.command_line.specs.Shape.{found_in, refusals}

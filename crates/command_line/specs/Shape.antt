@@ -1,4 +1,4 @@
--- The program's command line, as clap's contracts see it (own). Help texts are no part of it.
+-- The program's command line, as clap's contracts see it (our choice). Help texts are no part of it.
 use Rattle.std.specs.Prelude.{List, Option, Some, codes, true}
 use Rattle.clap.specs.Words.{App, Row, Rule, Text, fault_of, new_app, new_rule, subcommand_of, with_rule, with_subcommand}
 use Rattle.clap.specs.Kinds.{Kinds}

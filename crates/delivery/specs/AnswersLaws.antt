@@ -1,4 +1,4 @@
--- The laws of this crate (own).
+-- The laws of this crate (our choice).
 use Rattle.std.specs.Prelude.{◌≡◌, ◌≢◌, ◌<◌, ◌+◌, ◌%◌, ℕ, None, List, All, slice_get}
 use Rattle.descriptors.specs.Ring.{count_of}
 use Rattle.adapter.specs.declared.offsets.TheConstants.{RDT, TDT}

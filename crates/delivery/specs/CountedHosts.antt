@@ -1,4 +1,4 @@
--- Which hosts' answers can be told by counting, over which accesses (own).
+-- Which hosts' answers can be told by counting, over which accesses (our choice).
 use Rattle.std.specs.Prelude.{⊤, ◌<◌, ℕ, List, All, IfSome}
 use Rattle.registers.specs.Bits.{HasBit}
 use Rattle.registers.specs.Places.{rctl_en, tctl_en}

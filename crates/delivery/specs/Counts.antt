@@ -1,4 +1,4 @@
--- What is counted of a host's adapter, and what outcomes and accesses leave of it (own).
+-- What is counted of a host's adapter, and what outcomes and accesses leave of it (our choice).
 use Rattle.std.specs.Prelude.{◌+◌, ◌-◌, ◌%◌, ℕ, suc, Bool, true, false, Option, Some, List, [], ◌∷◌, bit_and, is_some, length, max}
 use Rattle.std.specs.Prelude.{if◌then◌else◌}
 use Rattle.descriptors.specs.declared.ring.Ring.{Ring}

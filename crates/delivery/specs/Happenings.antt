@@ -1,4 +1,4 @@
--- What happens to frames in a run: happenings, in order, as events and their replies tell them (own).
+-- What happens to frames in a run: happenings, in order, as events and their replies tell them (our choice).
 use Rattle.std.specs.Prelude.{◌==◌, ◌&&◌, not, ◌++◌, ℕ, Bool, false, Option, Some, None, List, [], ◌∷◌, sum_by, if◌then◌else◌}
 use Rattle.std.specs.List.{flat_map}
 use Rattle.rx_engine.specs.Arriving.{kept}

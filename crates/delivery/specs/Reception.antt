@@ -1,4 +1,4 @@
--- What an adapter receives meanwhile, and the accesses that leave this alone (own).
+-- What an adapter receives meanwhile, and the accesses that leave this alone (our choice).
 use Rattle.std.specs.Prelude.{⊤, ◌≡◌, List, IfSome, length}
 use Rattle.adapter.specs.Receiving.{room}
 use Rattle.adapter.specs.State.{AdapterState}

@@ -1,4 +1,4 @@
--- What each tick answers, judged by counting (own).
+-- What each tick answers, judged by counting (our choice).
 use Rattle.std.specs.Prelude.{◌≡◌, ◌==◌, ◌||◌, ◌++◌, not, ℕ, Bool, List, [], ◌∷◌, MatchBool, if◌then◌else◌}
 use Rattle.rx_engine.specs.declared.arrival.Fate.{Fate}
 use Rattle.adapter.specs.declared.step.StepKind.{StepKind}

@@ -1,4 +1,4 @@
--- The numbers that outcomes bear: how many accesses the call had made before (own).
+-- The numbers that outcomes bear: how many accesses the call had made before (our choice).
 use Rattle.std.specs.Prelude.{◌+◌, ℕ, List, [], ◌∷◌, map, min}
 use Rattle.stations.specs.declared.outcomes.Numbered.{Numbered}
 use Rattle.stations.specs.declared.tick.Tick.{Tick}

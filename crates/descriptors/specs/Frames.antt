@@ -2,7 +2,7 @@
 use Rattle.std.specs.Prelude.{◌≡◌, ◌≤◌, ◌-◌, ◌++◌, ◌&&◌, Bool, IsTrue, ℕ, List, length, take, replicate, nat_le}
 
 -- How many bytes the shortest frame on the wire has, the longest one (IEEE 802.3, 4.4.2, and own for frames without a VLAN tag), and the
--- shortest one that a host may send: two addresses and the Length/Type field (own).
+-- shortest one that a host may send: two addresses and the Length/Type field (our choice).
 abbrev pub shortest_frame : ℕ
 shortest_frame = 60
 
@@ -17,7 +17,7 @@ pub record IsLegal (frame : List ℕ) : Type 0 where
   pub least : shortest_frame ≤ length frame
   pub most : length frame ≤ longest_frame
 
--- A frame that a host may send, shorter ones among it (own).
+-- A frame that a host may send, shorter ones among it (our choice).
 abbrev pub is_sendable : List ℕ → Bool
 is_sendable frame = nat_le shortest_sent (length frame) && nat_le (length frame) longest_frame
 

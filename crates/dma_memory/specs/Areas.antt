@@ -1,4 +1,4 @@
--- Areas of a host's memory (own).
+-- Areas of a host's memory (our choice).
 use Rattle.std.specs.Prelude.{◌≡◌, ◌≤◌, ◌+◌, ◌⊎◌, ℕ, List, length, All, AllPairs}
 use Rattle.dma_memory.specs.HostMemory.{bytes_at, LiesIn}
 

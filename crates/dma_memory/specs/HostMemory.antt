@@ -1,4 +1,4 @@
--- A host's memory is a list of bytes, and an address is a place in it (own; the adapter reads and writes it as
+-- A host's memory is a list of bytes, and an address is a place in it (our choice; the adapter reads and writes it as
 -- bus master, "3.2 Packet Reception" and "3.3 Packet Transmission" of Intel's manual).
 use Rattle.std.specs.Prelude.{◌≤◌, ◌+◌, ◌-◌, ◌++◌, ℕ, List, length, take, drop}
 

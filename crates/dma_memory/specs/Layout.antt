@@ -10,18 +10,18 @@ pub record Counts : Type 0 where
   pub buffers : ℕ
 
 -- A ring has a multiple of 8 descriptors, as its length in bytes is a multiple of 128 ("13.4.27 Receive Descriptor
--- Length"), here from 8 to 256 (own).
+-- Length"), here from 8 to 256 (our choice).
 pub record IsRingSize (n : ℕ) : Type 0 where
   pub eights : n % 8 ≡ 0
   pub least : 8 ≤ n
   pub most : n ≤ 256
 
--- There is a buffer for each receive descriptor at least, and there are 4,096 at most (own).
+-- There is a buffer for each receive descriptor at least, and there are 4,096 at most (our choice).
 pub record IsBufferCount (rx buffers : ℕ) : Type 0 where
   pub least : rx ≤ buffers
   pub most : buffers ≤ 4096
 
--- What a layout has room for (own).
+-- What a layout has room for (our choice).
 pub record IsAllowed (counts : Counts) : Type 0 where
   pub rx : IsRingSize counts.rx
   pub tx : IsRingSize counts.tx
@@ -35,11 +35,11 @@ descriptor_bytes = 16
 abbrev pub buffer_bytes : ℕ
 buffer_bytes = 2048
 
--- The least multiple of a buffer's size at which both rings have ended (own).
+-- The least multiple of a buffer's size at which both rings have ended (our choice).
 abbrev pub buffers_start : Counts → ℕ
 buffers_start counts = next_multiple_of (descriptor_bytes * counts.rx + descriptor_bytes * counts.tx) buffer_bytes
 
--- What has its place in a layout (own).
+-- What has its place in a layout (our choice).
 pub data Place : Type 0 where
   ReceiveRing : Place
   TransmitRing : Place

@@ -1,4 +1,4 @@
--- What a pool of receive buffers is to its callers (own).
+-- What a pool of receive buffers is to its callers (our choice).
 use Rattle.std.specs.Prelude.{ℕ, List}
 
 pub record Numbers : Type 0 where

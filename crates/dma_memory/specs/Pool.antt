@@ -1,4 +1,4 @@
--- How a pool keeps its numbers (own): those that are in it stand in a vector that has room for all of them.
+-- How a pool keeps its numbers (our choice): those that are in it stand in a vector that has room for all of them.
 use Rattle.std.specs.Prelude.{◌≤◌, ◌<◌, ◌^◌, vec_capacity}
 use Rattle.dma_memory.specs.Owners.{HasNoSecondOwner}
 use Rattle.dma_memory.specs.Numbers.{Numbers}

@@ -15,13 +15,13 @@ pub const BUFFER_BYTES: u64 = 2048;
 /// Descriptor Length": 128 bytes).
 pub const RING_STEP: u16 = 8;
 
-/// The most descriptors of a ring (own).
+/// The most descriptors of a ring (our choice).
 pub const MOST_DESCRIPTORS: u16 = 256;
 
-/// The most receive buffers of a layout (own).
+/// The most receive buffers of a layout (our choice).
 pub const MOST_BUFFERS: u16 = 4096;
 
-/// The address of the receive ring (own).
+/// The address of the receive ring (our choice).
 const RECEIVE_RING: u64 = 0;
 
 /// Why [`Layout::of`] refuses.

@@ -33,8 +33,8 @@ abbrev pub IfNotMine : Handled → Type 0 → Type 0
 IfNotMine NotMine P = P
 IfNotMine (answers.Handled taken) P = Unit {0}
 
--- After the read of ICR: MPC is read; the slots of the buffers `taken` are taken, the oldest first; the next slot's descriptor is loaded, if
--- one is left; and then slots are offered with the buffers `offered`.
+-- After the read of ICR: MPC is read; the slots of the buffers `taken` are taken, the oldest first; the next slot's descriptor is loaded,
+-- if one is left; and then slots are offered with the buffers `offered`.
 abbrev pub handled_accesses : DriverState → (misses : ℕ) → (taken rest offered : List ℕ) → (last : ℕ) → List Access
 handled_accesses d misses taken rest offered last =
     Reads MPC misses ∷

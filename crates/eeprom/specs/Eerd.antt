@@ -12,11 +12,11 @@ has_start value = value % 2 == 1
 abbrev pub addr : ℕ → ℕ
 addr value = value / 256 % 256
 
--- A write with START begins a read, in place of one that is pending; one without it is ignored (own).
+-- A write with START begins a read, in place of one that is pending; one without it is ignored (our choice).
 abbrev pub after_write : ℕ → ReadState → ReadState
 after_write value state = if has_start value then Pending (addr value) else state
 
--- A tick ends a pending read with the word of the image (own: how long a read takes).
+-- A tick ends a pending read with the word of the image (our choice: how long a read takes).
 abbrev pub after_tick : List ℕ → ReadState → ReadState
 after_tick words Idle = Idle
 after_tick words (Pending address) = Done address (word_at words address)
@@ -35,7 +35,7 @@ shown_before address = address * 256
 abbrev pub shown_after : ℕ → ℕ → ℕ
 shown_after address word = word * 65536 + address * 256 + 16
 
--- What the register reads; START reads 0, and a new one reads 0 (own).
+-- What the register reads; START reads 0, and a new one reads 0 (our choice).
 abbrev pub shown : ReadState → ℕ
 shown Idle = 0
 shown (Pending address) = shown_before address

@@ -17,16 +17,16 @@ address_bytes words =
 abbrev pub HasRightSum : List ℕ → Type 0
 HasRightSum words = sum words % 65536 ≡ 0xBABA
 
--- The word that makes the sum right beside three others (own: the other 60 words are 0).
+-- The word that makes the sum right beside three others (our choice: the other 60 words are 0).
 abbrev pub checksum_word : ℕ → ℕ → ℕ → ℕ
 checksum_word first second third = (0xBABA + 3 * 65536 - first - second - third) % 65536
 
--- The image of an address: its three words, 60 words of 0, and the checksum's (own).
+-- The image of an address: its three words, 60 words of 0, and the checksum's (our choice).
 abbrev pub image_with : List ℕ → List ℕ
 image_with address =
     let word : ℕ → ℕ = address_word address in
     (word 0 ∷ word 1 ∷ word 2 ∷ []) ++ replicate 60 0 ++ checksum_word (word 0) (word 1) (word 2) ∷ []
 
--- The word at an address: there are 64, and past them a read gives FFFFh (own).
+-- The word at an address: there are 64, and past them a read gives FFFFh (our choice).
 abbrev pub word_at : List ℕ → ℕ → ℕ
 word_at words address = if nat_lt address 64 then slice_index words address else 0xFFFF

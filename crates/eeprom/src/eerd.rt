@@ -71,7 +71,7 @@ impl Eerd {
     }
 
     /// What the register reads: 0 where nothing was asked for, ADDR alone while a read is
-    /// pending, and DATA, ADDR and DONE once it has ended. START reads 0 (own).
+    /// pending, and DATA, ADDR and DONE once it has ended. START reads 0 (our choice).
     #[tactic(auto, using(crate::proofs::Fields::or_fields))]
     pub fn read(&self) -> u32
         ensures { result ≡ shown self.now }

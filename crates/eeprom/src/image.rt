@@ -74,7 +74,7 @@ impl Image {
         [b0, b1, b2, b3, b4, b5]
     }
 
-    /// The word at an address; past the last word 0xFFFF (own).
+    /// The word at an address; past the last word 0xFFFF (our choice).
     pub fn word(&self, address: u8) -> u16
         ensures word { result ≡ word_at self.now address }
         ensures size { length self.now ≡ 64 }

@@ -1,5 +1,6 @@
 -- What stands in the places of a queue, after a frame is written behind the others and after the first is dropped.
-use Rattle.std.proofs.Common.{◌≡◌, ◌≤◌, ◌<◌, ◌+◌, ◌-◌, ◌*◌, ◌⊎◌, inl, inr, ◌++◌, ◌∷◌, [], ℕ, suc, List, length, take, drop, All, refl, sym, ap}
+use Rattle.std.proofs.Common.{◌≡◌, ◌≤◌, ◌<◌, ◌+◌, ◌-◌, ◌*◌, ◌⊎◌, inl, inr, ◌++◌, ◌∷◌, [], ℕ, suc, List, length, take, drop}
+use Rattle.std.proofs.Common.{All, refl, sym, ap}
 use Rattle.std.proofs.Common.{◌∙◌, arith}
 use Rattle.std.proofs.lemmas.Bool.{cond_below, cond_above}
 use Rattle.std.proofs.lemmas.Bool.Decides.{leb_tells, nat_tests}

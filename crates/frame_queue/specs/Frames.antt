@@ -1,4 +1,4 @@
--- What a queue of frames is to its callers (own).
+-- What a queue of frames is to its callers (our choice).
 use Rattle.std.specs.Prelude.{ℕ, List}
 
 pub record Frames : Type 0 where

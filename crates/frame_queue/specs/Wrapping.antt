@@ -1,4 +1,4 @@
--- Places in a round (own).
+-- Places in a round (our choice).
 use Rattle.std.specs.Prelude.{◌-◌, ℕ, nat_lt, if◌then◌else◌}
 
 -- the place that is meant by a number of places counted on past the last one, at most once round

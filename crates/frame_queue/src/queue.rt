@@ -1,5 +1,6 @@
 ghost use Rattle.frame_queue.specs.Wrapping.{wrapped};
-ghost use Rattle.std.specs.Prelude.{◌≡◌, ◌+◌, ◌-◌, ◌<◌, ◌≤◌, ◌↔◌, [], ◌∷◌, ◌++◌, drop, length, replicate, slice_get, take};
+ghost use Rattle.std.specs.Prelude.{◌≡◌, ◌+◌, ◌-◌, ◌<◌, ◌≤◌, ◌↔◌, [], ◌∷◌, ◌++◌, drop, length};
+ghost use Rattle.std.specs.Prelude.{replicate, slice_get, take};
 ghost use Rattle.std.specs.Prelude.{IsTrue, IsNone, IfSome, IfOk};
 
 use circular_buffer::HeapCircularBuffer;

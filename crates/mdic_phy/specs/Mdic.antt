@@ -14,7 +14,7 @@ pub record MdicState : Type 0 where
   pub value : ℕ
   pub pending : Option Operation
 
--- A register without a command reads 0 (own).
+-- A register without a command reads 0 (our choice).
 abbrev pub new_mdic : MdicState
 new_mdic = record { value = 0; pending = None }
 
@@ -31,15 +31,15 @@ phyadd value = field value mdic_phyadd 5
 abbrev pub op : ℕ → ℕ
 op value = field value mdic_op 2
 
--- OP 01 is a write, 10 a read (13.4.7); 00 and 11 begin no command (own).
+-- OP 01 is a write, 10 a read (13.4.7); 00 and 11 begin no command (our choice).
 abbrev pub operation_of : ℕ → Option Operation
 operation_of value = if op value == 1 then Some Write else (if op value == 2 then Some Read else None)
 
--- What a write keeps: all but R, E and the reserved bit (own).
+-- What a write keeps: all but R, E and the reserved bit (our choice).
 abbrev pub kept : ℕ → ℕ
 kept value = difference value (union (union (alone mdic_r) (alone mdic_e)) (alone mdic_reserved))
 
--- A write begins the command of its OP; one that was pending is dropped (own).
+-- A write begins the command of its OP; one that was pending is dropped (our choice).
 abbrev pub after_write : ℕ → MdicState
 after_write value = record { value = kept value; pending = operation_of value }
 
@@ -59,7 +59,7 @@ with_data word value = value / 2 ^ 16 * 2 ^ 16 + word
 abbrev pub reaches_phy : ℕ → Bool
 reaches_phy value = phyadd value == 1
 
--- The number when a command has ended, at a PHY that stands so. Another PHY doesn't answer: E is set and DATA stays (own).
+-- The number when a command has ended, at a PHY that stands so. Another PHY doesn't answer: E is set and DATA stays (our choice).
 abbrev pub ended_value : Operation → PhyState → ℕ → ℕ
 ended_value Write state value = if reaches_phy value then with_ready value else with_error value
 ended_value Read state value = if reaches_phy value then with_ready

@@ -17,7 +17,7 @@ pub record PhyState : Type 0 where
   pub latched_low : Bool
 
 -- A PHY that is new or reset has no link, its negotiation is enabled but not started, and the link status is
--- latched low (own: a PHY of clause 22 would begin negotiation by itself).
+-- latched low (our choice: a PHY of clause 22 would begin negotiation by itself).
 abbrev pub new_phy : Link → PhyState
 new_phy link = record { link = link; negotiation_enabled = true; negotiation = NotStarted; latched_low = true }
 
@@ -26,11 +26,11 @@ is_complete NotStarted = false
 is_complete (Running left) = false
 is_complete Complete = true
 
--- The link is up exactly where negotiation is complete (own).
+-- The link is up exactly where negotiation is complete (our choice).
 abbrev pub link_is_up : PhyState → Bool
 link_is_up phy = is_complete phy.negotiation
 
--- A negotiation that is started ends after the ticks of the setting, or never (own).
+-- A negotiation that is started ends after the ticks of the setting, or never (our choice).
 abbrev pub negotiation_of : Link → Negotiation
 negotiation_of (After ticks) = Running ticks
 negotiation_of Never = NotStarted
@@ -40,7 +40,7 @@ negotiation_of Never = NotStarted
 abbrev pub restarted : PhyState → PhyState
 restarted phy = record phy { negotiation = negotiation_of phy.link; latched_low = true }
 
--- A write of register 0 (22.2.4.1): bit 15 resets the PHY, and nothing else happens (own); else bit 12 is kept,
+-- A write of register 0 (22.2.4.1): bit 15 resets the PHY, and nothing else happens (our choice); else bit 12 is kept,
 -- and with it bit 9 starts negotiation anew; bit 9 without bit 12 does nothing.
 abbrev pub after_control : ℕ → PhyState → PhyState
 after_control value phy =
@@ -48,11 +48,11 @@ after_control value phy =
     (let kept : PhyState = record phy { negotiation_enabled = is_set value control_enable } in
     if is_set value control_enable && is_set value control_restart then restarted kept else kept)
 
--- All registers but 0 ignore a write (own).
+-- All registers but 0 ignore a write (our choice).
 abbrev pub after_write : ℕ → ℕ → PhyState → PhyState
 after_write register value phy = if register == 0 then after_control value phy else phy
 
--- Register 0 reads its bit 12; the others read 0 (own).
+-- Register 0 reads its bit 12; the others read 0 (our choice).
 abbrev pub control_value : PhyState → ℕ
 control_value phy = if phy.negotiation_enabled then alone control_enable else 0
 
@@ -64,11 +64,11 @@ abbrev pub link_seen : ℕ
 link_seen = union (alone status_complete) (alone status_link)
 
 -- Register 1 (22.2.4.2): bit 5 where negotiation is complete, bit 2 where the link is up and its status isn't
--- latched low; the others read 0 (own).
+-- latched low; the others read 0 (our choice).
 abbrev pub status_value : PhyState → ℕ
 status_value phy = if link_is_up phy then (if phy.latched_low then link_unseen else link_seen) else 0
 
--- What a register reads: control, status, the two identifiers (22.2.4.3.1), and 0 (own).
+-- What a register reads: control, status, the two identifiers (22.2.4.3.1), and 0 (our choice).
 abbrev pub read_value : ℕ → PhyState → ℕ
 read_value register phy =
     if register == 0 then control_value phy else
@@ -88,7 +88,7 @@ is_running Complete = false
 abbrev pub is_counting : PhyState → Bool
 is_counting phy = is_running phy.negotiation
 
--- A tick lowers a running count; at 0 negotiation is complete (own: how long it takes).
+-- A tick lowers a running count; at 0 negotiation is complete (our choice: how long it takes).
 abbrev pub counted : Negotiation → Negotiation
 counted NotStarted = NotStarted
 counted (Running left) = if nat_le left 1 then Complete else Running (left - 1)

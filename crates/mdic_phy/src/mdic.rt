@@ -91,7 +91,7 @@ impl Mdic {
         }
     }
 
-    /// A write begins the command of its OP; one that was pending is dropped (own). R, E and
+    /// A write begins the command of its OP; one that was pending is dropped (our choice). R, E and
     /// bit 31 are not kept.
     pub fn write(&mut self, value: u32)
         ensures { self.new ≡ after_write value }

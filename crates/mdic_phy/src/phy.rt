@@ -27,7 +27,7 @@ pub enum Link {
     Never,
 }
 
-/// How far negotiation stands. The link is up exactly where it is complete (own).
+/// How far negotiation stands. The link is up exactly where it is complete (our choice).
 #[derive(Clone, Copy, Debug, PartialEq, Eq)]
 pub enum Negotiation {
     /// It was not started since the PHY was new or reset, or it never ends.

@@ -11,16 +11,16 @@ use eeprom::Image;
 use mdic_phy::Link;
 use packet_socket::SocketKind;
 
-/// How many bytes a name has at most (own).
+/// How many bytes a name has at most (our choice).
 pub const MOST_NAME_BYTES: usize = 16;
 
-/// How many ends a wire has at most (own).
+/// How many ends a wire has at most (our choice).
 pub const MOST_ENDS: usize = 8;
 
-/// How many hosts a network has at most (own).
+/// How many hosts a network has at most (our choice).
 pub const MOST_HOSTS: usize = 16;
 
-/// How many sockets a host has at most (own).
+/// How many sockets a host has at most (our choice).
 pub const MOST_SOCKETS: usize = 8;
 
 /// A host, as it is to be.

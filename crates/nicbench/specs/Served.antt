@@ -1,4 +1,4 @@
--- What the words of `serve` ask a server for (own).
+-- What the words of `serve` ask a server for (our choice).
 use Rattle.command_line.specs.declared.job.ServeJob.{ServeJob}
 use Rattle.command_line.specs.declared.job.ServeLink.{ServeLink}
 use Rattle.command_line.specs.declared.job.ServeLink.TheVariants as asked

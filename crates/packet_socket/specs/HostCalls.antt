@@ -105,8 +105,8 @@ abbrev pub ReturnsBy : {B : Type 0} → Ghosts B → (socket : ℕ) → (into : 
 ReturnsBy bus socket into (Ok size) = Receives bus (record { socket = socket; frame = take size into }) size
 ReturnsBy bus socket into (Err error) = λ up old new. ⊤
 
--- Over any bus: the oldest entry of a queue is removed, its buffer goes back to the driver, and slots are offered. The bytes of `into` after
--- the entry's length don't change.
+-- Over any bus: the oldest entry of a queue is removed, its buffer goes back to the driver, and slots are offered. The bytes of `into`
+-- after the entry's length don't change.
 pub record Returns (h h' : HostState) (socket : ℕ) (before after : List ℕ) (size : ℕ) : Type 0 where
   pub received : Received
   pub leaves : LeavesQueue h h' socket size received

@@ -1,4 +1,4 @@
--- The receive filter that the options of a pass ask for. (own)
+-- The receive filter that the options of a pass ask for. (our choice)
 use Rattle.std.specs.Prelude.{◌≡◌, ◌≤◌, ℕ, List, Some, None, IfSome}
 use Rattle.rx_engine.specs.Addresses.{group_number}
 use Rattle.rx_engine.specs.Passing.{ReceiveFilter, Passes}

@@ -1,4 +1,4 @@
--- What becomes of the frames of a trace that pass a filter on their way through a ring. (own)
+-- What becomes of the frames of a trace that pass a filter on their way through a ring. (our choice)
 use Rattle.std.specs.Prelude.{◌≡◌, ◌+◌, ℕ, List, [], ◌∷◌, length, take, Bool, true, false, Option, count_by}
 use Rattle.std.specs.Io.KnownBytes.{Appends}
 use Rattle.descriptors.specs.Frames.{padded, is_sendable}

@@ -1,4 +1,4 @@
--- What the program shows of a trace: a line for each frame, and one of what there was. (own; a frame's parts: IEEE 802.3 clause 3.2)
+-- What the program shows of a trace: a line for each frame, and one of what there was (our choice; a frame's parts: IEEE 802.3 clause 3.2)
 use Rattle.std.specs.Prelude.{◌+◌, ◌++◌, ℕ, List, [], ◌∷◌, length, slice_index, slice_range, codes, decimal, nat_lt, if◌then◌else◌}
 use Rattle.std.specs.List.{flat_map}
 use Rattle.hex.specs.Hex.{encode_lower}

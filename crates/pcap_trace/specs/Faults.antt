@@ -1,4 +1,4 @@
--- The exit status of a program that ends for a fault. (own: 1 for a trace that is refused, 3 for a device that failed, 4 for want of
+-- The exit status of a program that ends for a fault. (our choice: 1 for a trace that is refused, 3 for a device that failed, 4 for want of
 -- memory)
 use Rattle.std.specs.Prelude.{ℕ}
 use Rattle.pcap_trace.specs.declared.fault.ReadError.{ReadError}

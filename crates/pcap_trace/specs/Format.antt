@@ -62,7 +62,7 @@ pub record IsPacket (number : Order) (p : Packet) : Type 0 where
 abbrev pub packet_bytes : Packet → List ℕ
 packet_bytes p = p.header ++ p.captured
 
--- A packet that was captured in part is skipped. One with more bytes than the original is taken whole. (own)
+-- A packet that was captured in part is skipped. One with more bytes than the original is taken whole. (our choice)
 abbrev pub is_partial : Order → Packet → Bool
 is_partial number p = nat_lt (captured_length number p.header) (original_length number p.header)
 
@@ -78,7 +78,7 @@ skipped_of number (p ∷ ps) = if is_partial number p then suc (skipped_of numbe
 
 -- ---- the end of a file
 
--- Behind the last whole packet stands nothing, the beginning of a packet, or a packet header that asks for more than the most. (own)
+-- Behind the last whole packet stands nothing, the beginning of a packet, or a packet header that asks for more than the most. (our choice)
 pub data Ending : Type 0 where
   complete : Ending
   cut_off : Ending

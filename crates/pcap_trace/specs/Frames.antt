@@ -1,7 +1,7 @@
 -- Frames that lie in one buffer.
 use Rattle.std.specs.Prelude.{ℕ, List, [], ◌∷◌, take, drop}
 
--- Bytes cut into pieces of these lengths. (own)
+-- Bytes cut into pieces of these lengths. (our choice)
 abbrev pub cut : List ℕ → List ℕ → List (List ℕ)
 cut [] bytes = []
 cut (n ∷ ns) bytes = take n bytes ∷ cut ns (drop n bytes)

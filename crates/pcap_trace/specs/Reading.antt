@@ -16,16 +16,16 @@ header_fault number bytes =
     else (if not (number 4 (drop 20 bytes) == 1) then Some errors.LinkType
     else None)))
 
--- The fault in either byte order: no magic number in both of them, or another fault in one. (own)
+-- The fault in either byte order: no magic number in both of them, or another fault in one. (our choice)
 abbrev pub IsHeaderFault : List ℕ → ReadError → Type 0
 IsHeaderFault bytes errors.Magic = (order : Endianness) → header_fault (number_in order) bytes ≡ Some errors.Magic
 IsHeaderFault bytes e = (order : Endianness) × (header_fault (number_in order) bytes ≡ Some e)
 
--- Behind whole packets a whole packet header asks for more than the most. (own)
+-- Behind whole packets a whole packet header asks for more than the most. (our choice)
 abbrev pub HasOversized : Order → List ℕ → Type 0
 HasOversized number bytes = (frames : List (List ℕ)) × (skipped : ℕ) × IsBody number bytes frames skipped oversized
 
--- The answer fits the bytes. Want of memory and a failed device say nothing of them. (own)
+-- The answer fits the bytes. Want of memory and a failed device say nothing of them. (our choice)
 abbrev pub IsAnswer : List ℕ → Result Trace ReadError → Type 0
 IsAnswer bytes (Ok t) = IsTrace bytes t.frames t.skipped t.cut
 IsAnswer bytes (Err errors.Record) = (order : Endianness) × IsFileHeader (number_in order) bytes
@@ -40,11 +40,11 @@ is_of_bytes (Err errors.Memory) = false
 is_of_bytes (Err errors.Read) = false
 is_of_bytes _ = true
 
--- No other answer that speaks of the bytes fits them. (own)
+-- No other answer that speaks of the bytes fits them. (our choice)
 abbrev pub IsOnlyAnswer : List ℕ → Result Trace ReadError → Type 0
 IsOnlyAnswer bytes r = is_of_bytes r ≡ true → (s : Result Trace ReadError) → is_of_bytes s ≡ true → IsAnswer bytes s → s ≡ r
 
--- A failed read of the source is told, and nothing else counts as one. (own)
+-- A failed read of the source is told, and nothing else counts as one. (our choice)
 abbrev pub TellsFailure : {T : Type 0} → Result T ReadError → ℕ → ℕ → Type 0
 TellsFailure (Err errors.Read) old new = new ≡ old + 1
 TellsFailure _ old new = new ≡ old

@@ -1,5 +1,5 @@
 -- The bits of a register: one bit, a field of several bits, and the bits that are 1 as a set of places.
--- Places are counted from 0, the lowest bit. (own)
+-- Places are counted from 0, the lowest bit. (our choice)
 use Rattle.std.specs.Prelude.{◌≡◌, ◌==◌, ◌<◌, ◌-◌, ◌/◌, ◌%◌, ◌^◌, ◌↔◌, ◌⊎◌, ℕ, Bool, bit_and, bit_or}
 
 -- the bit at this place is 1

@@ -28,6 +28,6 @@ all_causes = 0x2D7
 abbrev pub causes_of : ℕ → ℕ
 causes_of written = bit_and written all_causes
 
--- STATUS (13.4.2 "Device Status Register") while the link is up: FD, LU, SPEED 10; while it is down it reads 0 (own)
+-- STATUS (13.4.2 "Device Status Register") while the link is up: FD, LU, SPEED 10; while it is down it reads 0 (our choice)
 abbrev pub status_of_link_up : ℕ
 status_of_link_up = 0x83

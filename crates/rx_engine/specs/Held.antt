@@ -1,4 +1,4 @@
--- The frames that the receive engine holds: on their way from the wire to a finished descriptor (own).
+-- The frames that the receive engine holds: on their way from the wire to a finished descriptor (our choice).
 use Rattle.std.specs.Prelude.{◌≡◌, ◌++◌, ℕ, List, [], ◌∷◌, length, Option, None, Some}
 use Rattle.std.specs.Option.{ForSome}
 use Rattle.dma_memory.specs.Areas.{Area, area_at, descriptor_area, AreApart, ChangesOnly}

@@ -1,4 +1,4 @@
--- What the fields of a receive engine stand for (own).
+-- What the fields of a receive engine stand for (our choice).
 use Rattle.std.specs.Prelude.{◌≡◌}
 use Rattle.rx_engine.specs.Receiver.{Receiver, IsReceiver}
 use Rattle.rx_engine.specs.declared.engine.RxEngine.TheInside.{Inside}

@@ -1,4 +1,4 @@
--- The data step of the receive engine ("3.2.6 Receive Descriptor Queue Structure"; that it can fault is own).
+-- The data step of the receive engine ("3.2.6 Receive Descriptor Queue Structure"; that it can fault is our choice).
 use Rattle.std.specs.Prelude.{◌≢◌, ◌==◌, ◌≤◌, ◌*◌, ⊤, ℕ, List, length, drop, Bool, true, Some}
 use Rattle.registers.specs.Bits.{HasBit, field}
 use Rattle.registers.specs.Places.{rctl_bsex, rctl_bsize, rctl_en}
@@ -18,7 +18,7 @@ pub record HasFrameToMove (control : ℕ) (ring : Ring) (engine : Receiver) : Ty
   pub ready : IsReady engine
   pub offered : ring.head ≢ ring.tail
 
--- with RCTL at this word a frame of n bytes can be moved: else the step is a fault (own)
+-- with RCTL at this word a frame of n bytes can be moved: else the step is a fault (our choice)
 pub record CanMove (control : ℕ) (ring : Ring) (memory : List ℕ) (n : ℕ) : Type 0 where
   pub indices : HasValidIndices ring
   pub descriptor : LiesIn memory (address_of ring ring.head) 16

@@ -23,7 +23,7 @@ pub record ReceiveFilter : Type 1 where
   pub broadcasts : Type 0
 
 -- an address that the filter accepts. The group table is asked for group addresses alone, the broadcast address among
--- them (own)
+-- them (our choice)
 unfoldable pub AcceptsAddress : ReceiveFilter → List ℕ → Type 0
 AcceptsAddress filter address =
     filter.addresses address

@@ -1,4 +1,4 @@
--- What the receive engine holds (own; "3.2 Packet Reception" of Intel's manual has one packet buffer and one engine).
+-- What the receive engine holds (our choice; "3.2 Packet Reception" of Intel's manual has one packet buffer and one engine).
 use Rattle.std.specs.Prelude.{◌≡◌, ◌≢◌, ◌≤◌, ℕ, List, [], ◌∷◌, All, length, Bool, false, Option, None}
 use Rattle.std.specs.Option.{ForSome}
 use Rattle.descriptors.specs.Frames.{IsLegal, longest_frame, shortest_frame}

@@ -27,7 +27,7 @@ pub enum Data {
         /// The free descriptors have become half the ring ("13.4.17 Interrupt Cause Read Register", RXDMT0).
         low: bool,
     },
-    /// The engine stopped in place of moving a frame (own).
+    /// The engine stopped in place of moving a frame (our choice).
     Fault,
 }
 
@@ -46,7 +46,7 @@ struct Target {
 /// Nothing where RCTL.EN is 0, a fault has stopped the engine, a frame is in work, the packet buffer is empty, or
 /// head equals tail. Else a fault where head or tail isn't a slot of the ring, the descriptor or the frame's place
 /// isn't in memory, RCTL.BSEX is set, or the frame is longer than the buffer size of RCTL.BSIZE; a fault leaves
-/// memory, ring and packet buffer, and stops the engine until a reset (own).
+/// memory, ring and packet buffer, and stops the engine until a reset (our choice).
 pub fn rx_data(
     engine: &mut RxEngine,
     ring: &mut Ring,

@@ -8,7 +8,7 @@ use std::alloc::{AllocError, Global};
 use std::marker::Model;
 
 /// The most frames that the receive packet buffer holds, as its 48 kilobytes at most hold them: a frame takes 2,048
-/// bytes (own).
+/// bytes (our choice).
 pub const MOST_FRAMES: u8 = 24;
 
 /// The frame in work: it stands in memory, and its descriptor isn't written back yet.

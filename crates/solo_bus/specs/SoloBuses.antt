@@ -29,7 +29,7 @@ pub record SoloState : Type 0 where
   -- how many accesses there were
   pub accesses : ℕ
 
--- at most so many frames are on the wire, and so many ticks wait (own)
+-- at most so many frames are on the wire, and so many ticks wait (our choice)
 abbrev pub wire_frames : ℕ
 wire_frames = 64
 

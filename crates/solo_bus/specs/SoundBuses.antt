@@ -1,5 +1,5 @@
--- What the buses of `src/sound_buses.rt` hold (own), by the bytes of their memory and the words of their EEPROM. The memory is all zeros,
--- so each receive descriptor names the buffer at address 0, behind which both rings of eight slots stand.
+-- The worlds of the buses of `src/sound_buses.rt` (our choice), by the size of their memory and the words of their EEPROM. The memory is
+-- all zeros, so each receive descriptor names the buffer at address 0. Both rings, of eight slots each, are after this buffer.
 use Rattle.std.specs.Prelude.{◌+◌, ℕ, List, [], ◌∷◌, replicate}
 use Rattle.mdic_phy.specs.declared.phy.Link.TheVariants.{Never}
 use Rattle.registers.specs.Places.{alone, rctl_bam, rctl_en, tctl_en, tctl_psp}

@@ -1,4 +1,4 @@
--- Atomic steps one after the other, in a call of one host or between calls (own).
+-- Atomic steps one after the other, in a call of one host or between calls (our choice).
 use Rattle.std.specs.Prelude.{⊤, ◌≡◌, ◌+◌, ◌==◌, ◌^◌, ◌-◌, ◌++◌, ℕ, Bool, false, true, List, [], ◌∷◌, min, if◌then◌else◌}
 use Rattle.std.specs.List.{flat_map}
 use Rattle.bus.specs.PastOfStretch.{Past}

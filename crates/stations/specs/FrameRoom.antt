@@ -1,4 +1,4 @@
--- How a frame on the heap keeps its bytes (own).
+-- How a frame on the heap keeps its bytes (our choice).
 use Rattle.std.specs.Prelude.{◌≤◌, length, vec_capacity}
 use Rattle.descriptors.specs.Frames.{longest_frame}
 use Rattle.stations.specs.declared.heap_frame.HeapFrame.TheInside.{Inside}

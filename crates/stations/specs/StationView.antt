@@ -1,4 +1,4 @@
--- How a station keeps its state (own).
+-- How a station keeps its state (our choice).
 use Rattle.std.specs.Prelude.{◌≡◌}
 use Rattle.stations.specs.Stations.{StationState, end_frames}
 use Rattle.stations.specs.declared.station.Station.TheInside.{Inside}

@@ -16,7 +16,7 @@ pub record StationState : Type 0 where
   -- the frames that wait at its end of the wire to be delivered, the oldest first
   pub backlog : List (List ℕ)
 
--- at most so many frames wait at an end (own)
+-- at most so many frames wait at an end (our choice)
 abbrev pub end_frames : ℕ
 end_frames = 64
 

@@ -8,7 +8,7 @@ use frame_queue::FrameQueue;
 use std::alloc::{AllocError, Global};
 use std::marker::Model;
 
-/// How many frames may wait at an end of a wire (own).
+/// How many frames may wait at an end of a wire (our choice).
 pub const END_FRAMES: u8 = 64;
 
 /// A host's adapter, its memory, and its end of a wire.

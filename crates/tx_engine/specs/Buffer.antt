@@ -1,4 +1,4 @@
--- How the engine keeps its packet buffer (own): the frames in one queue, and what their descriptors ask for in another.
+-- How the engine keeps its packet buffer (our choice): the frames in one queue, and what their descriptors ask for in another.
 use Rattle.std.specs.Prelude.{◌≡◌, ℕ, List, [], ◌∷◌, length, not}
 use Rattle.tx_engine.specs.Transmitter.{Queued, Transmitter}
 use Rattle.tx_engine.specs.declared.report.Report.{Report}

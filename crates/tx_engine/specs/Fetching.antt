@@ -39,12 +39,12 @@ fetched pad memory address = record {
   report = is_set (command_bits (descriptor_at memory address).command) tx_rs;
 }
 
--- The engine has nothing to take: TCTL.EN is 0, it is stopped, its buffer holds four frames (own), or head equals tail.
+-- The engine has nothing to take: TCTL.EN is 0, it is stopped, its buffer holds four frames (our choice), or head equals tail.
 abbrev pub IsIdle : ℕ → Transmitter → Ring → Type 0
 IsIdle control engine ring =
     (¬ (HasBit control tctl_en)) ⊎ (IsTrue engine.stopped ⊎ ((length engine.buffer ≡ 4) ⊎ (ring.head ≡ ring.tail)))
 
--- A descriptor that this adapter can transmit (own; by the manual a packet may span several descriptors): it holds the end
+-- A descriptor that this adapter can transmit (our choice; by the manual a packet may span several descriptors): it holds the end
 -- of its packet, it has the legacy format, and it names 1 to 1,518 bytes of memory.
 pub record IsTransmittable (memory : List ℕ) (desc : TxDesc) : Type 0 where
   pub ends : HasBit (command_bits desc.command) tx_eop

@@ -1,4 +1,4 @@
--- The frames that a host still holds for the wire (own).
+-- The frames that a host still holds for the wire (our choice).
 use Rattle.std.specs.Prelude.{◌≡◌, ◌++◌, ◌∷◌, [], Bool, ℕ, List, length, map, All}
 use Rattle.dma_memory.specs.Areas.{Area, area_at, AreApart}
 use Rattle.dma_memory.specs.HostMemory.{with_bytes, LiesIn}

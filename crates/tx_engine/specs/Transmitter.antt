@@ -1,4 +1,4 @@
--- What the transmit engine of an adapter is to its callers (own).
+-- What the transmit engine of an adapter is to its callers (our choice).
 use Rattle.std.specs.Prelude.{ℕ, Bool, false, List, []}
 
 -- A frame in the transmit packet buffer.
