@@ -16,8 +16,8 @@ use Rattle.adapter.specs.declared.register.Register.{Register}
 use Rattle.adapter.specs.declared.register.Register.TheVariants.{Icr, Ics, Ims, Imc, Pba, Mpc, Gprc, Gptc, Rnbc, Mta, Ral, Rah, Vfta}
 use Rattle.adapter.specs.declared.step.StepKind.{StepKind}
 use Rattle.adapter.specs.declared.step.StepKind.TheVariants.{TxTake, TxPut, RxData, RxDone, EepromTick, PhyTick}
-use Rattle.adapter.specs.declared.step.Stepped.{Stepped}
-use Rattle.adapter.specs.declared.step.Stepped.TheVariants.{Took, Put, Moved, Done, Fault}
+use Rattle.adapter.specs.Outcomes.{FrameOutcome}
+use Rattle.adapter.specs.declared.outcome.Outcome.TheVariants.{Took, Put, Moved, Done, Fault}
 use Rattle.adapter.specs.History.{AdapterEvent, Read, Write, Step, Arrive, after_event, after_events}
 use Rattle.adapter.specs.PacketBuffer.{IsAllocation, allocation_written, is_allocation}
 use Rattle.adapter.specs.Registers.{after_reset, answer, by_row, is_reset, left_by_read, left_by_write, new_adapter, read_of, write_of}
@@ -181,7 +181,7 @@ no_buffers-fit state adapter = by_test (state.receive_ring.head == state.receive
     by_test true = one_more-fits state.no_receive_buffers
     by_test false = adapter.counters.no_buffers
 
-HasRegisters-took : (answer : Stepped) (memory : List ℕ) (state : AdapterState) → HasRegisters state
+HasRegisters-took : (answer : FrameOutcome) (memory : List ℕ) (state : AdapterState) → HasRegisters state
     → HasRegisters (after_take answer memory state)
 HasRegisters-took Took memory state adapter =
     HasRegisters-with_causes (causes_of_taking state.transmit_ring) _ (cause-alone _ 0x2 refl)
@@ -194,7 +194,7 @@ putting-alone : (buffer : List Queued) → IsSubset (causes_of_putting buffer) a
 putting-alone [] = refl
 putting-alone (queued ∷ later) = cause-alone queued.report 0x1 refl
 
-HasRegisters-put : (answer : Stepped) (state : AdapterState) → HasRegisters state → HasRegisters (after_put answer state)
+HasRegisters-put : (answer : FrameOutcome) (state : AdapterState) → HasRegisters state → HasRegisters (after_put answer state)
 HasRegisters-put (Put frame) state adapter =
     let c = adapter.counters in
     HasRegisters-with_causes (causes_of_putting state.transmitter.buffer) _ (putting-alone state.transmitter.buffer)
@@ -202,7 +202,7 @@ HasRegisters-put (Put frame) state adapter =
     (of-counters c.missed c.received (one_more-fits state.transmitted_packets) c.no_buffers))
 HasRegisters-put _ state adapter = adapter
 
-HasRegisters-moved : (answer : Stepped) (state : AdapterState) → HasRegisters state → HasRegisters (after_data answer state)
+HasRegisters-moved : (answer : FrameOutcome) (state : AdapterState) → HasRegisters state → HasRegisters (after_data answer state)
 HasRegisters-moved Moved state adapter =
     HasRegisters-with_causes (causes_of_moving state.receive_ring) _ (cause-alone _ 0x10 refl)
     (of-parts adapter.tables adapter.allocation adapter.causes adapter.counters)
@@ -210,7 +210,7 @@ HasRegisters-moved Fault state adapter =
     of-parts adapter.tables adapter.allocation adapter.causes adapter.counters
 HasRegisters-moved _ state adapter = adapter
 
-HasRegisters-done : (answer : Stepped) (state : AdapterState) → HasRegisters state → HasRegisters (after_done answer state)
+HasRegisters-done : (answer : FrameOutcome) (state : AdapterState) → HasRegisters state → HasRegisters (after_done answer state)
 HasRegisters-done Done state adapter =
     let c = adapter.counters in
     HasRegisters-with_causes 0x80 _ refl
@@ -230,7 +230,7 @@ HasRegisters-arrived Stored frame state adapter =
     of-parts adapter.tables adapter.allocation adapter.causes (of-counters c.missed c.received c.transmitted (no_buffers-fit state adapter))
 HasRegisters-arrived _ frame state adapter = adapter
 
-pub HasRegisters-stepped : (kind : StepKind) (answer : Stepped) (memory : List ℕ) (state : AdapterState) → HasRegisters state
+pub HasRegisters-stepped : (kind : StepKind) (answer : FrameOutcome) (memory : List ℕ) (state : AdapterState) → HasRegisters state
     → HasRegisters (after_step kind answer memory state)
 HasRegisters-stepped TxTake answer memory state adapter = HasRegisters-took answer memory state adapter
 HasRegisters-stepped TxPut answer memory state adapter = HasRegisters-put answer state adapter

@@ -15,7 +15,7 @@ use Rattle.tx_engine.specs.StatusLaws.{to_send-written_back}
 use Rattle.tx_engine.specs.Steps.{IfFront, status_place}
 use Rattle.tx_engine.specs.ToSend.{IsAwayFrom, to_send}
 use Rattle.tx_engine.specs.Transmitter.{Queued}
-use Rattle.adapter.specs.declared.step.Stepped.TheVariants.{Took, Put, WireFull, Moved, Done, Ticked, Nothing, Fault}
+use Rattle.adapter.specs.declared.outcome.Outcome.TheVariants.{Took, Moved}
 use Rattle.adapter.specs.Frames.{ArrivalGrowsFrames, DataLeavesFrames, DoneTakesFirstFrame, PuttingTakesFirst, TakingLeavesFrames}
 use Rattle.adapter.specs.Rings.{ring_of}
 use Rattle.adapter.specs.Transmitting.{IsOldest, moved_on, reported}
@@ -24,13 +24,7 @@ pub taking_leaves_frames : TakingLeavesFrames
 taking_leaves_frames memory state Took told =
     to_send-take memory (ring_of state.transmit_ring) (pads state.transmit_control) state.transmitter.buffer told.1.sound
     (λ same. told.0 (inr (inr (inr same))))
-taking_leaves_frames memory state Fault told = refl
-taking_leaves_frames memory state Nothing told = refl
-taking_leaves_frames memory state (Put frame) told = refl
-taking_leaves_frames memory state WireFull told = refl
-taking_leaves_frames memory state Moved told = refl
-taking_leaves_frames memory state Done told = refl
-taking_leaves_frames memory state Ticked told = refl
+taking_leaves_frames memory state _ told = refl
 
 pub putting_takes_first : PuttingTakesFirst
 putting_takes_first wire_free memory state frame told apart = by_buffer state.transmitter.buffer told.1 apart
@@ -55,13 +49,7 @@ data_leaves_frames memory state Moved told apart =
     held-after_data state.filter.rctl (ring_of state.receive_ring) state.receiver memory
     (answers.Moved (is_half_free (ring_of (moved_on state.receive_ring))))
     (λ moved. record { has = told.0; can = told.1; apart = apart })
-data_leaves_frames memory state Fault told apart = refl
-data_leaves_frames memory state Nothing told apart = refl
-data_leaves_frames memory state (Put frame) told apart = refl
-data_leaves_frames memory state WireFull told apart = refl
-data_leaves_frames memory state Took told apart = refl
-data_leaves_frames memory state Done told apart = refl
-data_leaves_frames memory state Ticked told apart = refl
+data_leaves_frames memory state _ told apart = refl
 
 pub done_takes_first_frame : DoneTakesFirstFrame
 done_takes_first_frame memory state work engine is lies apart = held-after_done state.receiver memory engine work is lies apart

@@ -13,8 +13,8 @@ use Rattle.rx_engine.specs.declared.engine.Work.{Work}
 use Rattle.tx_engine.specs.Fetching.{pads}
 use Rattle.tx_engine.specs.Steps.{IfFront, status_place}
 use Rattle.tx_engine.specs.ToSend.{IsAwayFrom, to_send}
-use Rattle.adapter.specs.declared.step.Stepped.{Stepped}
-use Rattle.adapter.specs.declared.step.Stepped.TheVariants.{Done, Put}
+use Rattle.adapter.specs.Outcomes.{FrameOutcome}
+use Rattle.adapter.specs.declared.outcome.Outcome.TheVariants.{Done, Put}
 use Rattle.adapter.specs.Receiving.{DataAnswers, after_arrive, after_data, after_done, memory_after_data_step, memory_after_done_step}
 use Rattle.adapter.specs.Rings.{ring_of}
 use Rattle.adapter.specs.State.{AdapterState}
@@ -32,7 +32,7 @@ frames_held memory state = held memory state.receiver
 -- A step that takes leaves the frames to be sent, whatever it answers.
 abbrev pub TakingLeavesFrames : Type 0
 TakingLeavesFrames =
-    (memory : List ℕ) (state : AdapterState) (answer : Stepped) → TakeAnswers memory state answer
+    (memory : List ℕ) (state : AdapterState) (answer : FrameOutcome) → TakeAnswers memory state answer
     → frames_to_send memory (after_take answer memory state) ≡ frames_to_send memory state
 
 -- Byte 12 of the descriptor of the oldest frame is apart from the descriptors that are still to be taken, and from their frames.
@@ -58,7 +58,7 @@ PlaceStandsApart memory state =
 -- A data step leaves the frames held, whatever it answers: the oldest of the packet buffer becomes the one in work.
 abbrev pub DataLeavesFrames : Type 0
 DataLeavesFrames =
-    (memory : List ℕ) (state : AdapterState) (answer : Stepped) → DataAnswers memory state answer → PlaceStandsApart memory state
+    (memory : List ℕ) (state : AdapterState) (answer : FrameOutcome) → DataAnswers memory state answer → PlaceStandsApart memory state
     → frames_held (memory_after_data_step answer memory state) (after_data answer state) ≡ frames_held memory state
 
 -- A done step takes the first of the frames held, the one in work, which then stands finished at its descriptor, where it is apart from

@@ -8,8 +8,8 @@ use Rattle.adapter.specs.declared.register.Register.TheVariants.{Ctrl, Receive, 
 use Rattle.adapter.specs.declared.register.RingRegister.TheVariants.{Head}
 use Rattle.adapter.specs.declared.step.StepKind.{StepKind}
 use Rattle.adapter.specs.declared.step.StepKind.TheVariants.{TxTake, RxData}
-use Rattle.adapter.specs.declared.step.Stepped.{Stepped}
-use Rattle.adapter.specs.declared.step.Stepped.TheVariants.{Took, Moved}
+use Rattle.adapter.specs.Outcomes.{FrameOutcome}
+use Rattle.adapter.specs.declared.outcome.Outcome.TheVariants.{Took, Moved}
 use Rattle.adapter.specs.Receiving.{after_arrive}
 use Rattle.adapter.specs.Registers.{answer_at, after_read, after_write, is_reset, new_adapter}
 use Rattle.adapter.specs.State.{AdapterState}
@@ -21,7 +21,7 @@ use Rattle.adapter.specs.Table.{IsInTable, row_of}
 pub data AdapterEvent : Type 0 where
   Read : ℕ → AdapterEvent
   Write : ℕ → ℕ → AdapterEvent
-  Step : StepKind → Stepped → List ℕ → AdapterEvent
+  Step : StepKind → FrameOutcome → List ℕ → AdapterEvent
   Arrive : Fate → List ℕ → AdapterEvent
 
 abbrev pub after_event : AdapterEvent → AdapterState → AdapterState
@@ -43,7 +43,7 @@ is_reset_event (Step kind answer memory) = false
 is_reset_event (Arrive fate frame) = false
 
 -- A step of this kind with this answer moves the head of a ring on, which stands at this offset.
-abbrev pub moves_head : ℕ → StepKind → Stepped → Bool
+abbrev pub moves_head : ℕ → StepKind → FrameOutcome → Bool
 moves_head place TxTake Took = place == (row_of (Transmit Head)).offset
 moves_head place RxData Moved = place == (row_of (Receive Head)).offset
 moves_head place kind answer = false

@@ -14,8 +14,8 @@ use Rattle.adapter.specs.declared.register.Register.TheVariants.{Rnbc}
 use Rattle.adapter.specs.declared.step.StepKind.{StepKind}
 use Rattle.adapter.specs.declared.register.RingRegister.TheVariants.{BaseLow, BaseHigh, Length, Head, Tail}
 use Rattle.adapter.specs.declared.step.StepKind.TheVariants.{TxTake, TxPut, RxData, RxDone, EepromTick, PhyTick}
-use Rattle.adapter.specs.declared.step.Stepped.{Stepped}
-use Rattle.adapter.specs.declared.step.Stepped.TheVariants.{Took, Put, Moved, Done, Fault}
+use Rattle.adapter.specs.Outcomes.{FrameOutcome}
+use Rattle.adapter.specs.declared.outcome.Outcome.TheVariants.{Took, Put, Moved, Done, Fault}
 use Rattle.adapter.specs.AccessLaws.{Touches, link_shown, causes_set, mask_cleared}
 use Rattle.adapter.specs.AdapterLaws.{HasRegisters-after_events, HasRegisters-new}
 use Rattle.adapter.specs.History.{AdapterEvent, Read, Write, Step, Arrive, after_event, after_events, is_reset_event, moves_head}
@@ -63,21 +63,21 @@ pub record LeavesParts (before after : AdapterState) : Type 0 where
 leaves_all : (state : AdapterState) → LeavesParts state state
 leaves_all state = record { image = refl; eerd = refl; mdic = refl; phy = refl }
 
-pub parts-took : (answer : Stepped) (memory : List ℕ) (state : AdapterState) → LeavesParts state (after_take answer memory state)
+pub parts-took : (answer : FrameOutcome) (memory : List ℕ) (state : AdapterState) → LeavesParts state (after_take answer memory state)
 parts-took Took memory state = record { image = refl; eerd = refl; mdic = refl; phy = refl }
 parts-took Fault memory state = record { image = refl; eerd = refl; mdic = refl; phy = refl }
 parts-took _ memory state = leaves_all state
 
-pub parts-put : (answer : Stepped) (state : AdapterState) → LeavesParts state (after_put answer state)
+pub parts-put : (answer : FrameOutcome) (state : AdapterState) → LeavesParts state (after_put answer state)
 parts-put (Put frame) state = record { image = refl; eerd = refl; mdic = refl; phy = refl }
 parts-put _ state = leaves_all state
 
-pub parts-moved : (answer : Stepped) (state : AdapterState) → LeavesParts state (after_data answer state)
+pub parts-moved : (answer : FrameOutcome) (state : AdapterState) → LeavesParts state (after_data answer state)
 parts-moved Moved state = record { image = refl; eerd = refl; mdic = refl; phy = refl }
 parts-moved Fault state = record { image = refl; eerd = refl; mdic = refl; phy = refl }
 parts-moved _ state = leaves_all state
 
-pub parts-done : (answer : Stepped) (state : AdapterState) → LeavesParts state (after_done answer state)
+pub parts-done : (answer : FrameOutcome) (state : AdapterState) → LeavesParts state (after_done answer state)
 parts-done Done state = record { image = refl; eerd = refl; mdic = refl; phy = refl }
 parts-done _ state = leaves_all state
 
@@ -86,7 +86,7 @@ parts-arrived Missed frame state = record { image = refl; eerd = refl; mdic = re
 parts-arrived Stored frame state = record { image = refl; eerd = refl; mdic = refl; phy = refl }
 parts-arrived _ frame state = leaves_all state
 
-image-stepped : (kind : StepKind) (answer : Stepped) (memory : List ℕ) (state : AdapterState)
+image-stepped : (kind : StepKind) (answer : FrameOutcome) (memory : List ℕ) (state : AdapterState)
     → (after_step kind answer memory state).image ≡ state.image
 image-stepped TxTake answer memory state = (parts-took answer memory state).image
 image-stepped TxPut answer memory state = (parts-put answer state).image
@@ -146,7 +146,7 @@ plain-eeprom _ kept state plain = refl
 elsewhere : (place : ℕ) → ¬ ((place == place) ≡ false)
 elsewhere place none = false≢true (sym none ∙ eq-eqb place place refl)
 
-plain-took : (register : Register) (answered : Stepped) (memory : List ℕ) (kept : ℕ) (state : AdapterState)
+plain-took : (register : Register) (answered : FrameOutcome) (memory : List ℕ) (kept : ℕ) (state : AdapterState)
     → (row_of register).kept ≡ Some kept
     → moves_head (row_of register).offset TxTake answered ≡ false
     → answer register (after_take answered memory state) ≡ answer register state
@@ -160,14 +160,14 @@ plain-took _ Took memory kept state plain none = refl
 plain-took _ Fault memory kept state plain none = refl
 plain-took _ _ memory kept state plain none = refl
 
-plain-put : (register : Register) (answered : Stepped) (kept : ℕ) (state : AdapterState) → (row_of register).kept ≡ Some kept
+plain-put : (register : Register) (answered : FrameOutcome) (kept : ℕ) (state : AdapterState) → (row_of register).kept ≡ Some kept
     → answer register (after_put answered state) ≡ answer register state
 plain-put Icr (Put frame) kept state plain = cc
 plain-put Gptc (Put frame) kept state plain = cc
 plain-put _ (Put frame) kept state plain = refl
 plain-put _ _ kept state plain = refl
 
-plain-moved : (register : Register) (answered : Stepped) (kept : ℕ) (state : AdapterState) → (row_of register).kept ≡ Some kept
+plain-moved : (register : Register) (answered : FrameOutcome) (kept : ℕ) (state : AdapterState) → (row_of register).kept ≡ Some kept
     → moves_head (row_of register).offset RxData answered ≡ false
     → answer register (after_data answered state) ≡ answer register state
 plain-moved (Receive Head) Moved kept state plain none = absurd (elsewhere 0x2810 none)
@@ -180,7 +180,7 @@ plain-moved _ Moved kept state plain none = refl
 plain-moved _ Fault kept state plain none = refl
 plain-moved _ _ kept state plain none = refl
 
-plain-done : (register : Register) (answered : Stepped) (kept : ℕ) (state : AdapterState) → (row_of register).kept ≡ Some kept
+plain-done : (register : Register) (answered : FrameOutcome) (kept : ℕ) (state : AdapterState) → (row_of register).kept ≡ Some kept
     → answer register (after_done answered state) ≡ answer register state
 plain-done Icr Done kept state plain = cc
 plain-done Gprc Done kept state plain = cc
@@ -197,7 +197,7 @@ plain-arrived Rnbc Stored frame kept state plain = cc
 plain-arrived _ Stored frame kept state plain = refl
 plain-arrived _ _ frame kept state plain = refl
 
-plain-stepped : (register : Register) (kind : StepKind) (answered : Stepped) (memory : List ℕ) (kept : ℕ) (state : AdapterState)
+plain-stepped : (register : Register) (kind : StepKind) (answered : FrameOutcome) (memory : List ℕ) (kept : ℕ) (state : AdapterState)
     → (row_of register).kept ≡ Some kept → moves_head (row_of register).offset kind answered ≡ false
     → answer register (after_step kind answered memory state) ≡ answer register state
 plain-stepped register TxTake answered memory kept state plain none = plain-took register answered memory kept state plain none

@@ -17,8 +17,8 @@ use Rattle.rx_engine.specs.declared.data.Data.TheVariants as answers
 use Rattle.rx_engine.specs.Passing.{Passes}
 use Rattle.rx_engine.specs.Registers.{filter_of}
 use Rattle.adapter.specs.declared.ring.RingRegisters.{RingRegisters}
-use Rattle.adapter.specs.declared.step.Stepped.{Stepped}
-use Rattle.adapter.specs.declared.step.Stepped.TheVariants.{Moved, Done, Nothing, Fault}
+use Rattle.adapter.specs.Outcomes.{FrameOutcome}
+use Rattle.adapter.specs.declared.outcome.Outcome.TheVariants.{Moved, Done, Nothing, Fault}
 use Rattle.adapter.specs.Recording.{one_more, with_causes}
 use Rattle.adapter.specs.Rings.{ring_of}
 use Rattle.adapter.specs.State.{AdapterState}
@@ -68,7 +68,7 @@ abbrev pub CanMoveFrame : List ℕ → AdapterState → Type 0
 CanMoveFrame memory state = CanMove state.filter.rctl (ring_of state.receive_ring) memory (length (oldest state.receiver.buffer))
 
 -- what each answer of a data step says of the adapter and the memory before it
-abbrev pub DataAnswers : List ℕ → AdapterState → Stepped → Type 0
+abbrev pub DataAnswers : List ℕ → AdapterState → FrameOutcome → Type 0
 DataAnswers memory state Nothing = ¬ (HasFrameAndDescriptor state)
 DataAnswers memory state Fault = HasFrameAndDescriptor state × (¬ (CanMoveFrame memory state))
 DataAnswers memory state Moved = HasFrameAndDescriptor state × CanMoveFrame memory state
@@ -79,7 +79,7 @@ abbrev pub causes_of_moving : RingRegisters → ℕ
 causes_of_moving ring = if is_half_free (ring_of (moved_on ring)) then alone rxdmt0 else 0
 
 -- The oldest frame has left the packet buffer and is in work, and RDH has moved on. A fault stops the engine.
-abbrev pub after_data : Stepped → AdapterState → AdapterState
+abbrev pub after_data : FrameOutcome → AdapterState → AdapterState
 after_data Moved state =
     with_causes (causes_of_moving state.receive_ring) (record state {
       receiver = engine_after_data (answers.Moved (is_half_free (ring_of (moved_on state.receive_ring))))
@@ -90,7 +90,7 @@ after_data Fault state = record state { receiver = engine_after_data answers.Fau
 after_data _ state = state
 
 -- The oldest frame stands in the buffer that the descriptor at RDH names.
-abbrev pub memory_after_data_step : Stepped → List ℕ → AdapterState → List ℕ
+abbrev pub memory_after_data_step : FrameOutcome → List ℕ → AdapterState → List ℕ
 memory_after_data_step Moved memory state =
     memory_after_data (answers.Moved (is_half_free (ring_of (moved_on state.receive_ring))))
     (ring_of state.receive_ring) state.receiver memory
@@ -106,13 +106,13 @@ DataChangesOnly state memory memory' =
 -- Done steps.
 
 -- what each answer of a done step says
-abbrev pub DoneAnswers : AdapterState → Stepped → Type 0
+abbrev pub DoneAnswers : AdapterState → FrameOutcome → Type 0
 DoneAnswers state Nothing = state.receiver.work ≡ None
 DoneAnswers state Done = ¬ (state.receiver.work ≡ None)
 DoneAnswers state _ = ⊥
 
 -- No frame is in work; RXT0, bit 7, is recorded, and the frame is counted by GPRC (its place of counting is own).
-abbrev pub after_done : Stepped → AdapterState → AdapterState
+abbrev pub after_done : FrameOutcome → AdapterState → AdapterState
 after_done Done state =
     with_causes (alone rxt0)
     (record state { receiver = engine_after_done state.receiver; received_packets = one_more state.received_packets })

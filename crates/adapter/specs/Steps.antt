@@ -6,8 +6,8 @@ use Rattle.mdic_phy.specs.Mdic as mdi
 use Rattle.registers.specs.Bits.{union}
 use Rattle.adapter.specs.declared.step.StepKind.{StepKind}
 use Rattle.adapter.specs.declared.step.StepKind.TheVariants.{TxTake, TxPut, RxData, RxDone, EepromTick, PhyTick}
-use Rattle.adapter.specs.declared.step.Stepped.{Stepped}
-use Rattle.adapter.specs.declared.step.Stepped.TheVariants.{Ticked as DidTick, Nothing}
+use Rattle.adapter.specs.Outcomes.{FrameOutcome}
+use Rattle.adapter.specs.declared.outcome.Outcome.TheVariants.{Ticked as DidTick, Nothing}
 use Rattle.adapter.specs.Receiving.{DataAnswers, DataChangesOnly, DoneAnswers, DoneChangesOnly, after_data, after_done}
 use Rattle.adapter.specs.Receiving.{memory_after_data_step, memory_after_done_step}
 use Rattle.adapter.specs.Recording.{with_causes}
@@ -38,13 +38,13 @@ abbrev pub after_phy_tick : AdapterState → AdapterState
 after_phy_tick state = after_phy_told (mdi.told state.mdic state.phy) state
 
 -- a tick answers whether there was something to do
-abbrev pub ticked : Bool → Stepped
+abbrev pub ticked : Bool → FrameOutcome
 ticked has_work = if has_work then DidTick else Nothing
 
 -- Each kind of step.
 
 -- what the answer of a step says of the adapter and the memory before it
-abbrev pub Answers : StepKind → Bool → List ℕ → AdapterState → Stepped → Type 0
+abbrev pub Answers : StepKind → Bool → List ℕ → AdapterState → FrameOutcome → Type 0
 Answers TxTake wire_free memory state answer = TakeAnswers memory state answer
 Answers TxPut wire_free memory state answer = PutAnswers wire_free state answer
 Answers RxData wire_free memory state answer = DataAnswers memory state answer
@@ -53,7 +53,7 @@ Answers EepromTick wire_free memory state answer = answer ≡ ticked (eeprom.is_
 Answers PhyTick wire_free memory state answer = answer ≡ ticked (mdi.has_work state.mdic state.phy)
 
 -- the adapter after a step with this answer on this memory
-abbrev pub after_step : StepKind → Stepped → List ℕ → AdapterState → AdapterState
+abbrev pub after_step : StepKind → FrameOutcome → List ℕ → AdapterState → AdapterState
 after_step TxTake answer memory state = after_take answer memory state
 after_step TxPut answer memory state = after_put answer state
 after_step RxData answer memory state = after_data answer state
@@ -62,7 +62,7 @@ after_step EepromTick answer memory state = after_eeprom_tick state
 after_step PhyTick answer memory state = after_phy_tick state
 
 -- the memory after a step with this answer
-abbrev pub memory_after_step : StepKind → Stepped → List ℕ → AdapterState → List ℕ
+abbrev pub memory_after_step : StepKind → FrameOutcome → List ℕ → AdapterState → List ℕ
 memory_after_step TxTake answer memory state = memory
 memory_after_step TxPut answer memory state = memory_after_put answer memory state
 memory_after_step RxData answer memory state = memory_after_data_step answer memory state

@@ -6,8 +6,8 @@ use Rattle.tx_engine.specs.Fetching.{IsIdle, IsFetchable, fetched, pads}
 use Rattle.tx_engine.specs.Steps.{DiffersAtMostAt, IfFront, status_place, written_back}
 use Rattle.tx_engine.specs.Transmitter.{Queued}
 use Rattle.adapter.specs.declared.ring.RingRegisters.{RingRegisters}
-use Rattle.adapter.specs.declared.step.Stepped.{Stepped}
-use Rattle.adapter.specs.declared.step.Stepped.TheVariants.{Took, Put, WireFull, Nothing, Fault}
+use Rattle.adapter.specs.Outcomes.{FrameOutcome}
+use Rattle.adapter.specs.declared.outcome.Outcome.TheVariants.{Took, Put, WireFull, Nothing, Fault}
 use Rattle.adapter.specs.Recording.{one_more, with_causes}
 use Rattle.adapter.specs.Rings.{ring_of}
 use Rattle.adapter.specs.State.{AdapterState}
@@ -23,7 +23,7 @@ abbrev pub CanTake : List ℕ → AdapterState → Type 0
 CanTake memory state = IsFetchable memory (ring_of state.transmit_ring)
 
 -- what each answer of a step that takes says of the adapter and the memory before it
-abbrev pub TakeAnswers : List ℕ → AdapterState → Stepped → Type 0
+abbrev pub TakeAnswers : List ℕ → AdapterState → FrameOutcome → Type 0
 TakeAnswers memory state Nothing = HasNothingToTake state
 TakeAnswers memory state Fault = (¬ (HasNothingToTake state)) × (¬ (CanTake memory state))
 TakeAnswers memory state Took = (¬ (HasNothingToTake state)) × CanTake memory state
@@ -38,7 +38,7 @@ abbrev pub causes_of_taking : RingRegisters → ℕ
 causes_of_taking ring = if (moved_on ring).head == ring.tail then alone txqe else 0
 
 -- The frame is behind the others in the packet buffer, and TDH has moved on. A fault stops the engine.
-abbrev pub after_take : Stepped → List ℕ → AdapterState → AdapterState
+abbrev pub after_take : FrameOutcome → List ℕ → AdapterState → AdapterState
 after_take Took memory state =
     with_causes (causes_of_taking state.transmit_ring) (record state {
       transmitter = record state.transmitter {
@@ -58,7 +58,7 @@ IsOldest [] frame = ⊥
 IsOldest (queued ∷ later) frame = queued.frame ≡ frame
 
 -- what each answer of a step that puts says
-abbrev pub PutAnswers : Bool → AdapterState → Stepped → Type 0
+abbrev pub PutAnswers : Bool → AdapterState → FrameOutcome → Type 0
 PutAnswers wire_free state Nothing = state.transmitter.buffer ≡ []
 PutAnswers wire_free state WireFull = (state.transmitter.buffer ≢ []) × (wire_free ≡ false)
 PutAnswers wire_free state (Put frame) = (wire_free ≡ true) × IsOldest state.transmitter.buffer frame
@@ -77,7 +77,7 @@ without_oldest state =
       transmitted_packets = one_more state.transmitted_packets;
     })
 
-abbrev pub after_put : Stepped → AdapterState → AdapterState
+abbrev pub after_put : FrameOutcome → AdapterState → AdapterState
 after_put (Put frame) state = without_oldest state
 after_put _ state = state
 
@@ -87,7 +87,7 @@ reported [] memory = memory
 reported (queued ∷ later) memory = written_back memory queued
 
 -- The status byte of the descriptor of the frame put has DD alone where it asks for a report.
-abbrev pub memory_after_put : Stepped → List ℕ → AdapterState → List ℕ
+abbrev pub memory_after_put : FrameOutcome → List ℕ → AdapterState → List ℕ
 memory_after_put (Put frame) memory state = reported state.transmitter.buffer memory
 memory_after_put _ memory state = memory
 

@@ -1,18 +1,18 @@
 // The adapter: its registers joined.
 
-ghost use Rattle.std.specs.Prelude.{◌≡◌, ◌↔◌, ◌≤◌, ◌++◌, IsTrue, IfOk, length};
+ghost use Rattle.std.specs.Prelude.{◌≡◌, ◌↔◌, ◌≤◌, IsTrue, IfOk, IfSome, length};
 ghost use Rattle.registers.specs.Bits.{Meet};
 ghost use Rattle.adapter.specs.Registers.{is_reset};
 ghost use Rattle.adapter.specs.Steps.{causes_told};
 
+use crate::outcome::Outcome;
 use crate::packet_buffer::PacketBufferAllocation;
 use crate::register::Register;
 use crate::register_file::RegisterFile;
-use crate::step::{StepKind, StepOutcome, Stepped};
+use crate::step::StepKind;
 use bitflags::Flags;
 use dma_memory::HostMemory;
 use eeprom::Image;
-use frame_queue::FrameQueue;
 use mdic_phy::{Link, Phy, Ticked};
 use registers::{Cause, Ctrl, Status, Tctl};
 use rx_engine::{MOST_FRAMES, RxEngine};
@@ -53,13 +53,12 @@ impl Model for Adapter {
 }
 
 impl Adapter {
-    ghost use Rattle.adapter.specs.Outcomes.{has_place, put_by, stepped_of};
+    ghost use Rattle.adapter.specs.Outcomes.{framed};
     ghost use Rattle.adapter.specs.Receiving.{room};
     ghost use Rattle.adapter.specs.Registers.{after_read, after_write, answer_at, new_adapter};
     ghost use Rattle.adapter.specs.State.{IsAdapter};
     ghost use Rattle.adapter.specs.Steps.{Answers, ChangesAtMost, after_step, memory_after_step};
-    ghost use Rattle.adapter.specs.declared.step.StepOutcome.TheVariants as outcome;
-    ghost use Rattle.adapter.specs.declared.step.Stepped.TheVariants.{Fault, Nothing};
+    ghost use Rattle.adapter.specs.declared.outcome.Outcome.TheVariants.{Fault, Nothing};
 
     /// An adapter after power-on, with this EEPROM and a PHY whose link comes up as `link` says. Both
     /// packet buffers are empty; their memory is taken here, and no later call takes any.
@@ -85,27 +84,18 @@ impl Adapter {
     pub fn read(&mut self, offset: u32) -> u32
         ensures answer { result ≡ answer_at offset self.old }
         ensures state { self.new ≡ after_read offset self.old }
-        ensures adapter { IsAdapter self.old }
+        ensures adapter { IsAdapter self.new }
     {
-        // A look at the fields, so that the clause `adapter` may say what holds of every adapter.
-        let _fields = &self.file;
-        match Register::at(offset) {
-            Some(register) => self.read_register(register),
-            None => 0,
-        }
+        self.read_register(Register::at(offset))
     }
 
     /// A driver's write of the register at an offset in bytes. Where there is none it is ignored
     /// (our choice).
     pub fn write(&mut self, offset: u32, value: u32)
         ensures state { self.new ≡ after_write offset value self.old }
-        ensures adapter { IsAdapter self.old }
+        ensures adapter { IsAdapter self.new }
     {
-        // A look at the fields, so that the clause `adapter` may say what holds of every adapter.
-        let _fields = &self.file;
-        if let Some(register) = Register::at(offset) {
-            self.write_register(register, value);
-        }
+        self.write_register(Register::at(offset), value);
     }
 
     /// Whether the interrupt line is asserted: exactly while a recorded cause is in the mask (our choice:
@@ -137,50 +127,20 @@ impl Adapter {
     /// An adapter is stepped with memories of one size: so the descriptor of a frame in work, or put,
     /// lies in memory, as it did when it was read. In a smaller one `RxDone` writes nothing where the
     /// descriptor doesn't lie in it whole, and `TxPut` nothing where its byte 12 doesn't.
-    pub fn step(&mut self, kind: StepKind, memory: &mut HostMemory, wire_free: bool) -> Stepped
-        ensures answer { Answers kind wire_free memory.old self.old result }
-        ensures state { self.new ≡ after_step kind result memory.old self.old }
-        ensures memory { memory.new ≡ memory_after_step kind result memory.old self.old }
+    pub fn step(&mut self, kind: StepKind, memory: &mut HostMemory, wire_free: bool) -> Outcome<()>
+        ensures answer { Answers kind wire_free memory.old self.old (framed result self.old) }
+        ensures state { self.new ≡ after_step kind (framed result self.old) memory.old self.old }
+        ensures memory { memory.new ≡ memory_after_step kind (framed result self.old) memory.old self.old }
         ensures nothing { result ≡ Nothing → (self.new ≡ self.old) × (memory.new ≡ memory.old) }
         ensures fault { result ≡ Fault → (memory.new ≡ memory.old)
             × (self.new.receive_ring ≡ self.old.receive_ring) × (self.new.transmit_ring ≡ self.old.transmit_ring) }
         ensures only { ChangesAtMost kind self.old memory.old memory.new }
         ensures size { length memory.new ≡ length memory.old }
-        ensures adapter { IsAdapter self.old }
-    {
-        match kind {
-            StepKind::TxTake => self.take_frame(memory).without_frame(),
-            StepKind::TxPut => self.put_frame(memory, wire_free),
-            StepKind::RxData => self.move_frame(memory).without_frame(),
-            StepKind::RxDone => self.finish_frame(memory).without_frame(),
-            StepKind::EepromTick => self.tick_eeprom().without_frame(),
-            StepKind::PhyTick => self.tick_phy().without_frame(),
-        }
-    }
-
-    /// A [`step`](Adapter::step) whose wire is a queue of frames: it has room while it isn't full, and a frame that
-    /// is put goes behind the others, from the packet buffer by one copy. What is answered is the outcome alone; in
-    /// contracts `stepped_of` tells the answer of `step`, with the frame.
-    pub fn step_onto(
-        &mut self,
-        kind: StepKind,
-        memory: &mut HostMemory,
-        wire: &mut FrameQueue,
-    ) -> StepOutcome
-        ensures answer { Answers kind (has_place wire.old) memory.old self.old (stepped_of result self.old) }
-        ensures state { self.new ≡ after_step kind (stepped_of result self.old) memory.old self.old }
-        ensures memory { memory.new ≡ memory_after_step kind (stepped_of result self.old) memory.old self.old }
-        ensures wire { wire.new ≡ record wire.old { frames = wire.old.frames ++ put_by (stepped_of result self.old) } }
-        ensures nothing { result ≡ outcome.Nothing → (self.new ≡ self.old) × (memory.new ≡ memory.old) }
-        ensures fault { result ≡ outcome.Fault → (memory.new ≡ memory.old)
-            × (self.new.receive_ring ≡ self.old.receive_ring) × (self.new.transmit_ring ≡ self.old.transmit_ring) }
-        ensures only { ChangesAtMost kind self.old memory.old memory.new }
-        ensures size { length memory.new ≡ length memory.old }
-        ensures adapter { IsAdapter self.old }
+        ensures adapter { IsAdapter self.new }
     {
         match kind {
             StepKind::TxTake => self.take_frame(memory),
-            StepKind::TxPut => self.put_frame_onto(memory, wire),
+            StepKind::TxPut => self.put_frame(memory, wire_free),
             StepKind::RxData => self.move_frame(memory),
             StepKind::RxDone => self.finish_frame(memory),
             StepKind::EepromTick => self.tick_eeprom(),
@@ -192,23 +152,26 @@ impl Adapter {
 /// What each register does.
 #[tactic(auto, using(registers::specs::Laws::subsets))]
 impl Adapter {
-    ghost use Rattle.adapter.specs.Registers.{answer, read_of, write_of};
+    ghost use Rattle.adapter.specs.Registers.{answer, answer_of, left_by_read, left_by_write, write_of};
     ghost use Rattle.adapter.specs.State.{IsAdapter};
-    ghost use Rattle.adapter.specs.declared.step.StepOutcome.TheVariants as outcome;
-    ghost use Rattle.adapter.specs.Outcomes.{stepped_of};
+    ghost use Rattle.adapter.specs.declared.outcome.Outcome.TheVariants as outcome;
+    ghost use Rattle.adapter.specs.Outcomes.{framed};
     ghost use Rattle.eeprom.specs.Eerd.{is_pending};
     ghost use Rattle.mdic_phy.specs.Mdic.{has_work};
     ghost use Rattle.adapter.specs.Steps.{after_eeprom_tick, after_phy_tick, ticked};
     ghost use Rattle.adapter.specs.Table.{IsInTable};
 
-    /// Reads a register.
-    fn read_register(&mut self, register: Register) -> u32
-        requires { IsInTable register }
-        ensures answer { result ≡ answer register self.old }
-        ensures state { self.new ≡ read_of register self.old }
-        ensures adapter { IsAdapter self.old }
+    /// Reads a register, if there is one.
+    fn read_register(&mut self, register: Option<Register>) -> u32
+        requires { IfSome register IsInTable }
+        ensures answer { result ≡ answer_of register self.old }
+        ensures state { self.new ≡ left_by_read register self.old }
+        ensures adapter { IsAdapter self.new }
     {
         let file = &mut self.file;
+        let Some(register) = register else {
+            return 0;
+        };
         match register {
             Register::Ctrl => file.ctrl.bits(),
             Register::Status => self.status().bits(),
@@ -234,13 +197,16 @@ impl Adapter {
         }
     }
 
-    /// Writes a register.
-    fn write_register(&mut self, register: Register, value: u32)
-        requires { IsInTable register }
-        ensures state { self.new ≡ write_of register value self.old }
-        ensures adapter { IsAdapter self.old }
+    /// Writes a register, if there is one.
+    fn write_register(&mut self, register: Option<Register>, value: u32)
+        requires { IfSome register IsInTable }
+        ensures state { self.new ≡ left_by_write register value self.old }
+        ensures adapter { IsAdapter self.new }
     {
         let file = &mut self.file;
+        let Some(register) = register else {
+            return;
+        };
         match register {
             Register::Ctrl => self.write_ctrl(value),
             Register::Eerd => file.eerd.write(value),
@@ -286,31 +252,31 @@ impl Adapter {
     }
 
     /// A pending read of the EEPROM ends.
-    fn tick_eeprom(&mut self) -> StepOutcome
+    fn tick_eeprom(&mut self) -> Outcome<()>
         ensures state { self.new ≡ after_eeprom_tick self.old }
-        ensures answer { stepped_of result self.old ≡ ticked (is_pending self.old.eerd) }
+        ensures answer { framed result self.old ≡ ticked (is_pending self.old.eerd) }
         ensures nothing { result ≡ outcome.Nothing → self.new ≡ self.old }
-        ensures adapter { IsAdapter self.old }
+        ensures adapter { IsAdapter self.new }
     {
         if self.file.eerd.tick(&self.image) {
-            StepOutcome::Ticked
+            Outcome::Ticked
         } else {
-            StepOutcome::Nothing
+            Outcome::Nothing
         }
     }
 
     /// A moment of the PHY passes, and the causes that it tells are recorded.
-    fn tick_phy(&mut self) -> StepOutcome
+    fn tick_phy(&mut self) -> Outcome<()>
         ensures state { self.new ≡ after_phy_tick self.old }
-        ensures answer { stepped_of result self.old ≡ ticked (has_work self.old.mdic self.old.phy) }
+        ensures answer { framed result self.old ≡ ticked (has_work self.old.mdic self.old.phy) }
         ensures nothing { result ≡ outcome.Nothing → self.new ≡ self.old }
-        ensures adapter { IsAdapter self.old }
+        ensures adapter { IsAdapter self.new }
     {
         let Some(ticked) = self.file.mdic.tick(&mut self.phy) else {
-            return StepOutcome::Nothing;
+            return Outcome::Nothing;
         };
         self.file.causes.raise(causes_of(ticked));
-        StepOutcome::Ticked
+        Outcome::Ticked
     }
 }
 

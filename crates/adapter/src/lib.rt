@@ -9,6 +9,7 @@ mod adapter;
 mod counts;
 mod laws;
 pub mod offsets;
+mod outcome;
 mod packet_buffer;
 mod receive;
 mod register;
@@ -23,7 +24,8 @@ pub use laws::{
     accesses_by_table, frames_by_steps, offsets_by_table, parts_have_their_laws, plain_by_history,
     resets_by_table,
 };
+pub use outcome::Outcome;
 pub use register::{Register, RingRegister};
 pub use ring::RingRegisters;
 pub use rx_engine::Fate;
-pub use step::{StepKind, StepOutcome, Stepped};
+pub use step::StepKind;

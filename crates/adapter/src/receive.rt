@@ -4,14 +4,14 @@ ghost use Rattle.std.specs.Prelude.{◌≡◌, length, if◌then◌else◌};
 ghost use Rattle.registers.specs.Bits.{IsSubset};
 ghost use Rattle.registers.specs.Kept.{all_causes};
 ghost use Rattle.registers.specs.Places.{alone, rxdmt0};
-ghost use Rattle.adapter.specs.Outcomes.{stepped_of};
+ghost use Rattle.adapter.specs.Outcomes.{framed};
 ghost use Rattle.adapter.specs.State.{IsAdapter};
 ghost use Rattle.adapter.specs.Receiving.{DataAnswers, DataChangesOnly, DoneAnswers, DoneChangesOnly, IsFate};
 ghost use Rattle.adapter.specs.Receiving.{after_arrive, after_data, after_done, memory_after_data_step};
 ghost use Rattle.adapter.specs.Receiving.{memory_after_done_step, no_buffers_counted};
 
 use crate::Adapter;
-use crate::step::StepOutcome;
+use crate::outcome::Outcome;
 use bitflags::Flags;
 use dma_memory::HostMemory;
 use registers::Cause;
@@ -27,7 +27,7 @@ impl Adapter {
     pub fn arrive(&mut self, frame: &[u8]) -> Fate
         ensures fate { IsFate self.old frame.now result }
         ensures state { self.new ≡ after_arrive result frame.now self.old }
-        ensures adapter { IsAdapter self.old }
+        ensures adapter { IsAdapter self.new }
     {
         let room = self.room();
         let file = &mut self.file;
@@ -45,42 +45,42 @@ impl Adapter {
     }
 
     /// Writes the oldest frame of the packet buffer to memory.
-    pub(crate) fn move_frame(&mut self, memory: &mut HostMemory) -> StepOutcome
-        ensures answer { DataAnswers memory.old self.old (stepped_of result self.old) }
-        ensures state { self.new ≡ after_data (stepped_of result self.old) self.old }
-        ensures memory { memory.new ≡ memory_after_data_step (stepped_of result self.old) memory.old self.old }
+    pub(crate) fn move_frame(&mut self, memory: &mut HostMemory) -> Outcome<()>
+        ensures answer { DataAnswers memory.old self.old (framed result self.old) }
+        ensures state { self.new ≡ after_data (framed result self.old) self.old }
+        ensures memory { memory.new ≡ memory_after_data_step (framed result self.old) memory.old self.old }
         ensures only { DataChangesOnly self.old memory.old memory.new }
         ensures size { length memory.new ≡ length memory.old }
-        ensures adapter { IsAdapter self.old }
+        ensures adapter { IsAdapter self.new }
     {
         let file = &mut self.file;
         let mut ring = file.receive_ring.ring();
         match rx_data(&mut self.receiver, &mut ring, file.filter.rctl(), memory) {
-            Data::Nothing => StepOutcome::Nothing,
-            Data::Fault => StepOutcome::Fault,
+            Data::Nothing => Outcome::Nothing,
+            Data::Fault => Outcome::Fault,
             Data::Moved { low } => {
                 file.receive_ring.head = ring.head;
                 file.causes.raise(causes_of_moving(low));
-                StepOutcome::Moved
+                Outcome::Moved
             }
         }
     }
 
     /// Writes the descriptor of the frame in work back.
-    pub(crate) fn finish_frame(&mut self, memory: &mut HostMemory) -> StepOutcome
-        ensures answer { DoneAnswers self.old (stepped_of result self.old) }
-        ensures state { self.new ≡ after_done (stepped_of result self.old) self.old }
+    pub(crate) fn finish_frame(&mut self, memory: &mut HostMemory) -> Outcome<()>
+        ensures answer { DoneAnswers self.old (framed result self.old) }
+        ensures state { self.new ≡ after_done (framed result self.old) self.old }
         ensures memory { memory.new ≡ memory_after_done_step memory.old self.old }
         ensures only { DoneChangesOnly self.old memory.old memory.new }
         ensures size { length memory.new ≡ length memory.old }
-        ensures adapter { IsAdapter self.old }
+        ensures adapter { IsAdapter self.new }
     {
         match rx_done(&mut self.receiver, memory) {
-            Done::Nothing => StepOutcome::Nothing,
+            Done::Nothing => Outcome::Nothing,
             Done::Done => {
                 self.file.causes.raise(Cause::RXT0);
                 self.file.gprc.bump();
-                StepOutcome::Done
+                Outcome::Done
             }
         }
     }

@@ -5,7 +5,7 @@ ghost use Rattle.bus.specs.PastOfStretch.{nothing};
 ghost use Rattle.bus.specs.Trails.{past_of_event};
 ghost use Rattle.bus.specs.declared.event.Access.TheVariants.{Stores};
 
-use adapter::{Fate, StepKind, Stepped};
+use adapter::{Fate, Outcome, StepKind};
 use bus::{Access, Event, StoredBytes};
 use descriptors::Frame;
 use std::alloc::{AllocError, Global};
@@ -31,7 +31,7 @@ fn events_are_equal_part_by_part(rt: HostRuntime) -> Result<(), Fail> {
     let same = store_of(rt.alloc(), 0x80, &[1, 2, 3])?;
     let other = store_of(rt.alloc(), 0x80, &[1, 2])?;
     assert!(rt; stored == same && stored != other);
-    let idle = Event::Steps(StepKind::TxTake, true, Stepped::Nothing);
+    let idle = Event::Steps(StepKind::TxTake, true, Outcome::Nothing);
     assert!(rt; missed(Frame::new()) != idle);
     Ok(())
 }

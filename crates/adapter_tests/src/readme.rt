@@ -1,7 +1,7 @@
 //! The code of the README of `adapter`, word for word.
 
 use adapter::offsets::{GPRC, ICR, RCTL, RDLEN, RDT};
-use adapter::{Adapter, Fate, StepKind, Stepped};
+use adapter::{Adapter, Fate, Outcome, StepKind};
 use bitflags::Flags;
 use dma_memory::HostMemory;
 use eeprom::Image;
@@ -23,9 +23,9 @@ fn the_code_of_the_readme_of_adapter(rt: HostRuntime) -> Result<(), Fail> {
     let frame = [0xFF; 60];
     assert_eq!(rt; adapter.arrive(&frame), Fate::Stored);
     let moved = adapter.step(StepKind::RxData, &mut memory, true);
-    assert_eq!(rt; moved, Stepped::Moved);
+    assert_eq!(rt; moved, Outcome::Moved);
     let done = adapter.step(StepKind::RxDone, &mut memory, true);
-    assert_eq!(rt; done, Stepped::Done);
+    assert_eq!(rt; done, Outcome::Done);
     assert_eq!(rt; memory.view(0x800, 60), Ok(frame.as_slice()));
     assert_eq!(rt; adapter.read(ICR), Cause::RXT0.bits());
     assert_eq!(rt; adapter.read(GPRC), 1);

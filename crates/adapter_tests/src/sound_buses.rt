@@ -1,7 +1,7 @@
 //! Solo buses: what waits is played, and each bus on which the conditions of the law hold goes on.
 
 use adapter::offsets::EERD;
-use adapter::{Adapter, StepKind, StepOutcome};
+use adapter::{Adapter, Outcome, StepKind};
 use bus::{Bus, HonestBus};
 use dma_memory::HostMemory;
 use eeprom::Image;
@@ -14,7 +14,7 @@ use std::process::Abort;
 use std::test::Fail;
 
 /// Asserts what a step of the adapter does.
-fn goes_on(rt: &impl Abort, mut bus: SoloBus, kind: StepKind, wanted: StepOutcome) {
+fn goes_on(rt: &impl Abort, mut bus: SoloBus, kind: StepKind, wanted: Outcome<()>) {
     assert_eq!(rt; bus.step(kind), wanted);
 }
 
@@ -25,31 +25,31 @@ fn each_sound_bus_goes_on(rt: HostRuntime) -> Result<(), Fail> {
         &rt,
         with_rings(rt.alloc(), &image)?,
         StepKind::RxData,
-        StepOutcome::Nothing,
+        Outcome::Nothing,
     );
     goes_on(
         &rt,
         with_work(rt.alloc(), &image)?,
         StepKind::RxDone,
-        StepOutcome::Done,
+        Outcome::Done,
     );
     goes_on(
         &rt,
         with_finished_slot(rt.alloc(), &image)?,
         StepKind::RxDone,
-        StepOutcome::Nothing,
+        Outcome::Nothing,
     );
     goes_on(
         &rt,
         with_frame_to_send(rt.alloc(), &image)?,
         StepKind::TxTake,
-        StepOutcome::Took,
+        Outcome::Took,
     );
     goes_on(
         &rt,
         with_buffered_frame(rt.alloc(), &image)?,
         StepKind::TxPut,
-        StepOutcome::Put,
+        Outcome::Put(()),
     );
     Ok(())
 }

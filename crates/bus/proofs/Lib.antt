@@ -13,6 +13,8 @@ pub mod RxDataSteps
 pub mod RxDoneSteps
 pub mod StepInstances
 pub mod Trails
+pub mod StepsThenAccess
+pub mod LivelyAccesses
 pub mod Accesses
 pub mod TrailFaults
 pub mod TrailCauses

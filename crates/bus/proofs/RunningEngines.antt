@@ -15,8 +15,8 @@ use Rattle.adapter.specs.Steps.{Answers, ticked}
 use Rattle.adapter.specs.Transmitting.{CanTake, HasNothingToTake}
 use Rattle.adapter.specs.declared.step.StepKind.{StepKind}
 use Rattle.adapter.specs.declared.step.StepKind.TheVariants.{TxTake, TxPut, RxData, RxDone, EepromTick, PhyTick}
-use Rattle.adapter.specs.declared.step.Stepped.{Stepped}
-use Rattle.adapter.specs.declared.step.Stepped.TheVariants.{Fault}
+use Rattle.adapter.specs.Outcomes.{FrameOutcome}
+use Rattle.adapter.specs.declared.outcome.Outcome.TheVariants.{Fault}
 use Rattle.bus.specs.Faults.{FaultsNeverCome}
 use Rattle.adapter.specs.HostAreas.{buffer_of, buffer_size, receives, ring_area}
 use Rattle.adapter.specs.HostFrames.{AreWithin}
@@ -107,7 +107,7 @@ no_fault o p a PhyTick wire_free sound can answers = tick-no_fault _ answers
 
 pub faults_never_come : FaultsNeverCome
 faults_never_come o p a kind wire_free answer sound can answers same =
-    no_fault o p a kind wire_free sound can (subst (λ (given : Stepped). Answers kind wire_free a.memory a.adapter given) same answers)
+    no_fault o p a kind wire_free sound can (subst (λ (given : FrameOutcome). Answers kind wire_free a.memory a.adapter given) same answers)
 
 -- What stays.
 

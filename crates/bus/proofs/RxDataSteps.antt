@@ -23,8 +23,8 @@ use Rattle.adapter.specs.Receiving.{CanMoveFrame, DataAnswers, HasFrameAndDescri
 use Rattle.adapter.specs.Rings.{ring_of}
 use Rattle.adapter.specs.Transmitting.{moved_on}
 use Rattle.adapter.specs.declared.step.StepKind.TheVariants.{RxData}
-use Rattle.adapter.specs.declared.step.Stepped.{Stepped}
-use Rattle.adapter.specs.declared.step.Stepped.TheVariants.{Took, Put, WireFull, Moved, Done, Ticked, Nothing, Fault}
+use Rattle.adapter.specs.Outcomes.{FrameOutcome}
+use Rattle.adapter.specs.declared.outcome.Outcome.TheVariants.{Took, Put, WireFull, Moved, Done, Ticked, Nothing, Fault}
 use Rattle.adapter.specs.HostAreas.{areas, buffer_of, data_of, offered_buffers, receives, reported_half, ring_area, status_byte, work_areas}
 use Rattle.adapter.specs.Slots.{buffered, done_slots, finished, is_done, IsDealt, offered, outstanding, written_back}
 use Rattle.adapter.specs.HostFrames.{frames_held, named}
@@ -188,7 +188,7 @@ between_moved o p a0 has can sound =
     }
 
 -- Any answer of a data step.
-pub data_happens : (a : World) (answer : Stepped) → IsAdapter a.adapter → DataAnswers a.memory a.adapter answer
+pub data_happens : (a : World) (answer : FrameOutcome) → IsAdapter a.adapter → DataAnswers a.memory a.adapter answer
     → Happens a (world_after_step RxData answer a) nothing
 data_happens a Moved running answers = record {
   steady =
@@ -222,8 +222,4 @@ data_happens a Fault running answers = record {
       (λ can. answers.1 (can_move o p a sound can answers.0)) sound;
 }
 data_happens a Nothing running answers = happens_none a
-data_happens a (Put frame) running answers = absurd answers
-data_happens a WireFull running answers = absurd answers
-data_happens a Took running answers = absurd answers
-data_happens a Done running answers = absurd answers
-data_happens a Ticked running answers = absurd answers
+data_happens a _ running answers = absurd answers

@@ -23,8 +23,8 @@ use Rattle.adapter.specs.Receiving.{DoneAnswers, after_done}
 use Rattle.adapter.specs.Recording.{one_more}
 use Rattle.adapter.specs.State.{AdapterState}
 use Rattle.adapter.specs.declared.step.StepKind.TheVariants.{RxDone}
-use Rattle.adapter.specs.declared.step.Stepped.{Stepped}
-use Rattle.adapter.specs.declared.step.Stepped.TheVariants.{Took, Put, WireFull, Moved, Done, Ticked, Nothing, Fault}
+use Rattle.adapter.specs.Outcomes.{FrameOutcome}
+use Rattle.adapter.specs.declared.outcome.Outcome.TheVariants.{Took, Put, WireFull, Moved, Done, Ticked, Nothing, Fault}
 use Rattle.adapter.specs.HostAreas.{areas, buffer_of, buffer_size, data_of, frame_areas, offered_buffers, receives, reported_half}
 use Rattle.adapter.specs.HostAreas.{ring_area, status_byte}
 use Rattle.adapter.specs.Slots.{buffered, done_slots, finished, in_work, is_done, offered, written_back}
@@ -274,16 +274,11 @@ done_work (Some work) a running answers =
     }
 
 -- Any answer of a done step.
-pub done_happens : (a : World) (answer : Stepped) → IsAdapter a.adapter → DoneAnswers a.adapter answer
+pub done_happens : (a : World) (answer : FrameOutcome) → IsAdapter a.adapter → DoneAnswers a.adapter answer
     → Happens a (world_after_step RxDone answer a) nothing
 done_happens a Done running answers = done_work a.adapter.receiver.work a running answers
 done_happens a Nothing running answers =
     let still_so : memory_after_done a.adapter.receiver.work a.memory
     ≡ a.memory = ap (λ (work : Option Work). memory_after_done work a.memory) answers in
     subst (λ (memory : List ℕ). Happens a (record { memory = memory; adapter = a.adapter }) nothing) (sym still_so) (happens_none a)
-done_happens a (Put frame) running answers = absurd answers
-done_happens a WireFull running answers = absurd answers
-done_happens a Took running answers = absurd answers
-done_happens a Fault running answers = absurd answers
-done_happens a Moved running answers = absurd answers
-done_happens a Ticked running answers = absurd answers
+done_happens a _ running answers = absurd answers

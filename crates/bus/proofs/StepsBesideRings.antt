@@ -22,7 +22,7 @@ use Rattle.adapter.specs.Recording.{one_more}
 use Rattle.adapter.specs.State.{AdapterState}
 use Rattle.adapter.specs.Steps.{after_phy_told, causes_told}
 use Rattle.adapter.specs.declared.step.StepKind.TheVariants.{EepromTick, PhyTick}
-use Rattle.adapter.specs.declared.step.Stepped.{Stepped}
+use Rattle.adapter.specs.Outcomes.{FrameOutcome}
 use Rattle.adapter.specs.Slots.{finished, written_back}
 use Rattle.adapter.specs.HostAreas.{buffer_size}
 use Rattle.adapter.specs.HostFrames.{frames_to_send, named}
@@ -172,7 +172,7 @@ steady_ticked a recorded eerd management eeprom_ticks phy_ticks fits causes read
   management = told;
 }
 
-pub eeprom_tick_happens : (a : World) (answer : Stepped) → IsAdapter a.adapter
+pub eeprom_tick_happens : (a : World) (answer : FrameOutcome) → IsAdapter a.adapter
     → Happens a (world_after_step EepromTick answer a) (past_of_step EepromTick answer)
 eeprom_tick_happens a answer running =
     let read = eeprom.after_tick a.adapter.image a.adapter.eerd in
@@ -185,7 +185,7 @@ eeprom_tick_happens a answer running =
     }
 
 -- the PHY's tick, by what it tells
-tick_told : (a : World) (tells : Option Told) (answer : Stepped) → told a.adapter.mdic a.adapter.phy ≡ tells → IsAdapter a.adapter
+tick_told : (a : World) (tells : Option Told) (answer : FrameOutcome) → told a.adapter.mdic a.adapter.phy ≡ tells → IsAdapter a.adapter
     → (management_of (after_phy_told tells a.adapter) ≡ phy_ticked (management_of a.adapter))
     → Happens a (record a { adapter = after_phy_told tells a.adapter }) (past_of_step PhyTick answer)
 tick_told a None answer is running moves = record {
@@ -214,7 +214,7 @@ management_told : (adapter : AdapterState) (works : Bool) (tells : Told)
 management_told adapter true tells = refl
 management_told adapter false tells = refl
 
-pub phy_tick_happens : (a : World) (answer : Stepped) → IsAdapter a.adapter
+pub phy_tick_happens : (a : World) (answer : FrameOutcome) → IsAdapter a.adapter
     → Happens a (world_after_step PhyTick answer a) (past_of_step PhyTick answer)
 phy_tick_happens a answer running =
     tick_told a (told a.adapter.mdic a.adapter.phy) answer refl running

@@ -23,8 +23,8 @@ use Rattle.adapter.specs.World.{World}
 use Rattle.adapter.specs.declared.ring.RingRegisters.{RingRegisters}
 use Rattle.adapter.specs.declared.step.StepKind.{StepKind}
 use Rattle.adapter.specs.declared.step.StepKind.TheVariants.{TxTake, TxPut, RxData, RxDone, EepromTick, PhyTick}
-use Rattle.adapter.specs.declared.step.Stepped.{Stepped}
-use Rattle.adapter.specs.declared.step.Stepped.TheVariants.{Took, Put, Moved, Done, Fault}
+use Rattle.adapter.specs.Outcomes.{FrameOutcome}
+use Rattle.adapter.specs.declared.outcome.Outcome.TheVariants.{Took, Put, Moved, Done, Fault}
 use Rattle.bus.specs.Accesses.{LeavesCauses, LeavesMask}
 use Rattle.bus.specs.StepsAndArrivals.{world_after_step}
 use Rattle.bus.specs.TrailCauses.{CausesAreThoseOfSteps, MasksStay, RecordedCausesStay}
@@ -54,7 +54,7 @@ told-records : (tells : Option Ticked) (a : AdapterState)
 told-records None a = none a.causes.recorded
 told-records (Some ticked) a = refl
 
-pub step_records : (kind : StepKind) (answer : Stepped) (world : World)
+pub step_records : (kind : StepKind) (answer : FrameOutcome) (world : World)
     → (world_after_step kind answer world).adapter.causes.recorded
     ≡ union world.adapter.causes.recorded (causes_by_step kind answer world.adapter)
 step_records TxTake Took world = refl
@@ -87,7 +87,7 @@ told-mask : (tells : Option Ticked) (a : AdapterState) → (after_phy_told tells
 told-mask None a = refl
 told-mask (Some ticked) a = refl
 
-step-mask : (kind : StepKind) (answer : Stepped) (world : World)
+step-mask : (kind : StepKind) (answer : FrameOutcome) (world : World)
     → (world_after_step kind answer world).adapter.causes.mask ≡ world.adapter.causes.mask
 step-mask TxTake Took world = refl
 step-mask TxTake Fault world = refl
@@ -175,7 +175,7 @@ end-is-told ticked is =
     (HasBit-union (cond ticked.link_changed 0x4 0) (cond ticked.access_complete 0x200 0) 9).1
     (inr (chosen ticked.access_complete 0x200 9 refl is))
 
-tick-is-recorded : (wire_free : Bool) (answer : Stepped) (later : List Event) (a b : World) (place : ℕ) (ticked : Ticked)
+tick-is-recorded : (wire_free : Bool) (answer : FrameOutcome) (later : List Event) (a b : World) (place : ℕ) (ticked : Ticked)
     → All LeavesCauses (past_of later).accesses → Trail (Steps PhyTick wire_free answer ∷ later) a b
     → told a.adapter.mdic a.adapter.phy ≡ Some ticked → HasBit (causes_told ticked) place → HasBit b.adapter.causes.recorded place
 tick-is-recorded wire_free answer later a b place ticked leaves trail tells set =

@@ -18,8 +18,8 @@ use Rattle.adapter.specs.declared.register.Register.{Register}
 use Rattle.adapter.specs.declared.register.Register.TheVariants.{Icr, Mpc, Gprc, Gptc, Rnbc}
 use Rattle.adapter.specs.declared.step.StepKind.{StepKind}
 use Rattle.adapter.specs.declared.step.StepKind.TheVariants.{TxTake, TxPut, RxData, RxDone, EepromTick, PhyTick}
-use Rattle.adapter.specs.declared.step.Stepped.{Stepped}
-use Rattle.adapter.specs.declared.step.Stepped.TheVariants.{Took, Put, Moved, Done, Fault}
+use Rattle.adapter.specs.Outcomes.{FrameOutcome}
+use Rattle.adapter.specs.declared.outcome.Outcome.TheVariants.{Took, Put, Moved, Done, Fault}
 use Rattle.bus.specs.Accesses.{IsNoReset, ResetsNothing}
 use Rattle.bus.specs.declared.event.Access.TheVariants.{Loads, Reads, Stores, Writes}
 use Rattle.bus.specs.StepsAndArrivals.{world_after_step}
@@ -40,7 +40,7 @@ told-stays : (tells : Option Ticked) (a : AdapterState) → StaysStopped a (afte
 told-stays None a = same a a refl refl
 told-stays (Some ticked) a = same a (after_phy_told (Some ticked) a) refl refl
 
-pub step_stays : (kind : StepKind) (answer : Stepped) (world : World)
+pub step_stays : (kind : StepKind) (answer : FrameOutcome) (world : World)
     → StaysStopped world.adapter (world_after_step kind answer world).adapter
 step_stays TxTake Took world = same world.adapter _ refl refl
 step_stays TxTake Fault world = record { receiver = λ stopped. stopped; transmitter = λ stopped. refl }
@@ -135,8 +135,8 @@ stopped-runs a b (inr stopped) stays run = both b.transmitter.stopped (stays.tra
 event-was-none : (event : Event) (a b : World)
     → Occurs event a → StaysStopped (world_after event a).adapter b.adapter → EnginesRun b.adapter → IsNoFault event
 event-was-none (Steps kind wire_free answer) a b occurs stays run = λ fault.
-    let answers = subst (λ (x : Stepped). Answers kind wire_free a.memory a.adapter x) fault occurs.1 in
-    let stays = subst (λ (x : Stepped). StaysStopped (world_after_step kind x a).adapter b.adapter) fault stays in
+    let answers = subst (λ (x : FrameOutcome). Answers kind wire_free a.memory a.adapter x) fault occurs.1 in
+    let stays = subst (λ (x : FrameOutcome). StaysStopped (world_after_step kind x a).adapter b.adapter) fault stays in
     stopped-runs (world_after_step kind Fault a).adapter b.adapter (fault_stops kind wire_free a answers) stays run
 event-was-none (Arrives frame fate) a b occurs stays run = tt
 event-was-none (Accesses access) a b occurs stays run = tt

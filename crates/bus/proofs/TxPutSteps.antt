@@ -18,8 +18,8 @@ use Rattle.adapter.specs.Recording.{one_more}
 use Rattle.adapter.specs.State.{AdapterState}
 use Rattle.adapter.specs.Transmitting.{PutAnswers, after_put, causes_of_putting}
 use Rattle.adapter.specs.declared.step.StepKind.TheVariants.{TxPut}
-use Rattle.adapter.specs.declared.step.Stepped.{Stepped}
-use Rattle.adapter.specs.declared.step.Stepped.TheVariants.{Took, Put, WireFull, Moved, Done, Ticked, Nothing, Fault}
+use Rattle.adapter.specs.Outcomes.{FrameOutcome}
+use Rattle.adapter.specs.declared.outcome.Outcome.TheVariants.{Took, Put, WireFull, Moved, Done, Ticked, Nothing, Fault}
 use Rattle.adapter.specs.HostAreas.{areas, buffer_of, data_of, frame_areas, offered_buffers, receives, reported_half, ring_area}
 use Rattle.adapter.specs.HostAreas.{status_byte, work_areas}
 use Rattle.adapter.specs.Slots.{buffered, finished, in_work, is_done, offered}
@@ -245,13 +245,9 @@ put_queue (queued ∷ later) a wire_free frame running answers =
     }
 
 -- Any answer of a step that puts.
-pub put_happens : (a : World) (wire_free : Bool) (answer : Stepped) → IsAdapter a.adapter → PutAnswers wire_free a.adapter answer
+pub put_happens : (a : World) (wire_free : Bool) (answer : FrameOutcome) → IsAdapter a.adapter → PutAnswers wire_free a.adapter answer
     → Happens a (world_after_step TxPut answer a) (past_of_step TxPut answer)
 put_happens a wire_free (Put frame) running answers = put_queue a.adapter.transmitter.buffer a wire_free frame running answers
 put_happens a wire_free Nothing running answers = happens_none a
 put_happens a wire_free WireFull running answers = happens_none a
-put_happens a wire_free Took running answers = absurd answers
-put_happens a wire_free Fault running answers = absurd answers
-put_happens a wire_free Moved running answers = absurd answers
-put_happens a wire_free Done running answers = absurd answers
-put_happens a wire_free Ticked running answers = absurd answers
+put_happens a wire_free _ running answers = absurd answers

@@ -12,8 +12,8 @@ use Rattle.tx_engine.specs.Transmitter.{Queued}
 use Rattle.adapter.specs.Recording.{with_causes}
 use Rattle.adapter.specs.Transmitting.{CanTake, HasNothingToTake, TakeAnswers, causes_of_taking, moved_on}
 use Rattle.adapter.specs.declared.step.StepKind.TheVariants.{TxTake}
-use Rattle.adapter.specs.declared.step.Stepped.{Stepped}
-use Rattle.adapter.specs.declared.step.Stepped.TheVariants.{Took, Put, WireFull, Moved, Done, Ticked, Nothing, Fault}
+use Rattle.adapter.specs.Outcomes.{FrameOutcome}
+use Rattle.adapter.specs.declared.outcome.Outcome.TheVariants.{Took, Put, WireFull, Moved, Done, Ticked, Nothing, Fault}
 use Rattle.adapter.specs.Slots.{buffered, finished, in_work, IsDealt, offered, written_back}
 use Rattle.adapter.specs.HostAreas.{data_of, offered_buffers, reported_half, ring_area, status_byte, work_areas}
 use Rattle.adapter.specs.HostFrames.{frames_held, named}
@@ -116,7 +116,7 @@ between_taken o p a not_idle can sound =
     subst (λ (pad : Bool). Between o p a (taken pad a) nothing) (sym padded) (between_padded o p a can.sound differ sound)
 
 -- Any answer of a step that takes.
-pub take_happens : (a : World) (answer : Stepped) → IsAdapter a.adapter → TakeAnswers a.memory a.adapter answer
+pub take_happens : (a : World) (answer : FrameOutcome) → IsAdapter a.adapter → TakeAnswers a.memory a.adapter answer
     → Happens a (world_after_step TxTake answer a) nothing
 take_happens a Took running answers = record {
   steady =
@@ -144,8 +144,4 @@ take_happens a Fault running answers = record {
       (λ can. answers.1 (can_take o p a sound can answers.0)) sound;
 }
 take_happens a Nothing running answers = happens_none a
-take_happens a (Put frame) running answers = absurd answers
-take_happens a WireFull running answers = absurd answers
-take_happens a Moved running answers = absurd answers
-take_happens a Done running answers = absurd answers
-take_happens a Ticked running answers = absurd answers
+take_happens a _ running answers = absurd answers

@@ -2,8 +2,8 @@
 use Rattle.std.specs.Prelude.{◌≢◌, ℕ, Bool}
 use Rattle.adapter.specs.Steps.{Answers}
 use Rattle.adapter.specs.declared.step.StepKind.{StepKind}
-use Rattle.adapter.specs.declared.step.Stepped.{Stepped}
-use Rattle.adapter.specs.declared.step.Stepped.TheVariants.{Fault}
+use Rattle.adapter.specs.Outcomes.{FrameOutcome}
+use Rattle.adapter.specs.declared.outcome.Outcome.TheVariants.{Fault}
 use Rattle.adapter.specs.Conditions.{Sound}
 use Rattle.adapter.specs.Running.{CanRun}
 use Rattle.adapter.specs.World.{World}
@@ -11,5 +11,5 @@ use Rattle.adapter.specs.World.{World}
 -- Where the conditions of the law hold and the engines can run, no answer of a step is a fault.
 abbrev pub FaultsNeverCome : Type 0
 FaultsNeverCome =
-    (oldest_receive oldest_transmit : ℕ) (world : World) (kind : StepKind) (wire_free : Bool) (answer : Stepped)
+    (oldest_receive oldest_transmit : ℕ) (world : World) (kind : StepKind) (wire_free : Bool) (answer : FrameOutcome)
     → Sound oldest_receive oldest_transmit world → CanRun world → Answers kind wire_free world.memory world.adapter answer → answer ≢ Fault

@@ -3,6 +3,9 @@ pub mod Law
 pub mod Composition
 pub mod StepsAndArrivals
 pub mod Trails
+pub mod Machines
+pub mod LivelyBuses
+pub mod LivelyBusLaws
 pub mod Faults
 pub mod TrailLaws
 pub mod Accesses

@@ -9,13 +9,13 @@ use Rattle.adapter.specs.State.{IsAdapter}
 use Rattle.adapter.specs.Steps.{Answers, after_step, memory_after_step}
 use Rattle.adapter.specs.declared.step.StepKind.{StepKind}
 use Rattle.adapter.specs.declared.step.StepKind.TheVariants.{TxTake, TxPut, RxData, RxDone, EepromTick, PhyTick}
-use Rattle.adapter.specs.declared.step.Stepped.{Stepped}
+use Rattle.adapter.specs.Outcomes.{FrameOutcome}
 use Rattle.bus.specs.Law.{Happens}
 use Rattle.bus.specs.PastOfStretch.{Past, nothing}
 use Rattle.adapter.specs.World.{World}
 
 -- what happens in a step with this answer
-abbrev pub past_of_step : StepKind → Stepped → Past
+abbrev pub past_of_step : StepKind → FrameOutcome → Past
 past_of_step TxTake answer = nothing
 past_of_step TxPut answer = record nothing { put = put_by answer }
 past_of_step RxData answer = nothing
@@ -23,7 +23,7 @@ past_of_step RxDone answer = nothing
 past_of_step EepromTick answer = record nothing { eeprom_ticks = 1 }
 past_of_step PhyTick answer = record nothing { phy_ticks = 1 }
 
-abbrev pub world_after_step : StepKind → Stepped → World → World
+abbrev pub world_after_step : StepKind → FrameOutcome → World → World
 world_after_step kind answer world = record {
   memory = memory_after_step kind answer world.memory world.adapter;
   adapter = after_step kind answer world.memory world.adapter;
@@ -46,7 +46,7 @@ world_after_arrival fate frame world = record world { adapter = after_arrive fat
 -- Each step is one of the things that may happen.
 abbrev pub StepsHappen : Type 0
 StepsHappen =
-    (world : World) (kind : StepKind) (wire_free : Bool) (answer : Stepped)
+    (world : World) (kind : StepKind) (wire_free : Bool) (answer : FrameOutcome)
     → IsAdapter world.adapter → Answers kind wire_free world.memory world.adapter answer
     → Happens world (world_after_step kind answer world) (past_of_step kind answer)
 

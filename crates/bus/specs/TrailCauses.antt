@@ -16,8 +16,8 @@ use Rattle.adapter.specs.Transmitting.{causes_of_putting, causes_of_taking, move
 use Rattle.adapter.specs.World.{World}
 use Rattle.adapter.specs.declared.step.StepKind.{StepKind}
 use Rattle.adapter.specs.declared.step.StepKind.TheVariants.{TxTake, TxPut, RxData, RxDone, PhyTick}
-use Rattle.adapter.specs.declared.step.Stepped.{Stepped}
-use Rattle.adapter.specs.declared.step.Stepped.TheVariants.{Took, Put, Moved, Done}
+use Rattle.adapter.specs.Outcomes.{FrameOutcome}
+use Rattle.adapter.specs.declared.outcome.Outcome.TheVariants.{Took, Put, Moved, Done}
 use Rattle.bus.specs.Accesses.{LeavesCauses, LeavesMask}
 use Rattle.bus.specs.Trails.{Trail, past_of, world_after}
 use Rattle.bus.specs.declared.event.Event.{Event}
@@ -31,7 +31,7 @@ causes_by_tick (Some ticked) = causes_told ticked
 causes_by_tick None = 0
 
 -- a step with this answer, of the adapter that it finds
-abbrev pub causes_by_step : StepKind → Stepped → AdapterState → ℕ
+abbrev pub causes_by_step : StepKind → FrameOutcome → AdapterState → ℕ
 causes_by_step TxTake Took adapter = causes_of_taking adapter.transmit_ring
 causes_by_step TxPut (Put frame) adapter = causes_of_putting adapter.transmitter.buffer
 causes_by_step RxData Moved adapter = causes_of_moving adapter.receive_ring
@@ -75,7 +75,7 @@ pub record IsRecorded (later : List Event) (a b : World) : Type 0 where
   pub taken : (wire_free : Bool) → Trail (Steps TxTake wire_free Took ∷ later) a b
       → (moved_on a.adapter.transmit_ring).head ≡ a.adapter.transmit_ring.tail → HasBit b.adapter.causes.recorded txqe
   -- LSC, bit 2: the link came up at a tick of the PHY.
-  pub link : (wire_free : Bool) (answer : Stepped) → Trail (Steps PhyTick wire_free answer ∷ later) a b
+  pub link : (wire_free : Bool) (answer : FrameOutcome) → Trail (Steps PhyTick wire_free answer ∷ later) a b
       → (ticked : Ticked) → told a.adapter.mdic a.adapter.phy ≡ Some ticked → ticked.link_changed ≡ true
       → HasBit b.adapter.causes.recorded lsc
   -- RXDMT0, bit 4: the descriptors from RDH to RDT became half the ring as a frame was moved.
@@ -86,7 +86,7 @@ pub record IsRecorded (later : List Event) (a b : World) : Type 0 where
   -- RXT0, bit 7: a received frame was written back.
   pub done : (wire_free : Bool) → Trail (Steps RxDone wire_free Done ∷ later) a b → HasBit b.adapter.causes.recorded rxt0
   -- MDAC, bit 9: a command of MDIC whose end is told ended at a tick of the PHY.
-  pub management : (wire_free : Bool) (answer : Stepped) → Trail (Steps PhyTick wire_free answer ∷ later) a b
+  pub management : (wire_free : Bool) (answer : FrameOutcome) → Trail (Steps PhyTick wire_free answer ∷ later) a b
       → (ticked : Ticked) → told a.adapter.mdic a.adapter.phy ≡ Some ticked → ticked.access_complete ≡ true
       → HasBit b.adapter.causes.recorded mdac
 

@@ -2,7 +2,7 @@
 use Rattle.std.specs.Prelude.{⊤, ◌≡◌, ◌≢◌, true, false, List, All}
 use Rattle.adapter.specs.State.{AdapterState}
 use Rattle.adapter.specs.World.{World}
-use Rattle.adapter.specs.declared.step.Stepped.TheVariants.{Fault}
+use Rattle.adapter.specs.declared.outcome.Outcome.TheVariants.{Fault}
 use Rattle.bus.specs.Accesses.{IsNoReset}
 use Rattle.bus.specs.Trails.{Trail, past_of}
 use Rattle.bus.specs.declared.event.Event.{Event}

@@ -5,7 +5,7 @@ ghost use Rattle.std.specs.Cmp.Lexicographic.{pointwise};
 ghost use Rattle.std.specs.Cmp.Rules.{comparing};
 ghost use Rattle.std.specs.Prelude.{nat_eq};
 
-use adapter::{Fate, StepKind, Stepped};
+use adapter::{Fate, Outcome, StepKind};
 use descriptors::Frame;
 use std::alloc::{AllocError, Global};
 use std::marker::Model;
@@ -81,8 +81,8 @@ pub enum Access {
 /// code holds of them is the same.
 #[derive(Debug, Drop, PartialEq, Eq)]
 pub enum Event {
-    /// The adapter took a step of this kind, with or without room on its wire, and answered so.
-    Steps(StepKind, bool, Stepped),
+    /// The adapter took a step of this kind, with or without room on its wire, and this came of it.
+    Steps(StepKind, bool, Outcome<Frame>),
     /// A frame was delivered, and met this fate.
     Arrives(Frame, Fate),
     /// The driver made an access.

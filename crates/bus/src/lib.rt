@@ -8,6 +8,8 @@ mod bus;
 mod event;
 mod law;
 mod link_law;
+mod lively_bus;
+mod machine;
 mod settings_law;
 mod trail_law;
 
@@ -21,6 +23,8 @@ pub use law::{
     slots_can_be_offered, steps_are_instances, tails_can_be_moved, written_slots_can_be_freed,
 };
 pub use link_law::links_stay_up;
+pub use lively_bus::LivelyBus;
+pub use machine::Machine;
 pub use settings_law::{adapters_rest, writes_alone_set};
 pub use trail_law::{
     causes_are_those_of_steps, faults_stay_visible, quiet_accesses_leave_adapters,

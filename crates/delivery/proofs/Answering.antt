@@ -15,22 +15,19 @@ use Rattle.adapter.specs.Rings.{ring_of}
 use Rattle.adapter.specs.State.{AdapterState}
 use Rattle.adapter.specs.Steps.{ticked}
 use Rattle.adapter.specs.Transmitting.{HasNothingToTake, TakeAnswers}
-use Rattle.adapter.specs.declared.step.Stepped.{Stepped}
-use Rattle.adapter.specs.declared.step.Stepped.TheVariants as stepped
-use Rattle.stations.specs.Outcomes.{outcome_of_step}
-use Rattle.stations.specs.declared.tick.Outcome.{Outcome}
-use Rattle.stations.specs.declared.tick.Outcome.TheVariants.{Done, Moved, Nothing, Ticked, Took}
+use Rattle.adapter.specs.Outcomes.{FrameOutcome}
+use Rattle.adapter.specs.declared.outcome.Outcome.TheVariants.{Done, Fault, Moved, Nothing, Ticked, Took}
 use Rattle.delivery.proofs.Rings.{none-offered, some-offered}
 use Rattle.delivery.specs.Counts.{counts_of, negotiation_ticks, ticks_left}
 use Rattle.delivery.specs.CountedHosts.{CanAnswer}
 use Rattle.delivery.specs.StepAnswers.{has_nothing_to_move, has_nothing_to_take, nothing_if}
 
 -- it is Nothing where the test holds, and the other where it doesn't
-idles : (test : Bool) (other : Outcome) → test ≡ true → Nothing ≡ nothing_if test other
+idles : (test : Bool) (other : FrameOutcome) → test ≡ true → Nothing ≡ nothing_if test other
 idles true other is = refl
 idles false other is = absurd (cc)
 
-acts : (test : Bool) (other : Outcome) → test ≡ false → other ≡ nothing_if test other
+acts : (test : Bool) (other : FrameOutcome) → test ≡ false → other ≡ nothing_if test other
 acts false other is = refl
 acts true other is = absurd (cc)
 
@@ -63,16 +60,16 @@ idle-test a can runs (inr (inl stopped)) = absurd (stands-runs a.transmitter.sto
 idle-test a can runs (inr (inr (inl full))) = either _ _ 4 (inl full)
 idle-test a can runs (inr (inr (inr same))) = either _ _ 4 (inr (none-offered (ring_of a.transmit_ring) can.transmit same))
 
-pub take-answer : (memory : List ℕ) (a : AdapterState) (answer : Stepped) → CanAnswer a → a.transmitter.stopped ≡ false
-    → answer ≢ stepped.Fault → TakeAnswers memory a answer
-    → outcome_of_step answer ≡ nothing_if (has_nothing_to_take (counts_of a).transmit) Took
-take-answer memory a stepped.Nothing can runs well answers =
+pub take-answer : (memory : List ℕ) (a : AdapterState) (answer : FrameOutcome) → CanAnswer a → a.transmitter.stopped ≡ false
+    → answer ≢ Fault → TakeAnswers memory a answer
+    → answer ≡ nothing_if (has_nothing_to_take (counts_of a).transmit) Took
+take-answer memory a Nothing can runs well answers =
     idles (has_nothing_to_take (counts_of a).transmit) Took (idle-test a can runs answers)
-take-answer memory a stepped.Took can runs well answers =
+take-answer memory a Took can runs well answers =
     acts (has_nothing_to_take (counts_of a).transmit) Took
     (neither _ _ 4 (λ full. answers.0 (inr (inr (inl full))))
     (some-offered (ring_of a.transmit_ring) can.transmit (λ same. answers.0 (inr (inr (inr same))))))
-take-answer memory a stepped.Fault can runs well answers = absurd (well refl)
+take-answer memory a Fault can runs well answers = absurd (well refl)
 take-answer memory a _ can runs well answers = absurd answers
 
 -- Moving.
@@ -97,27 +94,27 @@ free : {X : Type 0} (work : Option X) (frames : List (List ℕ)) (offered : ℕ)
 free (Some x) frames offered none some slots = absurd (cc)
 free None frames offered none some slots = neither (length frames) offered 0 (λ zero. some (empty frames zero)) slots
 
-pub data-answer : (memory : List ℕ) (a : AdapterState) (answer : Stepped) → CanAnswer a → a.receiver.stopped ≡ false
-    → answer ≢ stepped.Fault → DataAnswers memory a answer
-    → outcome_of_step answer ≡ nothing_if (has_nothing_to_move (counts_of a).receive) Moved
-data-answer memory a stepped.Nothing can runs well answers =
+pub data-answer : (memory : List ℕ) (a : AdapterState) (answer : FrameOutcome) → CanAnswer a → a.receiver.stopped ≡ false
+    → answer ≢ Fault → DataAnswers memory a answer
+    → answer ≡ nothing_if (has_nothing_to_move (counts_of a).receive) Moved
+data-answer memory a Nothing can runs well answers =
     idles (has_nothing_to_move (counts_of a).receive) Moved
     (barred a.receiver.work a.receiver.buffer _ (λ none some slots. answers (record {
       enabled = can.receives;
       ready = record { running = runs; free = none; frames = some };
       offered = λ same. slots (none-offered (ring_of a.receive_ring) can.receive same);
     })))
-data-answer memory a stepped.Moved can runs well answers =
+data-answer memory a Moved can runs well answers =
     acts (has_nothing_to_move (counts_of a).receive) Moved
     (free a.receiver.work a.receiver.buffer _ answers.0.ready.free answers.0.ready.frames
     (some-offered (ring_of a.receive_ring) can.receive answers.0.offered))
-data-answer memory a stepped.Fault can runs well answers = absurd (well refl)
+data-answer memory a Fault can runs well answers = absurd (well refl)
 data-answer memory a _ can runs well answers = absurd answers
 
-pub done-answer : (a : AdapterState) (answer : Stepped) → DoneAnswers a answer
-    → outcome_of_step answer ≡ nothing_if (not (counts_of a).receive.is_working) Done
-done-answer a stepped.Nothing answers = idles (not (counts_of a).receive.is_working) Done (ap (λ o. not (is_some o)) answers)
-done-answer a stepped.Done answers = acts (not (counts_of a).receive.is_working) Done (works a.receiver.work answers)
+pub done-answer : (a : AdapterState) (answer : FrameOutcome) → DoneAnswers a answer
+    → answer ≡ nothing_if (not (counts_of a).receive.is_working) Done
+done-answer a Nothing answers = idles (not (counts_of a).receive.is_working) Done (ap (λ o. not (is_some o)) answers)
+done-answer a Done answers = acts (not (counts_of a).receive.is_working) Done (works a.receiver.work answers)
   where
     works : {X : Type 0} (work : Option X) → (work ≡ None → ⊥) → not (is_some work) ≡ false
     works None some = absurd (some refl)
@@ -126,13 +123,13 @@ done-answer a _ answers = absurd answers
 
 -- Ticks.
 
-tick-answer : (works : Bool) → outcome_of_step (ticked works) ≡ nothing_if (not works) Ticked
+tick-answer : (works : Bool) → ticked works ≡ nothing_if (not works) Ticked
 tick-answer true = refl
 tick-answer false = refl
 
-pub eeprom-answer : (a : AdapterState) (answer : Stepped) → answer ≡ ticked (is_pending a.eerd)
-    → outcome_of_step answer ≡ nothing_if (not (counts_of a).is_reading) Ticked
-eeprom-answer a answer is = ap outcome_of_step is ∙ tick-answer (is_pending a.eerd)
+pub eeprom-answer : (a : AdapterState) (answer : FrameOutcome) → answer ≡ ticked (is_pending a.eerd)
+    → answer ≡ nothing_if (not (counts_of a).is_reading) Ticked
+eeprom-answer a answer is = is ∙ tick-answer (is_pending a.eerd)
 
 -- there is work exactly where ticks are left
 left-works : (value : ℕ) (pending : Option Operation) (phy : PhyState)
@@ -155,8 +152,8 @@ left-works value None phy = by_case phy.negotiation
       | inr some ↦ sym some.0
     ]
 
-pub phy-answer : (a : AdapterState) (answer : Stepped) → answer ≡ ticked (has_work a.mdic a.phy)
-    → outcome_of_step answer ≡ nothing_if ((counts_of a).phy_ticks == 0) Ticked
+pub phy-answer : (a : AdapterState) (answer : FrameOutcome) → answer ≡ ticked (has_work a.mdic a.phy)
+    → answer ≡ nothing_if ((counts_of a).phy_ticks == 0) Ticked
 phy-answer a answer is =
-    ap outcome_of_step is ∙ tick-answer (has_work a.mdic a.phy)
+    is ∙ tick-answer (has_work a.mdic a.phy)
     ∙ ap (λ (idle : Bool). nothing_if idle Ticked) (left-works a.mdic.value a.mdic.pending a.phy)

@@ -5,23 +5,23 @@ use Rattle.std.proofs.lemmas.Grind.{flat_map-append}
 use Rattle.std.proofs.lemmas.List.{append-nil}
 use Rattle.std.proofs.lemmas.List.Sums.{sum_by-append, sum_by-cons}
 use Rattle.std.specs.List.{flat_map}
-use Rattle.adapter.specs.Outcomes.{put_by as frames_put}
+use Rattle.adapter.specs.Outcomes.{FrameOutcome, put_by as frames_put}
+use Rattle.adapter.specs.Steps.{ticked}
 use Rattle.adapter.specs.World.{World}
+use Rattle.adapter.specs.declared.outcome.Outcome.TheVariants as outcome
 use Rattle.adapter.specs.declared.step.StepKind.{StepKind}
 use Rattle.adapter.specs.declared.step.StepKind.TheVariants.{EepromTick, PhyTick, RxData, RxDone, TxPut, TxTake}
-use Rattle.adapter.specs.declared.step.Stepped.{Stepped}
-use Rattle.adapter.specs.declared.step.Stepped.TheVariants as stepped
+use Rattle.eeprom.specs.Eerd.{is_pending}
+use Rattle.mdic_phy.specs.Mdic.{has_work}
 use Rattle.rx_engine.specs.Arriving.{kept}
+use Rattle.rx_engine.specs.declared.arrival.Fate.{Fate}
 use Rattle.bus.specs.StepsAndArrivals.{past_of_step}
 use Rattle.bus.specs.Trails.{Occurs, Trail, past_of, past_of_event, world_after}
 use Rattle.bus.specs.declared.event.Event.{Event}
 use Rattle.bus.specs.declared.event.Event.TheVariants.{Accesses, Arrives, Steps}
 use Rattle.stations.proofs.PlayedTicks.{put-is}
-use Rattle.stations.specs.AtomicSteps.{At, AtomicStep, Idles, outcome_of_event}
-use Rattle.stations.specs.Outcomes.{outcome_of_step}
+use Rattle.stations.specs.AtomicSteps.{At, AtomicStep, Idles, after, outcome_of_event}
 use Rattle.stations.specs.Stations.{StationState, world_at}
-use Rattle.stations.specs.declared.tick.Outcome.{Outcome}
-use Rattle.stations.specs.declared.tick.Outcome.TheVariants as outcome
 use Rattle.stations.proofs.HostTrails.{trail-of}
 use Rattle.stations.specs.AtomicRuns.{LeadsTo, events_at, past_at}
 use Rattle.delivery.specs.Fates.{Came, Left, Mark, mark_by, marks}
@@ -30,32 +30,50 @@ use Rattle.delivery.specs.Happenings.{missed, missed_of, of_host, put, put_by, r
 
 -- What a step tells: the frame that it put, or that it moved one.
 
-abbrev pub by_answer : {X : Type 0} → (List ℕ → List X) → List X → Stepped → List X
-by_answer puts moves (stepped.Put frame) = puts frame
-by_answer puts moves stepped.Moved = moves
+abbrev pub by_answer : {X : Type 0} → (List ℕ → List X) → List X → FrameOutcome → List X
+by_answer puts moves (outcome.Put frame) = puts frame
+by_answer puts moves outcome.Moved = moves
 by_answer puts moves _ = []
 
-pub step-told :
-    {X : Type 0} (f : Happening → List X) (host : ℕ) (puts : List ℕ → List X) (moves : List X) (answer : Stepped)
-    → ((frame : List ℕ) → f (Put host frame) ≡ puts frame) → f (Moved host) ≡ moves
-    → flat_map f (told_of host (outcome_of_step answer)) ≡ by_answer puts moves answer
-step-told f host puts moves (stepped.Put frame) put moved = append-nil (f (Put host frame)) ∙ put frame
-step-told f host puts moves stepped.Moved put moved = append-nil (f (Moved host)) ∙ moved
-step-told f host puts moves _ put moved = refl
+never-ticked : (works : Bool) (frame : List ℕ) (fate : Fate) → outcome.Delivered frame fate ≡ ticked works → ⊥
+never-ticked true frame fate is = absurd (cc)
+never-ticked false frame fate is = absurd (cc)
 
-pub none-told : {X : Type 0} (answer : Stepped) → by_answer {X = X} (λ frame. []) [] answer ≡ []
-none-told (stepped.Put frame) = refl
-none-told stepped.Moved = refl
+-- no step delivers a frame
+never-delivers : (kind : StepKind) (wire_free : Bool) (world : World) (frame : List ℕ) (fate : Fate)
+    → Occurs (Steps kind wire_free (outcome.Delivered frame fate)) world → ⊥
+never-delivers TxTake wire_free world frame fate occurs = occurs.1
+never-delivers TxPut wire_free world frame fate occurs = occurs.1
+never-delivers RxData wire_free world frame fate occurs = occurs.1
+never-delivers RxDone wire_free world frame fate occurs = occurs.1
+never-delivers EepromTick wire_free world frame fate occurs = never-ticked (is_pending world.adapter.eerd) frame fate occurs.1
+never-delivers PhyTick wire_free world frame fate occurs =
+    never-ticked (has_work world.adapter.mdic world.adapter.phy) frame fate occurs.1
+
+pub step-told :
+    {X : Type 0} (f : Happening → List X) (host : ℕ) (puts : List ℕ → List X) (moves : List X)
+    (kind : StepKind) (wire_free : Bool) (answer : FrameOutcome) (world : World)
+    → Occurs (Steps kind wire_free answer) world → ((frame : List ℕ) → f (Put host frame) ≡ puts frame) → f (Moved host) ≡ moves
+    → flat_map f (told_of host answer) ≡ by_answer puts moves answer
+step-told f host puts moves kind wire_free (outcome.Delivered frame fate) world occurs put moved =
+    absurd (never-delivers kind wire_free world frame fate occurs)
+step-told f host puts moves kind wire_free (outcome.Put frame) world occurs put moved = append-nil (f (Put host frame)) ∙ put frame
+step-told f host puts moves kind wire_free outcome.Moved world occurs put moved = append-nil (f (Moved host)) ∙ moved
+step-told f host puts moves kind wire_free _ world occurs put moved = refl
+
+pub none-told : {X : Type 0} (answer : FrameOutcome) → by_answer {X = X} (λ frame. []) [] answer ≡ []
+none-told (outcome.Put frame) = refl
+none-told outcome.Moved = refl
 none-told _ = refl
 
 pub none-chosen : {X : Type 0} (here : Bool) → (let none : List X = [] in none) ≡ (if here then [] else [])
 none-chosen true = refl
 none-chosen false = refl
 
-pub put-chosen : (here : Bool) (answer : Stepped)
+pub put-chosen : (here : Bool) (answer : FrameOutcome)
     → by_answer (λ frame. if here then frame ∷ [] else []) [] answer ≡ (if here then frames_put answer else [])
-put-chosen here (stepped.Put frame) = refl
-put-chosen here stepped.Moved = none-chosen here
+put-chosen here (outcome.Put frame) = refl
+put-chosen here outcome.Moved = none-chosen here
 put-chosen here _ = none-chosen here
 
 -- A list of one host is that of its events.
@@ -65,17 +83,22 @@ chosen-more : {X : Type 0} (g : Event → List X) (here : Bool) (event : Event) 
 chosen-more g true event later = refl
 chosen-more g false event later = refl
 
+-- where an event occurs, its happenings say this of a host
+abbrev pub Tells : {X : Type 0} → (Happening → List X) → (Event → List X) → (k : ℕ) → Type 0
+Tells f g k =
+    (host : ℕ) (event : Event) (world : World) → Occurs event world
+    → flat_map f (told_of host (outcome_of_event event)) ≡ of_host k host (g event)
+
 pub by-events :
-    {X : Type 0} (f : Happening → List X) (g : Event → List X) (k : ℕ) (steps : List AtomicStep)
-    → ((host : ℕ) (event : Event) → flat_map f (told_of host (outcome_of_event event)) ≡ of_host k host (g event))
-    → flat_map f (happened_in steps) ≡ flat_map g (events_at k steps)
-by-events f g k [] each = refl
-by-events {X} f g k (At host event ∷ later) each =
+    {X : Type 0} (f : Happening → List X) (g : Event → List X) (caller k : ℕ) (steps : List AtomicStep) (a b : List StationState)
+    → LeadsTo caller steps a b → Tells f g k → flat_map f (happened_in steps) ≡ flat_map g (events_at k steps)
+by-events f g caller k [] a b leads each = refl
+by-events {X} f g caller k (At host event ∷ later) a b leads each =
     flat_map-append f (told_of host (outcome_of_event event)) (happened_in later)
-    ∙ ap (λ (front : List X). front ++ flat_map f (happened_in later)) (each host event)
-    ∙ ap (λ (behind : List X). of_host k host (g event) ++ behind) (by-events f g k later each)
+    ∙ ap (λ (front : List X). front ++ flat_map f (happened_in later)) (each host event (world_at a host) leads.0.occurs)
+    ∙ ap (λ (behind : List X). of_host k host (g event) ++ behind) (by-events f g caller k later (after (At host event) a) b leads.2 each)
     ∙ sym (chosen-more g (k == host) event (events_at k later))
-by-events f g k (Idles tick ∷ later) each = by-events f g k later each
+by-events f g caller k (Idles tick ∷ later) a b leads each = by-events f g caller k later a b leads.2 each
 
 -- What was put.
 
@@ -84,11 +107,12 @@ frames_in (Steps kind wire_free answer) = frames_put answer
 frames_in (Arrives frame fate) = []
 frames_in (Accesses access) = []
 
-put-event : (k host : ℕ) (event : Event) → flat_map (put_by k) (told_of host (outcome_of_event event)) ≡ of_host k host (frames_in event)
-put-event k host (Steps kind wire_free answer) =
-    step-told (put_by k) host (λ frame. of_host k host (frame ∷ [])) [] answer (λ frame. refl) refl ∙ put-chosen (k == host) answer
-put-event k host (Arrives frame fate) = none-chosen (k == host)
-put-event k host (Accesses access) = none-chosen (k == host)
+put-event : (k : ℕ) → Tells (put_by k) frames_in k
+put-event k host (Steps kind wire_free answer) world occurs =
+    step-told (put_by k) host (λ frame. of_host k host (frame ∷ [])) [] kind wire_free answer world occurs (λ frame. refl) refl
+    ∙ put-chosen (k == host) answer
+put-event k host (Arrives frame fate) world occurs = none-chosen (k == host)
+put-event k host (Accesses access) world occurs = none-chosen (k == host)
 
 pub put-occurs : (event : Event) (world : World) → Occurs event world → frames_in event ≡ (past_of_event event).put
 put-occurs (Steps kind wire_free answer) world occurs = put-is kind wire_free world.memory world.adapter answer occurs.1
@@ -104,7 +128,7 @@ put-trail (event ∷ later) a b trail =
 pub put-told : (caller k : ℕ) (steps : List AtomicStep) (a b : List StationState) → LeadsTo caller steps a b
     → put k (happened_in steps) ≡ (past_at k steps).put
 put-told caller k steps a b leads =
-    by-events (put_by k) frames_in k steps (put-event k)
+    by-events (put_by k) frames_in caller k steps a b leads (put-event k)
     ∙ put-trail (events_at k steps) (world_at a k) (world_at b k) (trail-of caller k steps a b leads)
 
 -- What was stored.
@@ -114,14 +138,14 @@ kept_in (Steps kind wire_free answer) = []
 kept_in (Arrives frame fate) = kept fate frame
 kept_in (Accesses access) = []
 
-stored-event : (k host : ℕ) (event : Event)
-    → flat_map (stored_by k) (told_of host (outcome_of_event event)) ≡ of_host k host (kept_in event)
-stored-event k host (Steps kind wire_free answer) =
-    step-told (stored_by k) host (λ frame. []) [] answer (λ frame. refl) refl ∙ none-told answer ∙ none-chosen (k == host)
-stored-event k host (Arrives frame fate) = append-nil (stored_by k (Reached host frame fate))
-stored-event k host (Accesses access) = none-chosen (k == host)
+stored-event : (k : ℕ) → Tells (stored_by k) kept_in k
+stored-event k host (Steps kind wire_free answer) world occurs =
+    step-told (stored_by k) host (λ frame. []) [] kind wire_free answer world occurs (λ frame. refl) refl
+    ∙ none-told answer ∙ none-chosen (k == host)
+stored-event k host (Arrives frame fate) world occurs = append-nil (stored_by k (Reached host frame fate))
+stored-event k host (Accesses access) world occurs = none-chosen (k == host)
 
-none-stored : (kind : StepKind) (answer : Stepped) → [] ≡ (past_of_step kind answer).stored
+none-stored : (kind : StepKind) (answer : FrameOutcome) → [] ≡ (past_of_step kind answer).stored
 none-stored TxTake answer = refl
 none-stored TxPut answer = refl
 none-stored RxData answer = refl
@@ -140,12 +164,14 @@ stored-events (event ∷ later) =
     ap (λ (front : List (List ℕ)). front ++ flat_map kept_in later) (stored-is event)
     ∙ ap (λ (behind : List (List ℕ)). (past_of_event event).stored ++ behind) (stored-events later)
 
-pub stored-told : (k : ℕ) (steps : List AtomicStep) → stored k (happened_in steps) ≡ (past_at k steps).stored
-stored-told k steps = by-events (stored_by k) kept_in k steps (stored-event k) ∙ stored-events (events_at k steps)
+pub stored-told : (caller k : ℕ) (steps : List AtomicStep) (a b : List StationState) → LeadsTo caller steps a b
+    → stored k (happened_in steps) ≡ (past_at k steps).stored
+stored-told caller k steps a b leads =
+    by-events (stored_by k) kept_in caller k steps a b leads (stored-event k) ∙ stored-events (events_at k steps)
 
 -- How many were missed.
 
-none-missed : (kind : StepKind) (answer : Stepped) → (let none : ℕ = 0 in none) ≡ (past_of_step kind answer).missed
+none-missed : (kind : StepKind) (answer : FrameOutcome) → (let none : ℕ = 0 in none) ≡ (past_of_step kind answer).missed
 none-missed TxTake answer = refl
 none-missed TxPut answer = refl
 none-missed RxData answer = refl
@@ -157,17 +183,22 @@ no-number : (here : Bool) → (let none : ℕ = 0 in none) ≡ (if here then 0 e
 no-number true = refl
 no-number false = refl
 
-step-missed : (k host : ℕ) (answer : Stepped) → sum_by (missed_of k) (told_of host (outcome_of_step answer)) ≡ 0
-step-missed k host (stepped.Put frame) = omega (arith, sum_by-cons (missed_of k) (Put host frame) [])
-step-missed k host stepped.Moved = omega (arith, sum_by-cons (missed_of k) (Moved host) [])
-step-missed k host _ = refl
+step-missed : (k host : ℕ) (kind : StepKind) (wire_free : Bool) (answer : FrameOutcome) (world : World)
+    → Occurs (Steps kind wire_free answer) world → sum_by (missed_of k) (told_of host answer) ≡ 0
+step-missed k host kind wire_free (outcome.Delivered frame fate) world occurs =
+    absurd (never-delivers kind wire_free world frame fate occurs)
+step-missed k host kind wire_free (outcome.Put frame) world occurs = omega (arith, sum_by-cons (missed_of k) (Put host frame) [])
+step-missed k host kind wire_free outcome.Moved world occurs = omega (arith, sum_by-cons (missed_of k) (Moved host) [])
+step-missed k host kind wire_free _ world occurs = refl
 
-event-missed : (k host : ℕ) (event : Event)
+event-missed : (k host : ℕ) (event : Event) (world : World) → Occurs event world
     → sum_by (missed_of k) (told_of host (outcome_of_event event)) ≡ (if k == host then (past_of_event event).missed else 0)
-event-missed k host (Steps kind wire_free answer) =
-    step-missed k host answer ∙ no-number (k == host) ∙ ap (λ (n : ℕ). if k == host then n else 0) (none-missed kind answer)
-event-missed k host (Arrives frame fate) = omega (arith, sum_by-cons (missed_of k) (Reached host frame fate) [])
-event-missed k host (Accesses access) = no-number (k == host)
+event-missed k host (Steps kind wire_free answer) world occurs =
+    step-missed k host kind wire_free answer world occurs
+    ∙ no-number (k == host)
+    ∙ ap (λ (n : ℕ). if k == host then n else 0) (none-missed kind answer)
+event-missed k host (Arrives frame fate) world occurs = omega (arith, sum_by-cons (missed_of k) (Reached host frame fate) [])
+event-missed k host (Accesses access) world occurs = no-number (k == host)
 
 chosen-missed : (here : Bool) (event : Event) (later : List Event)
     → (past_of ((if here then event ∷ [] else []) ++ later)).missed
@@ -175,14 +206,16 @@ chosen-missed : (here : Bool) (event : Event) (later : List Event)
 chosen-missed true event later = refl
 chosen-missed false event later = omega arith
 
-pub missed-told : (k : ℕ) (steps : List AtomicStep) → missed k (happened_in steps) ≡ (past_at k steps).missed
-missed-told k [] = refl
-missed-told k (At host event ∷ later) =
+pub missed-told : (caller k : ℕ) (steps : List AtomicStep) (a b : List StationState) → LeadsTo caller steps a b
+    → missed k (happened_in steps) ≡ (past_at k steps).missed
+missed-told caller k [] a b leads = refl
+missed-told caller k (At host event ∷ later) a b leads =
     sum_by-append (missed_of k) (told_of host (outcome_of_event event)) (happened_in later)
-    ∙ ap (λ (n : ℕ). n + missed k (happened_in later)) (event-missed k host event)
-    ∙ ap (λ (n : ℕ). (if k == host then (past_of_event event).missed else 0) + n) (missed-told k later)
+    ∙ ap (λ (n : ℕ). n + missed k (happened_in later)) (event-missed k host event (world_at a host) leads.0.occurs)
+    ∙ ap (λ (n : ℕ). (if k == host then (past_of_event event).missed else 0) + n)
+    (missed-told caller k later (after (At host event) a) b leads.2)
     ∙ sym (chosen-missed (k == host) event (events_at k later))
-missed-told k (Idles tick ∷ later) = missed-told k later
+missed-told caller k (Idles tick ∷ later) a b leads = missed-told caller k later a b leads.2
 
 -- What reached it.
 
@@ -191,19 +224,20 @@ arrived_in (Steps kind wire_free answer) = []
 arrived_in (Arrives frame fate) = frame ∷ []
 arrived_in (Accesses access) = []
 
-reached-event : (k host : ℕ) (event : Event)
-    → flat_map (reached_by k) (told_of host (outcome_of_event event)) ≡ of_host k host (arrived_in event)
-reached-event k host (Steps kind wire_free answer) =
-    step-told (reached_by k) host (λ frame. []) [] answer (λ frame. refl) refl ∙ none-told answer ∙ none-chosen (k == host)
-reached-event k host (Arrives frame fate) = append-nil (reached_by k (Reached host frame fate))
-reached-event k host (Accesses access) = none-chosen (k == host)
+reached-event : (k : ℕ) → Tells (reached_by k) arrived_in k
+reached-event k host (Steps kind wire_free answer) world occurs =
+    step-told (reached_by k) host (λ frame. []) [] kind wire_free answer world occurs (λ frame. refl) refl
+    ∙ none-told answer ∙ none-chosen (k == host)
+reached-event k host (Arrives frame fate) world occurs = append-nil (reached_by k (Reached host frame fate))
+reached-event k host (Accesses access) world occurs = none-chosen (k == host)
 
-pub reached-told : (k : ℕ) (steps : List AtomicStep) → reached k (happened_in steps) ≡ flat_map arrived_in (events_at k steps)
-reached-told k steps = by-events (reached_by k) arrived_in k steps (reached-event k)
+pub reached-told : (caller k : ℕ) (steps : List AtomicStep) (a b : List StationState) → LeadsTo caller steps a b
+    → reached k (happened_in steps) ≡ flat_map arrived_in (events_at k steps)
+reached-told caller k steps a b leads = by-events (reached_by k) arrived_in caller k steps a b leads (reached-event k)
 
 -- What came to its packet buffer and left it.
 
-abbrev pub marks_of_answer : Stepped → List Mark
+abbrev pub marks_of_answer : FrameOutcome → List Mark
 marks_of_answer answer = by_answer (λ frame. []) (Left ∷ []) answer
 
 abbrev pub marks_in : Event → List Mark
@@ -211,25 +245,27 @@ marks_in (Steps kind wire_free answer) = marks_of_answer answer
 marks_in (Arrives frame fate) = Came frame fate ∷ []
 marks_in (Accesses access) = []
 
-marks-chosen : (here : Bool) (answer : Stepped)
+marks-chosen : (here : Bool) (answer : FrameOutcome)
     → by_answer (λ frame. []) (if here then Left ∷ [] else []) answer ≡ (if here then marks_of_answer answer else [])
-marks-chosen here (stepped.Put frame) = none-chosen here
-marks-chosen here stepped.Moved = refl
+marks-chosen here (outcome.Put frame) = none-chosen here
+marks-chosen here outcome.Moved = refl
 marks-chosen here _ = none-chosen here
 
-marks-event : (k host : ℕ) (event : Event) → flat_map (mark_by k) (told_of host (outcome_of_event event)) ≡ of_host k host (marks_in event)
-marks-event k host (Steps kind wire_free answer) =
-    step-told (mark_by k) host (λ frame. []) (of_host k host (Left ∷ [])) answer (λ frame. refl) refl ∙ marks-chosen (k == host) answer
-marks-event k host (Arrives frame fate) = append-nil (mark_by k (Reached host frame fate))
-marks-event k host (Accesses access) = none-chosen (k == host)
+marks-event : (k : ℕ) → Tells (mark_by k) marks_in k
+marks-event k host (Steps kind wire_free answer) world occurs =
+    step-told (mark_by k) host (λ frame. []) (of_host k host (Left ∷ [])) kind wire_free answer world occurs (λ frame. refl) refl
+    ∙ marks-chosen (k == host) answer
+marks-event k host (Arrives frame fate) world occurs = append-nil (mark_by k (Reached host frame fate))
+marks-event k host (Accesses access) world occurs = none-chosen (k == host)
 
-pub marks-told : (k : ℕ) (steps : List AtomicStep) → marks k (happened_in steps) ≡ flat_map marks_in (events_at k steps)
-marks-told k steps = by-events (mark_by k) marks_in k steps (marks-event k)
+pub marks-told : (caller k : ℕ) (steps : List AtomicStep) (a b : List StationState) → LeadsTo caller steps a b
+    → marks k (happened_in steps) ≡ flat_map marks_in (events_at k steps)
+marks-told caller k steps a b leads = by-events (mark_by k) marks_in caller k steps a b leads (marks-event k)
 
 -- Nothing was accepted or given.
 
 none-happens : {X : Type 0} (f : Happening → List X) (steps : List AtomicStep)
-    → ((host : ℕ) (outcome : Outcome) → flat_map f (told_of host outcome) ≡ []) → flat_map f (happened_in steps) ≡ []
+    → ((host : ℕ) (outcome : FrameOutcome) → flat_map f (told_of host outcome) ≡ []) → flat_map f (happened_in steps) ≡ []
 none-happens f [] none = refl
 none-happens {X} f (At host event ∷ later) none =
     flat_map-append f (told_of host (outcome_of_event event)) (happened_in later)
@@ -237,13 +273,13 @@ none-happens {X} f (At host event ∷ later) none =
     ∙ none-happens f later none
 none-happens f (Idles tick ∷ later) none = none-happens f later none
 
-accepts-none : (k host : ℕ) (outcome : Outcome) → flat_map (accepted_by k) (told_of host outcome) ≡ []
+accepts-none : (k host : ℕ) (outcome : FrameOutcome) → flat_map (accepted_by k) (told_of host outcome) ≡ []
 accepts-none k host (outcome.Put frame) = refl
 accepts-none k host (outcome.Delivered frame fate) = refl
 accepts-none k host outcome.Moved = refl
 accepts-none k host _ = refl
 
-gives-none : (k socket host : ℕ) (outcome : Outcome) → flat_map (given_by k socket) (told_of host outcome) ≡ []
+gives-none : (k socket host : ℕ) (outcome : FrameOutcome) → flat_map (given_by k socket) (told_of host outcome) ≡ []
 gives-none k socket host (outcome.Put frame) = refl
 gives-none k socket host (outcome.Delivered frame fate) = refl
 gives-none k socket host outcome.Moved = refl

@@ -31,15 +31,14 @@ use Rattle.adapter.specs.declared.register.Register.TheVariants.{Transmit}
 use Rattle.adapter.specs.declared.register.RingRegister.TheVariants.{Tail}
 use Rattle.adapter.specs.declared.step.StepKind.{StepKind}
 use Rattle.adapter.specs.declared.step.StepKind.TheVariants.{TxTake, TxPut, RxData, RxDone, EepromTick, PhyTick}
-use Rattle.adapter.specs.declared.step.Stepped.{Stepped}
-use Rattle.adapter.specs.declared.step.Stepped.TheVariants as stepped
+use Rattle.adapter.specs.Outcomes.{FrameOutcome}
+use Rattle.adapter.specs.declared.outcome.Outcome.TheVariants as outcome
 use Rattle.bus.proofs.Lists.{all-head, all-left, all-right}
 use Rattle.bus.specs.declared.event.Access.TheVariants.{Loads, Reads, Stores, Writes}
 use Rattle.bus.specs.declared.event.Event.{Event}
 use Rattle.bus.specs.declared.event.Event.TheVariants.{Accesses, Arrives, Steps}
 use Rattle.bus.specs.StepsAndArrivals.{world_after_step}
 use Rattle.bus.specs.Trails.{Occurs, Trail, past_of, past_of_event, world_after}
-use Rattle.stations.specs.Outcomes.{outcome_of_step}
 use Rattle.delivery.proofs.Rings.{moved-counts, tail-counts}
 use Rattle.delivery.specs.CountedHosts.{IsCounted, IsCountedWrite}
 use Rattle.delivery.specs.Counts.{HostCounts, RingCounts, ReceiveCounts, TransmitCounts, after_outcome, after_write, counts_after}
@@ -87,10 +86,10 @@ with-ticks counts ticks ticks' same = ap (λ (n : ℕ). let c : HostCounts = rec
 -- Steps.
 
 -- what is counted behind a step that answers so
-abbrev StepGoes : StepKind → Bool → Stepped → World → Type 0
+abbrev StepGoes : StepKind → Bool → FrameOutcome → World → Type 0
 StepGoes kind wire_free answer w =
     Answers kind wire_free w.memory w.adapter answer → CanAnswer w.adapter
-    → GoesOn w.adapter (after_outcome kind (outcome_of_step answer) (counts_of w.adapter)) (world_after_step kind answer w).adapter
+    → GoesOn w.adapter (after_outcome kind answer (counts_of w.adapter)) (world_after_step kind answer w).adapter
 
 -- nothing that is counted has changed
 same-counts : (a : AdapterState) → CanAnswer a → GoesOn a (counts_of a) a
@@ -100,8 +99,8 @@ fewer : {X : Type 0} (xs : List X) → length (drop 1 xs) ≡ length xs - 1
 fewer [] = omega arith
 fewer (x ∷ xs) = omega arith
 
-take-goes : (answer : Stepped) (wire_free : Bool) (w : World) → StepGoes TxTake wire_free answer w
-take-goes stepped.Took wire_free w answers can =
+take-goes : (answer : FrameOutcome) (wire_free : Bool) (w : World) → StepGoes TxTake wire_free answer w
+take-goes outcome.Took wire_free w answers can =
     let a = w.adapter in
     let ring = ring_of a.transmit_ring in
     record {
@@ -117,12 +116,12 @@ take-goes stepped.Took wire_free w answers can =
       receive_slots = refl;
       transmit_slots = refl;
     }
-take-goes stepped.Nothing wire_free w answers can = same-counts w.adapter can
-take-goes stepped.Fault wire_free w answers can = record { can = can; is = refl; receive_slots = refl; transmit_slots = refl }
+take-goes outcome.Nothing wire_free w answers can = same-counts w.adapter can
+take-goes outcome.Fault wire_free w answers can = record { can = can; is = refl; receive_slots = refl; transmit_slots = refl }
 take-goes _ wire_free w answers can = absurd answers
 
-put-goes : (answer : Stepped) (wire_free : Bool) (w : World) → StepGoes TxPut wire_free answer w
-put-goes (stepped.Put frame) wire_free w answers can =
+put-goes : (answer : FrameOutcome) (wire_free : Bool) (w : World) → StepGoes TxPut wire_free answer w
+put-goes (outcome.Put frame) wire_free w answers can =
     let a = w.adapter in
     record {
       can = can;
@@ -130,12 +129,12 @@ put-goes (stepped.Put frame) wire_free w answers can =
       receive_slots = refl;
       transmit_slots = refl;
     }
-put-goes stepped.Nothing wire_free w answers can = same-counts w.adapter can
-put-goes stepped.WireFull wire_free w answers can = same-counts w.adapter can
+put-goes outcome.Nothing wire_free w answers can = same-counts w.adapter can
+put-goes outcome.WireFull wire_free w answers can = same-counts w.adapter can
 put-goes _ wire_free w answers can = absurd answers
 
-data-goes : (answer : Stepped) (wire_free : Bool) (w : World) → StepGoes RxData wire_free answer w
-data-goes stepped.Moved wire_free w answers can =
+data-goes : (answer : FrameOutcome) (wire_free : Bool) (w : World) → StepGoes RxData wire_free answer w
+data-goes outcome.Moved wire_free w answers can =
     let a = w.adapter in
     let ring = ring_of a.receive_ring in
     record {
@@ -150,31 +149,31 @@ data-goes stepped.Moved wire_free w answers can =
       receive_slots = refl;
       transmit_slots = refl;
     }
-data-goes stepped.Nothing wire_free w answers can = same-counts w.adapter can
-data-goes stepped.Fault wire_free w answers can = record { can = can; is = refl; receive_slots = refl; transmit_slots = refl }
+data-goes outcome.Nothing wire_free w answers can = same-counts w.adapter can
+data-goes outcome.Fault wire_free w answers can = record { can = can; is = refl; receive_slots = refl; transmit_slots = refl }
 data-goes _ wire_free w answers can = absurd answers
 
-done-goes : (answer : Stepped) (wire_free : Bool) (w : World) → StepGoes RxDone wire_free answer w
-done-goes stepped.Done wire_free w answers can = record { can = can; is = refl; receive_slots = refl; transmit_slots = refl }
-done-goes stepped.Nothing wire_free w answers can = same-counts w.adapter can
+done-goes : (answer : FrameOutcome) (wire_free : Bool) (w : World) → StepGoes RxDone wire_free answer w
+done-goes outcome.Done wire_free w answers can = record { can = can; is = refl; receive_slots = refl; transmit_slots = refl }
+done-goes outcome.Nothing wire_free w answers can = same-counts w.adapter can
 done-goes _ wire_free w answers can = absurd answers
 
 -- The EEPROM.
 
-read-left : (words : List ℕ) (state : ReadState) (answer : Stepped) (counts : HostCounts) → counts.is_reading ≡ eeprom.is_pending state
+read-left : (words : List ℕ) (state : ReadState) (answer : FrameOutcome) (counts : HostCounts) → counts.is_reading ≡ eeprom.is_pending state
     → answer ≡ ticked (eeprom.is_pending state)
     → (let c : HostCounts = record counts { is_reading = eeprom.is_pending (eeprom.after_tick words state) } in c)
-    ≡ after_outcome EepromTick (outcome_of_step answer) counts
+    ≡ after_outcome EepromTick answer counts
 read-left words reading.Idle answer counts same is =
     with-reading counts false counts.is_reading (sym same)
-    ∙ ap (λ (x : Stepped). after_outcome EepromTick (outcome_of_step x) counts) (sym is)
+    ∙ ap (λ (x : FrameOutcome). after_outcome EepromTick x counts) (sym is)
 read-left words (reading.Pending address) answer counts same is =
-    ap (λ (x : Stepped). after_outcome EepromTick (outcome_of_step x) counts) (sym is)
+    ap (λ (x : FrameOutcome). after_outcome EepromTick x counts) (sym is)
 read-left words (reading.Done address word) answer counts same is =
     with-reading counts false counts.is_reading (sym same)
-    ∙ ap (λ (x : Stepped). after_outcome EepromTick (outcome_of_step x) counts) (sym is)
+    ∙ ap (λ (x : FrameOutcome). after_outcome EepromTick x counts) (sym is)
 
-eeprom-goes : (answer : Stepped) (wire_free : Bool) (w : World) → StepGoes EepromTick wire_free answer w
+eeprom-goes : (answer : FrameOutcome) (wire_free : Bool) (w : World) → StepGoes EepromTick wire_free answer w
 eeprom-goes answer wire_free w answers can = record {
   can = can;
   is = read-left w.adapter.image w.adapter.eerd answer (counts_of w.adapter) refl answers;
@@ -207,7 +206,7 @@ one-less value (Some operation) phy works = omega arith
 
 phy-left : (b : Bool) (ticks : Ticked) (tells : Option Ticked) (a : AdapterState) → CanAnswer a → has_work a.mdic a.phy ≡ b
     → tells ≡ cond b (Some ticks) None
-    → GoesOn a (after_outcome PhyTick (outcome_of_step (ticked b)) (counts_of a)) (after_phy_told tells a)
+    → GoesOn a (after_outcome PhyTick (ticked b) (counts_of a)) (after_phy_told tells a)
 phy-left false ticks tells a can works is =
     subst (λ (t : Option Ticked). GoesOn a (counts_of a) (after_phy_told t a)) (sym is) (same-counts a can)
 phy-left true ticks None a can works is = absurd (cc)
@@ -218,14 +217,14 @@ phy-left true ticks (Some t) a can works is = record {
   transmit_slots = refl;
 }
 
-phy-goes : (answer : Stepped) (wire_free : Bool) (w : World) → StepGoes PhyTick wire_free answer w
+phy-goes : (answer : FrameOutcome) (wire_free : Bool) (w : World) → StepGoes PhyTick wire_free answer w
 phy-goes answer wire_free w answers can =
     let a = w.adapter in
-    subst (λ (x : Stepped). GoesOn a (after_outcome PhyTick (outcome_of_step x) (counts_of a)) (after_phy_told (told a.mdic a.phy) a))
+    subst (λ (x : FrameOutcome). GoesOn a (after_outcome PhyTick x (counts_of a)) (after_phy_told (told a.mdic a.phy) a))
     (sym answers)
     (phy-left (has_work a.mdic a.phy) _ (told a.mdic a.phy) a can refl refl)
 
-step-goes : (kind : StepKind) (wire_free : Bool) (answer : Stepped) (w : World) → StepGoes kind wire_free answer w
+step-goes : (kind : StepKind) (wire_free : Bool) (answer : FrameOutcome) (w : World) → StepGoes kind wire_free answer w
 step-goes TxTake wire_free answer w answers can = take-goes answer wire_free w answers can
 step-goes TxPut wire_free answer w answers can = put-goes answer wire_free w answers can
 step-goes RxData wire_free answer w answers can = data-goes answer wire_free w answers can

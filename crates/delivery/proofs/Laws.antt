@@ -58,8 +58,8 @@ lent-calls a m b past told finished zero =
 pub frames-move : (caller k : ℕ) (steps : List AtomicStep) (a b : List StationState) → LeadsTo caller steps a b → MovesFrames k steps a b
 frames-move caller k steps a b leads = record {
   put = put-told caller k steps a b leads;
-  stored = stored-told k steps;
-  missed = missed-told k steps;
+  stored = stored-told caller k steps a b leads;
+  missed = missed-told caller k steps a b leads;
   waits = waits-on caller k steps a b leads;
   wires = wires-stay caller k steps a b leads;
   hosts = length-stays caller steps a b leads;

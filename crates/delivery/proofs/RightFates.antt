@@ -23,8 +23,8 @@ use Rattle.adapter.specs.declared.register.Register.TheVariants.{Icr, Mpc, Gprc,
 use Rattle.adapter.specs.declared.register.RingRegister.TheVariants.{Tail}
 use Rattle.adapter.specs.declared.step.StepKind.{StepKind}
 use Rattle.adapter.specs.declared.step.StepKind.TheVariants.{EepromTick, PhyTick, RxData, RxDone, TxPut, TxTake}
-use Rattle.adapter.specs.declared.step.Stepped.{Stepped}
-use Rattle.adapter.specs.declared.step.Stepped.TheVariants as stepped
+use Rattle.adapter.specs.Outcomes.{FrameOutcome}
+use Rattle.adapter.specs.declared.outcome.Outcome.TheVariants as outcome
 use Rattle.bus.proofs.Accesses.{at_offset}
 use Rattle.bus.proofs.Lists.{all-head, all-left, all-right}
 use Rattle.bus.specs.StepsAndArrivals.{world_after_step}
@@ -75,32 +75,32 @@ phy-receives : (told : Option Ticked) (a : AdapterState) → ReceivesRightly a [
 phy-receives None a = receives-none a
 phy-receives (Some told) a = same a (after_phy_told (Some told) a) refl refl refl
 
-never-moved : (works : Bool) → stepped.Moved ≡ ticked works → ⊥
+never-moved : (works : Bool) → outcome.Moved ≡ ticked works → ⊥
 never-moved true is = absurd (cc)
 never-moved false is = absurd (cc)
 
-step-receives : (kind : StepKind) (wire_free : Bool) (answer : Stepped) (w : World) → Answers kind wire_free w.memory w.adapter answer
+step-receives : (kind : StepKind) (wire_free : Bool) (answer : FrameOutcome) (w : World) → Answers kind wire_free w.memory w.adapter answer
     → ReceivesRightly w.adapter (marks_of_answer answer) (world_after_step kind answer w).adapter
-step-receives TxTake wire_free stepped.Moved w answers = absurd answers
-step-receives TxTake wire_free stepped.Took w answers = same w.adapter _ refl refl refl
-step-receives TxTake wire_free stepped.Fault w answers = same w.adapter _ refl refl refl
+step-receives TxTake wire_free outcome.Moved w answers = absurd answers
+step-receives TxTake wire_free outcome.Took w answers = same w.adapter _ refl refl refl
+step-receives TxTake wire_free outcome.Fault w answers = same w.adapter _ refl refl refl
 step-receives TxTake wire_free _ w answers = receives-none w.adapter
-step-receives TxPut wire_free stepped.Moved w answers = absurd answers
-step-receives TxPut wire_free (stepped.Put frame) w answers = same w.adapter _ refl refl refl
+step-receives TxPut wire_free outcome.Moved w answers = absurd answers
+step-receives TxPut wire_free (outcome.Put frame) w answers = same w.adapter _ refl refl refl
 step-receives TxPut wire_free _ w answers = receives-none w.adapter
-step-receives RxData wire_free stepped.Moved w answers = record {
+step-receives RxData wire_free outcome.Moved w answers = record {
   filter = refl;
   kilobytes = refl;
   fates = (length (drop 1 w.adapter.receiver.buffer), one-fewer w.adapter.receiver.buffer answers.0.ready.frames, refl);
 }
-step-receives RxData wire_free stepped.Fault w answers = same w.adapter _ refl refl refl
+step-receives RxData wire_free outcome.Fault w answers = same w.adapter _ refl refl refl
 step-receives RxData wire_free _ w answers = receives-none w.adapter
-step-receives RxDone wire_free stepped.Moved w answers = absurd answers
-step-receives RxDone wire_free stepped.Done w answers = same w.adapter _ refl refl refl
+step-receives RxDone wire_free outcome.Moved w answers = absurd answers
+step-receives RxDone wire_free outcome.Done w answers = same w.adapter _ refl refl refl
 step-receives RxDone wire_free _ w answers = receives-none w.adapter
-step-receives EepromTick wire_free stepped.Moved w answers = absurd (never-moved (is_pending w.adapter.eerd) answers)
+step-receives EepromTick wire_free outcome.Moved w answers = absurd (never-moved (is_pending w.adapter.eerd) answers)
 step-receives EepromTick wire_free _ w answers = same w.adapter _ refl refl refl
-step-receives PhyTick wire_free stepped.Moved w answers = absurd (never-moved (mdi.has_work w.adapter.mdic w.adapter.phy) answers)
+step-receives PhyTick wire_free outcome.Moved w answers = absurd (never-moved (mdi.has_work w.adapter.mdic w.adapter.phy) answers)
 step-receives PhyTick wire_free _ w answers = phy-receives (mdi.told w.adapter.mdic w.adapter.phy) w.adapter
 
 -- Arrivals.
@@ -190,5 +190,6 @@ pub fates-right : (caller k : ℕ) (steps : List AtomicStep) (a b : List Station
     → All LeavesReception (past_at k steps).accesses → HasBit (world_at a k).adapter.filter.rctl rctl_en
     → ReceivesRightly (world_at a k).adapter (marks k (happened_in steps)) (world_at b k).adapter
 fates-right caller k steps a b leads leave enabled =
-    subst (λ (all : List Mark). ReceivesRightly (world_at a k).adapter all (world_at b k).adapter) (sym (marks-told k steps))
+    subst (λ (all : List Mark). ReceivesRightly (world_at a k).adapter all (world_at b k).adapter)
+    (sym (marks-told caller k steps a b leads))
     (trail-receives (events_at k steps) (world_at a k) (world_at b k) leave enabled (trail-of caller k steps a b leads))

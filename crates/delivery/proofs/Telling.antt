@@ -9,7 +9,7 @@ use Rattle.bus.specs.declared.event.Event.TheVariants.{Accesses, Arrives, Steps}
 use Rattle.stations.specs.AtomicSteps.{At, AtomicStep, Idles, Plays, after, outcome_of, outcome_of_event, tick_of}
 use Rattle.stations.specs.Stations.{StationState}
 use Rattle.stations.specs.declared.outcomes.Numbered.{Numbered}
-use Rattle.stations.specs.declared.tick.Outcome.{Outcome}
+use Rattle.adapter.specs.Outcomes.{FrameOutcome}
 use Rattle.stations.specs.declared.tick.Tick.{Tick}
 use Rattle.stations.specs.declared.tick.Tick.TheVariants.{Deliver, Go, Step}
 use Rattle.stations.specs.AtomicRunLaws.{leads_join}
@@ -111,11 +111,11 @@ alone-step (At host (Arrives frame fate)) = sym (append-nil (told_of host (outco
 alone-step (At host (Accesses access)) = refl
 alone-step (Idles tick) = refl
 
-pub said-alone : (a b : List StationState) (tick : Tick) (outcome : Outcome) (plays : Plays a tick outcome b)
+pub said-alone : (a b : List StationState) (tick : Tick) (outcome : FrameOutcome) (plays : Plays a tick outcome b)
     → told_alone tick (record { accesses = 0; outcome = outcome } ∷ []) ≡ happened_in (plays.step ∷ [])
 said-alone a b tick outcome plays =
     ap (λ (t : Tick). told_alone t (record { accesses = 0; outcome = outcome } ∷ [])) (sym plays.tick_is)
-    ∙ ap (λ (o : Outcome). told_alone (tick_of plays.step) (record { accesses = 0; outcome = o } ∷ [])) (sym plays.outcome_is)
+    ∙ ap (λ (o : FrameOutcome). told_alone (tick_of plays.step) (record { accesses = 0; outcome = o } ∷ [])) (sym plays.outcome_is)
     ∙ alone-step plays.step
 
 -- the step of a tick that isn't Go may stand in a call of any host
@@ -129,8 +129,8 @@ is-lone (At host (Arrives frame fate)) other = record { is_tick = tt; of_call = 
 is-lone (At host (Accesses access)) other = absurd (cc)
 is-lone (Idles tick) other = record { is_tick = other; of_call = λ caller. other }
 
-pub leads-alone : (old new : List StationState) (tick : Tick) (outcome : Outcome) (plays : Plays old tick outcome new) → is_go tick ≡ false
-    → LeadsAlone plays.step old new
+pub leads-alone : (old new : List StationState) (tick : Tick) (outcome : FrameOutcome) (plays : Plays old tick outcome new)
+    → is_go tick ≡ false → LeadsAlone plays.step old new
 leads-alone old new tick outcome plays other =
     let lone = is-lone plays.step (ap is_go plays.tick_is ∙ other) in
     record { is_tick = lone.is_tick; leads = λ caller. (plays.happens, lone.of_call caller, plays.leaves) }

@@ -16,8 +16,8 @@ use Rattle.adapter.specs.declared.register.Register.{Register}
 use Rattle.adapter.specs.declared.register.Register.TheVariants.{Ctrl}
 use Rattle.adapter.specs.declared.step.StepKind.{StepKind}
 use Rattle.adapter.specs.declared.step.StepKind.TheVariants.{TxTake, TxPut, RxData, RxDone, EepromTick, PhyTick}
-use Rattle.adapter.specs.declared.step.Stepped.{Stepped}
-use Rattle.adapter.specs.declared.step.Stepped.TheVariants as stepped
+use Rattle.adapter.specs.Outcomes.{FrameOutcome}
+use Rattle.adapter.specs.declared.outcome.Outcome.TheVariants.{Delivered, Fault, Nothing, Put, WireFull}
 use Rattle.bus.proofs.Lists.{all-head, all-left, all-right, all-weaker}
 use Rattle.bus.proofs.TrailFaults.{faults_stay, running_engines_met_no_fault}
 use Rattle.bus.specs.Accesses.{IsNoReset, ResetsNothing}
@@ -28,9 +28,7 @@ use Rattle.bus.specs.declared.event.Access.TheVariants.{Loads, Reads, Stores, Wr
 use Rattle.bus.specs.declared.event.Event.{Event}
 use Rattle.bus.specs.declared.event.Event.TheVariants.{Accesses, Arrives, Steps}
 use Rattle.stations.specs.AtomicSteps.{At, AtomicStep, CanHappen, Idles, OccursAt, after, outcome_of, tick_of}
-use Rattle.stations.specs.Outcomes.{outcome_of_step}
 use Rattle.stations.specs.Stations.{StationState, wire_at, wire_of, world_at, world_of}
-use Rattle.stations.specs.declared.tick.Outcome.TheVariants.{Delivered, Fault, Nothing}
 use Rattle.stations.specs.declared.tick.Tick.TheVariants.{Deliver, Go, Step}
 use Rattle.stations.proofs.HostTrails.{trail-of}
 use Rattle.stations.specs.AtomicRunLaws.{past_join}
@@ -127,24 +125,13 @@ run-before caller host steps a b leads none run =
     engines-run (world_at a host).adapter (world_at b host).adapter
     (faults_stay (events_at host steps) (world_at a host) (world_at b host) none (trail-of caller host steps a b leads)) run
 
-told-no-fault : (answer : Stepped) → answer ≢ stepped.Fault → outcome_of_step answer ≢ Fault
-told-no-fault stepped.Fault isnt = absurd (isnt refl)
-told-no-fault stepped.Took isnt = λ is. absurd (cc)
-told-no-fault (stepped.Put frame) isnt = λ is. absurd (cc)
-told-no-fault stepped.WireFull isnt = λ is. absurd (cc)
-told-no-fault stepped.Moved isnt = λ is. absurd (cc)
-told-no-fault stepped.Done isnt = λ is. absurd (cc)
-told-no-fault stepped.Ticked isnt = λ is. absurd (cc)
-told-no-fault stepped.Nothing isnt = λ is. absurd (cc)
-
 step-no-fault : (caller host : ℕ) (step : AtomicStep) (later : List AtomicStep) (a b : List StationState)
     → LeadsTo caller (step ∷ later) a b → ResetNothing host (step ∷ later) → EnginesRun (world_at b host).adapter
     → IsTickOf host (tick_of step) → outcome_of step ≢ Fault
 step-no-fault caller host (At other (Steps kind wire_free answer)) later a b leads none run of_host =
     let here = λ (k : ℕ). LeadsTo caller (At k (Steps kind wire_free answer) ∷ later) a b in
     let resets = λ (k : ℕ). ResetNothing host (At k (Steps kind wire_free answer) ∷ later) in
-    told-no-fault answer
-    (no-fault caller host (Steps kind wire_free answer) later a b (subst here of_host leads) (subst resets of_host none) run)
+    no-fault caller host (Steps kind wire_free answer) later a b (subst here of_host leads) (subst resets of_host none) run
 step-no-fault caller host (At other (Arrives frame fate)) later a b leads none run of_host = λ is. absurd (cc)
 step-no-fault caller host (At other (Accesses access)) later a b leads none run of_host = λ is. absurd (cc)
 step-no-fault caller host (Idles tick) later a b leads none run of_host = λ is. absurd (cc)
@@ -201,19 +188,19 @@ has-oldest (queued ∷ buffer) frame oldest = λ none. absurd (cc)
 by-test : (test test' : Bool) (P Q : Type 0) → test ≡ test' → MatchBool test' P Q → MatchBool test P Q
 by-test test test' P Q same fact = subst (λ (t : Bool). MatchBool t P Q) (sym same) fact
 
-put-answer : (caller host : ℕ) (before : List AtomicStep) (a : List StationState) (wire_free : Bool) (answer : Stepped)
+put-answer : (caller host : ℕ) (before : List AtomicStep) (a : List StationState) (wire_free : Bool) (answer : FrameOutcome)
     → LeadsTo caller before a (stations_behind before a) → OccursAt host (Steps TxPut wire_free answer) (stations_behind before a)
     → PutAnswers wire_free (world_at (stations_behind before a) host).adapter answer
-    → IsStepAnswer a before host (counts_of (world_at (stations_behind before a) host).adapter) TxPut (outcome_of_step answer)
-put-answer caller host before a wire_free stepped.Nothing leads occurs none =
+    → IsStepAnswer a before host (counts_of (world_at (stations_behind before a) host).adapter) TxPut answer
+put-answer caller host before a wire_free Nothing leads occurs none =
     by-test _ true _ _ (ap (λ (buffer : List Queued). length buffer == 0) none) refl
-put-answer caller host before a wire_free stepped.WireFull leads occurs full =
+put-answer caller host before a wire_free WireFull leads occurs full =
     by-test _ false _ _ (some-queued (world_at (stations_behind before a) host).adapter.transmitter.buffer full.0)
     (full-by-counting caller host occurs.wire before a (stations_behind before a) leads occurs.on_wire (λ room.
     let free : wire_free ≡ true = (occurs.suits_wire refl).1 room in
     let contrary : true ≡ false = sym free ∙ full.1 in
     absurd (cc)))
-put-answer caller host before a wire_free (stepped.Put frame) leads occurs put =
+put-answer caller host before a wire_free (Put frame) leads occurs put =
     by-test _ false _ _
     (some-queued (world_at (stations_behind before a) host).adapter.transmitter.buffer
     (has-oldest (world_at (stations_behind before a) host).adapter.transmitter.buffer frame put.1)) (
@@ -222,10 +209,11 @@ put-answer caller host before a wire_free (stepped.Put frame) leads occurs put =
     )
 put-answer caller host before a wire_free _ leads occurs none = absurd none
 
-step-answer : (caller host : ℕ) (before : List AtomicStep) (a : List StationState) (kind : StepKind) (wire_free : Bool) (answer : Stepped)
+step-answer : (caller host : ℕ) (before : List AtomicStep) (a : List StationState) (kind : StepKind) (wire_free : Bool)
+    (answer : FrameOutcome)
     → LeadsTo caller before a (stations_behind before a) → OccursAt host (Steps kind wire_free answer) (stations_behind before a)
-    → Known host before a → answer ≢ stepped.Fault
-    → IsStepAnswer a before host (counts_of (world_at (stations_behind before a) host).adapter) kind (outcome_of_step answer)
+    → Known host before a → answer ≢ Fault
+    → IsStepAnswer a before host (counts_of (world_at (stations_behind before a) host).adapter) kind answer
 step-answer caller host before a TxTake wire_free answer leads occurs known well =
     take-answer (world_at (stations_behind before a) host).memory (world_at (stations_behind before a) host).adapter answer known.can
     known.run.transmitter well occurs.occurs.1
@@ -269,8 +257,8 @@ tick-answer caller host before later (At other (Steps kind wire_free answer)) a 
     let resets = subst (λ (k : ℕ). ResetNothing host (step k ∷ later)) of_host none in
     let well = no-fault caller host (Steps kind wire_free answer) later mid b own resets run in
     let answered = step-answer caller host before a kind wire_free answer leads own.0 known well in
-    subst (λ (k : ℕ). IsAnswer a before (Step k kind) (outcome_of_step answer)) (sym of_host)
-    (subst (λ (counts : HostCounts). IsStepAnswer a before host counts kind (outcome_of_step answer)) known.counts answered)
+    subst (λ (k : ℕ). IsAnswer a before (Step k kind) answer) (sym of_host)
+    (subst (λ (counts : HostCounts). IsStepAnswer a before host counts kind answer) known.counts answered)
 tick-answer caller host before later (At other (Arrives frame fate)) a b leads rest known none run of_host =
     is-delivery (waiting_at a before other) frame fate
     (ap (λ (frames : List (List ℕ)). slice_get frames 0) (sym (run-waiting caller other before a (stations_behind before a) leads))

@@ -6,7 +6,8 @@ use Rattle.std.proofs.lemmas.Bool.Decides.{eqb_tells}
 use Rattle.std.proofs.lemmas.Grind.{flat_map-append}
 use Rattle.std.proofs.lemmas.List.{append-nil}
 use Rattle.std.specs.List.{flat_map}
-use Rattle.bus.specs.Trails.{past_of_event}
+use Rattle.adapter.specs.World.{World}
+use Rattle.bus.specs.Trails.{Occurs, past_of_event}
 use Rattle.bus.specs.declared.event.Event.{Event}
 use Rattle.bus.specs.declared.event.Event.TheVariants.{Accesses, Arrives, Steps}
 use Rattle.stations.proofs.Places.{after-is, get-at_each}
@@ -141,15 +142,16 @@ backlog-elsewhere ss host k event other occurs =
 abbrev sent : (wires : ℕ → Option ℕ) → (k host : ℕ) → Event → List (List ℕ)
 sent wires k host event = if not (k == host) && share_wire (wires k) (wires host) then (past_of_event event).put else []
 
-toward-event : (wires : ℕ → Option ℕ) (k host : ℕ) (event : Event)
+toward-event : (wires : ℕ → Option ℕ) (k host : ℕ) (event : Event) (world : World) → Occurs event world
     → flat_map (toward_by wires k) (told_of host (outcome_of_event event))
     ≡ (if not (k == host) && share_wire (wires k) (wires host) then frames_in event else [])
-toward-event wires k host (Steps kind wire_free answer) =
+toward-event wires k host (Steps kind wire_free answer) world occurs =
     let shared = not (k == host) && share_wire (wires k) (wires host) in
-    step-told (toward_by wires k) host (λ frame. if shared then frame ∷ [] else []) [] answer (λ frame. refl) refl
+    step-told (toward_by wires k) host (λ frame. if shared then frame ∷ [] else []) [] kind wire_free answer world occurs
+    (λ frame. refl) refl
     ∙ put-chosen shared answer
-toward-event wires k host (Arrives frame fate) = none-chosen (not (k == host) && share_wire (wires k) (wires host))
-toward-event wires k host (Accesses access) = none-chosen (not (k == host) && share_wire (wires k) (wires host))
+toward-event wires k host (Arrives frame fate) world occurs = none-chosen (not (k == host) && share_wire (wires k) (wires host))
+toward-event wires k host (Accesses access) world occurs = none-chosen (not (k == host) && share_wire (wires k) (wires host))
 
 toward-step : (wires : ℕ → Option ℕ) (k host : ℕ) (event : Event) (later : List AtomicStep) (ss : List StationState)
     → OccursAt host event ss
@@ -157,7 +159,7 @@ toward-step : (wires : ℕ → Option ℕ) (k host : ℕ) (event : Event) (later
 toward-step wires k host event later ss occurs =
     flat_map-append (toward_by wires k) (told_of host (outcome_of_event event)) (happened_in later)
     ∙ ap (λ (front : List (List ℕ)). front ++ toward wires k (happened_in later))
-    (toward-event wires k host event
+    (toward-event wires k host event (world_at ss host) occurs.occurs
     ∙ ap (λ (frames : List (List ℕ)). if not (k == host) && share_wire (wires k) (wires host) then frames else [])
     (put-occurs event (world_at ss host) occurs.occurs))
 
@@ -204,5 +206,5 @@ waits-events caller k wires (Idles tick ∷ later) a b are leads = waits-events 
 pub waits-on : (caller k : ℕ) (steps : List AtomicStep) (a b : List StationState) → LeadsTo caller steps a b
     → reached k (happened_in steps) ++ backlog_at b k ≡ backlog_at a k ++ toward (wire_at a) k (happened_in steps)
 waits-on caller k steps a b leads =
-    ap (λ (front : List (List ℕ)). front ++ backlog_at b k) (reached-told k steps)
+    ap (λ (front : List (List ℕ)). front ++ backlog_at b k) (reached-told caller k steps a b leads)
     ∙ waits-events caller k (wire_at a) steps a b (λ host. refl) leads

@@ -8,7 +8,7 @@ use Rattle.bus.specs.TrailFaults.{EnginesRun}
 use Rattle.bus.specs.declared.event.Access.TheVariants.{Writes}
 use Rattle.stations.specs.AtomicSteps.{AtomicStep, outcome_of, tick_of}
 use Rattle.stations.specs.Stations.{StationState, backlog_at, world_at}
-use Rattle.stations.specs.declared.tick.Outcome.TheVariants.{Fault, Nothing}
+use Rattle.adapter.specs.declared.outcome.Outcome.TheVariants.{Fault, Nothing}
 use Rattle.stations.specs.declared.tick.Tick.TheVariants.{Go}
 use Rattle.stations.specs.AtomicRuns.{LeadsTo, past_at}
 use Rattle.delivery.specs.CountedHosts.{CanBeCounted, IsCounted}

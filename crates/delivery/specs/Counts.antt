@@ -21,9 +21,8 @@ use Rattle.bus.specs.declared.event.Access.{Access}
 use Rattle.bus.specs.declared.event.Access.TheVariants.{Loads, Reads, Stores, Writes}
 use Rattle.bus.specs.declared.event.Event.{Event}
 use Rattle.bus.specs.declared.event.Event.TheVariants.{Accesses, Arrives, Steps}
-use Rattle.stations.specs.Outcomes.{outcome_of_step}
-use Rattle.stations.specs.declared.tick.Outcome.{Outcome}
-use Rattle.stations.specs.declared.tick.Outcome.TheVariants.{Done, Moved, Put, Ticked, Took}
+use Rattle.adapter.specs.Outcomes.{FrameOutcome}
+use Rattle.adapter.specs.declared.outcome.Outcome.TheVariants.{Done, Moved, Put, Ticked, Took}
 
 -- The numbers.
 
@@ -104,7 +103,7 @@ after_tick PhyTick counts = record counts { phy_ticks = counts.phy_ticks - 1 }
 after_tick _ counts = counts
 
 -- what the outcome of a step of this kind leaves
-abbrev pub after_outcome : StepKind → Outcome → HostCounts → HostCounts
+abbrev pub after_outcome : StepKind → FrameOutcome → HostCounts → HostCounts
 after_outcome kind Took counts =
     record counts { transmit = record { ring = one_fewer counts.transmit.ring; buffered = counts.transmit.buffered + 1 } }
 after_outcome kind (Put frame) counts =
@@ -135,7 +134,7 @@ after_access (Stores address bytes) counts = counts
 
 -- what an event leaves; a frame that is stored is one more in the receive packet buffer
 abbrev pub counts_after : Event → HostCounts → HostCounts
-counts_after (Steps kind wire_free answer) counts = after_outcome kind (outcome_of_step answer) counts
+counts_after (Steps kind wire_free answer) counts = after_outcome kind answer counts
 counts_after (Arrives frame fate) counts =
     record counts { receive = record counts.receive { buffered = counts.receive.buffered + length (kept fate frame) } }
 counts_after (Accesses access) counts = after_access access counts

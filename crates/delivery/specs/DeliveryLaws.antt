@@ -11,7 +11,7 @@ use Rattle.bus.specs.declared.event.Access.{Access}
 use Rattle.bus.specs.declared.event.Access.TheVariants.{Writes}
 use Rattle.stations.specs.AtomicSteps.{AtomicStep, Plays, tick_of}
 use Rattle.stations.specs.Stations.{StationState, backlog_at, wire_at, world_at}
-use Rattle.stations.specs.declared.tick.Outcome.{Outcome}
+use Rattle.adapter.specs.Outcomes.{FrameOutcome}
 use Rattle.stations.specs.declared.tick.Tick.{Tick}
 use Rattle.stations.specs.declared.tick.Tick.TheVariants.{Go}
 use Rattle.stations.specs.AtomicRuns.{IsTick, LeadsTo, counted_of, is_go, noted_of, past_at}
@@ -60,7 +60,7 @@ LentCallsAreTold =
 -- The outcome of a tick by itself tells what its step did, too.
 abbrev pub OneOutcomeTellsItsStep : Type 0
 OneOutcomeTellsItsStep =
-    (old new : List StationState) (tick : Tick) (outcome : Outcome) (plays : Plays old tick outcome new)
+    (old new : List StationState) (tick : Tick) (outcome : FrameOutcome) (plays : Plays old tick outcome new)
     → told_alone tick (record { accesses = 0; outcome = outcome } ∷ []) ≡ happened_in (plays.step ∷ [])
 
 -- Where it isn't Go, this step is a tick, and leads from the one state to the other.
@@ -70,7 +70,7 @@ pub record LeadsAlone (step : AtomicStep) (old new : List StationState) : Type 0
 
 abbrev pub OneTickLeads : Type 0
 OneTickLeads =
-    (old new : List StationState) (tick : Tick) (outcome : Outcome) (plays : Plays old tick outcome new) → is_go tick ≡ false
+    (old new : List StationState) (tick : Tick) (outcome : FrameOutcome) (plays : Plays old tick outcome new) → is_go tick ≡ false
     → LeadsAlone plays.step old new
 
 -- Frames.

@@ -6,8 +6,8 @@ use Rattle.rx_engine.specs.declared.arrival.Fate.{Fate}
 use Rattle.bus.specs.StepsAndArrivals.{missed_by}
 use Rattle.stations.specs.AtomicSteps.{At, AtomicStep, Idles, outcome_of_event}
 use Rattle.stations.specs.declared.outcomes.Numbered.{Numbered}
-use Rattle.stations.specs.declared.tick.Outcome.{Outcome}
-use Rattle.stations.specs.declared.tick.Outcome.TheVariants as outcome
+use Rattle.adapter.specs.Outcomes.{FrameOutcome}
+use Rattle.adapter.specs.declared.outcome.Outcome.TheVariants as outcome
 use Rattle.stations.specs.declared.tick.Tick.{Tick}
 use Rattle.stations.specs.declared.tick.Tick.TheVariants.{Deliver, Go, Step}
 
@@ -32,7 +32,7 @@ host_of (Step host kind) = host
 host_of (Deliver host) = host
 
 -- the outcome of a tick at a host, as a happening
-abbrev pub told_of : (host : ℕ) → Outcome → List Happening
+abbrev pub told_of : (host : ℕ) → FrameOutcome → List Happening
 told_of host (outcome.Put frame) = Put host frame ∷ []
 told_of host (outcome.Delivered frame fate) = Reached host frame fate ∷ []
 told_of host outcome.Moved = Moved host ∷ []

@@ -1,5 +1,5 @@
 -- What an adapter receives meanwhile, and the accesses that leave this alone (our choice).
-use Rattle.std.specs.Prelude.{⊤, ◌≡◌, List, IfSome, length}
+use Rattle.std.specs.Prelude.{⊤, ◌≡◌, List, IfSome}
 use Rattle.adapter.specs.Receiving.{room}
 use Rattle.adapter.specs.State.{AdapterState}
 use Rattle.adapter.specs.Table.{register_at}

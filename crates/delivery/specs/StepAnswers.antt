@@ -6,8 +6,8 @@ use Rattle.adapter.specs.declared.step.StepKind.TheVariants.{TxTake, TxPut, RxDa
 use Rattle.adapter.specs.Transmitting.{IsOldest}
 use Rattle.stations.specs.AtomicSteps.{AtomicStep, after, outcome_of, tick_of}
 use Rattle.stations.specs.Stations.{StationState, world_at}
-use Rattle.stations.specs.declared.tick.Outcome.{Outcome}
-use Rattle.stations.specs.declared.tick.Outcome.TheVariants.{Delivered, Done, Moved, Nothing, Put, Ticked, Took, WireFull}
+use Rattle.adapter.specs.Outcomes.{FrameOutcome}
+use Rattle.adapter.specs.declared.outcome.Outcome.TheVariants.{Delivered, Done, Moved, Nothing, Put, Ticked, Took, WireFull}
 use Rattle.stations.specs.declared.tick.Tick.{Tick}
 use Rattle.stations.specs.declared.tick.Tick.TheVariants.{Deliver, Go, Step}
 use Rattle.stations.specs.AtomicRuns.{events_at}
@@ -19,7 +19,7 @@ abbrev pub transmit_room : ℕ
 transmit_room = 4
 
 -- Nothing where there is nothing to do, else this
-abbrev pub nothing_if : Bool → Outcome → Outcome
+abbrev pub nothing_if : Bool → FrameOutcome → FrameOutcome
 nothing_if is_idle outcome = if is_idle then Nothing else outcome
 
 -- the transmit packet buffer is full, or no descriptor is to be taken: TDH equals TDT
@@ -36,14 +36,14 @@ stations_behind [] stations = stations
 stations_behind (step ∷ later) stations = stations_behind later (after step stations)
 
 -- Where there is a frame to put: WireFull where another end of the wire is full, else Put of the oldest frame of the packet buffer.
-abbrev pub IsPutAnswer : (start : List StationState) (before : List AtomicStep) (host : ℕ) → Outcome → Type 0
+abbrev pub IsPutAnswer : (start : List StationState) (before : List AtomicStep) (host : ℕ) → FrameOutcome → Type 0
 IsPutAnswer start before host WireFull = WireIsFull start before host
 IsPutAnswer start before host (Put frame) =
     (¬ (WireIsFull start before host)) × IsOldest (world_at (stations_behind before start) host).adapter.transmitter.buffer frame
 IsPutAnswer start before host _ = ⊥
 
 -- the outcome of a host's step, by what is counted of the host, behind these steps from the start
-abbrev pub IsStepAnswer : (start : List StationState) (before : List AtomicStep) (host : ℕ) → HostCounts → StepKind → Outcome → Type 0
+abbrev pub IsStepAnswer : (start : List StationState) (before : List AtomicStep) (host : ℕ) → HostCounts → StepKind → FrameOutcome → Type 0
 IsStepAnswer start before host counts TxTake outcome = outcome ≡ nothing_if (has_nothing_to_take counts.transmit) Took
 IsStepAnswer start before host counts TxPut outcome =
     MatchBool (counts.transmit.buffered == 0) (outcome ≡ Nothing) (IsPutAnswer start before host outcome)
@@ -53,7 +53,7 @@ IsStepAnswer start before host counts EepromTick outcome = outcome ≡ nothing_i
 IsStepAnswer start before host counts PhyTick outcome = outcome ≡ nothing_if (counts.phy_ticks == 0) Ticked
 
 -- the outcome of a delivery, by the frames that wait
-abbrev pub IsDelivery : List (List ℕ) → Outcome → Type 0
+abbrev pub IsDelivery : List (List ℕ) → FrameOutcome → Type 0
 IsDelivery [] outcome = outcome ≡ Nothing
 IsDelivery (oldest ∷ later) outcome = (fate : Fate) × (outcome ≡ Delivered oldest fate)
 
@@ -62,7 +62,7 @@ abbrev pub counts_at : (start : List StationState) → List AtomicStep → (host
 counts_at start steps host = counts_behind (events_at host steps) (counts_of (world_at start host).adapter)
 
 -- The outcome of a tick that comes behind these steps, by what is counted at their start.
-abbrev pub IsAnswer : (start : List StationState) (before : List AtomicStep) → Tick → Outcome → Type 0
+abbrev pub IsAnswer : (start : List StationState) (before : List AtomicStep) → Tick → FrameOutcome → Type 0
 IsAnswer start before Go outcome = outcome ≡ Nothing
 IsAnswer start before (Step host kind) outcome = IsStepAnswer start before host (counts_at start before host) kind outcome
 IsAnswer start before (Deliver host) outcome = IsDelivery (waiting_at start before host) outcome
@@ -74,7 +74,7 @@ IsTickOf host (Step other kind) = other ≡ host
 IsTickOf host (Deliver other) = other ≡ host
 
 -- Of each tick of a host this is so, with the steps that come before it.
-abbrev pub OfEachTick : (host : ℕ) → List AtomicStep → (List AtomicStep → Tick → Outcome → Type 0) → Type 0
+abbrev pub OfEachTick : (host : ℕ) → List AtomicStep → (List AtomicStep → Tick → FrameOutcome → Type 0) → Type 0
 OfEachTick host steps fact =
     (before later : List AtomicStep) (step : AtomicStep) → steps ≡ before ++ step ∷ later → IsTickOf host (tick_of step)
     → fact before (tick_of step) (outcome_of step)

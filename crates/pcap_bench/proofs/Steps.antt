@@ -10,7 +10,7 @@ use Rattle.rx_engine.specs.Receiver.{Receiver, new_receiver}
 use Rattle.rx_engine.specs.Finishing.{finished_bytes}
 use Rattle.rx_engine.specs.declared.arrival.Fate.TheVariants.{Stored}
 use Rattle.adapter.specs.declared.ring.RingRegisters.{RingRegisters}
-use Rattle.adapter.specs.declared.step.Stepped.TheVariants.{Moved, Done}
+use Rattle.adapter.specs.declared.outcome.Outcome.TheVariants.{Moved, Done}
 use Rattle.adapter.specs.Receiving.{after_arrive, after_data, after_done, memory_after_data_step, memory_after_done_step, CanMoveFrame}
 use Rattle.adapter.specs.State.{AdapterState}
 use Rattle.pcap_bench.specs.Lane.{slots, buffer_at, ring_at, HasFrame, IsLane, IsReceiving, IsWaiting, LaneState, NameBuffers}

@@ -8,7 +8,7 @@ ghost use Rattle.rx_engine.specs.Passing.{Passes};
 ghost use Rattle.rx_engine.specs.Registers.{filter_of};
 ghost use Rattle.adapter.specs.Receiving.{after_data, after_done, memory_after_data_step, memory_after_done_step};
 ghost use Rattle.adapter.specs.Receiving.{CanMoveFrame, HasFrameAndDescriptor};
-ghost use Rattle.adapter.specs.declared.step.Stepped.TheVariants.{Moved, Done};
+ghost use Rattle.adapter.specs.declared.outcome.Outcome.TheVariants.{Moved, Done};
 ghost use Rattle.pcap_bench.specs.Lane.{ring_at, slot_bytes, slot_desc, HasFrame, IsWaiting};
 ghost use Rattle.pcap_bench.specs.Options.{filter_for, HasVlanNumber};
 

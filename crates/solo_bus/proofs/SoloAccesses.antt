@@ -20,78 +20,8 @@ use Rattle.adapter.specs.World.{World}
 use Rattle.solo_bus.specs.declared.solo_bus.SoloTick.{SoloTick}
 use Rattle.solo_bus.specs.declared.solo_bus.SoloTick.TheVariants.{Go}
 use Rattle.bus.proofs.Lists.{all-head, all-tail}
+use Rattle.bus.proofs.StepsThenAccess.{happens_accesses, no_access, past-with_access}
 use Rattle.bus.proofs.Trails.{trail_happens}
-
--- What may happen doesn't speak of accesses.
-pub happens_accesses : (a b : World) (past : Past) (accesses : List Access) → Happens a b past
-    → Happens a b (record past { accesses = accesses })
-happens_accesses a b past accesses happens =
-    let steady = happens.steady in
-    record {
-      steady = record {
-        size = steady.size;
-        image = steady.image;
-        causes = steady.causes;
-        mask = steady.mask;
-        receive_ring = steady.receive_ring;
-        transmit_ring = steady.transmit_ring;
-        filter = steady.filter;
-        device_control = steady.device_control;
-        transmit_control = steady.transmit_control;
-        allocation = steady.allocation;
-        missed = steady.missed;
-        off = steady.off;
-        receive_head = steady.receive_head;
-        transmit_head = steady.transmit_head;
-        legal = steady.legal;
-        eerd = steady.eerd;
-        management = steady.management;
-      };
-      between = λ o p sound.
-          let between = happens.between o p sound in
-          record {
-            sends = between.sends;
-            reported = between.reported;
-            written = between.written;
-            each_reported = between.each_reported;
-            holds = between.holds;
-            more = between.more;
-            done = between.done;
-            told = between.told;
-            fits = between.fits;
-            whole = between.whole;
-            untouched = between.untouched;
-            foreign = between.foreign;
-            runs = between.runs;
-            sound = between.sound;
-          };
-    }
-
--- A step is no access.
-event-no_access : (event : Event) → IsStep event → (past_of_event event).accesses ≡ []
-event-no_access (Steps TxTake wire_free answer) is = refl
-event-no_access (Steps TxPut wire_free answer) is = refl
-event-no_access (Steps RxData wire_free answer) is = refl
-event-no_access (Steps RxDone wire_free answer) is = refl
-event-no_access (Steps EepromTick wire_free answer) is = refl
-event-no_access (Steps PhyTick wire_free answer) is = refl
-event-no_access (Arrives frame fate) is = refl
-event-no_access (Accesses access) is = absurd is
-
-pub no_access : (events : List Event) → All IsStep events → (past_of events).accesses ≡ []
-no_access [] are = refl
-no_access (event ∷ later) are =
-    ap (λ (accesses : List Access). accesses ++ (past_of later).accesses) (event-no_access event (all-head IsStep event later are))
-    ∙ no_access later (all-tail IsStep event later are)
-
--- Steps, and then an access.
-past-with_access : (events : List Event) (access : Access) → All IsStep events
-    → record (past_of events) { accesses = access ∷ [] } ≡ past_of (events ++ Accesses access ∷ [])
-past-with_access events access are =
-    let past = past_of events in
-    same_past _ _ _ _ _ _ _ _ _ _ _ _ (sym (append-nil past.put)) (sym (append-nil past.stored)) (omega arith) (omega arith) (omega arith)
-    (ap (λ (accesses : List Access). accesses ++ access ∷ []) (sym (no_access events are)))
-    ∙ sym (past_of-append events (Accesses access ∷ []))
 
 -- The world of a solo bus.
 abbrev pub solo_world : SoloState → World

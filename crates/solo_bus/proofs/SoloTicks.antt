@@ -10,8 +10,8 @@ use Rattle.adapter.specs.State.{IsAdapter}
 use Rattle.adapter.specs.Steps.{Answers, ticked}
 use Rattle.adapter.specs.declared.step.StepKind.{StepKind}
 use Rattle.adapter.specs.declared.step.StepKind.TheVariants.{TxTake, TxPut, RxData, RxDone, EepromTick, PhyTick}
-use Rattle.adapter.specs.declared.step.Stepped.{Stepped}
-use Rattle.adapter.specs.declared.step.Stepped.TheVariants.{Put}
+use Rattle.adapter.specs.Outcomes.{FrameOutcome}
+use Rattle.adapter.specs.declared.outcome.Outcome.TheVariants.{Put}
 use Rattle.eeprom.specs.Eerd.{is_pending}
 use Rattle.mdic_phy.specs.Mdic.{has_work}
 use Rattle.bus.specs.TickGroups.{behind_group, group_of, without_go}
@@ -56,7 +56,7 @@ front_rest [] x is = absurd (cc)
 front_rest (y ∷ ys) x is = cc
 
 -- What a step puts is what happened in it.
-put_alone : (kind : StepKind) (wire_free : Bool) (answer : Stepped) (solo : SoloState)
+put_alone : (kind : StepKind) (wire_free : Bool) (answer : FrameOutcome) (solo : SoloState)
     → Answers kind wire_free solo.world.memory solo.world.adapter answer → put_by answer ≡ (past_of (Steps kind wire_free answer ∷ [])).put
 put_alone TxPut wire_free answer solo answers = sym (append-nil (put_by answer))
 put_alone TxTake wire_free (Put frame) solo answers = absurd answers
@@ -78,7 +78,7 @@ put_alone PhyTick wire_free answer solo answers = ap put_by answers ∙ put_none
 
 -- A step, with the ticks that wait behind it.
 pub plays_step :
-    (a : SoloState) (kind : StepKind) (answer : Stepped) (left : List SoloTick) → IsAdapter a.world.adapter
+    (a : SoloState) (kind : StepKind) (answer : FrameOutcome) (left : List SoloTick) → IsAdapter a.world.adapter
     → Answers kind (has_room a) a.world.memory a.world.adapter answer
     → Plays (Step kind ∷ []) left a (solo_after_step kind answer (record a { waiting = left }))
 plays_step a kind answer left running answers =
@@ -171,7 +171,7 @@ on_more plays waits a s b tick left on before isnt front behind one = record {
 
 -- A step whose tick was the next, as the code leaves it.
 pub step_on :
-    (plays waits : List SoloTick → List SoloTick) (a s s' b : SoloState) (kind : StepKind) (answer : Stepped) (next : Option SoloTick)
+    (plays waits : List SoloTick → List SoloTick) (a s s' b : SoloState) (kind : StepKind) (answer : FrameOutcome) (next : Option SoloTick)
     (tick : SoloTick)
     → GoesOn plays waits → PlaysOn plays waits a s → next ≡ slice_get s.waiting 0 → next ≡ Some tick → tick ≡ Step kind
     → s' ≡ record s { waiting = drop 1 s.waiting } → IsAdapter s'.world.adapter
@@ -205,7 +205,7 @@ arrive_on plays waits a s s' b frame bytes fate next tick on before is some take
 
 -- Steps of these kinds, one after the other.
 pub kinds_on :
-    (kinds : List StepKind) (place : ℕ) (other : StepKind) (a s b : SoloState) (answer : Stepped) → place < length kinds
+    (kinds : List StepKind) (place : ℕ) (other : StepKind) (a s b : SoloState) (answer : FrameOutcome) → place < length kinds
     → Plays (map Step (take place kinds)) a.waiting a s → IsAdapter s.world.adapter
     → Answers (get_or kinds place other) (has_room s) s.world.memory s.world.adapter answer
     → b ≡ solo_after_step (get_or kinds place other) answer s → Plays (map Step (take (place + 1) kinds)) a.waiting a b

@@ -27,8 +27,8 @@ use Rattle.adapter.specs.Steps.{Answers}
 use Rattle.adapter.specs.Transmitting.{CanTake, HasNothingToTake, TakeAnswers}
 use Rattle.adapter.specs.declared.step.StepKind.{StepKind}
 use Rattle.adapter.specs.declared.step.StepKind.TheVariants.{RxData, RxDone, TxTake}
-use Rattle.adapter.specs.declared.step.Stepped.{Stepped}
-use Rattle.adapter.specs.declared.step.Stepped.TheVariants.{Took, Moved, Done, Nothing, Fault}
+use Rattle.adapter.specs.Outcomes.{FrameOutcome}
+use Rattle.adapter.specs.declared.outcome.Outcome.TheVariants.{Took, Moved, Done, Nothing, Fault}
 use Rattle.adapter.specs.Registers.{new_adapter}
 use Rattle.adapter.specs.Table.{array_register_at, register_at}
 use Rattle.solo_bus.specs.SoundWorlds.{HasFinished, HasFramesInBuffer, HasFramesInRing, HasRings, HasWork}
@@ -174,7 +174,7 @@ called-can_move size words fits =
       size = omega arith;
     }
 
-pub data-moved : (size : ℕ) (words : List ℕ) → 4096 ≤ size → (answer : Stepped)
+pub data-moved : (size : ℕ) (words : List ℕ) → 4096 ≤ size → (answer : FrameOutcome)
     → DataAnswers (called size words).memory (called size words).adapter answer → answer ≡ Moved
 data-moved size words fits Moved answers = refl
 data-moved size words fits Nothing answers = absurd (answers (called-has_frame size words))
@@ -186,7 +186,7 @@ working-has_work size words none = absurd (cc)
 
 -- It is finished_slot.
 
-pub done-reported : (size : ℕ) (words : List ℕ) (answer : Stepped) → DoneAnswers (working size words).adapter answer → answer ≡ Done
+pub done-reported : (size : ℕ) (words : List ℕ) (answer : FrameOutcome) → DoneAnswers (working size words).adapter answer → answer ≡ Done
 done-reported size words Done answers = refl
 done-reported size words Nothing answers = absurd (cc)
 done-reported size words _ answers = absurd answers
@@ -200,7 +200,7 @@ reported-has_finished size words sound none =
 
 -- By the law any step keeps the conditions, and so does any arrival.
 
-pub stepped-sound : (kind : StepKind) (free : Bool) (answer : Stepped) (world : World) → IsAdapter world.adapter
+pub stepped-sound : (kind : StepKind) (free : Bool) (answer : FrameOutcome) (world : World) → IsAdapter world.adapter
     → Answers kind free world.memory world.adapter answer → Sound 0 0 world → Sound 0 0 (world_after_step kind answer world)
 stepped-sound kind free answer world running answers sound = ((steps_happen world kind free answer running answers).between 0 0 sound).sound
 
@@ -210,7 +210,7 @@ arrived-sound fate frame world running is sound = ((arrivals_happen world fate f
 
 -- What a call leaves, by what the adapter answers.
 
-pub working-found : (size : ℕ) (words : List ℕ) (fate : Fate) (answer : Stepped) (a b d : World) → 4096 ≤ size → a ≡ ready size words
+pub working-found : (size : ℕ) (words : List ℕ) (fate : Fate) (answer : FrameOutcome) (a b d : World) → 4096 ≤ size → a ≡ ready size words
     → IsFate a.adapter call fate → b ≡ world_after_arrival fate call a → DataAnswers b.memory b.adapter answer
     → d ≡ world_after_step RxData answer b → d ≡ working size words
 working-found size words fate answer a b d fits begins is arrives answers steps =
@@ -219,13 +219,14 @@ working-found size words fate answer a b d fits begins is arrives answers steps 
     ∙ ap (world_after_arrival Stored call) begins in
     let moved : answer ≡ Moved = data-moved size words fits answer
     (subst (λ (w : World). DataAnswers w.memory w.adapter answer) there answers) in
-    steps ∙ ap (λ (told : Stepped). world_after_step RxData told b) moved ∙ ap (world_after_step RxData Moved) there
+    steps ∙ ap (λ (told : FrameOutcome). world_after_step RxData told b) moved ∙ ap (world_after_step RxData Moved) there
 
-pub reported-found : (size : ℕ) (words : List ℕ) (answer : Stepped) (a b : World) → a ≡ working size words → DoneAnswers a.adapter answer
+pub reported-found : (size : ℕ) (words : List ℕ) (answer : FrameOutcome) (a b : World) → a ≡ working size words
+    → DoneAnswers a.adapter answer
     → b ≡ world_after_step RxDone answer a → b ≡ finished_slot size words
 reported-found size words answer a b begins answers steps =
     let done : answer ≡ Done = done-reported size words answer (subst (λ (w : World). DoneAnswers w.adapter answer) begins answers) in
-    steps ∙ ap (λ (told : Stepped). world_after_step RxDone told a) done ∙ ap (world_after_step RxDone Done) begins
+    steps ∙ ap (λ (told : FrameOutcome). world_after_step RxDone told a) done ∙ ap (world_after_step RxDone Done) begins
 
 -- A frame to be taken: its descriptor is stored,
 
@@ -332,7 +333,7 @@ sending-can_take size words fits =
       transmittable = sending-fields size words fits;
     }
 
-take-took : (size : ℕ) (words : List ℕ) → 4096 ≤ size → (answer : Stepped)
+take-took : (size : ℕ) (words : List ℕ) → 4096 ≤ size → (answer : FrameOutcome)
     → TakeAnswers (sending size words).memory (sending size words).adapter answer → answer ≡ Took
 take-took size words fits Took answers = refl
 take-took size words fits Nothing answers = absurd (sending-busy size words answers)
@@ -342,9 +343,9 @@ take-took size words fits _ answers = absurd answers
 pub sent-has_frames : (size : ℕ) (words : List ℕ) → HasFramesInBuffer (taken size words)
 sent-has_frames size words none = absurd (cc)
 
-pub sent-found : (size : ℕ) (words : List ℕ) (answer : Stepped) (a b : World) → 4096 ≤ size → a ≡ sending size words
+pub sent-found : (size : ℕ) (words : List ℕ) (answer : FrameOutcome) (a b : World) → 4096 ≤ size → a ≡ sending size words
     → TakeAnswers a.memory a.adapter answer → b ≡ world_after_step TxTake answer a → b ≡ taken size words
 sent-found size words answer a b fits begins answers steps =
     let took : answer ≡ Took = take-took size words fits answer
     (subst (λ (w : World). TakeAnswers w.memory w.adapter answer) begins answers) in
-    steps ∙ ap (λ (told : Stepped). world_after_step TxTake told a) took ∙ ap (world_after_step TxTake Took) begins
+    steps ∙ ap (λ (told : FrameOutcome). world_after_step TxTake told a) took ∙ ap (world_after_step TxTake Took) begins

@@ -2,12 +2,13 @@
 use Rattle.std.specs.Prelude.{⊤, ◌≡◌, ◌+◌, ◌-◌, ◌^◌, ◌++◌, ℕ, Bool, true, false, List, [], ◌∷◌, All, length, map, min, nat_lt, sum_by}
 use Rattle.std.specs.Prelude.{if◌then◌else◌}
 use Rattle.rx_engine.specs.declared.arrival.Fate.{Fate}
-use Rattle.adapter.specs.Outcomes.{put_by, stepped_of}
+use Rattle.adapter.specs.Outcomes.{put_by, framed}
 use Rattle.adapter.specs.World.{World}
+use Rattle.tx_engine.specs.Transmitter.{Queued}
 use Rattle.adapter.specs.declared.step.StepKind.{StepKind}
 use Rattle.adapter.specs.declared.step.StepKind.TheVariants.{EepromTick, PhyTick}
-use Rattle.adapter.specs.declared.step.StepOutcome.{StepOutcome}
-use Rattle.adapter.specs.declared.step.Stepped.{Stepped}
+use Rattle.adapter.specs.declared.outcome.Outcome.{Outcome}
+use Rattle.adapter.specs.Outcomes.{FrameOutcome}
 use Rattle.bus.specs.TickGroups.{behind_group, group_of, groups_of, played_in, waiting_after}
 use Rattle.bus.specs.PastOfStretch.{Past}
 use Rattle.bus.specs.declared.event.Access.{Access}
@@ -41,11 +42,16 @@ abbrev pub has_room : SoloState → Bool
 has_room solo = nat_lt (length solo.wire) wire_frames
 
 -- the answer of a step with this outcome
-abbrev pub solo_stepped : StepOutcome → SoloState → Stepped
-solo_stepped outcome solo = stepped_of outcome solo.world.adapter
+abbrev pub solo_framed : Outcome (Unit {0}) → SoloState → FrameOutcome
+solo_framed outcome solo = framed outcome solo.world.adapter
 
--- a frame that a step put is behind the others on the wire
-abbrev pub solo_after_step : StepKind → Stepped → SoloState → SoloState
+-- the frame that is put next, the oldest of a packet buffer, if there is one
+abbrev pub next_frames : List Queued → List (List ℕ)
+next_frames [] = []
+next_frames (queued ∷ later) = queued.frame ∷ []
+
+-- a frame that a step put comes after the others on the wire
+abbrev pub solo_after_step : StepKind → FrameOutcome → SoloState → SoloState
 solo_after_step kind answer solo = record solo { world = world_after_step kind answer solo.world; wire = solo.wire ++ put_by answer }
 
 abbrev pub solo_after_arrival : Fate → List ℕ → SoloState → SoloState

@@ -5,7 +5,7 @@ use Rattle.solo_bus.specs.declared.solo_bus.SoloBus.TheInside.{Inside}
 
 abbrev pub solo_of : Inside → SoloState
 solo_of inside = record {
-  world = record { memory = inside.memory; adapter = inside.adapter };
+  world = inside.machine.world;
   lively = inside.lively;
   waiting = inside.waiting.items;
   wire = inside.wire.frames;

@@ -6,7 +6,7 @@ use Rattle.registers.specs.Places.{alone, rctl_bam, rctl_en, tctl_en, tctl_psp}
 use Rattle.rx_engine.specs.declared.arrival.Fate.TheVariants.{Stored}
 use Rattle.adapter.specs.Registers.{filter_at_reset, new_adapter}
 use Rattle.adapter.specs.declared.step.StepKind.TheVariants.{RxData, RxDone, TxTake}
-use Rattle.adapter.specs.declared.step.Stepped.TheVariants.{Done, Moved, Took}
+use Rattle.adapter.specs.declared.outcome.Outcome.TheVariants.{Done, Moved, Took}
 use Rattle.bus.specs.SlotOffers.{offering, offering_frame}
 use Rattle.bus.specs.StepsAndArrivals.{world_after_arrival, world_after_step}
 use Rattle.adapter.specs.World.{World, world_after_store}

@@ -1,10 +1,11 @@
 // The solo bus: one adapter and its memory.
 
-ghost use Rattle.std.specs.Prelude.{◌≡◌, ◌≤◌, ◌+◌, ◌++◌, ◌↔◌, [], drop, length, min, slice_get, IfOk, IfSome, IsNone};
-ghost use Rattle.std.specs.Prelude.{Some, IsTrue};
+ghost use Rattle.std.specs.Prelude.{◌≡◌, ◌≤◌, ◌<◌, ◌+◌, ◌++◌, ◌↔◌, [], drop, length, min, slice_get};
+ghost use Rattle.std.specs.Prelude.{IfOk, IfSome, IsNone, IsTrue, Some};
 ghost use Rattle.registers.specs.Bits.{Meet};
 
-use adapter::{Adapter, Fate, StepKind, StepOutcome};
+use adapter::{Adapter, Fate, Outcome, StepKind};
+use bus::Machine;
 use circular_buffer::HeapCircularBuffer;
 use descriptors::Frame;
 use dma_memory::HostMemory;
@@ -35,8 +36,7 @@ pub enum SoloTick {
 /// it is made.
 #[derive(Drop)]
 pub struct SoloBus {
-    adapter: Adapter,
-    memory: HostMemory,
+    machine: Machine,
     lively: bool,
     waiting: HeapCircularBuffer<SoloTick>,
     wire: FrameQueue,
@@ -61,7 +61,7 @@ impl SoloBus {
     ghost use Rattle.adapter.specs.Steps.{Answers};
     ghost use Rattle.bus.specs.TickGroups.{behind_group, group_of, without_go};
     ghost use Rattle.solo_bus.specs.SoloBuses.{Plays, Prepared, has_room, is_go, most_accesses, lively_ticks};
-    ghost use Rattle.solo_bus.specs.SoloBuses.{solo_after_arrival, solo_after_step, solo_stepped};
+    ghost use Rattle.solo_bus.specs.SoloBuses.{next_frames, solo_after_arrival, solo_after_step, solo_framed};
     ghost use Rattle.adapter.specs.State.{IsAdapter};
     ghost use Rattle.adapter.specs.World.{world_after_read, world_after_store, world_after_write};
     ghost use Rattle.dma_memory.specs.HostMemory.{bytes_at, LiesIn};
@@ -87,8 +87,7 @@ impl SoloBus {
         }) }
     {
         Ok(SoloBus {
-            adapter,
-            memory,
+            machine: Machine::new(adapter, memory),
             lively,
             waiting: HeapCircularBuffer::with_capacity(alloc, MOST_TICKS)?,
             wire: FrameQueue::new(alloc, WIRE_FRAMES)?,
@@ -98,14 +97,29 @@ impl SoloBus {
 
     /// A step of the adapter. The wire has room while less than 64 frames are on it; a frame that is put
     /// stands there behind the others, and is taken off it by [`take_put`](SoloBus::take_put).
-    pub fn step(&mut self, kind: StepKind) -> StepOutcome
+    pub fn step(&mut self, kind: StepKind) -> Outcome<()>
         ensures answer { Answers kind (has_room self.old) self.old.world.memory self.old.world.adapter
-            (solo_stepped result self.old) }
-        ensures state { self.new ≡ solo_after_step kind (solo_stepped result self.old) self.old }
+            (solo_framed result self.old) }
+        ensures state { self.new ≡ solo_after_step kind (solo_framed result self.old) self.old }
         ensures running { IsAdapter self.old.world.adapter }
     {
-        let wire = &mut self.wire;
-        self.adapter.step_onto(kind, &mut self.memory, wire)
+        let wire_free = self.wire.len() < WIRE_FRAMES;
+        if wire_free && kind == StepKind::TxPut {
+            self.put_oldest();
+        }
+        self.machine.step(kind, wire_free)
+    }
+
+    /// Copies the frame that the adapter puts next, if there is one, to the end of those on the wire, which has room.
+    fn put_oldest(&mut self)
+        requires { length self.old.wire < WIRE_FRAMES }
+        ensures { self.new ≡ record self.old {
+          wire = self.old.wire ++ next_frames self.old.world.adapter.transmitter.buffer;
+        } }
+    {
+        if let Some(frame) = self.machine.to_put() {
+            self.wire.push(frame);
+        }
     }
 
     /// A frame is delivered to the adapter, and meets its fate.
@@ -114,7 +128,7 @@ impl SoloBus {
         ensures state { self.new ≡ solo_after_arrival result frame.now self.old }
         ensures running { IsAdapter self.old.world.adapter }
     {
-        self.adapter.arrive(frame)
+        self.machine.arrive(frame)
     }
 
     /// Takes the oldest frame off the wire; `None` exactly where there is none.
@@ -219,7 +233,7 @@ impl SoloBus {
     pub fn line(&self) -> bool
         ensures { IsTrue result ↔ Meet self.now.world.adapter.causes.recorded self.now.world.adapter.causes.mask }
     {
-        self.adapter.line()
+        self.machine.line()
     }
 
     /// The adapter and its memory, without the ticks that wait and the frames on the wire.
@@ -227,14 +241,14 @@ impl SoloBus {
         ensures adapter { result.0 ≡ self.world.adapter }
         ensures memory { result.1 ≡ self.world.memory }
     {
-        (self.adapter, self.memory)
+        self.machine.into_parts()
     }
 
     /// How many bytes the memory has.
     pub(crate) fn memory_size(&self) -> u64
         ensures { result ≡ length self.now.world.memory }
     {
-        self.memory.size()
+        self.machine.size()
     }
 
     /// How many accesses there were, up to the greatest `u64`.
@@ -250,7 +264,7 @@ impl SoloBus {
         ensures state { self.new ≡ record self.old { world = world_after_read offset self.old.world } }
         ensures adapter { IsAdapter self.old.world.adapter }
     {
-        self.adapter.read(offset)
+        self.machine.read(offset)
     }
 
     /// Writes a register, with nothing before it.
@@ -258,7 +272,7 @@ impl SoloBus {
         ensures state { self.new ≡ record self.old { world = world_after_write offset value self.old.world } }
         ensures adapter { IsAdapter self.old.world.adapter }
     {
-        self.adapter.write(offset, value);
+        self.machine.write(offset, value);
     }
 
     /// Loads bytes that lie in memory, with nothing before it.
@@ -267,9 +281,7 @@ impl SoloBus {
         ensures loaded { into.new ≡ bytes_at self.now.world.memory address (length into.old) }
         ensures adapter { IsAdapter self.now.world.adapter }
     {
-        // A call of the adapter, so that the clause `adapter` may say what holds of every one.
-        let _line = self.adapter.line();
-        let _ = self.memory.load(address, into);
+        self.machine.load(address, into);
     }
 
     /// Stores bytes that lie in memory, with nothing before it.
@@ -278,9 +290,7 @@ impl SoloBus {
         ensures state { self.new ≡ record self.old { world = world_after_store address bytes.now self.old.world } }
         ensures adapter { IsAdapter self.old.world.adapter }
     {
-        // A call of the adapter, so that the clause `adapter` may say what holds of every one.
-        let _line = self.adapter.line();
-        let _ = self.memory.store(address, bytes);
+        self.machine.store(address, bytes);
     }
 
     /// The next tick, which waits no longer.

@@ -17,7 +17,7 @@ use Rattle.bus.specs.declared.event.Access.{Access}
 use Rattle.bus.specs.declared.event.Access.TheVariants.{Loads}
 use Rattle.bus.specs.declared.event.Event.{Event}
 use Rattle.bus.specs.declared.event.Event.TheVariants.{Accesses}
-use Rattle.solo_bus.proofs.SoloAccesses.{happens_accesses, no_access}
+use Rattle.bus.proofs.StepsThenAccess.{happens_accesses, no_access, past-with_access}
 use Rattle.stations.proofs.Places.{set-after, set-same}
 use Rattle.stations.specs.AtomicSteps.{At, OccursAt, tick_of}
 use Rattle.stations.specs.Stations.{StationState, stations_after, wire_of, world_at}
@@ -31,15 +31,6 @@ use Rattle.stations.specs.AtomicRuns.{counted_of, events_at, most_accesses, note
 use Rattle.stations.specs.Retelling.{Prepared, Retells, SameLent, bytes_here, world_here}
 use Rattle.stations.specs.RetellingLaws.{same_lent_on}
 use Rattle.stations.specs.declared.lent_bus.LentBus.{LentBus}
-
--- Steps, and then an access.
-past-with_access : (events : List Event) (access : Access) → All IsStep events
-    → record (past_of events) { accesses = access ∷ [] } ≡ past_of (events ++ Accesses access ∷ [])
-past-with_access events access are =
-    let past = past_of events in
-    same_past _ _ _ _ _ _ _ _ _ _ _ _ (sym (append-nil past.put)) (sym (append-nil past.stored)) (omega arith) (omega arith) (omega arith)
-    (ap (λ (accesses : List Access). accesses ++ access ∷ []) (sym (no_access events are)))
-    ∙ sym (past_of-append events (Accesses access ∷ []))
 
 past-here : (host : ℕ) (access : Access) → past_at host (At host (Accesses access) ∷ []) ≡ past_of (Accesses access ∷ [])
 past-here host access = ap (λ (b : Bool). past_of ((if b then Accesses access ∷ [] else []) ++ [])) (eq-eqb host host refl)

@@ -1,27 +1,26 @@
 -- A tick is played.
-use Rattle.std.proofs.Common.{◌≡◌, ◌≢◌, ◌<◌, ◌↔◌, IsTrue, ℕ, Bool, true, false, List, [], ◌∷◌, Option, Some, length, slice_get}
+use Rattle.std.proofs.Common.{◌≡◌, ◌≢◌, ◌<◌, ◌↔◌, IsNone, IsTrue, ℕ, Bool, true, false, List, [], ◌∷◌, Option, Some, length, slice_get}
 use Rattle.std.proofs.Common.{slice_set}
 use Rattle.std.proofs.Common.{option_map, refl, sym, ap, subst, ◌∙◌}
 use Rattle.circular_buffer.proofs.Places.{slice_get-set_other}
 use Rattle.rx_engine.specs.declared.arrival.Fate.{Fate}
 use Rattle.eeprom.specs.Eerd.{is_pending}
 use Rattle.mdic_phy.specs.Mdic.{has_work}
-use Rattle.adapter.specs.Outcomes.{answer_with, put_by}
+use Rattle.adapter.specs.Outcomes.{FrameOutcome, framed, oldest, put_by, with_frame}
 use Rattle.adapter.specs.State.{AdapterState, IsAdapter}
 use Rattle.adapter.specs.Steps.{Answers, ticked}
+use Rattle.adapter.specs.Transmitting.{PutAnswers}
 use Rattle.adapter.specs.declared.step.StepKind.{StepKind}
 use Rattle.adapter.specs.declared.step.StepKind.TheVariants.{EepromTick, PhyTick, RxData, RxDone, TxPut, TxTake}
-use Rattle.adapter.specs.declared.step.StepOutcome.{StepOutcome}
-use Rattle.adapter.specs.declared.step.StepOutcome.TheVariants as small
-use Rattle.adapter.specs.declared.step.Stepped.{Stepped}
-use Rattle.adapter.specs.declared.step.Stepped.TheVariants as stepped
+use Rattle.adapter.specs.declared.outcome.Outcome.{Outcome}
+use Rattle.adapter.specs.declared.outcome.Outcome.TheVariants as stepped
 use Rattle.bus.specs.Trails.{Occurs, past_of_event}
 use Rattle.bus.specs.declared.event.Event.{Event}
 use Rattle.bus.specs.declared.event.Event.TheVariants.{Arrives, Steps}
 use Rattle.stations.specs.AtomicSteps.{At, DeliversNoted, FindsNothing, Idles, IsDelivered, OccursAt, Plays, PlaysNoted, SuitsWire}
-use Rattle.stations.specs.Outcomes.{IsNoted, OutcomeList, answer_without_frame, outcome_of_step}
+use Rattle.stations.specs.Outcomes.{IsNoted, OutcomeList}
 use Rattle.stations.specs.Stations.{StationState, WireHasRoom, backlog_of, station_after, wire_at, wire_of, with_frames, world_of}
-use Rattle.stations.specs.declared.tick.Outcome.TheVariants.{Delivered, Nothing, WireFull}
+use Rattle.adapter.specs.declared.outcome.Outcome.TheVariants.{Delivered, Nothing, WireFull}
 use Rattle.stations.specs.declared.tick.Tick.{Tick}
 use Rattle.stations.specs.declared.tick.Tick.TheVariants.{Deliver, Step}
 use Rattle.stations.proofs.Places.{none-anywhere, set-after, set-same, spread-after}
@@ -33,7 +32,7 @@ none-ticked true = refl
 none-ticked false = refl
 
 -- what a step's answer tells of a frame is what happened
-pub put-is : (kind : StepKind) (free : Bool) (memory : List ℕ) (adapter : AdapterState) (answer : Stepped)
+pub put-is : (kind : StepKind) (free : Bool) (memory : List ℕ) (adapter : AdapterState) (answer : FrameOutcome)
     → Answers kind free memory adapter answer → put_by answer ≡ (past_of_event (Steps kind free answer)).put
 put-is TxPut free memory adapter answer answers = refl
 put-is TxTake free memory adapter (stepped.Put frame) answers = absurd answers
@@ -46,7 +45,7 @@ put-is EepromTick free memory adapter answer answers = ap put_by answers ∙ non
 put-is PhyTick free memory adapter answer answers = ap put_by answers ∙ none-ticked (has_work adapter.mdic adapter.phy)
 
 -- a step of another kind than TxPut puts nothing
-pub put-none : (kind : StepKind) (free : Bool) (memory : List ℕ) (adapter : AdapterState) (answer : Stepped) → kind ≢ TxPut
+pub put-none : (kind : StepKind) (free : Bool) (memory : List ℕ) (adapter : AdapterState) (answer : FrameOutcome) → kind ≢ TxPut
     → Answers kind free memory adapter answer → put_by answer ≡ []
 put-none TxPut free memory adapter answer other answers = absurd (other refl)
 put-none TxTake free memory adapter answer other answers = put-is TxTake free memory adapter answer answers
@@ -55,17 +54,46 @@ put-none RxDone free memory adapter answer other answers = put-is RxDone free me
 put-none EepromTick free memory adapter answer other answers = put-is EepromTick free memory adapter answer answers
 put-none PhyTick free memory adapter answer other answers = put-is PhyTick free memory adapter answer answers
 
--- an outcome of such a step is none of a frame, and tells the whole answer
-pub outcome-whole : (outcome : StepOutcome) (frame : List ℕ) → put_by (answer_with frame outcome) ≡ []
-    → (outcome ≢ small.Put) × (answer_with frame outcome ≡ answer_without_frame outcome)
-outcome-whole small.Put frame none = absurd (cc)
-outcome-whole small.Took frame none = ((λ is. cc), refl)
-outcome-whole small.WireFull frame none = ((λ is. cc), refl)
-outcome-whole small.Moved frame none = ((λ is. cc), refl)
-outcome-whole small.Done frame none = ((λ is. cc), refl)
-outcome-whole small.Ticked frame none = ((λ is. cc), refl)
-outcome-whole small.Nothing frame none = ((λ is. cc), refl)
-outcome-whole small.Fault frame none = ((λ is. cc), refl)
+-- the outcome of a tick of the EEPROM or the PHY has no frame
+ticked-no_frame : (works : Bool) (outcome : Outcome (Unit {0})) (frame other : List ℕ) → with_frame frame outcome ≡ ticked works
+    → with_frame frame outcome ≡ with_frame other outcome
+ticked-no_frame true (stepped.Put u) frame other is = absurd (cc)
+ticked-no_frame true (stepped.Delivered u fate) frame other is = absurd (cc)
+ticked-no_frame true _ frame other is = refl
+ticked-no_frame false (stepped.Put u) frame other is = absurd (cc)
+ticked-no_frame false (stepped.Delivered u fate) frame other is = absurd (cc)
+ticked-no_frame false _ frame other is = refl
+
+-- the outcome of a step of another kind than TxPut has no frame, so it is the same with any
+pub no-frame : (kind : StepKind) (free : Bool) (memory : List ℕ) (adapter : AdapterState) (outcome : Outcome (Unit {0}))
+    (frame other : List ℕ) → kind ≢ TxPut → Answers kind free memory adapter (with_frame frame outcome)
+    → with_frame frame outcome ≡ with_frame other outcome
+no-frame TxPut free memory adapter outcome frame other stays answers = absurd (stays refl)
+no-frame TxTake free memory adapter (stepped.Put u) frame other stays answers = absurd answers
+no-frame TxTake free memory adapter (stepped.Delivered u fate) frame other stays answers = absurd answers
+no-frame TxTake free memory adapter _ frame other stays answers = refl
+no-frame RxData free memory adapter (stepped.Put u) frame other stays answers = absurd answers
+no-frame RxData free memory adapter (stepped.Delivered u fate) frame other stays answers = absurd answers
+no-frame RxData free memory adapter _ frame other stays answers = refl
+no-frame RxDone free memory adapter (stepped.Put u) frame other stays answers = absurd answers
+no-frame RxDone free memory adapter (stepped.Delivered u fate) frame other stays answers = absurd answers
+no-frame RxDone free memory adapter _ frame other stays answers = refl
+no-frame EepromTick free memory adapter outcome frame other stays answers =
+    ticked-no_frame (is_pending adapter.eerd) outcome frame other answers
+no-frame PhyTick free memory adapter outcome frame other stays answers =
+    ticked-no_frame (has_work adapter.mdic adapter.phy) outcome frame other answers
+
+-- a step TxPut that finds a frame and a free wire puts the oldest
+pub puts-oldest : (adapter : AdapterState) (outcome : Outcome (Unit {0})) → adapter.transmitter.buffer ≢ []
+    → PutAnswers true adapter (framed outcome adapter) → framed outcome adapter ≡ stepped.Put (oldest adapter.transmitter.buffer)
+puts-oldest adapter (stepped.Put u) some answers = refl
+puts-oldest adapter stepped.Nothing some answers = absurd (some answers)
+puts-oldest adapter stepped.WireFull some answers = let full = answers.1 in absurd (cc)
+puts-oldest adapter _ some answers = absurd answers
+
+-- what is there isn't nothing
+pub not-none : {A : Type 0} (found : Option A) (one : A) → found ≡ Some one → IsNone found → ⊥
+not-none found one is none = let no : true ≡ false = subst IsNone is none in cc
 
 -- the wire that a station is on
 pub on-wire : (ss : List StationState) (host wire : ℕ) (s : StationState) → slice_get ss host ≡ Some s → wire_at ss host ≡ Some wire
@@ -118,12 +146,13 @@ plays-no_delivery ss host s new below there same none =
     }
 
 -- a step whose frame, if it put one, then waits at each other end
-pub plays-step : (ss final : List StationState) (host wire : ℕ) (s new : StationState) (kind : StepKind) (free : Bool) (answer : Stepped)
-    → host < length ss → slice_get ss host ≡ Some s → wire ≡ s.wire → (kind ≡ TxPut → IsTrue free ↔ WireHasRoom ss host wire)
+pub plays-step : (ss final : List StationState) (host wire : ℕ) (s new : StationState) (kind : StepKind) (free : Bool)
+    (answer : FrameOutcome) → host < length ss → slice_get ss host ≡ Some s → wire ≡ s.wire
+    → (kind ≡ TxPut → IsTrue free ↔ WireHasRoom ss host wire)
     → IsAdapter s.world.adapter
     → Answers kind free s.world.memory s.world.adapter answer → new ≡ station_after (Steps kind free answer) s
     → ((k : ℕ) → slice_get final k ≡ option_map (with_frames host wire (put_by answer) k) (slice_get (slice_set ss host new) k))
-    → Plays ss (Step host kind) (outcome_of_step answer) final
+    → Plays ss (Step host kind) answer final
 plays-step ss final host wire s new kind free answer below there on finds adapter answers is each =
     let event = Steps kind free answer in
     let put = put-is kind free s.world.memory s.world.adapter answer answers in
@@ -142,40 +171,41 @@ plays-step ss final host wire s new kind free answer below there on finds adapte
     }
 
 -- a step of another kind, which asks for no room
-pub plays-stays : (ss : List StationState) (host : ℕ) (s new : StationState) (kind : StepKind) (answer : Stepped) → host < length ss
+pub plays-stays : (ss : List StationState) (host : ℕ) (s new : StationState) (kind : StepKind) (answer : FrameOutcome) → host < length ss
     → slice_get ss host ≡ Some s → kind ≢ TxPut → IsAdapter s.world.adapter → put_by answer ≡ []
     → Answers kind true s.world.memory s.world.adapter answer → new ≡ station_after (Steps kind true answer) s
-    → Plays ss (Step host kind) (outcome_of_step answer) (slice_set ss host new)
+    → Plays ss (Step host kind) answer (slice_set ss host new)
 plays-stays ss host s new kind answer below there other adapter none answers is =
     plays-step ss (slice_set ss host new) host s.wire s new kind true answer below there refl
     (λ same. absurd (other same)) adapter answers is
     (λ k. sym (ap (λ (put : List (List ℕ)). option_map (with_frames host s.wire put k) (slice_get (slice_set ss host new) k)) none
     ∙ none-anywhere host s.wire k (slice_get (slice_set ss host new) k)))
 
--- a step that could put, where it puts nothing
-plays-no_put : (ss : List StationState) (host wire : ℕ) (s new : StationState) (free : Bool) (answer : Stepped) → host < length ss
-    → slice_get ss host ≡ Some s → wire ≡ s.wire → IsTrue free ↔ WireHasRoom ss host wire → IsAdapter s.world.adapter → new ≡ s
+-- a step TxPut that puts nothing
+plays-no_put : (ss : List StationState) (host wire : ℕ) (s : StationState) (free : Bool) (answer : FrameOutcome) → host < length ss
+    → slice_get ss host ≡ Some s → wire ≡ s.wire → IsTrue free ↔ WireHasRoom ss host wire → IsAdapter s.world.adapter
     → Answers TxPut free s.world.memory s.world.adapter answer → station_after (Steps TxPut free answer) s ≡ s → put_by answer ≡ []
-    → Plays ss (Step host TxPut) (outcome_of_step answer) (slice_set ss host new)
-plays-no_put ss host wire s new free answer below there on finds adapter same answers stays none =
-    plays-step ss (slice_set ss host new) host wire s new TxPut free answer below there on (λ kind. finds) adapter answers
-    (same ∙ sym stays)
-    (λ k. sym (ap (λ (put : List (List ℕ)). option_map (with_frames host wire put k) (slice_get (slice_set ss host new) k)) none
-    ∙ none-anywhere host wire k (slice_get (slice_set ss host new) k)))
+    → Plays ss (Step host TxPut) answer ss
+plays-no_put ss host wire s free answer below there on finds adapter answers stays none =
+    plays-step ss ss host wire s s TxPut free answer below there on (λ kind. finds) adapter answers (sym stays)
+    (λ k. sym (ap (λ (all : List StationState). option_map (with_frames host wire (put_by answer) k) (slice_get all k))
+    (set-same ss host s below there)
+    ∙ ap (λ (put : List (List ℕ)). option_map (with_frames host wire put k) (slice_get ss k)) none
+    ∙ none-anywhere host wire k (slice_get ss k)))
 
 -- no frame is there
-pub plays-no_frame : (ss : List StationState) (host wire : ℕ) (s new : StationState) (free : Bool) → host < length ss
-    → slice_get ss host ≡ Some s → wire ≡ s.wire → IsTrue free ↔ WireHasRoom ss host wire → IsAdapter s.world.adapter → new ≡ s
-    → s.world.adapter.transmitter.buffer ≡ [] → Plays ss (Step host TxPut) Nothing (slice_set ss host new)
-plays-no_frame ss host wire s new free below there on finds adapter same empty =
-    plays-no_put ss host wire s new free stepped.Nothing below there on finds adapter same empty refl refl
+pub plays-no_frame : (ss : List StationState) (host wire : ℕ) (s : StationState) (free : Bool) → host < length ss
+    → slice_get ss host ≡ Some s → wire ≡ s.wire → IsTrue free ↔ WireHasRoom ss host wire → IsAdapter s.world.adapter
+    → s.world.adapter.transmitter.buffer ≡ [] → Plays ss (Step host TxPut) Nothing ss
+plays-no_frame ss host wire s free below there on finds adapter empty =
+    plays-no_put ss host wire s free stepped.Nothing below there on finds adapter empty refl refl
 
 -- another end has no room for it
-pub plays-wire_full : (ss : List StationState) (host wire : ℕ) (s new : StationState) (free : Bool) → host < length ss
-    → slice_get ss host ≡ Some s → wire ≡ s.wire → IsTrue free ↔ WireHasRoom ss host wire → IsAdapter s.world.adapter → new ≡ s
-    → s.world.adapter.transmitter.buffer ≢ [] → free ≡ false → Plays ss (Step host TxPut) WireFull (slice_set ss host new)
-plays-wire_full ss host wire s new free below there on finds adapter same some full =
-    plays-no_put ss host wire s new free stepped.WireFull below there on finds adapter same (some, full) refl refl
+pub plays-wire_full : (ss : List StationState) (host wire : ℕ) (s : StationState) (free : Bool) → host < length ss
+    → slice_get ss host ≡ Some s → wire ≡ s.wire → IsTrue free ↔ WireHasRoom ss host wire → IsAdapter s.world.adapter
+    → s.world.adapter.transmitter.buffer ≢ [] → free ≡ false → Plays ss (Step host TxPut) WireFull ss
+plays-wire_full ss host wire s free below there on finds adapter some full =
+    plays-no_put ss host wire s free stepped.WireFull below there on finds adapter (some, full) refl refl
 
 -- The oldest frame that waits at a host's end is delivered and noted, or that none waits.
 pub notes-delivery : (ss : List StationState) (host : ℕ) (s new : StationState) (accesses : ℕ) (before behind : OutcomeList)

@@ -11,7 +11,7 @@ use Rattle.stations.specs.AtomicSteps.{At, AtomicStep, Idles, PlaysNoted, tick_o
 use Rattle.stations.specs.Outcomes.{OutcomeList}
 use Rattle.stations.specs.Stations.{StationState}
 use Rattle.stations.specs.declared.outcomes.Numbered.{Numbered}
-use Rattle.stations.specs.declared.tick.Outcome.{Outcome}
+use Rattle.adapter.specs.Outcomes.{FrameOutcome}
 use Rattle.stations.specs.declared.tick.Tick.{Tick}
 use Rattle.stations.specs.declared.tick.Tick.TheVariants.{Deliver, Go, Step}
 use Rattle.stations.specs.AtomicRunLaws.{leads_join, noted_join}
@@ -77,7 +77,7 @@ plays-more old mid new ticks tick n before between behind plays other one =
           ∙ append_assoc before.list (noted_of n plays.steps) (record { accesses = n; outcome = one.outcome } ∷ [])
           ∙ ap (λ (list : List Numbered). before.list ++ list)
           (ap (λ (list : List Numbered). noted_of n plays.steps ++ list)
-          (ap (λ (o : Outcome). (let x : Numbered = record { accesses = n; outcome = o } in x) ∷ []) (sym one.plays.outcome_is)
+          (ap (λ (o : FrameOutcome). (let x : Numbered = record { accesses = n; outcome = o } in x) ∷ []) (sym one.plays.outcome_is)
           ∙ sym (append-nil (numbered n step) ∙ refl)
           ∙ ap (λ (list : List Numbered). list ++ []) (sym (answers.noted n))
           ∙ ap (λ (k : ℕ). noted_of k (step ∷ [])) (sym (counted-ticks n plays.steps plays.are)))

@@ -7,10 +7,10 @@ use Rattle.adapter.specs.declared.step.StepKind.TheVariants.{TxPut}
 use Rattle.bus.specs.Trails.{Occurs}
 use Rattle.bus.specs.declared.event.Event.{Event}
 use Rattle.bus.specs.declared.event.Event.TheVariants.{Accesses, Arrives, Steps}
-use Rattle.stations.specs.Outcomes.{IsNoted, OutcomeList, outcome_of_step}
+use Rattle.stations.specs.Outcomes.{IsNoted, OutcomeList}
 use Rattle.stations.specs.Stations.{StationState, WireHasRoom, backlog_at, station_after, stations_after, wire_at, world_at}
-use Rattle.stations.specs.declared.tick.Outcome.{Outcome}
-use Rattle.stations.specs.declared.tick.Outcome.TheVariants.{Delivered, Nothing}
+use Rattle.adapter.specs.Outcomes.{FrameOutcome}
+use Rattle.adapter.specs.declared.outcome.Outcome.TheVariants.{Delivered, Nothing}
 use Rattle.stations.specs.declared.tick.Tick.{Tick}
 use Rattle.stations.specs.declared.tick.Tick.TheVariants.{Deliver, Go, Step}
 
@@ -26,8 +26,8 @@ tick_of_event host (Steps kind wire_free answer) = Step host kind
 tick_of_event host (Arrives frame fate) = Deliver host
 tick_of_event host (Accesses access) = Go
 
-abbrev pub outcome_of_event : Event → Outcome
-outcome_of_event (Steps kind wire_free answer) = outcome_of_step answer
+abbrev pub outcome_of_event : Event → FrameOutcome
+outcome_of_event (Steps kind wire_free outcome) = outcome
 outcome_of_event (Arrives frame fate) = Delivered frame fate
 outcome_of_event (Accesses access) = Nothing
 
@@ -35,7 +35,7 @@ abbrev pub tick_of : AtomicStep → Tick
 tick_of (At host event) = tick_of_event host event
 tick_of (Idles tick) = tick
 
-abbrev pub outcome_of : AtomicStep → Outcome
+abbrev pub outcome_of : AtomicStep → FrameOutcome
 outcome_of (At host event) = outcome_of_event event
 outcome_of (Idles tick) = Nothing
 
@@ -88,7 +88,7 @@ after (At host event) stations = stations_after host event stations
 after (Idles tick) stations = stations
 
 -- A tick is played, and this comes of it.
-pub record Plays (old : List StationState) (tick : Tick) (outcome : Outcome) (new : List StationState) : Type 0 where
+pub record Plays (old : List StationState) (tick : Tick) (outcome : FrameOutcome) (new : List StationState) : Type 0 where
   pub step : AtomicStep
   pub tick_is : tick_of step ≡ tick
   pub outcome_is : outcome_of step ≡ outcome
@@ -99,6 +99,6 @@ pub record Plays (old : List StationState) (tick : Tick) (outcome : Outcome) (ne
 -- And it is noted, behind so many accesses.
 pub record PlaysNoted (old : List StationState) (tick : Tick) (accesses : ℕ) (before behind : OutcomeList)
     (new : List StationState) : Type 0 where
-  pub outcome : Outcome
+  pub outcome : FrameOutcome
   pub plays : Plays old tick outcome new
   pub noted : IsNoted accesses outcome before behind

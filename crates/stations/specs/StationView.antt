@@ -5,11 +5,10 @@ use Rattle.stations.specs.declared.station.Station.TheInside.{Inside}
 
 abbrev pub station_of : Inside → StationState
 station_of inside = record {
-  world = record { memory = inside.memory; adapter = inside.adapter };
+  world = inside.machine.world;
   wire = inside.wire;
   backlog = inside.backlog.frames;
 }
 
 pub record HasEnd (inside : Inside) : Type 0 where
   pub backlog : inside.backlog.capacity ≡ end_frames
-  pub closed : inside.closed.capacity ≡ 0

@@ -21,4 +21,4 @@ pub use lent_bus::LentBus;
 pub use outcomes::{Numbered, Outcomes};
 pub use playing::{line_at, load_at, play, read_at, size_at, step_at, store_at, write_at};
 pub use station::{END_FRAMES, Station};
-pub use tick::{Outcome, Tick};
+pub use tick::Tick;

@@ -1,8 +1,7 @@
 // The outcomes of a call's ticks, in order.
 
 use crate::heap_frame::HeapFrame;
-use crate::tick::Outcome;
-use adapter::Fate;
+use adapter::Outcome;
 use std::alloc::{AllocError, Global};
 use std::marker::Model;
 
@@ -12,7 +11,7 @@ pub struct Numbered {
     /// How many accesses the call had made.
     pub accesses: u64,
     /// What came of the tick.
-    pub outcome: Outcome,
+    pub outcome: Outcome<HeapFrame>,
 }
 
 /// The outcomes of a call's ticks, the first first, with room for as many as were asked for, and for a frame of each.
@@ -38,9 +37,11 @@ impl Model for Outcomes {
 }
 
 impl Outcomes {
-    ghost use Rattle.std.specs.Prelude.{◌≡◌, ◌≤◌, ◌<◌, [], IfOk, length};
-    ghost use Rattle.stations.specs.Outcomes.{IsNoted};
-    ghost use Rattle.stations.specs.declared.tick.Outcome.TheVariants.{Delivered, Put};
+    ghost use Rattle.std.specs.Prelude.{◌≡◌, ◌≤◌, ◌<◌, [], IfOk, List, length, ℕ};
+    ghost use Rattle.descriptors.specs.Frames.{longest_frame};
+    ghost use Rattle.adapter.specs.Outcomes.{with_frame};
+    ghost use Rattle.stations.specs.Outcomes.{IsNoted, OutcomeList};
+    ghost use Rattle.adapter.specs.declared.outcome.Outcome.TheVariants.{Put};
 
     /// No outcome, and no room for any. It takes no memory.
     pub fn new(alloc: Global) -> Outcomes
@@ -69,38 +70,33 @@ impl Outcomes {
         Ok(Outcomes { list, spare })
     }
 
-    /// Notes an outcome, behind the others.
-    pub fn note(&mut self, accesses: u64, outcome: Outcome)
+    /// Notes an outcome after the others, with its frame, if it has one. The frame has at most 1,518 bytes.
+    pub fn note(&mut self, accesses: u64, outcome: Outcome<()>, frame: &[u8])
         requires room { 0 < self.old.room }
-        ensures { IsNoted accesses outcome self.old self.new }
+        requires fits { length frame.now ≤ longest_frame }
+        ensures { IsNoted accesses (with_frame frame.now outcome) self.old self.new }
     {
-        let _ = self.spare.pop();
-        let _ = self.list.push(Numbered { accesses, outcome });
-    }
-
-    /// Notes that a frame was put onto the wire, of at most 1,518 bytes.
-    pub(crate) fn note_put(&mut self, accesses: u64, frame: &[u8])
-        requires room { 0 < self.old.room }
-        requires fits { length frame.now ≤ 1518 }
-        ensures { IsNoted accesses (Put frame.now) self.old self.new }
-    {
-        if let Some(mut put) = self.spare.pop() {
-            put.fill(frame);
-            let outcome = Outcome::Put(put);
+        if let Some(mut kept) = self.spare.pop() {
+            kept.fill(frame);
+            let outcome = outcome.with_frame(kept);
             let _ = self.list.push(Numbered { accesses, outcome });
         }
     }
 
-    /// Notes that a frame of at most 1,518 bytes was delivered, and met this fate.
-    pub(crate) fn note_delivered(&mut self, accesses: u64, frame: &[u8], fate: Fate)
-        requires room { 0 < self.old.room }
-        requires fits { length frame.now ≤ 1518 }
-        ensures { IsNoted accesses (Delivered frame.now fate) self.old self.new }
+    /// The frame of the last outcome, if it has one; otherwise no byte.
+    pub(crate) fn last_frame(&self) -> &[u8]
+        ensures frame { (accesses : ℕ) (frame : List ℕ) (before : OutcomeList)
+            → IsNoted accesses (Put frame) before self.now → result.now ≡ frame }
+        ensures fits { length result.now ≤ longest_frame }
     {
-        if let Some(mut delivered) = self.spare.pop() {
-            delivered.fill(frame);
-            let outcome = Outcome::Delivered(delivered, fate);
-            let _ = self.list.push(Numbered { accesses, outcome });
+        match self.list.as_slice().last() {
+            Some(
+                Numbered {
+                    outcome: Outcome::Put(frame),
+                    ..
+                },
+            ) => frame.as_slice(),
+            _ => &[],
         }
     }
 

@@ -1,25 +1,25 @@
 // What is played on all hosts.
 
-ghost use Rattle.std.specs.Prelude.{◌≡◌, ◌<◌, ◌↔◌, ◌≢◌, ℕ, [], length, option_map, slice_get, IsTrue, Some, true};
-ghost use Rattle.adapter.specs.Outcomes.{put_by, stepped_of};
+ghost use Rattle.std.specs.Prelude.{◌≡◌, ◌<◌, ◌≤◌, ◌↔◌, ◌≢◌, ◌∷◌, ℕ, [], length, option_map, slice_get, IsTrue};
+ghost use Rattle.std.specs.Prelude.{Some, true};
+ghost use Rattle.adapter.specs.Outcomes.{framed};
 ghost use Rattle.adapter.specs.Registers.{answer_at};
 ghost use Rattle.adapter.specs.State.{IsAdapter};
-ghost use Rattle.adapter.specs.Steps.{Answers};
 ghost use Rattle.adapter.specs.declared.step.StepKind.TheVariants.{TxPut};
-ghost use Rattle.adapter.specs.declared.step.StepOutcome.TheVariants as small;
+ghost use Rattle.bus.specs.Trails.{Occurs};
 ghost use Rattle.bus.specs.declared.event.Access.TheVariants.{Reads, Stores, Writes};
 ghost use Rattle.bus.specs.declared.event.Event.TheVariants.{Accesses, Steps};
 ghost use Rattle.dma_memory.specs.HostMemory.{bytes_at, LiesIn};
 ghost use Rattle.registers.specs.Bits.{Meet};
 ghost use Rattle.stations.specs.AtomicSteps.{PlaysNoted};
-ghost use Rattle.stations.specs.Outcomes.{IsNoted, answer_without_frame, outcome_of_step};
+ghost use Rattle.descriptors.specs.Frames.{longest_frame};
 ghost use Rattle.stations.specs.Stations.{WireHasRoom, stations_after, with_frames, wire_at, world_at};
 ghost use Rattle.stations.specs.declared.tick.Tick.TheVariants as tick;
 
 use crate::outcomes::Outcomes;
 use crate::station::Station;
-use crate::tick::{Outcome, Tick};
-use adapter::{StepKind, StepOutcome, Stepped};
+use crate::tick::Tick;
+use adapter::{Outcome, StepKind};
 
 /// Plays a tick, and notes what came of it behind so many accesses of the call.
 pub fn play(stations: &mut [Station], tick: Tick, accesses: u64, outcomes: &mut Outcomes)
@@ -27,7 +27,7 @@ pub fn play(stations: &mut [Station], tick: Tick, accesses: u64, outcomes: &mut 
     ensures { PlaysNoted stations.old tick accesses outcomes.old outcomes.new stations.new }
 {
     match tick {
-        Tick::Go => outcomes.note(accesses, Outcome::Nothing),
+        Tick::Go => outcomes.note(accesses, Outcome::Nothing, &[]),
         Tick::Step(host, kind) => step(stations, host, kind, accesses, outcomes),
         Tick::Deliver(host) => deliver(stations, host, accesses, outcomes),
     }
@@ -45,19 +45,19 @@ fn step(
     ensures { PlaysNoted stations.old (tick.Step host kind) accesses outcomes.old outcomes.new stations.new }
 {
     if host >= stations.len() {
-        outcomes.note(accesses, Outcome::Nothing);
+        outcomes.note(accesses, Outcome::Nothing, &[]);
         return;
     }
     match kind {
         StepKind::TxPut => put(stations, host, accesses, outcomes),
         _ => {
-            let stepped = stations[host].step(kind);
-            note_step(stepped, accesses, outcomes);
+            let outcome = stations[host].step(kind, true);
+            outcomes.note(accesses, outcome, &[]);
         }
     }
 }
 
-/// A host's adapter puts its oldest frame onto the wire, if each other end has room: it waits there then.
+/// A host's adapter puts its oldest frame onto the wire, if each other end has room. The frame then waits there.
 fn put(stations: &mut [Station], host: usize, accesses: u64, outcomes: &mut Outcomes)
     requires there { host < length stations.old }
     requires room { 0 < outcomes.old.room }
@@ -65,33 +65,17 @@ fn put(stations: &mut [Station], host: usize, accesses: u64, outcomes: &mut Outc
 {
     let wire = stations[host].wire();
     let wire_free = has_room(stations, host, wire);
-    if stations[host].has_nothing_to_put() {
-        outcomes.note(accesses, Outcome::Nothing);
-    } else if wire_free {
-        put_oldest(stations, host, wire, accesses, outcomes);
-    } else {
-        outcomes.note(accesses, Outcome::WireFull);
+    let Some(frame) = stations[host].to_put() else {
+        outcomes.note(accesses, Outcome::Nothing, &[]);
+        return;
+    };
+    if !wire_free {
+        outcomes.note(accesses, Outcome::WireFull, &[]);
+        return;
     }
-}
-
-/// A host's adapter puts its oldest frame onto the wire, at each other end of which there is room.
-#[inline(never)]
-fn put_oldest(
-    stations: &mut [Station],
-    host: usize,
-    wire: usize,
-    accesses: u64,
-    outcomes: &mut Outcomes,
-)
-    requires there { host < length stations.old }
-    requires on_wire { wire_at stations.old host ≡ Some wire }
-    requires free { WireHasRoom stations.old host wire }
-    requires room { 0 < outcomes.old.room }
-    ensures { PlaysNoted stations.old (tick.Step host TxPut) accesses outcomes.old outcomes.new stations.new }
-{
-    let stepped = stations[host].put();
-    spread(stations, host, wire, &stepped);
-    note_put(&stepped, accesses, outcomes);
+    outcomes.note(accesses, Outcome::Put(()), frame);
+    stations[host].step(StepKind::TxPut, true);
+    spread(stations, host, wire, outcomes.last_frame());
 }
 
 /// Whether each other end of the wire has room for a frame more.
@@ -106,50 +90,15 @@ fn has_room(stations: &[Station], sender: usize, wire: usize) -> bool
     true
 }
 
-/// A frame that was put waits at each other end of the wire.
-fn spread(stations: &mut [Station], sender: usize, wire: usize, stepped: &Stepped)
-    requires { put_by stepped.now ≢ [] → WireHasRoom stations.old sender wire }
+/// A frame that was put waits at each other end of the wire, where there is room.
+fn spread(stations: &mut [Station], sender: usize, wire: usize, frame: &[u8])
+    requires room { WireHasRoom stations.old sender wire }
+    requires fits { length frame.now ≤ longest_frame }
     ensures { (k : ℕ) → slice_get stations.new k
-        ≡ option_map (with_frames sender wire (put_by stepped.now) k) (slice_get stations.old k) }
+        ≡ option_map (with_frames sender wire (frame.now ∷ []) k) (slice_get stations.old k) }
 {
-    if let Stepped::Put(frame) = stepped {
-        for place in 0..stations.len() {
-            stations[place].wait(place, sender, wire, frame.as_slice());
-        }
-    }
-}
-
-/// Notes what came of a step that may have put a frame.
-fn note_put(stepped: &Stepped, accesses: u64, outcomes: &mut Outcomes)
-    requires room { 0 < outcomes.old.room }
-    ensures { IsNoted accesses (outcome_of_step stepped.now) outcomes.old outcomes.new }
-{
-    match stepped {
-        Stepped::Took => outcomes.note(accesses, Outcome::Took),
-        Stepped::Put(frame) => outcomes.note_put(accesses, frame.as_slice()),
-        Stepped::WireFull => outcomes.note(accesses, Outcome::WireFull),
-        Stepped::Moved => outcomes.note(accesses, Outcome::Moved),
-        Stepped::Done => outcomes.note(accesses, Outcome::Done),
-        Stepped::Ticked => outcomes.note(accesses, Outcome::Ticked),
-        Stepped::Nothing => outcomes.note(accesses, Outcome::Nothing),
-        Stepped::Fault => outcomes.note(accesses, Outcome::Fault),
-    }
-}
-
-/// Notes what came of a step that put no frame.
-fn note_step(stepped: StepOutcome, accesses: u64, outcomes: &mut Outcomes)
-    requires none { stepped ≢ small.Put }
-    requires room { 0 < outcomes.old.room }
-    ensures { IsNoted accesses (outcome_of_step (answer_without_frame stepped)) outcomes.old outcomes.new }
-{
-    match stepped {
-        StepOutcome::Took => outcomes.note(accesses, Outcome::Took),
-        StepOutcome::WireFull => outcomes.note(accesses, Outcome::WireFull),
-        StepOutcome::Moved => outcomes.note(accesses, Outcome::Moved),
-        StepOutcome::Done => outcomes.note(accesses, Outcome::Done),
-        StepOutcome::Ticked => outcomes.note(accesses, Outcome::Ticked),
-        StepOutcome::Put | StepOutcome::Nothing => outcomes.note(accesses, Outcome::Nothing),
-        StepOutcome::Fault => outcomes.note(accesses, Outcome::Fault),
+    for place in 0..stations.len() {
+        stations[place].wait(place, sender, wire, frame);
     }
 }
 
@@ -159,23 +108,22 @@ fn deliver(stations: &mut [Station], host: usize, accesses: u64, outcomes: &mut 
     ensures { PlaysNoted stations.old (tick.Deliver host) accesses outcomes.old outcomes.new stations.new }
 {
     if host >= stations.len() {
-        outcomes.note(accesses, Outcome::Nothing);
+        outcomes.note(accesses, Outcome::Nothing, &[]);
         return;
     }
     stations[host].deliver(accesses, outcomes);
 }
 
 /// A host's adapter takes a step that puts nothing onto a wire, by itself.
-pub fn step_at(stations: &mut [Station], host: usize, kind: StepKind) -> StepOutcome
+pub fn step_at(stations: &mut [Station], host: usize, kind: StepKind) -> Outcome<()>
     requires there { host < length stations.old }
     requires stays { kind ≢ TxPut }
-    ensures answer { Answers kind true (world_at stations.old host).memory (world_at stations.old host).adapter
-        (stepped_of result (world_at stations.old host).adapter) }
+    ensures occurs { Occurs (Steps kind true (framed result (world_at stations.old host).adapter))
+        (world_at stations.old host) }
     ensures state { stations.new
-        ≡ stations_after host (Steps kind true (stepped_of result (world_at stations.old host).adapter)) stations.old }
-    ensures adapter { IsAdapter (world_at stations.old host).adapter }
+        ≡ stations_after host (Steps kind true (framed result (world_at stations.old host).adapter)) stations.old }
 {
-    stations[host].step(kind)
+    stations[host].step(kind, true)
 }
 
 /// Whether a host's interrupt line is asserted.

@@ -1,9 +1,8 @@
 // One host's adapter, memory and end of a wire.
 
 use crate::outcomes::Outcomes;
-use crate::tick::Outcome;
-use adapter::{Adapter, FrameCounts, StepKind, StepOutcome, Stepped};
-use dma_memory::HostMemory;
+use adapter::{FrameCounts, Outcome, StepKind};
+use bus::Machine;
 use frame_queue::FrameQueue;
 use std::alloc::{AllocError, Global};
 use std::marker::Model;
@@ -16,12 +15,9 @@ pub const END_FRAMES: u8 = 64;
 /// In contracts it is a `StationState`, plain data that `specs/Stations.antt` lists.
 #[derive(Drop)]
 pub struct Station {
-    adapter: Adapter,
-    memory: HostMemory,
+    machine: Machine,
     wire: usize,
     backlog: FrameQueue,
-    /// A wire that never has room.
-    closed: FrameQueue,
 }
 
 impl Model for Station {
@@ -37,44 +33,37 @@ impl Model for Station {
 }
 
 impl Station {
-    ghost use Rattle.std.specs.Prelude.{◌≡◌, ◌≢◌, ◌<◌, ◌≤◌, ◌↔◌, ◌∷◌, [], length, IfOk, IsTrue, true};
-    ghost use Rattle.adapter.specs.Outcomes.{stepped_of};
+    ghost use Rattle.std.specs.Prelude.{◌≡◌, ◌≢◌, ◌<◌, ◌≤◌, ◌↔◌, ◌∷◌, [], length, IfOk, IfSome, IsNone, IsTrue};
+    ghost use Rattle.descriptors.specs.Frames.{longest_frame};
+    ghost use Rattle.adapter.specs.Outcomes.{framed, oldest};
     ghost use Rattle.adapter.specs.Registers.{answer_at};
     ghost use Rattle.adapter.specs.State.{IsAdapter};
-    ghost use Rattle.adapter.specs.Steps.{Answers};
     ghost use Rattle.adapter.specs.World.{world_after_read, world_after_store, world_after_write};
-    ghost use Rattle.adapter.specs.declared.step.StepKind.TheVariants.{TxPut};
+    ghost use Rattle.bus.specs.Trails.{Occurs};
     ghost use Rattle.bus.specs.declared.event.Event.TheVariants.{Steps};
     ghost use Rattle.dma_memory.specs.HostMemory.{bytes_at, LiesIn};
     ghost use Rattle.registers.specs.Bits.{Meet};
     ghost use Rattle.stations.specs.Stations.{HasRoomFrom, station_after, with_frames};
     ghost use Rattle.stations.specs.AtomicSteps.{DeliversNoted};
     ghost use Rattle.stations.specs.Outcomes.{IsNoted};
-    ghost use Rattle.stations.specs.declared.tick.Outcome.TheVariants.{Nothing};
+    ghost use Rattle.adapter.specs.declared.outcome.Outcome.TheVariants.{Nothing};
 
     /// A host on a wire, at whose end no frame waits.
     ///
     /// # Errors
     ///
     /// Want of memory alone.
-    pub fn new(
-        alloc: Global,
-        adapter: Adapter,
-        memory: HostMemory,
-        wire: usize,
-    ) -> Result<Station, AllocError>
+    pub fn new(alloc: Global, machine: Machine, wire: usize) -> Result<Station, AllocError>
         ensures { IfOk result (λ station. station ≡ record {
-          world = record { memory = memory; adapter = adapter };
+          world = machine.world;
           wire = wire;
           backlog = [];
         }) }
     {
         Ok(Station {
-            adapter,
-            memory,
+            machine,
             wire,
             backlog: FrameQueue::new(alloc, END_FRAMES)?,
-            closed: FrameQueue::new(alloc, 0)?,
         })
     }
 
@@ -92,41 +81,26 @@ impl Station {
         ensures received { result.received ≡ self.now.world.adapter.received_packets }
         ensures transmitted { result.transmitted ≡ self.now.world.adapter.transmitted_packets }
     {
-        self.adapter.counts()
+        self.machine.counts()
     }
 
-    /// A step of the adapter that puts nothing onto the wire.
-    pub(crate) fn step(&mut self, kind: StepKind) -> StepOutcome
-        requires stays { kind ≢ TxPut }
-        ensures answer { Answers kind true self.old.world.memory self.old.world.adapter
-            (stepped_of result self.old.world.adapter) }
-        ensures state { self.new ≡ station_after (Steps kind true (stepped_of result self.old.world.adapter)) self.old }
-        ensures adapter { IsAdapter self.old.world.adapter }
+    /// A step of the adapter. `wire_free` says whether each other end of the wire has room for a frame.
+    pub(crate) fn step(&mut self, kind: StepKind, wire_free: bool) -> Outcome<()>
+        ensures occurs { Occurs (Steps kind wire_free (framed result self.old.world.adapter)) self.old.world }
+        ensures state { self.new
+            ≡ station_after (Steps kind wire_free (framed result self.old.world.adapter)) self.old }
     {
-        let unused = &mut self.backlog;
-        self.adapter.step_onto(kind, &mut self.memory, unused)
+        self.machine.step(kind, wire_free)
     }
 
-    /// Whether no frame is there to be put onto the wire. It is tried on one without room, so that nothing changes.
-    pub(crate) fn has_nothing_to_put(&mut self) -> bool
-        ensures none { IsTrue result ↔ (self.old.world.adapter.transmitter.buffer ≡ []) }
-        ensures same { self.new ≡ self.old }
-        ensures adapter { IsAdapter self.old.world.adapter }
+    /// The frame that the adapter puts next, if there is one.
+    pub(crate) fn to_put(&self) -> Option<&[u8]>
+        ensures none { IsNone result ↔ (self.now.world.adapter.transmitter.buffer ≡ []) }
+        ensures oldest { IfSome result (λ frame. frame.now ≡ oldest self.now.world.adapter.transmitter.buffer) }
+        ensures fits { IfSome result (λ frame. length frame.now ≤ longest_frame) }
+        ensures adapter { IsAdapter self.now.world.adapter }
     {
-        let closed = &mut self.closed;
-        let outcome = self
-            .adapter
-            .step_onto(StepKind::TxPut, &mut self.memory, closed);
-        matches!(outcome, StepOutcome::Nothing)
-    }
-
-    /// The adapter puts its oldest frame onto the wire, which is free.
-    pub(crate) fn put(&mut self) -> Stepped
-        ensures answer { Answers TxPut true self.old.world.memory self.old.world.adapter result }
-        ensures state { self.new ≡ station_after (Steps TxPut true result) self.old }
-        ensures adapter { IsAdapter self.old.world.adapter }
-    {
-        self.adapter.step(StepKind::TxPut, &mut self.memory, true)
+        self.machine.to_put()
     }
 
     /// The oldest frame that waits is delivered, if there is one; what came of it is noted.
@@ -137,11 +111,11 @@ impl Station {
         ensures some { self.old.backlog ≢ [] → DeliversNoted self.old accesses outcomes.old outcomes.new self.new }
     {
         let Some(frame) = self.backlog.front() else {
-            outcomes.note(accesses, Outcome::Nothing);
+            outcomes.note(accesses, Outcome::Nothing, &[]);
             return;
         };
-        let fate = self.adapter.arrive(frame);
-        outcomes.note_delivered(accesses, frame, fate);
+        let fate = self.machine.arrive(frame);
+        outcomes.note(accesses, Outcome::Delivered((), fate), frame);
         self.backlog.pop();
     }
 
@@ -155,7 +129,7 @@ impl Station {
     /// A frame that a sender put onto a wire waits at this host's end, if that is another end of the wire.
     pub(crate) fn wait(&mut self, place: usize, sender: usize, wire: usize, frame: &[u8])
         requires room { HasRoomFrom sender wire place self.old }
-        requires fits { length frame.now ≤ 1518 }
+        requires fits { length frame.now ≤ longest_frame }
         ensures { self.new ≡ with_frames sender wire (frame.now ∷ []) place self.old }
     {
         if place != sender && self.wire == wire {
@@ -169,7 +143,7 @@ impl Station {
             ↔ Meet self.now.world.adapter.causes.recorded self.now.world.adapter.causes.mask }
         ensures adapter { IsAdapter self.now.world.adapter }
     {
-        self.adapter.line()
+        self.machine.line()
     }
 
     /// Reads a register.
@@ -178,7 +152,7 @@ impl Station {
         ensures state { self.new ≡ record self.old { world = world_after_read offset self.old.world } }
         ensures adapter { IsAdapter self.old.world.adapter }
     {
-        self.adapter.read(offset)
+        self.machine.read(offset)
     }
 
     /// Writes a register.
@@ -186,7 +160,7 @@ impl Station {
         ensures state { self.new ≡ record self.old { world = world_after_write offset value self.old.world } }
         ensures adapter { IsAdapter self.old.world.adapter }
     {
-        self.adapter.write(offset, value);
+        self.machine.write(offset, value);
     }
 
     /// Loads bytes of the memory.
@@ -195,9 +169,7 @@ impl Station {
         ensures loaded { into.new ≡ bytes_at self.now.world.memory address (length into.old) }
         ensures adapter { IsAdapter self.now.world.adapter }
     {
-        // A call of the adapter, so that the clause `adapter` may say what holds of every one.
-        let _line = self.adapter.line();
-        let _ = self.memory.load(address, into);
+        self.machine.load(address, into);
     }
 
     /// Stores bytes in the memory.
@@ -206,15 +178,13 @@ impl Station {
         ensures state { self.new ≡ record self.old { world = world_after_store address bytes.now self.old.world } }
         ensures adapter { IsAdapter self.old.world.adapter }
     {
-        // A call of the adapter, so that the clause `adapter` may say what holds of every one.
-        let _line = self.adapter.line();
-        let _ = self.memory.store(address, bytes);
+        self.machine.store(address, bytes);
     }
 
     /// How many bytes the memory has.
     pub(crate) fn size(&self) -> u64
         ensures { result ≡ length self.now.world.memory }
     {
-        self.memory.size()
+        self.machine.size()
     }
 }

@@ -2,7 +2,7 @@ use Rattle.std.proofs.Common.{◌≡◌, ap, sym, subst, arith}
 use Rattle.adapter.specs.declared.step.StepKind.TheVariants.{TxTake}
 use Rattle.solo_bus.specs.SoundWorlds.{HasFramesInBuffer}
 use Rattle.adapter.specs.Conditions.{Sound}
-use Rattle.solo_bus.specs.SoloBuses.{SoloState, has_room, solo_stepped}
+use Rattle.solo_bus.specs.SoloBuses.{SoloState, has_room, solo_framed}
 use Rattle.solo_bus.specs.SoundBuses.{taken}
 use Rattle.adapter.specs.World.{World}
 use Rattle.solo_bus.proofs.SoundBuses.{sent-found, sent-has_frames, stepped-sound}
@@ -11,7 +11,7 @@ use Rattle.solo_bus.proofs.sound_buses.with_buffered_frame.Goals as goal
 world-is : (c : goal.After-step) → c.step.new.self.world ≡ taken 4096 c.args.image.now
 world-is c =
     let state : SoloState → World = λ solo. solo.world in
-    sent-found 4096 c.args.image.now (solo_stepped c.step.result c.in_ok-bus.bus) c.in_ok-bus.bus.world c.step.new.self.world
+    sent-found 4096 c.args.image.now (solo_framed c.step.result c.in_ok-bus.bus) c.in_ok-bus.bus.world c.step.new.self.world
     (omega arith) c.in_ok-bus.ensures.world c.step.ensures.answer (ap state c.step.ensures.state)
 
 pub returns-clause-world : goal.returns-clause-world
@@ -21,7 +21,7 @@ pub returns-clause-sound : goal.returns-clause-sound
 returns-clause-sound c =
     let state : SoloState → World = λ solo. solo.world in
     subst (Sound 0 0) (sym (ap state c.step.ensures.state))
-    (stepped-sound TxTake (has_room c.in_ok-bus.bus) (solo_stepped c.step.result c.in_ok-bus.bus) c.in_ok-bus.bus.world
+    (stepped-sound TxTake (has_room c.in_ok-bus.bus) (solo_framed c.step.result c.in_ok-bus.bus) c.in_ok-bus.bus.world
     c.step.ensures.running c.step.ensures.answer c.in_ok-bus.ensures.sound)
 
 pub returns-clause-in_buffer : goal.returns-clause-in_buffer

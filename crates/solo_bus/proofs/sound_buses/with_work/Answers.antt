@@ -2,7 +2,7 @@ use Rattle.std.proofs.Common.{◌≡◌, ap, sym, subst, arith}
 use Rattle.adapter.specs.declared.step.StepKind.TheVariants.{RxData}
 use Rattle.solo_bus.specs.SoundWorlds.{HasWork}
 use Rattle.adapter.specs.Conditions.{Sound}
-use Rattle.solo_bus.specs.SoloBuses.{SoloState, has_room, solo_stepped}
+use Rattle.solo_bus.specs.SoloBuses.{SoloState, has_room, solo_framed}
 use Rattle.solo_bus.specs.SoundBuses.{call, working}
 use Rattle.adapter.specs.World.{World}
 use Rattle.solo_bus.proofs.SoundBuses.{arrived-sound, stepped-sound, working-found, working-has_work}
@@ -11,7 +11,7 @@ use Rattle.solo_bus.proofs.sound_buses.with_work.Goals as goal
 world-is : (c : goal.After-step) → c.step.new.self.world ≡ working 4096 c.args.image.now
 world-is c =
     let state : SoloState → World = λ solo. solo.world in
-    working-found 4096 c.args.image.now c.arrive.result (solo_stepped c.step.result c.arrive.new.self) c.in_ok-bus.bus.world
+    working-found 4096 c.args.image.now c.arrive.result (solo_framed c.step.result c.arrive.new.self) c.in_ok-bus.bus.world
     c.arrive.new.self.world c.step.new.self.world (omega arith)
     c.in_ok-bus.ensures.world c.arrive.ensures.fate (ap state c.arrive.ensures.state) c.step.ensures.answer (ap state c.step.ensures.state)
 
@@ -26,7 +26,7 @@ returns-clause-sound c =
     let before : Sound 0 0 c.arrive.new.self.world = subst (Sound 0 0) (sym (ap state c.arrive.ensures.state)) arrived in
     subst (Sound 0 0) (sym (ap state c.step.ensures.state))
     (stepped-sound RxData (has_room c.arrive.new.self)
-    (solo_stepped c.step.result c.arrive.new.self) c.arrive.new.self.world c.step.ensures.running c.step.ensures.answer before)
+    (solo_framed c.step.result c.arrive.new.self) c.arrive.new.self.world c.step.ensures.running c.step.ensures.answer before)
 
 pub returns-clause-work : goal.returns-clause-work
 returns-clause-work c = subst HasWork (sym (world-is c)) (working-has_work 4096 c.args.image.now)

@@ -1,7 +1,7 @@
 use Rattle.std.proofs.Common.{◌<◌, ◌≤◌, length, slice_index_or, arith, ap}
 use Rattle.std.proofs.lemmas.Option.{slice_get-get_or, slice_get_past}
 use Rattle.stations.specs.Stations.{backlog_of}
-use Rattle.stations.specs.declared.tick.Outcome.TheVariants.{Nothing}
+use Rattle.adapter.specs.declared.outcome.Outcome.TheVariants.{Nothing}
 use Rattle.stations.specs.declared.tick.Tick.TheVariants.{Deliver}
 use Rattle.stations.proofs.PlayedTicks.{notes-delivery, plays-nothing}
 use Rattle.stations.proofs.playing.deliver.Goals as goal

@@ -3,7 +3,7 @@ use Rattle.stations.proofs.PlayedTicks.{plays-nothing}
 use Rattle.stations.specs.AtomicSteps.{PlaysNoted}
 use Rattle.stations.specs.declared.tick.Tick.{Tick}
 use Rattle.stations.specs.declared.tick.Tick.TheVariants.{Go}
-use Rattle.stations.specs.declared.tick.Outcome.TheVariants.{Nothing}
+use Rattle.adapter.specs.declared.outcome.Outcome.TheVariants.{Nothing}
 use Rattle.stations.proofs.playing.play.Goals as goal
 
 pub returns-in-Go : goal.returns-in-Go

@@ -1,7 +1,7 @@
 use Rattle.std.proofs.Common.{◌≡◌, List, ℕ, sym, ap, subst, ◌∙◌}
 use Rattle.rx_engine.specs.declared.arrival.Fate.{Fate}
 use Rattle.rx_engine.specs.declared.arrival.Fate.TheVariants.{Stored}
-use Rattle.adapter.specs.declared.step.Stepped.TheVariants.{Moved, Done}
+use Rattle.adapter.specs.declared.outcome.Outcome.TheVariants.{Moved, Done}
 use Rattle.adapter.specs.Receiving.{after_arrive, after_data, after_done, memory_after_data_step, memory_after_done_step, CanMoveFrame}
 use Rattle.adapter.specs.State.{AdapterState}
 use Rattle.pcap_bench.specs.Lane.{LaneState}

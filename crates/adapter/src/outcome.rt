@@ -1,0 +1,56 @@
+// Outcomes of steps and deliveries.
+
+use rx_engine::Fate;
+
+/// What came of a step of an adapter, or of a delivery to it.
+///
+/// `F` is what an outcome holds of its frame. [`step`](crate::Adapter::step) holds nothing of it (`()`), as
+/// [`to_put`](crate::Adapter::to_put) lends the frame before the step. Lists of outcomes hold the frame itself. A
+/// contract that compares outcomes speaks of the frame's bytes (`FrameOutcome`).
+#[derive(Clone, Copy, Debug, Drop, PartialEq, Eq)]
+pub enum Outcome<F> {
+    /// A frame was taken from the transmit ring.
+    Took,
+    /// This frame was put onto the wire.
+    Put(F),
+    /// The wire has no room for the frame that is to be put. Nothing changed.
+    WireFull,
+    /// A frame was written to memory. Its descriptor isn't written back yet.
+    Moved,
+    /// A receive descriptor was written back.
+    Done,
+    /// This frame was delivered, and met this fate.
+    Delivered(F, Fate),
+    /// The EEPROM or the PHY did something.
+    Ticked,
+    /// There was nothing to do. Nothing changed.
+    Nothing,
+    /// A ring, a descriptor or its data couldn't be used. The engine is stopped until a reset. Memory and the indices
+    /// of the rings are unchanged.
+    Fault,
+}
+
+impl<F> Outcome<F> {
+    ghost use Rattle.std.specs.Prelude.{◌≡◌};
+    ghost use Rattle.adapter.specs.Outcomes.{with_frame};
+
+    /// The same outcome, with this frame if it has one.
+    pub fn with_frame<G>(self, frame: G) -> Outcome<G>
+    where
+        F: Drop,
+        G: Drop,
+        ensures { result ≡ with_frame frame self }
+    {
+        match self {
+            Outcome::Took => Outcome::Took,
+            Outcome::Put(_) => Outcome::Put(frame),
+            Outcome::WireFull => Outcome::WireFull,
+            Outcome::Moved => Outcome::Moved,
+            Outcome::Done => Outcome::Done,
+            Outcome::Delivered(_, fate) => Outcome::Delivered(frame, fate),
+            Outcome::Ticked => Outcome::Ticked,
+            Outcome::Nothing => Outcome::Nothing,
+            Outcome::Fault => Outcome::Fault,
+        }
+    }
+}

@@ -1,0 +1,55 @@
+-- A lively bus: a machine whose EEPROM and PHY take a step before each access (our choice).
+use Rattle.std.specs.Prelude.{⊤, ◌≡◌, ◌+◌, ◌-◌, ◌^◌, ◌∷◌, [], ℕ, true, List, All, length, min}
+use Rattle.adapter.specs.Outcomes.{FrameOutcome}
+use Rattle.adapter.specs.World.{World}
+use Rattle.adapter.specs.declared.step.StepKind.TheVariants.{EepromTick, PhyTick}
+use Rattle.bus.specs.PastOfStretch.{Past}
+use Rattle.bus.specs.Trails.{Trail, past_of}
+use Rattle.bus.specs.declared.event.Event.{Event}
+use Rattle.bus.specs.declared.event.Event.TheVariants.{Accesses, Arrives, Steps}
+use Rattle.bus.specs.declared.lively_bus.LivelyBus.{LivelyBus}
+
+abbrev pub machine_world : LivelyBus → World
+machine_world bus = bus.machine.now.world
+
+abbrev pub machine_bytes : LivelyBus → ℕ
+machine_bytes bus = length (machine_world bus).memory
+
+-- the greatest count of accesses
+abbrev pub most_accesses : ℕ
+most_accesses = 2 ^ 64 - 1
+
+-- The same machine is lent.
+pub record IsSameMachine (a b : LivelyBus) : Type 0 where
+  pub machine : b.machine.ghost_name ≡ a.machine.ghost_name
+
+-- it is an access, or a step of the EEPROM or the PHY
+abbrev pub IsQuietEvent : Event → Type 0
+IsQuietEvent (Steps EepromTick wire_free outcome) = ⊤
+IsQuietEvent (Steps PhyTick wire_free outcome) = ⊤
+IsQuietEvent (Steps kind wire_free outcome) = ⊥
+IsQuietEvent (Arrives frame fate) = ⊥
+IsQuietEvent (Accesses access) = ⊤
+
+-- From one state to another these events happened: for each access one step of the EEPROM, one of the PHY, and the access itself.
+pub record Lives (a b : LivelyBus) (past : Past) : Type 0 where
+  pub lent : IsSameMachine a b
+  pub events : List Event
+  pub trail : Trail events (machine_world a) (machine_world b)
+  pub past_is : past ≡ past_of events
+  pub quiet : All IsQuietEvent events
+  pub eeprom : past.eeprom_ticks ≡ length past.accesses
+  pub phy : past.phy_ticks ≡ length past.accesses
+  pub count : min b.accesses most_accesses ≡ min (a.accesses + length past.accesses) most_accesses
+
+-- both steps before an access, with their outcomes
+abbrev pub both_ticks : (eeprom phy : FrameOutcome) → List Event
+both_ticks eeprom phy = Steps EepromTick true eeprom ∷ Steps PhyTick true phy ∷ []
+
+-- What comes before an access: both steps, and the access is counted.
+pub record IsPrepared (a b : LivelyBus) : Type 0 where
+  pub lent : IsSameMachine a b
+  pub eeprom : FrameOutcome
+  pub phy : FrameOutcome
+  pub trail : Trail (both_ticks eeprom phy) (machine_world a) (machine_world b)
+  pub count : b.accesses ≡ min (a.accesses + 1) most_accesses

@@ -1,0 +1,30 @@
+-- An adapter and its host's memory, as plain data (our choice).
+use Rattle.std.specs.Prelude.{Bool, bit_and, nat_lt}
+use Rattle.adapter.specs.State.{AdapterState, IsAdapter}
+use Rattle.adapter.specs.World.{World}
+use Rattle.bus.specs.Trails.{world_after}
+use Rattle.bus.specs.declared.event.Event.{Event}
+use Rattle.bus.specs.declared.machine.Machine.TheInside.{Inside}
+
+-- the interrupt line is asserted while a recorded cause is in the mask (13.4.17 "Interrupt Cause Read Register")
+abbrev pub is_asserted : AdapterState → Bool
+is_asserted adapter = nat_lt 0 (bit_and adapter.causes.recorded adapter.causes.mask)
+
+pub record MachineState : Type 0 where
+  pub world : World
+  -- the level of the interrupt line when it was last reported
+  pub reported : Bool
+
+abbrev pub machine_of : Inside → MachineState
+machine_of inside = record {
+  world = record { memory = inside.memory; adapter = inside.adapter };
+  reported = inside.reported;
+}
+
+-- What holds of every machine: what holds of every adapter.
+abbrev pub IsMachine : Inside → Type 0
+IsMachine inside = IsAdapter inside.adapter
+
+-- the machine after an event
+abbrev pub after_event : Event → MachineState → MachineState
+after_event event machine = record machine { world = world_after event machine.world }

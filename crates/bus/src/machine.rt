@@ -1,0 +1,165 @@
+// An adapter and its host's memory.
+
+ghost use Rattle.std.specs.Prelude.{◌≡◌, ◌≤◌, ◌↔◌, [], length, not, IfNone, IfSome, IsNone};
+ghost use Rattle.adapter.specs.Outcomes.{framed, oldest};
+ghost use Rattle.adapter.specs.State.{IsAdapter};
+ghost use Rattle.bus.specs.Trails.{Occurs};
+ghost use Rattle.bus.specs.Machines.{after_event, is_asserted};
+ghost use Rattle.bus.specs.declared.event.Access.TheVariants.{Reads, Stores, Writes};
+ghost use Rattle.bus.specs.declared.event.Event.TheVariants.{Accesses, Arrives, Steps};
+ghost use Rattle.descriptors.specs.Frames.{longest_frame};
+ghost use Rattle.dma_memory.specs.HostMemory.{bytes_at, LiesIn};
+
+use adapter::{Adapter, Fate, FrameCounts, Outcome, StepKind};
+use dma_memory::HostMemory;
+use std::marker::Model;
+
+/// An adapter and its host's memory. Each call but [`report_line`](Machine::report_line) makes one event happen, or
+/// none.
+///
+/// In contracts it is a `MachineState`, plain data that `specs/Machines.antt` lists.
+#[derive(Drop)]
+pub struct Machine {
+    adapter: Adapter,
+    memory: HostMemory,
+    reported: bool,
+}
+
+impl Model for Machine {
+    ghost use Rattle.bus.specs.Machines.{MachineState, machine_of, IsMachine};
+
+    ghost Value = { MachineState };
+
+    ghost view = { machine_of };
+
+    ghost invariant = { IsMachine };
+}
+
+impl Machine {
+    /// A machine with this adapter and this memory.
+    pub fn new(adapter: Adapter, memory: HostMemory) -> Machine
+        ensures { result ≡ record {
+          world = record { memory = memory; adapter = adapter };
+          reported = is_asserted adapter;
+        } }
+    {
+        let reported = adapter.line();
+        Machine {
+            adapter,
+            memory,
+            reported,
+        }
+    }
+
+    /// Makes the adapter take a step. `wire_free` says whether the wire has room for a frame.
+    pub fn step(&mut self, kind: StepKind, wire_free: bool) -> Outcome<()>
+        ensures occurs { Occurs (Steps kind wire_free (framed result self.old.world.adapter)) self.old.world }
+        ensures state { self.new
+            ≡ after_event (Steps kind wire_free (framed result self.old.world.adapter)) self.old }
+    {
+        self.adapter.step(kind, &mut self.memory, wire_free)
+    }
+
+    /// The frame that a step [`TxPut`](StepKind::TxPut) puts onto a wire with room, if there is one. See
+    /// [`Adapter::to_put`].
+    pub fn to_put(&self) -> Option<&[u8]>
+        ensures none { IsNone result ↔ (self.now.world.adapter.transmitter.buffer ≡ []) }
+        ensures oldest { IfSome result (λ frame. frame.now ≡ oldest self.now.world.adapter.transmitter.buffer) }
+        ensures fits { IfSome result (λ frame. length frame.now ≤ longest_frame) }
+        ensures adapter { IsAdapter self.now.world.adapter }
+    {
+        self.adapter.to_put()
+    }
+
+    /// Delivers a frame to the adapter. Returns the frame's fate.
+    pub fn arrive(&mut self, frame: &[u8]) -> Fate
+        ensures occurs { Occurs (Arrives frame.now result) self.old.world }
+        ensures state { self.new ≡ after_event (Arrives frame.now result) self.old }
+    {
+        self.adapter.arrive(frame)
+    }
+
+    /// Reads the register at an offset in bytes.
+    pub fn read(&mut self, offset: u32) -> u32
+        ensures occurs { Occurs (Accesses (Reads offset result)) self.old.world }
+        ensures state { self.new ≡ after_event (Accesses (Reads offset result)) self.old }
+        ensures adapter { IsAdapter self.old.world.adapter }
+    {
+        self.adapter.read(offset)
+    }
+
+    /// Writes the register at an offset in bytes.
+    pub fn write(&mut self, offset: u32, value: u32)
+        ensures state { self.new ≡ after_event (Accesses (Writes offset value)) self.old }
+        ensures adapter { IsAdapter self.old.world.adapter }
+    {
+        self.adapter.write(offset, value);
+    }
+
+    /// Loads the bytes from an address on, which are in memory, into the whole of `into`.
+    pub fn load(&self, address: u64, into: &mut [u8])
+        requires lies { LiesIn self.now.world.memory address (length into.old) }
+        ensures loaded { into.new ≡ bytes_at self.now.world.memory address (length into.old) }
+        ensures adapter { IsAdapter self.now.world.adapter }
+    {
+        let _ = self.memory.load(address, into);
+    }
+
+    /// Stores bytes from an address on. They are in memory.
+    pub fn store(&mut self, address: u64, bytes: &[u8])
+        requires lies { LiesIn self.old.world.memory address (length bytes.now) }
+        ensures state { self.new ≡ after_event (Accesses (Stores address bytes.now)) self.old }
+        ensures adapter { IsAdapter self.old.world.adapter }
+    {
+        let _ = self.memory.store(address, bytes);
+    }
+
+    /// How many bytes the memory has.
+    pub fn size(&self) -> u64
+        ensures { result ≡ length self.now.world.memory }
+    {
+        self.memory.size()
+    }
+
+    /// Whether the adapter's interrupt line is asserted.
+    pub fn line(&self) -> bool
+        ensures line { result ≡ is_asserted self.now.world.adapter }
+        ensures adapter { IsAdapter self.now.world.adapter }
+    {
+        self.adapter.line()
+    }
+
+    /// The level of the interrupt line, if it differs from the level at the last report. The first report compares it
+    /// with the level when the machine was made.
+    pub fn report_line(&mut self) -> Option<bool>
+        ensures none { IfNone result (self.old.reported ≡ is_asserted self.old.world.adapter) }
+        ensures some { IfSome result (λ level.
+            (level ≡ is_asserted self.old.world.adapter) × (self.old.reported ≡ not level)) }
+        ensures state { self.new ≡ record self.old { reported = is_asserted self.old.world.adapter } }
+    {
+        let line = self.adapter.line();
+        if line == self.reported {
+            return None;
+        }
+        self.reported = line;
+        Some(line)
+    }
+
+    /// The adapter's frame counts. No register is cleared.
+    pub fn counts(&self) -> FrameCounts
+        ensures missed { result.missed ≡ self.now.world.adapter.missed_packets }
+        ensures without_descriptor { result.without_descriptor ≡ self.now.world.adapter.no_receive_buffers }
+        ensures received { result.received ≡ self.now.world.adapter.received_packets }
+        ensures transmitted { result.transmitted ≡ self.now.world.adapter.transmitted_packets }
+    {
+        self.adapter.counts()
+    }
+
+    /// The adapter and the memory.
+    pub fn into_parts(self) -> (Adapter, HostMemory)
+        ensures adapter { result.0 ≡ self.world.adapter }
+        ensures memory { result.1 ≡ self.world.memory }
+    {
+        (self.adapter, self.memory)
+    }
+}
