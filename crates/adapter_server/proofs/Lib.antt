@@ -1,14 +1,11 @@
-pub mod AccessLemmas
-pub mod Alone
-pub mod Drawing
 pub mod FewWords
 pub mod Numbers
 pub mod Parts
 pub mod Places
-pub mod Playing
+pub mod Printing
 pub mod ReadRequests
 pub mod ReadingLines
+pub mod Rounds
 pub mod ServedLines
 pub mod Slices
-pub mod Told
 pub mod Writing

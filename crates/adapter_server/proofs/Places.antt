@@ -1,29 +1,43 @@
--- Which bytes are a register.
-use Rattle.std.proofs.Common.{◌≡◌, ◌&&◌, ◌==◌, ℕ, Bool, true, false, arith, if◌then◌else◌, refl}
+-- Which bytes are in memory, and that they stay there.
+use Rattle.std.proofs.Common.{◌≡◌, ◌∙◌, ◌+◌, ◌≤◌, ℕ, Bool, Option, Some, None, true, false, ap, arith, if◌then◌else◌, length, nat_le}
+use Rattle.std.proofs.Common.{refl, sym}
 use Rattle.std.proofs.lemmas.Bool.Decides.{nat_tests}
-use Rattle.adapter_server.specs.Sessions.{is_memory, is_register, place_in}
+use Rattle.bus.proofs.Trails.{event_happens}
+use Rattle.bus.specs.declared.event.Event.TheVariants as event
+use Rattle.adapter.specs.Outcomes.{framed}
+use Rattle.adapter_server.specs.Sessions.{DrawsStep, Interleaves, drawn_count, drawn_kind, is_memory, is_register, place_in}
+use Rattle.adapter_server.specs.Texts.{Text}
+use Rattle.adapter_server.specs.declared.device.Device.{Device}
 use Rattle.adapter_server.specs.declared.session.Place.{Place}
-use Rattle.adapter_server.specs.declared.session.Place.TheVariants.{Memory, Nowhere, Register}
+use Rattle.adapter_server.specs.declared.session.Place.TheVariants.{Memory, Register}
 use Rattle.adapter_server.specs.declared.session.Session.{Session}
+use Rattle.adapter_server.proofs.Writing.{in_order_keeps}
 
-place_if : (register memory : Bool) → ℕ → Place
-place_if register memory offset = if register then Register offset else if memory then Memory else Nowhere
+is_true : (register memory : Bool) (offset : ℕ)
+    → (if register then Some (Register offset) else if memory then Some Memory else None) ≡ Some Memory → memory ≡ true
+is_true true memory offset e = absurd (cc)
+is_true false true offset e = refl
+is_true false false offset e = absurd (cc)
 
-is_true : (register memory : Bool) (at offset : ℕ) → place_if register memory at ≡ Register offset → register ≡ true
-unfolding place_if
-is_true true memory at offset e = refl
-is_true false true at offset e = absurd (cc)
-is_true false false at offset e = absurd (cc)
+fits : (end size : ℕ) → nat_le end size ≡ true → end ≤ size
+fits end size e = grind (arith, nat_tests)
 
-first : (one two : Bool) → one && two ≡ true → one ≡ true
-first true two e = refl
-first false two e = e
+abbrev size_of : Session → ℕ
+size_of session = length session.device.machine.world.memory
 
-four : (count : ℕ) → count == 4 ≡ true → count ≡ 4
-four count e = grind (arith, nat_tests)
+step_keeps : (a b : Session) (text : Text) → DrawsStep a b text → size_of b ≡ size_of a
+step_keeps a b text drawn =
+    let world = a.device.machine.world in
+    let step = event.Steps (drawn_kind a.generator).0 true (framed drawn.outcome world.adapter) in
+    ap (λ (d : Device). length d.machine.world.memory) drawn.steps.after ∙ (event_happens step world tt drawn.steps.occurs).steady.size
 
-pub register_has_four : (session : Session) (address count offset : ℕ) → place_in session address count ≡ Register offset → count ≡ 4
-unfolding place_if
-register_has_four session address count offset e =
-    four count (first _ _ (first _ _ (first _ _
-    (is_true (is_register session.registers address count) (is_memory session address count) _ offset e))))
+-- The steps before an access leave its bytes in memory.
+pub still_fits : {place : Option Place} (a b : Session) (text : Text) (address count : ℕ) → place ≡ place_in a address count
+    → place ≡ Some Memory
+    → Interleaves a b text → address + count ≤ size_of b
+still_fits a b text address count place memory steps =
+    let kept : size_of b ≡ size_of a = in_order_keeps (λ (turn : ℕ). DrawsStep) size_of (λ turn. step_keeps) _
+    (record a { generator = (drawn_count a.most_steps a.generator).1 }) b text steps in
+    let before = fits (address + count) (size_of a)
+    (is_true (is_register a.registers address count) (is_memory a address count) _ (sym place ∙ memory)) in
+    omega arith

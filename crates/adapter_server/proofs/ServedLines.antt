@@ -6,38 +6,21 @@ use Rattle.std.proofs.lemmas.List.{append-nil}
 use Rattle.std.specs.Prelude.{Err, IfErr, IfSome, MatchBool, Ok, OnOk, Result}
 use Rattle.std.specs.Io.KnownBytes.{Appends, Keeps}
 use Rattle.adapter_server.specs.Answers.{AnswersLine, Refuses}
-use Rattle.adapter_server.specs.Devices.{Tells}
+use Rattle.adapter_server.specs.Order.{Tells}
 use Rattle.adapter_server.specs.Lines.{behind_line, first_line, lines_of, most_line_bytes}
 use Rattle.adapter_server.specs.LinesRead.{AtEnd, BothKnown, IsLong, IsNextLine, IsWhole}
-use Rattle.adapter_server.specs.Serving.{AnswersNext, Serves, ServesAll, ServesFront, ServesSome, Turns}
-use Rattle.adapter_server.specs.Sessions.{Begins}
+use Rattle.adapter_server.specs.Serving.{AnswersNext, Serves, ServesFront, ServesWhole, Turns}
 use Rattle.adapter_server.specs.Statuses.{ended_by}
 use Rattle.adapter_server.specs.Texts.{Text}
 use Rattle.adapter_server.specs.declared.answer_error.AnswerError.{AnswerError}
 use Rattle.adapter_server.specs.declared.answer_error.AnswerError.TheVariants as causes
 use Rattle.adapter_server.specs.declared.line_reader.NextLine.{NextLine}
 use Rattle.adapter_server.specs.declared.line_reader.NextLine.TheVariants.{End, Whole, Long}
-use Rattle.adapter_server.specs.declared.options.ServeOptions.{ServeOptions}
 use Rattle.adapter_server.specs.declared.refusal.Refusal.TheVariants as refusals
 use Rattle.adapter_server.specs.declared.serve_error.ServeError.TheVariants as errors
 use Rattle.adapter_server.specs.declared.session.Session.{Session}
 use Rattle.adapter_server.proofs.ReadingLines.{known_same, known_then, lines_some}
-use Rattle.adapter_server.proofs.Writing.{appends_kept, appends_none, appends_then}
-
--- Lines are served, and then others.
-serves_append : (front lines : List Text) (begin now last : Session) (text rest : Text) → Serves front begin now text
-    → Serves lines now last rest → Serves (front ++ lines) begin last (text ++ rest)
-serves_append [] lines begin now last text rest served more =
-    subst (λ (t : Text). Serves lines begin last (t ++ rest)) (sym served.1)
-    (subst (λ (s : Session). Serves lines s last rest) served.0 more)
-serves_append (line ∷ front) lines begin now last text rest served more = record {
-  middle = served.middle;
-  first = served.first;
-  rest = served.rest ++ rest;
-  turn = served.turn;
-  later = serves_append front lines served.middle now last served.rest rest served.later more;
-  text_is = ap (λ (t : Text). t ++ rest) served.text_is ∙ append_assoc served.first served.rest rest;
-}
+use Rattle.adapter_server.proofs.Writing.{appends_kept, appends_none, appends_then, in_order_more}
 
 -- The lines that were read up to here are served by this text.
 pub record Served (begin now : Session) (text : Text) (old new : List ℕ) : Type 0 where
@@ -65,14 +48,7 @@ more_served begin now next text first old new later on some later_is turn = reco
   lines = on.lines ∙ ap (λ (lines : List Text). on.front ++ lines) (lines_some new some)
       ∙ sym (append_assoc on.front (first_line new ∷ []) (lines_of (behind_line new)))
       ∙ ap (λ (bytes : List ℕ). (on.front ++ first_line new ∷ []) ++ lines_of bytes) (sym later_is);
-  serves = serves_append on.front (first_line new ∷ []) begin now next text first on.serves record {
-    middle = next;
-    first = first;
-    rest = [];
-    turn = turn;
-    later = (refl, refl);
-    text_is = sym (append-nil first);
-  };
+  serves = in_order_more Turns on.front (first_line new) begin now next text first on.serves turn;
 }
 
 is_short : (n : ℕ) → n ≤ most_line_bytes → nat_lt most_line_bytes n ≡ false
@@ -149,7 +125,7 @@ serves_next Long old new later begin now next line before middle after on read t
 
 pub serves_lines : (old new later : Option (List ℕ)) (begin now : Session) (before after : Option (List ℕ))
     → ServesOn old new begin now before after → BothKnown new later AtEnd
-    → IfSome old (λ bytes. Tells before after (Serves (lines_of bytes) begin now))
+    → IfSome old (λ bytes. Tells before after (ServesWhole bytes begin))
 serves_lines None new later begin now before after on ends = tt
 serves_lines (Some old) None later begin now before after on ends = absurd on.goes
 serves_lines (Some old) (Some new) None begin now before after on ends = absurd ends
@@ -158,7 +134,7 @@ serves_lines (Some old) (Some new) (Some later) begin now before after on ends =
     on.goes.lines ∙ ap (λ (left : List ℕ). on.goes.front ++ lines_of left) ends.none ∙ append-nil on.goes.front in
     record {
       text = on.text;
-      holds = subst (λ (lines : List Text). Serves lines begin now on.text) (sym all) on.goes.serves;
+      holds = (now, subst (λ (lines : List Text). Serves lines begin now on.text) (sym all) on.goes.serves);
       written = on.written;
     }
 
@@ -176,37 +152,6 @@ serves_front (Some old) (Some new) begin now before after on = record {
     serves = on.goes.serves;
   };
   written = on.written;
-}
-
--- From a new session on.
-
-pub serves_all : (options : ServeOptions) (input : Option (List ℕ)) (begin last : Session) (before after : Option (List ℕ))
-    → Begins options begin → IfSome input (λ bytes. Tells before after (Serves (lines_of bytes) begin last))
-    → IfSome input (λ bytes. ServesAll options bytes before after)
-serves_all options None begin last before after begins served = tt
-serves_all options (Some bytes) begin last before after begins served = record {
-  begin = begin;
-  begins = begins;
-  last = last;
-  text = served.text;
-  serves = served.holds;
-  written = served.written;
-}
-
-pub serves_some : (options : ServeOptions) (input : Option (List ℕ)) (begin : Session) (before after : Option (List ℕ))
-    → Begins options begin → IfSome input (λ bytes. Tells before after (ServesFront bytes begin))
-    → IfSome input (λ bytes. ServesSome options bytes before after)
-serves_some options None begin before after begins served = tt
-serves_some options (Some bytes) begin before after begins served = record {
-  begin = begin;
-  begins = begins;
-  answered = served.holds.answered;
-  left = served.holds.left;
-  lines = served.holds.lines;
-  last = served.holds.last;
-  text = served.text;
-  serves = served.holds.serves;
-  written = served.written;
 }
 
 -- A written text stays if nothing more is written.

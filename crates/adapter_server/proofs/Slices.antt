@@ -13,7 +13,3 @@ at_texts words place one below here =
 pub filled : (size : ℕ) (into items : List ℕ) → size ≡ length into → take size (into ++ drop (length into) items) ≡ into
 filled size into items same =
     take-append-le size into (drop (length into) items) (omega arith) ∙ take_all size into (omega arith)
-
-pub filled_as : (size : ℕ) (into items bytes : List ℕ) → size ≡ length into → into ≡ bytes
-    → take size (into ++ drop (length into) items) ≡ bytes
-filled_as size into items bytes same is = filled size into items same ∙ is

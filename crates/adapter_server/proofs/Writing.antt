@@ -1,7 +1,9 @@
--- Texts that are written one after another.
-use Rattle.std.proofs.Common.{◌++◌, ℕ, List, [], Option, Some, None, append_assoc, sym, ap, ◌∙◌}
+-- Texts that are written one after another, as things happen in order.
+use Rattle.std.proofs.Common.{◌≡◌, ◌++◌, ℕ, List, [], ◌∷◌, Option, Some, None, append_assoc, refl, subst, sym, ap, ◌∙◌}
 use Rattle.std.proofs.lemmas.List.{append-nil}
 use Rattle.std.specs.Io.KnownBytes.{Appends, Keeps}
+use Rattle.adapter_server.specs.Order.{InOrder, Tells}
+use Rattle.adapter_server.specs.Texts.{Text}
 
 pub appends_then : (a b c : Option (List ℕ)) (first rest : List ℕ) → Appends a b first → Appends b c rest → Appends a c (first ++ rest)
 appends_then None b c first rest one two = tt
@@ -19,3 +21,48 @@ appends_kept None b c text one two = tt
 appends_kept (Some a) None c text one two = absurd one
 appends_kept (Some a) (Some b) None text one two = absurd two
 appends_kept (Some a) (Some b) (Some c) text one two = two ∙ one
+
+-- The same text, of which more is known.
+pub tells_so : (P Q : Text → Type 0) (before after : Option (List ℕ)) → ((text : Text) → P text → Q text) → Tells before after P
+    → Tells before after Q
+tells_so P Q before after so tells = record { text = tells.text; holds = so tells.text tells.holds; written = tells.written }
+
+module _ {X S : Type 0} (Happens : X → S → S → Text → Type 0) where
+  pub in_order_more : (xs : List X) (x : X) (a b c : S) (text rest : Text) → InOrder Happens xs a b text → Happens x b c rest
+      → InOrder Happens (xs ++ x ∷ []) a c (text ++ rest)
+  in_order_more [] x a b c text rest so_far next = record {
+    middle = c;
+    first = rest;
+    rest = [];
+    happens = subst (λ (s : S). Happens x s c rest) so_far.0 next;
+    goes_on = (refl, refl);
+    text_is = ap (λ (t : Text). t ++ rest) so_far.1 ∙ sym (append-nil rest);
+  }
+  in_order_more (y ∷ later) x a b c text rest so_far next = record {
+    middle = so_far.middle;
+    first = so_far.first;
+    rest = so_far.rest ++ rest;
+    happens = so_far.happens;
+    goes_on = in_order_more later x so_far.middle b c so_far.rest rest so_far.goes_on next;
+    text_is = ap (λ (t : Text). t ++ rest) so_far.text_is ∙ append_assoc so_far.first so_far.rest rest;
+  }
+
+  -- Nothing has happened yet.
+  pub tells_none : (a : S) (before : Option (List ℕ)) → Tells before before (InOrder Happens [] a a)
+  tells_none a before = record { text = []; holds = (refl, refl); written = appends_none before }
+
+  -- One more thing happens.
+  pub tells_more : (xs : List X) (x : X) (a b c : S) (before now after : Option (List ℕ)) → Tells before now (InOrder Happens xs a b)
+      → Tells now after (Happens x b c) → Tells before after (InOrder Happens (xs ++ x ∷ []) a c)
+  tells_more xs x a b c before now after so_far next = record {
+    text = so_far.text ++ next.text;
+    holds = in_order_more xs x a b c so_far.text next.text so_far.holds next.holds;
+    written = appends_then before now after so_far.text next.text so_far.written next.written;
+  }
+
+  -- What each of them keeps is kept.
+  pub in_order_keeps : (size : S → ℕ) → ((x : X) (a b : S) (text : Text) → Happens x a b text → size b ≡ size a)
+      → (xs : List X) (a b : S) (text : Text) → InOrder Happens xs a b text → size b ≡ size a
+  in_order_keeps size keeps [] a b text all = ap size all.0
+  in_order_keeps size keeps (x ∷ later) a b text all =
+      in_order_keeps size keeps later all.middle b all.rest all.goes_on ∙ keeps x a all.middle all.first all.happens

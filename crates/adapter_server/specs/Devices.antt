@@ -1,158 +1,71 @@
--- What a served adapter does in a step, an arrival and an access, and what is printed.
-use Rattle.std.specs.Prelude.{◌≡◌, ◌+◌, ◌++◌, ◌==◌, ℕ, zero, suc, MatchBool, Bool, List, [], ◌∷◌, Option, Some, None, bit_and, length, map}
-use Rattle.std.specs.Prelude.{min, nat_lt, sum_by}
-use Rattle.std.specs.Prelude.{false, true}
-use Rattle.std.specs.Io.KnownBytes.{Appends}
-use Rattle.adapter.specs.Receiving.{IsFate}
-use Rattle.adapter.specs.Steps.{Answers}
+-- What happens to the served adapter and its memory, and what is printed (our choice).
+use Rattle.std.specs.Prelude.{◌≡◌, ◌+◌, ◌++◌, ◌<◌, ◌≤◌, ℕ, List, [], ◌∷◌, All, flat_map, if◌then◌else◌, length, map, nat_lt, sum, take}
+use Rattle.std.specs.Prelude.{true}
+use Rattle.adapter.specs.Outcomes.{framed}
+use Rattle.adapter.specs.State.{AdapterState}
+use Rattle.adapter.specs.declared.outcome.Outcome.{Outcome}
 use Rattle.adapter.specs.declared.step.StepKind.{StepKind}
 use Rattle.adapter.specs.declared.step.StepKind.TheVariants.{TxTake, TxPut, RxData, RxDone, EepromTick, PhyTick}
-use Rattle.adapter.specs.declared.step.StepOutcome.{StepOutcome}
-use Rattle.adapter.specs.declared.step.Stepped.{Stepped}
-use Rattle.adapter.specs.declared.step.Stepped.TheVariants as stepped
-use Rattle.bus.specs.StepsAndArrivals.{world_after_arrival, world_after_step}
-use Rattle.bus.specs.Trails.{IsAnswered, world_after_access}
-use Rattle.bus.specs.declared.event.Access.{Access}
-use Rattle.rx_engine.specs.declared.arrival.Fate.{Fate}
-use Rattle.solo_bus.specs.SoloBuses.{SoloState, most_accesses, solo_stepped}
+use Rattle.tx_engine.specs.Transmitter.{Queued}
+use Rattle.bus.specs.Machines.{after_event, is_asserted}
+use Rattle.bus.specs.Trails.{Occurs, past_of_event}
+use Rattle.bus.specs.declared.event.Event.{Event}
+use Rattle.bus.specs.declared.event.Event.TheVariants as event
+use Rattle.adapter_server.specs.Order.{InOrder}
 use Rattle.adapter_server.specs.Outcomes.{moved_by}
-use Rattle.adapter_server.specs.Texts.{Text, frame_told, line_moved, said_log, step_log}
+use Rattle.adapter_server.specs.Texts.{Text, frame_line, line_moved, said_log, step_said}
 use Rattle.adapter_server.specs.declared.device.Device.{Device}
 
--- The bus plays no steps by itself, none waits to be played, and no frame is on the wire.
-pub record IsQuiet (solo : SoloState) : Type 0 where
-  pub lively : solo.lively ≡ false
-  pub waiting : solo.waiting ≡ []
-  pub wire : solo.wire ≡ []
-
--- Afterwards the bus is quiet, and the memory has its size.
-pub record StaysQuiet (a b : SoloState) : Type 0 where
-  pub quiet : IsQuiet b
-  pub size : length b.world.memory ≡ length a.world.memory
-
--- A text with this property was written.
-pub record Tells (before after : Option (List ℕ)) (Holds : Text → Type 0) : Type 0 where
-  pub text : Text
-  pub holds : Holds text
-  pub written : Appends before after text
-
--- the interrupt line is asserted while a recorded cause is in the mask (13.4.17 "Interrupt Cause Read Register")
-abbrev pub is_asserted : SoloState → Bool
-is_asserted solo = nat_lt 0 (bit_and solo.world.adapter.causes.recorded solo.world.adapter.causes.mask)
-
--- the device after its interrupt line was printed
+-- the device after the level of its interrupt line was reported
 abbrev pub told : Device → Device
-told device = record device { line = is_asserted device.bus }
+told device = record device { machine = record device.machine { reported = is_asserted device.machine.world.adapter } }
 
--- a text, and then the line of a change of the interrupt line
-abbrev pub told_text : Text → (before after : Device) → Text
-told_text text before after = text ++ line_moved before.line after.line
+-- An event happens. A line of the log is printed, the frame that the event put onto the wire, and a change of the interrupt line.
+pub record Prints (event : Event) (said : Text) (a b : Device) (text : Text) : Type 0 where
+  pub occurs : Occurs event a.machine.world
+  pub after : b ≡ told (record a { machine = after_event event a.machine })
+  pub text_is : text
+      ≡ said_log a.log said ++ (flat_map frame_line (past_of_event event).put ++ line_moved a.machine.reported b.machine.reported)
 
--- Steps.
+-- Steps. The wire always has room.
 
--- the frame that a step put onto the wire
-abbrev pub frame_put : Stepped → Option (List ℕ)
-frame_put (stepped.Put frame) = Some frame
-frame_put _ = None
+-- a step of this kind with this outcome
+abbrev pub Steps : StepKind → Outcome (Unit {0}) → Device → Device → Text → Type 0
+Steps kind outcome a b text =
+    Prints (event.Steps kind true (framed outcome a.machine.world.adapter)) (step_said kind outcome) a b text
 
--- the bus after a step with this outcome, whose frame isn't on the wire any more
-abbrev pub stepped_alone : StepKind → StepOutcome → SoloState → SoloState
-stepped_alone kind outcome solo = record solo { world = world_after_step kind (solo_stepped outcome solo) solo.world }
+-- the frame that a step of this kind puts
+abbrev pub next_put : StepKind → AdapterState → List (List ℕ)
+next_put TxPut adapter = map (λ (queued : Queued). queued.frame) (take 1 adapter.transmitter.buffer)
+next_put kind adapter = []
 
--- the device after a step with this outcome
-abbrev pub after_step : StepKind → StepOutcome → Device → Device
-after_step kind outcome device = told (record device { bus = stepped_alone kind outcome device.bus })
-
--- the log's line for a step, and a line of the frame that it put
-abbrev pub step_text : StepKind → StepOutcome → Device → Text
-step_text kind outcome device = step_log device.log kind outcome ++ frame_told (frame_put (solo_stepped outcome device.bus))
-
--- A step of this kind with this outcome, as in the contract of the adapter. The wire has room.
-pub record Steps (kind : StepKind) (outcome : StepOutcome) (a b : Device) (text : Text) : Type 0 where
-  pub answers : Answers kind true a.bus.world.memory a.bus.world.adapter (solo_stepped outcome a.bus)
-  pub after : b ≡ after_step kind outcome a
-  pub text_is : text ≡ told_text (step_text kind outcome a) a b
-
--- a step, with its outcome
-pub record Taken : Type 0 where
-  pub kind : StepKind
-  pub outcome : StepOutcome
-
--- One thing happens, and then another; their texts are joined.
-pub record Joins (First Later : Device → Text → Type 0) (text : Text) : Type 0 where
-  pub middle : Device
-  pub first : Text
-  pub rest : Text
-  pub happens : First middle first
-  pub goes_on : Later middle rest
-  pub text_is : text ≡ first ++ rest
-
--- These steps are played in order.
-abbrev pub Plays : List Taken → Device → Device → Text → Type 0
-Plays [] a b text = (b ≡ a) × (text ≡ [])
-Plays (taken ∷ later) a c text = Joins (λ b first. Steps taken.kind taken.outcome a b first) (λ b rest. Plays later b c rest) text
-
-abbrev pub kinds_of : List Taken → List StepKind
-kinds_of taken = map (λ (one : Taken). one.kind) taken
-
--- the number of these steps that did something
-abbrev pub moved_in : List Taken → ℕ
-moved_in taken = sum_by (λ (one : Taken). moved_by one.outcome) taken
+-- A step of this kind is played, and is counted if it does something.
+pub record Plays (kind : StepKind) (a b : Device × ℕ) (text : Text) : Type 0 where
+  pub outcome : Outcome (Unit {0})
+  pub steps : Steps kind outcome a.0 b.0 text
+  pub count : b.1 ≡ a.1 + moved_by outcome
 
 -- the kinds of a round, each once
 abbrev pub round : List StepKind
 round = TxTake ∷ TxPut ∷ RxData ∷ RxDone ∷ EepromTick ∷ PhyTick ∷ []
 
--- A round of steps was played, and this many did something.
-pub record Round (moved : ℕ) (a b : Device) (text : Text) : Type 0 where
-  pub taken : List Taken
-  pub plays : Plays taken a b text
-  pub kinds : kinds_of taken ≡ round
-  pub moved_is : moved ≡ moved_in taken
+-- A round of steps is played, and this many do something.
+abbrev pub Round : (moved : ℕ) → Device → Device → Text → Type 0
+Round moved a b text = InOrder Plays round (a, 0) (b, moved) text
 
--- Nothing more is played.
-pub record Ends (moved : ℕ) (a b : Device) (text : Text) : Type 0 where
-  pub moved_is : moved ≡ 0
-  pub after : b ≡ a
-  pub text_is : text ≡ []
-
--- A round is played, and then nothing if it did nothing, else the rest.
-pub record RoundAndRest (GoesOn : ℕ → Device → Text → Type 0) (moved : ℕ) (a c : Device) (text : Text) : Type 0 where
-  pub here : ℕ
-  pub later : ℕ
-  pub middle : Device
-  pub first : Text
-  pub rest : Text
-  pub round_is : Round here a middle first
-  pub moved_is : moved ≡ here + later
-  pub text_is : text ≡ first ++ rest
-  pub goes_on : MatchBool (here == 0) (Ends later middle c rest) (GoesOn later middle rest)
-
--- Rounds are played until one does nothing, up to a maximum. This many steps did something.
-unfoldable pub Settles : (most moved : ℕ) → Device → Device → Text → Type 0
-Settles zero moved a c text = Ends moved a c text
-Settles (suc most) moved a c text = RoundAndRest (λ later b rest. Settles most later b c rest) moved a c text
-
--- the maximum number of rounds (our choice)
+-- the maximum number of rounds
 abbrev pub most_rounds : ℕ
 most_rounds = 131072
 
--- Arrivals and accesses.
+-- rounds that do something, and then one that does nothing unless the maximum is reached
+abbrev pub with_last : (busy : List ℕ) → List ℕ
+with_last busy = if nat_lt (length busy) most_rounds then busy ++ 0 ∷ [] else busy
 
--- A frame was delivered and met this fate, as in the contract of the adapter.
-pub record Arrives (frame : List ℕ) (fate : Fate) (said : Text) (a b : Device) (text : Text) : Type 0 where
-  pub fate_is : IsFate a.bus.world.adapter frame fate
-  pub after : b ≡ told (record a { bus = record a.bus { world = world_after_arrival fate frame a.bus.world } })
-  pub text_is : text ≡ told_text (said_log a.log said) a b
-
--- One access of the bus, with no steps before it. The bus counts it.
-pub record Accesses (access : Access) (said : Text) (a b : Device) (text : Text) : Type 0 where
-  pub answered : IsAnswered access a.bus.world
-  pub after : b ≡ told (record a {
-    bus = record a.bus {
-      world = world_after_access access a.bus.world;
-      accesses = b.bus.accesses;
-    };
-  })
-  pub count : min b.bus.accesses most_accesses ≡ min (a.bus.accesses + 1) most_accesses
-  pub text_is : text ≡ told_text (said_log a.log said) a b
+-- Rounds are played until one does nothing, up to a maximum. This many steps do something.
+pub record Settles (moved : ℕ) (a b : Device) (text : Text) : Type 0 where
+  -- for each round that does something, the number of its steps that do something
+  pub busy : List ℕ
+  pub each : All (λ here. 0 < here) busy
+  pub few : length busy ≤ most_rounds
+  pub plays : InOrder Round (with_last busy) a b text
+  pub moved_is : moved ≡ sum busy

@@ -1,5 +1,6 @@
 pub mod Statuses
 pub mod Texts
+pub mod Order
 pub mod Outcomes
 pub mod Kinds
 pub mod Defaults

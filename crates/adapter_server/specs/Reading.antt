@@ -6,12 +6,14 @@ use Rattle.adapter.specs.declared.step.StepKind.{StepKind}
 use Rattle.adapter_server.specs.Spellings.{Gives, bytes_in, greatest_number, number_below, payload_in, size_in, ◌>>=◌}
 use Rattle.adapter_server.specs.Texts.{Text}
 use Rattle.adapter_server.specs.Verbs.{kind_named, verb_named, word_count}
+use Rattle.adapter_server.specs.Widths.{bytes_spelling}
 use Rattle.adapter_server.specs.Words.{word, words_of}
 use Rattle.adapter_server.specs.declared.refusal.Refusal.{Refusal}
 use Rattle.adapter_server.specs.declared.refusal.Refusal.TheVariants as refusals
 use Rattle.adapter_server.specs.declared.refusal.Stop.{Stop}
 use Rattle.adapter_server.specs.declared.request.Request.{Request}
 use Rattle.adapter_server.specs.declared.request.Request.TheVariants as requests
+use Rattle.adapter_server.specs.declared.request.Wanted.TheVariants as wanted
 use Rattle.adapter_server.specs.declared.request.Width.{Width}
 use Rattle.adapter_server.specs.declared.request.Width.TheVariants as width
 use Rattle.adapter_server.specs.declared.verb.Verb.{Verb}
@@ -31,7 +33,7 @@ most_steps = 65535
 
 -- the request to write bytes, if their number is the size
 abbrev pub sized : ℕ → ℕ → List ℕ → Result Request Refusal
-sized address size bytes = if length bytes == size then Ok (requests.WriteBytes address bytes) else Err refusals.Value
+sized address size bytes = if length bytes == size then Ok (requests.Write address bytes) else Err refusals.Value
 
 abbrev pub write_in : List Text → Result Request Refusal
 write_in words = do
@@ -45,7 +47,7 @@ memset_in words = do
   address ← number_below greatest_number (word 1 words)
   size ← size_in (word 2 words)
   value ← number_below 0xFF (word 3 words)
-  Ok (requests.WriteBytes address (replicate size value))
+  Ok (requests.Write address (replicate size value))
 
 abbrev pub log_in : Text → Result Request Refusal
 log_in word =
@@ -63,19 +65,19 @@ step_in word = step_or_refusal (kind_named word)
 abbrev pub read_number_in : Width → List Text → Result Request Refusal
 read_number_in width words = do
   address ← number_below greatest_number (word 1 words)
-  Ok (requests.ReadNumber width address)
+  Ok (requests.Read (wanted.Number width) address)
 
 abbrev pub write_number_in : Width → List Text → Result Request Refusal
 write_number_in width words = do
   address ← number_below greatest_number (word 1 words)
   value ← number_below (greatest width) (word 2 words)
-  Ok (requests.WriteNumber width address value)
+  Ok (requests.Write address (bytes_spelling width value))
 
 abbrev pub read_in : List Text → Result Request Refusal
 read_in words = do
   address ← number_below greatest_number (word 1 words)
   size ← size_in (word 2 words)
-  Ok (requests.ReadBytes address size)
+  Ok (requests.Read (wanted.Bytes size) address)
 
 abbrev pub arrive_in : Text → Result Request Refusal
 arrive_in word = bytes_in word >>= λ bytes. Ok (requests.Arrive bytes)

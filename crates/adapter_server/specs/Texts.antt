@@ -1,13 +1,15 @@
 -- The lines that a server writes (QEMU, docs/devel/testing/qtest: OK, ERR, FAIL and IRQ; frame and # are our choice).
-use Rattle.std.specs.Prelude.{◌++◌, ℕ, List, [], Bool, true, false, Option, Some, None, codes, map}
+use Rattle.std.specs.Prelude.{◌++◌, ℕ, List, [], ◌∷◌, Bool, true, false, Option, Some, None, codes, map}
+use Rattle.std.specs.Prelude.{String, string_bytes}
+use Rattle.std.specs.declared.alloc.Global.{Global}
 use Rattle.std.specs.Borrow.{Bor}
 use Rattle.std.specs.Int.{to_be_bytes, w64}
 use Rattle.std.specs.List.{concat}
 use Rattle.hex.specs.Hex.{encode_lower}
 use Rattle.adapter.specs.declared.step.StepKind.{StepKind}
 use Rattle.adapter.specs.declared.step.StepKind.TheVariants.{TxTake, TxPut, RxData, RxDone, EepromTick, PhyTick}
-use Rattle.adapter.specs.declared.step.StepOutcome.{StepOutcome}
-use Rattle.adapter.specs.declared.step.StepOutcome.TheVariants.{Took, Put, WireFull, Moved, Done, Ticked, Nothing, Fault}
+use Rattle.adapter.specs.declared.outcome.Outcome.{Outcome}
+use Rattle.adapter.specs.declared.outcome.Outcome.TheVariants.{Took, Put, WireFull, Moved, Done, Delivered, Ticked, Nothing, Fault}
 use Rattle.rx_engine.specs.declared.arrival.Fate.{Fate}
 use Rattle.rx_engine.specs.declared.arrival.Fate.TheVariants.{Off, Illegal, Filtered, Missed, Stored}
 use Rattle.adapter_server.specs.declared.refusal.Refusal.{Refusal}
@@ -29,12 +31,13 @@ kind_word RxDone = codes "rxdone"
 kind_word EepromTick = codes "eeprom"
 kind_word PhyTick = codes "phy"
 
-abbrev pub outcome_word : StepOutcome → Text
+abbrev pub outcome_word : Outcome (Unit {0}) → Text
 outcome_word Took = codes "took"
-outcome_word Put = codes "put"
+outcome_word (Put frame) = codes "put"
 outcome_word WireFull = codes "wirefull"
 outcome_word Moved = codes "moved"
 outcome_word Done = codes "done"
+outcome_word (Delivered frame fate) = codes "delivered"
 outcome_word Ticked = codes "ticked"
 outcome_word Nothing = codes "nothing"
 outcome_word Fault = codes "fault"
@@ -48,32 +51,42 @@ fate_word Stored = codes "stored"
 
 -- The log: lines that begin with #.
 
--- the line of a step, if the log is on
-abbrev pub step_log : Bool → StepKind → StepOutcome → Text
-step_log true kind outcome = codes "# step " ++ kind_word kind ++ codes " -> " ++ outcome_word outcome ++ codes "\n"
-step_log false kind outcome = []
-
--- the line of a request, if the log is on
+-- a line of the log, if the log is on
 abbrev pub said_log : Bool → Text → Text
 said_log true said = codes "# " ++ said ++ codes "\n"
 said_log false said = []
 
+-- what the log says of a step
+abbrev pub step_said : StepKind → Outcome (Unit {0}) → Text
+step_said kind outcome = concat (codes "step " ∷ kind_word kind ∷ codes " -> " ∷ outcome_word outcome ∷ [])
+
 -- Frames and the interrupt line.
+
+-- the line of these digits of a frame
+abbrev pub digits_line : Text → Text
+digits_line digits = codes "frame " ++ digits ++ codes "\n"
+
+-- the digits of a frame that was put onto the wire, if there was one
+abbrev pub digits_told : Option (String Global) → Text
+digits_told (Some digits) = digits_line (string_bytes digits)
+digits_told None = []
 
 -- a frame that was put onto the wire
 abbrev pub frame_line : List ℕ → Text
-frame_line frame = codes "frame " ++ encode_lower frame ++ codes "\n"
+frame_line frame = digits_line (encode_lower frame)
 
-abbrev pub frame_told : Option (List ℕ) → Text
-frame_told (Some frame) = frame_line frame
-frame_told None = []
+-- the level of the interrupt line, if it is printed
+abbrev pub line_told : Option Bool → Text
+line_told (Some true) = codes "IRQ raise 0\n"
+line_told (Some false) = codes "IRQ lower 0\n"
+line_told None = []
 
 -- a change of the interrupt line
 abbrev pub line_moved : (was is : Bool) → Text
-line_moved false true = codes "IRQ raise 0\n"
-line_moved true false = codes "IRQ lower 0\n"
-line_moved true true = []
-line_moved false false = []
+line_moved false true = line_told (Some true)
+line_moved true false = line_told (Some false)
+line_moved true true = line_told None
+line_moved false false = line_told None
 
 -- Answers.
 

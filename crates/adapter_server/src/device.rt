@@ -1,20 +1,14 @@
 // The served adapter, and the lines that it prints.
 
-ghost use Rattle.std.specs.Prelude.{◌≡◌, ◌+◌, ◌≤◌, length, true, IfOk, OnOk};
+ghost use Rattle.std.specs.Prelude.{◌≡◌, ◌++◌, ◌≤◌, IfOk, OnOk, flat_map};
 ghost use Rattle.std.specs.Io.KnownBytes.{Appends};
-ghost use Rattle.adapter.specs.Steps.{Answers};
-ghost use Rattle.adapter_server.specs.Texts.{said_log};
 ghost use Rattle.adapter_server.specs.Outcomes.{moved_by};
-ghost use Rattle.dma_memory.specs.HostMemory.{bytes_at};
-ghost use Rattle.bus.specs.declared.event.Access.TheVariants.{Loads, Reads, Stores, Writes};
-ghost use Rattle.solo_bus.specs.SoloBuses.{solo_stepped};
 
 use crate::answer_error::AnswerError;
 use crate::output::say;
-use crate::text::{push_frame, push_line, push_said, push_step};
-use adapter::{Fate, StepKind, StepOutcome};
-use bus::Bus;
-use solo_bus::SoloBus;
+use crate::text::{kind_word, line_text, outcome_word, push_frame, push_said};
+use adapter::{Outcome, StepKind};
+use bus::Machine;
 use std::alloc::{AllocError, Global};
 use std::io::Write;
 
@@ -35,200 +29,84 @@ const ROUND: [StepKind; 6] = [
 /// An adapter and its memory, and the state of what is printed.
 #[derive(Drop)]
 pub struct Device {
-    /// The adapter and its memory. The bus plays no steps by itself, and no frame stays on the wire.
-    pub bus: SoloBus,
+    /// The adapter and its memory.
+    pub machine: Machine,
     /// Whether steps, accesses and arrivals are printed.
     pub log: bool,
-    /// Whether the interrupt line was asserted when it was last printed.
-    pub line: bool,
 }
 
 /// 1 if a step with this outcome did something, else 0.
-fn moved_by(outcome: StepOutcome) -> u64
+fn moved_by(outcome: Outcome<()>) -> u64
     ensures { result ≡ moved_by outcome }
 {
     match outcome {
-        StepOutcome::Nothing => 0,
+        Outcome::Nothing => 0,
         _ => 1,
     }
 }
 
 impl Device {
-    ghost use Rattle.adapter_server.specs.Devices.{Accesses, Arrives, IsQuiet, Round, Settles, StaysQuiet, Steps};
-    ghost use Rattle.adapter_server.specs.Devices.{Tells, most_rounds, step_text, stepped_alone, told, told_text};
+    ghost use Rattle.adapter_server.specs.Devices.{Round, Settles, Steps, next_put, told};
+    ghost use Rattle.adapter_server.specs.Order.{Tells};
+    ghost use Rattle.adapter_server.specs.Texts.{digits_told, frame_line, joined, line_moved, said_log};
 
-    /// Writes a text, and then a line if the interrupt line changed.
-    fn tell<W: Write>(&mut self, out: &mut W, mut text: Vec<u8>) -> Result<(), AnswerError>
+    /// Prints an event that happened: what the log says of it, the digits of the frame that was put onto the wire, and
+    /// a change of the interrupt line.
+    pub(crate) fn tell<W: Write>(
+        &mut self,
+        alloc: Global,
+        out: &mut W,
+        said: &[&[u8]],
+        put: Option<String>,
+    ) -> Result<(), AnswerError>
         ensures state { OnOk result (self.new ≡ told self.old) }
-        ensures text { OnOk result
-            (Appends (W.contents out.old) (W.contents out.new) (told_text text.items self.old self.new)) }
+        ensures text { OnOk result (Appends (W.contents out.old) (W.contents out.new)
+            (said_log self.old.log (joined said.now)
+            ++ (digits_told put ++ line_moved self.old.machine.reported self.new.machine.reported))) }
     {
-        let line = self.bus.line();
-        push_line(&mut text, self.line, line)?;
-        self.line = line;
+        let mut text = Vec::new(alloc);
+        push_said(&mut text, self.log, said)?;
+        push_frame(&mut text, put)?;
+        text.extend_from_slice(line_text(self.machine.report_line()))?;
         say(out, text.as_slice())
     }
 
-    /// Makes the adapter take a step. Returns the outcome, and the lines of the step: the log's, if the log is on, and
-    /// that of the frame that it put onto the wire.
-    fn step_alone(
-        &mut self,
-        alloc: Global,
-        kind: StepKind,
-    ) -> Result<(StepOutcome, Vec<u8>), AllocError>
-        requires { IsQuiet self.old.bus }
-        ensures answers { IfOk result (λ step. Answers kind true self.old.bus.world.memory
-            self.old.bus.world.adapter (solo_stepped step.0 self.old.bus)) }
-        ensures state { IfOk result
-            (λ step. self.new ≡ record self.old { bus = stepped_alone kind step.0 self.old.bus }) }
-        ensures text { IfOk result (λ step. step.1.items ≡ step_text kind step.0 self.old) }
-        ensures quiet { OnOk result (StaysQuiet self.old.bus self.new.bus) }
+    /// The digits of the frame that a step of this kind puts onto the wire, if it puts one.
+    fn digits_to_put(&self, alloc: Global, kind: StepKind) -> Result<Option<String>, AllocError>
+        ensures { IfOk result (λ put. digits_told put
+            ≡ flat_map frame_line (next_put kind self.now.machine.world.adapter)) }
     {
-        let outcome = self.bus.step(kind);
-        let mut text = Vec::new(alloc);
-        push_step(&mut text, self.log, kind, outcome)?;
-        if let Some(frame) = self.bus.take_put() {
-            push_frame(alloc, &mut text, frame.as_slice())?;
+        if kind != StepKind::TxPut {
+            return Ok(None);
         }
-        Ok((outcome, text))
+        let Some(frame) = self.machine.to_put() else {
+            return Ok(None);
+        };
+        Ok(Some(hex::encode(alloc, frame)?))
     }
 
-    /// Makes the adapter take a step, and prints it.
+    /// Makes the adapter take a step, and prints it. The wire has room.
     pub(crate) fn step<W: Write>(
         &mut self,
         alloc: Global,
         out: &mut W,
         kind: StepKind,
-    ) -> Result<StepOutcome, AnswerError>
-        requires { IsQuiet self.old.bus }
-        ensures ok { IfOk result (λ outcome.
+    ) -> Result<Outcome<()>, AnswerError>
+        ensures { IfOk result (λ outcome.
             Tells (W.contents out.old) (W.contents out.new) (Steps kind outcome self.old self.new)) }
-        ensures quiet { OnOk result (StaysQuiet self.old.bus self.new.bus) }
     {
-        let (outcome, text) = self.step_alone(alloc, kind)?;
-        self.tell(out, text)?;
+        let put = self.digits_to_put(alloc, kind)?;
+        let outcome = self.machine.step(kind, true);
+        let said: [&[u8]; 4] = [b"step ", kind_word(kind), b" -> ", outcome_word(outcome)];
+        self.tell(alloc, out, &said, put)?;
         Ok(outcome)
-    }
-
-    /// Logs a request, and then writes a line if the interrupt line changed.
-    fn tell_request<W: Write>(
-        &mut self,
-        alloc: Global,
-        out: &mut W,
-        said: &[u8],
-    ) -> Result<(), AnswerError>
-        ensures state { OnOk result (self.new ≡ told self.old) }
-        ensures text { OnOk result (Appends (W.contents out.old) (W.contents out.new)
-            (told_text (said_log self.old.log said.now) self.old self.new)) }
-    {
-        let mut text = Vec::new(alloc);
-        push_said(&mut text, self.log, said)?;
-        self.tell(out, text)
-    }
-
-    /// Delivers a frame to the adapter.
-    pub(crate) fn arrive<W: Write>(
-        &mut self,
-        alloc: Global,
-        out: &mut W,
-        said: &[u8],
-        frame: &[u8],
-    ) -> Result<Fate, AnswerError>
-        requires { IsQuiet self.old.bus }
-        ensures ok { IfOk result (λ fate. Tells (W.contents out.old) (W.contents out.new)
-            (Arrives frame.now fate said.now self.old self.new)) }
-        ensures quiet { OnOk result (StaysQuiet self.old.bus self.new.bus) }
-    {
-        let fate = self.bus.arrive(frame);
-        self.tell_request(alloc, out, said)?;
-        Ok(fate)
-    }
-
-    /// Reads the register at an offset.
-    pub(crate) fn read<W: Write>(
-        &mut self,
-        alloc: Global,
-        out: &mut W,
-        said: &[u8],
-        offset: u32,
-    ) -> Result<u32, AnswerError>
-        requires { IsQuiet self.old.bus }
-        ensures ok { IfOk result (λ value. Tells (W.contents out.old) (W.contents out.new)
-            (Accesses (Reads offset value) said.now self.old self.new)) }
-        ensures quiet { OnOk result (StaysQuiet self.old.bus self.new.bus) }
-    {
-        let value = self.bus.read(offset);
-        self.tell_request(alloc, out, said)?;
-        Ok(value)
-    }
-
-    /// Writes the register at an offset.
-    pub(crate) fn write<W: Write>(
-        &mut self,
-        alloc: Global,
-        out: &mut W,
-        said: &[u8],
-        offset: u32,
-        value: u32,
-    ) -> Result<(), AnswerError>
-        requires { IsQuiet self.old.bus }
-        ensures ok { OnOk result (Tells (W.contents out.old) (W.contents out.new)
-            (Accesses (Writes offset value) said.now self.old self.new)) }
-        ensures quiet { OnOk result (StaysQuiet self.old.bus self.new.bus) }
-    {
-        self.bus.write(offset, value);
-        self.tell_request(alloc, out, said)?;
-        Ok(())
-    }
-
-    /// Loads bytes that are in memory.
-    pub(crate) fn load<W: Write>(
-        &mut self,
-        alloc: Global,
-        out: &mut W,
-        said: &[u8],
-        address: u64,
-        into: &mut [u8],
-    ) -> Result<(), AnswerError>
-        requires quiet { IsQuiet self.old.bus }
-        requires lies { address + length into.old ≤ length self.old.bus.world.memory }
-        ensures ok { OnOk result (Tells (W.contents out.old) (W.contents out.new)
-            (Accesses (Loads address (length into.old)) said.now self.old self.new)) }
-        ensures loaded { OnOk result (into.new ≡ bytes_at self.new.bus.world.memory address (length into.old)) }
-        ensures quiet { OnOk result (StaysQuiet self.old.bus self.new.bus) }
-    {
-        self.bus.load(address, into);
-        self.tell_request(alloc, out, said)?;
-        Ok(())
-    }
-
-    /// Stores bytes that fit in memory.
-    pub(crate) fn store<W: Write>(
-        &mut self,
-        alloc: Global,
-        out: &mut W,
-        said: &[u8],
-        address: u64,
-        bytes: &[u8],
-    ) -> Result<(), AnswerError>
-        requires quiet { IsQuiet self.old.bus }
-        requires lies { address + length bytes.now ≤ length self.old.bus.world.memory }
-        ensures ok { OnOk result (Tells (W.contents out.old) (W.contents out.new)
-            (Accesses (Stores address bytes.now) said.now self.old self.new)) }
-        ensures quiet { OnOk result (StaysQuiet self.old.bus self.new.bus) }
-    {
-        self.bus.store(address, bytes);
-        self.tell_request(alloc, out, said)?;
-        Ok(())
     }
 
     /// Plays a round of steps, one of each kind. Returns the number of steps that did something.
     fn round<W: Write>(&mut self, alloc: Global, out: &mut W) -> Result<u64, AnswerError>
-        requires { IsQuiet self.old.bus }
         ensures ok { IfOk result
             (λ moved. Tells (W.contents out.old) (W.contents out.new) (Round moved self.old self.new)) }
         ensures few { IfOk result (λ moved. moved ≤ 6) }
-        ensures quiet { OnOk result (StaysQuiet self.old.bus self.new.bus) }
     {
         let mut moved = 0;
         for kind in ROUND {
@@ -244,10 +122,8 @@ impl Device {
         alloc: Global,
         out: &mut W,
     ) -> Result<u64, AnswerError>
-        requires { IsQuiet self.old.bus }
-        ensures ok { IfOk result
-            (λ moved. Tells (W.contents out.old) (W.contents out.new) (Settles most_rounds moved self.old self.new)) }
-        ensures quiet { OnOk result (StaysQuiet self.old.bus self.new.bus) }
+        ensures { IfOk result
+            (λ moved. Tells (W.contents out.old) (W.contents out.new) (Settles moved self.old self.new)) }
     {
         let mut all = 0;
         for _round in 0..MOST_ROUNDS {

@@ -8,7 +8,7 @@ ghost use Rattle.adapter_server.specs.Words.{texts};
 ghost use Rattle.adapter_server.specs.declared.verb.Verb.TheVariants as verbs;
 
 use crate::refusal::{Refusal, Stop};
-use crate::request::{Payload, Request, Width};
+use crate::request::{Payload, Request, Wanted, Width};
 use crate::spelling::{bytes_at, number_at, payload_at, size_at};
 use crate::verb::{Verb, kind_of, verb_of};
 use crate::words::{word_at, words_in};
@@ -43,7 +43,7 @@ fn write_of(alloc: Global, words: &[&str]) -> Result<Request, Stop>
     if payload.bytes.len() as u64 != size {
         return Err(Stop::Refused(Refusal::Value));
     }
-    Ok(Request::WriteBytes(address, payload))
+    Ok(Request::Write(address, payload))
 }
 
 /// `memset ADDR SIZE VALUE`.
@@ -55,7 +55,7 @@ fn memset_of(alloc: Global, words: &[&str]) -> Result<Request, Stop>
     let size = size_at(word_at(words, 2))?;
     let value = number_at(word_at(words, 3), u64::from(u8::MAX))?;
     let bytes = vec![in alloc; value as u8; size as usize]?;
-    Ok(Request::WriteBytes(address, Payload { bytes }))
+    Ok(Request::Write(address, Payload { bytes }))
 }
 
 /// `readb ADDR`, `readw`, `readl`, `readq`.
@@ -64,17 +64,18 @@ fn read_number_of(width: Width, words: &[&str]) -> Result<Request, Stop>
     ensures { Gives result (reading.read_number_in width (texts words.now)) }
 {
     let address = number_at(word_at(words, 1), u64::MAX)?;
-    Ok(Request::ReadNumber(width, address))
+    Ok(Request::Read(Wanted::Number(width), address))
 }
 
 /// `writeb ADDR VALUE`, `writew`, `writel`, `writeq`.
-fn write_number_of(width: Width, words: &[&str]) -> Result<Request, Stop>
+fn write_number_of(alloc: Global, width: Width, words: &[&str]) -> Result<Request, Stop>
     requires { length words.now ≡ 3 }
     ensures { Gives result (reading.write_number_in width (texts words.now)) }
 {
     let address = number_at(word_at(words, 1), u64::MAX)?;
     let value = number_at(word_at(words, 2), width.greatest())?;
-    Ok(Request::WriteNumber(width, address, value))
+    let bytes = width.bytes_spelling(alloc, value)?;
+    Ok(Request::Write(address, Payload { bytes }))
 }
 
 /// `read ADDR SIZE`.
@@ -84,7 +85,7 @@ fn read_of(words: &[&str]) -> Result<Request, Stop>
 {
     let address = number_at(word_at(words, 1), u64::MAX)?;
     let size = size_at(word_at(words, 2))?;
-    Ok(Request::ReadBytes(address, size))
+    Ok(Request::Read(Wanted::Bytes(size), address))
 }
 
 /// `arrive HEX`.
@@ -131,7 +132,7 @@ fn request_with(alloc: Global, verb: Verb, words: &[&str]) -> Result<Request, St
 {
     match verb {
         Verb::ReadNumber(width) => read_number_of(width, words),
-        Verb::WriteNumber(width) => write_number_of(width, words),
+        Verb::WriteNumber(width) => write_number_of(alloc, width, words),
         Verb::Read => read_of(words),
         Verb::Write => write_of(alloc, words),
         Verb::Memset => memset_of(alloc, words),

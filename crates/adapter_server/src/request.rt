@@ -18,6 +18,15 @@ pub enum Width {
     Quad,
 }
 
+/// What a read asks for.
+#[derive(Clone, Copy)]
+pub enum Wanted {
+    /// `readb`, `readw`, `readl`, `readq`: a number, whose lowest byte is at the address.
+    Number(Width),
+    /// `read`: so many bytes, from the address on.
+    Bytes(u64),
+}
+
 /// The bytes of a request. In contracts it is their list.
 #[derive(Drop)]
 pub struct Payload {
@@ -44,14 +53,10 @@ impl Payload {
 /// What a line asks for.
 #[derive(Drop)]
 pub enum Request {
-    /// `readb`, `readw`, `readl`, `readq`: the number at an address.
-    ReadNumber(Width, u64),
-    /// `writeb`, `writew`, `writel`, `writeq`: writes a number at an address.
-    WriteNumber(Width, u64, u64),
-    /// `read`: a number of bytes from an address on.
-    ReadBytes(u64, u64),
-    /// `write`, `memset`: writes these bytes from an address on.
-    WriteBytes(u64, Payload),
+    /// `readb`, `readw`, `readl`, `readq`, `read`: what is at an address.
+    Read(Wanted, u64),
+    /// `writeb`, `writew`, `writel`, `writeq`, `write`, `memset`: writes these bytes from an address on.
+    Write(u64, Payload),
     /// `endianness`: the order of the bytes of a number.
     Endianness,
     /// `step`: the adapter takes a step of this kind.

@@ -1,9 +1,8 @@
 // The server.
 
 ghost use Rattle.std.specs.Prelude.{◌≡◌, IfErr, IfSome, OnOk};
-ghost use Rattle.adapter_server.specs.Devices.{IsQuiet, StaysQuiet, Tells};
-ghost use Rattle.adapter_server.specs.Lines.{lines_of};
-ghost use Rattle.adapter_server.specs.Serving.{AnswersNext, Serves, ServesAll, ServesFront, ServesSome};
+ghost use Rattle.adapter_server.specs.Order.{Tells};
+ghost use Rattle.adapter_server.specs.Serving.{AnswersNext, ServesAll, ServesFront, ServesSome, ServesWhole};
 ghost use Rattle.adapter_server.specs.declared.serve_error.ServeError.TheVariants as errors;
 
 use crate::answer_error::AnswerError;
@@ -23,10 +22,8 @@ fn answer_and_send<W: Write>(
     next: NextLine,
     line: &[u8],
 ) -> Result<(), AnswerError>
-    requires { IsQuiet session.old.device.bus }
-    ensures ok { OnOk result (Tells (W.contents output.old) (W.contents output.new)
+    ensures { OnOk result (Tells (W.contents output.old) (W.contents output.new)
         (AnswersNext next line.now session.old session.new)) }
-    ensures quiet { OnOk result (StaysQuiet session.old.device.bus session.new.device.bus) }
 {
     session.answer_next(alloc, output, next, line)?;
     send(output)
@@ -40,9 +37,8 @@ fn serve_lines<R: Read, W: Write>(
     input: &mut R,
     output: &mut W,
 ) -> Result<(), ServeError>
-    requires { IsQuiet session.old.device.bus }
     ensures ok { OnOk result (IfSome (R.remaining input.old) (λ bytes.
-        Tells (W.contents output.old) (W.contents output.new) (Serves (lines_of bytes) session.old session.new))) }
+        Tells (W.contents output.old) (W.contents output.new) (ServesWhole bytes session.old))) }
     ensures read { IfErr result (λ error. error ≡ errors.Read → IfSome (R.remaining input.old) (λ bytes.
         Tells (W.contents output.old) (W.contents output.new) (ServesFront bytes session.old))) }
 {
@@ -64,9 +60,9 @@ fn serve_lines<R: Read, W: Write>(
 /// flushed as a whole.
 ///
 /// Each line is answered. A line that isn't a request is refused. So is a line of more than 131,200 bytes, which is
-/// skipped to its end. Memory use is bounded: the memory of the options, the adapter and its bus (packet buffers and
-/// queues, the same for all input), and 721,039 bytes. Of these a line takes 131,200; the answer to a `read` of 65,536
-/// bytes takes the others, for the bytes, their digits and its text.
+/// skipped to its end. Memory use is bounded: the memory of the options, the adapter (its packet buffers, the same for
+/// all input), and 721,039 bytes. Of these a line takes 131,200; the answer to a `read` of 65,536 bytes takes the
+/// others, for the bytes, their digits and its text.
 ///
 /// # Errors
 ///

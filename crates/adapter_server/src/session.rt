@@ -1,6 +1,6 @@
 // The state of a server, and the steps before an access.
 
-ghost use Rattle.std.specs.Prelude.{◌≡◌, ◌%◌, ◌<◌, [], IfOk, OnOk, false, replicate};
+ghost use Rattle.std.specs.Prelude.{◌≡◌, IfOk, OnOk};
 ghost use Rattle.adapter.specs.Registers.{after_write, new_adapter};
 ghost use Rattle.eeprom.specs.Image.{image_with};
 ghost use Rattle.adapter_server.specs.Kinds.{kind_numbered};
@@ -11,13 +11,12 @@ use crate::device::Device;
 use crate::options::ServeOptions;
 use adapter::offsets::PBA;
 use adapter::{Adapter, StepKind};
-use bus::Bus;
+use bus::Machine;
 use dma_memory::HostMemory;
 use eeprom::Image;
 use rand_core::SeedableRng;
 use rand_core::utils::NextWord;
 use rand_pcg::Lcg64Xsh32;
-use solo_bus::SoloBus;
 use std::alloc::{AllocError, Global};
 use std::io::Write;
 
@@ -50,8 +49,6 @@ pub enum Place {
     Register(u32),
     /// Bytes of memory.
     Memory,
-    /// Neither.
-    Nowhere,
 }
 
 /// The kind of steps with this number, below 6.
@@ -79,40 +76,22 @@ fn adapter_of(alloc: Global, options: &ServeOptions) -> Result<Adapter, AllocErr
     Ok(adapter)
 }
 
-/// A bus that plays no steps by itself, with a new adapter and memory of zeros.
-fn bus_of(alloc: Global, options: &ServeOptions) -> Result<SoloBus, AllocError>
-    ensures { IfOk result (λ bus. bus ≡ record {
-      world = record {
-        memory = replicate options.now.memory 0;
-        adapter = after_write pba options.now.receive_kilobytes
-            (new_adapter (image_with options.now.address) options.now.link);
-      };
-      lively = false;
-      waiting = [];
-      wire = [];
-      accesses = 0;
-    }) }
-{
-    let memory = HostMemory::new(alloc, options.memory)?;
-    let adapter = adapter_of(alloc, options)?;
-    let bus = SoloBus::new(alloc, adapter, memory, false)?;
-    Ok(bus)
-}
-
 impl Session {
-    ghost use Rattle.adapter_server.specs.Devices.{IsQuiet, StaysQuiet, Tells};
-    ghost use Rattle.adapter_server.specs.Sessions.{Begins, Interleaves, drawn_count, drawn_kind, is_memory, place_in};
+    ghost use Rattle.adapter_server.specs.Order.{Tells};
+    ghost use Rattle.adapter_server.specs.Sessions.{Interleaves, drawn_count, drawn_kind, is_memory};
+    ghost use Rattle.adapter_server.specs.Sessions.{new_session, place_in};
 
     /// A server before the first request: a new adapter, whose PBA is written once, and memory of zeros.
+    #[tactic(auto, unfolding(crate::specs::Sessions::new_session))]
     pub(crate) fn new(alloc: Global, options: &ServeOptions) -> Result<Session, AnswerError>
-        ensures { IfOk result (λ session. Begins options.now session) }
+        ensures { IfOk result (λ session. session ≡ new_session options.now) }
     {
-        let bus = bus_of(alloc, options)?;
+        let memory = HostMemory::new(alloc, options.memory)?;
+        let adapter = adapter_of(alloc, options)?;
         Ok(Session {
             device: Device {
-                bus,
+                machine: Machine::new(adapter, memory),
                 log: false,
-                line: false,
             },
             registers: options.registers,
             generator: Lcg64Xsh32::seed_from_u64(options.seed),
@@ -120,28 +99,28 @@ impl Session {
         })
     }
 
-    /// The target of an access of `count` bytes at an address: an aligned word of 32 bits among the registers is a
-    /// register.
-    pub(crate) fn place_of(&self, address: u64, count: u64) -> Place
+    /// The target of an access of `count` bytes at an address, if there is one: an aligned word of 32 bits among the
+    /// registers is a register.
+    pub(crate) fn place_of(&self, address: u64, count: u64) -> Option<Place>
         ensures { result ≡ place_in self.now address count }
     {
         if count == WORD_BYTES && address >= self.registers {
             let offset = address - self.registers;
             if offset < REGISTER_BYTES && offset % WORD_BYTES == 0 {
-                return Place::Register(offset as u32);
+                return Some(Place::Register(offset as u32));
             }
         }
         if self.is_memory(address, count) {
-            return Place::Memory;
+            return Some(Place::Memory);
         }
-        Place::Nowhere
+        None
     }
 
     /// Whether `count` bytes from an address on are in memory.
-    pub(crate) fn is_memory(&self, address: u64, count: u64) -> bool
+    fn is_memory(&self, address: u64, count: u64) -> bool
         ensures { result ≡ is_memory self.now address count }
     {
-        let size = self.device.bus.size();
+        let size = self.device.machine.size();
         count <= size && address <= size - count
     }
 
@@ -173,9 +152,7 @@ impl Session {
         alloc: Global,
         out: &mut W,
     ) -> Result<(), AnswerError>
-        requires { IsQuiet self.old.device.bus }
-        ensures ok { OnOk result (Tells (W.contents out.old) (W.contents out.new) (Interleaves self.old self.new)) }
-        ensures quiet { OnOk result (StaysQuiet self.old.device.bus self.new.device.bus) }
+        ensures { OnOk result (Tells (W.contents out.old) (W.contents out.new) (Interleaves self.old self.new)) }
     {
         let count = self.draw_count();
         for _step in 0..count {

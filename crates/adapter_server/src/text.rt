@@ -3,7 +3,7 @@
 ghost use Rattle.std.specs.Prelude.{◌≡◌, ◌++◌, IfOk, OnOk};
 ghost use Rattle.adapter_server.specs.Texts as texts;
 
-use adapter::{Fate, StepKind, StepOutcome};
+use adapter::{Fate, Outcome, StepKind};
 use std::alloc::{AllocError, Global};
 
 /// The word of a kind of step.
@@ -20,19 +20,20 @@ pub(crate) fn kind_word(kind: StepKind) -> &'static [u8]
     }
 }
 
-/// The word of the outcome of a step.
-pub(crate) fn outcome_word(outcome: StepOutcome) -> &'static [u8]
+/// The word of the outcome of a step. No step delivers a frame.
+pub(crate) fn outcome_word(outcome: Outcome<()>) -> &'static [u8]
     ensures { result.now ≡ texts.outcome_word outcome }
 {
     match outcome {
-        StepOutcome::Took => b"took",
-        StepOutcome::Put => b"put",
-        StepOutcome::WireFull => b"wirefull",
-        StepOutcome::Moved => b"moved",
-        StepOutcome::Done => b"done",
-        StepOutcome::Ticked => b"ticked",
-        StepOutcome::Nothing => b"nothing",
-        StepOutcome::Fault => b"fault",
+        Outcome::Took => b"took",
+        Outcome::Put(()) => b"put",
+        Outcome::WireFull => b"wirefull",
+        Outcome::Moved => b"moved",
+        Outcome::Done => b"done",
+        Outcome::Delivered((), _) => b"delivered",
+        Outcome::Ticked => b"ticked",
+        Outcome::Nothing => b"nothing",
+        Outcome::Fault => b"fault",
     }
 }
 
@@ -59,58 +60,37 @@ fn push_parts(text: &mut Vec<u8>, parts: &[&[u8]]) -> Result<(), AllocError>
     Ok(())
 }
 
-/// Appends the log's line for a step, if the log is on.
-pub(crate) fn push_step(
-    text: &mut Vec<u8>,
-    log: bool,
-    kind: StepKind,
-    outcome: StepOutcome,
-) -> Result<(), AllocError>
-    ensures { OnOk result (text.new.items ≡ text.old.items ++ texts.step_log log kind outcome) }
+/// Appends what the log says, in parts, if the log is on.
+pub(crate) fn push_said(text: &mut Vec<u8>, log: bool, said: &[&[u8]]) -> Result<(), AllocError>
+    ensures { OnOk result (text.new.items ≡ text.old.items ++ texts.said_log log (texts.joined said.now)) }
 {
     if !log {
         return Ok(());
     }
-    push_parts(
-        text,
-        &[
-            b"# step ",
-            kind_word(kind),
-            b" -> ",
-            outcome_word(outcome),
-            b"\n",
-        ],
-    )
+    text.extend_from_slice(b"# ")?;
+    push_parts(text, said)?;
+    text.extend_from_slice(b"\n")
 }
 
-/// Appends the log's line for a request, if the log is on.
-pub(crate) fn push_said(text: &mut Vec<u8>, log: bool, said: &[u8]) -> Result<(), AllocError>
-    ensures { OnOk result (text.new.items ≡ text.old.items ++ texts.said_log log said.now) }
+/// Appends the line of a frame that was put onto the wire, from its digits.
+pub(crate) fn push_frame(text: &mut Vec<u8>, put: Option<String>) -> Result<(), AllocError>
+    ensures { OnOk result (text.new.items ≡ text.old.items ++ texts.digits_told put) }
 {
-    if !log {
-        return Ok(());
+    match put {
+        Some(digits) => push_parts(text, &[b"frame ", digits.as_bytes(), b"\n"]),
+        None => Ok(()),
     }
-    push_parts(text, &[b"# ", said, b"\n"])
 }
 
-/// Appends the line of a frame that was put onto the wire.
-pub(crate) fn push_frame(alloc: Global, text: &mut Vec<u8>, frame: &[u8]) -> Result<(), AllocError>
-    ensures { OnOk result (text.new.items ≡ text.old.items ++ texts.frame_line frame.now) }
+/// The line of the level of the interrupt line, if there is one to print.
+pub(crate) fn line_text(level: Option<bool>) -> &'static [u8]
+    ensures { result.now ≡ texts.line_told level }
 {
-    let digits = hex::encode(alloc, frame)?;
-    push_parts(text, &[b"frame ", digits.as_bytes(), b"\n"])
-}
-
-/// Appends the line of a change of the interrupt line, if it changed.
-pub(crate) fn push_line(text: &mut Vec<u8>, was: bool, is: bool) -> Result<(), AllocError>
-    ensures { OnOk result (text.new.items ≡ text.old.items ++ texts.line_moved was is) }
-{
-    let line: &[u8] = match (was, is) {
-        (false, true) => b"IRQ raise 0\n",
-        (true, false) => b"IRQ lower 0\n",
-        _ => b"",
-    };
-    text.extend_from_slice(line)
+    match level {
+        Some(true) => b"IRQ raise 0\n",
+        Some(false) => b"IRQ lower 0\n",
+        None => b"",
+    }
 }
 
 /// The line of an answer with bytes.

@@ -8,7 +8,6 @@ use Rattle.adapter_server.proofs.server.serve_lines.Goals as goal
 pub loop-count-init : goal.loop-count-init
 loop-count-init g c = record {
   room = omega (arith, c.in_ok-line.ensures.capacity);
-  quiet = c.requires;
   so_far = serves_none (g.R.Read.remaining c.args.input.now) c.args.session.now (g.W.Write.contents c.args.output.now);
 }
 
@@ -18,11 +17,10 @@ loop-count-preserved g c =
     let contents = g.W.Write.contents in
     record {
       room = c.in_ok-next.ensures.room;
-      quiet = c.in_ok-answer_and_send.ensures.quiet.quiet;
       so_far = serves_next c.in_ok-next.next (left c.args.input.now) (left c.loop-count.input) (left c.next_line.new.reader)
           c.args.session.now c.loop-count.session c.answer_and_send.new.session c.next_line.new.line.items (contents c.args.output.now)
           (contents c.loop-count.output) (contents c.answer_and_send.new.output) c.loop-count.invariant.so_far
-          c.in_ok-next.ensures.next (rw c.as_slice.ensures.value at c.in_ok-answer_and_send.ensures.ok);
+          c.in_ok-next.ensures.next (rw c.as_slice.ensures.value at c.in_ok-answer_and_send.ensures);
     }
 
 pub returns-in-End-clause-ok : goal.returns-in-End-clause-ok

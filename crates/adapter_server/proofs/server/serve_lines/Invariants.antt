@@ -1,6 +1,5 @@
 use Rattle.std.proofs.Common.{◌≤◌}
 use Rattle.std.specs.Prelude.{vec_capacity}
-use Rattle.adapter_server.specs.Devices.{IsQuiet}
 use Rattle.adapter_server.specs.Lines.{most_line_bytes}
 use Rattle.adapter_server.proofs.ServedLines.{ServesOn}
 use Rattle.adapter_server.proofs.server.serve_lines.Given as goal
@@ -8,7 +7,6 @@ use Rattle.adapter_server.proofs.server.serve_lines.Given as goal
 abbrev pub invariant-loop-count : goal.invariant-loop-count
 invariant-loop-count g l = record {
   room : most_line_bytes ≤ vec_capacity l.line;
-  quiet : IsQuiet l.session.device.bus;
   so_far : ServesOn (g.R.Read.remaining l.initial.input) (g.R.Read.remaining l.input) l.initial.session l.session
       (g.W.Write.contents l.initial.output) (g.W.Write.contents l.output);
 }

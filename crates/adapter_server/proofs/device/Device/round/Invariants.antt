@@ -1,12 +1,11 @@
 use Rattle.std.proofs.Common.{◌≤◌, take}
-use Rattle.adapter_server.specs.Devices.{StaysQuiet, round}
-use Rattle.adapter_server.proofs.Playing.{PlayedFront}
+use Rattle.adapter_server.specs.Devices.{Plays, round}
+use Rattle.adapter_server.specs.Order.{InOrder, Tells}
 use Rattle.adapter_server.proofs.device.Device.round.Given as goal
 
 abbrev pub invariant-loop-kind : goal.invariant-loop-kind
 invariant-loop-kind g l = record {
-  played : PlayedFront (take l.kind-index round) l.moved l.initial.self l.self (g.W.Write.contents l.initial.out)
-      (g.W.Write.contents l.out);
+  plays : Tells (g.W.Write.contents l.initial.out) (g.W.Write.contents l.out)
+      (InOrder Plays (take l.kind-index round) (l.initial.self, 0) (l.self, l.moved));
   few : l.moved ≤ l.kind-index;
-  quiet : StaysQuiet l.initial.self.bus l.self.bus;
 }

@@ -1,23 +1,17 @@
-use Rattle.std.proofs.Common.{ap}
-use Rattle.std.proofs.lemmas.Result.{on_ok_weaker}
-use Rattle.adapter_server.specs.Answers.{Delivers}
-use Rattle.adapter_server.specs.Devices.{Arrives}
+use Rattle.std.proofs.Common.{refl}
+use Rattle.bus.specs.declared.event.Event.TheVariants.{Arrives}
+use Rattle.adapter_server.specs.Devices.{Prints}
 use Rattle.adapter_server.specs.Texts.{fate_word, word_line}
-use Rattle.adapter_server.proofs.Told.{answered, on_device, said_line, tells_more}
+use Rattle.adapter_server.proofs.Printing.{answered, printed}
 use Rattle.adapter_server.proofs.session.Session.deliver.Goals as goal
 
-pub returns-clause-ok : goal.returns-clause-ok
-returns-clause-ok g c =
-    let contents = g.W.Write.contents in
-    let fate = c.in_ok-fate.fate in
-    let before = contents c.args.out.now in
-    let now = contents c.arrive.new.out in
-    let after = contents c.say_word.new.out in
-    let told = on_device (Arrives c.args.frame.now fate c.args.said.now) c.args.self.now c.arrive.new.self before now
-    c.in_ok-fate.ensures.ok in
-    on_ok_weaker c.say_word.result
-    (λ written. tells_more _ (Delivers c.args.frame.now c.args.said.now c.args.self.now
-    (record c.args.self.now { device = c.arrive.new.self })) before after
-    (λ text answer. record { fate = fate; answered = answer })
-    (answered _ (word_line (fate_word fate)) before now after told
-    (said_line now after _ _ written (ap word_line c.fate_word.ensures)))) c.say_word.ensures
+pub returns : goal.returns
+returns g c =
+    let frame = c.args.frame.now in
+    let said = c.args.said.now in
+    let event = Arrives frame c.arrive-fate.result in
+    answered c.say_word.result (λ fate. Prints (Arrives frame fate) said) (λ fate. word_line (fate_word fate))
+    c.arrive-fate.result c.args.self.now c.tell.new.self _ _ _
+    (printed event said c.args.self.now.device c.tell.new.self c.arrive-fate.new.self (g.W.Write.contents c.args.out.now)
+    (g.W.Write.contents c.tell.new.out) refl c.arrive-fate.ensures.occurs c.arrive-fate.ensures.state c.in_ok-tell.ensures.state
+    c.in_ok-tell.ensures.text) (rw c.fate_word.ensures at c.say_word.ensures)

@@ -1,53 +1,45 @@
-use Rattle.std.proofs.Common.{arith, ap, refl, subst, sym, ℕ}
+use Rattle.std.proofs.Common.{◌≡◌, ◌∙◌, ℕ, List, ap, arith, replicate, subst}
+use Rattle.std.proofs.lemmas.List.{replicate_more}
 use Rattle.adapter.specs.declared.step.StepKind.{StepKind}
-use Rattle.adapter_server.specs.Devices.{IsQuiet, StaysQuiet, Steps, Tells}
+use Rattle.adapter_server.specs.Devices.{Steps}
+use Rattle.adapter_server.specs.Order.{InOrder, Tells, Times}
+use Rattle.adapter_server.specs.Sessions.{DrawsStep, drawn_count}
+use Rattle.adapter_server.specs.declared.device.Device.{Device}
 use Rattle.adapter_server.specs.declared.session.Session.{Session}
-use Rattle.adapter_server.proofs.Drawing.{DrawnSoFar, drawn_all, drawn_none, drawn_step}
-use Rattle.adapter_server.proofs.Playing.{quiet_on}
-use Rattle.solo_bus.specs.SoloBuses.{SoloState}
+use Rattle.adapter_server.proofs.Writing.{tells_more, tells_none, tells_so}
 use Rattle.adapter_server.proofs.session.Session.interleave.Goals as goal
 
 pub loop-step-init : goal.loop-step-init
-loop-step-init g c =
-    let same = ap (λ (s : Session). s.device.bus) c.draw_count-count.ensures.state in
-    record {
-      so_far = drawn_none c.draw_count-count.new.self (g.W.Write.contents c.args.out.now);
-      quiet = record { quiet = subst (λ (b : SoloState). IsQuiet b) (sym same) c.requires; size = refl };
-    }
+loop-step-init g c = tells_none (λ (turn : ℕ). DrawsStep) c.draw_count-count.new.self (g.W.Write.contents c.args.out.now)
 
 pub loop-step-preserved : goal.loop-step-preserved
 loop-step-preserved g c =
     let contents = g.W.Write.contents in
-    let state = c.draw_kind-kind.ensures.state in
-    let same = ap (λ (s : Session). s.device.bus) state in
-    let told = subst
-    (λ (kind : StepKind). Tells (contents c.loop-step.out) (contents c.step.new.out)
-    (Steps kind c.in_ok-step.field-0 c.draw_kind-kind.new.self.device c.step.new.self)) c.draw_kind-kind.ensures.kind
-    c.in_ok-step.ensures.ok in
-    record {
-      so_far = drawn_step c.loop-step._step c.draw_count-count.new.self c.loop-step.self c.draw_kind-kind.new.self c.step.new.self
-          c.in_ok-step.field-0 (contents c.args.out.now) (contents c.loop-step.out) (contents c.step.new.out)
-          c.loop-step.invariant.so_far state told;
-      quiet = quiet_on _ _ _ c.loop-step.invariant.quiet
-          (subst (λ (b : SoloState). StaysQuiet b c.step.new.self.bus) same c.in_ok-step.ensures.quiet);
-    }
+    let b = c.loop-step.self in
+    let drawn = c.draw_kind-kind.ensures in
+    let after : Session = record c.draw_kind-kind.new.self { device = c.step.new.self } in
+    let drew = tells_so _ (DrawsStep b after) (contents c.loop-step.out) (contents c.step.new.out)
+    (λ text steps. record {
+      outcome = c.in_ok-step.field-0;
+      steps = subst (λ (kind : StepKind). Steps kind c.in_ok-step.field-0 b.device c.step.new.self text) drawn.kind
+          (subst (λ (d : Device). Steps c.draw_kind-kind.result c.in_ok-step.field-0 d c.step.new.self text)
+          (ap (λ (s : Session). s.device) drawn.state) steps);
+      after = ap (λ (s : Session). record s { device = c.step.new.self }) drawn.state;
+    }) c.in_ok-step.ensures in
+    subst
+    (λ (turns : List ℕ). Tells (contents c.args.out.now) (contents c.step.new.out)
+    (InOrder (λ (turn : ℕ). DrawsStep) turns c.draw_count-count.new.self after)) (replicate_more c.loop-step._step 0)
+    (tells_more (λ (turn : ℕ). DrawsStep) (replicate c.loop-step._step 0) 0 c.draw_count-count.new.self b after
+    (contents c.args.out.now) (contents c.loop-step.out) (contents c.step.new.out) c.loop-step.invariant drew)
 
-pub step-requires : goal.step-requires
-step-requires g c =
-    let same = ap (λ (s : Session). s.device.bus) c.draw_kind-kind.ensures.state in
-    subst (λ (b : SoloState). IsQuiet b) (sym same) c.loop-step.invariant.quiet.quiet
-
-pub returns-clause-ok : goal.returns-clause-ok
-returns-clause-ok g c =
+pub returns : goal.returns
+returns g c =
     let contents = g.W.Write.contents in
-    let all : DrawnSoFar c.draw_count-count.result c.draw_count-count.new.self c.loop-step.self (contents c.args.out.now)
-    (contents c.loop-step.out) =
-    subst (λ (n : ℕ). DrawnSoFar n c.draw_count-count.new.self c.loop-step.self (contents c.args.out.now) (contents c.loop-step.out))
-    (omega arith) c.loop-step.invariant.so_far in
-    drawn_all c.args.self.now c.draw_count-count.new.self c.loop-step.self c.draw_count-count.result (contents c.args.out.now)
-    (contents c.loop-step.out) c.draw_count-count.ensures.state c.draw_count-count.ensures.count all
-
-pub returns-clause-quiet : goal.returns-clause-quiet
-returns-clause-quiet g c =
-    let same = ap (λ (s : Session). s.device.bus) c.draw_count-count.ensures.state in
-    subst (λ (b : SoloState). StaysQuiet b c.loop-step.self.device.bus) same c.loop-step.invariant.quiet
+    let drawn = c.draw_count-count.ensures in
+    let played : c.loop-step._step ≡ c.draw_count-count.result = omega arith in
+    subst
+    (λ (s : Session). Tells (contents c.args.out.now) (contents c.loop-step.out)
+    (Times DrawsStep (drawn_count c.args.self.now.most_steps c.args.self.now.generator).0 s c.loop-step.self)) drawn.state
+    (subst
+    (λ (n : ℕ). Tells (contents c.args.out.now) (contents c.loop-step.out)
+    (Times DrawsStep n c.draw_count-count.new.self c.loop-step.self)) (played ∙ drawn.count) c.loop-step.invariant)

@@ -1,0 +1,28 @@
+-- Things that happen in order, and the text that is written for them.
+use Rattle.std.specs.Prelude.{◌≡◌, ◌++◌, ℕ, List, [], ◌∷◌, Option, replicate}
+use Rattle.std.specs.Io.KnownBytes.{Appends}
+use Rattle.adapter_server.specs.Texts.{Text}
+
+-- A text with this property was written.
+pub record Tells (before after : Option (List ℕ)) (Holds : Text → Type 0) : Type 0 where
+  pub text : Text
+  pub holds : Holds text
+  pub written : Appends before after text
+
+-- One thing happens, and then another. Their texts are joined.
+pub record Joins {S : Type 0} (First Later : S → Text → Type 0) (text : Text) : Type 0 where
+  pub middle : S
+  pub first : Text
+  pub rest : Text
+  pub happens : First middle first
+  pub goes_on : Later middle rest
+  pub text_is : text ≡ first ++ rest
+
+-- Something happens for each of a list in order, in the state after those before it.
+abbrev pub InOrder : {X S : Type 0} → (X → S → S → Text → Type 0) → List X → S → S → Text → Type 0
+InOrder Happens [] a b text = (b ≡ a) × (text ≡ [])
+InOrder Happens (x ∷ later) a c text = Joins (λ b first. Happens x a b first) (λ b rest. InOrder Happens later b c rest) text
+
+-- Something happens so many times.
+abbrev pub Times : {S : Type 0} → (S → S → Text → Type 0) → ℕ → S → S → Text → Type 0
+Times Happens count a b text = InOrder (λ (turn : ℕ). Happens) (replicate count 0) a b text
