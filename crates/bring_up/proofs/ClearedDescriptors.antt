@@ -27,9 +27,8 @@ use Rattle.bus.proofs.IdleRings.{offered-none, outstanding-none}
 use Rattle.bus.proofs.Lists.{all-head, all-none, all-tail, pairs-head, pairs-tail}
 use Rattle.bus.proofs.WritableSlots.{drivers_receive_slots_can_be_written}
 use Rattle.bus.proofs.Rings.{outstanding-inside}
-use Rattle.driver_law.specs.Calls.{Ran, at, only}
+use Rattle.driver_law.specs.Calls.{GoesTo, Ran, at, driver_did, driver_in, only}
 use Rattle.driver_law.specs.DriverState.{DriverState, receive_slot, receive_tail, transmit_slot}
-use Rattle.driver_law.specs.Stretches.{GoesTo, driver_did, driver_in}
 use Rattle.driver_law.specs.ReadyDrivers.{ReadyWith}
 use Rattle.driver_law.proofs.Accesses.{ran_by-acts, store-sets}
 use Rattle.driver_law.proofs.Places.{place-add, place-below, places-differ}

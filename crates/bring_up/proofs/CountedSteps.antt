@@ -42,7 +42,7 @@ module _ {B : Type 0} (bus : Ghosts B) where
       record {
         asks = record {
           past = joined one.asks.past two.asks.past;
-          told = joins a b c one.asks.past two.asks.past one.asks.told two.asks.told;
+          reports = joins a b c one.asks.past two.asks.past one.asks.reports two.asks.reports;
           only =
               subst (All (IsOf offset)) (sym (writes-append before behind))
               (All-append (IsOf offset) (writes_in before) (writes_in behind) one.asks.only two.asks.only);
@@ -69,7 +69,7 @@ module _ {B : Type 0} (bus : Ghosts B) where
   asks-access old new access effect offset acts only same rests = record {
     asks = record {
       past = acts.past;
-      told = acts.told;
+      reports = acts.told;
       only = subst (λ (accesses : List Access). All (IsOf offset) (writes_in accesses)) (sym acts.only) only;
       settings = same ∙ happenings_leave_settings (bus.world old) acts.middle acts.past acts.before;
       rests = λ rest.

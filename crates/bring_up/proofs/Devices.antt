@@ -14,7 +14,7 @@ use Rattle.bring_up.specs.WrittenRegisters.{allocation_writes, link_writes, rese
 -- The image was read: the device is at rest, as it is behind a reset.
 pub record IsRead {B : Type 0} (bus : Ghosts B) (old new : B) : Type 0 where
   pub past : Past
-  pub told : bus.happened old new past
+  pub reports : bus.happened old new past
   pub rests : IsAtRest (bus.world new)
   pub settings : settings_of (bus.world new).adapter ≡ settings_after_all reset_writes (settings_of (bus.world old).adapter)
 
@@ -23,7 +23,7 @@ pub is-read : {B : Type 0} (bus : Ghosts B) → StretchesJoin bus
     → IsRead bus old new
 is-read bus joins old middle new resets rest asks = record {
   past = joined resets.past asks.past;
-  told = joins old middle new resets.past asks.past resets.told asks.told;
+  reports = joins old middle new resets.past asks.past resets.reports asks.reports;
   rests = (asks.rests rest).0;
   settings = asks.settings ∙ resets.settings;
 }
@@ -31,7 +31,7 @@ is-read bus joins old middle new resets rest asks = record {
 -- And the packet buffer is shared out, and the link let come up.
 pub record IsPrepared {B : Type 0} (bus : Ghosts B) (old new : B) (kilobytes : ℕ) : Type 0 where
   pub past : Past
-  pub told : bus.happened old new past
+  pub reports : bus.happened old new past
   pub rests : IsAtRest (bus.world new)
   pub settings : settings_of (bus.world new).adapter
       ≡ settings_after_all (reset_writes ++ (allocation_writes kilobytes ++ link_writes)) (settings_of (bus.world old).adapter)
@@ -52,8 +52,8 @@ pub is-set : {B : Type 0} (bus : Ghosts B) → StretchesJoin bus
     → IsPrepared bus old new kilobytes
 is-set bus joins old read shared new kilobytes is shares links = record {
   past = joined is.past (joined shares.past links.past);
-  told = joins old read new is.past (joined shares.past links.past) is.told
-      (joins read shared new shares.past links.past shares.told links.told);
+  reports = joins old read new is.past (joined shares.past links.past) is.reports
+      (joins read shared new shares.past links.past shares.reports links.reports);
   rests = (links.rests link-aside (shares.rests (allocation-aside kilobytes) is.rests).0).0;
   settings =
       links.settings
@@ -69,7 +69,7 @@ pub still-ready : {B : Type 0} (bus : Ghosts B) → StretchesJoin bus
     → IsPrepared bus old new kilobytes
 still-ready bus joins old middle new kilobytes is asks = record {
   past = joined is.past asks.past;
-  told = joins old middle new is.past asks.past is.told asks.told;
+  reports = joins old middle new is.past asks.past is.reports asks.reports;
   rests = (asks.rests is.rests).0;
   settings = asks.settings ∙ is.settings;
 }

@@ -28,9 +28,8 @@ use Rattle.bus.proofs.Lists.{append-empty, map-empty}
 use Rattle.bus.proofs.Settings.{happens-off}
 use Rattle.bus.proofs.WaitingRings.{offers_wait}
 use Rattle.driver_law.specs.Beginnings.{Enabled}
-use Rattle.driver_law.specs.Calls.{Ran, at, only}
+use Rattle.driver_law.specs.Calls.{Goes, GoesTo, Ran, at, driver_did, driver_in, only}
 use Rattle.driver_law.specs.DriverState.{DriverState, transmit_tail}
-use Rattle.driver_law.specs.Stretches.{Goes, GoesTo, driver_did, driver_in}
 use Rattle.driver_law.specs.ReadyDrivers.{Ready, ReadyWith}
 use Rattle.driver_law.proofs.Accesses.{SetsBy, access-link, access-set, write-sets}
 use Rattle.driver_law.proofs.TransmitControl.{causes_are_enabled, transmitter_is_enabled}
@@ -51,7 +50,7 @@ ran_by-begins {first_up} {up} bus old new access effect d acts sets ready step =
     let first = goes-happens d (bus.world old) acts.middle acts.past ready acts.before in
     record {
       past = acts.past;
-      told = acts.told;
+      reports = acts.told;
       only = acts.only;
       goes =
           subst (GoesTo up (driver_in d (bus.world old)) (driver_in d (bus.world new)) (driver_did [] [])) (joined-nothing acts.past)
@@ -170,7 +169,7 @@ asked-still d a b past goes asked =
     (λ (bit : HasBit a.adapter.causes.recorded 7). inr (goes.causes 7 bit))
     asked)
     (λ (bit : HasBit b.adapter.causes.recorded 7). inr bit)
-    goes.told
+    goes.recorded
 
 pub enables-causes : {B : Type 0} (bus : Ghosts B) (old new : B) (value : ℕ) (d : DriverState)
     → value ≡ 0xD1 → WriteActs bus old new 0x00D0 value → Ready d (bus.world old)
@@ -187,7 +186,7 @@ enables-causes bus old new value d is written ready =
     record {
       accessed = record {
         past = acts.past;
-        told = acts.told;
+        reports = acts.told;
         only = acts.only;
         follows = record {
           set = access-set bus old new (Writes 0x00D0 0xD1) _ acts sets;

@@ -35,7 +35,7 @@ abbrev asks-access : {B : Type 0} (bus : Ghosts B) (old new : B) (access : Acces
 asks-access bus old new access effect offset acts only left rests = record {
   asks = record {
     past = acts.past;
-    told = acts.told;
+    reports = acts.told;
     only = subst (λ (accesses : List Access). All (λ write. write.offset ≡ offset) (writes_in accesses)) (sym acts.only) only;
     settings = left ∙ happenings_leave_settings (bus.world old) acts.middle acts.past acts.before;
     rests = λ rest.
@@ -82,7 +82,7 @@ asks-both bus joins a b c offset m n first later =
     record {
       asks = record {
         past = joined one.past two.past;
-        told = joins a b c one.past two.past one.told two.told;
+        reports = joins a b c one.past two.past one.reports two.reports;
         only =
             subst (All (λ write. write.offset ≡ offset)) (sym (writes-append one.past.accesses two.past.accesses))
             (All-append (λ write. write.offset ≡ offset) (writes_in one.past.accesses) (writes_in two.past.accesses) one.only two.only);

@@ -16,7 +16,7 @@ use Rattle.adapter.specs.declared.ring.RingRegisters.{RingRegisters}
 use Rattle.bus.specs.Settings.{Settings, Write, adapter_with, settings_after, settings_after_all, settings_of, writes_in}
 use Rattle.bus.proofs.Lists.{all-head, all-tail, append-empty}
 use Rattle.bus.proofs.Settings.{stays-off, writes-append}
-use Rattle.driver_law.specs.Accesses.{stores_from}
+use Rattle.driver_law.specs.Calls.{stores_from}
 use Rattle.bring_up.specs.ClearedDescriptors.{clears, clears_from}
 use Rattle.bring_up.specs.NoFrames.{IsNotTransmitRing, LeavesTransmitRing, NewTransmitRingStays, NoFramesStay}
 

@@ -26,7 +26,7 @@ StretchesJoin {B} bus =
 pub sets-nothing : {B : Type 0} (bus : Ghosts B) → ((b : B) → bus.happened b b nothing) → (b : B) → Sets bus [] b b
 sets-nothing bus stays b = record {
   past = nothing;
-  told = stays b;
+  reports = stays b;
   writes_are = refl;
   settings = refl;
   rests = λ aside rest. (rest, record { none_put = refl; none_stored = refl; none_missed = refl });
@@ -47,7 +47,7 @@ unfoldable pub sets-join : {B : Type 0} (bus : Ghosts B) → StretchesJoin bus
     → Sets bus (first ++ later) a c
 sets-join bus joins a b c first later one two = record {
   past = joined one.past two.past;
-  told = joins a b c one.past two.past one.told two.told;
+  reports = joins a b c one.past two.past one.reports two.reports;
   writes_are = writes-append one.past.accesses two.past.accesses ∙ rw (one.writes_are, two.writes_are) refl;
   settings =
       two.settings ∙ ap (settings_after_all later) one.settings ∙ sym (settings-append first later (settings_of (bus.world a).adapter));
@@ -67,7 +67,7 @@ unfoldable pub sets-access : {B : Type 0} (bus : Ghosts B) (old new : B) (access
     → (All LeavesPhy writes → HasLink acts.middle → HasLink (bus.world new)) → Sets bus writes old new
 sets-access bus old new access effect writes acts are set rests link = record {
   past = acts.past;
-  told = acts.told;
+  reports = acts.told;
   writes_are = ap writes_in acts.only ∙ are;
   settings = set ∙ ap (settings_after_all writes) (happenings_leave_settings (bus.world old) acts.middle acts.past acts.before);
   rests = λ aside rest.
@@ -111,7 +111,7 @@ sets-word bus old new offset value word is acts =
 pub asks-nothing : {B : Type 0} (bus : Ghosts B) → ((b : B) → bus.happened b b nothing) → (b : B) (offset : ℕ) → Asks bus offset b b
 asks-nothing bus stays b offset = record {
   past = nothing;
-  told = stays b;
+  reports = stays b;
   only = all-none (λ write. write.offset ≡ offset);
   settings = refl;
   rests = λ rest. (rest, record { none_put = refl; none_stored = refl; none_missed = refl });
@@ -124,7 +124,7 @@ pub asks-of : {B : Type 0} (bus : Ghosts B) (old new : B) (offset : ℕ) (writes
     → ((settings : Settings) → settings_after_all writes settings ≡ settings) → Asks bus offset old new
 asks-of bus old new offset writes sets only aside same = record {
   past = sets.past;
-  told = sets.told;
+  reports = sets.reports;
   only = subst (All (λ write. write.offset ≡ offset)) (sym sets.writes_are) only;
   settings = sets.settings ∙ same (settings_of (bus.world old).adapter);
   rests = sets.rests aside;
@@ -135,7 +135,7 @@ pub asks-join : {B : Type 0} (bus : Ghosts B) → StretchesJoin bus
     → (a b c : B) (offset : ℕ) → Asks bus offset a b → Asks bus offset b c → Asks bus offset a c
 asks-join bus joins a b c offset one two = record {
   past = joined one.past two.past;
-  told = joins a b c one.past two.past one.told two.told;
+  reports = joins a b c one.past two.past one.reports two.reports;
   only =
       subst (All (λ write. write.offset ≡ offset)) (sym (writes-append one.past.accesses two.past.accesses))
       (All-append (λ write. write.offset ≡ offset) (writes_in one.past.accesses) (writes_in two.past.accesses) one.only two.only);

@@ -14,9 +14,8 @@ use Rattle.bus.specs.PastOfStretch.{nothing}
 use Rattle.bus.specs.declared.bus.Bus.{Ghosts}
 use Rattle.bus.specs.declared.event.Access.{Access}
 use Rattle.bus.specs.declared.event.Access.TheVariants.{Writes}
-use Rattle.driver_law.specs.Calls.{Ran, at, only}
+use Rattle.driver_law.specs.Calls.{GoesTo, Ran, at, driver_did, driver_in, only}
 use Rattle.driver_law.specs.DriverState.{DriverState}
-use Rattle.driver_law.specs.Stretches.{GoesTo, driver_did, driver_in}
 use Rattle.driver_law.specs.ReadyDrivers.{ReadyWith}
 use Rattle.driver_law.proofs.Accesses.{ran_by-join, write-sets}
 use Rattle.driver_law.proofs.Steps.{goes-happens}

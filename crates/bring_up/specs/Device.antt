@@ -52,7 +52,7 @@ IsErrorOfLively errors.Config before = ⊤
 -- A device is looked for.
 pub record FindsDevice {B : Type 0} (bus : Ghosts B) (kilobytes : ℕ) (result : Result (List ℕ) InitError) (old new : B) : Type 0 where
   pub past : Past
-  pub told : bus.happened old new past
+  pub reports : bus.happened old new past
   pub found : IfOk result (IsFound bus kilobytes old new)
   pub why : IfErr result (λ error. IsErrorOf error (bus.world old).adapter.image (length past.accesses))
   pub why_lively : bus.lively old → IfErr result (λ error. IsErrorOfLively error (bus.world old))

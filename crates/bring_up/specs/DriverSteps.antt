@@ -15,10 +15,9 @@ use Rattle.bus.specs.declared.bus.Bus.{Ghosts}
 use Rattle.bus.specs.declared.event.Access.{Access}
 use Rattle.bus.specs.declared.event.Access.TheVariants.{Writes}
 use Rattle.driver_law.specs.Beginnings.{Enabled}
-use Rattle.driver_law.specs.Calls.{Ran, at, only}
+use Rattle.driver_law.specs.Calls.{FollowsWrites, Goes, HasNoForgottenWork, Ran, at, driver_did, driver_in, only}
 use Rattle.driver_law.specs.DriverState.{DriverState}
 use Rattle.driver_law.specs.ReadyDrivers.{Ready}
-use Rattle.driver_law.specs.Stretches.{FollowsWrites, Goes, HasNoForgottenWork, driver_did, driver_in}
 
 -- these writes, and no other access
 abbrev pub accesses_of : List Write → List Access
@@ -54,7 +53,7 @@ pub record SetsTransmitRing {B : Type 0} (bus : Ghosts B) (writes : List Write) 
 -- The accesses are exactly these. Settings, arrivals of frames and the link follow from the writes among them.
 pub record Accessed {B : Type 0} (bus : Ghosts B) (accesses : List Access) (old new : B) : Type 0 where
   pub past : Past
-  pub told : bus.happened old new past
+  pub reports : bus.happened old new past
   pub only : past.accesses ≡ accesses
   pub follows : FollowsWrites (bus.world old) (bus.world new) past
 

@@ -10,7 +10,7 @@ use Rattle.bus.specs.PastOfStretch.{Past}
 use Rattle.bus.specs.AdaptersAtRest.{NoFrame}
 use Rattle.bus.specs.Settings.{AreSet, IsOff, LeavesReceiver, WhileOff, Write, writes_in}
 use Rattle.driver_law.specs.DriverState.{DriverState}
-use Rattle.driver_law.specs.Stretches.{GoesTo, driver_did, driver_in}
+use Rattle.driver_law.specs.Calls.{GoesTo, driver_did, driver_in}
 use Rattle.driver_law.specs.ReadyDrivers.{ReadyWith}
 
 -- RCTL.EN is 0, no frame is held, and none is to be sent.

@@ -16,7 +16,7 @@ IsAside write = IsElsewhere (register_at write.offset)
 -- leaves. If CTRL and MDIC aren't written, a link that is up stays up.
 pub record Sets {B : Type 0} (bus : Ghosts B) (writes : List Write) (old new : B) : Type 0 where
   pub past : Past
-  pub told : bus.happened old new past
+  pub reports : bus.happened old new past
   pub writes_are : writes_in past.accesses ≡ writes
   pub settings : settings_of (bus.world new).adapter ≡ settings_after_all writes (settings_of (bus.world old).adapter)
   pub rests : All IsAside writes → IsAtRest (bus.world old) → IsAtRest (bus.world new) × NoFrame past
@@ -25,7 +25,7 @@ pub record Sets {B : Type 0} (bus : Ghosts B) (writes : List Write) (old new : B
 -- The step only asks: it writes no register but the one at this offset, and the settings stay as they were.
 pub record Asks {B : Type 0} (bus : Ghosts B) (offset : ℕ) (old new : B) : Type 0 where
   pub past : Past
-  pub told : bus.happened old new past
+  pub reports : bus.happened old new past
   pub only : All (λ write. write.offset ≡ offset) (writes_in past.accesses)
   pub settings : settings_of (bus.world new).adapter ≡ settings_of (bus.world old).adapter
   pub rests : IsAtRest (bus.world old) → IsAtRest (bus.world new) × NoFrame past

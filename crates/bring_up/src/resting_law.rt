@@ -3,7 +3,7 @@
 ghost use Rattle.std.specs.Prelude.{◌≡◌, ℕ, List, []};
 ghost use Rattle.dma_memory.specs.Layout.{Counts};
 ghost use Rattle.bus.specs.Settings.{writes_in};
-ghost use Rattle.driver_law.specs.Accesses.{stores_from};
+ghost use Rattle.driver_law.specs.Calls.{stores_from};
 ghost use Rattle.bring_up.specs.ClearedDescriptors.{clears_from};
 ghost use Rattle.bring_up.specs.NoFrames.{NewTransmitRingStays, NoFramesStay};
 ghost use Rattle.bring_up.specs.RestingRings.{DriversBeginAtRest};

@@ -9,7 +9,7 @@ use Rattle.circular_buffer.specs.Buffer.{Buffer, buffer, keep_last}
 use Rattle.frame_queue.specs.Laws.{keep_last-room}
 use Rattle.std.proofs.Math.Seq.{drop-length, take-length}
 use Rattle.bus.specs.declared.event.Access.TheVariants.{Writes}
-use Rattle.driver_law.specs.Accesses.{tail_write}
+use Rattle.driver_law.specs.Calls.{tail_write}
 use Rattle.std.proofs.lemmas.List.{drop-append-le, length-take-le, take-append-drop, take-append-le}
 use Rattle.descriptors.specs.RingLaws.{next-below, place}
 use Rattle.driver_law.proofs.Owners.{owners-count}

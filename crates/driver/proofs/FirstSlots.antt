@@ -16,9 +16,8 @@ use Rattle.bus.specs.Keeping.{Keeps}
 use Rattle.bus.proofs.WaitingRings.{all-offered, holds-none}
 use Rattle.driver_law.proofs.Accesses.{ran_by-join, ran_by-same}
 use Rattle.driver_law.proofs.Owners.{owners-count}
-use Rattle.driver_law.specs.Accesses.{tail_write}
+use Rattle.driver_law.specs.Calls.{IsReady, Ran, at, only, tail_write}
 use Rattle.driver_law.specs.Beginnings.{new_driver}
-use Rattle.driver_law.specs.Calls.{IsReady, Ran, at, only}
 use Rattle.driver_law.specs.DriverState.{DriverState, holding, next_receive, owners, receive_slot, with_owners}
 use Rattle.driver_law.specs.ReadyDrivers.{Ready}
 use Rattle.bring_up.proofs.Steps.{StretchesJoin}

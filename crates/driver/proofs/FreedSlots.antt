@@ -21,9 +21,8 @@ use Rattle.driver_law.proofs.Places.{place-next}
 use Rattle.driver_law.proofs.RunsWith.{RanWith}
 use Rattle.driver_law.proofs.TransmitRuns.{run-frees, run-waits}
 use Rattle.driver_law.specs.DriverState.{DriverState, holding, transmit_slot, transmit_tail}
-use Rattle.driver_law.specs.Calls.{Moment, Ran, WhereUp, at, held_at, only}
+use Rattle.driver_law.specs.Calls.{Moment, Ran, WhereUp, at, held_at, only, transmit_loads}
 use Rattle.driver_law.specs.ReadyDrivers.{Ready}
-use Rattle.driver_law.specs.Accesses.{transmit_loads}
 use Rattle.driver_law.specs.TransmitSteps.{with_freed}
 use Rattle.driver.specs.InsideDriver.{IsSending}
 use Rattle.driver.specs.SendSteps.{FreesOldest, LooksBack, Reclaims, oldest_loads, slots_looked_at, with_transmit_slots}

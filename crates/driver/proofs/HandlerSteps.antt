@@ -11,16 +11,13 @@ use Rattle.bus.specs.declared.event.Access.TheVariants.{Reads}
 use Rattle.driver_law.proofs.Calls.{ran-on}
 use Rattle.driver_law.proofs.Places.{place-add}
 use Rattle.driver_law.proofs.Stretches.{flows_join, work_kept}
-use Rattle.driver_law.specs.Accesses.{last_load, stores_from, tail_write, takes_from}
+use Rattle.driver_law.specs.Calls.{HasNoForgottenWork, Moment, Ran, ReadsCauses, at, call_did, held_at, last_load, only, stores_from}
+use Rattle.driver_law.specs.Calls.{tail_write, takes_from, with_missed}
 use Rattle.bus.specs.declared.bus.Bus.{Ghosts}
-use Rattle.driver_law.specs.Calls.{Moment, Ran, at, held_at, only}
 use Rattle.driver_law.specs.DriverState.{DriverState, HandedOut, holding, next_receive, numbers_of, with_owners}
-use Rattle.driver_law.specs.Stretches.{HasNoForgottenWork}
-use Rattle.driver_law.specs.RegisterReadings.{ReadsCauses, with_missed}
-use Rattle.driver.specs.HandlerSteps.{HandlesIt, Works, handled_accesses}
+use Rattle.driver.specs.HandlerSteps.{HandlesIt, Scene, Takes, TakesAll, Works, frames_of, handled_accesses, held_in, moment}
 use Rattle.bring_up.specs.WrittenRegisters.{handled_causes}
 use Rattle.driver.specs.RefillSteps.{Refills}
-use Rattle.driver.specs.TakenFrames.{Scene, Takes, TakesAll, frames_of, held_in, moment}
 use Rattle.driver.specs.declared.receiver.Receiver.{Ghosts as OfReceiver}
 
 -- RXT0 is one of its causes.
@@ -59,13 +56,13 @@ next-same {misses} {n} d1 d2 d3 d4 numbers follows many oldest =
     ∙ sym (place-add d1.layout.rx d1.oldest_receive n (length d3.buffers + length d1.staged))
     ∙ ap (place d1.layout.rx d1.oldest_receive) sum
 
--- The same, told otherwise.
+-- The same accesses and frames, under other names.
 ran-same : {B : Type 0} (bus : Ghosts B) {up : Bool} {xs ys : List Access} {t1 t2 accepted : List (List ℕ)} {a b : Moment B}
-    → xs ≡ ys → t1 ≡ t2 → Ran bus up (record { accesses = xs; taken = t1; accepted = accepted }) a b
-    → Ran bus up (record { accesses = ys; taken = t2; accepted = accepted }) a b
+    → xs ≡ ys → t1 ≡ t2 → Ran bus up (call_did xs t1 accepted) a b
+    → Ran bus up (call_did ys t2 accepted) a b
 ran-same bus {up} {xs} {ys} {t1} {t2} {accepted} {a} {b} accesses frames ran =
-    subst (λ (list : List Access). Ran bus up (record { accesses = list; taken = t2; accepted = accepted }) a b) accesses
-    (subst (λ (list : List (List ℕ)). Ran bus up (record { accesses = xs; taken = list; accepted = accepted }) a b) frames ran)
+    subst (λ (list : List Access). Ran bus up (call_did list t2 accepted) a b) accesses
+    (subst (λ (list : List (List ℕ)). Ran bus up (call_did xs list accepted) a b) frames ran)
 
 pub works : {up : Bool} {B R : Type 0} (bus : Ghosts B) (receivers : OfReceiver R)
     → ((a b c : B) (first later : Past) → bus.happened a b first → bus.happened b c later → bus.happened a c (joined first later))
@@ -109,20 +106,20 @@ works {up} bus receivers joins a b c e misses n held follows counts takes refill
     record {
       taken = takes.taken;
       handed_out = takes.handed_out;
-      told = takes.told;
+      shown = takes.shown;
       part = takes.part;
       count = takes.count;
-      served = record {
+      misses = record {
         misses = misses;
+        missed = ap (λ (d : DriverState). d.missed) follows.refilled ∙ ap (λ (d : DriverState). d.missed) same;
+        exact = ap (λ (d : DriverState). d.exact) follows.refilled ∙ ap (λ (d : DriverState). d.exact) same;
+      };
+      served = record {
         rest = d3.buffers;
         offered = xs;
         oldest = oldest;
         newest = refills.offered ∙ ap (λ (d : DriverState). d3.buffers ++ (d.staged ++ xs)) same;
-      };
-      misses = record {
-        missed = ap (λ (d : DriverState). d.missed) follows.refilled ∙ ap (λ (d : DriverState). d.missed) same;
-        exact = ap (λ (d : DriverState). d.exact) follows.refilled ∙ ap (λ (d : DriverState). d.exact) same;
-        bad = ap (λ (d : DriverState). d.bad) follows.refilled ∙ takes.bad ∙ ap (λ (d : DriverState). d.bad) follows.counted;
+        no_bad = ap (λ (d : DriverState). d.bad) follows.refilled ∙ takes.bad ∙ ap (λ (d : DriverState). d.bad) follows.counted;
       };
       ran = ran-same bus accesses (append-nil _) all;
     }

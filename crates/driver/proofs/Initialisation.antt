@@ -30,11 +30,9 @@ use Rattle.bus.proofs.Lists.{all-left, all-none, all-right, append-empty}
 use Rattle.bus.proofs.Settings.{settings-append, writes-append}
 use Rattle.bus.proofs.WaitingRings.{holds-none}
 use Rattle.driver_law.proofs.Accesses.{ran_by-join}
-use Rattle.driver_law.specs.Accesses.{stores_from}
+use Rattle.driver_law.specs.Calls.{GoesTo, Ran, at, driver_did, driver_in, only, stores_from}
 use Rattle.driver_law.specs.Beginnings.{new_driver}
-use Rattle.driver_law.specs.Calls.{Ran, at, only}
 use Rattle.driver_law.specs.DriverState.{DriverState, transmit_tail}
-use Rattle.driver_law.specs.Stretches.{GoesTo, driver_did, driver_in}
 use Rattle.driver_law.specs.ReadyDrivers.{ReadyWith}
 use Rattle.bring_up.specs.ClearedDescriptors.{clears_from}
 use Rattle.bring_up.specs.Configuration.{CanBeHad, counts_of}
@@ -361,9 +359,9 @@ initialises bus joins b0 b1 b2 b3 b4 b5 config size pool numbers d past had told
       middle = b3;
       first = start;
       later = later;
-      told_first = joins b0 b1 b3 past (joined first.past lets.ran.past) told
-          (joins b1 b2 b3 first.past lets.ran.past first.told lets.ran.told);
-      told_later = joins b3 b4 b5 sends.past masks.accessed.past sends.told masks.accessed.told;
+      reports_first = joins b0 b1 b3 past (joined first.past lets.ran.past) told
+          (joins b1 b2 b3 first.past lets.ran.past first.reports lets.ran.reports);
+      reports_later = joins b3 b4 b5 sends.past masks.accessed.past sends.reports masks.accessed.reports;
       accesses = record {
         ends = record {
           earlier = past.accesses;

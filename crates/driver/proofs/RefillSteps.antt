@@ -15,11 +15,10 @@ use Rattle.driver_law.proofs.Calls.{ran-on, ready-on}
 use Rattle.driver_law.proofs.Owners.{owners-count}
 use Rattle.driver_law.proofs.Places.{place-add}
 use Rattle.driver_law.proofs.ReceiveAccesses.{stores-append}
-use Rattle.driver_law.specs.Accesses.{stores_from, tail_write}
+use Rattle.driver_law.specs.Calls.{Moment, Ran, Runs, WhereReady, at, held_at, only, stores_from, tail_write}
 use Rattle.driver_law.specs.DriverState.{DriverState, HandedOut, holding, next_receive, numbers_of, owners, with_owners}
 use Rattle.driver_law.specs.ReadyDrivers.{Stands}
 use Rattle.bus.specs.declared.bus.Bus.{Ghosts}
-use Rattle.driver_law.specs.Calls.{Moment, Ran, Runs, WhereReady, at, held_at, only}
 use Rattle.driver.specs.RefillSteps.{Refills, Stages, WhereHeld}
 
 -- No slot is staged.

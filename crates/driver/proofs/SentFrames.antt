@@ -9,10 +9,9 @@ use Rattle.bus.specs.declared.event.Access.TheVariants.{Stores, Writes}
 use Rattle.driver_law.proofs.Calls.{ran-on}
 use Rattle.driver_law.proofs.Places.{place-below, place-next}
 use Rattle.driver_law.specs.DriverState.{DriverState, transmit_slot, transmit_tail}
-use Rattle.driver_law.specs.Calls.{IsReady, Moment, Ran}
-use Rattle.driver_law.specs.Accesses.{send_accesses, transmit_buffer, whole_descriptor}
+use Rattle.driver_law.specs.Calls.{IsReady, Moment, Ran, send_accesses, transmit_buffer, whole_descriptor}
 use Rattle.driver.specs.InsideDriver.{IsSending}
-use Rattle.driver.specs.SendSteps.{IsAnswer, Reclaims, Sends, accesses_by, loads_to_free, sent_now}
+use Rattle.driver.specs.SendSteps.{IsAnswer, Reclaims, Sends, accesses_by, loads_to_free, sent_now, with_transmit_slots}
 use Rattle.driver.specs.declared.transmit.SendError.TheVariants.{RingFull}
 
 -- The place that is sent by.
@@ -46,7 +45,7 @@ was-full bus old new is reclaims full =
     none-of [] none = refl
     none-of (slot ∷ slots) none = absurd (omega (arith, none))
 
--- The accesses tell of the place alone.
+-- The accesses depend on the layout and the tail only.
 sends-same : (d d' : DriverState) (frame : List ℕ) → d'.layout ≡ d.layout → transmit_tail d' ≡ transmit_tail d
     → send_accesses d' frame ≡ send_accesses d frame
 sends-same d d' frame counts tail =
@@ -58,12 +57,16 @@ sends-same d d' frame counts tail =
 -- Slots are freed, and then it is sent.
 pub frees-and-sends : {B : Type 0} (bus : Ghosts B)
     → ((a b c : B) (first later : Past) → bus.happened a b first → bus.happened b c later → bus.happened a c (joined first later))
-    → (a b c : Moment B) (frame : List ℕ) → b.driver.layout ≡ a.driver.layout → transmit_tail b.driver ≡ transmit_tail a.driver
-    → c.driver.sending ≡ b.driver.sending + 1 → Reclaims bus a b → Ran bus true (sent_now b.driver frame) b c
+    → (a b c : Moment B) (frame : List ℕ) → b.driver ≡ with_transmit_slots a.driver b.driver.oldest_transmit b.driver.sending
+    → transmit_tail b.driver ≡ transmit_tail a.driver
+    → c.driver ≡ with_transmit_slots b.driver b.driver.oldest_transmit (b.driver.sending + 1) → Reclaims bus a b
+    → Ran bus true (sent_now b.driver frame) b c
     → Sends bus frame (Ok tt) a c
-frees-and-sends bus joins a b c frame counts tail more reclaims sends =
+frees-and-sends bus joins a b c frame others tail more reclaims sends =
+    let counts : b.driver.layout ≡ a.driver.layout = ap (λ (d : DriverState). d.layout) others in
     let xs = loads_to_free a.driver b.driver.sending in
-    let left : b.driver.sending ≡ c.driver.sending - 1 = omega (arith, more) in
+    let count : c.driver.sending ≡ b.driver.sending + 1 = ap (λ (d : DriverState). d.sending) more in
+    let left : b.driver.sending ≡ c.driver.sending - 1 = omega (arith, count) in
     let same : xs ++ send_accesses b.driver frame ≡ accesses_by (Ok tt) a.driver c.driver frame =
     ap (λ (list : List Access). xs ++ list) (sends-same a.driver b.driver frame counts tail)
     ∙ ap (λ (k : ℕ). loads_to_free a.driver k ++ send_accesses a.driver frame) left in
@@ -71,8 +74,8 @@ frees-and-sends bus joins a b c frame counts tail more reclaims sends =
       ran = subst (λ (accesses : List Access). Ran bus true (record (sent_now a.driver frame) { accesses = accesses }) a c) same
           (ran-on bus joins reclaims.ran sends);
       answer = record {
-        freed = omega (arith, reclaims.ran.goes.flows.frees, ap length reclaims.none, more);
-        some = omega (arith, more);
+        freed = omega (arith, reclaims.ran.goes.flows.frees, ap length reclaims.none, count);
+        some = omega (arith, count);
       };
-      frees_first = (b, reclaims, sends);
+      frees_first = record { freed = b; slots = others; tail = tail; reclaims = reclaims; more = more; sends = sends };
     }

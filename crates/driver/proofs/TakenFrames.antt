@@ -19,18 +19,17 @@ use Rattle.driver_law.proofs.Owners.{owners-count}
 use Rattle.driver_law.proofs.Places.{place-next}
 use Rattle.driver_law.proofs.ReceiveAccesses.{takes-push}
 use Rattle.driver_law.proofs.TakenSlots.{buffers_can_come_back}
-use Rattle.driver_law.specs.Accesses.{takes_from}
+use Rattle.driver_law.specs.Calls.{Ran, WhereReady, at, only, takes_from}
 use Rattle.driver_law.specs.DriverState.{DriverState, HandedOut, buffer_at, holding, numbers_of, owners, receive_slot}
 use Rattle.driver_law.specs.OldestSlot.{TakesOldest}
 use Rattle.driver_law.specs.ReadyDrivers.{ReadyWith, Stands}
 use Rattle.driver_law.specs.ReceiveSteps.{behind_oldest}
-use Rattle.driver.specs.TakenFrames.{FindsOne, GrowsBy, HandsOn, HandsOver, IsFrameSize, IsPart, LeavesRing, Scene, ShowsAll, Takes}
-use Rattle.driver.specs.TakenFrames.{WhereReadyIn, WhereTaken, buffers_of, part_none, part_with, part_without, received_of, scene}
+use Rattle.driver.specs.HandlerSteps.{FindsOne, GrowsBy, HandsOn, HandsOver, IsFrameSize, IsPart, LeavesRing, Scene, ShowsAll, Takes}
+use Rattle.driver.specs.HandlerSteps.{WhereReadyIn, WhereTaken, buffers_of, part_none, part_with, part_without, received_of, scene}
 use Rattle.driver.specs.declared.receive.Finished.{Finished}
 use Rattle.driver.specs.declared.receiver.Received.{Received}
 use Rattle.driver.specs.declared.receiver.Receiver.{Ghosts as OfReceiver}
 use Rattle.bus.specs.declared.bus.Bus.{Ghosts}
-use Rattle.driver_law.specs.Calls.{Ran, WhereReady, at, only}
 
 -- So many slots were taken, and their frames shown to the receiver.
 pub record Walks {B R : Type 0} (bus : Ghosts B) (receivers : OfReceiver R) (n : ℕ) (old new : Scene B R) : Type 0 where
@@ -51,9 +50,9 @@ walks-none bus receivers stays waits b r d = record {
   others = refl;
   count = omega arith;
   shows = record {
-    shown = [];
+    received = [];
     kept = [];
-    told = waits r;
+    shown = waits r;
     count = omega arith;
     sizes = all-none _;
     bad = record
@@ -64,7 +63,7 @@ walks-none bus receivers stays waits b r d = record {
   takes = λ up held is. record {
     taken = [];
     handed_out = [];
-    told = waits r;
+    shown = waits r;
     part = part_none;
     count = refl;
     oldest = refl;
@@ -80,7 +79,7 @@ walks-none bus receivers stays waits b r d = record {
 -- What the receiver kept, as what is handed out.
 record IsKept (P : HandedOut → Type 0) (held : List HandedOut) (one : HandedOut) (kept : List Received) : Type 0 where
   entries : List HandedOut
-  told : map received_of entries ≡ kept
+  same : map received_of entries ≡ kept
   part : IsPart entries (one ∷ [])
   numbers : numbers_of entries ≡ buffers_of kept
   stand : All P (held ++ entries)
@@ -92,7 +91,7 @@ is-kept P held one received kept is whether stand =
     (λ (none : kept ≡ []). subst (IsKept P held one) (sym none)
     (record {
       entries = [];
-      told = refl;
+      same = refl;
       part = part_without part_none;
       numbers = refl;
       stand = subst (All P) (sym (append-nil held))
@@ -100,7 +99,7 @@ is-kept P held one received kept is whether stand =
     }))
     (λ (some : kept ≡ received ∷ []).
     subst (IsKept P held one) (ap (λ (r : Received). r ∷ []) is
-    ∙ sym some) (record { entries = one ∷ []; told = refl; part = part_with part_none; numbers = refl; stand = stand }))
+    ∙ sym some) (record { entries = one ∷ []; same = refl; part = part_with part_none; numbers = refl; stand = stand }))
     whether
 
 -- Parts of two lists, one after the other.
@@ -131,16 +130,16 @@ shows-next took also r s t d1 d2 d3 d4 n m all first behind given hands =
     let d3' = behind_oldest d2 d3.buffers d2.handed_out in
     let d4' : DriverState = record d3 { pool = d4.pool; bad = d4.bad } in
     let same : d3.bad ≡ d2.bad = ap (λ (d : DriverState). d.bad) behind in
-    let more : n - length all.shown + (1 - length hands.shown)
-    ≡ suc n - length (all.shown ++ hands.shown) = omega (arith, length-append all.shown hands.shown, all.count, hands.one) in
+    let more : n - length all.received + (1 - length hands.received)
+    ≡ suc n - length (all.received ++ hands.received) = omega (arith, length-append all.received hands.received, all.count, hands.one) in
     record {
-      shown = all.shown ++ hands.shown;
+      received = all.received ++ hands.received;
       kept = all.kept ++ hands.kept;
-      told = also r s t all.shown all.kept hands.shown hands.kept all.told hands.told;
-      count = omega (arith, length-append all.shown hands.shown, all.count, hands.one);
-      sizes = All-append (λ (x : Received). IsFrameSize x.length) all.shown hands.shown all.sizes hands.sizes;
+      shown = also r s t all.received all.kept hands.received hands.kept all.shown hands.shown;
+      count = omega (arith, length-append all.received hands.received, all.count, hands.one);
+      sizes = All-append (λ (x : Received). IsFrameSize x.length) all.received hands.received all.sizes hands.sizes;
       bad = subst (GrowsBy d1.bad d4.bad) more
-          (grows d1.bad d2.bad d4.bad _ _ all.bad (subst (λ (k : ℕ). GrowsBy k d4.bad (1 - length hands.shown)) same hands.bad));
+          (grows d1.bad d2.bad d4.bad _ _ all.bad (subst (λ (k : ℕ). GrowsBy k d4.bad (1 - length hands.received)) same hands.bad));
       buffers = λ k.
           omega (
             arith,
@@ -239,17 +238,17 @@ takes-next {up} bus receivers stays joins also a b c e r s t d1 d2 d3 d4 n m siz
     let shown : map received_of before.taken ++ received_of one ∷ []
     ≡ map received_of (before.taken ++ one ∷ []) = sym (map-append received_of before.taken (one ∷ [])) in
     let has : map received_of before.handed_out ++ hands.shows.kept ≡ map received_of (before.handed_out ++ kept.entries) =
-    ap (λ (list : List Received). map received_of before.handed_out ++ list) (sym kept.told)
+    ap (λ (list : List Received). map received_of before.handed_out ++ list) (sym kept.same)
     ∙ sym (map-append received_of before.handed_out kept.entries) in
     let left : d4.buffers ≡ d3.buffers = ap (λ (d : DriverState). d.buffers) given in
     record {
       taken = before.taken ++ one ∷ [];
       handed_out = before.handed_out ++ kept.entries;
-      told =
+      shown =
           subst (λ (list : List Received). receivers.took r t list (map received_of (before.handed_out ++ kept.entries))) shown
           (subst (λ (list : List Received). receivers.took r t (map received_of before.taken ++ received_of one ∷ []) list) has
           (also r s t (map received_of before.taken) (map received_of before.handed_out)
-          (received_of one ∷ []) hands.shows.kept before.told hands.shows.told));
+          (received_of one ∷ []) hands.shows.kept before.shown hands.shows.shown));
       part = part-append before.part kept.part;
       count = omega (arith, length-append before.taken (one ∷ []), before.count);
       oldest =
@@ -314,7 +313,7 @@ walks-look bus receivers joins ys a b c r s d d' n takes looks =
     record {
       taken = takes.taken;
       handed_out = takes.handed_out;
-      told = takes.told;
+      shown = takes.shown;
       part = takes.part;
       count = takes.count;
       oldest = takes.oldest;

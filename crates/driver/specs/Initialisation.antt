@@ -29,11 +29,9 @@ use Rattle.bring_up.specs.declared.config.Config.{Config}
 use Rattle.bring_up.specs.declared.init_error.InitError.{InitError}
 use Rattle.bring_up.specs.declared.init_error.InitError.TheVariants.{Memory}
 use Rattle.bring_up.specs.declared.init_error.InitError.TheVariants as errors
-use Rattle.driver_law.specs.Accesses.{stores_from}
+use Rattle.driver_law.specs.Calls.{HasNoForgottenWork, IsReady, IsRefilled, Moment, Ran, only, stores_from}
 use Rattle.driver_law.specs.Beginnings.{new_driver}
-use Rattle.driver_law.specs.Calls.{IsReady, Moment, Ran, only}
 use Rattle.driver_law.specs.DriverState.{DriverState, owners, receive_slot, with_owners}
-use Rattle.driver_law.specs.Stretches.{HasNoForgottenWork, IsRefilled}
 use Rattle.driver_law.specs.ReadyDrivers.{Ready}
 
 -- Its errors.
@@ -47,7 +45,7 @@ IsErrorOfInit error image accesses = IsErrorOf error image accesses
 -- An adapter isn't initialized.
 pub record Refuses {B : Type 0} (bus : Ghosts B) (old new : B) (error : InitError) : Type 0 where
   pub past : Past
-  pub told : bus.happened old new past
+  pub reports : bus.happened old new past
   pub why : IsErrorOfInit error (bus.world old).adapter.image (length past.accesses)
   pub why_lively : bus.lively old → IsErrorOfLively error (bus.world old)
 
@@ -72,7 +70,7 @@ pub record HasFoundRing {B : Type 0} (bus : Ghosts B) (config : Config) (old new
 
 pub record FindsRing {B : Type 0} (bus : Ghosts B) (config : Config) (result : Result (Unit {0}) InitError) (old new : B) : Type 0 where
   pub past : Past
-  pub told : bus.happened old new past
+  pub reports : bus.happened old new past
   pub found : IfOk result (λ done. HasFoundRing bus config old new)
   pub why : IfErr result (λ error. IsErrorOf error (bus.world old).adapter.image (length past.accesses))
   pub why_lively : bus.lively old → IfErr result (λ error. IsErrorOfLively error (bus.world old))
@@ -143,8 +141,8 @@ pub record Initialises {B : Type 0} (bus : Ghosts B) (config : Config) (old new 
   pub middle : B
   pub first : Past
   pub later : Past
-  pub told_first : bus.happened old middle first
-  pub told_later : bus.happened middle new later
+  pub reports_first : bus.happened old middle first
+  pub reports_later : bus.happened middle new later
   pub accesses : InitAccesses config d first.accesses later.accesses
   pub started : IsStarted d (bus.world new) later
   pub adapter : IsSetUp config (bus.world old) (bus.world new)

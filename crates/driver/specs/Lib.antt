@@ -1,6 +1,5 @@
 pub mod InsideDriver
 pub mod SendSteps
 pub mod RefillSteps
-pub mod TakenFrames
 pub mod HandlerSteps
 pub mod Initialisation

@@ -1,11 +1,9 @@
 -- What a driver does to offer receive slots.
-use Rattle.std.specs.Prelude.{◌≡◌, ◌++◌, ◌∷◌, ℕ, Bool, List, []}
-use Rattle.dma_memory.specs.Owners.{HasNoSecondOwner, HaveSameNumbers}
-use Rattle.driver_law.specs.Accesses.{stores_from, tail_write}
+use Rattle.std.specs.Prelude.{◌≡◌, ◌++◌, ◌∷◌, ℕ, Bool, List}
+use Rattle.dma_memory.specs.Owners.{HaveSameNumbers}
+use Rattle.driver_law.specs.Calls.{IsReady, Moment, Ran, Runs, held_at, only, stores_from, tail_write}
 use Rattle.bus.specs.declared.bus.Bus.{Ghosts}
-use Rattle.driver_law.specs.Calls.{IsReady, Moment, Ran, Runs, held_at, only}
-use Rattle.driver_law.specs.DriverState.{DriverState, HandedOut, next_receive, owners, with_owners}
-use Rattle.driver_law.specs.Stretches.{IsRefilled}
+use Rattle.driver_law.specs.DriverState.{HandedOut, next_receive, with_owners}
 
 -- The next slots are staged with these buffers of the pool: over a bus that obeys the law, by storing their descriptors one after the
 -- other.
@@ -28,12 +26,6 @@ pub record Refills {B : Type 0} (bus : Ghosts B) (up : Bool) (old new : Moment B
   pub ran :
       Ran bus up (only (stores_from old.driver.layout (next_receive old.driver) numbers
       ++ tail_write (next_receive new.driver) (old.driver.staged ++ numbers))) old new
-
--- Over any bus: the ring is refilled, no slot is staged then, and nothing else changes.
-pub record OffersAll (d d' : DriverState) : Type 0 where
-  pub others : d' ≡ with_owners d d'.buffers [] d'.pool []
-  pub refilled : IsRefilled d'
-  pub one_owner : HasNoSecondOwner d'.layout.buffers (owners d')
 
 -- A call takes back the buffer of this number. If the bus obeys the law, and the driver is ready before the call with a frame held in that
 -- buffer, `Holds` relates the moments before and after it.

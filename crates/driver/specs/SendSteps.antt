@@ -5,9 +5,8 @@ use Rattle.descriptors.specs.Frames.{padded}
 use Rattle.adapter.specs.Slots.{written_back}
 use Rattle.bus.specs.declared.bus.Bus.{Ghosts}
 use Rattle.bus.specs.declared.event.Access.{Access}
-use Rattle.driver_law.specs.DriverState.{DriverState}
-use Rattle.driver_law.specs.Calls.{Did, Moment, Ran, WhereUp, only}
-use Rattle.driver_law.specs.Accesses.{send_accesses, transmit_loads}
+use Rattle.driver_law.specs.DriverState.{DriverState, transmit_tail}
+use Rattle.driver_law.specs.Calls.{Did, Moment, Ran, WhereUp, call_did, only, send_accesses, transmit_loads}
 use Rattle.driver_law.specs.TransmitSteps.{with_freed}
 use Rattle.driver.specs.declared.transmit.SendError.{SendError}
 use Rattle.driver.specs.declared.transmit.SendError.TheVariants.{TooShort, TooLong, RingFull}
@@ -25,7 +24,7 @@ pub record FreesOldest (d d' : DriverState) : Type 0 where
   pub some : 0 < d.sending
   pub freed : d' ≡ with_freed d
 
--- Its descriptor is loaded once, if any slot is outstanding. If it isn't freed, no slot is written back.
+-- Its descriptor is loaded once, if any slot is outstanding. If it isn't freed, no slot is written back after the load.
 pub record LooksBack {B : Type 0} (bus : Ghosts B) (freed : Bool) (old new : Moment B) : Type 0 where
   pub ran : Ran bus true (only (oldest_loads old.driver (min old.driver.sending 1))) old new
   pub none : OnFalse freed (written_back new.driver.oldest_transmit (bus.world new.bus) ≡ [])
@@ -38,7 +37,8 @@ slots_looked_at before left = before - left + min left 1
 abbrev pub loads_to_free : DriverState → (left : ℕ) → List Access
 loads_to_free d left = oldest_loads d (slots_looked_at d.sending left)
 
--- The oldest slots are freed, by one load each, up to the first that isn't done, or until none is left.
+-- The oldest slots are freed, by one load each, up to the first that isn't written back, or until none is left. If one is left, its
+-- descriptor is loaded, too. After these loads, no outstanding slot is written back.
 pub record Reclaims {B : Type 0} (bus : Ghosts B) (old new : Moment B) : Type 0 where
   pub ran : Ran bus true (only (loads_to_free old.driver new.driver.sending)) old new
   pub none : written_back new.driver.oldest_transmit (bus.world new.bus) ≡ []
@@ -51,10 +51,10 @@ abbrev pub accepted_by : SendAnswer → List ℕ → List (List ℕ)
 accepted_by (Ok u) frame = padded frame ∷ []
 accepted_by (Err error) frame = []
 
--- The accesses, by the answer.
+-- The accesses, by the answer: d is the driver before the call, and d' after it. For Ok, d' counts the frame's slot, too, so d'.sending - 1
+-- slots are left when the loads end. The frame is sent by `send_accesses` of d, because freeing slots doesn't move the tail.
 abbrev pub accesses_by : SendAnswer → (d d' : DriverState) → List ℕ → List Access
-accesses_by (Ok u) d d' frame =
-    loads_to_free d (d'.sending - 1) ++ send_accesses d frame
+accesses_by (Ok u) d d' frame = loads_to_free d (d'.sending - 1) ++ send_accesses d frame
 accesses_by (Err TooShort) d d' frame = []
 accesses_by (Err TooLong) d d' frame = []
 accesses_by (Err RingFull) d d' frame = loads_to_free d d'.sending
@@ -63,19 +63,21 @@ accesses_by (Err RingFull) d d' frame = loads_to_free d d'.sending
 abbrev pub IsFull : {B : Type 0} → Ghosts B → Moment B → Type 0
 IsFull bus now = (now.driver.sending + 1 ≡ now.driver.layout.tx) × (written_back now.driver.oldest_transmit (bus.world now.bus) ≡ [])
 
--- The frame was accepted: each slot that was written back at entry is freed, and the frame's slot is outstanding.
+-- The frame was accepted.
 pub record IsAccepted {B : Type 0} (bus : Ghosts B) (old new : Moment B) : Type 0 where
+  -- At least as many slots were freed as were written back at entry.
   pub freed : length (written_back old.driver.oldest_transmit (bus.world old.bus)) + new.driver.sending ≤ old.driver.sending + 1
+  -- At least one slot is outstanding.
   pub some : 0 < new.driver.sending
 
 -- What an answer says of the ring. RingFull: the ring was full at entry, and it is full at the return, after the last load.
 abbrev pub IsAnswer : {B : Type 0} → Ghosts B → SendAnswer → (old new : Moment B) → Type 0
 IsAnswer bus (Ok u) old new = IsAccepted bus old new
-IsAnswer bus (Err TooShort) old new = Unit {0}
-IsAnswer bus (Err TooLong) old new = Unit {0}
+IsAnswer bus (Err TooShort) old new = ⊤
+IsAnswer bus (Err TooLong) old new = ⊤
 IsAnswer bus (Err RingFull) old new = IsFull bus old × IsFull bus new
 
--- the frame has fewer than 14 or more than 1,518 bytes
+-- the frame is shorter than `shortest_sent` or longer than `longest_frame`
 abbrev pub HasWrongLength : SendAnswer → Type 0
 HasWrongLength (Err TooShort) = ⊤
 HasWrongLength (Err TooLong) = ⊤
@@ -83,20 +85,31 @@ HasWrongLength answer = ⊥
 
 -- The frame is sent in the slot at the tail.
 abbrev pub sent_now : DriverState → List ℕ → Did
-sent_now d frame = record { accesses = send_accesses d frame; taken = []; accepted = padded frame ∷ [] }
+sent_now d frame = call_did (send_accesses d frame) [] (padded frame ∷ [])
 
 -- What it does, by the answer.
 abbrev pub sent_by : SendAnswer → (d d' : DriverState) → List ℕ → Did
-sent_by result d d' frame = record { accesses = accesses_by result d d' frame; taken = []; accepted = accepted_by result frame }
+sent_by result d d' frame = call_did (accesses_by result d d' frame) [] (accepted_by result frame)
 
--- Slots are freed first, up to one that isn't done, or until none is left. Then the frame is sent if it is accepted.
+-- Slots are freed, and then the frame is sent. `freed` is the moment in between.
+pub record FreesThenSends {B : Type 0} (bus : Ghosts B) (frame : List ℕ) (old new : Moment B) : Type 0 where
+  pub freed : Moment B
+  -- Of the driver, freeing changes only which transmit slots are outstanding, and the tail doesn't move.
+  pub slots : freed.driver ≡ with_transmit_slots old.driver freed.driver.oldest_transmit freed.driver.sending
+  pub tail : transmit_tail freed.driver ≡ transmit_tail old.driver
+  pub reclaims : Reclaims bus old freed
+  -- The sending adds one outstanding slot, the one at the tail.
+  pub more : new.driver ≡ with_transmit_slots freed.driver freed.driver.oldest_transmit (freed.driver.sending + 1)
+  pub sends : Ran bus true (sent_now freed.driver frame) freed new
+
+-- Slots are freed first, up to one that isn't written back, or until none is left. Then the frame is sent if it is accepted.
 abbrev pub FreesFirst : {B : Type 0} → Ghosts B → List ℕ → SendAnswer → (old new : Moment B) → Type 0
-FreesFirst {B} bus frame (Ok u) old new =
-    (freed : Moment B) × Reclaims bus old freed × Ran bus true (sent_now freed.driver frame) freed new
-FreesFirst bus frame (Err TooShort) old new = Unit {0}
-FreesFirst bus frame (Err TooLong) old new = Unit {0}
+FreesFirst bus frame (Ok u) old new = FreesThenSends bus frame old new
+FreesFirst bus frame (Err TooShort) old new = ⊤
+FreesFirst bus frame (Err TooLong) old new = ⊤
 FreesFirst bus frame (Err RingFull) old new = Reclaims bus old new
 
+-- What `transmit` does, by its answer. For Ok, `frees_first` states most, and `ran` and `answer` follow from it; they are kept for users.
 pub record Sends {B : Type 0} (bus : Ghosts B) (frame : List ℕ) (result : SendAnswer) (old new : Moment B) : Type 0 where
   pub ran : Ran bus true (sent_by result old.driver new.driver frame) old new
   pub answer : IsAnswer bus result old new

@@ -5,11 +5,10 @@ ghost use Rattle.registers.specs.Bits.{Meet};
 ghost use Rattle.dma_memory.specs.Layout.{size_of};
 ghost use Rattle.bus.specs.declared.event.Access.TheVariants.{Reads};
 ghost use Rattle.bus.specs.Keeping.{Keeps};
-ghost use Rattle.driver_law.specs.Calls.{Runs, at, only};
-ghost use Rattle.driver_law.specs.RegisterReadings as readings;
-ghost use Rattle.driver.specs.HandlerSteps.{Handles, IfNotMine, IfHandled, OnlyReceives, Serves};
+ghost use Rattle.driver_law.specs.Calls.{Runs, at, only, with_missed};
+ghost use Rattle.driver_law.specs.Calls as calls;
+ghost use Rattle.driver.specs.HandlerSteps.{Handles, IfHandled, IfNotMine, OnlyReceives, Serves, WhereReadyIn, scene};
 ghost use Rattle.bring_up.specs.WrittenRegisters.{handled_causes};
-ghost use Rattle.driver.specs.TakenFrames.{WhereReadyIn, scene};
 
 use crate::{Driver, Receiver};
 use adapter::offsets::{ICR, MPC};
@@ -39,7 +38,7 @@ fn is_mine(causes: u32) -> bool
 
 /// Whether a value read from MPC can be added to a sum without a loss.
 fn adds_exactly(missed: u64, value: u32) -> bool
-    ensures { result ≡ readings.adds_exactly missed value }
+    ensures { result ≡ calls.adds_exactly missed value }
 {
     value < u32::MAX && u64::from(value) <= u64::MAX - missed
 }
@@ -48,7 +47,7 @@ impl Driver {
     /// Reads MPC, adds its value to the sum of missed frames, and returns it.
     fn count_missed<B: Bus>(&mut self, bus: &mut B) -> u32
         ensures keeps { Keeps B.Bus bus.old bus.new }
-        ensures others { self.new ≡ readings.with_missed result self.old }
+        ensures others { self.new ≡ with_missed result self.old }
         ensures ran { Runs B.Bus (only (Reads MPC result ∷ [])) (at bus.old self.old) (at bus.new self.new) }
     {
         let value = bus.read(MPC);
@@ -58,7 +57,8 @@ impl Driver {
     }
 
     /// Handles an interrupt. It reads ICR first. If ICR has none of TXDW, RXDMT0, RXO and RXT0, it does nothing more.
-    /// Otherwise it reads MPC, takes every finished receive slot, and refills.
+    /// Otherwise it reads MPC, takes finished receive slots, among them all that were finished at the beginning, and
+    /// refills the ring.
     pub fn interrupt<B: Bus, R: Receiver>(&mut self, bus: &mut B, receiver: &mut R) -> Handled
         requires memory { size_of self.old.layout ≤ B.extent bus.old }
         ensures keeps { Keeps B.Bus bus.old bus.new }

@@ -6,7 +6,7 @@ ghost use Rattle.bus.specs.Keeping.{Keeps};
 ghost use Rattle.bus.specs.declared.event.Access.TheVariants.{Loads};
 ghost use Rattle.driver_law.specs.Calls.{Runs, at, only};
 ghost use Rattle.driver_law.specs.DriverState.{buffer_at};
-ghost use Rattle.driver.specs.TakenFrames.{ReadsHeld};
+ghost use Rattle.driver.specs.HandlerSteps.{ReadsHeld};
 
 use crate::{Driver, Received};
 use bus::Bus;

@@ -10,8 +10,8 @@ ghost use Rattle.bus.specs.Keeping.{Keeps};
 ghost use Rattle.bus.specs.declared.event.Access.TheVariants.{Loads};
 ghost use Rattle.driver_law.specs.Calls.{Runs, WhereReady, at, only};
 ghost use Rattle.driver_law.specs.DriverState.{buffer_at, owners};
-ghost use Rattle.driver.specs.TakenFrames.{HandsOn, HandsOver, IsFrameSize, LeavesRing, LooksAt, ReadsEtherType};
-ghost use Rattle.driver.specs.TakenFrames.{Shows, TakesAll, TakesSlots, WhereReadyIn, WhereTaken, scene};
+ghost use Rattle.driver.specs.HandlerSteps.{HandsOn, HandsOver, IsFrameSize, LeavesRing, LooksAt, ReadsEtherType};
+ghost use Rattle.driver.specs.HandlerSteps.{Shows, TakesAll, TakesSlots, WhereReadyIn, WhereTaken, scene};
 
 use crate::refill::receive_slot;
 use crate::{Driver, Received, Receiver};
@@ -147,8 +147,8 @@ impl Driver {
     }
 
     /// Takes every finished receive slot, from the oldest on up to the first that isn't finished, shows each whole
-    /// frame to the receiver, and returns the number of slots taken. Each descriptor is loaded once. After that of a
-    /// whole frame, bytes 12 and 13 of the frame are loaded.
+    /// frame to the receiver, and returns the number of slots taken. Over a bus that obeys the law, each descriptor is
+    /// loaded once, and after that of each finished slot, bytes 12 and 13 of its frame.
     pub fn take_finished<B: Bus, R: Receiver>(&mut self, bus: &mut B, receiver: &mut R) -> usize
         requires memory { size_of self.old.layout ≤ B.extent bus.old }
         ensures keeps { Keeps B.Bus bus.old bus.new }

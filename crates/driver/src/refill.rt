@@ -6,11 +6,10 @@ ghost use Rattle.dma_memory.specs.Layout.{size_of};
 ghost use Rattle.dma_memory.specs.Owners.{HasNoSecondOwner, HaveSameNumbers, copies};
 ghost use Rattle.descriptors.specs.RxDesc.{rx_desc_bytes};
 ghost use Rattle.bus.specs.Keeping.{Keeps};
-ghost use Rattle.driver_law.specs.Accesses.{tail_write};
+ghost use Rattle.driver_law.specs.Calls.{OffersAll, Runs, WhereReady, at, only, tail_write};
 ghost use Rattle.driver_law.specs.DriverState.{next_receive, owners, with_owners};
-ghost use Rattle.driver_law.specs.Calls.{Runs, WhereReady, at, only};
 ghost use Rattle.driver_law.specs.ReadyDrivers.{empty_descriptor};
-ghost use Rattle.driver.specs.RefillSteps.{OffersAll, Refills, Stages, StagesSome, WhereHeld};
+ghost use Rattle.driver.specs.RefillSteps.{Refills, Stages, StagesSome, WhereHeld};
 
 use crate::Driver;
 use adapter::offsets::RDT;

@@ -4,11 +4,11 @@ ghost use Rattle.std.specs.Prelude.{◌≡◌, ◌↔◌, ◌+◌, ◌<◌, ◌�
 ghost use Rattle.std.specs.Bool.{OnFalse, OnTrue};
 ghost use Rattle.registers.specs.Bits.{is_set};
 ghost use Rattle.dma_memory.specs.Layout.{size_of};
+ghost use Rattle.descriptors.specs.Frames.{longest_frame, shortest_sent};
 ghost use Rattle.descriptors.specs.TxFields.{tx_dd};
 ghost use Rattle.bus.specs.Keeping.{Keeps};
-ghost use Rattle.driver_law.specs.Calls.{Ran, WhereUp, at};
+ghost use Rattle.driver_law.specs.Calls.{Ran, WhereUp, at, whole_descriptor};
 ghost use Rattle.driver_law.specs.DriverState.{transmit_slot, transmit_tail};
-ghost use Rattle.driver_law.specs.Accesses.{whole_descriptor};
 ghost use Rattle.driver.specs.SendSteps.{FreesOldest, HasWrongLength, LooksBack, Reclaims, Transmits};
 ghost use Rattle.driver.specs.SendSteps.{sent_now, with_transmit_slots};
 
@@ -36,7 +36,7 @@ pub enum SendError {
     /// It has more than 1,518 bytes.
     #[error("E21 TooLong")]
     TooLong,
-    /// No transmit slot is free.
+    /// All slots but one are outstanding, and none of them is written back.
     #[error("E22 RingFull")]
     RingFull,
 }
@@ -116,8 +116,8 @@ impl Driver {
     fn send<B: Bus>(&mut self, bus: &mut B, frame: &[u8])
         requires memory { size_of self.old.layout ≤ B.extent bus.old }
         requires room { self.old.sending + 1 < self.old.layout.tx }
-        requires least { 14 ≤ length frame.now }
-        requires most { length frame.now ≤ 1518 }
+        requires least { shortest_sent ≤ length frame.now }
+        requires most { length frame.now ≤ longest_frame }
         ensures keeps { Keeps B.Bus bus.old bus.new }
         ensures others { self.new ≡ with_transmit_slots self.old self.old.oldest_transmit (self.old.sending + 1) }
         ensures sends { WhereUp B.Bus (at bus.old self.old) (at bus.new self.new)
@@ -135,22 +135,23 @@ impl Driver {
 
     /// Sends a frame of 14 to 1,518 bytes.
     ///
-    /// First it frees the oldest transmit slots whose descriptors have DD, by one load each. `bus` must have at least
-    /// `layout().size()` bytes.
+    /// First it frees the oldest transmit slots whose descriptors have DD, by one load each; if a slot is left, its
+    /// descriptor is loaded, too. `bus` must have at least `layout().size()` bytes.
     ///
     /// # Errors
     ///
     /// E20 [`TooShort`](SendError::TooShort) if the frame has fewer than 14 bytes, E21
     /// [`TooLong`](SendError::TooLong) if it has more than 1,518; in both cases there is no access. E22
-    /// [`RingFull`](SendError::RingFull) if all slots of the ring but one are still outstanding.
+    /// [`RingFull`](SendError::RingFull) if all slots of the ring but one are still outstanding after
+    /// that.
     pub fn transmit<B: Bus>(&mut self, bus: &mut B, frame: &[u8]) -> Result<(), SendError>
         requires memory { size_of self.old.layout ≤ B.extent bus.old }
         ensures keeps { Keeps B.Bus bus.old bus.new }
 
         // What it does over any bus.
         ensures others { self.new ≡ with_transmit_slots self.old self.new.oldest_transmit self.new.sending }
-        ensures too_short { (result ≡ Err SendError.TooShort) ↔ (length frame.now < 14) }
-        ensures too_long { (result ≡ Err SendError.TooLong) ↔ (1518 < length frame.now) }
+        ensures too_short { (result ≡ Err SendError.TooShort) ↔ (length frame.now < shortest_sent) }
+        ensures too_long { (result ≡ Err SendError.TooLong) ↔ (longest_frame < length frame.now) }
         ensures nothing { HasWrongLength result → (bus.new ≡ bus.old) × (self.new ≡ self.old) }
 
         // And over one that obeys the law.

@@ -13,9 +13,8 @@ use Rattle.bus.specs.declared.event.Access.{Access}
 use Rattle.driver_law.proofs.Steps.{goes-happens, goes-stays}
 use Rattle.driver_law.proofs.Stretches.{goes_join, joined-nothing}
 use Rattle.driver_law.specs.DriverState.{DriverState}
-use Rattle.driver_law.specs.Stretches.{GoesTo, driver_did, driver_in}
+use Rattle.driver_law.specs.Calls.{GoesTo, Ran, at, call_did, driver_did, driver_in, only}
 use Rattle.driver_law.specs.ReadyDrivers.{ReadyWith}
-use Rattle.driver_law.specs.Calls.{Ran, at, call_did, only}
 use Rattle.bus.specs.declared.bus.Bus.{Ghosts}
 
 -- The driver does something by itself, without an access.
@@ -25,7 +24,7 @@ pub ran_by-itself : {up : Bool} {B : Type 0} (bus : Ghosts B) → ((b : B) → b
     → Ran bus up (call_did [] taken accepted) (at b d) (at b d')
 ran_by-itself bus stays b d d' taken accepted goes = record {
   past = nothing;
-  told = stays b;
+  reports = stays b;
   only = refl;
   goes = goes;
   follows = record {
@@ -104,7 +103,7 @@ ran_by-acts {up} bus old new access effect d d' taken accepted acts sets ready s
     let later = step acts.middle first.flows.ready acts.effect_is in
     record {
       past = acts.past;
-      told = acts.told;
+      reports = acts.told;
       only = acts.only;
       goes =
           subst (GoesTo up (driver_in d (bus.world old)) (driver_in d' (bus.world new)) (driver_did taken accepted))
@@ -125,7 +124,7 @@ pub ran_by-join : {first_up up : Bool} {B : Type 0} (bus : Ghosts B)
     → Ran bus up (call_did (xs ++ ys) (t1 ++ t2) (g1 ++ g2)) (at a d1) (at c d3)
 ran_by-join bus joins xs ys a b c d1 d2 d3 t1 t2 g1 g2 one two = record {
   past = joined one.past two.past;
-  told = joins a b c one.past two.past one.told two.told;
+  reports = joins a b c one.past two.past one.reports two.reports;
   only = ap (λ (list : List Access). list ++ two.past.accesses) one.only ∙ ap (λ (list : List Access). xs ++ list) two.only;
   goes = goes_join d1 d2 d3 (bus.world a) (bus.world b) (bus.world c) t1 t2 g1 g2 one.past two.past one.goes two.goes;
   follows = record {

@@ -20,7 +20,7 @@ tail-known : (up : Bool) (counts : Counts) (world : World)
 tail-known true counts world known = known.knows.last
 tail-known false counts world off = off.last
 
--- Nothing is finished or in work.
+-- Nothing is finished or in progress.
 begun-fits : (world : World) → finished 0 world ≡ [] → world.adapter.receiver.work ≡ None → FitBuffers 0 world
 begun-fits world none idle = record {
   finished_fit = subst (λ (slots : List ℕ). All (λ slot. (named world.memory slot).size ≤ buffer_size world) slots) (sym none) (all-none _);

@@ -4,19 +4,20 @@ use Rattle.bus.specs.Keeping.{Keeps}
 use Rattle.bus.specs.PastOfStretch.{Past, joined}
 use Rattle.bus.specs.declared.bus.Bus.{Ghosts}
 use Rattle.driver_law.proofs.Accesses.{ran_by-join}
-use Rattle.driver_law.specs.Calls.{Did, IsReady, Moment, Ran}
+use Rattle.driver_law.specs.Calls.{Did, IsReady, Moment, Ran, call_did}
 
 -- what was done in both
 abbrev pub both : Did → Did → Did
-both one two = record { accesses = one.accesses ++ two.accesses; taken = one.taken ++ two.taken; accepted = one.accepted ++ two.accepted }
+both one two =
+    call_did (one.accesses ++ two.accesses) (one.frames.taken ++ two.frames.taken) (one.frames.accepted ++ two.frames.accepted)
 
 pub ran-on : {B : Type 0} (bus : Ghosts B)
     → ((a b c : B) (first later : Past) → bus.happened a b first → bus.happened b c later → bus.happened a c (joined first later))
     → {first_up up : Bool} {one two : Did} {a b c : Moment B} → Ran bus first_up one a b → Ran bus up two b c
     → Ran bus up (both one two) a c
 ran-on bus joins {first_up} {up} {one} {two} {a} {b} {c} ran later =
-    ran_by-join bus joins one.accesses two.accesses a.bus b.bus c.bus a.driver b.driver c.driver one.taken two.taken
-    one.accepted two.accepted ran later
+    ran_by-join bus joins one.accesses two.accesses a.bus b.bus c.bus a.driver b.driver c.driver one.frames.taken
+    two.frames.taken one.frames.accepted two.frames.accepted ran later
 
 -- The driver is ready for the next call.
 pub ready-on : {B : Type 0} (bus : Ghosts B) {up : Bool} {did : Did} (a b : Moment B) → Keeps bus a.bus b.bus → IsReady bus up a

@@ -33,10 +33,11 @@ use Rattle.bus.specs.SlotOffers.{CanSend, OfferedFrame, offering_frame}
 use Rattle.bus.specs.TakingSlots.{behind_oldest_transmit}
 use Rattle.driver_law.specs.DriverState.{DriverState, transmit_slot, transmit_tail}
 use Rattle.driver_law.specs.ReadyDrivers.{Ready}
-use Rattle.driver_law.specs.Accesses.{transmit_buffer, whole_descriptor}
+use Rattle.driver_law.specs.Calls.{transmit_buffer, whole_descriptor}
 use Rattle.driver_law.specs.TransmitSteps.{FrameIsOffered, NoneIsWrittenBack, SlotIsFreed, with_freed}
 use Rattle.driver_law.proofs.Places.{outstanding-known, place-next, places-differ}
 use Rattle.driver_law.proofs.StepsWithoutFrames.{goes-rests}
+use Rattle.driver_law.proofs.Stretches.{misses-stay}
 use Rattle.driver_law.proofs.TransmitSlots.{next_slot_belongs_to_driver, drivers-buffer}
 
 -- The descriptor of a frame.
@@ -176,18 +177,10 @@ frame_is_offered driver frame world ready room least short stands =
         least = omega (arith, ap length done.finished_same);
         frees = omega (arith, ap length done.written_same);
         mask = refl;
-        misses = record {
-          sum = omega arith;
-          counted = λ fits low. omega arith;
-          sticks = λ fits much. omega (arith, much);
-          at_most = omega arith;
-          exactly = λ exact below_greatest. record { exact = exact; below_greatest = below_greatest; sum = omega arith };
-          stays_exact = λ exact below low. exact;
-          small = λ was. was;
-        };
+        misses = misses-stay driver (record driver { sending = driver.sending + 1 }) world (offering_frame world) refl refl refl;
       };
       causes = λ bit has. has;
-      told = inl (omega (arith, ap length done.finished_same));
+      recorded = inl (omega (arith, ap length done.finished_same));
     }
 
 -- Written-back slots.

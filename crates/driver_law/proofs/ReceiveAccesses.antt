@@ -24,12 +24,10 @@ use Rattle.driver_law.proofs.Places.{place-below}
 use Rattle.driver_law.proofs.Steps.{goes-happens, goes-stays}
 use Rattle.driver_law.proofs.Stores.{slots_can_be_staged}
 use Rattle.driver_law.proofs.TakenSlots.{finished-first, finished-none, oldest_can_be_taken, oldest_is_as_long, oldest_is_whole}
-use Rattle.driver_law.specs.Accesses.{stores_from, takes_from}
+use Rattle.driver_law.specs.Calls.{GoesTo, Ran, at, call_did, driver_did, driver_in, only, stores_from, takes_from}
 use Rattle.driver_law.specs.DriverState.{DriverState, HandedOut, buffer_at, next_receive, receive_slot, with_owners}
-use Rattle.driver_law.specs.Stretches.{GoesTo, driver_did, driver_in}
 use Rattle.driver_law.specs.OldestSlot.{LeavesOldest, TakesOldest}
 use Rattle.driver_law.specs.ReadyDrivers.{ReadyWith, Stands, empty_descriptor}
-use Rattle.driver_law.specs.Calls.{Ran, at, call_did, only}
 use Rattle.bus.specs.declared.bus.Bus.{Ghosts}
 
 -- The lists of accesses grow at their ends.

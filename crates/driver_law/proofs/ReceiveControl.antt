@@ -1,4 +1,4 @@
--- RCTL is written while no receive slot is finished or in work.
+-- RCTL is written while no receive slot is finished or in progress.
 use Rattle.std.proofs.Common.{Bool, true, false, ◌≡◌, ◌≢◌, ◌≤◌, ◌<◌, ◌++◌, ◌∷◌, [], ℕ, List, Option, if◌then◌else◌, map, inl, refl, sym, ap}
 use Rattle.std.proofs.Common.{subst, ◌∙◌, arith}
 use Rattle.std.specs.List.{All, AllPairs}

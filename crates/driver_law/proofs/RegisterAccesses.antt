@@ -15,10 +15,8 @@ use Rattle.driver_law.proofs.RegisterReads.{causes_are_read, misses_are_read}
 use Rattle.driver_law.proofs.Steps.{goes-happens}
 use Rattle.driver_law.proofs.Stretches.{flows_join, joined-nothing, work_kept}
 use Rattle.driver_law.specs.DriverState.{DriverState}
-use Rattle.driver_law.specs.Stretches.{FlowsTo, GoesTo, driver_did, driver_in}
-use Rattle.driver_law.specs.RegisterReadings.{ReadsCauses, with_missed}
+use Rattle.driver_law.specs.Calls.{FlowsTo, GoesTo, Ran, ReadsCauses, at, driver_did, driver_in, only, with_missed}
 use Rattle.driver_law.specs.ReadyDrivers.{ReadyWith}
-use Rattle.driver_law.specs.Calls.{Ran, at, only}
 use Rattle.bus.specs.declared.bus.Bus.{Ghosts}
 
 -- A register shows its value, and is read.
@@ -45,7 +43,7 @@ reads-causes {up} bus old new d value acts ready =
     ∙ leaves.same.finished_same in
     record {
       past = acts.past;
-      told = acts.told;
+      reports = acts.told;
       only = acts.only;
       flows =
           subst (FlowsTo up (driver_in d (bus.world old)) (driver_in d (bus.world new)) (driver_did [] [])) (joined-nothing acts.past)

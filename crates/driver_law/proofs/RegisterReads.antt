@@ -1,5 +1,5 @@
 -- A register is read.
-use Rattle.std.proofs.Common.{Bool, IsTrue, nat_lt, ◌&&◌, ◌≡◌, ◌≢◌, ◌≤◌, ◌<◌, ◌+◌, ◌-◌, ◌^◌, [], ℕ, Option, None, Some, length, min, inl}
+use Rattle.std.proofs.Common.{Bool, IsTrue, nat_lt, ◌&&◌, ◌≡◌, ◌≢◌, ◌<◌, ◌+◌, ◌-◌, ◌^◌, [], ℕ, Option, None, Some, length, min, inl}
 use Rattle.std.proofs.Common.{refl, sym, ap, subst, ◌∙◌, arith}
 use Rattle.std.proofs.lemmas.Bool.{and_parts, lt-ltb, ltb-true}
 use Rattle.std.proofs.lemmas.List.{append-nil}
@@ -16,9 +16,10 @@ use Rattle.adapter.specs.declared.register.Register.TheVariants.{Icr, Mpc, Gprc,
 use Rattle.bus.proofs.RegisterSetting.{reads_leave_frames}
 use Rattle.bus.specs.PastOfStretch.{nothing}
 use Rattle.driver_law.specs.DriverState.{DriverState}
-use Rattle.driver_law.specs.Stretches.{FlowsTo, IsExactSum, driver_did, driver_in}
-use Rattle.driver_law.specs.RegisterReadings.{adds_exactly, CausesAreRead, MissesAreRead, OthersAreRead}
+use Rattle.driver_law.specs.Calls.{FlowsTo, SumsMisses, adds_exactly, driver_did, driver_in}
+use Rattle.driver_law.specs.RegisterReadings.{CausesAreRead, MissesAreRead, OthersAreRead}
 use Rattle.driver_law.specs.ReadyDrivers.{ReadyWith}
+use Rattle.driver_law.proofs.Stretches.{misses-stay}
 use Rattle.driver_law.proofs.AlikeWorlds.{SameParts, ready-left}
 
 -- What a read doesn't change, among it the mask.
@@ -77,29 +78,12 @@ resummed driver missed exact world ready = record {
   stand = ready.stand;
 }
 
--- The sum and MPC together are as before, while neither saturates.
-abbrev IsCounted : ℕ → ℕ → ℕ → ℕ → Type 0
-IsCounted missed packets missed' packets' = packets + 0 ≤ greatest_count → missed + packets + 0 < 2 ^ 64
-    → missed' + packets' ≡ missed + packets + 0
-
--- It stays at the greatest u64.
-abbrev Sticks : ℕ → ℕ → ℕ → ℕ → Type 0
-Sticks missed packets missed' packets' = packets + 0 ≤ greatest_count → 2 ^ 64 - 1 ≤ missed + packets + 0 → 2 ^ 64 - 1 ≤ missed' + packets'
-
 -- A read of any register, if the sum after it is known.
 flows-read : {up : Bool} (driver : DriverState) (offset missed : ℕ) (exact : Bool) (a : World) → ReadyWith up driver a
-    → driver.missed ≤ missed
-    → IsCounted driver.missed a.adapter.missed_packets missed (world_after_read offset a).adapter.missed_packets
-    → Sticks driver.missed a.adapter.missed_packets missed (world_after_read offset a).adapter.missed_packets
-    → missed + (world_after_read offset a).adapter.missed_packets ≤ driver.missed + a.adapter.missed_packets
-    → (IsTrue exact → (world_after_read offset a).adapter.missed_packets < greatest_count
-    → IsExactSum (driver_in driver a) (driver_in (record driver { missed = missed; exact = exact }) (world_after_read offset a)) nothing)
-    → (IsTrue driver.exact → a.adapter.missed_packets + 0 < greatest_count → driver.missed + a.adapter.missed_packets + 0 < 2 ^ 64
-    → IsTrue exact)
-    → ((driver.missed < greatest_count → IsTrue driver.exact) → missed < greatest_count → IsTrue exact)
+    → SumsMisses (driver_in driver a) (driver_in (record driver { missed = missed; exact = exact }) (world_after_read offset a)) nothing
     → FlowsTo up (driver_in driver a) (driver_in (record driver { missed = missed; exact = exact }) (world_after_read offset a))
     (driver_did [] []) nothing
-flows-read {up} driver offset missed exact a ready more counted sticks most exactly stays_exact small =
+flows-read {up} driver offset missed exact a ready misses =
     let b = world_after_read offset a in
     let read = read-offset offset a in
     let leaves = reads_leave_frames driver.oldest_receive driver.oldest_transmit offset a ready.law.sound in
@@ -111,15 +95,7 @@ flows-read {up} driver offset missed exact a ready more counted sticks most exac
       least = omega (arith, ap length leaves.same.finished_same);
       frees = omega (arith, ap length leaves.same.written_same);
       mask = read.mask;
-      misses = record {
-        sum = more;
-        counted = counted;
-        sticks = sticks;
-        at_most = omega (arith, most);
-        exactly = exactly;
-        stays_exact = stays_exact;
-        small = small;
-      };
+      misses = misses;
     }
 
 -- If MPC and the sum are as before.
@@ -127,10 +103,7 @@ flows-same : {up : Bool} (driver : DriverState) (offset : ℕ) (a : World) → R
     → (world_after_read offset a).adapter.missed_packets ≡ a.adapter.missed_packets
     → FlowsTo up (driver_in driver a) (driver_in driver (world_after_read offset a)) (driver_did [] []) nothing
 flows-same driver offset a ready same =
-    flows-read driver offset driver.missed driver.exact a ready (omega arith) (λ fits low. omega (arith, same))
-    (λ fits much. omega (arith, same, much)) (omega (arith, same))
-    (λ exact below_greatest. record { exact = exact; below_greatest = omega (arith, below_greatest, same); sum = omega (arith, same) })
-    (λ exact below low. exact) (λ was. was)
+    flows-read driver offset driver.missed driver.exact a ready (misses-stay driver driver a (world_after_read offset a) refl refl same)
 
 -- ICR
 
@@ -160,23 +133,30 @@ misses_are_read up driver world fits ready =
     let value = answer_at 0x4010 world.adapter in
     let missed = min (driver.missed + value) (2 ^ 64 - 1) in
     record {
-      flows = flows-read driver 0x4010 missed (driver.exact && adds_exactly driver.missed value) world ready (omega (arith, fits))
-          (λ most low. omega (arith, shown, none, low)) (λ most much. omega (arith, shown, none, much)) (omega (arith, shown, none))
-          (λ exact below_greatest.
-          let both = and_parts driver.exact (adds_exactly driver.missed value) exact in
-          let tests = and_parts (nat_lt value greatest_count) (nat_lt (driver.missed + value) (2 ^ 64)) both.1 in
-          let below_greatest = ltb-true value greatest_count tests.0 in
-          let sum = ltb-true (driver.missed + value) (2 ^ 64) tests.1 in
-          record { exact = both.0; below_greatest = omega (arith, below_greatest, shown); sum = omega (arith, sum, shown, none) })
-          (λ exact below low. adds driver.exact driver.missed value exact (omega (arith, below, shown)) (omega (arith, low, shown)))
-          (λ was below. adds driver.exact driver.missed value (was (omega (arith, below))) (omega (arith, below)) (omega (arith, below)));
+      flows = flows-read driver 0x4010 missed (driver.exact && adds_exactly driver.missed value) world ready
+          (record {
+            sum = omega (arith, fits);
+            counted = λ most low. omega (arith, shown, none, low);
+            sticks = λ most much. omega (arith, shown, none, much);
+            at_most = omega (arith, shown, none);
+            exactly = λ exact below_greatest.
+                let both = and_parts driver.exact (adds_exactly driver.missed value) exact in
+                let tests = and_parts (nat_lt value greatest_count) (nat_lt (driver.missed + value) (2 ^ 64)) both.1 in
+                let below_greatest = ltb-true value greatest_count tests.0 in
+                let sum = ltb-true (driver.missed + value) (2 ^ 64) tests.1 in
+                record { exact = both.0; below_greatest = omega (arith, below_greatest, shown); sum = omega (arith, sum, shown, none) };
+            stays_exact = λ exact below low.
+                adds driver.exact driver.missed value exact (omega (arith, below, shown)) (omega (arith, low, shown));
+            small = λ was below.
+                adds driver.exact driver.missed value (was (omega (arith, below))) (omega (arith, below)) (omega (arith, below));
+          });
       causes = λ place has. has;
-      told = inl (omega (arith, same));
+      recorded = inl (omega (arith, same));
     }
 
 -- Any other.
 
--- What causes and MPC tell a driver.
+-- The recorded causes and MPC are the same.
 record SameButAdapter (a b : World) : Type 0 where
   recorded : b.adapter.causes.recorded ≡ a.adapter.causes.recorded
   missed_packets : b.adapter.missed_packets ≡ a.adapter.missed_packets
@@ -210,5 +190,5 @@ others_are_read up driver offset world no_causes no_count ready =
     record {
       flows = flows;
       causes = λ place has. subst (λ (causes : ℕ). HasBit causes place) (sym quiet.recorded) has;
-      told = inl (omega (arith, ap length leaves.same.finished_same));
+      recorded = inl (omega (arith, ap length leaves.same.finished_same));
     }

@@ -6,12 +6,11 @@ use Rattle.bus.proofs.Settings.{happens-off}
 use Rattle.bus.specs.PastOfStretch.{Past, nothing}
 use Rattle.bus.specs.declared.event.Access.{Access}
 use Rattle.driver_law.specs.DriverState.{DriverState}
-use Rattle.driver_law.specs.Stretches.{GoesTo, driver_did, driver_in}
+use Rattle.driver_law.specs.Calls.{Did, GoesTo, Moment, Ran, at, call_did, driver_did, driver_in}
 use Rattle.driver_law.specs.ReadyDrivers.{ReadyWith}
 use Rattle.driver_law.proofs.Accesses.{SetsBy, access-link, access-set}
 use Rattle.driver_law.proofs.Steps.{goes-happens}
 use Rattle.driver_law.proofs.Stretches.{goes_join, joined-nothing}
-use Rattle.driver_law.specs.Calls.{Did, Moment, Ran, at, call_did}
 use Rattle.bus.specs.declared.bus.Bus.{Ghosts}
 
 pub record RanWith {B : Type 0} (bus : Ghosts B) (up : Bool) (did : Did) (old new : Moment B) (Behind : World → Type 0) : Type 0 where
@@ -35,7 +34,7 @@ run-with {first} {up} bus old new access effect d d' taken accepted Before Behin
     record {
       ran = record {
         past = acts.past;
-        told = acts.told;
+        reports = acts.told;
         only = acts.only;
         goes =
             subst (GoesTo up (driver_in d (bus.world old)) (driver_in d' (bus.world new)) (driver_did taken accepted))

@@ -26,7 +26,7 @@ use Rattle.driver_law.proofs.Steps.{goes-passes, goes-stays, passes-same}
 use Rattle.driver_law.proofs.Stores.{empty-stored}
 use Rattle.driver_law.proofs.Stretches.{goes_join}
 use Rattle.driver_law.specs.DriverState.{DriverState, buffer_at, next_receive, receive_slot, receive_tail, with_owners}
-use Rattle.driver_law.specs.Stretches.{GoesTo, driver_did, driver_in}
+use Rattle.driver_law.specs.Calls.{GoesTo, driver_did, driver_in}
 use Rattle.driver_law.specs.ReadyDrivers.{AreStored, ReadyWith}
 use Rattle.driver_law.specs.ReceiveSteps.{StagedCanBeOffered}
 

@@ -19,8 +19,9 @@ use Rattle.bus.specs.PastOfStretch.{Past, nothing}
 use Rattle.bus.proofs.DriversSlots.{drivers_side_stays}
 use Rattle.driver_law.proofs.Buffers.{buffer-aside, stand-kept}
 use Rattle.driver_law.proofs.Readiness.{keeps-happening, own-staged, ready-kept, stored-kept}
+use Rattle.driver_law.proofs.Stretches.{misses-counted}
 use Rattle.driver_law.specs.DriverState.{DriverState, HandedOut, receive_slot, receive_tail, with_owners}
-use Rattle.driver_law.specs.Stretches.{GoesTo, driver_did, driver_in}
+use Rattle.driver_law.specs.Calls.{GoesTo, driver_did, driver_in}
 use Rattle.driver_law.specs.ReadyDrivers.{ReadyWith, Stands}
 
 -- Frames only leave and come, slots only become finished and written back, causes are only added, and MPC counts.
@@ -55,19 +56,11 @@ goes-passes {up} d buffers staged pool handed_out a b past passes ready =
         frees = omega
             (arith, ap length passes.written, length-append (written_back d.oldest_transmit a) passes.reported, passes.each_reported);
         mask = passes.mask;
-        misses = record {
-          sum = omega arith;
-          counted = λ fits low. let same = passes.missed fits in omega (arith, same);
-          sticks = λ fits much. let same = passes.missed fits in omega (arith, same, much);
-          at_most = omega (arith, passes.missed_most);
-          exactly = λ exact below_greatest. let same = passes.missed_below_greatest below_greatest in record
-              { exact = exact; below_greatest = omega (arith, same, below_greatest); sum = omega (arith, same) };
-          stays_exact = λ exact below low. exact;
-          small = λ was. was;
-        };
+        misses = misses-counted d (with_owners d buffers staged pool handed_out) a b past refl refl passes.missed passes.missed_most
+            passes.missed_below_greatest;
       };
       causes = passes.causes;
-      told =
+      recorded =
           ⊎_elim
           (λ (none : passes.more ≡ []). inl (omega (arith, ap length passes.done, longer, ap length none)))
           (λ (bit : HasBit b.adapter.causes.recorded 7). inr bit)

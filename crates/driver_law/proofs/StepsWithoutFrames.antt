@@ -1,13 +1,14 @@
 -- A step of a driver by which no frame comes or goes.
-use Rattle.std.proofs.Common.{Bool, IsTrue, ◌≡◌, ◌+◌, [], ℕ, length, inl, sym, ap, subst, ◌∙◌, arith}
+use Rattle.std.proofs.Common.{Bool, ◌≡◌, ◌+◌, [], ℕ, length, inl, sym, ap, subst, ◌∙◌, arith}
 use Rattle.std.proofs.lemmas.List.{append-nil}
 use Rattle.registers.specs.Bits.{HasBit}
 use Rattle.adapter.specs.HostFrames.{frames_held, frames_to_send}
 use Rattle.adapter.specs.Slots.{finished, written_back}
 use Rattle.adapter.specs.World.{World}
 use Rattle.bus.specs.PastOfStretch.{nothing}
+use Rattle.driver_law.proofs.Stretches.{misses-stay}
 use Rattle.driver_law.specs.DriverState.{DriverState}
-use Rattle.driver_law.specs.Stretches.{GoesTo, driver_did, driver_in}
+use Rattle.driver_law.specs.Calls.{GoesTo, driver_did, driver_in}
 use Rattle.driver_law.specs.ReadyDrivers.{ReadyWith}
 
 -- Frames, finished slots, causes and counts are the same; slots are freed if they were written back.
@@ -35,20 +36,8 @@ goes-rests {up} driver a driver' b ready rests = record {
     least = omega (arith, ap length rests.finished_same);
     frees = omega (arith, rests.frees);
     mask = rests.mask;
-    misses = record {
-      sum = omega (arith, rests.missed);
-      counted = λ fits low. omega (arith, rests.missed, rests.missed_packets);
-      sticks = λ fits much. omega (arith, rests.missed, rests.missed_packets, much);
-      at_most = omega (arith, rests.missed, rests.missed_packets);
-      exactly = λ exact below_greatest. record {
-        exact = subst IsTrue rests.exact exact;
-        below_greatest = omega (arith, below_greatest, rests.missed_packets);
-        sum = omega (arith, rests.missed, rests.missed_packets);
-      };
-      stays_exact = λ exact below low. subst IsTrue (sym rests.exact) exact;
-      small = λ was below. subst IsTrue (sym rests.exact) (was (omega (arith, below, rests.missed)));
-    };
+    misses = misses-stay driver driver' a b rests.missed rests.exact rests.missed_packets;
   };
   causes = λ place has. subst (λ (causes : ℕ). HasBit causes place) (sym rests.recorded) has;
-  told = inl (omega (arith, ap length rests.finished_same));
+  recorded = inl (omega (arith, ap length rests.finished_same));
 }

@@ -32,7 +32,7 @@ use Rattle.driver_law.proofs.Places.{place-add, place-below, places-differ}
 use Rattle.driver_law.proofs.Readiness.{Keeps, own-staged, ready-kept, stored-kept, with_staged}
 use Rattle.driver_law.proofs.Steps.{goes-passes, passes-same}
 use Rattle.driver_law.specs.DriverState.{DriverState, buffer_at, next_receive, receive_slot, receive_tail}
-use Rattle.driver_law.specs.Stretches.{GoesTo, driver_did, driver_in}
+use Rattle.driver_law.specs.Calls.{GoesTo, driver_did, driver_in}
 use Rattle.driver_law.specs.ReadyDrivers.{AreStored, IsDriver, ReadyWith, empty_descriptor}
 use Rattle.driver_law.specs.ReceiveSteps.{SlotsCanBeStaged}
 

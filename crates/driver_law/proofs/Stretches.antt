@@ -1,15 +1,40 @@
 -- Two intervals of a driver's run join, and no work is forgotten in one.
-use Rattle.std.proofs.Common.{Bool, ◌≡◌, ◌≤◌, ◌<◌, ◌^◌, ◌+◌, ◌++◌, ◌∷◌, [], ℕ, List, length, refl, inl, inr, ⊎_elim, subst, sym, ap, ◌∙◌}
-use Rattle.std.proofs.Common.{add-zero, append_assoc, length-append, arith}
+use Rattle.std.proofs.Common.{Bool, IsTrue, ◌≡◌, ◌≤◌, ◌<◌, ◌^◌, ◌+◌, ◌++◌, ◌∷◌, [], ℕ, List, length, refl, inl, inr, ⊎_elim, subst, sym, ap}
+use Rattle.std.proofs.Common.{◌∙◌, add-zero, append_assoc, length-append, arith}
 use Rattle.std.proofs.lemmas.Bool.{cases_lt}
 use Rattle.std.proofs.lemmas.List.{append-nil}
 use Rattle.registers.specs.Bits.{HasBit}
+use Rattle.registers.specs.Counting.{greatest_count}
 use Rattle.adapter.specs.HostFrames.{frames_held, frames_to_send}
 use Rattle.adapter.specs.Slots.{finished}
 use Rattle.adapter.specs.World.{World}
 use Rattle.bus.specs.PastOfStretch.{Past, joined, nothing}
 use Rattle.driver_law.specs.DriverState.{DriverState}
-use Rattle.driver_law.specs.Stretches.{FlowsTo, GoesTo, HasNoForgottenWork, driver_did, driver_in}
+use Rattle.driver_law.specs.Calls.{FlowsTo, GoesTo, HasNoForgottenWork, SumsMisses, driver_did, driver_in}
+
+-- MPC isn't read: the driver's sum stays, and MPC counts the frames missed.
+pub misses-counted : (d d' : DriverState) (a b : World) (past : Past) → d'.missed ≡ d.missed → d'.exact ≡ d.exact
+    → (a.adapter.missed_packets + past.missed ≤ greatest_count → b.adapter.missed_packets ≡ a.adapter.missed_packets + past.missed)
+    → b.adapter.missed_packets ≤ a.adapter.missed_packets + past.missed
+    → (b.adapter.missed_packets < greatest_count → b.adapter.missed_packets ≡ a.adapter.missed_packets + past.missed)
+    → SumsMisses (driver_in d a) (driver_in d' b) past
+misses-counted d d' a b past missed exact counts most below_greatest = record {
+  sum = omega (arith, missed);
+  counted = λ fits low. let same = counts fits in omega (arith, missed, same);
+  sticks = λ fits much. let same = counts fits in omega (arith, missed, same, much);
+  at_most = omega (arith, missed, most);
+  exactly = λ is below. let same = below_greatest below in record
+      { exact = subst IsTrue exact is; below_greatest = omega (arith, same, below); sum = omega (arith, missed, same) };
+  stays_exact = λ is below low. subst IsTrue (sym exact) is;
+  small = λ was below. subst IsTrue (sym exact) (was (omega (arith, missed, below)));
+}
+
+-- No frame is missed, and MPC isn't read.
+pub misses-stay : (d d' : DriverState) (a b : World) → d'.missed ≡ d.missed → d'.exact ≡ d.exact
+    → b.adapter.missed_packets ≡ a.adapter.missed_packets → SumsMisses (driver_in d a) (driver_in d' b) nothing
+misses-stay d d' a b missed exact packets =
+    misses-counted d d' a b nothing missed exact (λ fits. omega (arith, packets)) (omega (arith, packets))
+    (λ below. omega (arith, packets))
 
 pub flows_join : {first_up up : Bool} (d1 d2 d3 : DriverState) (a b c : World) (t1 t2 g1 g2 : List (List ℕ)) (first later : Past)
     → FlowsTo first_up (driver_in d1 a) (driver_in d2 b) (driver_did t1 g1) first
@@ -68,16 +93,16 @@ pub goes_join : {first_up up : Bool} (d1 d2 d3 : DriverState) (a b c : World) (t
 goes_join d1 d2 d3 a b c t1 t2 g1 g2 first later one two = record {
   flows = flows_join d1 d2 d3 a b c t1 t2 g1 g2 first later one.flows two.flows;
   causes = λ place has. two.causes place (one.causes place has);
-  told =
+  recorded =
       ⊎_elim
       (λ (same : length (finished d2.oldest_receive b) ≡ length t2 + length (finished d3.oldest_receive c)).
       ⊎_elim
       (λ (before : length (finished d1.oldest_receive a) ≡ length t1 + length (finished d2.oldest_receive b)). inl
       (omega (arith, before, same, length-append t1 t2)))
       (λ (bit : HasBit b.adapter.causes.recorded 7). inr (two.causes 7 bit))
-      one.told)
+      one.recorded)
       (λ (bit : HasBit c.adapter.causes.recorded 7). inr bit)
-      two.told;
+      two.recorded;
 }
 
 pub joined-nothing : (past : Past) → joined past nothing ≡ past
@@ -106,7 +131,7 @@ work_kept d d' a b taken accepted past goes work = record {
       (λ (bit : HasBit a.adapter.causes.recorded 7). inr (goes.causes 7 bit))
       work.asked)
       (λ (bit : HasBit b.adapter.causes.recorded 7). inr bit)
-      goes.told;
+      goes.recorded;
 }
   where
     empty : (xs : List ℕ) → length xs ≡ 0 → xs ≡ []

@@ -25,6 +25,7 @@ use Rattle.driver_law.proofs.Buffers.{buffer-lies}
 use Rattle.driver_law.proofs.Owners.{one_owner-dealt, outstanding-number}
 use Rattle.driver_law.proofs.Places.{outstanding-known}
 use Rattle.driver_law.proofs.Steps.{goes-passes, passes-same}
+use Rattle.driver_law.proofs.Stretches.{misses-stay}
 use Rattle.driver_law.specs.DriverState.{DriverState, HandedOut, buffer_at, numbers_of, receive_slot, receive_tail, with_owners}
 use Rattle.driver_law.specs.ReadyDrivers.{AreStored, ReadyWith, Stands}
 use Rattle.driver_law.specs.ReceiveSteps.{BuffersCanComeBack, OldestCanBeTaken, OldestIsAsLong, behind_oldest, oldest_frame}
@@ -195,18 +196,10 @@ oldest_can_be_taken up d m rest slots a ready buffers done =
         least = omega (arith, ap length done, ap length at.behind);
         frees = omega arith;
         mask = refl;
-        misses = record {
-          sum = omega arith;
-          counted = λ fits low. omega arith;
-          sticks = λ fits much. omega (arith, much);
-          at_most = omega arith;
-          exactly = λ exact below_greatest. record { exact = exact; below_greatest = below_greatest; sum = omega arith };
-          stays_exact = λ exact below low. exact;
-          small = λ was. was;
-        };
+        misses = misses-stay d d' a a refl refl refl;
       };
       causes = λ place has. has;
-      told = inl (omega (arith, ap length done, ap length at.behind));
+      recorded = inl (omega (arith, ap length done, ap length at.behind));
     }
 
 pub buffers_can_come_back : BuffersCanComeBack

@@ -20,9 +20,9 @@ use Rattle.bus.specs.Law.{Acts, Happens}
 use Rattle.bus.specs.PastOfStretch.{Past, joined, nothing}
 use Rattle.bus.specs.declared.event.Access.TheVariants.{Loads, Stores, Writes}
 use Rattle.driver_law.specs.DriverState.{DriverState, transmit_slot, transmit_tail}
-use Rattle.driver_law.specs.Stretches.{Goes, driver_did, driver_in}
+use Rattle.driver_law.specs.Calls.{Goes, Ran, at, call_did, driver_did, driver_in, only, send_accesses, tail_buffer, tail_slot}
+use Rattle.driver_law.specs.Calls.{transmit_buffer, transmit_loads, whole_descriptor}
 use Rattle.driver_law.specs.ReadyDrivers.{Ready}
-use Rattle.driver_law.specs.Accesses.{send_accesses, tail_buffer, tail_slot, transmit_buffer, transmit_loads, whole_descriptor}
 use Rattle.driver_law.specs.TransmitSteps.{FrameStands, IsLoadOrStore, SendsEndWithTail, TailIsMoved, with_freed}
 use Rattle.driver_law.proofs.Accesses.{load-sets, ran_by-join, store-sets, write-sets}
 use Rattle.driver_law.proofs.Buffers.{front-same}
@@ -32,7 +32,6 @@ use Rattle.driver_law.proofs.Steps.{goes-stays}
 use Rattle.driver_law.proofs.TransmitSlots.{data_is_stored, descriptor_is_stored, next_slot_belongs_to_driver, drivers-buffer}
 use Rattle.driver_law.proofs.TransmitSlots.{own-descriptor}
 use Rattle.driver_law.proofs.TransmitSlots.{slots_keep_bytes}
-use Rattle.driver_law.specs.Calls.{Ran, at, call_did, only}
 use Rattle.bus.specs.declared.bus.Bus.{Ghosts}
 
 -- A frame is sent.

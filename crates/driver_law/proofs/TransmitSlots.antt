@@ -22,7 +22,7 @@ use Rattle.bus.specs.DriversStores.{IsDriversArea}
 use Rattle.bus.specs.SpareMemory.{IsSpare}
 use Rattle.driver_law.specs.DriverState.{DriverState, receive_slot, receive_tail, transmit_slot}
 use Rattle.driver_law.specs.ReadyDrivers.{AreStored, Ready, ReadyWith}
-use Rattle.driver_law.specs.Accesses.{transmit_buffer}
+use Rattle.driver_law.specs.Calls.{transmit_buffer}
 use Rattle.driver_law.specs.TransmitSteps.{DataIsStored, DescriptorIsStored, NextSlotBelongsToDriver, SlotsKeepBytes}
 use Rattle.driver_law.proofs.Buffers.{known-area}
 use Rattle.bus.proofs.WritableSlots.{drivers_transmit_slots_can_be_written}

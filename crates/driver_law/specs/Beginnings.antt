@@ -18,7 +18,7 @@ use Rattle.bus.specs.Law.{Happens}
 use Rattle.bus.specs.PastOfStretch.{Past, nothing}
 use Rattle.adapter.specs.KnownRing.{KnowsRing}
 use Rattle.driver_law.specs.DriverState.{DriverState, next_receive, receive_slot, transmit_tail}
-use Rattle.driver_law.specs.Stretches.{Goes, GoesTo, HasNoForgottenWork, driver_did, driver_in}
+use Rattle.driver_law.specs.Calls.{Goes, GoesTo, HasNoForgottenWork, driver_did, driver_in}
 use Rattle.driver_law.specs.ReadyDrivers.{IsDriver, ReadyWith, TransmitIs}
 use Rattle.registers.specs.Places.{rctl_bsex, rctl_en, rxt0, tctl_psp}
 

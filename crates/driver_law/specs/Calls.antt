@@ -1,13 +1,231 @@
--- What a driver's calls do, over any bus that obeys the law.
-use Rattle.std.specs.Prelude.{◌≡◌, ℕ, Bool, true, List, []}
+-- A driver's calls: a driver in its world, what it did in an interval, and what changed. `Ran` and `WhereReady` state this over any bus
+-- that obeys the law. The order of the accesses is our choice.
+use Rattle.std.specs.Prelude.{◌≡◌, ◌≤◌, ◌<◌, ◌⊎◌, ◌^◌, ◌+◌, ◌-◌, ◌%◌, ◌++◌, ◌∷◌, ◌&&◌, ℕ, Bool, true, List, [], IsTrue, length, map}
+use Rattle.std.specs.Prelude.{min, nat_lt}
+use Rattle.registers.specs.Bits.{HasBit, union}
+use Rattle.registers.specs.Counting.{greatest_count}
+use Rattle.registers.specs.Places.{alone, rxt0}
+use Rattle.dma_memory.specs.Layout.{Counts, TransmitBuffer, start_of}
+use Rattle.dma_memory.specs.Owners.{HasNoSecondOwner}
+use Rattle.descriptors.specs.Ring.{slots_from}
+use Rattle.descriptors.specs.TxDesc.{tx_desc_bytes}
+use Rattle.descriptors.specs.TxFields.{command_of, sent_of, tx_eop, tx_ifcs, tx_rs}
+use Rattle.adapter.specs.declared.offsets.TheConstants.{ICR, RDT, TDT}
+use Rattle.adapter.specs.HostFrames.{frames_held, frames_to_send}
+use Rattle.adapter.specs.Slots.{finished, written_back}
+use Rattle.adapter.specs.World.{World}
+use Rattle.bus.specs.Link.{KeepsLink}
 use Rattle.bus.specs.PastOfStretch.{Past}
+use Rattle.bus.specs.Settings.{AreSet, WhileOff}
 use Rattle.bus.specs.declared.bus.Bus.{Ghosts}
 use Rattle.bus.specs.declared.event.Access.{Access}
-use Rattle.driver_law.specs.DriverState.{DriverState, HandedOut, holding}
-use Rattle.driver_law.specs.ReadyDrivers.{ReadyWith}
-use Rattle.driver_law.specs.Stretches.{DriverInWorld, FollowsWrites, GoesTo, driver_did, driver_in}
+use Rattle.bus.specs.declared.event.Access.TheVariants.{Loads, Reads, Stores, Writes}
+use Rattle.driver_law.specs.DriverState.{DriverState, HandedOut, buffer_at, holding, owners, receive_slot, transmit_slot, transmit_tail}
+use Rattle.driver_law.specs.DriverState.{with_owners}
+use Rattle.driver_law.specs.ReadyDrivers.{ReadyWith, empty_descriptor}
 
--- The bus and the driver at a moment of a run.
+-- A driver in its world.
+
+-- a driver, and the world of its adapter and its memory, at a moment
+pub record DriverInWorld : Type 0 where
+  pub driver : DriverState
+  pub world : World
+
+abbrev pub driver_in : DriverState → World → DriverInWorld
+driver_in driver world = record { driver = driver; world = world }
+
+-- No work is forgotten: RXT0 is enabled, and it is recorded if the oldest receive slot is finished.
+pub record HasNoForgottenWork (d : DriverState) (world : World) : Type 0 where
+  pub enabled : HasBit world.adapter.causes.mask rxt0
+  pub asked : (finished d.oldest_receive world ≡ []) ⊎ HasBit world.adapter.causes.recorded rxt0
+
+-- The ring is refilled: no buffer is free, or all slots but one are outstanding.
+abbrev pub IsRefilled : DriverState → Type 0
+IsRefilled d = (d.pool ≡ []) ⊎ (length d.buffers + 1 ≡ d.layout.rx)
+
+-- Over any bus: the ring is refilled, no slot is staged then, and nothing else changes.
+pub record OffersAll (d d' : DriverState) : Type 0 where
+  pub others : d' ≡ with_owners d d'.buffers [] d'.pool []
+  pub refilled : IsRefilled d'
+  pub one_owner : HasNoSecondOwner d'.layout.buffers (owners d')
+
+-- What a driver did in an interval.
+
+-- the frames that it took off the receive ring, and those that it accepted for sending, in order
+pub record DriverDid : Type 0 where
+  pub taken : List (List ℕ)
+  pub accepted : List (List ℕ)
+
+abbrev pub driver_did : (taken accepted : List (List ℕ)) → DriverDid
+driver_did taken accepted = record { taken = taken; accepted = accepted }
+
+-- the accesses in order, and the frames
+pub record Did : Type 0 where
+  pub accesses : List Access
+  pub frames : DriverDid
+
+abbrev pub call_did : List Access → (taken accepted : List (List ℕ)) → Did
+call_did accesses taken accepted = record { accesses = accesses; frames = driver_did taken accepted }
+
+-- these accesses, and no frame taken or accepted
+abbrev pub only : List Access → Did
+only accesses = call_did accesses [] []
+
+-- How the driver counts the frames that the adapter missed.
+
+-- the number of frames missed up to a moment, as far as the driver knows: its sum plus MPC
+abbrev pub misses_known : DriverInWorld → ℕ
+misses_known now = now.driver.missed + now.world.adapter.missed_packets
+
+-- The driver's sum was exact at the beginning, and MPC was below its greatest value. The sum plus MPC grew by the frames missed.
+pub record IsExactSum (old new : DriverInWorld) (past : Past) : Type 0 where
+  pub exact : IsTrue old.driver.exact
+  pub below_greatest : old.world.adapter.missed_packets < greatest_count
+  pub sum : misses_known new ≡ misses_known old + past.missed
+
+pub record SumsMisses (old new : DriverInWorld) (past : Past) : Type 0 where
+  -- The driver's sum doesn't fall.
+  pub sum : old.driver.missed ≤ new.driver.missed
+  -- The sum plus MPC grows by the frames missed, if neither would pass its greatest value.
+  pub counted :
+      old.world.adapter.missed_packets + past.missed ≤ greatest_count → misses_known old + past.missed < 2 ^ 64
+      → misses_known new ≡ misses_known old + past.missed
+  -- If MPC wouldn't pass its greatest value, and the sum plus MPC would reach the greatest u64, it is at least that at the end.
+  pub sticks :
+      old.world.adapter.missed_packets + past.missed ≤ greatest_count → 2 ^ 64 - 1 ≤ misses_known old + past.missed
+      → 2 ^ 64 - 1 ≤ misses_known new
+  -- It never counts too many.
+  pub at_most : misses_known new ≤ misses_known old + past.missed
+  -- If the sum is exact and MPC is below its greatest value at the end, this was so at the beginning, and each frame missed was counted.
+  pub exactly : IsTrue new.driver.exact → new.world.adapter.missed_packets < greatest_count → IsExactSum old new past
+  -- An exact sum stays exact if MPC would stay below its greatest value, and the sum plus MPC would fit into a u64.
+  pub stays_exact :
+      IsTrue old.driver.exact → old.world.adapter.missed_packets + past.missed < greatest_count
+      → misses_known old + past.missed < 2 ^ 64 → IsTrue new.driver.exact
+  -- A sum below MPC's greatest value is exact at the end, if that was so at the beginning.
+  pub small :
+      (old.driver.missed < greatest_count → IsTrue old.driver.exact) → new.driver.missed < greatest_count → IsTrue new.driver.exact
+
+-- whether a value read from MPC can be added without a loss: it isn't MPC's greatest value, and the sum doesn't saturate
+abbrev pub adds_exactly : (missed value : ℕ) → Bool
+adds_exactly missed value = nat_lt value greatest_count && nat_lt (missed + value) (2 ^ 64)
+
+-- the driver after a value read from MPC was added to its sum, which saturates at the greatest u64
+abbrev pub with_missed : ℕ → DriverState → DriverState
+with_missed value driver = record driver
+    { missed = min (driver.missed + value) (2 ^ 64 - 1); exact = driver.exact && adds_exactly driver.missed value }
+
+-- What an interval changes.
+
+-- Frames were taken off the receive ring, and frames were accepted for sending. Any register may have been read.
+pub record FlowsTo (up : Bool) (old new : DriverInWorld) (did : DriverDid) (past : Past) : Type 0 where
+  pub ready : ReadyWith up new.driver new.world
+  pub layout : new.driver.layout ≡ old.driver.layout
+  -- Frames are sent in order; none is lost or duplicated.
+  pub sends : past.put ++ frames_to_send new.world ≡ frames_to_send old.world ++ did.accepted
+  -- Frames are received in order; none is lost or duplicated.
+  pub holds :
+      did.taken ++ frames_held new.driver.oldest_receive new.world ≡ frames_held old.driver.oldest_receive old.world ++ past.stored
+  -- Each slot that was finished at the beginning was taken, or is still finished.
+  pub least :
+      length (finished old.driver.oldest_receive old.world) ≤ length did.taken + length
+      (finished new.driver.oldest_receive new.world)
+  -- The number of outstanding transmit slots that aren't written back grows by the frames accepted, and falls by those put on the wire.
+  pub frees :
+      length (written_back old.driver.oldest_transmit old.world) + length past.put + new.driver.sending
+      ≡ old.driver.sending + length did.accepted + length (written_back new.driver.oldest_transmit new.world)
+  pub mask : new.world.adapter.causes.mask ≡ old.world.adapter.causes.mask
+  pub misses : SumsMisses old new past
+
+-- The same, and ICR wasn't read.
+pub record GoesTo (up : Bool) (old new : DriverInWorld) (did : DriverDid) (past : Past) : Type 0 where
+  pub flows : FlowsTo up old new did past
+  -- Causes are only added.
+  pub causes : (place : ℕ) → HasBit old.world.adapter.causes.recorded place → HasBit new.world.adapter.causes.recorded place
+  -- RXT0 is recorded, unless the number of finished slots fell by exactly those taken.
+  pub recorded :
+      (length (finished old.driver.oldest_receive old.world) ≡ length did.taken + length
+      (finished new.driver.oldest_receive new.world)) ⊎ HasBit new.world.adapter.causes.recorded rxt0
+
+abbrev pub Goes : (old new : DriverInWorld) → DriverDid → Past → Type 0
+Goes = GoesTo true
+
+-- What the driver's writes decide.
+pub record FollowsWrites (old new : World) (past : Past) : Type 0 where
+  -- Only these writes change the settings.
+  pub set : AreSet old new past
+  -- If RCTL.EN is 0 and RCTL isn't written, no frame is stored or missed.
+  pub off : WhileOff old past
+  -- A link that is up stays up, if neither CTRL nor MDIC is written.
+  pub link : KeepsLink old new past
+
+-- The accesses of the receive side.
+
+-- the descriptors of the receive slots from a place on are stored, with these buffers
+abbrev pub stores_from : Counts → ℕ → List ℕ → List Access
+stores_from counts slot [] = []
+stores_from counts slot (number ∷ later) =
+    Stores (receive_slot slot) (empty_descriptor (buffer_at counts number)) ∷ stores_from counts ((slot + 1) % counts.rx) later
+
+-- RDT is written with this place if any slots are to be offered
+abbrev pub tail_write : ℕ → (staged : List ℕ) → List Access
+tail_write slot [] = []
+tail_write slot (number ∷ later) = Writes RDT slot ∷ []
+
+-- the receive slots from a place on are taken, with these buffers: for each its descriptor is loaded, and then bytes 12 and 13 of its frame
+abbrev pub takes_from : Counts → (slot : ℕ) → List ℕ → List Access
+takes_from counts slot [] = []
+takes_from counts slot (number ∷ later) =
+    Loads (receive_slot slot) 16 ∷ Loads (buffer_at counts number + 12) 2 ∷ takes_from counts ((slot + 1) % counts.rx) later
+
+-- the descriptor of the slot at a place is loaded if any are outstanding
+abbrev pub last_load : ℕ → (outstanding : List ℕ) → List Access
+last_load slot [] = []
+last_load slot (number ∷ later) = Loads (receive_slot slot) 16 ∷ []
+
+-- The accesses of the transmit side.
+
+-- the buffer of a transmit slot
+abbrev pub transmit_buffer : Counts → ℕ → ℕ
+transmit_buffer counts slot = start_of counts (TransmitBuffer slot)
+
+-- the descriptor and the buffer of the slot at the tail
+abbrev pub tail_slot : DriverState → ℕ
+tail_slot driver = transmit_slot driver.layout (transmit_tail driver)
+
+abbrev pub tail_buffer : DriverState → ℕ
+tail_buffer driver = transmit_buffer driver.layout (transmit_tail driver)
+
+-- the command of a whole packet (EOP), with a check sequence (IFCS), and with its write-back requested (RS)
+abbrev pub whole_packet_command : ℕ
+whole_packet_command = union (union (alone tx_eop) (alone tx_ifcs)) (alone tx_rs)
+
+-- a transmit descriptor that names `size` bytes at an address, as a whole packet
+abbrev pub whole_descriptor : (address size : ℕ) → List ℕ
+whole_descriptor address size = tx_desc_bytes (record {
+  address = address;
+  length = size;
+  cso = 0;
+  command = command_of whole_packet_command;
+  status = sent_of 0;
+  css = 0;
+  special = 0;
+})
+
+-- the descriptors of k slots are loaded, from a place on
+abbrev pub transmit_loads : Counts → (oldest : ℕ) → ℕ → List Access
+transmit_loads counts oldest k = map (λ slot. Loads (transmit_slot counts slot) 16) (slots_from counts.tx oldest k)
+
+-- a frame is sent in the slot at the tail: its bytes are stored, then the descriptor, and then TDT is written
+abbrev pub send_accesses : DriverState → List ℕ → List Access
+send_accesses driver frame =
+    Stores (tail_buffer driver) frame
+    ∷ Stores (tail_slot driver) (whole_descriptor (tail_buffer driver) (length frame))
+    ∷ Writes TDT ((transmit_tail driver + 1) % driver.layout.tx) ∷ []
+
+-- Calls over a bus.
+
+-- the bus and the driver at a moment of a run
 pub record Moment (B : Type 0) : Type 0 where
   pub bus : B
   pub driver : DriverState
@@ -19,37 +237,38 @@ at bus driver = record { bus = bus; driver = driver }
 abbrev pub held_at : {B : Type 0} → List HandedOut → Moment B → Moment B
 held_at held now = record now { driver = holding held now.driver }
 
+-- the driver and its world at this moment
+abbrev pub in_world_of : {B : Type 0} → Ghosts B → Moment B → DriverInWorld
+in_world_of bus now = driver_in now.driver (bus.world now.bus)
+
+-- From one moment to another the driver did exactly `did`.
+pub record Ran {B : Type 0} (bus : Ghosts B) (up : Bool) (did : Did) (old new : Moment B) : Type 0 where
+  -- what the bus reports of the interval
+  pub past : Past
+  pub reports : bus.happened old.bus new.bus past
+  -- There were no other accesses, and these came in this order.
+  pub only : past.accesses ≡ did.accesses
+  pub goes : GoesTo up (in_world_of bus old) (in_world_of bus new) did.frames past
+  pub follows : FollowsWrites (bus.world old.bus) (bus.world new.bus) past
+
+-- ICR was read over a bus, with no other access.
+pub record ReadsCauses {B : Type 0} (bus : Ghosts B) (up : Bool) (causes : ℕ) (old : Moment B) (after_read : B) : Type 0 where
+  pub past : Past
+  pub reports : bus.happened old.bus after_read past
+  pub only : past.accesses ≡ Reads ICR causes ∷ []
+  pub flows : FlowsTo up (in_world_of bus old) (driver_in old.driver (bus.world after_read)) (driver_did [] []) past
+  -- Each cause that was recorded at the beginning was read.
+  pub seen : (place : ℕ) → HasBit (bus.world old.bus).adapter.causes.recorded place → HasBit causes place
+  pub cleared : (bus.world after_read).adapter.causes.recorded ≡ 0
+  -- No work is forgotten if RXT0, bit 7, wasn't read.
+  pub work :
+      ¬ HasBit causes rxt0 → HasNoForgottenWork old.driver (bus.world old.bus) → HasNoForgottenWork old.driver (bus.world after_read)
+  pub follows : FollowsWrites (bus.world old.bus) (bus.world after_read) past
+
 -- The bus obeys the law, and the driver is ready. `up`: its transmit side is set up; otherwise it is off.
 pub record IsReady {B : Type 0} (bus : Ghosts B) (up : Bool) (now : Moment B) : Type 0 where
   pub honest : bus.honest now.bus
   pub ready : ReadyWith up now.driver (bus.world now.bus)
-
--- What was done in an interval: the accesses in order, the frames taken off the receive ring, and those accepted for sending.
-pub record Did : Type 0 where
-  pub accesses : List Access
-  pub taken : List (List ℕ)
-  pub accepted : List (List ℕ)
-
--- these accesses, and nothing taken or accepted
-abbrev pub only : List Access → Did
-only accesses = record { accesses = accesses; taken = []; accepted = [] }
-
-abbrev pub call_did : List Access → (taken accepted : List (List ℕ)) → Did
-call_did accesses taken accepted = record { accesses = accesses; taken = taken; accepted = accepted }
-
--- the driver and its world at a moment of a run over a bus
-abbrev pub in_world_of : {B : Type 0} → Ghosts B → Moment B → DriverInWorld
-in_world_of bus now = driver_in now.driver (bus.world now.bus)
-
--- From one moment to another the driver did exactly what `did` lists.
-pub record Ran {B : Type 0} (bus : Ghosts B) (up : Bool) (did : Did) (old new : Moment B) : Type 0 where
-  -- what the bus reports of the interval
-  pub past : Past
-  pub told : bus.happened old.bus new.bus past
-  -- There were no other accesses, and these came in this order.
-  pub only : past.accesses ≡ did.accesses
-  pub goes : GoesTo up (in_world_of bus old) (in_world_of bus new) (driver_did did.taken did.accepted) past
-  pub follows : FollowsWrites (bus.world old.bus) (bus.world new.bus) past
 
 -- If the bus obeys the law and the driver is ready before a call, `Holds` relates the moments before and after it. It does so for each list
 -- of frames that others hold, and with the transmit side set up or off.

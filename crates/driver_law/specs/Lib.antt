@@ -1,11 +1,9 @@
 pub mod DriverState
 pub mod ReadyDrivers
-pub mod Stretches
+pub mod Calls
 pub mod Beginnings
 pub mod RegisterReadings
 pub mod TransmitSteps
-pub mod Accesses
 pub mod ReceiveSteps
 pub mod OldestSlot
 pub mod ControlWrites
-pub mod Calls

@@ -8,7 +8,7 @@ use Rattle.bus.specs.RegisterSetting.{with_tail}
 use Rattle.bus.specs.DriversSlots.{frame_named}
 use Rattle.bus.specs.PastOfStretch.{nothing}
 use Rattle.driver_law.specs.DriverState.{DriverState, HandedOut, buffer_at, next_receive, numbers_of, receive_slot, with_owners}
-use Rattle.driver_law.specs.Stretches.{GoesTo, driver_did, driver_in}
+use Rattle.driver_law.specs.Calls.{GoesTo, driver_did, driver_in}
 use Rattle.driver_law.specs.ReadyDrivers.{ReadyWith, Stands, empty_descriptor}
 
 -- A buffer leaves the pool, and the next slot's descriptor is stored with it, if one slot more is left after that.

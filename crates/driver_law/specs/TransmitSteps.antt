@@ -14,9 +14,9 @@ use Rattle.bus.specs.DriversSlots.{IsDriversSlot}
 use Rattle.bus.specs.PastOfStretch.{Past, nothing}
 use Rattle.bus.specs.declared.event.Access.{Access}
 use Rattle.bus.specs.declared.event.Access.TheVariants.{Loads, Stores, Writes}
-use Rattle.driver_law.specs.Accesses.{send_accesses, tail_buffer, tail_slot, transmit_buffer, transmit_loads, whole_descriptor}
+use Rattle.driver_law.specs.Calls.{Goes, driver_did, driver_in, send_accesses, tail_buffer, tail_slot, transmit_buffer, transmit_loads}
+use Rattle.driver_law.specs.Calls.{whole_descriptor}
 use Rattle.driver_law.specs.DriverState.{DriverState, transmit_slot, transmit_tail}
-use Rattle.driver_law.specs.Stretches.{Goes, driver_did, driver_in}
 use Rattle.driver_law.specs.ReadyDrivers.{Ready}
 
 -- the descriptor of the oldest outstanding slot

@@ -5,7 +5,7 @@ ghost use Rattle.adapter.specs.World.{World};
 ghost use Rattle.bus.specs.Law.{Happens};
 ghost use Rattle.bus.specs.PastOfStretch.{Past, joined};
 ghost use Rattle.driver_law.specs.DriverState.{DriverState};
-ghost use Rattle.driver_law.specs.Stretches.{FlowsTo, GoesTo, HasNoForgottenWork, driver_did, driver_in};
+ghost use Rattle.driver_law.specs.Calls.{FlowsTo, GoesTo, HasNoForgottenWork, driver_did, driver_in};
 ghost use Rattle.driver_law.specs.ReadyDrivers.{ReadyWith, Stands};
 ghost use Rattle.driver_law.specs.ReceiveSteps.{BuffersCanComeBack, OldestCanBeTaken, OldestIsAsLong};
 ghost use Rattle.driver_law.specs.ReceiveSteps.{SlotsCanBeStaged, StagedCanBeOffered};

@@ -95,9 +95,21 @@ fn interrupts_are_the_drivers_or_not(rt: HostRuntime) -> Result<(), Fail> {
     Ok(())
 }
 
+/// A receive descriptor with this length, status and errors.
+fn receive_descriptor(length: u8, status: u8, errors: u8) -> [u8; 16] {
+    [
+        0, 0, 0, 0, 0, 0, 0, 0, length, 0, 0, 0, status, errors, 0, 0,
+    ]
+}
+
 /// A receive descriptor with DD and EOP, and this length.
 fn finished(length: u8) -> [u8; 16] {
-    [0, 0, 0, 0, 0, 0, 0, 0, length, 0, 0, 0, 0x03, 0, 0, 0]
+    receive_descriptor(length, 0x03, 0)
+}
+
+/// A receive descriptor of 60 bytes with DD and EOP, and these errors.
+fn with_errors(errors: u8) -> [u8; 16] {
+    receive_descriptor(60, 0x03, errors)
 }
 
 /// Asserts what an interrupt over a device that lies left: so many frames were handed out, and so many slots were bad.
@@ -111,7 +123,8 @@ fn handed_out(rt: &impl Abort, driver: &Driver, keeper: &Keeper, frames: u8, bad
 }
 
 /// Registers are all ones, so that MPC is at its greatest, and every descriptor is done for ever: each of seven slots
-/// is taken once. Ones have errors, too, and a length that no frame has.
+/// is taken once. Ones have errors, too, and a length that no frame has. A slot is also bad if only EOP is clear, or if
+/// only one bit of errors is set.
 #[test]
 fn lengths_that_no_frame_has_are_bad(rt: HostRuntime) -> Result<(), Fail> {
     let mut bus = good_bus(rt.alloc())?;
@@ -121,15 +134,24 @@ fn lengths_that_no_frame_has_are_bad(rt: HostRuntime) -> Result<(), Fail> {
         ([0xFF; 16], 0, 7),
         (finished(0), 0, 14),
         (finished(59), 0, 21),
-        (finished(60), 7, 21),
-        (finished(60), 14, 21),
+        (receive_descriptor(60, 0x01, 0), 0, 28),
+        (with_errors(0x01), 0, 35),
+        (with_errors(0x02), 0, 42),
+        (with_errors(0x04), 0, 49),
+        (with_errors(0x08), 0, 56),
+        (with_errors(0x10), 0, 63),
+        (with_errors(0x20), 0, 70),
+        (with_errors(0x40), 0, 77),
+        (with_errors(0x80), 0, 84),
+        (finished(60), 7, 84),
+        (finished(60), 14, 84),
     ] {
         let mut lying = FakeBus::new(u32::MAX, descriptor);
         let handled = Handled::Handled { taken: 7 };
         interrupt(&rt, &mut driver, &mut lying, &mut keeper, handled);
         handed_out(&rt, &driver, &keeper, frames, bad);
     }
-    assert_eq!(rt; driver.missed(), (5 * 0xFFFF_FFFF, false));
+    assert_eq!(rt; driver.missed(), (14 * 0xFFFF_FFFF, false));
     Ok(())
 }
 

@@ -9,9 +9,8 @@ use Rattle.std.proofs.lemmas.List.Sums.{sum_by-append}
 use Rattle.rx_engine.specs.Addresses.{ether_type}
 use Rattle.adapter.specs.HostFrames.{frames_held}
 use Rattle.adapter.specs.World.{World}
-use Rattle.driver.specs.TakenFrames.{GrowsBy}
-use Rattle.packet_socket.specs.HostStretches.{Accounts, Given, given_for}
-use Rattle.packet_socket.specs.HeldFrames.{socket_frames, waiting_frames, held_for_socket, without_socket}
+use Rattle.driver.specs.HandlerSteps.{GrowsBy}
+use Rattle.packet_socket.specs.HostCalls.{Accounts, Given, given_for, held_for_socket, socket_frames, waiting_frames, without_socket}
 use Rattle.packet_socket.specs.HostState.{HostState}
 use Rattle.packet_socket.specs.SocketKinds.{goes_to, has_none}
 use Rattle.packet_socket.specs.declared.socket_kind.SocketKind.{SocketKind}
@@ -61,7 +60,7 @@ given-append socket xs ys =
     ap (map frame) (filter-append (λ (one : Given). one.socket == socket) xs ys)
     ∙ map-append frame (filter (λ (one : Given). one.socket == socket) xs) (filter (λ (one : Given). one.socket == socket) ys)
 
--- Two stretches are one.
+-- Two intervals are one.
 pub accounts-join : (h1 h2 h3 : HostState) (a b c : World) (given more : List Given) (stored later : List (List ℕ))
     → Accounts h1 a h2 b given stored → Accounts h2 b h3 c more later
     → Accounts h1 a h3 c (given ++ more) (stored ++ later)

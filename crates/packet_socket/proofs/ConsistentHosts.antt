@@ -14,18 +14,16 @@ use Rattle.adapter.specs.World.{World}
 use Rattle.bus.proofs.Lists.{all-head, all-none, all-right, all-without}
 use Rattle.driver_law.specs.DriverState.{DriverState, HandedOut, holding, owners}
 use Rattle.driver_law.specs.ReadyDrivers.{ReadyWith}
-use Rattle.driver.specs.HandlerSteps.{IfNotMine, IfHandled, Serves}
-use Rattle.driver.specs.TakenFrames.{AreFrames, GrowsBy, IsFrameSize, ShowsAll, buffers_of}
+use Rattle.driver.specs.HandlerSteps.{AreFrames, GrowsBy, IfHandled, IfNotMine, IsFrameSize, Serves, ShowsAll, buffers_of}
 use Rattle.driver.specs.declared.interrupt.Handled.{Handled}
 use Rattle.driver.specs.declared.interrupt.Handled.TheVariants.{NotMine}
 use Rattle.driver.specs.declared.interrupt.Handled.TheVariants as answers
 use Rattle.driver.specs.declared.receiver.Received.{Received}
-use Rattle.packet_socket.specs.HostCalls.{HostServes}
-use Rattle.packet_socket.specs.HeldFrames.{HostReadyWith, driver_of, waiting_entry}
-use Rattle.packet_socket.specs.HostState.{host_owners}
+use Rattle.packet_socket.specs.HostCalls.{HostReadyWith, HostServes, Queues, driver_of, waiting_entry}
+use Rattle.packet_socket.specs.HostState.{SocketsState, all_of, host_owners, queue_at}
 use Rattle.packet_socket.specs.InsideHost.{IsHost, host_with}
 use Rattle.packet_socket.specs.SocketKinds.{has_socket}
-use Rattle.packet_socket.specs.SocketsState.{Queues, SocketsState, Sorts, all_of, queue_at}
+use Rattle.packet_socket.specs.Sorting.{Sorts}
 use Rattle.packet_socket.specs.declared.socket_kind.SocketKind.{SocketKind}
 use Rattle.packet_socket.proofs.QueueParts.{Splits, none-wait, splits}
 
@@ -167,7 +165,7 @@ has-room driver driver' before kept host numbers =
 pub shown-queues : (driver driver' : DriverState) (before after : SocketsState) (n : ℕ) → IsHost driver before
     → (shows : ShowsAll Sorts before after driver driver' n)
     → Queues before.kinds before.queues after.queues shows.kept
-shown-queues driver driver' before after n host shows = shows.told.queues (has-room driver driver' before shows.kept host shows.buffers)
+shown-queues driver driver' before after n host shows = shows.shown.queues (has-room driver driver' before shows.kept host shows.buffers)
 
 -- No buffer has another number of owners then.
 pub shown-owners : (driver driver' : DriverState) (before after : SocketsState) (n : ℕ) → IsHost driver before
@@ -190,14 +188,14 @@ shown-host driver driver' before after n host shows counts =
     let frame : Received → Type 0 = λ r. IsFrameSize r.length in
     let queues = shown-queues driver driver' before after n host shows in
     record {
-      room = shows.told.room ∙ host.room ∙ ap (λ (c : Counts). c.buffers) (sym counts);
-      count = shows.told.count ∙ host.count ∙ ap (λ (kinds : List SocketKind). length kinds) (sym shows.told.kinds);
+      room = shows.shown.room ∙ host.room ∙ ap (λ (c : Counts). c.buffers) (sym counts);
+      count = shows.shown.count ∙ host.count ∙ ap (λ (kinds : List SocketKind). length kinds) (sym shows.shown.kinds);
       owners = subst (λ (c : Counts). HasNoSecondOwner c.buffers (owners driver' ++ buffers_of (all_of after.queues))) (sym counts) (λ k.
           omega (arith, host.owners k, shown-owners driver driver' before after n host shows k));
       sizes =
           All-permutation frame (all_of before.queues ++ shows.kept) (all_of after.queues) queues.all
           (All-append frame (all_of before.queues) shows.kept host.sizes
-          (kept-are-frames before after shows.shown shows.kept shows.told shows.sizes));
+          (kept-are-frames before after shows.received shows.kept shows.shown shows.sizes));
     }
 
 -- MPC is read before the slots are taken, and then the ring is refilled: neither changes what was shown.
@@ -205,12 +203,12 @@ pub served-shows : (n : ℕ) (driver driver' : DriverState) (before after : Sock
     → Serves (record { took = Sorts }) before after driver driver' n → ShowsAll Sorts before after driver driver' n
 served-shows n driver driver' before after serves =
     let shows = serves.takes.shows in
-    let bad : GrowsBy driver.bad serves.taken.bad (n - length shows.shown) = shows.bad in
-    let last : driver'.bad ≡ serves.taken.bad = ap (λ (d : DriverState). d.bad) serves.offers.others in
+    let bad : GrowsBy driver.bad serves.between.bad (n - length shows.received) = shows.bad in
+    let last : driver'.bad ≡ serves.between.bad = ap (λ (d : DriverState). d.bad) serves.offers.others in
     record {
-      shown = shows.shown;
+      received = shows.received;
       kept = shows.kept;
-      told = shows.told;
+      shown = shows.shown;
       count = shows.count;
       sizes = shows.sizes;
       bad = record {
@@ -219,12 +217,12 @@ served-shows n driver driver' before after serves =
         exactly = λ below. let same = bad.exactly (omega (arith, below, last)) in omega (arith, same, last);
       };
       buffers = λ k.
-          let numbers : copies k (owners driver) ≡ copies k (owners serves.taken ++ buffers_of shows.kept) = shows.buffers k in
+          let numbers : copies k (owners driver) ≡ copies k (owners serves.between ++ buffers_of shows.kept) = shows.buffers k in
           omega (
             arith,
             numbers,
             serves.owners k,
-            copies-append k (owners serves.taken) (buffers_of shows.kept),
+            copies-append k (owners serves.between) (buffers_of shows.kept),
             copies-append k (owners driver') (buffers_of shows.kept),
           );
     }
@@ -266,7 +264,7 @@ pub sorts-all : (result : Handled) (driver driver' : DriverState) (before after 
 sorts-all NotMine driver driver' before after host serves = tt
 sorts-all (answers.Handled taken) driver driver' before after host serves =
     let shows = served-shows taken driver driver' before after serves in
-    let count : taken + length serves.taken.buffers ≡ length driver.buffers = serves.takes.count in
+    let count : taken + length serves.between.buffers ≡ length driver.buffers = serves.takes.count in
     record {
       misses = record {
         misses = serves.misses;
@@ -274,13 +272,15 @@ sorts-all (answers.Handled taken) driver driver' before after host serves =
         exact = ap (λ (d : DriverState). d.exact) serves.offers.others ∙ ap (λ (d : DriverState). d.exact) serves.takes.others;
       };
       sorts = record {
-        shown = shows.shown;
+        shown = shows.received;
         count = shows.count;
         sizes = shows.sizes;
-        kinds = shows.told.kinds;
-        queues = subst (Queues before.kinds before.queues after.queues) shows.told.claimed
-            (shown-queues driver driver' before after taken host shows);
-        unclaimed = shows.told.unclaimed;
+        sorted = record {
+          kinds = shows.shown.kinds;
+          queues = subst (Queues before.kinds before.queues after.queues) shows.shown.claimed
+              (shown-queues driver driver' before after taken host shows);
+          unclaimed = shows.shown.unclaimed;
+        };
         bad = shows.bad;
       };
       outstanding = omega (arith, count);

@@ -12,19 +12,16 @@ use Rattle.bus.specs.declared.bus.Bus.{Ghosts}
 use Rattle.bus.specs.declared.event.Access.{Access}
 use Rattle.bus.specs.declared.event.Access.TheVariants.{Loads}
 use Rattle.driver_law.proofs.Accesses.{ran_by-join}
-use Rattle.driver_law.specs.Calls.{Ran, at, only}
-use Rattle.driver_law.specs.Accesses.{stores_from, tail_write}
+use Rattle.driver_law.specs.Calls.{Ran, at, only, stores_from, tail_write}
 use Rattle.driver_law.specs.DriverState.{DriverState, HandedOut, buffer_at, holding, next_receive, with_owners}
 use Rattle.driver_law.specs.ReadyDrivers.{ReadyWith, Stands}
 use Rattle.driver.specs.RefillSteps.{Refills}
-use Rattle.driver.specs.TakenFrames.{AreFrames, IsFrameSize}
+use Rattle.driver.specs.HandlerSteps.{AreFrames, IsFrameSize}
 use Rattle.driver.specs.declared.receiver.Received.{Received}
-use Rattle.packet_socket.specs.HostCalls.{HostMoment, IsReadyHost, LeavesQueue, Receives, driver_at, receive_accesses}
-use Rattle.packet_socket.specs.HostStretches.{Given, given_for}
-use Rattle.packet_socket.specs.HeldFrames.{driver_of, waiting_frame, waiting_frames, waiting_entry}
-use Rattle.packet_socket.specs.HostState.{HostState}
+use Rattle.packet_socket.specs.HostCalls.{Given, HostMoment, IsReadyHost, LeavesQueue, Receives, driver_at, driver_of, given_for}
+use Rattle.packet_socket.specs.HostCalls.{receive_accesses, waiting_entry, waiting_frame, waiting_frames}
+use Rattle.packet_socket.specs.HostState.{HostState, SocketsState, all_of, queue_at}
 use Rattle.packet_socket.specs.InsideHost.{host_with}
-use Rattle.packet_socket.specs.SocketsState.{SocketsState, all_of, queue_at}
 use Rattle.packet_socket.specs.declared.socket_kind.SocketKind.{SocketKind}
 use Rattle.packet_socket.proofs.Accounts.{accounts}
 use Rattle.packet_socket.proofs.QueueParts.{Splits}

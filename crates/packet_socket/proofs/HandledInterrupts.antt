@@ -15,22 +15,21 @@ use Rattle.bus.specs.PastOfStretch.{joined}
 use Rattle.driver_law.proofs.Owners.{owners-count}
 use Rattle.driver_law.proofs.TakenSlots.{buffers_can_come_back}
 use Rattle.bus.specs.declared.bus.Bus.{Ghosts}
-use Rattle.driver_law.specs.Calls.{at}
+use Rattle.driver_law.specs.Calls.{FlowsTo, at, driver_did, driver_in}
 use Rattle.driver_law.specs.DriverState.{DriverState, HandedOut, buffer_at, holding, numbers_of}
-use Rattle.driver_law.specs.Stretches.{FlowsTo, driver_did, driver_in}
 use Rattle.driver_law.specs.ReadyDrivers.{ReadyWith, Stands}
-use Rattle.driver.specs.HandlerSteps.{Asked, Handles, HandlesIt, DoesNothing, IfNotMine, IfHandled}
-use Rattle.driver.specs.TakenFrames.{GrowsBy, IsPart, Scene, buffers_of, frames_of as frames_of_slots, held_in, received_of}
+use Rattle.driver.specs.HandlerSteps.{Asked, DoesNothing, GrowsBy, Handles, HandlesIt, IfHandled, IfNotMine, IsPart, Scene, buffers_of}
+use Rattle.driver.specs.HandlerSteps.{frames_of, held_in, received_of}
 use Rattle.driver.specs.declared.interrupt.Handled.{Handled}
 use Rattle.driver.specs.declared.interrupt.Handled.TheVariants.{NotMine}
 use Rattle.driver.specs.declared.interrupt.Handled.TheVariants as answers
 use Rattle.driver.specs.declared.receiver.Received.{Received}
-use Rattle.packet_socket.specs.HostCalls.{HostHandles, HostHandlesIt, HostDoesNothing, HostMoment, IsReadyHost, driver_at, host_at}
-use Rattle.packet_socket.specs.HeldFrames.{HostReadyWith, driver_of, waiting_frame, socket_frames, waiting_frames, waiting_entry}
-use Rattle.packet_socket.specs.HeldFrames.{without_socket}
-use Rattle.packet_socket.specs.HostState.{HostState}
+use Rattle.packet_socket.specs.HostCalls.{HostDoesNothing, HostHandles, HostHandlesIt, HostMoment, HostReadyWith, IsReadyHost, Queues}
+use Rattle.packet_socket.specs.HostCalls.{driver_at, driver_of, socket_entries, host_at, socket_frames, waiting_entry, waiting_frame}
+use Rattle.packet_socket.specs.HostCalls.{waiting_frames, without_socket}
+use Rattle.packet_socket.specs.HostState.{HostState, SocketsState, all_of, queue_at}
 use Rattle.packet_socket.specs.InsideHost.{IsHost, host_with}
-use Rattle.packet_socket.specs.SocketsState.{Queues, SocketsState, Sorts, all_of, frames_of, queue_at}
+use Rattle.packet_socket.specs.Sorting.{Sorts}
 use Rattle.packet_socket.proofs.Accounts.{accounts}
 use Rattle.packet_socket.proofs.ShownFrames.{queue-frames, received-numbers, unclaimed-frames}
 use Rattle.packet_socket.proofs.ConsistentHosts.{kept-copies}
@@ -62,7 +61,7 @@ leaves {up} {B} bus old new asked is it =
       };
       flows = record {
         sizes = is.ready.sizes;
-        flows = subst
+        driver = subst
             (λ (end : DriverState). FlowsTo up (driver_in d (bus.world old.bus)) (driver_in end (bus.world new)) (driver_did [] []) past)
             (sym (driver-stays h h.driver (bus.world old.bus) (bus.world new) is.ready refl stand)) flows;
         accounts = accounts-stay h h.driver (bus.world old.bus) (bus.world new) past.stored is.ready refl stand flows.holds;
@@ -98,14 +97,14 @@ pub record Sorted (up : Bool) (driver driver' : DriverState) (before after : Soc
   pub ready : ReadyWith up (driver_of (host_with driver' after) b) b
   pub frames : (socket : ℕ)
       → waiting_frames (host_with driver' after) socket b ≡ waiting_frames (host_with driver before) socket a
-      ++ socket_frames before.kinds socket (frames_of_slots taken)
+      ++ socket_frames before.kinds socket (frames_of taken)
 
 pub sorted : {up : Bool} (driver driver' : DriverState) (before after : SocketsState) (a b : World) (taken handed_out : List HandedOut)
     → IsHost driver before → IsHost driver' after
     → HostReadyWith up (host_with driver before) a → driver'.layout ≡ driver.layout
     → ReadyWith up (holding ((driver_of (host_with driver before) a).handed_out ++ handed_out) driver') b → IsPart handed_out taken
     → Sorts before after (map received_of taken) (map received_of handed_out) → Sorted up driver driver' before after a b taken handed_out
-sorted {up} driver driver' before after a b taken handed_out sound sound' host counts ready part told =
+sorted {up} driver driver' before after a b taken handed_out sound sound' host counts ready part shown =
     let h = host_with driver before in
     let h' = host_with driver' after in
     let held = (driver_of h a).handed_out in
@@ -130,7 +129,7 @@ sorted {up} driver driver' before after a b taken handed_out sound sound' host c
       sound.room,
       ap (λ (c : Counts). c.buffers) counts,
     ) in
-    let queues = told.queues fits in
+    let queues = shown.queues fits in
     let list = map (waiting_entry driver'.layout new) (all_of after.queues) in
     let moves : (k : ℕ) → copies k driver'.pool + copies k (numbers_of list)
     ≡ copies k driver'.pool + copies k (numbers_of (held ++ handed_out)) = λ k.
@@ -157,12 +156,12 @@ sorted {up} driver driver' before after a b taken handed_out sound sound' host c
       ready = (buffers_can_come_back up last driver'.pool list b ready moves stand).flows.ready;
       frames = λ socket.
           ap (map frame) (queues.ends socket)
-          ∙ map-append frame (queue_at before.queues socket) (frames_of before.kinds socket kept)
-          ∙ ap (λ (front : List (List ℕ)). front ++ map frame (frames_of before.kinds socket kept))
+          ∙ map-append frame (queue_at before.queues socket) (socket_entries before.kinds socket kept)
+          ∙ ap (λ (front : List (List ℕ)). front ++ map frame (socket_entries before.kinds socket kept))
           (ap (λ (c : Counts). map (waiting_frame c new) (queue_at before.queues socket)) counts
           ∙ queue-frames-same driver.layout old new before.queues same socket)
           ∙ ap (λ (behind : List (List ℕ)). waiting_frames h socket a ++ behind)
-          (queue-frames before.kinds socket frame handed_out taken part told.claimed outs);
+          (queue-frames before.kinds socket frame handed_out taken part shown.claimed outs);
     }
 
 -- It does its work.
@@ -184,33 +183,34 @@ works {up} bus old new n sound sound' is asked it =
     let e = holding d.handed_out driver' in
     let w = it.works in
     let last = holding (d.handed_out ++ w.handed_out) e in
-    let frames = frames_of_slots w.taken in
+    let frames = frames_of w.taken in
     let past = joined asked.reads.past w.ran.past in
     let all = sorted old.driver driver' before after a b w.taken w.handed_out sound sound' is.ready it.flows.layout
-    w.ran.goes.flows.ready w.part w.told in
+    w.ran.goes.flows.ready w.part w.shown in
     let list = (driver_of h' b).handed_out in
     let grows : GrowsBy before.unclaimed after.unclaimed (without_socket before.kinds frames) = subst
-    (GrowsBy before.unclaimed after.unclaimed) (unclaimed-frames before.kinds w.taken) w.told.unclaimed in
+    (GrowsBy before.unclaimed after.unclaimed) (unclaimed-frames before.kinds w.taken) w.shown.unclaimed in
     record {
       some = it.some;
       works = record {
         taken = w.taken;
         count = w.count;
+        misses = record { misses = w.misses.misses; missed = w.misses.missed; exact = w.misses.exact };
         served = record {
-          misses = w.served.misses;
           rest = w.served.rest;
           offered = w.served.offered;
           oldest = w.served.oldest;
           newest = w.served.newest;
+          no_bad = w.served.no_bad;
         };
-        misses = record { missed = w.misses.missed; exact = w.misses.exact; bad = w.misses.bad };
         sorted = record {
-          queues = subst (Queues before.kinds before.queues after.queues) w.told.claimed all.queues;
-          unclaimed = w.told.unclaimed;
+          kinds = w.shown.kinds;
+          queues = subst (Queues before.kinds before.queues after.queues) w.shown.claimed all.queues;
+          unclaimed = w.shown.unclaimed;
         };
         ran = record {
           past = w.ran.past;
-          told = w.ran.told;
+          reports = w.ran.reports;
           only = w.ran.only;
           goes = goes-hold d (bus.world asked.after_read) last b frames [] w.ran.past list w.ran.goes all.ready;
           follows = w.ran.follows;
@@ -220,8 +220,8 @@ works {up} bus old new n sound sound' is asked it =
       work = λ enabled. let behind = it.work enabled in record { enabled = behind.enabled; asked = behind.asked };
       flows = record {
         sizes = sound'.sizes;
-        flows = flows-hold d a last b frames [] past list it.flows all.ready;
-        accounts = accounts h a h' b [] frames past.stored w.told.kinds it.flows.holds all.frames grows;
+        driver = flows-hold d a last b frames [] past list it.flows all.ready;
+        accounts = accounts h a h' b [] frames past.stored w.shown.kinds it.flows.holds all.frames grows;
       };
     }
 
@@ -235,8 +235,9 @@ host-handles {up} {B} bus old new NotMine sound sound' is stays it =
     let d = (driver_at bus (host_in old)).driver in
     let same : host_with new.driver new.receiver ≡ (host_in old).host = ap (λ (s : DriverState). host_with s new.receiver) stays.0
     ∙ ap (host_with old.driver) stays.1 in
-    let left : DoesNothing bus (driver_at bus (host_in old)) (at new.bus d) it.asked = subst
-    (λ (s : DriverState). DoesNothing bus (driver_at bus (host_in old)) (at new.bus (holding d.handed_out s)) it.asked) stays.0 it.then_does in
+    let left : DoesNothing bus (driver_at bus (host_in old)) (at new.bus d) it.asked =
+    subst (λ (s : DriverState). DoesNothing bus (driver_at bus (host_in old)) (at new.bus (holding d.handed_out s)) it.asked)
+    stays.0 it.then_does in
     record {
       asked = it.asked;
       then_does = subst (λ (end : HostState). HostDoesNothing bus (host_in old) (host_at new.bus end) it.asked) (sym same)

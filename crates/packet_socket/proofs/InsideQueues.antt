@@ -8,7 +8,8 @@ use Rattle.circular_buffer.specs.Buffer.{Buffer, buffer, keep_last}
 use Rattle.driver.specs.declared.receiver.Received.{Received}
 use Rattle.packet_socket.specs.InsideSockets.{items_of}
 use Rattle.packet_socket.specs.SocketKinds.{socket_of}
-use Rattle.packet_socket.specs.SocketsState.{SocketsState, Sorts, queue_at}
+use Rattle.packet_socket.specs.HostState.{SocketsState, queue_at}
+use Rattle.packet_socket.specs.Sorting.{Sorts}
 use Rattle.packet_socket.specs.SortingLaws.{sorts-kept}
 use Rattle.packet_socket.specs.declared.socket_kind.SocketKind.{SocketKind}
 
@@ -47,10 +48,10 @@ oldest-leaves queues socket queue queue' result below is new value =
     (subst (λ (list : List Received). IfSome (slice_get queue.items 0) (λ received. queue.items ≡ received ∷ list)) behind
     (first-is queue.items)))
 
-pub others-stay : (queues : List (Buffer Received)) (socket : ℕ) (queue : Buffer Received) → socket < length queues
+pub others_stay : (queues : List (Buffer Received)) (socket : ℕ) (queue : Buffer Received) → socket < length queues
     → map items_of (slice_set queues socket queue)
     ≡ slice_set (map items_of queues) socket (queue_at (map items_of (slice_set queues socket queue)) socket)
-others-stay queues socket queue below = map-set items_of queues socket queue
+others_stay queues socket queue below = map-set items_of queues socket queue
     ∙ ap (slice_set (map items_of queues) socket) (sym (queue-new queues socket queue below))
 
 -- A frame goes to the end.

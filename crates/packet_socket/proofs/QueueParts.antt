@@ -2,7 +2,7 @@
 use Rattle.std.proofs.Common.{◌≡◌, ◌<◌, ◌++◌, ◌∷◌, [], ℕ, zero, suc, List, length, refl, sym, ap, ◌∙◌, append_assoc, replicate, arith}
 use Rattle.std.specs.List.{slice_set}
 use Rattle.driver.specs.declared.receiver.Received.{Received}
-use Rattle.packet_socket.specs.SocketsState.{all_of, queue_at}
+use Rattle.packet_socket.specs.HostState.{all_of, queue_at}
 
 -- Those before it and those behind it, and all with it and without it.
 pub record Splits (queues : List (List Received)) (socket : ℕ) (received : Received) (later : List Received) : Type 0 where

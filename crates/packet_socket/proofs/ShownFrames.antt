@@ -9,12 +9,10 @@ use Rattle.std.proofs.lemmas.List.Sums.{sum_by-cons}
 use Rattle.rx_engine.specs.Addresses.{ether_type}
 use Rattle.bus.proofs.Lists.{all-head, all-tail, all-unmapped}
 use Rattle.driver_law.specs.DriverState.{HandedOut, numbers_of}
-use Rattle.driver.specs.TakenFrames.{IsPart, buffers_of, part_none, part_with, part_without, received_of}
+use Rattle.driver.specs.HandlerSteps.{IsPart, buffers_of, frames_of, part_none, part_with, part_without, received_of}
 use Rattle.driver.specs.declared.receiver.Received.{Received}
-use Rattle.driver.specs.TakenFrames.{frames_of as frames_taken}
-use Rattle.packet_socket.specs.HeldFrames.{socket_frames, without_socket}
+use Rattle.packet_socket.specs.HostCalls.{claimed_of, socket_entries, socket_frames, unclaimed_of, without_socket}
 use Rattle.packet_socket.specs.SocketKinds.{goes_to, has_none, has_socket, is_at, socket_of}
-use Rattle.packet_socket.specs.SocketsState.{claimed_of, frames_of, unclaimed_of}
 use Rattle.packet_socket.specs.declared.socket_kind.SocketKind.{SocketKind}
 
 -- whether a frame that was taken has a socket, and whether it is this one
@@ -101,19 +99,19 @@ handed-out-is kinds handed_out taken part is =
 -- Their frames, by sockets.
 kept-frames : (kinds : List SocketKind) (socket : ℕ) (frame : Received → List ℕ) (handed_out : List HandedOut)
     → All (λ (one : HandedOut). frame (received_of one) ≡ one.frame) handed_out
-    → map frame (frames_of kinds socket (map received_of handed_out)) ≡ frames_taken (filter (goes kinds socket) handed_out)
+    → map frame (socket_entries kinds socket (map received_of handed_out)) ≡ frames_of (filter (goes kinds socket) handed_out)
 kept-frames kinds socket frame [] same = refl
 kept-frames kinds socket frame (one ∷ later) same =
     at (goes kinds socket one) (all-head (λ (x : HandedOut). frame (received_of x) ≡ x.frame) one later same)
     (kept-frames kinds socket frame later (all-tail (λ (x : HandedOut). frame (received_of x) ≡ x.frame) one later same))
   where
     at : (b : Bool) → frame (received_of one) ≡ one.frame
-        → map frame (frames_of kinds socket (map received_of later)) ≡ frames_taken (filter (goes kinds socket) later)
-        → map frame (cond b (received_of one ∷ frames_of kinds socket (map received_of later))
-        (frames_of kinds socket (map received_of later)))
-        ≡ frames_taken (cond b (one ∷ filter (goes kinds socket) later) (filter (goes kinds socket) later))
+        → map frame (socket_entries kinds socket (map received_of later)) ≡ frames_of (filter (goes kinds socket) later)
+        → map frame (cond b (received_of one ∷ socket_entries kinds socket (map received_of later))
+        (socket_entries kinds socket (map received_of later)))
+        ≡ frames_of (cond b (one ∷ filter (goes kinds socket) later) (filter (goes kinds socket) later))
     at true first rest =
-        ap (λ (bytes : List ℕ). bytes ∷ map frame (frames_of kinds socket (map received_of later))) first
+        ap (λ (bytes : List ℕ). bytes ∷ map frame (socket_entries kinds socket (map received_of later))) first
         ∙ ap (λ (list : List (List ℕ)). one.frame ∷ list) rest
     at false first rest = rest
 
@@ -125,25 +123,25 @@ pub queue-frames : (kinds : List SocketKind) (socket : ℕ) (frame : Received �
     → IsPart handed_out taken
     → map received_of handed_out ≡ claimed_of kinds (map received_of taken)
     → All (λ (one : HandedOut). frame (received_of one) ≡ one.frame) handed_out
-    → map frame (frames_of kinds socket (map received_of handed_out)) ≡ socket_frames kinds socket (frames_taken taken)
+    → map frame (socket_entries kinds socket (map received_of handed_out)) ≡ socket_frames kinds socket (frames_of taken)
 queue-frames kinds socket frame handed_out taken part is same =
     let frame_of : HandedOut → List ℕ = λ one. one.frame in
     kept-frames kinds socket frame handed_out same
-    ∙ ap (λ (list : List HandedOut). frames_taken (filter (goes kinds socket) list)) (handed-out-is kinds handed_out taken part is)
-    ∙ ap frames_taken (filter-stronger (goes kinds socket) (has kinds)
+    ∙ ap (λ (list : List HandedOut). frames_of (filter (goes kinds socket) list)) (handed-out-is kinds handed_out taken part is)
+    ∙ ap frames_of (filter-stronger (goes kinds socket) (has kinds)
     (λ one none. no-socket socket (socket_of kinds (ether_type one.frame)) none) taken)
     ∙ sym (filter-mapped frame_of (λ (f : List ℕ). goes_to kinds socket (ether_type f)) taken)
 
 -- How many have no socket.
 pub unclaimed-frames : (kinds : List SocketKind) (taken : List HandedOut)
-    → unclaimed_of kinds (map received_of taken) ≡ without_socket kinds (frames_taken taken)
+    → unclaimed_of kinds (map received_of taken) ≡ without_socket kinds (frames_of taken)
 unclaimed-frames kinds [] = refl
 unclaimed-frames kinds (one ∷ later) =
     omega (
       arith,
       unclaimed-frames kinds later,
       sum_by-cons (λ (r : Received). cond (has_none kinds r.ether_type) 1 0) (received_of one) (map received_of later),
-      sum_by-cons (λ (f : List ℕ). cond (has_none kinds (ether_type f)) 1 0) one.frame (frames_taken later),
+      sum_by-cons (λ (f : List ℕ). cond (has_none kinds (ether_type f)) 1 0) one.frame (frames_of later),
     )
 
 -- Their numbers.

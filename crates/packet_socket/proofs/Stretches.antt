@@ -1,4 +1,4 @@
--- Stretches of a host's run.
+-- Intervals of a host's run.
 use Rattle.std.proofs.Common.{Bool, true, ◌≡◌, ◌++◌, [], ℕ, List, map, refl, sym, ap, subst, ◌∙◌, arith}
 use Rattle.std.specs.List.{All}
 use Rattle.std.proofs.lemmas.List.{append-nil}
@@ -9,18 +9,15 @@ use Rattle.bus.specs.Law.{Happens}
 use Rattle.bus.specs.PastOfStretch.{Past, joined}
 use Rattle.bus.specs.declared.event.Access.{Access}
 use Rattle.driver_law.proofs.Steps.{goes-happens}
-use Rattle.driver_law.proofs.Stretches.{flows_join, goes_join}
 use Rattle.bus.specs.declared.bus.Bus.{Ghosts}
-use Rattle.driver_law.specs.Calls.{Moment, Ran, at, call_did, held_at}
+use Rattle.driver_law.specs.Calls.{DriverDid, DriverInWorld, FlowsTo, GoesTo, Moment, Ran, at, call_did, driver_did, driver_in, held_at}
 use Rattle.driver_law.specs.DriverState.{DriverState, HandedOut, holding}
-use Rattle.driver_law.specs.Stretches.{FlowsTo, GoesTo, driver_did, driver_in}
 use Rattle.driver_law.specs.ReadyDrivers.{ReadyWith, Stands}
-use Rattle.driver.specs.SendSteps.{SendAnswer, IsAnswer, Sends, accesses_by, accepted_by}
-use Rattle.packet_socket.specs.HostCalls.{HostMoment, HostSends, IsReadyHost, driver_at, host_at}
-use Rattle.packet_socket.specs.HostStretches.{Accounts, HostDid, HostFlowsTo, HostGoesTo, HostInWorld, did_both, did_nothing, in_world}
-use Rattle.packet_socket.specs.HeldFrames.{HostReadyWith, driver_of, waiting_frame, waiting_frames}
-use Rattle.packet_socket.specs.HostState.{HostState}
-use Rattle.packet_socket.specs.SocketsState.{all_of, queue_at}
+use Rattle.driver.specs.SendSteps.{FreesFirst, IsAnswer, SendAnswer, Sends, accepted_by, accesses_by}
+use Rattle.packet_socket.specs.HostCalls.{Accounts, HostDid, HostGoesTo, HostInWorld, HostInterval, HostMoment, HostReadyWith, HostSends}
+use Rattle.packet_socket.specs.HostCalls.{IsReadyHost, did_both, did_nothing, driver_at, driver_of, host_at, in_world, waiting_frame}
+use Rattle.packet_socket.specs.HostCalls.{waiting_frames}
+use Rattle.packet_socket.specs.HostState.{HostState, all_of, queue_at}
 use Rattle.packet_socket.proofs.Accounts.{accounts, accounts-join}
 use Rattle.packet_socket.proofs.WaitingFrames.{AreSame, all-long, all-same, ends-as, queue-frames-same}
 
@@ -28,7 +25,7 @@ use Rattle.packet_socket.proofs.WaitingFrames.{AreSame, all-long, all-same, ends
 abbrev pub with_driver : DriverState → HostState → HostState
 with_driver driver host = record host { driver = driver }
 
--- Its queues stay: the frames in them are the same after a stretch in which they stand.
+-- Its queues stay: the frames in them are the same after an interval in which they stand.
 pub queues-stand : {up : Bool} (h : HostState) (d : DriverState) (a b : World) → HostReadyWith up h a → d.layout ≡ h.driver.layout
     → All (Stands d.layout b.memory) (driver_of h a).handed_out → AreSame h.driver.layout a.memory b.memory (all_of h.queues)
 queues-stand h d a b host counts stand =
@@ -55,7 +52,7 @@ accounts-stay h d a b stored host counts stand holds =
     ∙ sym (append-nil (waiting_frames h socket a)))
     (record { least = omega arith; most = omega arith; exactly = λ below. omega arith })
 
--- The same stretch, while others hold other frames at its end.
+-- The same interval, while others hold other frames at its end.
 abbrev pub flows-hold : {up : Bool} (d : DriverState) (a : World) (e : DriverState) (b : World) (taken sent : List (List ℕ)) (past : Past)
     (held : List HandedOut) → FlowsTo up (driver_in d a) (driver_in e b) (driver_did taken sent) past → ReadyWith up (holding held e) b
     → FlowsTo up (driver_in d a) (driver_in (holding held e) b) (driver_did taken sent) past
@@ -85,16 +82,16 @@ abbrev pub goes-hold : {up : Bool} (d : DriverState) (a : World) (e : DriverStat
 goes-hold d a e b taken sent past held goes ready = record {
   flows = flows-hold d a e b taken sent past held goes.flows ready;
   causes = goes.causes;
-  told = goes.told;
+  recorded = goes.recorded;
 }
 
--- A stretch over a bus, whose end is told otherwise.
+-- An interval over a bus, with its accesses and its end written in another way.
 abbrev pub ran-as : {up : Bool} {B : Type 0} (bus : Ghosts B) (xs ys : List Access) (old new : B) (d e e' : DriverState)
     (taken sent : List (List ℕ)) → xs ≡ ys → e ≡ e' → Ran bus up (call_did xs taken sent) (at old d) (at new e)
     → Ran bus up (call_did ys taken sent) (at old d) (at new e')
 ran-as {up} bus xs ys old new d e e' taken sent accesses last ran = record {
   past = ran.past;
-  told = ran.told;
+  reports = ran.reports;
   only = ran.only ∙ accesses;
   goes = subst
       (λ (end : DriverState). GoesTo up (driver_in d (bus.world old)) (driver_in end (bus.world new)) (driver_did taken sent) ran.past) last
@@ -123,6 +120,7 @@ host-transmits bus old new frame result is sends =
             flows.ready.stand flows.holds;
       };
       answer = subst (λ (s : DriverState). IsAnswer bus result (driver_at bus old) (at new.bus s)) end sends.answer;
+      frees_first = subst (λ (s : DriverState). FreesFirst bus frame result (driver_at bus old) (at new.bus s)) end sends.frees_first;
     }
 
 -- Whatever happens between two calls.
@@ -134,28 +132,28 @@ host-happens {up} h a b past host happens =
     let stand = goes.flows.ready.stand in
     record {
       sizes = host.sizes;
-      goes = subst (λ (end : DriverState). GoesTo up (driver_in d a) (driver_in end b) (driver_did [] []) past)
+      driver = subst (λ (end : DriverState). GoesTo up (driver_in d a) (driver_in end b) (driver_did [] []) past)
           (sym (driver-stays h h.driver a b host refl stand)) goes;
       accounts = accounts-stay h h.driver a b past.stored host refl stand goes.flows.holds;
     }
 
--- Two stretches are one.
-pub host-flows-join : {first_up up : Bool} (h1 h2 h3 : HostInWorld) (one two : HostDid) (first later : Past)
-    → HostFlowsTo first_up h1 h2 one first → HostFlowsTo up h2 h3 two later → HostFlowsTo up h1 h3 (did_both one two) (joined first later)
-host-flows-join h1 h2 h3 one two first later flows more = record {
-  sizes = more.sizes;
-  flows = flows_join (driver_of h1.host h1.world) (driver_of h2.host h2.world) (driver_of h3.host h3.world) h1.world h2.world h3.world
-      one.taken two.taken one.accepted two.accepted first later flows.flows more.flows;
-  accounts = accounts-join h1.host h2.host h3.host h1.world h2.world h3.world one.given two.given first.stored later.stored flows.accounts
-      more.accounts;
-}
+-- Two intervals of a driver's run are one.
+abbrev pub Join : (First Later : DriverInWorld → DriverInWorld → DriverDid → Past → Type 0) → Type 0
+Join First Later =
+    (d1 d2 d3 : DriverState) (a b c : World) (t1 t2 g1 g2 : List (List ℕ)) (first later : Past)
+    → First (driver_in d1 a) (driver_in d2 b) (driver_did t1 g1) first
+    → Later (driver_in d2 b) (driver_in d3 c) (driver_did t2 g2) later
+    → Later (driver_in d1 a) (driver_in d3 c) (driver_did (t1 ++ t2) (g1 ++ g2)) (joined first later)
 
-pub host-goes-join : {first_up up : Bool} (h1 h2 h3 : HostInWorld) (one two : HostDid) (first later : Past)
-    → HostGoesTo first_up h1 h2 one first → HostGoesTo up h2 h3 two later → HostGoesTo up h1 h3 (did_both one two) (joined first later)
-host-goes-join h1 h2 h3 one two first later goes more = record {
-  sizes = more.sizes;
-  goes = goes_join (driver_of h1.host h1.world) (driver_of h2.host h2.world) (driver_of h3.host h3.world) h1.world h2.world h3.world
-      one.taken two.taken one.accepted two.accepted first later goes.goes more.goes;
-  accounts = accounts-join h1.host h2.host h3.host h1.world h2.world h3.world one.given two.given first.stored later.stored goes.accounts
-      more.accounts;
+-- So two intervals of its host's run are one.
+pub host-join : (First Later : DriverInWorld → DriverInWorld → DriverDid → Past → Type 0) → Join First Later
+    → (h1 h2 h3 : HostInWorld) (one two : HostDid) (first later : Past)
+    → HostInterval First h1 h2 one first → HostInterval Later h2 h3 two later
+    → HostInterval Later h1 h3 (did_both one two) (joined first later)
+host-join First Later joins h1 h2 h3 one two first later before behind = record {
+  sizes = behind.sizes;
+  driver = joins (driver_of h1.host h1.world) (driver_of h2.host h2.world) (driver_of h3.host h3.world) h1.world h2.world h3.world
+      one.taken two.taken one.accepted two.accepted first later before.driver behind.driver;
+  accounts = accounts-join h1.host h2.host h3.host h1.world h2.world h3.world one.given two.given first.stored later.stored before.accounts
+      behind.accounts;
 }

@@ -12,9 +12,8 @@ use Rattle.driver_law.proofs.Owners.{all-copies, elsewhere-number}
 use Rattle.driver_law.specs.DriverState.{HandedOut, buffer_at, holding, numbers_of}
 use Rattle.driver_law.specs.ReadyDrivers.{Stands}
 use Rattle.driver.specs.declared.receiver.Received.{Received}
-use Rattle.packet_socket.specs.HeldFrames.{HostReadyWith, driver_of, waiting_frame, waiting_entry}
-use Rattle.packet_socket.specs.HostState.{HostState}
-use Rattle.packet_socket.specs.SocketsState.{all_of, queue_at}
+use Rattle.packet_socket.specs.HostCalls.{HostReadyWith, driver_of, waiting_entry, waiting_frame}
+use Rattle.packet_socket.specs.HostState.{HostState, all_of, queue_at}
 
 -- What holds of all that wait holds of each queue.
 pub queue-all : (P : Received → Type 0) (queues : List (List Received)) (socket : ℕ) → All P (all_of queues)
@@ -71,7 +70,7 @@ waiting-same counts memory memory' list same =
     (λ k r below. waiting-with (slice_index_or list k r).buffer (waiting_frame counts memory (slice_index_or list k r))
     (waiting_frame counts memory' (slice_index_or list k r)) (same k r below))
 
--- The driver behind a stretch.
+-- The driver at the end of an interval.
 pub ends-as : (h : HostState) (b : World) (counts : Counts) (memory : List ℕ) (list : List Received) → all_of h.queues ≡ list
     → h.driver.layout ≡ counts
     → AreSame counts memory b.memory list → driver_of h b ≡ holding (map (waiting_entry counts memory) list) h.driver

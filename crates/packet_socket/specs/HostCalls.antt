@@ -1,32 +1,148 @@
--- What a host does in its calls.
-use Rattle.std.specs.Prelude.{⊤, ◌≡◌, ◌≤◌, ◌-◌, ◌++◌, ◌∷◌, ℕ, Bool, true, List, [], Result, Ok, Err, length, map, slice_set, take, drop}
+-- What a host holds for its sockets, and what it does in its calls (our choice).
+use Rattle.std.specs.Prelude.{⊤, ◌≡◌, ◌==◌, ◌≤◌, ◌<◌, ◌+◌, ◌-◌, ◌^◌, ◌++◌, ◌∷◌, ℕ, Bool, true, List, [], Result, Ok, Err, count_by, drop}
+use Rattle.std.specs.Prelude.{filter, length, map, slice_set, take}
+use Rattle.std.specs.List.Sorted.{IsPermutation}
 use Rattle.registers.specs.Bits.{HasBit, Meet}
+use Rattle.registers.specs.Places.{rxt0}
+use Rattle.dma_memory.specs.HostMemory.{bytes_at}
+use Rattle.dma_memory.specs.Layout.{Counts}
 use Rattle.dma_memory.specs.Owners.{HaveSameNumbers}
 use Rattle.descriptors.specs.RingLaws.{place}
+use Rattle.rx_engine.specs.Addresses.{ether_type}
+use Rattle.adapter.specs.HostFrames.{frames_held}
 use Rattle.adapter.specs.Slots.{finished}
+use Rattle.adapter.specs.World.{World}
 use Rattle.bus.specs.declared.bus.Bus.{Ghosts}
-use Rattle.bus.specs.PastOfStretch.{joined}
+use Rattle.bus.specs.PastOfStretch.{Past, joined}
 use Rattle.bus.specs.declared.event.Access.{Access}
 use Rattle.bus.specs.declared.event.Access.TheVariants.{Loads}
-use Rattle.driver_law.specs.Accesses.{stores_from, tail_write}
-use Rattle.driver_law.specs.Calls.{Did, Moment, Ran, at, only}
-use Rattle.driver_law.specs.DriverState.{DriverState, HandedOut, buffer_at, next_receive, numbers_of, with_owners}
-use Rattle.driver_law.specs.RegisterReadings.{with_missed}
-use Rattle.driver_law.specs.Stretches.{HasNoForgottenWork, IsRefilled}
+use Rattle.driver_law.specs.Calls.{Did, DriverDid, DriverInWorld, FlowsTo, GoesTo, HasNoForgottenWork, IsRefilled, Moment, Ran, at}
+use Rattle.driver_law.specs.Calls.{call_did, driver_did, driver_in, only, stores_from, tail_write}
+use Rattle.driver_law.specs.DriverState.{DriverState, HandedOut, buffer_at, holding, next_receive, numbers_of, with_owners}
+use Rattle.driver_law.specs.ReadyDrivers.{ReadyWith}
 use Rattle.bring_up.specs.WrittenRegisters.{handled_causes}
-use Rattle.driver.specs.HandlerSteps.{AddsMisses, Asked, DoesNothing, TakesAndOffers, handled_accesses}
-use Rattle.driver.specs.SendSteps.{SendAnswer, IsAnswer, sent_by}
-use Rattle.driver.specs.TakenFrames.{AreFrames, GrowsBy, IsFrameSize, frames_of, received_of}
+use Rattle.driver.specs.HandlerSteps.{AreFrames, Asked, DoesNothing, GrowsBy, IsFrameSize, ReadsMisses, TakesAndOffers, frames_of}
+use Rattle.driver.specs.HandlerSteps.{handled_accesses, received_of}
+use Rattle.driver.specs.SendSteps.{FreesFirst, IsAnswer, SendAnswer, sent_by}
 use Rattle.driver.specs.declared.interrupt.Handled.{Handled}
 use Rattle.driver.specs.declared.interrupt.Handled.TheVariants.{NotMine}
 use Rattle.driver.specs.declared.interrupt.Handled.TheVariants as answers
 use Rattle.driver.specs.declared.receiver.Received.{Received}
-use Rattle.packet_socket.specs.HostStretches.{Accounts, Given, HostFlowsTo, did, did_nothing, in_world}
-use Rattle.packet_socket.specs.HeldFrames.{HostReadyWith, driver_of, waiting_frames}
-use Rattle.packet_socket.specs.HostState.{HostState, host_owners}
+use Rattle.packet_socket.specs.HostState.{HostState, all_of, host_owners, queue_at}
+use Rattle.packet_socket.specs.SocketKinds.{goes_to, has_none, has_socket}
 use Rattle.packet_socket.specs.declared.receive.RecvError.{RecvError}
-use Rattle.packet_socket.specs.SocketsState.{Queues, all_of, claimed_of, queue_at, unclaimed_of}
-use Rattle.registers.specs.Places.{rxt0}
+use Rattle.packet_socket.specs.declared.socket_kind.SocketKind.{SocketKind}
+
+-- The frames that a host holds for its sockets, read from the bytes of memory.
+
+-- the frame of an entry of a queue: the first `length` bytes of its buffer
+abbrev pub waiting_frame : Counts → List ℕ → Received → List ℕ
+waiting_frame counts memory received = bytes_at memory (buffer_at counts received.buffer) received.length
+
+-- the same frame, as one that the driver handed out
+abbrev pub waiting_entry : Counts → List ℕ → Received → HandedOut
+waiting_entry counts memory received = record { number = received.buffer; frame = waiting_frame counts memory received }
+
+-- the host's driver; the frames of the host's queues are those that others hold
+abbrev pub driver_of : HostState → World → DriverState
+driver_of host world = holding (map (waiting_entry host.driver.layout world.memory) (all_of host.queues)) host.driver
+
+-- The host is ready, with its transmit side set up or off: its driver is ready, and each queued frame has 60 to 1,518 bytes.
+pub record HostReadyWith (up : Bool) (host : HostState) (world : World) : Type 0 where
+  pub sizes : AreFrames (all_of host.queues)
+  pub ready : ReadyWith up (driver_of host world) world
+
+abbrev pub HostReady : HostState → World → Type 0
+HostReady = HostReadyWith true
+
+-- the frames queued for a socket, the oldest first
+abbrev pub waiting_frames : HostState → (socket : ℕ) → World → List (List ℕ)
+waiting_frames host socket world = map (waiting_frame host.driver.layout world.memory) (queue_at host.queues socket)
+
+-- the frames of a list that go to a socket
+abbrev pub socket_frames : List SocketKind → (socket : ℕ) → List (List ℕ) → List (List ℕ)
+socket_frames kinds socket frames = filter (λ (frame : List ℕ). goes_to kinds socket (ether_type frame)) frames
+
+-- the number of frames of a list that go to no socket
+abbrev pub without_socket : List SocketKind → List (List ℕ) → ℕ
+without_socket kinds frames = count_by (λ (frame : List ℕ). has_none kinds (ether_type frame)) frames
+
+-- the frames that a host holds for a socket: the queued frames, then the socket's frames that the driver hasn't taken yet
+abbrev pub held_for_socket : HostState → (socket : ℕ) → World → List (List ℕ)
+held_for_socket host socket world =
+    waiting_frames host socket world ++ socket_frames host.kinds socket (frames_held host.driver.oldest_receive world)
+
+-- An interval of a host's run.
+
+-- a frame that a socket returned
+pub record Given : Type 0 where
+  pub socket : ℕ
+  pub frame : List ℕ
+
+-- the frames that one socket returned, in order
+abbrev pub given_for : ℕ → List Given → List (List ℕ)
+given_for socket given = map (λ (one : Given). one.frame) (filter (λ (one : Given). one.socket == socket) given)
+
+-- the number of frames without a socket: those counted, and those that the driver hasn't taken yet
+abbrev pub unclaimed_in : HostState → World → ℕ
+unclaimed_in host world = host.unclaimed + without_socket host.kinds (frames_held host.driver.oldest_receive world)
+
+-- The account of frames, from the host h in the world a to the host h' in the world b. The table of sockets doesn't change. For each
+-- socket, the frames returned, then the frames held at the end, are the frames held at the beginning, then the frames stored for the
+-- socket. Frames without a socket are counted, up to the greatest u64.
+pub record Accounts (h : HostState) (a : World) (h' : HostState) (b : World) (given : List Given) (stored : List (List ℕ)) : Type 0 where
+  pub kinds : h'.kinds ≡ h.kinds
+  pub sockets : (socket : ℕ) → given_for socket given ++ held_for_socket h' socket b ≡ held_for_socket h socket a
+      ++ socket_frames h.kinds socket stored
+  pub least : h.unclaimed ≤ h'.unclaimed
+  pub most : unclaimed_in h' b ≤ unclaimed_in h a + without_socket h.kinds stored
+  pub exactly : h'.unclaimed < 2 ^ 64 - 1 → unclaimed_in h' b ≡ unclaimed_in h a + without_socket h.kinds stored
+
+-- A host in its world, at a moment of a run.
+pub record HostInWorld : Type 0 where
+  pub host : HostState
+  pub world : World
+
+abbrev pub in_world : HostState → World → HostInWorld
+in_world host world = record { host = host; world = world }
+
+-- its driver in the same world; the frames of its queues are those that others hold
+abbrev pub host_driver_in : HostInWorld → DriverInWorld
+host_driver_in now = driver_in (driver_of now.host now.world) now.world
+
+-- What a host did with frames: those it took off its receive ring, those its sockets returned, and those it accepted for sending.
+pub record HostDid : Type 0 where
+  pub taken : List (List ℕ)
+  pub given : List Given
+  pub accepted : List (List ℕ)
+
+abbrev pub did : (taken : List (List ℕ)) → (given : List Given) → (accepted : List (List ℕ)) → HostDid
+did taken given accepted = record { taken = taken; given = given; accepted = accepted }
+
+abbrev pub did_nothing : HostDid
+did_nothing = did [] [] []
+
+-- one interval after the other
+abbrev pub did_both : (first later : HostDid) → HostDid
+did_both first later = did (first.taken ++ later.taken) (first.given ++ later.given) (first.accepted ++ later.accepted)
+
+-- An interval in which the host did this with frames. `Holds` relates its driver at the beginning and at the end. The host is ready at the
+-- end: `sizes`, and `ready` of `driver`.
+pub record HostInterval (Holds : DriverInWorld → DriverInWorld → DriverDid → Past → Type 0) (old new : HostInWorld) (done : HostDid)
+    (past : Past) : Type 0 where
+  pub sizes : AreFrames (all_of new.host.queues)
+  pub driver : Holds (host_driver_in old) (host_driver_in new) (driver_did done.taken done.accepted) past
+  pub accounts : Accounts old.host old.world new.host new.world done.given past.stored
+
+-- Any register may have been read.
+abbrev pub HostFlowsTo : Bool → (old new : HostInWorld) → HostDid → Past → Type 0
+HostFlowsTo up = HostInterval (FlowsTo up)
+
+-- ICR wasn't read.
+abbrev pub HostGoesTo : Bool → (old new : HostInWorld) → HostDid → Past → Type 0
+HostGoesTo up = HostInterval (GoesTo up)
+
+-- Calls over a bus.
 
 -- A moment of a host's run.
 pub record HostMoment (B : Type 0) : Type 0 where
@@ -63,10 +179,14 @@ pub record HostRan {B : Type 0} (bus : Ghosts B) (up : Bool) (done : Did) (given
 
 -- Sending.
 
--- The driver's transmit, over the whole host. No socket returns a frame.
+-- The driver's transmit, over the whole host. No socket returns a frame. The accesses don't depend on the frames that others hold, so they
+-- are those of `old.host.driver` and `new.host.driver`, too.
 pub record HostSends {B : Type 0} (bus : Ghosts B) (frame : List ℕ) (result : SendAnswer) (old new : HostMoment B) : Type 0 where
   pub ran : HostRan bus true (sent_by result (driver_at bus old).driver (driver_at bus new).driver frame) [] old new
   pub answer : IsAnswer bus result (driver_at bus old) (driver_at bus new)
+  -- Slots are freed first, up to one that isn't written back, or until none is left; then the frame is sent if it is accepted. The drivers
+  -- here hold the queued frames (`driver_at`), so `slots` and `more` also say that the bytes of the queued frames don't change.
+  pub frees_first : FreesFirst bus frame result (driver_at bus old) (driver_at bus new)
 
 abbrev pub HostTransmits : {B : Type 0} → Ghosts B → List ℕ → SendAnswer → (old new : HostMoment B) → Type 0
 HostTransmits bus frame result old new = WhereUpHost bus old new (HostSends bus frame result)
@@ -105,9 +225,9 @@ abbrev pub ReturnsBy : {B : Type 0} → Ghosts B → (socket : ℕ) → (into : 
 ReturnsBy bus socket into (Ok size) = Receives bus (record { socket = socket; frame = take size into }) size
 ReturnsBy bus socket into (Err error) = λ up old new. ⊤
 
--- Over any bus: the oldest entry of a queue is removed, its buffer goes back to the driver, and slots are offered. The bytes of `into`
--- after the entry's length don't change.
-pub record Returns (h h' : HostState) (socket : ℕ) (before after : List ℕ) (size : ℕ) : Type 0 where
+-- Over any bus: the oldest entry of a queue is removed, its buffer goes back to the driver, and slots are offered. The caller's bytes are
+-- `into` before the call and `into'` after it; those after the entry's length don't change.
+pub record Returns (h h' : HostState) (socket : ℕ) (into into' : List ℕ) (size : ℕ) : Type 0 where
   pub received : Received
   pub leaves : LeavesQueue h h' socket size received
   -- of the driver only the owners of buffers change, and no slot is staged
@@ -116,28 +236,42 @@ pub record Returns (h h' : HostState) (socket : ℕ) (before after : List ℕ) (
   pub owners : HaveSameNumbers (host_owners h) (host_owners h')
   pub refilled : IsRefilled h'.driver
   pub legal : IsFrameSize size
-  pub rest : drop size after ≡ drop size before
+  pub rest : drop size into' ≡ drop size into
 
 -- Handling an interrupt.
 
--- n slots were taken. Each frame went to the end of its socket's queue, or was counted as unclaimed. A slot without a whole frame was
--- counted as bad.
+-- the entries of a list that go to one socket
+abbrev pub socket_entries : List SocketKind → (socket : ℕ) → List Received → List Received
+socket_entries kinds socket list = filter (λ (received : Received). goes_to kinds socket received.ether_type) list
+
+-- the entries of a list that have a socket
+abbrev pub claimed_of : List SocketKind → List Received → List Received
+claimed_of kinds list = filter (λ (received : Received). has_socket kinds received.ether_type) list
+
+-- the number of entries of a list that have no socket
+abbrev pub unclaimed_of : List SocketKind → List Received → ℕ
+unclaimed_of kinds list = count_by (λ (received : Received). has_none kinds received.ether_type) list
+
+-- Entries went to the ends of their sockets' queues, in order, and nothing else changed.
+pub record Queues (kinds : List SocketKind) (before after : List (List Received)) (kept : List Received) : Type 0 where
+  pub ends : (socket : ℕ) → queue_at after socket ≡ queue_at before socket ++ socket_entries kinds socket kept
+  pub all : IsPermutation (all_of before ++ kept) (all_of after)
+
+-- The frames shown went to the ends of their sockets' queues, in order. Those without a socket were counted as unclaimed.
+pub record SortsFrames (h h' : HostState) (shown : List Received) : Type 0 where
+  pub kinds : h'.kinds ≡ h.kinds
+  pub queues : Queues h.kinds h.queues h'.queues (claimed_of h.kinds shown)
+  pub unclaimed : GrowsBy h.unclaimed h'.unclaimed (unclaimed_of h.kinds shown)
+
+-- n slots were taken. Each slot's frame was sorted, or the slot has no whole frame and was counted as bad.
 pub record SortsAll (h h' : HostState) (n : ℕ) : Type 0 where
   pub shown : List Received
   pub count : length shown ≤ n
   pub sizes : AreFrames shown
-  pub kinds : h'.kinds ≡ h.kinds
-  pub queues : Queues h.kinds h.queues h'.queues (claimed_of h.kinds shown)
-  pub unclaimed : GrowsBy h.unclaimed h'.unclaimed (unclaimed_of h.kinds shown)
+  pub sorted : SortsFrames h h' shown
   pub bad : GrowsBy h.driver.bad h'.driver.bad (n - length shown)
 
--- A value was read from MPC, and added to the driver's sum.
-pub record ReadsMisses (d d' : DriverState) : Type 0 where
-  pub misses : ℕ
-  pub missed : d'.missed ≡ (with_missed misses d).missed
-  pub exact : d'.exact ≡ (with_missed misses d).exact
-
--- MPC was read, n slots were taken, the oldest first, and then slots were offered.
+-- A value was added to the driver's sum of missed frames, n slots were taken, the oldest first, and then slots were offered.
 pub record HostServes (h h' : HostState) (n : ℕ) : Type 0 where
   pub misses : ReadsMisses h.driver h'.driver
   pub sorts : SortsAll h h' n
@@ -149,26 +283,18 @@ pub record HostServes (h h' : HostState) (n : ℕ) : Type 0 where
   pub refilled : IsRefilled h'.driver
   pub offered : h'.driver.staged ≡ []
 
--- Each frame taken went to the end of its socket's queue, in order, or was counted as unclaimed.
-pub record SortsTaken (h h' : HostState) (taken : List HandedOut) : Type 0 where
-  pub queues : Queues h.kinds h.queues h'.queues (claimed_of h.kinds (map received_of taken))
-  pub unclaimed : GrowsBy h.unclaimed h'.unclaimed (unclaimed_of h.kinds (map received_of taken))
-
 -- The work after the read of ICR: n slots are taken, and their frames are sorted. Then slots are offered. `ran` has the accesses, in order.
 pub record HostWorks {B : Type 0} (bus : Ghosts B) (n : ℕ) {up : Bool} (old new : HostMoment B) (asked : Asked bus up (driver_at bus old))
     : Type 0 where
   pub taken : List HandedOut
   pub count : length taken ≡ n
+  pub misses : ReadsMisses old.host.driver new.host.driver
   pub served : TakesAndOffers old.host.driver new.host.driver (numbers_of taken)
-  pub misses : AddsMisses served.misses old.host.driver new.host.driver
-  pub sorted : SortsTaken old.host new.host taken
+  pub sorted : SortsFrames old.host new.host (map received_of taken)
   pub ran :
-      Ran bus up (record {
-        accesses = handled_accesses old.host.driver served.misses (numbers_of taken) served.rest served.offered
-            (next_receive new.host.driver);
-        taken = frames_of taken;
-        accepted = [];
-      }) (at asked.after_read (driver_at bus old).driver) (driver_at bus new)
+      Ran bus up (call_did
+      (handled_accesses old.host.driver misses.misses (numbers_of taken) served.rest served.offered (next_receive new.host.driver))
+      (frames_of taken) []) (at asked.after_read (driver_at bus old).driver) (driver_at bus new)
 
 -- It handles the interrupt: ICR had one of its causes.
 pub record HostHandlesIt {B : Type 0} (bus : Ghosts B) (n : ℕ) {up : Bool} (old new : HostMoment B)

@@ -2,7 +2,7 @@
 use Rattle.std.specs.Prelude.{◌≡◌, List, All, length, map}
 use Rattle.circular_buffer.specs.Buffer.{Buffer}
 use Rattle.driver.specs.declared.receiver.Received.{Received}
-use Rattle.packet_socket.specs.SocketsState.{SocketsState}
+use Rattle.packet_socket.specs.HostState.{SocketsState}
 use Rattle.packet_socket.specs.declared.sockets.Sockets.TheInside.{Inside}
 
 abbrev pub items_of : Buffer Received → List Received

@@ -1,11 +1,9 @@
 pub mod SocketKinds
 pub mod KindLaws
-pub mod SocketsState
+pub mod HostState
+pub mod HostCalls
+pub mod Sorting
 pub mod QueueLaws
 pub mod SortingLaws
 pub mod InsideSockets
-pub mod HostState
 pub mod InsideHost
-pub mod HeldFrames
-pub mod HostStretches
-pub mod HostCalls

@@ -8,7 +8,8 @@ use Rattle.std.proofs.lemmas.List.{append-nil, get_or-set_same, get_or-set_other
 use Rattle.std.proofs.lemmas.List.Sorted.{IsPermutation-append_right, IsPermutation-to_front}
 use Rattle.driver.specs.declared.receiver.Received.{Received}
 use Rattle.packet_socket.specs.SocketKinds.{socket_of}
-use Rattle.packet_socket.specs.SocketsState.{Queues, all_of, frames_of, queue_at}
+use Rattle.packet_socket.specs.HostCalls.{Queues, socket_entries}
+use Rattle.packet_socket.specs.HostState.{all_of, queue_at}
 use Rattle.packet_socket.specs.declared.socket_kind.SocketKind.{SocketKind}
 use Rattle.packet_socket.specs.KindLaws.{goes-there, goes-nowhere-else}
 
@@ -46,7 +47,7 @@ queues-pushed kinds queues socket received there is =
           elim (eqb_tells socket other) [
             | inl same ↦
                 subst (λ (t : ℕ). queue_at (slice_set queues socket pushed) t
-                ≡ queue_at queues t ++ frames_of kinds t (received ∷ [])) same.1
+                ≡ queue_at queues t ++ socket_entries kinds t (received ∷ [])) same.1
                 (get_or-set_same queues socket pushed [] there
                 ∙ ap (λ (goes : Bool). queue_at queues socket ++ one goes) (sym (goes-there kinds socket received.ether_type is)))
             | inr differ ↦

@@ -8,10 +8,12 @@ use Rattle.std.proofs.lemmas.List.{append-nil, length-set}
 use Rattle.std.proofs.lemmas.List.Elements.{filter-append}
 use Rattle.std.proofs.lemmas.List.Sorted.{IsPermutation-append_left, IsPermutation-refl, IsPermutation-trans, length_permutation}
 use Rattle.std.proofs.lemmas.List.Sums.{sum_by-append, sum_by-cons}
-use Rattle.driver.specs.TakenFrames.{GrowsBy}
+use Rattle.driver.specs.HandlerSteps.{GrowsBy}
 use Rattle.driver.specs.declared.receiver.Received.{Received}
 use Rattle.packet_socket.specs.SocketKinds.{goes_to, has_none, has_socket, socket_of}
-use Rattle.packet_socket.specs.SocketsState.{Queues, SocketsState, Sorts, all_of, claimed_of, frames_of, queue_at, unclaimed_of}
+use Rattle.packet_socket.specs.HostCalls.{Queues, claimed_of, socket_entries, unclaimed_of}
+use Rattle.packet_socket.specs.HostState.{SocketsState, all_of, queue_at}
+use Rattle.packet_socket.specs.Sorting.{Sorts}
 use Rattle.packet_socket.specs.declared.socket_kind.SocketKind.{SocketKind}
 use Rattle.packet_socket.specs.QueueLaws.{queue-within, queues-pushed}
 
@@ -71,8 +73,8 @@ pub queues-join : (kinds : List SocketKind) (a b c : List (List Received)) (kept
 queues-join kinds a b c kept more one two = record {
   ends = λ socket.
       two.ends socket
-      ∙ ap (λ (list : List Received). list ++ frames_of kinds socket more) (one.ends socket)
-      ∙ append_assoc (queue_at a socket) (frames_of kinds socket kept) (frames_of kinds socket more)
+      ∙ ap (λ (list : List Received). list ++ socket_entries kinds socket more) (one.ends socket)
+      ∙ append_assoc (queue_at a socket) (socket_entries kinds socket kept) (socket_entries kinds socket more)
       ∙ ap (λ (list : List Received). queue_at a socket ++ list)
       (sym (filter-append (λ (received : Received). goes_to kinds socket received.ether_type) kept more));
   all =

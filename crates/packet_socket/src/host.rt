@@ -3,6 +3,7 @@
 ghost use Rattle.std.specs.Prelude.{◌≡◌, ◌↔◌, ◌≤◌, ◌<◌, ◌++◌, Err, IfErr, IfOk, IsTrue, length};
 ghost use Rattle.dma_memory.specs.Layout.{size_of};
 ghost use Rattle.dma_memory.specs.Owners.{HasNoSecondOwner};
+ghost use Rattle.descriptors.specs.Frames.{longest_frame, shortest_sent};
 ghost use Rattle.bring_up.specs.Configuration.{CanBeHad};
 ghost use Rattle.bring_up.specs.Device.{IsBeforeAccess};
 ghost use Rattle.bring_up.specs.declared.init_error.InitError.TheVariants as InitError;
@@ -11,12 +12,10 @@ ghost use Rattle.bus.specs.Keeping.{Keeps};
 ghost use Rattle.driver_law.specs.DriverState.{owners};
 ghost use Rattle.driver.specs.Initialisation.{Initialises, Refuses};
 ghost use Rattle.driver.specs.SendSteps.{HasWrongLength, with_transmit_slots};
-ghost use Rattle.driver.specs.TakenFrames.{AreFrames, buffers_of};
+ghost use Rattle.driver.specs.HandlerSteps.{AreFrames, buffers_of};
 ghost use Rattle.driver.specs.declared.transmit.SendError.TheVariants as SendError;
-ghost use Rattle.packet_socket.specs.HostCalls.{HostTransmits, host_at};
-ghost use Rattle.packet_socket.specs.HeldFrames.{HostReady};
-ghost use Rattle.packet_socket.specs.HostState.{IsNewHost};
-ghost use Rattle.packet_socket.specs.SocketsState.{all_of, queue_at};
+ghost use Rattle.packet_socket.specs.HostCalls.{HostReady, HostTransmits, host_at};
+ghost use Rattle.packet_socket.specs.HostState.{IsNewHost, all_of, queue_at};
 
 use crate::SocketKind;
 use crate::sockets::{MOST_SOCKETS, Sockets};
@@ -132,7 +131,7 @@ impl Host {
     ///
     /// E20 [`TooShort`](SendError::TooShort) if the frame has fewer than 14 bytes, E21 [`TooLong`](SendError::TooLong)
     /// if it has more than 1,518; both without an access. E22 [`RingFull`](SendError::RingFull) if all slots of the
-    /// transmit ring but one are outstanding.
+    /// transmit ring but one are still outstanding after the call has freed those that are written back.
     pub fn send<B: Bus>(&mut self, bus: &mut B, frame: &[u8]) -> Result<(), SendError>
         requires memory { size_of self.old.driver.layout ≤ B.extent bus.old }
         ensures keeps { Keeps B.Bus bus.old bus.new }
@@ -140,8 +139,8 @@ impl Host {
         // What it does over any bus.
         ensures others { self.new ≡ record self.old
             { driver = with_transmit_slots self.old.driver self.new.driver.oldest_transmit self.new.driver.sending } }
-        ensures too_short { (result ≡ Err SendError.TooShort) ↔ (length frame.now < 14) }
-        ensures too_long { (result ≡ Err SendError.TooLong) ↔ (1518 < length frame.now) }
+        ensures too_short { (result ≡ Err SendError.TooShort) ↔ (length frame.now < shortest_sent) }
+        ensures too_long { (result ≡ Err SendError.TooLong) ↔ (longest_frame < length frame.now) }
         ensures nothing { HasWrongLength result → (bus.new ≡ bus.old) × (self.new ≡ self.old) }
 
         // And over one that obeys the law.

@@ -4,9 +4,8 @@ ghost use Rattle.std.specs.Prelude.{Bool};
 ghost use Rattle.adapter.specs.World.{World};
 ghost use Rattle.bus.specs.Law.{Happens};
 ghost use Rattle.bus.specs.PastOfStretch.{Past, joined};
-ghost use Rattle.packet_socket.specs.HostStretches.{HostDid, HostFlowsTo, HostGoesTo, HostInWorld};
-ghost use Rattle.packet_socket.specs.HostStretches.{did_both, did_nothing, in_world};
-ghost use Rattle.packet_socket.specs.HeldFrames.{HostReadyWith};
+ghost use Rattle.packet_socket.specs.HostCalls.{HostDid, HostFlowsTo, HostGoesTo, HostInWorld, HostReadyWith, did_both};
+ghost use Rattle.packet_socket.specs.HostCalls.{did_nothing, in_world};
 ghost use Rattle.packet_socket.specs.HostState.{HostState};
 
 /// Between two calls, steps and deliveries don't change what a host knows, or the frames in its queues. They are an

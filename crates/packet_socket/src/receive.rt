@@ -4,7 +4,7 @@ ghost use Rattle.std.specs.Prelude.{◌≡◌, ◌↔◌, ◌≤◌, ◌<◌, []
 ghost use Rattle.dma_memory.specs.Layout.{size_of};
 ghost use Rattle.bus.specs.Keeping.{Keeps};
 ghost use Rattle.packet_socket.specs.HostCalls.{Returns, ReturnsBy, WhereReadyHost, host_at};
-ghost use Rattle.packet_socket.specs.SocketsState.{queue_at};
+ghost use Rattle.packet_socket.specs.HostState.{queue_at};
 ghost use Rattle.packet_socket.specs.declared.receive.RecvError.TheVariants as RecvError;
 
 use crate::Host;
@@ -23,9 +23,10 @@ pub enum RecvError {
 }
 
 impl Host {
-    /// Copies the oldest frame of a socket's queue to the front of `into`, and returns its size, 60 to 1,518 bytes.
-    /// The bytes after it don't change. The frame's buffer goes back to the driver, which refills its receive ring.
-    /// `bus` must have at least `layout().size()` bytes.
+    /// Removes the oldest entry of a socket's queue, and returns its length, 60 to 1,518 bytes. Over a bus that obeys
+    /// the law, the first bytes of `into` are the entry's frame then. The bytes after this length don't change. The
+    /// entry's buffer goes back to the driver, which refills its receive ring. `bus` must have at least
+    /// `layout().size()` bytes.
     ///
     /// # Errors
     ///

@@ -1,7 +1,8 @@
 // The sockets of a host, each with a queue of received frames.
 
-ghost use Rattle.std.specs.Prelude.{◌≡◌, ◌↔◌, ◌<◌, ◌≤◌, ◌∷◌, [], IfNone, IfOk, IfSome, length, replicate, slice_set};
-ghost use Rattle.packet_socket.specs.SocketsState.{Sorts, queue_at};
+ghost use Rattle.std.specs.Prelude.{◌≡◌, ◌<◌, ◌∷◌, [], IfNone, IfOk, IfSome, length, replicate, slice_set};
+ghost use Rattle.packet_socket.specs.HostState.{queue_at};
+ghost use Rattle.packet_socket.specs.Sorting.{Sorts};
 
 use crate::SocketKind;
 use crate::socket_kind::socket_of;
@@ -28,7 +29,7 @@ pub(crate) struct Sockets {
 }
 
 impl Model for Sockets {
-    ghost use Rattle.packet_socket.specs.SocketsState.{SocketsState};
+    ghost use Rattle.packet_socket.specs.HostState.{SocketsState};
 
     ghost Value = { SocketsState };
 
@@ -91,6 +92,7 @@ impl Sockets {
     }
 
     /// Removes the oldest frame of a socket's queue, and returns it.
+    #[tactic(auto, using(crate::proofs::InsideQueues::others_stay))]
     pub(crate) fn next(&mut self, socket: usize) -> Option<Received>
         requires there { socket < length self.old.kinds }
         ensures none { IfNone result (queue_at self.old.queues socket ≡ []) }

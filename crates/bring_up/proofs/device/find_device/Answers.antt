@@ -23,7 +23,7 @@ returns-in_err-image-clause-finds g c honest =
     subst (λ (result : Result (List ℕ) InitError). FindsDevice g.B.Bus c.args.kilobytes result start end) (sym is)
     (record {
       past = joined resets.past reads.asks.past;
-      told = g.met.B.Bus.composes.joins start c.reset_device.new.bus end resets.past reads.asks.past resets.told reads.asks.told;
+      reports = g.met.B.Bus.composes.joins start c.reset_device.new.bus end resets.past reads.asks.past resets.reports reads.asks.reports;
       found = tt;
       why = omega (arith, reads.in_vain, length-append resets.past.accesses reads.asks.past.accesses);
       why_lively = λ lively. absurd (false≢true (c.in_err-image.ensures.in_time (c.reset_device.ensures.keeps.lively lively) still));
@@ -41,7 +41,7 @@ returns-then-not-checksum_ok-clause-finds g c honest =
     ∙ device-image (world start) (world c.reset_device.new.bus) reset_writes resets.settings in
     record {
       past = joined resets.past reads.asks.past;
-      told = joins start c.reset_device.new.bus c.read_image.new.bus resets.past reads.asks.past resets.told reads.asks.told;
+      reports = joins start c.reset_device.new.bus c.read_image.new.bus resets.past reads.asks.past resets.reports reads.asks.reports;
       found = tt;
       why = λ right. absurd (false≢true (sym c.if-not-checksum_ok.true ∙ c.checksum_ok.ensures.1 (subst HasRightSum (sym image_is) right)));
       why_lively = λ lively. tt;
@@ -73,7 +73,7 @@ returns-in_err-negotiate-clause-finds g c honest =
     subst (λ (result : Result (List ℕ) InitError). FindsDevice g.B.Bus c.args.kilobytes result start c.negotiate.new.bus) (sym is)
     (record {
       past = joined ready.past asked.asks.past;
-      told = joins start c.set_link_up.new.bus c.negotiate.new.bus ready.past asked.asks.past ready.told asked.asks.told;
+      reports = joins start c.set_link_up.new.bus c.negotiate.new.bus ready.past asked.asks.past ready.reports asked.asks.reports;
       found = tt;
       why = omega (arith, asked.late, length-append ready.past.accesses asked.asks.past.accesses);
       why_lively = λ lively. absurd (false≢true (asked.in_time (Lives lively)));
@@ -107,7 +107,7 @@ returns-in_err-await_link-clause-finds g c honest =
     let right : HasRightSum (world start).adapter.image = subst HasRightSum image_is (c.checksum_ok.ensures.0 c.if-not-checksum_ok.false) in
     let Is : InitError → Type 0 = λ error. FindsDevice g.B.Bus c.args.kilobytes (Err error) start c.await_link.new.bus in
     let past = joined still.past waits.asks.past in
-    let happened_so = joins start c.negotiate.new.bus c.await_link.new.bus still.past waits.asks.past still.told waits.asks.told in
+    let happened_so = joins start c.negotiate.new.bus c.await_link.new.bus still.past waits.asks.past still.reports waits.asks.reports in
     let count = length-append still.past.accesses waits.asks.past.accesses in
     let LivesOn : g.B.Bus.lively start → g.B.Bus.lively c.negotiate.new.bus = λ lively.
     c.in_ok-negotiate.ensures.keeps.lively (Lives lively) in
@@ -115,14 +115,14 @@ returns-in_err-await_link-clause-finds g c honest =
     (⊎_elim
     (λ (late : c.in_err-await_link.field-0.0 ≡ PhyTimeout). subst Is (sym late) (record {
       past = past;
-      told = happened_so;
+      reports = happened_so;
       found = tt;
       why = omega (arith, waits.late, count);
       why_lively = λ lively. absurd (waits.in_time (LivesOn lively) (ap Err late));
     }))
     (λ (none : c.in_err-await_link.field-0.0 ≡ NoLink). subst Is (sym none) (record {
       past = past;
-      told = happened_so;
+      reports = happened_so;
       found = tt;
       why = omega (arith, waits.no_link (ap Err none), count);
       why_lively = λ lively. (
@@ -158,7 +158,7 @@ returns-clause-finds g c honest =
     let last = still-ready g.B.Bus joins start c.negotiate.new.bus c.await_link.new.bus c.args.kilobytes still waits.asks in
     record {
       past = last.past;
-      told = last.told;
+      reports = last.reports;
       found = record {
         image_is = image_is;
         sum_is_right = c.checksum_ok.ensures.0 c.if-not-checksum_ok.false;

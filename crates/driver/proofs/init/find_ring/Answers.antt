@@ -45,7 +45,7 @@ returns-clause-finds g c honest =
     let three = ring.sets.past in
     record {
       past = joined one (joined two three);
-      told = joins b0 b1 b3 one (joined two three) finds.told (joins b1 b2 b3 two three filter.sets.told ring.sets.told);
+      reports = joins b0 b1 b3 one (joined two three) finds.reports (joins b1 b2 b3 two three filter.sets.reports ring.sets.reports);
       found =
           finds-ring g.B.Bus b0 b1 b2 b3 config (g.B.Bus.extent b0) c.in_ok-image.image c.requires.had room finds.found
           (subst (λ (address : List ℕ). SetsFilter g.B.Bus config address b1 b2) c.address.ensures filter) ring;

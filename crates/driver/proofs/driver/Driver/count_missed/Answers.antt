@@ -2,12 +2,11 @@ use Rattle.std.proofs.Common.{Bool, ◌&&◌, ◌≡◌, ◌<◌, ◌-◌, ◌+�
 use Rattle.bus.specs.declared.event.Access.TheVariants.{Reads}
 use Rattle.driver_law.proofs.RegisterAccesses.{ran_by-misses}
 use Rattle.driver_law.specs.DriverState.{DriverState, holding}
-use Rattle.driver_law.specs.RegisterReadings.{adds_exactly, with_missed}
 use Rattle.driver.specs.InsideDriver.{state_of}
 use Rattle.driver.proofs.driver.Driver.count_missed.Given.{Over}
 use Rattle.driver.proofs.driver.Driver.count_missed.Goals as goal
 use Rattle.driver.proofs.driver.Driver.count_missed.Goals.{then-self, else-self}
-use Rattle.driver_law.specs.Calls.{Ran, at, only}
+use Rattle.driver_law.specs.Calls.{Ran, adds_exactly, at, only, with_missed}
 
 is_exact : (g : Over) (c : goal.After-self-2-1 g)
     → c.if-self.self ≡ (c.self.inside.exact && adds_exactly c.self.inside.missed c.read-value.result)

@@ -5,7 +5,7 @@ use Rattle.rx_engine.specs.Addresses.{ether_type}
 use Rattle.bus.proofs.Lists.{all-none}
 use Rattle.bus.specs.declared.event.Access.TheVariants.{Loads}
 use Rattle.driver_law.specs.DriverState.{DriverState, buffer_at, holding}
-use Rattle.driver.specs.TakenFrames.{IsFrameSize, Shows, received_of}
+use Rattle.driver.specs.HandlerSteps.{IsFrameSize, Shows, received_of}
 use Rattle.driver.specs.declared.receiver.Received.{Received}
 use Rattle.driver.proofs.driver.Driver.hand_on.Goals as goal
 use Rattle.driver_law.specs.Calls.{Ran, at, only}
@@ -20,9 +20,9 @@ returns-then-not-finished-clause-hands g c =
     let is = c.saturating_add-self-inside.ensures in
     let below : after.bad < 2 ^ 64 = omega arith in
     record {
-      shown = [];
+      received = [];
       kept = [];
-      told = g.met.R.Receiver.stays c.args.receiver.now;
+      shown = g.met.R.Receiver.stays c.args.receiver.now;
       one = omega arith;
       sizes = all-none (λ (x : Received). IsFrameSize x.length);
       bad = record {

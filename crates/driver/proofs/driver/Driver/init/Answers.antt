@@ -24,14 +24,14 @@ returns-in_err-layout-clause-refuses g c honest =
     let told = err_from_is_err_and c.from_residual.result c.from_residual.ensures.1 in
     let is : c.from_residual.result ≡ Err errors.Config = told.1 ∙ ap Err (told.2 ∙ c.in_err-layout.ensures.err) in
     subst (λ result. IfErr result (Refuses g.B.Bus c.args.bus.now c.args.bus.now)) (sym is)
-    (record { past = nothing; told = g.met.B.Bus.composes.stays c.args.bus.now; why = refl; why_lively = λ lively. tt })
+    (record { past = nothing; reports = g.met.B.Bus.composes.stays c.args.bus.now; why = refl; why_lively = λ lively. tt })
 
 pub returns-in_err-driver-clause-refuses : goal.returns-in_err-driver-clause-refuses
 returns-in_err-driver-clause-refuses g c honest =
     let told = err_from_is_err_and c.from_residual-in_err-driver.result c.from_residual-in_err-driver.ensures.1 in
     let is : c.from_residual-in_err-driver.result ≡ Err Memory = told.1 ∙ ap Err told.2 in
     subst (λ result. IfErr result (Refuses g.B.Bus c.args.bus.now c.args.bus.now)) (sym is)
-    (record { past = nothing; told = g.met.B.Bus.composes.stays c.args.bus.now; why = refl; why_lively = λ lively. tt })
+    (record { past = nothing; reports = g.met.B.Bus.composes.stays c.args.bus.now; why = refl; why_lively = λ lively. tt })
 
 -- The driver that is made.
 made : (g : Over) (c : goal.After-enable_interrupts g)
@@ -104,5 +104,5 @@ returns-clause-initialises g c honest =
     (same ∙ sym c.in_ok-layout.ensures.counts)
     (ap (λ (s : DriverState). s.oldest_transmit) o.others) (ap (λ (s : DriverState). s.sending) o.others) new) in
     initialises g.B.Bus g.met.B.Bus.composes.joins b0 b1 b2 b3 b4 c.enable_interrupts.new.bus config (g.B.Bus.extent b0) pool o.numbers d
-    finds.past had finds.told finds.found o.count o.others
+    finds.past had finds.reports finds.found o.count o.others
     first still.0 still.1.1 lets sends (c.enable_interrupts.ensures.enables d (record { honest = h4; ready = sends.goes.flows.ready }))

@@ -3,7 +3,7 @@ use Rattle.registers.specs.Bits.{Meet}
 use Rattle.driver_law.proofs.RegisterAccesses.{reads-causes}
 use Rattle.driver_law.specs.DriverState.{DriverState, holding}
 use Rattle.bring_up.specs.WrittenRegisters.{handled_causes}
-use Rattle.driver.specs.TakenFrames.{TakesSlots, scene}
+use Rattle.driver.specs.HandlerSteps.{TakesSlots, scene}
 use Rattle.driver.proofs.HandlerSteps.{Follows, handled-timer, handles-it}
 use Rattle.driver.proofs.driver.Driver.interrupt.Goals as goal
 
@@ -27,7 +27,7 @@ returns-then-not-is_mine-clause-handles g c up held is =
 pub returns-clause-serves : goal.returns-clause-serves
 returns-clause-serves g c = record {
   misses = c.count_missed.result;
-  taken = c.take_finished-taken.new.self;
+  between = c.take_finished-taken.new.self;
   takes = subst (λ (d : DriverState).
       TakesSlots g.R.Receiver c.take_finished-taken.result c.args.receiver.now c.take_finished-taken.new.receiver d
       c.take_finished-taken.new.self) c.count_missed.ensures.others

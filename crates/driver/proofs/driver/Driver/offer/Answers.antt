@@ -3,13 +3,12 @@ use Rattle.bus.specs.declared.event.Access.{Access}
 use Rattle.bus.specs.declared.event.Access.TheVariants.{Writes}
 use Rattle.driver_law.proofs.Accesses.{ran_by-stays}
 use Rattle.driver_law.proofs.ReceiveAccesses.{ran_by-offers}
-use Rattle.driver_law.specs.Accesses.{tail_write}
+use Rattle.driver_law.specs.Calls.{Ran, at, only, tail_write}
 use Rattle.driver_law.specs.DriverState.{DriverState, holding, next_receive}
 use Rattle.driver.specs.InsideDriver.{state_of}
 use Rattle.driver.proofs.BufferQueue.{no_second-inside, none-staged, owners-offered, offered-inside, queue-split, tail_write-none}
 use Rattle.driver.proofs.BufferQueue.{tail_write-some}
 use Rattle.driver.proofs.driver.Driver.offer.Goals as goal
-use Rattle.driver_law.specs.Calls.{Ran, at, only}
 
 pub returns-then-self-eq0-clause-ran : goal.returns-then-self-eq0-clause-ran
 returns-then-self-eq0-clause-ran g c up held is =

@@ -2,8 +2,7 @@
 use Rattle.std.proofs.Common.{◌≡◌, ◌+◌, ◌%◌, ℕ, length, true, sym, ap, subst, ◌∙◌, arith}
 use Rattle.driver_law.proofs.TransmitRuns.{run-sends}
 use Rattle.driver_law.specs.DriverState.{DriverState, holding, transmit_slot, transmit_tail}
-use Rattle.driver_law.specs.Calls.{Ran, at}
-use Rattle.driver_law.specs.Accesses.{transmit_buffer, whole_descriptor}
+use Rattle.driver_law.specs.Calls.{Ran, at, transmit_buffer, whole_descriptor}
 use Rattle.driver.proofs.SentFrames.{next-slot, sending-more}
 use Rattle.driver.specs.SendSteps.{sent_now}
 use Rattle.driver.specs.InsideDriver.{IsSending}

@@ -8,7 +8,7 @@ use Rattle.driver.proofs.driver.Driver.show.Goals as goal
 pub returns-in-Some-clause-shows : goal.returns-in-Some-clause-shows
 returns-in-Some-clause-shows g c = record {
   kept = [];
-  told = c.in-Some.ensures.gives_back.1;
+  shown = c.in-Some.ensures.gives_back.1;
   whether = inl refl;
   buffers = λ k.
       ap (λ (number : ℕ). copies k (number ∷ c.args.self.now.pool)) (sym c.in-Some.ensures.gives_back.0)
@@ -22,7 +22,7 @@ returns-in_default-clause-shows g c =
     let pool = c.args.self.now.pool in
     record {
       kept = c.args.received ∷ [];
-      told = c.in_default.ensures.keeps;
+      shown = c.in_default.ensures.keeps;
       whether = inr refl;
       buffers = λ k. omega (arith, copies-cons k m pool, copies-push k m pool);
     }

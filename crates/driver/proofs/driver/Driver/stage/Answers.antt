@@ -3,13 +3,12 @@ use Rattle.dma_memory.specs.Layout.{ReceiveRing}
 use Rattle.dma_memory.specs.LayoutLaws.{place-below_size}
 use Rattle.descriptors.specs.Laws.{length-rx_desc_bytes}
 use Rattle.driver_law.proofs.ReceiveAccesses.{ran_by-stages}
-use Rattle.driver_law.specs.Accesses.{stores_from}
+use Rattle.driver_law.specs.Calls.{Ran, at, only, stores_from}
 use Rattle.driver_law.specs.DriverState.{DriverState, buffer_at, holding, next_receive}
 use Rattle.driver_law.specs.ReadyDrivers.{empty_descriptor}
 use Rattle.driver.specs.InsideDriver.{state_of}
 use Rattle.driver.proofs.BufferQueue.{queue-split, staged-inside}
 use Rattle.driver.proofs.driver.Driver.stage.Goals as goal
-use Rattle.driver_law.specs.Calls.{Ran, at, only}
 
 pub store-requires : goal.store-requires
 store-requires g c =

@@ -1,9 +1,8 @@
 use Rattle.std.proofs.Common.{◌≡◌, ◌+◌, ◌-◌, ◌++◌, ℕ, length, sym, ap, subst, arith}
 use Rattle.bus.proofs.Keeping.{keeps-here, keeps-on}
-use Rattle.driver_law.specs.Accesses.{last_load}
-use Rattle.driver_law.specs.Calls.{Ran, at, only}
+use Rattle.driver_law.specs.Calls.{Ran, at, last_load, only}
 use Rattle.driver_law.specs.DriverState.{DriverState, holding}
-use Rattle.driver.specs.TakenFrames.{TakesAll, scene}
+use Rattle.driver.specs.HandlerSteps.{TakesAll, scene}
 use Rattle.driver.proofs.TakenFrames.{walks-look, walks-next, walks-none}
 use Rattle.driver.proofs.driver.Driver.take_finished.Given.{Over}
 use Rattle.driver.proofs.driver.Driver.take_finished.Goals as goal

@@ -1,6 +1,6 @@
 use Rattle.std.proofs.Common.{ℕ, length}
 use Rattle.bus.specs.Keeping.{Keeps}
-use Rattle.driver.specs.TakenFrames.{scene}
+use Rattle.driver.specs.HandlerSteps.{scene}
 use Rattle.driver.proofs.TakenFrames.{Walks}
 use Rattle.driver.proofs.driver.Driver.take_finished.Given as goal
 

@@ -8,9 +8,8 @@ use Rattle.driver_law.proofs.Accesses.{ran_by-stays}
 use Rattle.driver_law.proofs.ReceiveAccesses.{ran_by-leaves, ran_by-takes, takes-whole}
 use Rattle.driver_law.proofs.Stores.{status-bits}
 use Rattle.driver_law.proofs.TakenSlots.{finished-empty}
-use Rattle.driver_law.specs.Accesses.{last_load}
+use Rattle.driver_law.specs.Calls.{Ran, at, last_load, only}
 use Rattle.driver_law.specs.DriverState.{holding}
-use Rattle.driver_law.specs.Calls.{Ran, at, only}
 use Rattle.driver_law.specs.OldestSlot.{TakesOldest}
 use Rattle.driver.specs.InsideDriver.{state_of}
 use Rattle.driver.proofs.BufferQueue.{HasTaken, none-outstanding, some-outstanding, taken-inside, without_oldest}

@@ -36,8 +36,7 @@ returns-clause-transmits g c held is =
     let d = c.args.self.now in
     let freed = c.reclaim.new.self in
     let reclaims = c.reclaim.ensures.reclaims held is in
-    let counts : freed.layout ≡ d.layout = ap (λ (state : DriverState). state.layout) c.reclaim.ensures.others in
-    let more : c.send.new.self.sending ≡ freed.sending + 1 = ap (λ (state : DriverState). state.sending) c.send.ensures.others in
     let sends = c.send.ensures.sends held (ready-on g.B.Bus _ _ c.reclaim.ensures.keeps is reclaims.ran) in
     frees-and-sends g.B.Bus g.met.B.Bus.composes.joins (held_at held (at c.args.bus.now d)) (held_at held (at c.reclaim.new.bus freed))
-    (held_at held (at c.send.new.bus c.send.new.self)) c.args.frame.now counts c.reclaim.ensures.tail more reclaims sends
+    (held_at held (at c.send.new.bus c.send.new.self)) c.args.frame.now (ap (holding held) c.reclaim.ensures.others)
+    c.reclaim.ensures.tail (ap (holding held) c.send.ensures.others) reclaims sends

@@ -1,5 +1,5 @@
-use Rattle.driver.specs.TakenFrames.{scene}
-use Rattle.packet_socket.specs.HeldFrames.{driver_of}
+use Rattle.driver.specs.HandlerSteps.{scene}
+use Rattle.packet_socket.specs.HostCalls.{driver_of}
 use Rattle.packet_socket.specs.InsideHost.{IsHost, host_of}
 use Rattle.packet_socket.proofs.HandledInterrupts.{host-handles}
 use Rattle.packet_socket.proofs.ConsistentHosts.{handled-host, sorts-all}

@@ -16,14 +16,14 @@ returns-in_err-layout-clause-refuses g c honest =
     let told = err_from_is_err_and c.from_residual.result c.from_residual.ensures.1 in
     let is : c.from_residual.result ≡ Err errors.Config = told.1 ∙ ap Err (told.2 ∙ c.in_err-layout.ensures.err) in
     subst (λ result. IfErr result (Refuses g.B.Bus c.args.bus.now c.args.bus.now)) (sym is)
-    (record { past = nothing; told = g.met.B.Bus.composes.stays c.args.bus.now; why = refl; why_lively = λ lively. tt })
+    (record { past = nothing; reports = g.met.B.Bus.composes.stays c.args.bus.now; why = refl; why_lively = λ lively. tt })
 
 pub returns-in_err-sockets-clause-refuses : goal.returns-in_err-sockets-clause-refuses
 returns-in_err-sockets-clause-refuses g c honest =
     let told = err_from_is_err_and c.from_residual-in_err-sockets.result c.from_residual-in_err-sockets.ensures.1 in
     let is : c.from_residual-in_err-sockets.result ≡ Err Memory = told.1 ∙ ap Err told.2 in
     subst (λ result. IfErr result (Refuses g.B.Bus c.args.bus.now c.args.bus.now)) (sym is)
-    (record { past = nothing; told = g.met.B.Bus.composes.stays c.args.bus.now; why = refl; why_lively = λ lively. tt })
+    (record { past = nothing; reports = g.met.B.Bus.composes.stays c.args.bus.now; why = refl; why_lively = λ lively. tt })
 
 pub invariant_of-result : goal.invariant_of-result
 invariant_of-result g c =

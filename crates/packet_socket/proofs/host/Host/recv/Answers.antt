@@ -1,10 +1,9 @@
 use Rattle.std.proofs.Common.{take, ap, sym, subst}
 use Rattle.driver_law.specs.DriverState.{DriverState}
-use Rattle.driver.specs.TakenFrames.{IsFrameSize}
-use Rattle.packet_socket.specs.HeldFrames.{driver_of}
-use Rattle.packet_socket.specs.HostCalls.{host_at}
+use Rattle.driver.specs.HandlerSteps.{IsFrameSize}
+use Rattle.packet_socket.specs.HostCalls.{driver_of, host_at}
 use Rattle.packet_socket.specs.InsideHost.{host_of, host_with}
-use Rattle.packet_socket.specs.SocketsState.{SocketsState}
+use Rattle.packet_socket.specs.HostState.{SocketsState}
 use Rattle.packet_socket.proofs.GivenFrames.{gives-others, host-receives}
 use Rattle.packet_socket.proofs.ConsistentHosts.{can-come-back, entry-splits, stays-host, stays-owners}
 use Rattle.packet_socket.proofs.host.Host.recv.Goals as goal

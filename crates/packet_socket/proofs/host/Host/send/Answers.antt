@@ -1,6 +1,5 @@
 use Rattle.driver_law.specs.Calls.{at}
-use Rattle.packet_socket.specs.HeldFrames.{driver_of}
-use Rattle.packet_socket.specs.HostCalls.{host_at}
+use Rattle.packet_socket.specs.HostCalls.{driver_of, host_at}
 use Rattle.packet_socket.specs.InsideHost.{host_of}
 use Rattle.packet_socket.proofs.Stretches.{host-transmits}
 use Rattle.packet_socket.proofs.host.Host.send.Goals as goal

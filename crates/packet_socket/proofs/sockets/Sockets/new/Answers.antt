@@ -1,7 +1,7 @@
 use Rattle.std.proofs.Common.{◌≡◌, [], ℕ, List, length, replicate, map, ap, ◌∙◌, arith}
 use Rattle.driver.specs.declared.receiver.Received.{Received}
 use Rattle.packet_socket.specs.InsideSockets.{items_of}
-use Rattle.packet_socket.specs.SocketsState.{SocketsState}
+use Rattle.packet_socket.specs.HostState.{SocketsState}
 use Rattle.packet_socket.proofs.InsideQueues.{all-empty}
 use Rattle.packet_socket.proofs.sockets.Sockets.new.Goals as goal
 

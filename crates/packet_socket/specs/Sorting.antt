@@ -1,0 +1,16 @@
+-- How the sockets of a host sort the frames that the driver shows them (our choice).
+use Rattle.std.specs.Prelude.{◌≡◌, ◌≤◌, ◌+◌, List, length}
+use Rattle.driver.specs.HandlerSteps.{GrowsBy}
+use Rattle.driver.specs.declared.receiver.Received.{Received}
+use Rattle.packet_socket.specs.HostCalls.{Queues, claimed_of, unclaimed_of}
+use Rattle.packet_socket.specs.HostState.{SocketsState, all_of}
+
+-- Frames with a socket are kept, the others are counted. A queue has room for its frames if all queues together, with the frames kept,
+-- have no more than `room`.
+pub record Sorts (before after : SocketsState) (shown kept : List Received) : Type 0 where
+  pub kinds : after.kinds ≡ before.kinds
+  pub room : after.room ≡ before.room
+  pub count : length after.queues ≡ length before.queues
+  pub claimed : kept ≡ claimed_of before.kinds shown
+  pub unclaimed : GrowsBy before.unclaimed after.unclaimed (unclaimed_of before.kinds shown)
+  pub queues : length (all_of before.queues) + length kept ≤ before.room → Queues before.kinds before.queues after.queues kept
