@@ -10,18 +10,17 @@ use Rattle.circular_buffer.proofs.Places.{slice_get-some}
 use Rattle.rx_engine.specs.declared.engine.Work.{Work}
 use Rattle.adapter.specs.HostFrames.{frames_held}
 use Rattle.adapter.specs.Slots.{slot_of_work}
-use Rattle.adapter.specs.State.{AdapterState, IsAdapter}
+use Rattle.adapter.specs.State.{AdapterState}
 use Rattle.adapter.specs.Steps.{Answers}
-use Rattle.adapter.specs.Outcomes.{stepped_of}
+use Rattle.adapter.specs.Outcomes.{FrameOutcome, framed}
 use Rattle.adapter.specs.World.{World}
 use Rattle.adapter.specs.declared.step.StepKind.{StepKind}
 use Rattle.adapter.specs.declared.step.StepKind.TheVariants.{RxData, RxDone, TxPut}
-use Rattle.adapter.specs.declared.step.StepOutcome.{StepOutcome}
-use Rattle.adapter.specs.declared.step.StepOutcome.TheVariants as outcome
-use Rattle.adapter.specs.declared.step.Stepped.{Stepped}
-use Rattle.adapter.specs.declared.step.Stepped.TheVariants as stepped
+use Rattle.adapter.specs.declared.outcome.Outcome.{Outcome}
+use Rattle.adapter.specs.declared.outcome.Outcome.TheVariants as outcome
 use Rattle.bus.proofs.Lists.{all-none}
 use Rattle.bus.specs.StepsAndArrivals.{world_after_step}
+use Rattle.bus.specs.Trails.{Occurs}
 use Rattle.bus.specs.declared.event.Event.{Event}
 use Rattle.bus.specs.declared.event.Event.TheVariants.{Steps}
 use Rattle.stations.specs.AtomicSteps.{At, AtomicStep, OccursAt}
@@ -37,34 +36,34 @@ use Rattle.host_calls.specs.DrainedHosts.{CanBeDrained, IsDrainStep}
 use Rattle.host_calls.specs.DrainSteps.{StepsOn, count_line, count_pending}
 use Rattle.host_calls.proofs.JoinedSteps.{nothing-stored}
 use Rattle.host_calls.proofs.SocketCounts.{held-counted, held-flows}
-use Rattle.packet_socket.specs.HostStretches.{did}
+use Rattle.packet_socket.specs.HostCalls.{did}
 use Rattle.host_calls.specs.ConnectedHosts.{connected}
 
 -- A step that was taken, by itself.
-pub record TakesStep (place : ℕ) (kind : StepKind) (answer : Stepped) (a b : List StationState) : Type 0 where
+pub record TakesStep (place : ℕ) (kind : StepKind) (answer : FrameOutcome) (a b : List StationState) : Type 0 where
   pub answers : Answers kind true (world_at a place).memory (world_at a place).adapter answer
   pub leads : LeadsTo place (At place (Steps kind true answer) ∷ []) a b
   pub world : world_at b place ≡ world_after_step kind answer (world_at a place)
 
-pub takes-step : (place : ℕ) (kind : StepKind) (answer : Stepped) (a b : List StationState) → place < length a → kind ≢ TxPut
-    → IsAdapter (world_at a place).adapter → Answers kind true (world_at a place).memory (world_at a place).adapter answer
-    → b ≡ stations_after place (Steps kind true answer) a → TakesStep place kind answer a b
-takes-step place kind answer a b below other adapter answers is =
+pub takes-step : (place : ℕ) (kind : StepKind) (answer : FrameOutcome) (a b : List StationState) → place < length a → kind ≢ TxPut
+    → Occurs (Steps kind true answer) (world_at a place) → b ≡ stations_after place (Steps kind true answer) a
+    → TakesStep place kind answer a b
+takes-step place kind answer a b below other event is =
     let found = slice_get-some a place below in
     let occurs : OccursAt place (Steps kind true answer) a = record {
       wire = found.0.wire;
       on_wire = ap wire_of found.1;
-      occurs = (adapter, answers);
+      occurs = event;
       suits_wire = λ same. absurd (other same);
     } in
     record {
-      answers = answers;
+      answers = event.1;
       leads = (occurs, tt, is);
       world = ap (λ (ss : List StationState). world_at ss place) is
           ∙ world-here a place (Steps kind true answer) (eq-eqb place place refl) occurs;
     }
 
-ticks : (place : ℕ) (kind : StepKind) (answer : Stepped) → All IsTick (At place (Steps kind true answer) ∷ [])
+ticks : (place : ℕ) (kind : StepKind) (answer : FrameOutcome) → All IsTick (At place (Steps kind true answer) ∷ [])
 ticks place kind answer = All-cons IsTick (At place (Steps kind true answer)) [] tt (all-none IsTick)
 
 elsewhere : (place k : ℕ) (event : Event) → k ≢ place → events_at k (At place event ∷ []) ≡ []
@@ -75,7 +74,7 @@ elsewhere place k event other =
     ]
 
 -- The host itself does nothing meanwhile.
-pub step-runs : (place : ℕ) (kind : StepKind) (answer : Stepped) (a b : List StationState) (h : HostState)
+pub step-runs : (place : ℕ) (kind : StepKind) (answer : FrameOutcome) (a b : List StationState) (h : HostState)
     → CanBeDrained h (world_at a place) → TakesStep place kind answer a b
     → HostRuns place (At place (Steps kind true answer) ∷ []) (did [] [] []) (connected h a) (connected h b)
 step-runs place kind answer a b h stands takes =
@@ -90,7 +89,7 @@ held-stays : (place n : ℕ) (played : List AtomicStep) (a b : List StationState
     → length (frames_held h.driver.oldest_receive (world_at b place)) ≡ length (frames_held h.driver.oldest_receive (world_at a place))
 held-stays place n played a b h leads moved runs =
     let holds = held-flows [] (frames_held h.driver.oldest_receive (world_at b place))
-    (frames_held h.driver.oldest_receive (world_at a place)) (past_at place played).stored runs.flows.flows.holds
+    (frames_held h.driver.oldest_receive (world_at a place)) (past_at place played).stored runs.flows.driver.holds
     (nothing-stored place place played a b n leads moved) in
     omega (arith, holds)
 
@@ -117,7 +116,7 @@ abbrev count_asked : World → ℕ
 count_asked world = count_pending world.adapter.receiver.work (count_line world.adapter.causes)
 
 -- A step of an adapter is one of the drain if it brings frames nearer to their end, and nothing else happens.
-step-on : (steps moves place : ℕ) (kind : StepKind) (answer : Stepped) (a b : List StationState) (h : HostState)
+step-on : (steps moves place : ℕ) (kind : StepKind) (answer : FrameOutcome) (a b : List StationState) (h : HostState)
     → (kind ≡ RxData) ⊎ (kind ≡ RxDone) → CanBeDrained h (world_at a place) → TakesStep place kind answer a b
     → happened_in (At place (Steps kind true answer) ∷ []) ≡ replicate moves (Moved place)
     → count_buffered (world_at a place) ≡ moves + count_buffered (world_at b place)
@@ -155,7 +154,7 @@ step-on steps moves place kind answer a b h receives stands takes moved buffered
 
 -- The frame in work is ended.
 done-steps : (place : ℕ) (a b : List StationState) (h : HostState) → CanBeDrained h (world_at a place)
-    → TakesStep place RxDone stepped.Done a b → StepsOn 1 place [] (connected h a) (connected h b)
+    → TakesStep place RxDone outcome.Done a b → StepsOn 1 place [] (connected h a) (connected h b)
 done-steps place a b h stands takes =
     let before = work-counted (world_at a place).adapter.receiver.work takes.answers in
     let behind = work-none (world_at b place).adapter.receiver.work (ap (λ (w : World). w.adapter.receiver.work) takes.world) in
@@ -163,56 +162,53 @@ done-steps place a b h stands takes =
     ap (λ (w : World). count_buffered w) takes.world in
     let pending = before.1 (count_line (world_at a place).adapter.causes) in
     let pending' = behind.1 (count_line (world_at b place).adapter.causes) in
-    step-on 1 0 place RxDone stepped.Done a b h (inr refl) stands takes refl (omega (arith, same))
+    step-on 1 0 place RxDone outcome.Done a b h (inr refl) stands takes refl (omega (arith, same))
     (ap (λ (w : World). w.adapter.filter) takes.world) (omega (arith, before.0, behind.0, same, pending, pending'))
     (omega (arith, before.0, behind.0, same))
 
 -- There was none.
 idle-steps : (place : ℕ) (kind : StepKind) (a b : List StationState) (h : HostState) → (kind ≡ RxData) ⊎ (kind ≡ RxDone)
     → CanBeDrained h (world_at a place)
-    → TakesStep place kind stepped.Nothing a b → (world_at b place).adapter ≡ (world_at a place).adapter
+    → TakesStep place kind outcome.Nothing a b → (world_at b place).adapter ≡ (world_at a place).adapter
     → StepsOn 0 place [] (connected h a) (connected h b)
 idle-steps place kind a b h receives stands takes same =
     let buffer = ap (λ (s : AdapterState). length s.receiver.buffer) same in
     let work = ap (λ (s : AdapterState). length (slot_of_work s.receiver.work)) same in
     let pending = ap (λ (s : AdapterState). count_pending s.receiver.work (count_line s.causes)) same in
-    step-on 0 0 place kind stepped.Nothing a b h receives stands takes refl (omega (arith, buffer))
+    step-on 0 0 place kind outcome.Nothing a b h receives stands takes refl (omega (arith, buffer))
     (ap (λ (s : AdapterState). s.filter) same) (omega (arith, buffer, work, pending)) (omega (arith, buffer, work))
 
 -- What a done step answers is that it ended a frame, or that there was none.
-pub finishes-done : (place : ℕ) (a b : List StationState) (h : HostState) (result : StepOutcome) → place < length a
-    → IsAdapter (world_at a place).adapter
-    → Answers RxDone true (world_at a place).memory (world_at a place).adapter (stepped_of result (world_at a place).adapter)
-    → b ≡ stations_after place (Steps RxDone true (stepped_of result (world_at a place).adapter)) a → result ≡ outcome.Done
+pub finishes-done : (place : ℕ) (a b : List StationState) (h : HostState) (result : Outcome (Unit {0})) → place < length a
+    → Occurs (Steps RxDone true (framed result (world_at a place).adapter)) (world_at a place)
+    → b ≡ stations_after place (Steps RxDone true (framed result (world_at a place).adapter)) a → result ≡ outcome.Done
     → CanBeDrained h (world_at a place) → StepsOn 1 place [] (connected h a) (connected h b)
-finishes-done place a b h outcome.Done below adapter answers is same stands =
-    done-steps place a b h stands (takes-step place RxDone stepped.Done a b below (λ e. absurd (cc e)) adapter answers is)
-finishes-done place a b h result below adapter answers is same stands = absurd (cc same)
+finishes-done place a b h outcome.Done below occurs is same stands =
+    done-steps place a b h stands (takes-step place RxDone outcome.Done a b below (λ e. absurd (cc e)) occurs is)
+finishes-done place a b h result below occurs is same stands = absurd (cc same)
 
-pub finishes-none : (place : ℕ) (a b : List StationState) (h : HostState) (result : StepOutcome) → place < length a
-    → IsAdapter (world_at a place).adapter
-    → Answers RxDone true (world_at a place).memory (world_at a place).adapter (stepped_of result (world_at a place).adapter)
-    → b ≡ stations_after place (Steps RxDone true (stepped_of result (world_at a place).adapter)) a → result ≢ outcome.Done
+pub finishes-none : (place : ℕ) (a b : List StationState) (h : HostState) (result : Outcome (Unit {0})) → place < length a
+    → Occurs (Steps RxDone true (framed result (world_at a place).adapter)) (world_at a place)
+    → b ≡ stations_after place (Steps RxDone true (framed result (world_at a place).adapter)) a → result ≢ outcome.Done
     → CanBeDrained h (world_at a place) → StepsOn 0 place [] (connected h a) (connected h b)
-finishes-none place a b h outcome.Nothing below adapter answers is other stands =
-    let takes = takes-step place RxDone stepped.Nothing a b below (λ e. absurd (cc e)) adapter answers is in
+finishes-none place a b h outcome.Nothing below occurs is other stands =
+    let takes = takes-step place RxDone outcome.Nothing a b below (λ e. absurd (cc e)) occurs is in
     idle-steps place RxDone a b h (inr refl) stands takes (ap (λ (w : World). w.adapter) takes.world)
-finishes-none place a b h outcome.Done below adapter answers is other stands = absurd (other refl)
-finishes-none place a b h result below adapter answers is other stands = absurd answers
+finishes-none place a b h outcome.Done below occurs is other stands = absurd (other refl)
+finishes-none place a b h result below occurs is other stands = absurd occurs.1
 
 -- After it no frame is in work.
-pub finishes-free : (place : ℕ) (a b : List StationState) (result : StepOutcome) → place < length a
-    → IsAdapter (world_at a place).adapter
-    → Answers RxDone true (world_at a place).memory (world_at a place).adapter (stepped_of result (world_at a place).adapter)
-    → b ≡ stations_after place (Steps RxDone true (stepped_of result (world_at a place).adapter)) a
+pub finishes-free : (place : ℕ) (a b : List StationState) (result : Outcome (Unit {0})) → place < length a
+    → Occurs (Steps RxDone true (framed result (world_at a place).adapter)) (world_at a place)
+    → b ≡ stations_after place (Steps RxDone true (framed result (world_at a place).adapter)) a
     → (world_at b place).adapter.receiver.work ≡ None
-finishes-free place a b outcome.Done below adapter answers is =
-    let takes = takes-step place RxDone stepped.Done a b below (λ e. absurd (cc e)) adapter answers is in
+finishes-free place a b outcome.Done below occurs is =
+    let takes = takes-step place RxDone outcome.Done a b below (λ e. absurd (cc e)) occurs is in
     ap (λ (w : World). w.adapter.receiver.work) takes.world
-finishes-free place a b outcome.Nothing below adapter answers is =
-    let takes = takes-step place RxDone stepped.Nothing a b below (λ e. absurd (cc e)) adapter answers is in
-    ap (λ (w : World). w.adapter.receiver.work) takes.world ∙ answers
-finishes-free place a b result below adapter answers is = absurd answers
+finishes-free place a b outcome.Nothing below occurs is =
+    let takes = takes-step place RxDone outcome.Nothing a b below (λ e. absurd (cc e)) occurs is in
+    ap (λ (w : World). w.adapter.receiver.work) takes.world ∙ occurs.1
+finishes-free place a b result below occurs is = absurd occurs.1
 
 -- A frame is moved out of the packet buffer.
 
@@ -221,7 +217,7 @@ some-buffered [] some = absurd (some refl)
 some-buffered (frame ∷ frames) some = omega arith
 
 moved-steps : (place : ℕ) (a b : List StationState) (h : HostState) → CanBeDrained h (world_at a place)
-    → (world_at a place).adapter.receiver.work ≡ None → TakesStep place RxData stepped.Moved a b
+    → (world_at a place).adapter.receiver.work ≡ None → TakesStep place RxData outcome.Moved a b
     → StepsOn 1 place [] (connected h a) (connected h b)
 moved-steps place a b h stands free takes =
     let before = work-none (world_at a place).adapter.receiver.work free in
@@ -233,39 +229,37 @@ moved-steps place a b h stands free takes =
     ap (λ (w : World). count_buffered w) takes.world ∙ length-drop 1 (world_at a place).adapter.receiver.buffer in
     let pending = before.1 (count_line (world_at a place).adapter.causes) in
     let pending' = behind.1 (count_line (world_at b place).adapter.causes) in
-    step-on 1 1 place RxData stepped.Moved a b h (inl refl) stands takes refl (omega (arith, some, fewer))
+    step-on 1 1 place RxData outcome.Moved a b h (inl refl) stands takes refl (omega (arith, some, fewer))
     (ap (λ (w : World). w.adapter.filter) takes.world) (omega (arith, before.0, behind.0, some, fewer, pending, pending'))
     (omega (arith, before.0, behind.0, some, fewer))
 
-pub moves-frame : (place : ℕ) (a b : List StationState) (h : HostState) (result : StepOutcome) → place < length a
-    → IsAdapter (world_at a place).adapter
-    → Answers RxData true (world_at a place).memory (world_at a place).adapter (stepped_of result (world_at a place).adapter)
-    → b ≡ stations_after place (Steps RxData true (stepped_of result (world_at a place).adapter)) a → result ≡ outcome.Moved
+pub moves-frame : (place : ℕ) (a b : List StationState) (h : HostState) (result : Outcome (Unit {0})) → place < length a
+    → Occurs (Steps RxData true (framed result (world_at a place).adapter)) (world_at a place)
+    → b ≡ stations_after place (Steps RxData true (framed result (world_at a place).adapter)) a → result ≡ outcome.Moved
     → CanBeDrained h (world_at a place) → (world_at a place).adapter.receiver.work ≡ None
     → StepsOn 1 place [] (connected h a) (connected h b)
-moves-frame place a b h outcome.Moved below adapter answers is same stands free =
-    moved-steps place a b h stands free (takes-step place RxData stepped.Moved a b below (λ e. absurd (cc e)) adapter answers is)
-moves-frame place a b h result below adapter answers is same stands free = absurd (cc same)
+moves-frame place a b h outcome.Moved below occurs is same stands free =
+    moved-steps place a b h stands free (takes-step place RxData outcome.Moved a b below (λ e. absurd (cc e)) occurs is)
+moves-frame place a b h result below occurs is same stands free = absurd (cc same)
 
 -- Nothing is moved: then there was no frame to move, as no fault stops an engine that goes on.
 pub record MovesNone (place : ℕ) (a b : List StationState) (h : HostState) : Type 0 where
   pub on : StepsOn 0 place [] (connected h a) (connected h b)
-  pub takes : TakesStep place RxData stepped.Nothing a b
+  pub takes : TakesStep place RxData outcome.Nothing a b
   pub same : (world_at b place).adapter ≡ (world_at a place).adapter
 
-pub moves-none : (place : ℕ) (a b : List StationState) (h : HostState) (result : StepOutcome) → place < length a
-    → IsAdapter (world_at a place).adapter
-    → Answers RxData true (world_at a place).memory (world_at a place).adapter (stepped_of result (world_at a place).adapter)
-    → b ≡ stations_after place (Steps RxData true (stepped_of result (world_at a place).adapter)) a → result ≢ outcome.Moved
+pub moves-none : (place : ℕ) (a b : List StationState) (h : HostState) (result : Outcome (Unit {0})) → place < length a
+    → Occurs (Steps RxData true (framed result (world_at a place).adapter)) (world_at a place)
+    → b ≡ stations_after place (Steps RxData true (framed result (world_at a place).adapter)) a → result ≢ outcome.Moved
     → CanBeDrained h (world_at a place) → MovesNone place a b h
-moves-none place a b h outcome.Nothing below adapter answers is other stands =
-    let takes = takes-step place RxData stepped.Nothing a b below (λ e. absurd (cc e)) adapter answers is in
+moves-none place a b h outcome.Nothing below occurs is other stands =
+    let takes = takes-step place RxData outcome.Nothing a b below (λ e. absurd (cc e)) occurs is in
     let same = ap (λ (w : World). w.adapter) takes.world in
     record { on = idle-steps place RxData a b h (inl refl) stands takes same; takes = takes; same = same }
-moves-none place a b h outcome.Fault below adapter answers is other stands =
-    let takes = takes-step place RxData stepped.Fault a b below (λ e. absurd (cc e)) adapter answers is in
-    let runs = (step-runs place RxData stepped.Fault a b h stands takes).flows.flows.ready.law.runs.receiver_runs in
+moves-none place a b h outcome.Fault below occurs is other stands =
+    let takes = takes-step place RxData outcome.Fault a b below (λ e. absurd (cc e)) occurs is in
+    let runs = (step-runs place RxData outcome.Fault a b h stands takes).flows.driver.ready.law.runs.receiver_runs in
     let stopped = ap (λ (w : World). w.adapter.receiver.stopped) takes.world in
     let contrary : true ≡ false = sym stopped ∙ runs in absurd (cc contrary)
-moves-none place a b h outcome.Moved below adapter answers is other stands = absurd (other refl)
-moves-none place a b h result below adapter answers is other stands = absurd answers
+moves-none place a b h outcome.Moved below occurs is other stands = absurd (other refl)
+moves-none place a b h result below occurs is other stands = absurd occurs.1

@@ -1,5 +1,6 @@
 -- What an interrupt handler answers, put together.
-use Rattle.std.proofs.Common.{◌≡◌, ◌⊎◌, ◌++◌, ◌∷◌, [], ℕ, true, List, Option, inl, inr, sym, ap, subst, ◌∙◌, append_assoc}
+use Rattle.std.proofs.Common.{◌≡◌, ◌⊎◌, ◌++◌, ◌∷◌, [], ℕ, true, List, Option, inl, inr, refl, sym, ap, subst, ◌∙◌, append_assoc}
+use Rattle.std.specs.Prelude.{◌↔◌}
 use Rattle.std.specs.List.{All}
 use Rattle.registers.specs.Bits.{HasBit, Meet, union}
 use Rattle.registers.specs.Laws.{HasBit-union}
@@ -26,9 +27,8 @@ use Rattle.stations.specs.declared.lent_bus.LentBus.{LentBus}
 use Rattle.driver.specs.declared.interrupt.Handled.{Handled}
 use Rattle.driver.specs.declared.interrupt.Handled.TheVariants.{NotMine}
 use Rattle.driver.specs.declared.interrupt.Handled.TheVariants as answers
-use Rattle.packet_socket.specs.HeldFrames.{HostReady}
+use Rattle.packet_socket.specs.HostCalls.{HostHandles, HostHandlesBy, HostReady, driver_at, host_at}
 use Rattle.driver.specs.HandlerSteps.{Asked}
-use Rattle.packet_socket.specs.HostCalls.{HostHandles, HostHandlesBy, driver_at, host_at}
 use Rattle.packet_socket.specs.HostState.{HostState}
 use Rattle.host_calls.proofs.FirstAccess.{first-access}
 use Rattle.host_calls.proofs.QuietEvents.{common, leaves-alone, meets, quiet-events, quiet-steps}
@@ -103,17 +103,25 @@ by-answer a m h h' asked NotMine early b ready behind run =
 by-answer a m h h' asked (answers.Handled taken) early b ready behind run =
     mine-answer a.host early a.stations.now b asked.causes run behind.some
 
+-- The answer is that of the causes read.
+by-causes : (a m : LentBus) (h h' : HostState) (asked : Asked lent true (driver_at lent (host_at a h))) (result : Handled)
+    → HostHandlesBy lent result (host_at a h) (host_at m h') asked
+    → ((result ≡ NotMine) ↔ (¬ (Meet asked.causes handled_causes)))
+by-causes a m h h' asked NotMine behind = (λ is. behind.leaves.none, λ none. refl)
+by-causes a m h h' asked (answers.Handled taken) behind = (λ is. absurd (cc), λ none. absurd (none behind.some))
+
 pub calls-tell_causes : (a m b : LentBus) (h h' : HostState) (result : Handled) (past : Past) (more : List Access)
-    → HostReady h (world_here a) → (handles : HostHandles lent result true (host_at a h) (host_at m h')) → (told : Retells a b past)
+    → HostReady h (world_here a) → (handles : HostHandles lent result true (host_at a h) (host_at m h')) → (retells : Retells a b past)
     → past.accesses ≡ Reads ICR handles.asked.causes ∷ more
-    → TellsCauses a.host told.steps handles.asked.causes (world_here a).adapter.causes.recorded result
-calls-tell_causes a m b h h' result past more ready handles told reads =
-    let only = sym (ap (λ (p : Past). p.accesses) told.past_is) ∙ reads in
+    → TellsCauses a.host retells.steps handles.asked.causes (world_here a).adapter.causes.recorded result
+calls-tell_causes a m b h h' result past more ready handles retells reads =
+    let only = sym (ap (λ (p : Past). p.accesses) retells.past_is) ∙ reads in
     let causes = handles.asked.causes in
-    let first = first-access a.host told.steps a.stations.now b.stations.now (Reads ICR causes) more told.leads only in
+    let first = first-access a.host retells.steps a.stations.now b.stations.now (Reads ICR causes) more retells.leads only in
     record {
       early = first.early;
       first = record { later = first.later; split = first.split; ticks = first.ticks };
+      not_mine = by-causes a m h h' handles.asked result handles.then_does;
       answer =
           by-answer a m h h' handles.asked result first.early first.middle ready handles.then_does
           (record {
@@ -125,10 +133,10 @@ calls-tell_causes a m b h h' result past more ready handles told reads =
 
 pub answers-tell_causes : (a m : LentBus) (h h' : HostState) (result : Handled) → HostReady h (world_here a)
     → (handles : HostHandles lent result true (host_at a h) (host_at m h'))
-    → TellsCauses a.host handles.asked.reads.told.steps handles.asked.causes (world_here a).adapter.causes.recorded result
+    → TellsCauses a.host handles.asked.reads.reports.steps handles.asked.causes (world_here a).adapter.causes.recorded result
 answers-tell_causes a m h h' result ready handles =
     let reads = handles.asked.reads in
-    calls-tell_causes a m handles.asked.after_read h h' result reads.past [] ready handles reads.told reads.only
+    calls-tell_causes a m handles.asked.after_read h h' result reads.past [] ready handles reads.reports reads.only
 
 pub first-reads_stay : (caller : ℕ) (steps early more : List AtomicStep) (causes : ℕ) → ReadsIcrFirst caller steps early causes
     → ReadsIcrFirst caller (steps ++ more) early causes

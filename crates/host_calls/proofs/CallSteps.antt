@@ -27,9 +27,8 @@ use Rattle.stations.specs.Stations.{StationState, world_at}
 use Rattle.stations.proofs.HostTrails.{trail-of}
 use Rattle.stations.specs.AtomicRuns.{LeadsTo, events_at, events_by, is_go, past_at}
 use Rattle.delivery.specs.Happenings.{happened_in}
-use Rattle.packet_socket.specs.HostState.{HostState}
-use Rattle.packet_socket.specs.HostStretches.{Given, did, given_for}
-use Rattle.packet_socket.specs.SocketsState.{all_of, queue_at}
+use Rattle.packet_socket.specs.HostState.{HostState, all_of, queue_at}
+use Rattle.packet_socket.specs.HostCalls.{Given, did, given_for}
 use Rattle.packet_socket.specs.declared.receive.RecvError.{RecvError}
 use Rattle.packet_socket.specs.declared.receive.RecvError.TheVariants.{Empty, NoSocket}
 use Rattle.host_calls.specs.InterruptCauses.{ReadsIcrFirst}
@@ -93,10 +92,10 @@ flows place n played a b h h' taken given leads none runs fits fits' known =
     let stored = nothing-stored place place played a b 0 leads none in
     let past = past_at place played in
     let all = queues-flow n h (world_at a place) h' (world_at b place) taken given past.stored runs.flows.accounts
-    runs.flows.flows.holds fits fits' in
+    runs.flows.driver.holds fits fits' in
     record {
       ring = held-flows taken (frames_held h'.driver.oldest_receive (world_at b place))
-          (frames_held h.driver.oldest_receive (world_at a place)) past.stored runs.flows.flows.holds stored;
+          (frames_held h.driver.oldest_receive (world_at a place)) past.stored runs.flows.driver.holds stored;
       queues = omega (arith, all, known);
     }
 
@@ -169,13 +168,13 @@ pub handled-steps : (result : Handled) (place : ℕ) (a b : List StationState) (
     → Meet (world_at a place).adapter.causes.recorded (world_at a place).adapter.causes.mask
     → StepsOn 1 place [] (connected h a) (connected h' b)
 handled-steps result place a b before behind accesses h h' runs free meets =
-    let told = runs.runs.are_told in
-    let recorded = clears place runs.runs.steps runs.tells.early a b h.driver.layout runs.causes told.leads told.played
+    let of_call = runs.runs.of_call in
+    let recorded = clears place runs.runs.steps runs.tells.early a b h.driver.layout runs.causes of_call.leads of_call.played
     runs.runs.runs.accesses runs.tells.first in
     let causes = (world_at b place).adapter.causes in
     let none : bit_and causes.recorded causes.mask ≡ 0 =
     ap (λ (r : ℕ). bit_and r causes.mask) recorded ∙ and_zero_l causes.mask in
-    one-call place (length h.queues + length h'.queues) runs.runs.steps a b h h' runs.taken [] told.leads told.played runs.runs.runs
+    one-call place (length h.queues + length h'.queues) runs.runs.steps a b h h' runs.taken [] of_call.leads of_call.played runs.runs.runs
     (omega arith) (omega arith) (omega arith) free (omega arith) (omega (arith, none, meets))
 
 -- A frame that is given.
@@ -190,12 +189,12 @@ pub given-steps : (place socket : ℕ) (frame : List ℕ) (a b : List StationSta
     → CallRuns (played_call place [] before behind accesses) (did [] (given_by socket (Ok frame)) []) made (connected h a) (connected h' b)
     → (world_at a place).adapter.receiver.work ≡ None → StepsOn 1 place (given_by socket (Ok frame)) (connected h a) (connected h' b)
 given-steps place socket frame a b before behind accesses h h' made runs free =
-    let told = runs.are_told in
+    let of_call = runs.of_call in
     let n = length h.queues + (length h'.queues + (socket + 1)) in
-    let calm = quiet place runs.steps a b h.driver.layout told.leads told.played runs.runs.accesses in
+    let calm = quiet place runs.steps a b h.driver.layout of_call.leads of_call.played runs.runs.accesses in
     let line = line-stays (world_at a place).adapter (world_at b place).adapter calm.engine in
     let known = given-sum n (record { socket = socket; frame = frame }) (omega arith) in
-    one-call place n runs.steps a b h h' [] (given_by socket (Ok frame)) told.leads told.played runs.runs
+    one-call place n runs.steps a b h h' [] (given_by socket (Ok frame)) of_call.leads of_call.played runs.runs
     (omega arith) (omega arith) (omega (arith, known)) free (omega arith) (omega (arith, line))
 
 -- One was given, as one waited.
@@ -203,7 +202,7 @@ pub not-refused : (result : Result (List ℕ) RecvError) (error : RecvError) (so
     → AnswersRecv result socket h world → socket < length h.kinds → queue_at h.queues socket ≢ [] → result ≡ Err error → ⊥
 not-refused result Empty socket h world answers known some is =
     some (Rattle.bus.proofs.Lists.map-empty
-    (Rattle.packet_socket.specs.HeldFrames.waiting_frame h.driver.layout world.memory) (queue_at h.queues socket)
+    (Rattle.packet_socket.specs.HostCalls.waiting_frame h.driver.layout world.memory) (queue_at h.queues socket)
     (answers.empty.0 is).1)
 not-refused result NoSocket socket h world answers known some is =
     let none = answers.no_socket.0 is in omega (arith, none, known)

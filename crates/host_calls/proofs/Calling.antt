@@ -16,12 +16,11 @@ use Rattle.stations.specs.AtomicRunLaws.{leads_join, past_join}
 use Rattle.stations.specs.AtomicRuns.{LeadsTo, past_at}
 use Rattle.stations.specs.Retelling.{Finished, Retells, world_here}
 use Rattle.stations.specs.declared.lent_bus.LentBus.{LentBus}
-use Rattle.driver_law.proofs.Stretches.{work_kept}
-use Rattle.driver_law.specs.Stretches.{HasNoForgottenWork, IsRefilled}
-use Rattle.packet_socket.proofs.Stretches.{host-flows-join, host-happens}
-use Rattle.packet_socket.specs.HeldFrames.{HostReady, driver_of}
+use Rattle.driver_law.proofs.Stretches.{flows_join, work_kept}
+use Rattle.driver_law.specs.Calls.{FlowsTo, HasNoForgottenWork, IsRefilled}
+use Rattle.packet_socket.proofs.Stretches.{host-happens, host-join}
+use Rattle.packet_socket.specs.HostCalls.{Given, HostDid, HostFlowsTo, HostGoesTo, HostReady, did, driver_of, in_world}
 use Rattle.packet_socket.specs.HostState.{HostState}
-use Rattle.packet_socket.specs.HostStretches.{Given, HostDid, HostFlowsTo, HostGoesTo, did, in_world}
 use Rattle.delivery.proofs.Laws.{lent-calls, outcomes-tell}
 use Rattle.delivery.specs.TickNumbers.{numbers}
 use Rattle.host_calls.specs.CallsOfHosts.{CallRuns, HostRuns, IsOfDriver, OnlyLastWrites}
@@ -39,12 +38,12 @@ pub flows-of : (h : HostState) (a : World) (h' : HostState) (b : World) (taken :
     (accepted : List (List ℕ)) (past : Past)
     → HostGoesTo true (in_world h a) (in_world h' b) (did taken given accepted) past
     → HostFlowsTo true (in_world h a) (in_world h' b) (did taken given accepted) past
-flows-of h a h' b taken given accepted past goes = record { sizes = goes.sizes; flows = goes.goes.flows; accounts = goes.accounts }
+flows-of h a h' b taken given accepted past goes = record { sizes = goes.sizes; driver = goes.driver.flows; accounts = goes.accounts }
 
 pub ready-behind : (h : HostState) (a : World) (h' : HostState) (b : World) (taken : List (List ℕ)) (given : List Given)
     (accepted : List (List ℕ)) (past : Past)
     → HostFlowsTo true (in_world h a) (in_world h' b) (did taken given accepted) past → HostReady h' b
-ready-behind h a h' b taken given accepted past flows = record { sizes = flows.sizes; ready = flows.flows.ready }
+ready-behind h a h' b taken given accepted past flows = record { sizes = flows.sizes; ready = flows.driver.ready }
 
 -- No work is forgotten over a stretch in which ICR isn't read.
 pub work-goes : (h : HostState) (a : World) (h' : HostState) (b : World) (taken : List (List ℕ)) (given : List Given)
@@ -52,7 +51,7 @@ pub work-goes : (h : HostState) (a : World) (h' : HostState) (b : World) (taken 
     → HostGoesTo true (in_world h a) (in_world h' b) (did taken given accepted) past
     → HasNoForgottenWork h.driver a → HasNoForgottenWork h'.driver b
 work-goes h a h' b taken given accepted past goes work =
-    work-unheld h' b b (work_kept (driver_of h a) (driver_of h' b) a b taken accepted past goes.goes (work-held h a a work))
+    work-unheld h' b b (work_kept (driver_of h a) (driver_of h' b) a b taken accepted past goes.driver (work-held h a a work))
 
 -- A host over which the law holds alone.
 pub runs-alone : (k : ℕ) (steps : List AtomicStep) (a b : List StationState) (h : HostState) → HostReady h (world_at a k)
@@ -80,8 +79,8 @@ runs-join k first later a b c h1 h2 h3 t1 t2 given more s1 s2 counts one two = r
   flows =
       subst (HostFlowsTo true (in_world h1 (world_at a k)) (in_world h3 (world_at c k)) (did (t1 ++ t2) (given ++ more) (s1 ++ s2)))
       (sym (past_join k first later))
-      (host-flows-join (in_world h1 (world_at a k)) (in_world h2 (world_at b k)) (in_world h3 (world_at c k)) (did t1 given s1)
-      (did t2 more s2) (past_at k first) (past_at k later) one.flows two.flows);
+      (host-join (FlowsTo true) (FlowsTo true) flows_join (in_world h1 (world_at a k)) (in_world h2 (world_at b k))
+      (in_world h3 (world_at c k)) (did t1 given s1) (did t2 more s2) (past_at k first) (past_at k later) one.flows two.flows);
   accesses =
       subst (λ (past : Past). All (IsOfDriver h1.driver.layout) past.accesses) (sym (past_join k first later))
       (All-append (IsOfDriver h1.driver.layout) (past_at k first).accesses (past_at k later).accesses one.accesses
@@ -92,7 +91,7 @@ runs-join k first later a b c h1 h2 h3 t1 t2 given more s1 s2 counts one two = r
 }
 
 -- Ticks after a call add no access.
-whole-accesses : (k : ℕ) (first last : List AtomicStep) → (past_at k last).accesses ≡ []
+pub whole-accesses : (k : ℕ) (first last : List AtomicStep) → (past_at k last).accesses ≡ []
     → (past_at k (first ++ last)).accesses ≡ (past_at k first).accesses
 whole-accesses k first last none =
     ap (λ (past : Past). past.accesses) (past_join k first last)
@@ -106,7 +105,7 @@ lent_call a b = played_call a.host a.ticks.now a.outcomes.now b.outcomes.now b.a
 -- A call of which the lent bus tells, and the ticks that are left.
 pub call-runs_by : (a m b : LentBus) (past : Past) (h h' : HostState) (taken : List (List ℕ)) (given : List Given)
     (accepted : List (List ℕ)) (made : List Access → Type 0)
-    → a.accesses ≡ 0 → (told : Retells a m past)
+    → a.accesses ≡ 0 → (retells : Retells a m past)
     → HostFlowsTo true (in_world h (world_here a)) (in_world h' (world_here m)) (did taken given accepted) past
     → All (IsOfDriver h.driver.layout) past.accesses → OnlyLastWrites past.accesses → made past.accesses
     → (HasNoForgottenWork h.driver (world_here a) → HasNoForgottenWork h'.driver (world_here m))
@@ -114,13 +113,13 @@ pub call-runs_by : (a m b : LentBus) (past : Past) (h h' : HostState) (taken : L
     → (h.driver.staged ≡ [] → h'.driver.staged ≡ [])
     → (finished : Finished m b)
     → ((runs : CallRuns (lent_call a b) (did taken given accepted) made (connected h a.stations.now) (connected h' b.stations.now))
-    × (runs.steps ≡ told.steps ++ finished.plays.steps))
-call-runs_by a m b past h h' taken given accepted made zero told flows accesses writes makes work refilled offered finished =
-    let first = told.steps in
+    × (runs.steps ≡ retells.steps ++ finished.plays.steps))
+call-runs_by a m b past h h' taken given accepted made zero retells flows accesses writes makes work refilled offered finished =
+    let first = retells.steps in
     let last = finished.plays.steps in
-    let leads = leads_join a.host first last a.stations.now m.stations.now b.stations.now told.leads (finished.plays.leads a.host) in
-    let host = told.lent.host in
-    let call = lent-calls a m b past told finished zero in
+    let leads = leads_join a.host first last a.stations.now m.stations.now b.stations.now retells.leads (finished.plays.leads a.host) in
+    let host = retells.lent.host in
+    let call = lent-calls a m b past retells finished zero in
     let tells = outcomes-tell a.host a.ticks.now past.accesses first last a.stations.now m.stations.now b.stations.now call.plays in
     let here : HostRuns a.host first (did taken given accepted) (connected h a.stations.now) (connected h' m.stations.now) =
     subst (λ (w : World). (HostFlowsTo true (in_world h (world_here a)) (in_world h' w) (did taken given accepted) past)
@@ -129,13 +128,13 @@ call-runs_by a m b past h h' taken given accepted made zero told flows accesses 
     (ap (λ (k : ℕ). world_at m.stations.now k) (sym host))
     (λ f w. record {
       flows = subst (HostFlowsTo true (in_world h (world_here a)) (in_world h' (world_at m.stations.now a.host))
-          (did taken given accepted)) told.past_is f;
-      accesses = subst (λ (p : Past). All (IsOfDriver h.driver.layout) p.accesses) told.past_is accesses;
+          (did taken given accepted)) retells.past_is f;
+      accesses = subst (λ (p : Past). All (IsOfDriver h.driver.layout) p.accesses) retells.past_is accesses;
       work = w;
       refilled = refilled;
       offered = offered;
     }) flows work in
-    let counts : h'.driver.layout ≡ h.driver.layout = flows.flows.layout in
+    let counts : h'.driver.layout ≡ h.driver.layout = flows.driver.layout in
     let same_accesses = sym (whole-accesses a.host first last (none-alone a.host last finished.plays.are)) in
     let ready = ready-behind h (world_at a.stations.now a.host) h' (world_at m.stations.now a.host) taken given accepted
     (past_at a.host first) here.flows in
@@ -147,7 +146,7 @@ call-runs_by a m b past h h' taken given accepted made zero told flows accesses 
     let Whole = λ (done : HostDid). HostRuns a.host (first ++ last) done (connected h a.stations.now) (connected h' b.stations.now) in (
       record {
         steps = first ++ last;
-        are_told = record {
+        of_call = record {
           leads = leads;
           played = tells.played;
           noted = call.noted;
@@ -163,8 +162,8 @@ call-runs_by a m b past h h' taken given accepted made zero told flows accesses 
             (subst (λ (list : List (List ℕ)). Whole (did (taken ++ []) (given ++ []) list)) (append-nil accepted) whole));
         last_writes =
             subst OnlyLastWrites same_accesses
-            (subst (λ (p : Past). OnlyLastWrites p.accesses) told.past_is writes);
-        makes = subst made same_accesses (subst (λ (p : Past). made p.accesses) told.past_is makes);
+            (subst (λ (p : Past). OnlyLastWrites p.accesses) retells.past_is writes);
+        makes = subst made same_accesses (subst (λ (p : Past). made p.accesses) retells.past_is makes);
       },
       refl,
     )
@@ -179,8 +178,8 @@ pub call-runs : (a m b : LentBus) (past : Past) (h h' : HostState) (taken : List
     → (h.driver.staged ≡ [] → h'.driver.staged ≡ [])
     → Finished m b
     → CallRuns (lent_call a b) (did taken given accepted) made (connected h a.stations.now) (connected h' b.stations.now)
-call-runs a m b past h h' taken given accepted made zero told flows accesses writes makes work refilled offered finished =
-    (call-runs_by a m b past h h' taken given accepted made zero told flows accesses writes makes work refilled offered finished).0
+call-runs a m b past h h' taken given accepted made zero retells flows accesses writes makes work refilled offered finished =
+    (call-runs_by a m b past h h' taken given accepted made zero retells flows accesses writes makes work refilled offered finished).0
 
 -- Every other host.
 pub others-run : (caller k : ℕ) (steps : List AtomicStep) (a b : List StationState) (h : HostState) → k ≢ caller

@@ -10,8 +10,8 @@ use Rattle.descriptors.specs.RingLaws.{place}
 use Rattle.bus.proofs.Lists.{all-none}
 use Rattle.bus.specs.declared.event.Access.{Access}
 use Rattle.bus.specs.declared.event.Access.TheVariants.{Loads, Reads, Stores, Writes}
-use Rattle.driver_law.specs.Accesses.{last_load, send_accesses, stores_from, tail_buffer, tail_slot, tail_write, takes_from}
-use Rattle.driver_law.specs.Accesses.{transmit_loads, whole_descriptor}
+use Rattle.driver_law.specs.Calls.{last_load, send_accesses, stores_from, tail_buffer, tail_slot, tail_write, takes_from, transmit_loads}
+use Rattle.driver_law.specs.Calls.{whole_descriptor}
 use Rattle.driver_law.specs.DriverState.{DriverState, buffer_at, next_receive, receive_slot, transmit_slot, transmit_tail}
 use Rattle.driver.specs.HandlerSteps.{handled_accesses}
 use Rattle.driver.specs.SendSteps.{SendAnswer, accesses_by, slots_looked_at}

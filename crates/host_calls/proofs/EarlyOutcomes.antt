@@ -11,7 +11,7 @@ use Rattle.bus.specs.declared.event.Access.TheVariants.{Reads}
 use Rattle.bus.specs.declared.event.Event.TheVariants.{Accesses, Arrives, Steps}
 use Rattle.stations.specs.AtomicSteps.{At, AtomicStep, Idles, outcome_of}
 use Rattle.stations.specs.declared.outcomes.Numbered.{Numbered}
-use Rattle.stations.specs.declared.tick.Outcome.{Outcome}
+use Rattle.adapter.specs.Outcomes.{FrameOutcome}
 use Rattle.stations.proofs.TickLoops.{counted-ticks}
 use Rattle.stations.specs.AtomicRunLaws.{noted_join}
 use Rattle.stations.specs.AtomicRuns.{IsTick, counted_of, most_accesses, noted_of}
@@ -22,7 +22,7 @@ abbrev bears_zero : Numbered → Bool
 bears_zero one = one.accesses == 0
 
 -- After an access none does.
-skipped : (n : ℕ) (outcome : Outcome) (rest : List Numbered) → 0 < n
+skipped : (n : ℕ) (outcome : FrameOutcome) (rest : List Numbered) → 0 < n
     → filter bears_zero ((let one : Numbered = record { accesses = n; outcome = outcome } in one) ∷ rest) ≡ filter bears_zero rest
 skipped n outcome rest some =
     let one : Numbered = record { accesses = n; outcome = outcome } in

@@ -18,11 +18,10 @@ use Rattle.bus.specs.declared.event.Event.{Event}
 use Rattle.bus.specs.Trails.{Trail}
 use Rattle.driver.specs.declared.receiver.Received.{Received}
 use Rattle.driver_law.specs.DriverState.{HandedOut, buffer_at, numbers_of, owners}
-use Rattle.packet_socket.specs.HeldFrames.{driver_of, held_for_socket, socket_frames, waiting_entry, waiting_frame, without_socket}
-use Rattle.packet_socket.specs.HostState.{HostState}
-use Rattle.packet_socket.specs.HostStretches.{Given, given_for}
+use Rattle.packet_socket.specs.HostCalls.{Given, driver_of, given_for, held_for_socket, socket_frames, waiting_entry, waiting_frame}
+use Rattle.packet_socket.specs.HostCalls.{without_socket}
+use Rattle.packet_socket.specs.HostState.{HostState, all_of, queue_at}
 use Rattle.packet_socket.specs.QueueLaws.{queue-within}
-use Rattle.packet_socket.specs.SocketsState.{all_of, queue_at}
 use Rattle.stations.specs.Stations.{StationState, backlog_at, wire_at, world_at}
 use Rattle.stations.proofs.HostTrails.{trail-of}
 use Rattle.stations.specs.AtomicRuns.{past_at}
@@ -194,7 +193,7 @@ drains steps place a b h h' given on none stands adapter =
     let stored : past.stored ≡ [] = nothing-stored place place on.played a b on.moves.count on.leads on.moves.moved in
     let gone : past.put ≡ [] = sym moves.put ∙ ap (put place) on.moves.moved ∙ moves-put place on.moves.count place in
     let lost : past.missed ≡ 0 = sym moves.missed ∙ ap (missed place) on.moves.moved ∙ moves-missed place on.moves.count place in
-    let flows = on.runs.flows.flows in
+    let flows = on.runs.flows.driver in
     let small = adapter.registers.counters.missed in
     let accounts = on.runs.flows.accounts in
     let behind = held-counted h'.driver.oldest_receive two in

@@ -8,7 +8,7 @@ use Rattle.bus.specs.PastOfStretch.{Past}
 use Rattle.bus.specs.Trails.{IsAnswered, past_of}
 use Rattle.bus.specs.declared.event.Access.{Access}
 use Rattle.bus.specs.declared.event.Event.TheVariants.{Accesses, Arrives, Steps}
-use Rattle.solo_bus.proofs.SoloAccesses.{no_access}
+use Rattle.bus.proofs.StepsThenAccess.{no_access}
 use Rattle.stations.specs.AtomicSteps.{At, AtomicStep, CanHappen, Idles, after}
 use Rattle.stations.specs.Stations.{StationState, world_at}
 use Rattle.stations.proofs.HostTrails.{steps-alone}

@@ -13,7 +13,7 @@ use Rattle.stations.specs.AtomicSteps.{At, AtomicStep, Idles, after}
 use Rattle.stations.specs.Stations.{StationState, world_at}
 use Rattle.stations.proofs.HostTrails.{steps-alone, trail-of}
 use Rattle.stations.specs.AtomicRuns.{IsOfCall, IsTick, LeadsTo, events_at, past_at}
-use Rattle.solo_bus.proofs.SoloAccesses.{no_access}
+use Rattle.bus.proofs.StepsThenAccess.{no_access}
 
 -- another host makes no access in a call
 elsewhere : (caller k host : ℕ) (event : Event) → k ≢ caller → IsOfCall caller (At host event) → (later : List Event) → All IsStep later

@@ -16,18 +16,15 @@ use Rattle.stations.specs.RetellingLaws.{retells_join}
 use Rattle.stations.specs.declared.lent_bus.LentBus.{LentBus}
 use Rattle.driver_law.proofs.Places.{place-below}
 use Rattle.driver_law.specs.DriverState.{HandedOut, next_receive, numbers_of}
-use Rattle.driver_law.specs.Stretches.{IsRefilled}
-use Rattle.driver.specs.HandlerSteps.{IfHandled, handled_accesses}
-use Rattle.driver.specs.TakenFrames.{GrowsBy, frames_of, received_of}
+use Rattle.driver_law.specs.Calls.{IsRefilled}
+use Rattle.driver.specs.HandlerSteps.{GrowsBy, IfHandled, OnlyReceives, frames_of, handled_accesses, received_of}
 use Rattle.driver.specs.declared.receiver.Received.{Received}
 use Rattle.driver.specs.declared.interrupt.Handled.{Handled}
 use Rattle.driver.specs.declared.interrupt.Handled.TheVariants.{NotMine}
 use Rattle.driver.specs.declared.interrupt.Handled.TheVariants as answers
-use Rattle.packet_socket.specs.HeldFrames.{HostReady, without_socket}
-use Rattle.packet_socket.specs.HostCalls.{HostHandles, HostServes, host_at}
+use Rattle.packet_socket.specs.HostCalls.{HostHandles, HostReady, HostServes, host_at, unclaimed_of, without_socket}
 use Rattle.packet_socket.specs.HostState.{HostState}
 use Rattle.packet_socket.specs.SocketKinds.{has_none}
-use Rattle.packet_socket.specs.SocketsState.{unclaimed_of}
 use Rattle.packet_socket.specs.declared.socket_kind.SocketKind.{SocketKind}
 use Rattle.host_calls.specs.CallAnswers.{InterruptRuns, MakesInterrupt}
 use Rattle.host_calls.specs.CallsOfHosts.{IsOfDriver, OnlyLastWrites}
@@ -59,7 +56,12 @@ tells-on : (caller : ℕ) (first last steps : List AtomicStep) (causes recorded 
     → TellsCauses caller first causes recorded result → steps ≡ first ++ last → TellsCauses caller steps causes recorded result
 tells-on caller first last steps causes recorded result tells is =
     subst (λ (list : List AtomicStep). TellsCauses caller list causes recorded result) (sym is)
-    (record { early = tells.early; first = first-reads_stay caller first tells.early last causes tells.first; answer = tells.answer })
+    (record {
+      early = tells.early;
+      first = first-reads_stay caller first tells.early last causes tells.first;
+      not_mine = tells.not_mine;
+      answer = tells.answer;
+    })
 
 leaves-runs : (a m b : LentBus) (h h' : HostState) → a.accesses ≡ 0 → HostReady h (world_here a)
     → HostHandles lent NotMine true (host_at a h) (host_at m h') → Finished m b
@@ -68,8 +70,8 @@ leaves-runs a m b h h' zero ready handles finished =
     let leaves = handles.then_does in
     let past = handles.asked.reads.past in
     let only = handles.asked.reads.only in
-    let told = subst (λ (bus : LentBus). Retells a bus past) (sym leaves.leaves.still) handles.asked.reads.told in
-    let made = call-runs_by a m b past h h' [] [] [] (MakesInterrupt NotMine h h') zero told leaves.flows
+    let retells = subst (λ (bus : LentBus). Retells a bus past) (sym leaves.leaves.still) handles.asked.reads.reports in
+    let made = call-runs_by a m b past h h' [] [] [] (MakesInterrupt NotMine h h') zero retells leaves.flows
     (subst (λ (accesses : List Access). All (IsOfDriver h.driver.layout) accesses) (sym only)
     (causes-of_driver h.driver.layout handles.asked.causes))
     (subst OnlyLastWrites (sym only) tt)
@@ -83,8 +85,8 @@ leaves-runs a m b h h' zero ready handles finished =
       taken = [];
       runs = made.0;
       causes = handles.asked.causes;
-      tells = tells-on a.host told.steps finished.plays.steps made.0.steps handles.asked.causes (world_here a).adapter.causes.recorded
-          NotMine (calls-tell_causes a m m h h' NotMine past [] ready handles told only) made.1;
+      tells = tells-on a.host retells.steps finished.plays.steps made.0.steps handles.asked.causes (world_here a).adapter.causes.recorded
+          NotMine (calls-tell_causes a m m h h' NotMine past [] ready handles retells only) made.1;
       answer = record { stays = leaves.stays; none = refl };
     }
 
@@ -102,38 +104,39 @@ split-at taken rest whole n is count = record {
 }
 
 works-runs : (a m b : LentBus) (h h' : HostState) (n : ℕ) → a.accesses ≡ 0 → HostReady h (world_here a) → IsRefilled h'.driver
-    → h'.driver.staged ≡ [] → HostHandles lent (answers.Handled n) true (host_at a h) (host_at m h') → Finished m b
+    → h'.driver.staged ≡ [] → OnlyReceives h.driver h'.driver → HostHandles lent (answers.Handled n) true (host_at a h) (host_at m h')
+    → Finished m b
     → InterruptRuns (lent_call a b) (answers.Handled n) (connected h a.stations.now) (connected h' b.stations.now)
-works-runs a m b h h' n zero ready refilled offered handles finished =
+works-runs a m b h h' n zero ready refilled offered only_receives handles finished =
     let it = handles.then_does in
     let works = it.works in
     let served = works.served in
     let past = handles.asked.reads.past in
     let only = handles.asked.reads.only in
     let own = h.driver.layout in
-    let counts = it.flows.flows.layout in
-    let driver = it.flows.flows.ready.driver_is in
+    let counts = it.flows.driver.layout in
+    let driver = it.flows.driver.ready.driver_is in
     let below : next_receive h'.driver < h'.driver.layout.rx =
     place-below h'.driver.layout.rx h'.driver.oldest_receive (length h'.driver.buffers + length h'.driver.staged) driver.oldest_slot in
-    let driver_accesses = handles-of_driver own h.driver served.misses (numbers_of works.taken) served.rest served.offered
+    let driver_accesses = handles-of_driver own h.driver works.misses.misses (numbers_of works.taken) served.rest served.offered
     (next_receive h'.driver) (subst (λ (c : Counts). next_receive h'.driver < c.rx) counts below) in
-    let told = retells_join a handles.asked.after_read m past works.ran.past handles.asked.reads.told works.ran.told in
+    let retells = retells_join a handles.asked.after_read m past works.ran.past handles.asked.reads.reports works.ran.reports in
     let oldest = split-at (numbers_of works.taken) served.rest h.driver.buffers n served.oldest
     (length-map works.taken (λ (one : HandedOut). one.number) ∙ works.count) in
     let handled = λ (taken rest : List ℕ).
-    Reads ICR handles.asked.causes ∷ handled_accesses h.driver served.misses taken rest served.offered (next_receive h'.driver) in
+    Reads ICR handles.asked.causes ∷ handled_accesses h.driver works.misses.misses taken rest served.offered (next_receive h'.driver) in
     let made = call-runs_by a m b (joined past works.ran.past) h h' (frames_of works.taken) [] []
-    (MakesInterrupt (answers.Handled n) h h') zero told it.flows
+    (MakesInterrupt (answers.Handled n) h h') zero retells it.flows
     (All-append (IsOfDriver own) past.accesses works.ran.past.accesses
     (subst (λ (accesses : List Access). All (IsOfDriver own) accesses) (sym only) (causes-of_driver own handles.asked.causes))
     (subst (λ (accesses : List Access). All (IsOfDriver own) accesses) (sym works.ran.only) driver_accesses))
     (subst OnlyLastWrites (ap (λ (accesses : List Access). accesses ++ works.ran.past.accesses) (sym only))
     (subst OnlyLastWrites (sym works.ran.only)
-    (handles-last h.driver served.misses (numbers_of works.taken) served.rest served.offered (next_receive h'.driver))))
+    (handles-last h.driver works.misses.misses (numbers_of works.taken) served.rest served.offered (next_receive h'.driver))))
     (record {
       causes = handles.asked.causes;
-      misses = served.misses;
       missed = works.misses;
+      no_bad = served.no_bad;
       enough = oldest.enough;
       offered = served.offered;
       newest = served.newest ∙ ap (λ (rest : List ℕ). rest ++ (h.driver.staged ++ served.offered)) (sym oldest.dropped);
@@ -149,21 +152,22 @@ works-runs a m b h h' n zero ready refilled offered handles finished =
       taken = frames_of works.taken;
       runs = made.0;
       causes = handles.asked.causes;
-      tells = tells-on a.host told.steps finished.plays.steps made.0.steps handles.asked.causes (world_here a).adapter.causes.recorded
+      tells = tells-on a.host retells.steps finished.plays.steps made.0.steps handles.asked.causes (world_here a).adapter.causes.recorded
           (answers.Handled n)
-          (calls-tell_causes a m m h h' (answers.Handled n) (joined past works.ran.past) works.ran.past.accesses ready handles told
+          (calls-tell_causes a m m h h' (answers.Handled n) (joined past works.ran.past) works.ran.past.accesses ready handles retells
           (ap (λ (accesses : List Access). accesses ++ works.ran.past.accesses) only)) made.1;
       answer = record {
         count = length-map works.taken (λ (one : HandedOut). one.frame) ∙ works.count;
         least = it.least;
         unclaimed = taken-unclaimed h.kinds works.taken h.unclaimed h'.unclaimed works.sorted.unclaimed;
+        only_receives = only_receives;
       };
     }
 
 pub interrupt-runs : (a m b : LentBus) (h h' : HostState) (result : Handled) → a.accesses ≡ 0 → HostReady h (world_here a)
-    → IfHandled result (HostServes h h')
+    → OnlyReceives h.driver h'.driver → IfHandled result (HostServes h h')
     → HostHandles lent result true (host_at a h) (host_at m h') → Finished m b
     → InterruptRuns (lent_call a b) result (connected h a.stations.now) (connected h' b.stations.now)
-interrupt-runs a m b h h' NotMine zero ready serves handles finished = leaves-runs a m b h h' zero ready handles finished
-interrupt-runs a m b h h' (answers.Handled n) zero ready serves handles finished =
-    works-runs a m b h h' n zero ready serves.refilled serves.offered handles finished
+interrupt-runs a m b h h' NotMine zero ready only_receives serves handles finished = leaves-runs a m b h h' zero ready handles finished
+interrupt-runs a m b h h' (answers.Handled n) zero ready only_receives serves handles finished =
+    works-runs a m b h h' n zero ready serves.refilled serves.offered only_receives handles finished

@@ -16,7 +16,7 @@ use Rattle.stations.specs.AtomicRuns.{IsTick, LeadsTo, events_at, events_by, pas
 use Rattle.delivery.proofs.Laws.{frames-move}
 use Rattle.delivery.specs.Happenings.{Happening, Moved, happened_by, happened_in, missed, put, reached, stored, toward}
 use Rattle.packet_socket.specs.HostState.{HostState}
-use Rattle.packet_socket.specs.HostStretches.{Given}
+use Rattle.packet_socket.specs.HostCalls.{Given}
 use Rattle.host_calls.proofs.Calling.{ready-behind, runs-alone, runs-join}
 use Rattle.host_calls.proofs.HostTrails.{happens-alone, none-alone}
 use Rattle.host_calls.specs.DrainedHosts.{CanBeDrained, IsDrainStep}
@@ -60,7 +60,7 @@ steps-join m n place a b c h1 h2 h3 given more one two =
       leads = leads_join place one.played two.played a b c one.leads two.leads;
       only = All-append (IsDrainStep place) one.played two.played one.only two.only;
       taken = one.taken ++ two.taken;
-      runs = runs-join place one.played two.played a b c h1 h2 h3 one.taken two.taken given more [] [] one.runs.flows.flows.layout
+      runs = runs-join place one.played two.played a b c h1 h2 h3 one.taken two.taken given more [] [] one.runs.flows.driver.layout
           one.runs two.runs;
       moves = record {
         count = one.moves.count + two.moves.count;

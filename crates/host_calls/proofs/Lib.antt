@@ -1,6 +1,7 @@
 pub mod HostTrails
 pub mod DriversAccesses
 pub mod Calling
+pub mod Retellings
 pub mod Sending
 pub mod Receiving
 pub mod Interrupting

@@ -17,8 +17,8 @@ use Rattle.adapter.specs.Steps.{ticked}
 use Rattle.adapter.specs.Transmitting.{TakeAnswers}
 use Rattle.adapter.specs.World.{World}
 use Rattle.adapter.specs.declared.step.StepKind.TheVariants.{EepromTick, PhyTick, RxData, RxDone, TxPut, TxTake}
-use Rattle.adapter.specs.declared.step.Stepped.{Stepped}
-use Rattle.adapter.specs.declared.step.Stepped.TheVariants.{Done, Fault, Moved, Nothing, Put, Ticked, Took, WireFull}
+use Rattle.adapter.specs.Outcomes.{FrameOutcome}
+use Rattle.adapter.specs.declared.outcome.Outcome.TheVariants.{Done, Fault, Moved, Nothing, Put, Took, WireFull}
 use Rattle.bring_up.specs.WrittenRegisters.{handled_causes}
 use Rattle.bus.proofs.Lists.{all-head, all-none, all-right, all-tail}
 use Rattle.bus.proofs.TrailCauses.{recorded_causes_stay}
@@ -28,9 +28,8 @@ use Rattle.bus.specs.Trails.{IsStep, Trail, past_of, world_after}
 use Rattle.bus.specs.declared.event.Access.{Access}
 use Rattle.bus.specs.declared.event.Event.{Event}
 use Rattle.bus.specs.declared.event.Event.TheVariants.{Accesses, Arrives, Steps}
-use Rattle.solo_bus.proofs.SoloAccesses.{no_access}
+use Rattle.bus.proofs.StepsThenAccess.{no_access}
 use Rattle.stations.specs.AtomicSteps.{At, AtomicStep, Idles, outcome_of_event}
-use Rattle.stations.specs.Outcomes.{outcome_of_step}
 use Rattle.stations.specs.AtomicRuns.{events_at}
 use Rattle.host_calls.specs.InterruptCauses.{IsQuietOutcome, IsQuietStep}
 
@@ -61,31 +60,23 @@ front-reports (queued ∷ later) more all = all-head Reports queued (later ++ mo
 
 -- What kinds of steps don't do.
 
-take-quiet : (memory : List ℕ) (state : AdapterState) (answer : Stepped) → TakeAnswers memory state answer
-    → IsQuietOutcome (outcome_of_step answer)
+take-quiet : (memory : List ℕ) (state : AdapterState) (answer : FrameOutcome) → TakeAnswers memory state answer
+    → IsQuietOutcome answer
 take-quiet memory state Took answers = tt
-take-quiet memory state (Put frame) answers = absurd answers
-take-quiet memory state WireFull answers = tt
-take-quiet memory state Moved answers = tt
-take-quiet memory state Done answers = absurd answers
-take-quiet memory state Ticked answers = tt
 take-quiet memory state Nothing answers = tt
 take-quiet memory state Fault answers = tt
+take-quiet memory state _ answers = absurd answers
 
-data-quiet : (memory : List ℕ) (state : AdapterState) (answer : Stepped) → DataAnswers memory state answer
-    → IsQuietOutcome (outcome_of_step answer)
-data-quiet memory state Took answers = tt
-data-quiet memory state (Put frame) answers = absurd answers
-data-quiet memory state WireFull answers = tt
+data-quiet : (memory : List ℕ) (state : AdapterState) (answer : FrameOutcome) → DataAnswers memory state answer
+    → IsQuietOutcome answer
 data-quiet memory state Moved answers = tt
-data-quiet memory state Done answers = absurd answers
-data-quiet memory state Ticked answers = tt
 data-quiet memory state Nothing answers = tt
 data-quiet memory state Fault answers = tt
+data-quiet memory state _ answers = absurd answers
 
-tick-quiet : (has_work : Bool) (answer : Stepped) → answer ≡ ticked has_work → IsQuietOutcome (outcome_of_step answer)
-tick-quiet true answer is = subst (λ (s : Stepped). IsQuietOutcome (outcome_of_step s)) (sym is) tt
-tick-quiet false answer is = subst (λ (s : Stepped). IsQuietOutcome (outcome_of_step s)) (sym is) tt
+tick-quiet : (has_work : Bool) (answer : FrameOutcome) → answer ≡ ticked has_work → IsQuietOutcome answer
+tick-quiet true answer is = subst (λ (s : FrameOutcome). IsQuietOutcome s) (sym is) tt
+tick-quiet false answer is = subst (λ (s : FrameOutcome). IsQuietOutcome s) (sym is) tt
 
 -- One event, if its causes would be seen at the end.
 quiet-event : (event : Event) (later : List Event) (a b : World) (oldest_receive oldest_transmit : ℕ) → IsStep event
@@ -100,22 +91,13 @@ quiet-event (Steps PhyTick wire_free answer) later a b r t is leaves trail sound
 quiet-event (Steps TxPut wire_free (Put frame)) later a b r t is leaves trail sound none =
     let asks = front-reports a.adapter.transmitter.buffer _ sound.reports in
     absurd (none (meets b.adapter.causes.recorded 0 ((recorded_causes_stay later a b leaves).put wire_free frame trail asks) refl))
-quiet-event (Steps TxPut wire_free Done) later a b r t is leaves trail sound none = absurd trail.0.1
-quiet-event (Steps TxPut wire_free Took) later a b r t is leaves trail sound none = tt
 quiet-event (Steps TxPut wire_free WireFull) later a b r t is leaves trail sound none = tt
-quiet-event (Steps TxPut wire_free Moved) later a b r t is leaves trail sound none = tt
-quiet-event (Steps TxPut wire_free Ticked) later a b r t is leaves trail sound none = tt
 quiet-event (Steps TxPut wire_free Nothing) later a b r t is leaves trail sound none = tt
-quiet-event (Steps TxPut wire_free Fault) later a b r t is leaves trail sound none = tt
+quiet-event (Steps TxPut wire_free _) later a b r t is leaves trail sound none = absurd trail.0.1
 quiet-event (Steps RxDone wire_free Done) later a b r t is leaves trail sound none =
     absurd (none (meets b.adapter.causes.recorded 7 ((recorded_causes_stay later a b leaves).done wire_free trail) refl))
-quiet-event (Steps RxDone wire_free (Put frame)) later a b r t is leaves trail sound none = absurd trail.0.1
-quiet-event (Steps RxDone wire_free Took) later a b r t is leaves trail sound none = tt
-quiet-event (Steps RxDone wire_free WireFull) later a b r t is leaves trail sound none = tt
-quiet-event (Steps RxDone wire_free Moved) later a b r t is leaves trail sound none = tt
-quiet-event (Steps RxDone wire_free Ticked) later a b r t is leaves trail sound none = tt
 quiet-event (Steps RxDone wire_free Nothing) later a b r t is leaves trail sound none = tt
-quiet-event (Steps RxDone wire_free Fault) later a b r t is leaves trail sound none = tt
+quiet-event (Steps RxDone wire_free _) later a b r t is leaves trail sound none = absurd trail.0.1
 quiet-event (Arrives frame Missed) later a b r t is leaves trail sound none =
     absurd (none (meets b.adapter.causes.recorded 6 ((recorded_causes_stay later a b leaves).missed frame trail) refl))
 quiet-event (Arrives frame Off) later a b r t is leaves trail sound none = tt

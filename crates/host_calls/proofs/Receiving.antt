@@ -13,17 +13,15 @@ use Rattle.stations.specs.Retelling.{Finished, world_here}
 use Rattle.stations.specs.RetellingLaws.{retells_none}
 use Rattle.stations.specs.declared.lent_bus.LentBus.{LentBus}
 use Rattle.driver_law.proofs.Places.{place-below}
-use Rattle.driver_law.specs.DriverState.{next_receive}
-use Rattle.driver_law.specs.Stretches.{IsRefilled}
+use Rattle.driver_law.specs.DriverState.{next_receive, with_owners}
+use Rattle.driver_law.specs.Calls.{IsRefilled}
 use Rattle.packet_socket.proofs.Stretches.{host-happens}
-use Rattle.packet_socket.specs.HeldFrames.{HostReady, waiting_frames}
-use Rattle.packet_socket.specs.HostCalls.{LeavesQueue, Receives, Returns, ReturnsBy, host_at, receive_accesses}
-use Rattle.packet_socket.specs.HostState.{HostState}
-use Rattle.packet_socket.specs.HostStretches.{HostGoesTo, did, in_world}
-use Rattle.packet_socket.specs.SocketsState.{queue_at}
+use Rattle.packet_socket.specs.HostCalls.{HostGoesTo, HostReady, LeavesQueue, Receives, Returns, ReturnsBy, did, host_at, in_world}
+use Rattle.packet_socket.specs.HostCalls.{receive_accesses, waiting_frames}
+use Rattle.packet_socket.specs.HostState.{HostState, queue_at}
 use Rattle.packet_socket.specs.declared.receive.RecvError.{RecvError}
 use Rattle.packet_socket.specs.declared.receive.RecvError.TheVariants.{Empty, NoSocket}
-use Rattle.driver.specs.TakenFrames.{IsFrameSize}
+use Rattle.driver.specs.HandlerSteps.{IsFrameSize}
 use Rattle.driver.specs.declared.receiver.Received.{Received}
 use Rattle.host_calls.specs.LentCalls.{lent}
 use Rattle.host_calls.specs.CallAnswers.{AnswersRecv, LeavesRecv, MakesRecv, frame_in, given_by}
@@ -41,12 +39,12 @@ recv-runs a m b h h' socket size bytes zero ready long receives refilled offered
     let ran = receives.ran.ran in
     let given = given_by socket (Ok bytes) in
     let goes : HostGoesTo true (in_world h (world_here a)) (in_world h' (world_here m)) (did [] given []) ran.past =
-    record { sizes = receives.ran.sizes; goes = ran.goes; accounts = receives.ran.accounts } in
+    record { sizes = receives.ran.sizes; driver = ran.goes; accounts = receives.ran.accounts } in
     let counts = ran.goes.flows.layout in
     let driver = ran.goes.flows.ready.driver_is in
     let below : next_receive h'.driver < h'.driver.layout.rx =
     place-below h'.driver.layout.rx h'.driver.oldest_receive (length h'.driver.buffers + length h'.driver.staged) driver.oldest_slot in
-    call-runs a m b ran.past h h' [] given [] (MakesRecv (Ok bytes) socket h h') zero ran.told
+    call-runs a m b ran.past h h' [] given [] (MakesRecv (Ok bytes) socket h h') zero ran.reports
     (flows-of h (world_here a) h' (world_here m) [] given [] ran.past goes)
     (subst (λ (accesses : List Access). All (IsOfDriver h.driver.layout) accesses) (sym ran.only)
     (receives-of_driver h.driver.layout h.driver h'.driver receives.received.buffer size receives.offered
@@ -85,9 +83,9 @@ queue-empty : (h : HostState) (socket : ℕ) (world : World) (queue : List Recei
     → ((queue ≡ []) ↔ (waiting_frames h socket world ≡ []))
 queue-empty h socket world queue is = (
   λ (none : queue ≡ []). ap (λ (list : List Received). Rattle.std.proofs.Common.map
-      (Rattle.packet_socket.specs.HeldFrames.waiting_frame h.driver.layout world.memory) list) (is ∙ none),
+      (Rattle.packet_socket.specs.HostCalls.waiting_frame h.driver.layout world.memory) list) (is ∙ none),
   λ (none : waiting_frames h socket world ≡ []). sym is ∙ Rattle.bus.proofs.Lists.map-empty
-      (Rattle.packet_socket.specs.HeldFrames.waiting_frame h.driver.layout world.memory) (queue_at h.queues socket) none,
+      (Rattle.packet_socket.specs.HostCalls.waiting_frame h.driver.layout world.memory) (queue_at h.queues socket) none,
 )
 
 pub ok-answers : (a m : LentBus) (h h' : HostState) (socket size : ℕ) (bytes : List ℕ)
@@ -137,9 +135,14 @@ front-long : (size : ℕ) (bytes : List ℕ) → size ≤ length bytes → lengt
 front-long size bytes fits = grind (arith, common_steps)
 
 pub ok-leaves : (h h' : HostState) (socket size accesses : ℕ) (bytes : List ℕ) (received : Received) → size ≤ length bytes
-    → LeavesQueue h h' socket size received → LeavesRecv (Ok (take size bytes)) socket h h' accesses
-ok-leaves h h' socket size accesses bytes received fits leaves =
-    (received, subst (λ (n : ℕ). LeavesQueue h h' socket n received) (sym (front-long size bytes fits)) leaves)
+    → LeavesQueue h h' socket size received
+    → h' ≡ record h { driver = with_owners h.driver h'.driver.buffers [] h'.driver.pool []; queues = h'.queues }
+    → LeavesRecv (Ok (take size bytes)) socket h h' accesses
+ok-leaves h h' socket size accesses bytes received fits leaves others = record {
+  received = received;
+  leaves = subst (λ (n : ℕ). LeavesQueue h h' socket n received) (sym (front-long size bytes fits)) leaves;
+  others = others;
+}
 
 pub err-leaves : (a m b : LentBus) (h h' : HostState) (socket : ℕ) (error : RecvError) → a.accesses ≡ 0 → m ≡ a → h' ≡ h → Finished m b
     → LeavesRecv (Err error) socket h h' b.accesses
@@ -176,6 +179,7 @@ pub any-leaves : (a m b : LentBus) (h h' : HostState) (socket : ℕ) (result : R
     → Finished m b → LeavesRecv (frame_in into result) socket h h' b.accesses
 any-leaves a m b h h' socket (Ok size) before into zero long ok err finished =
     ok-leaves h h' socket size b.accesses into ok.received (let most = ok.legal.most in omega (arith, long, most)) ok.leaves
+    ok.others
 any-leaves a m b h h' socket (Err error) before into zero long ok err finished =
     err-leaves a m b h h' socket error zero err.0 err.1 finished
 

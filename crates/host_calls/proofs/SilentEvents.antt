@@ -13,17 +13,14 @@ use Rattle.adapter.specs.Steps.{ticked}
 use Rattle.adapter.specs.World.{World}
 use Rattle.adapter.specs.declared.step.StepKind.{StepKind}
 use Rattle.adapter.specs.declared.step.StepKind.TheVariants.{EepromTick, PhyTick, RxData, RxDone, TxPut, TxTake}
-use Rattle.adapter.specs.declared.step.Stepped.{Stepped}
-use Rattle.adapter.specs.declared.step.Stepped.TheVariants as stepped
+use Rattle.adapter.specs.Outcomes.{FrameOutcome}
+use Rattle.adapter.specs.declared.outcome.Outcome.TheVariants.{Nothing}
 use Rattle.bus.proofs.Lists.{all-head, all-none, all-tail}
 use Rattle.bus.specs.TrailCauses.{causes_by, causes_by_step, causes_by_tick, causes_in}
 use Rattle.bus.specs.Trails.{Occurs, Trail, world_after}
 use Rattle.bus.specs.declared.event.Event.{Event}
 use Rattle.bus.specs.declared.event.Event.TheVariants.{Accesses, Arrives, Steps}
 use Rattle.stations.specs.AtomicSteps.{At, AtomicStep, Idles, outcome_of_event}
-use Rattle.stations.specs.Outcomes.{outcome_of_step}
-use Rattle.stations.specs.declared.tick.Outcome.{Outcome}
-use Rattle.stations.specs.declared.tick.Outcome.TheVariants.{Delivered, Done, Fault, Moved, Nothing, Put, Ticked as DidTick, Took, WireFull}
 use Rattle.stations.specs.AtomicRuns.{events_at}
 use Rattle.host_calls.specs.InterruptCauses.{DidSomething}
 
@@ -31,34 +28,17 @@ use Rattle.host_calls.specs.InterruptCauses.{DidSomething}
 abbrev pub IsSilent : Event → Type 0
 IsSilent event = outcome_of_event event ≡ Nothing
 
-is-nothing : (outcome : Outcome) → (outcome ≡ Nothing) ⊎ (outcome ≢ Nothing)
-is-nothing Took = inr (λ same. absurd (cc same))
-is-nothing (Put frame) = inr (λ same. absurd (cc same))
-is-nothing WireFull = inr (λ same. absurd (cc same))
-is-nothing Moved = inr (λ same. absurd (cc same))
-is-nothing Done = inr (λ same. absurd (cc same))
-is-nothing (Delivered frame fate) = inr (λ same. absurd (cc same))
-is-nothing DidTick = inr (λ same. absurd (cc same))
+is-nothing : (outcome : FrameOutcome) → (outcome ≡ Nothing) ⊎ (outcome ≢ Nothing)
 is-nothing Nothing = inl refl
-is-nothing Fault = inr (λ same. absurd (cc same))
-
-answer-nothing : (answer : Stepped) → outcome_of_step answer ≡ Nothing → answer ≡ stepped.Nothing
-answer-nothing stepped.Took same = absurd (cc same)
-answer-nothing (stepped.Put frame) same = absurd (cc same)
-answer-nothing stepped.WireFull same = absurd (cc same)
-answer-nothing stepped.Moved same = absurd (cc same)
-answer-nothing stepped.Done same = absurd (cc same)
-answer-nothing stepped.Ticked same = absurd (cc same)
-answer-nothing stepped.Nothing same = refl
-answer-nothing stepped.Fault same = absurd (cc same)
+is-nothing _ = inr (λ same. absurd (cc same))
 
 -- A tick of the PHY without work tells nothing.
-silent-tick : (work : Bool) (tells : Ticked) → stepped.Nothing ≡ ticked work → causes_by_tick (if work then Some tells else None) ≡ 0
+silent-tick : (work : Bool) (tells : Ticked) → Nothing ≡ ticked work → causes_by_tick (if work then Some tells else None) ≡ 0
 silent-tick true tells same = absurd (cc same)
 silent-tick false tells same = refl
 
 silent-step : (kind : StepKind) (adapter : AdapterState)
-    → (kind ≡ PhyTick → stepped.Nothing ≡ ticked (has_work adapter.mdic adapter.phy)) → causes_by_step kind stepped.Nothing adapter ≡ 0
+    → (kind ≡ PhyTick → Nothing ≡ ticked (has_work adapter.mdic adapter.phy)) → causes_by_step kind Nothing adapter ≡ 0
 silent-step TxTake adapter tick = refl
 silent-step TxPut adapter tick = refl
 silent-step RxData adapter tick = refl
@@ -66,8 +46,8 @@ silent-step RxDone adapter tick = refl
 silent-step EepromTick adapter tick = refl
 silent-step PhyTick adapter tick = silent-tick (has_work adapter.mdic adapter.phy) _ (tick refl)
 
-no-tick : (kind : StepKind) (world : World) (wire_free : Bool) (answer : Stepped) → Occurs (Steps kind wire_free answer) world
-    → answer ≡ stepped.Nothing → kind ≡ PhyTick → stepped.Nothing ≡ ticked (has_work world.adapter.mdic world.adapter.phy)
+no-tick : (kind : StepKind) (world : World) (wire_free : Bool) (answer : FrameOutcome) → Occurs (Steps kind wire_free answer) world
+    → answer ≡ Nothing → kind ≡ PhyTick → Nothing ≡ ticked (has_work world.adapter.mdic world.adapter.phy)
 no-tick PhyTick world wire_free answer occurs nothing is = sym nothing ∙ occurs.1
 no-tick TxTake world wire_free answer occurs nothing is = absurd (cc is)
 no-tick TxPut world wire_free answer occurs nothing is = absurd (cc is)
@@ -77,9 +57,8 @@ no-tick EepromTick world wire_free answer occurs nothing is = absurd (cc is)
 
 silent-event : (event : Event) (world : World) → Occurs event world → IsSilent event → causes_by event world ≡ 0
 silent-event (Steps kind wire_free answer) world occurs silent =
-    let nothing = answer-nothing answer silent in
-    ap (λ (s : Stepped). causes_by_step kind s world.adapter) nothing
-    ∙ silent-step kind world.adapter (no-tick kind world wire_free answer occurs nothing)
+    ap (λ (s : FrameOutcome). causes_by_step kind s world.adapter) silent
+    ∙ silent-step kind world.adapter (no-tick kind world wire_free answer occurs silent)
 silent-event (Arrives frame fate) world occurs silent = absurd (cc silent)
 silent-event (Accesses access) world occurs silent = refl
 

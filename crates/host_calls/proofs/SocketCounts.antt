@@ -15,11 +15,9 @@ use Rattle.adapter.specs.Slots.{finished, in_work, slot_of_work}
 use Rattle.adapter.specs.World.{World}
 use Rattle.dma_memory.specs.Areas.{bytes_in}
 use Rattle.driver.specs.declared.receiver.Received.{Received}
-use Rattle.packet_socket.specs.HeldFrames.{socket_frames, waiting_frame, waiting_frames}
-use Rattle.packet_socket.specs.HostState.{HostState}
-use Rattle.packet_socket.specs.HostStretches.{Accounts, Given, given_for}
+use Rattle.packet_socket.specs.HostCalls.{Accounts, Given, given_for, socket_frames, waiting_frame, waiting_frames}
+use Rattle.packet_socket.specs.HostState.{HostState, all_of, queue_at}
 use Rattle.packet_socket.specs.SocketKinds.{goes_to, is_at, socket_of}
-use Rattle.packet_socket.specs.SocketsState.{all_of, queue_at}
 use Rattle.packet_socket.specs.declared.socket_kind.SocketKind.{SocketKind}
 
 -- Sums over sockets.

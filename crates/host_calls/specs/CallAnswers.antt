@@ -1,5 +1,5 @@
 -- What a call of a host answers, and which accesses it makes (our choice).
-use Rattle.std.specs.Prelude.{⊤, ◌≡◌, ◌↔◌, ◌≤◌, ◌<◌, ◌+◌, ◌++◌, ◌∷◌, [], ℕ, List, Result, Ok, Err, drop, length, take}
+use Rattle.std.specs.Prelude.{⊤, ◌≡◌, ◌↔◌, ◌≤◌, ◌<◌, ◌+◌, ◌-◌, ◌++◌, ◌∷◌, [], ℕ, List, Result, Ok, Err, drop, length, take}
 use Rattle.descriptors.specs.Frames.{longest_frame, shortest_sent}
 use Rattle.adapter.specs.HostFrames.{frames_to_send}
 use Rattle.adapter.specs.Slots.{finished, written_back}
@@ -7,25 +7,24 @@ use Rattle.adapter.specs.World.{World}
 use Rattle.adapter.specs.declared.offsets.TheConstants.{ICR}
 use Rattle.bus.specs.declared.event.Access.{Access}
 use Rattle.bus.specs.declared.event.Access.TheVariants.{Reads}
-use Rattle.driver_law.specs.DriverState.{next_receive}
-use Rattle.driver.specs.HandlerSteps.{AddsMisses, handled_accesses}
-use Rattle.driver.specs.SendSteps.{SendAnswer, HasWrongLength, accepted_by, accesses_by, with_transmit_slots}
+use Rattle.driver_law.specs.Calls.{send_accesses}
+use Rattle.driver_law.specs.DriverState.{next_receive, with_owners}
+use Rattle.driver.specs.HandlerSteps.{GrowsBy, OnlyReceives, ReadsMisses, handled_accesses}
+use Rattle.driver.specs.SendSteps.{SendAnswer, HasWrongLength, accepted_by, accesses_by, loads_to_free, with_transmit_slots}
 use Rattle.driver.specs.declared.transmit.SendError.TheVariants.{TooShort, TooLong, RingFull}
-use Rattle.driver.specs.TakenFrames.{GrowsBy}
 use Rattle.driver.specs.declared.interrupt.Handled.{Handled}
 use Rattle.driver.specs.declared.interrupt.Handled.TheVariants.{NotMine}
 use Rattle.driver.specs.declared.interrupt.Handled.TheVariants as answers
-use Rattle.packet_socket.specs.HostCalls.{LeavesQueue, receive_accesses}
-use Rattle.packet_socket.specs.HostState.{HostState}
-use Rattle.packet_socket.specs.HostStretches.{Given, did}
-use Rattle.packet_socket.specs.HeldFrames.{waiting_frames, without_socket}
-use Rattle.packet_socket.specs.SocketsState.{queue_at}
+use Rattle.packet_socket.specs.HostCalls.{Given, LeavesQueue, did, receive_accesses, waiting_frames, without_socket}
+use Rattle.packet_socket.specs.HostState.{HostState, queue_at}
 use Rattle.driver.specs.declared.receiver.Received.{Received}
 use Rattle.packet_socket.specs.declared.receive.RecvError.{RecvError}
 use Rattle.packet_socket.specs.declared.receive.RecvError.TheVariants.{Empty, NoSocket}
+use Rattle.stations.specs.AtomicRuns.{past_at}
+use Rattle.stations.specs.AtomicSteps.{AtomicStep}
 use Rattle.stations.specs.Stations.{world_at}
 use Rattle.host_calls.specs.InterruptCauses.{TellsCauses}
-use Rattle.host_calls.specs.CallsOfHosts.{CallRuns}
+use Rattle.host_calls.specs.CallsOfHosts.{CallRuns, StepsUpTo}
 use Rattle.host_calls.specs.ConnectedHosts.{ConnectedHost, PlayedCall}
 
 -- A frame was accepted. Each transmit slot that was written back when the call began is freed, and the frame's slot is outstanding.
@@ -38,11 +37,12 @@ FreesBy (Ok u) h h' world = FreesWrittenBack h h' world
 FreesBy (Err error) h h' world = ⊤
 
 -- Sending. A frame is too short exactly below 14 bytes, and too long exactly above 1,518. The ring is full only if, when the call began,
--- one frame fewer than it has slots was still to be sent.
+-- one frame fewer than it has slots was still to be sent; and then all slots but one are outstanding when the call ends.
 pub record AnswersSend (result : SendAnswer) (frame : List ℕ) (h h' : HostState) (world : World) : Type 0 where
   pub too_short : (result ≡ Err TooShort) ↔ (length frame < shortest_sent)
   pub too_long : (result ≡ Err TooLong) ↔ (longest_frame < length frame)
   pub full : result ≡ Err RingFull → length (frames_to_send world) + 1 ≡ h.driver.layout.tx
+  pub still_full : result ≡ Err RingFull → h'.driver.sending + 1 ≡ h.driver.layout.tx
   pub frees : FreesBy result h h' world
 
 -- the frame that the socket returned, if any
@@ -68,15 +68,23 @@ pub record AnswersRecv (result : Result (List ℕ) RecvError) (socket : ℕ) (h 
 
 -- What a call changes of its host, besides the frames.
 
--- Sending changes only which transmit slots are outstanding. For a frame that is too short or too long no access is made.
+-- Sending changes only which transmit slots are outstanding. For a frame that is too short or too long, the host is unchanged and no
+-- access is made.
 pub record LeavesSend (result : SendAnswer) (h h' : HostState) (accesses : ℕ) : Type 0 where
   pub others : h' ≡ record h { driver = with_transmit_slots h.driver h'.driver.oldest_transmit h'.driver.sending }
   pub unasked : HasWrongLength result → accesses ≡ 0
+  pub stays : HasWrongLength result → h' ≡ h
 
--- Receiving removes the oldest entry of the socket's queue, and changes nothing else of the sockets. If no frame is returned, the host is
--- unchanged and no access is made.
+-- A frame of this size was returned. The oldest entry of the socket's queue is removed, and nothing else of the sockets changes.
+pub record LeavesReturned (socket size : ℕ) (h h' : HostState) : Type 0 where
+  pub received : Received
+  pub leaves : LeavesQueue h h' socket size received
+  -- Of the driver only the owners of buffers change, and no slot is staged. So its transmit slots and its counts don't change.
+  pub others : h' ≡ record h { driver = with_owners h.driver h'.driver.buffers [] h'.driver.pool []; queues = h'.queues }
+
+-- Receiving, by the answer. If no frame is returned, the host is unchanged and no access is made.
 abbrev pub LeavesRecv : Result (List ℕ) RecvError → (socket : ℕ) → (h h' : HostState) → (accesses : ℕ) → Type 0
-LeavesRecv (Ok frame) socket h h' accesses = (received : Received) × LeavesQueue h h' socket (length frame) received
+LeavesRecv (Ok frame) socket h h' accesses = LeavesReturned socket (length frame) h h'
 LeavesRecv (Err error) socket h h' accesses = (h' ≡ h) × (accesses ≡ 0)
 
 -- Handling an interrupt took n frames, among them all that were finished when the call began. Those without a socket were counted, up to
@@ -85,6 +93,8 @@ pub record HandlesFrames (h h' : HostState) (world : World) (taken : List (List 
   pub count : length taken ≡ n
   pub least : length (finished h.driver.oldest_receive world) ≤ n
   pub unclaimed : GrowsBy h.unclaimed h'.unclaimed (without_socket h.kinds taken)
+  -- The transmit slots don't change.
+  pub only_receives : OnlyReceives h.driver h'.driver
 
 -- No cause was this host's. It is unchanged, and no frame was taken.
 pub record HandlesNone (h h' : HostState) (taken : List (List ℕ)) : Type 0 where
@@ -103,6 +113,28 @@ AnswersInterrupt (answers.Handled n) h h' world taken = HandlesFrames h h' world
 abbrev pub MakesSend : SendAnswer → (frame : List ℕ) → (h h' : HostState) → (accesses : List Access) → Type 0
 MakesSend result frame h h' accesses = accesses ≡ accesses_by result h.driver h'.driver frame
 
+-- From `oldest` on, this number of transmit slots is left. None of them is written back: each has a frame that is still to be sent.
+pub record AreLeft (oldest left : ℕ) (world : World) : Type 0 where
+  pub none : written_back oldest world ≡ []
+  pub frames : length (frames_to_send world) ≡ left
+
+-- Which slots a send of host k frees: those that are written back before its last load of a descriptor. `left` slots are left then, and
+-- `last` are the accesses after it.
+pub record SendFreesFirst (k left : ℕ) (last : List Access) (steps : List AtomicStep) (old new : ConnectedHost) : Type 0 where
+  -- One descriptor is loaded for each slot that is freed, and one for the first that isn't, if any is left.
+  pub loads : StepsUpTo k (loads_to_free old.host.driver left) steps old.stations
+  pub others : (past_at k loads.later).accesses ≡ last
+  pub are_left : AreLeft new.host.driver.oldest_transmit left (world_at loads.middle k)
+
+-- By the answer: after the freeing the frame is sent, or only ticks are played. For a frame that is too short or too long nothing is said
+-- here: no slot is freed then, since the host is unchanged (`stays` of `LeavesSend`).
+abbrev pub FreesFirstBy : SendAnswer → (k : ℕ) → (frame : List ℕ) → List AtomicStep → (old new : ConnectedHost) → Type 0
+FreesFirstBy (Ok u) k frame steps old new =
+    SendFreesFirst k (new.host.driver.sending - 1) (send_accesses old.host.driver frame) steps old new
+FreesFirstBy (Err TooShort) k frame steps old new = ⊤
+FreesFirstBy (Err TooLong) k frame steps old new = ⊤
+FreesFirstBy (Err RingFull) k frame steps old new = SendFreesFirst k new.host.driver.sending [] steps old new
+
 -- Receiving a frame of this size: it loads the frame from the buffer of the oldest entry of the socket's queue, then offers slots with
 -- these buffers.
 pub record MakesReceipt (socket size : ℕ) (h h' : HostState) (accesses : List Access) : Type 0 where
@@ -118,16 +150,16 @@ MakesRecv (Ok frame) socket h h' accesses = MakesReceipt socket (length frame) h
 MakesRecv (Err error) socket h h' accesses = accesses ≡ []
 
 -- Handling an interrupt for which it takes n slots: it reads ICR, then MPC, whose value it adds to the driver's sum. It takes the slots of
--- the n oldest buffers of the ring. Then it offers slots with the buffers `offered`.
+-- the n oldest buffers of the ring, none of which is bad. Then it offers slots with the buffers `offered`.
 pub record MakesHandling (n : ℕ) (h h' : HostState) (accesses : List Access) : Type 0 where
   pub causes : ℕ
-  pub misses : ℕ
-  pub missed : AddsMisses misses h.driver h'.driver
+  pub missed : ReadsMisses h.driver h'.driver
+  pub no_bad : h'.driver.bad ≡ h.driver.bad
   pub enough : n ≤ length h.driver.buffers
   pub offered : List ℕ
   pub newest : h'.driver.buffers ≡ drop n h.driver.buffers ++ (h.driver.staged ++ offered)
-  pub exact : accesses ≡ Reads ICR causes ∷ handled_accesses h.driver misses (take n h.driver.buffers) (drop n h.driver.buffers) offered
-      (next_receive h'.driver)
+  pub exact : accesses ≡ Reads ICR causes ∷ handled_accesses h.driver missed.misses (take n h.driver.buffers)
+      (drop n h.driver.buffers) offered (next_receive h'.driver)
 
 -- if no cause was this host's, it reads ICR only
 abbrev pub MakesInterrupt : Handled → (h h' : HostState) → (accesses : List Access) → Type 0
@@ -139,6 +171,7 @@ MakesInterrupt (answers.Handled n) h h' accesses = MakesHandling n h h' accesses
 -- A frame is sent.
 pub record SendRuns (call : PlayedCall) (frame : List ℕ) (result : SendAnswer) (old new : ConnectedHost) : Type 0 where
   pub runs : CallRuns call (did [] [] (accepted_by result frame)) (MakesSend result frame old.host new.host) old new
+  pub frees_first : FreesFirstBy result call.caller frame runs.steps old new
   pub answers : AnswersSend result frame old.host new.host (world_at old.stations call.caller)
   pub leaves : LeavesSend result old.host new.host call.accesses
 

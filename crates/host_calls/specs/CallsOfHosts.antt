@@ -5,11 +5,11 @@ use Rattle.dma_memory.specs.Layout.{Counts}
 use Rattle.bus.specs.declared.event.Access.{Access}
 use Rattle.bus.specs.declared.event.Access.TheVariants.{Loads, Reads, Stores, Writes}
 use Rattle.bus.specs.TickGroups.{without_go}
-use Rattle.stations.specs.AtomicSteps.{AtomicStep, tick_of}
+use Rattle.stations.specs.AtomicSteps.{AtomicStep, IsNoAccess, tick_of}
 use Rattle.stations.specs.Stations.{StationState, world_at}
 use Rattle.stations.specs.AtomicRuns.{LeadsTo, counted_of, is_go, noted_of, past_at}
-use Rattle.driver_law.specs.Stretches.{HasNoForgottenWork, IsRefilled}
-use Rattle.packet_socket.specs.HostStretches.{HostDid, HostFlowsTo, in_world}
+use Rattle.driver_law.specs.Calls.{HasNoForgottenWork, IsRefilled}
+use Rattle.packet_socket.specs.HostCalls.{HostDid, HostFlowsTo, in_world}
 use Rattle.delivery.specs.Happenings.{happened_in, told}
 use Rattle.delivery.specs.TickNumbers.{numbers, numbers_of}
 use Rattle.host_calls.specs.ConnectedHosts.{ConnectedHost, PlayedCall}
@@ -33,9 +33,26 @@ OnlyLastWrites (Writes offset value ∷ later) = later ≡ []
 OnlyLastWrites (Loads address size ∷ later) = OnlyLastWrites later
 OnlyLastWrites (Stores address bytes ∷ later) = OnlyLastWrites later
 
+-- no tick comes behind the last access
+abbrev pub EndsWithAccess : List AtomicStep → Type 0
+EndsWithAccess [] = ⊤
+EndsWithAccess (step ∷ []) = ¬ IsNoAccess step
+EndsWithAccess (step ∷ next ∷ later) = EndsWithAccess (next ∷ later)
+
+-- The atomic steps of a call of host k, up to the last of these accesses, its first ones; and the steps behind it.
+pub record StepsUpTo (k : ℕ) (accesses : List Access) (steps : List AtomicStep) (old : List StationState) : Type 0 where
+  pub first : List AtomicStep
+  pub later : List AtomicStep
+  pub split : steps ≡ first ++ later
+  pub made : (past_at k first).accesses ≡ accesses
+  pub ends : EndsWithAccess first
+  -- the stations right behind that access
+  pub middle : List StationState
+  pub leads : LeadsTo k first old middle
+
 -- Atomic steps lead from one state of all stations to another: those of some ticks, and accesses of one host. Each tick's outcome is noted
 -- after the others, with the number of accesses before it. So the list of what happened to frames follows from ticks and outcomes.
-pub record StepsAreTold (call : PlayedCall) (steps : List AtomicStep) (old new : List StationState) : Type 0 where
+pub record StepsOfCall (call : PlayedCall) (steps : List AtomicStep) (old new : List StationState) : Type 0 where
   pub leads : LeadsTo call.caller steps old new
   -- the steps that aren't accesses are the ticks that aren't Go, in order
   pub played : without_go is_go (map tick_of steps) ≡ without_go is_go call.ticks
@@ -57,7 +74,7 @@ pub record HostRuns (k : ℕ) (steps : List AtomicStep) (done : HostDid) (old ne
 -- A call of a host: the atomic steps that it and its ticks made, and what the host did. `made` says which accesses it makes, in order.
 pub record CallRuns (call : PlayedCall) (done : HostDid) (made : List Access → Type 0) (old new : ConnectedHost) : Type 0 where
   pub steps : List AtomicStep
-  pub are_told : StepsAreTold call steps old.stations new.stations
+  pub of_call : StepsOfCall call steps old.stations new.stations
   pub runs : HostRuns call.caller steps done old new
   pub last_writes : OnlyLastWrites (past_at call.caller steps).accesses
   -- these are all accesses of the call, so how many they are is `accesses`

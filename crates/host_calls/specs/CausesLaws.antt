@@ -10,8 +10,7 @@ use Rattle.stations.specs.AtomicRuns.{noted_of}
 use Rattle.stations.specs.Retelling.{Retells, world_here}
 use Rattle.stations.specs.declared.lent_bus.LentBus.{LentBus}
 use Rattle.driver.specs.declared.interrupt.Handled.{Handled}
-use Rattle.packet_socket.specs.HeldFrames.{HostReady}
-use Rattle.packet_socket.specs.HostCalls.{HostHandles, host_at}
+use Rattle.packet_socket.specs.HostCalls.{HostHandles, HostReady, host_at}
 use Rattle.packet_socket.specs.HostState.{HostState}
 use Rattle.host_calls.specs.InterruptCauses.{ReadsIcrFirst, TellsCauses}
 use Rattle.host_calls.specs.LentCalls.{lent}
@@ -22,15 +21,15 @@ abbrev pub AnswersTellCauses : Type 0
 AnswersTellCauses =
     (a m : LentBus) (h h' : HostState) (result : Handled) → HostReady h (world_here a)
     → (handles : HostHandles lent result true (host_at a h) (host_at m h'))
-    → TellsCauses a.host handles.asked.reads.told.steps handles.asked.causes (world_here a).adapter.causes.recorded result
+    → TellsCauses a.host handles.asked.reads.reports.steps handles.asked.causes (world_here a).adapter.causes.recorded result
 
 -- The same, for a list of accesses that goes on after that first part, as that of the whole call does.
 abbrev pub CallsTellCauses : Type 0
 CallsTellCauses =
     (a m b : LentBus) (h h' : HostState) (result : Handled) (past : Past) (more : List Access) → HostReady h (world_here a)
-    → (handles : HostHandles lent result true (host_at a h) (host_at m h')) → (told : Retells a b past)
+    → (handles : HostHandles lent result true (host_at a h) (host_at m h')) → (retells : Retells a b past)
     → past.accesses ≡ Reads ICR handles.asked.causes ∷ more
-    → TellsCauses a.host told.steps handles.asked.causes (world_here a).adapter.causes.recorded result
+    → TellsCauses a.host retells.steps handles.asked.causes (world_here a).adapter.causes.recorded result
 
 -- The first access is the first, whatever follows.
 abbrev pub FirstReadsStay : Type 0

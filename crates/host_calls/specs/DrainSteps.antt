@@ -9,9 +9,8 @@ use Rattle.stations.specs.AtomicSteps.{AtomicStep}
 use Rattle.stations.specs.Stations.{StationState, world_at}
 use Rattle.stations.specs.AtomicRuns.{LeadsTo, events_at}
 use Rattle.delivery.specs.Happenings.{Moved, happened_in}
-use Rattle.packet_socket.specs.HostState.{HostState}
-use Rattle.packet_socket.specs.HostStretches.{Given, did}
-use Rattle.packet_socket.specs.SocketsState.{all_of}
+use Rattle.packet_socket.specs.HostState.{HostState, all_of}
+use Rattle.packet_socket.specs.HostCalls.{Given, did}
 use Rattle.host_calls.specs.CallsOfHosts.{HostRuns}
 use Rattle.host_calls.specs.ConnectedHosts.{ConnectedHost}
 use Rattle.host_calls.specs.DrainedHosts.{IsDrainStep, count_adapter_steps, count_held}

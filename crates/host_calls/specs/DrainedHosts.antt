@@ -12,12 +12,10 @@ use Rattle.stations.specs.AtomicSteps.{At, AtomicStep, Idles}
 use Rattle.stations.specs.Stations.{StationState, backlog_at, world_at}
 use Rattle.stations.specs.AtomicRuns.{LeadsTo}
 use Rattle.delivery.specs.Happenings.{Moved, happened_in}
-use Rattle.driver_law.specs.Stretches.{HasNoForgottenWork, IsRefilled}
-use Rattle.driver.specs.TakenFrames.{GrowsBy}
-use Rattle.packet_socket.specs.HeldFrames.{HostReady, held_for_socket, without_socket}
-use Rattle.packet_socket.specs.HostState.{HostState}
-use Rattle.packet_socket.specs.HostStretches.{Given, did, given_for}
-use Rattle.packet_socket.specs.SocketsState.{all_of}
+use Rattle.driver_law.specs.Calls.{HasNoForgottenWork, IsRefilled}
+use Rattle.driver.specs.HandlerSteps.{GrowsBy}
+use Rattle.packet_socket.specs.HostCalls.{Given, HostReady, did, given_for, held_for_socket, without_socket}
+use Rattle.packet_socket.specs.HostState.{HostState, all_of}
 use Rattle.host_calls.specs.CallsOfHosts.{HostRuns}
 use Rattle.host_calls.specs.ConnectedHosts.{ConnectedHost}
 

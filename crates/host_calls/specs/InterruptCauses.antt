@@ -1,6 +1,6 @@
 -- What the answer of an interrupt handler says of the adapter whose handler it is (13.4.17 "Interrupt Cause Read Register"; that a
 -- handler is called over a lent bus is our choice).
-use Rattle.std.specs.Prelude.{⊤, ◌≡◌, ◌≢◌, ◌⊎◌, ◌++◌, ◌∷◌, ℕ, List, All}
+use Rattle.std.specs.Prelude.{⊤, ◌≡◌, ◌≢◌, ◌↔◌, ◌⊎◌, ◌++◌, ◌∷◌, ℕ, List, All}
 use Rattle.registers.specs.Bits.{Meet}
 use Rattle.rx_engine.specs.declared.arrival.Fate.TheVariants.{Missed}
 use Rattle.adapter.specs.declared.offsets.TheConstants.{ICR}
@@ -8,8 +8,8 @@ use Rattle.bus.specs.declared.event.Access.TheVariants.{Reads}
 use Rattle.bus.specs.declared.event.Event.{Event}
 use Rattle.bus.specs.declared.event.Event.TheVariants.{Accesses}
 use Rattle.stations.specs.AtomicSteps.{At, AtomicStep, Idles, outcome_of_event}
-use Rattle.stations.specs.declared.tick.Outcome.{Outcome}
-use Rattle.stations.specs.declared.tick.Outcome.TheVariants.{Delivered, Done, Nothing, Put}
+use Rattle.adapter.specs.Outcomes.{FrameOutcome}
+use Rattle.adapter.specs.declared.outcome.Outcome.TheVariants.{Delivered, Done, Nothing, Put}
 use Rattle.stations.specs.AtomicRuns.{IsTick}
 use Rattle.bring_up.specs.WrittenRegisters.{handled_causes}
 use Rattle.driver.specs.declared.interrupt.Handled.{Handled}
@@ -23,7 +23,7 @@ pub record ReadsIcrFirst (caller : ℕ) (steps early : List AtomicStep) (causes 
   pub ticks : All IsTick early
 
 -- no frame was put, missed or written back: nothing that sets TXDW, RXO or RXT0
-abbrev pub IsQuietOutcome : Outcome → Type 0
+abbrev pub IsQuietOutcome : FrameOutcome → Type 0
 IsQuietOutcome (Put frame) = ⊥
 IsQuietOutcome Done = ⊥
 IsQuietOutcome (Delivered frame Missed) = ⊥
@@ -52,4 +52,6 @@ AnswersCauses (answers.Handled taken) caller recorded early = Meet recorded hand
 pub record TellsCauses (caller : ℕ) (steps : List AtomicStep) (causes recorded : ℕ) (result : Handled) : Type 0 where
   pub early : List AtomicStep
   pub first : ReadsIcrFirst caller steps early causes
+  -- NotMine exactly if no cause that a driver handles was read
+  pub not_mine : (result ≡ NotMine) ↔ (¬ (Meet causes handled_causes))
   pub answer : AnswersCauses result caller recorded early

@@ -2,15 +2,14 @@
 
 ghost use Rattle.std.specs.Prelude.{◌≡◌, ◌≢◌, ◌≤◌, ◌<◌, ◌+◌, [], None, IfNone, IfSome, false, length, ℕ};
 ghost use Rattle.registers.specs.Bits.{Meet};
-ghost use Rattle.packet_socket.specs.HostState.{HostState};
-ghost use Rattle.packet_socket.specs.SocketsState.{all_of, queue_at};
+ghost use Rattle.packet_socket.specs.HostState.{HostState, all_of, queue_at};
 ghost use Rattle.stations.specs.Stations.{world_at};
 ghost use Rattle.host_calls.specs.DrainedHosts.{CanBeDrained, DrainsInto, HoldsNothing, count_held};
 ghost use Rattle.host_calls.specs.ConnectedHosts.{connected};
 ghost use Rattle.host_calls.specs.DrainSteps.{StepsInto, StepsOn, outlet, steps_of};
 
 use crate::Outlet;
-use adapter::{StepKind, StepOutcome};
+use adapter::{Outcome, StepKind};
 use packet_socket::Host;
 use stations::{Outcomes, Station, line_at, step_at};
 
@@ -81,10 +80,7 @@ fn finish(stations: &mut [Station], place: usize) -> bool
         → StepsOn (steps_of result) place [] (connected host stations.old) (connected host stations.new) }
     ensures free { (world_at stations.new place).adapter.receiver.work ≡ None }
 {
-    matches!(
-        step_at(stations, place, StepKind::RxDone),
-        StepOutcome::Done
-    )
+    matches!(step_at(stations, place, StepKind::RxDone), Outcome::Done)
 }
 
 /// The host handles an interrupt.
@@ -152,8 +148,5 @@ fn move_frame(host: &Host, stations: &mut [Station], place: usize) -> bool
     // Calls of the layout, so that the clauses may rest on its sizes: a slot at least is offered.
     let layout = host.layout();
     let _sizes = (layout.rx(), layout.buffers());
-    matches!(
-        step_at(stations, place, StepKind::RxData),
-        StepOutcome::Moved
-    )
+    matches!(step_at(stations, place, StepKind::RxData), Outcome::Moved)
 }

@@ -1,7 +1,7 @@
 // Who takes the frames of a host that is drained.
 
 ghost use Rattle.std.specs.Prelude.{◌≡◌, ◌≤◌, ◌<◌, ◌+◌, ◌++◌, ◌∷◌, [], ℕ, List};
-ghost use Rattle.packet_socket.specs.HostStretches.{Given};
+ghost use Rattle.packet_socket.specs.HostCalls.{Given};
 
 use descriptors::Frame;
 

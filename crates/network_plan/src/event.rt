@@ -7,7 +7,8 @@ use stations::Tick;
 /// order of the plan.
 #[derive(Debug, Drop)]
 pub enum Event {
-    /// A host sends a frame, of 14 to 1,518 bytes.
+    /// A host sends a frame of any length. The answer is E20 if the frame has fewer than 14 bytes, and E21 if it has
+    /// more than 1,518.
     Send {
         /// The host.
         host: usize,

@@ -6,7 +6,7 @@ use Rattle.std.proofs.lemmas.Grind.{flat_map-append}
 use Rattle.std.proofs.lemmas.List.{map-append}
 use Rattle.std.proofs.lemmas.List.Sums.{fold-append}
 use Rattle.std.specs.List.{fold}
-use Rattle.packet_socket.specs.HostStretches.{Given as GivenFrame}
+use Rattle.packet_socket.specs.HostCalls.{Given as GivenFrame}
 use Rattle.pcap_trace.specs.Format.{Timed}
 use Rattle.delivery.specs.Happenings.{Given, Happening, Moved, given, given_by}
 use Rattle.wire.specs.DrainedNetworks.{said_of_drain}

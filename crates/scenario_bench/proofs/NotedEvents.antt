@@ -12,11 +12,11 @@ use Rattle.network_plan.specs.declared.reply.Answer.{Answer}
 use Rattle.network_plan.specs.declared.reply.Answer.TheVariants as answer
 use Rattle.network_plan.specs.declared.reply.Reply.{Reply}
 use Rattle.stations.specs.declared.outcomes.Numbered.{Numbered}
-use Rattle.stations.specs.declared.tick.Outcome.{Outcome}
-use Rattle.stations.specs.declared.tick.Outcome.TheVariants as outcome
+use Rattle.adapter.specs.Outcomes.{FrameOutcome}
+use Rattle.adapter.specs.declared.outcome.Outcome.TheVariants as outcome
 use Rattle.stations.specs.declared.tick.Tick.{Tick}
 use Rattle.stations.specs.declared.tick.Tick.TheVariants as tick
-use Rattle.packet_socket.specs.HostStretches.{Given as GivenFrame}
+use Rattle.packet_socket.specs.HostCalls.{Given as GivenFrame}
 use Rattle.wire.specs.DrainedNetworks.{said_of_drain}
 use Rattle.wire.specs.Runs.{accepted_of, given_of, said}
 use Rattle.scenario_bench.specs.Acts.{Act, Drained, Ran, history, ran, said_in}
@@ -98,16 +98,11 @@ told_all ticks rest outcomes left old new has is =
 
 -- The frame that an event returns.
 
-given-of : (k s host : ℕ) (one : Outcome) → given k s (told_of host one) ≡ []
+given-of : (k s host : ℕ) (one : FrameOutcome) → given k s (told_of host one) ≡ []
 given-of k s host (outcome.Put frame) = refl
 given-of k s host (outcome.Delivered frame fate) = refl
-given-of k s host outcome.Took = refl
-given-of k s host outcome.WireFull = refl
 given-of k s host outcome.Moved = refl
-given-of k s host outcome.Done = refl
-given-of k s host outcome.Ticked = refl
-given-of k s host outcome.Nothing = refl
-given-of k s host outcome.Fault = refl
+given-of k s host _ = refl
 
 both-none : (k s : ℕ) (xs ys : List Happening) → given k s xs ≡ [] → given k s ys ≡ [] → given k s (xs ++ ys) ≡ []
 both-none k s xs ys one two = flat_map-append (given_by k s) xs ys ∙ ap (λ (l : List (List ℕ)). l ++ given k s ys) one ∙ two

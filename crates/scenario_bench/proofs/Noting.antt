@@ -6,8 +6,8 @@ use Rattle.std.proofs.lemmas.List.Sums.{fold-append}
 use Rattle.std.proofs.lemmas.Option.{slice_get_within}
 use Rattle.circular_buffer.proofs.Places.{slice_get-set_other, slice_get-set_same}
 use Rattle.delivery.specs.Happenings.{Happening, Moved, told_of}
-use Rattle.stations.specs.declared.tick.Outcome.{Outcome}
-use Rattle.stations.specs.declared.tick.Outcome.TheVariants as outcome
+use Rattle.adapter.specs.Outcomes.{FrameOutcome}
+use Rattle.adapter.specs.declared.outcome.Outcome.TheVariants as outcome
 use Rattle.scenario_bench.specs.Tallies.{IsPassage, TalliesGrow, TallyCounts, counted_at, counted_by, counted_once, passage_by}
 use Rattle.scenario_bench.specs.Tallies.{tally_behind}
 use Rattle.scenario_bench.specs.declared.tally.Passage.{Passage}
@@ -89,31 +89,20 @@ grows_join xs ys a b c one two k =
 some-is : {X : Type 0} → (a b : X) → Some a ≡ Some b → a ≡ b
 some-is a b is = cc
 
-pub told_passage : (host : ℕ) (one : Outcome) (found : Passage) (old new : List Tally) → IsPassage one (Some found)
+pub told_passage : (host : ℕ) (one : FrameOutcome) (found : Passage) (old new : List Tally) → IsPassage one (Some found)
     → TallyCounts host found old new → TalliesGrow (told_of host one) old new
 told_passage host (outcome.Put frame) found old new is counts k = counts k
     ∙ ap (λ (p : Passage). option_map (counted_at k host p) (slice_get old k)) (some-is found passage.Put is)
 told_passage host (outcome.Delivered frame fate) found old new is counts k = counts k
     ∙ ap (λ (p : Passage). option_map (counted_at k host p) (slice_get old k)) (some-is found (passage_by fate) is)
-told_passage host outcome.Took found old new is counts k = cc
-told_passage host outcome.WireFull found old new is counts k = cc
-told_passage host outcome.Moved found old new is counts k = cc
-told_passage host outcome.Done found old new is counts k = cc
-told_passage host outcome.Ticked found old new is counts k = cc
-told_passage host outcome.Nothing found old new is counts k = cc
-told_passage host outcome.Fault found old new is counts k = cc
+told_passage host _ found old new is counts k = cc
 
 stays-moved : (host k : ℕ) (found : Option Tally) → found ≡ option_map (tally_behind (Moved host ∷ []) k) found
 stays-moved host k None = refl
 stays-moved host k (Some tally) = refl
 
-pub told_nothing : (host : ℕ) (one : Outcome) (old : List Tally) → IsPassage one None → TalliesGrow (told_of host one) old old
+pub told_nothing : (host : ℕ) (one : FrameOutcome) (old : List Tally) → IsPassage one None → TalliesGrow (told_of host one) old old
 told_nothing host (outcome.Put frame) old is k = cc
 told_nothing host (outcome.Delivered frame fate) old is k = cc
-told_nothing host outcome.Took old is k = stays k (slice_get old k)
-told_nothing host outcome.WireFull old is k = stays k (slice_get old k)
 told_nothing host outcome.Moved old is k = stays-moved host k (slice_get old k)
-told_nothing host outcome.Done old is k = stays k (slice_get old k)
-told_nothing host outcome.Ticked old is k = stays k (slice_get old k)
-told_nothing host outcome.Nothing old is k = stays k (slice_get old k)
-told_nothing host outcome.Fault old is k = stays k (slice_get old k)
+told_nothing host _ old is k = stays k (slice_get old k)

@@ -2,7 +2,7 @@
 use Rattle.std.specs.Prelude.{◌≡◌, ◌∷◌, [], ℕ, List, length}
 use Rattle.std.specs.List.{flat_map}
 use Rattle.packet_socket.specs.HostState.{HostState}
-use Rattle.packet_socket.specs.HostStretches.{Given as GivenFrame}
+use Rattle.packet_socket.specs.HostCalls.{Given as GivenFrame}
 use Rattle.stations.specs.Stations.{world_at}
 use Rattle.delivery.specs.Happenings.{Happening}
 use Rattle.network_plan.specs.declared.event.Event.{Event}

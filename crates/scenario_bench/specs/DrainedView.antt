@@ -1,5 +1,5 @@
 -- A frame of a drained host, without its place in memory.
-use Rattle.packet_socket.specs.HostStretches.{Given}
+use Rattle.packet_socket.specs.HostCalls.{Given}
 use Rattle.scenario_bench.specs.declared.drained.DrainedFrame.{DrainedFrame}
 
 abbrev pub drained_frame : DrainedFrame → Given

@@ -7,8 +7,8 @@ use Rattle.pcap_trace.specs.Format.{Timed}
 use Rattle.delivery.specs.Happenings.{Happening, Accepted, Put, Reached, Moved, Given, given}
 use Rattle.stations.specs.declared.tick.Tick.{Tick}
 use Rattle.stations.specs.declared.tick.Tick.TheVariants.{Deliver, Go, Step}
-use Rattle.stations.specs.declared.tick.Outcome.{Outcome}
-use Rattle.stations.specs.declared.tick.Outcome.TheVariants as outcome
+use Rattle.adapter.specs.Outcomes.{FrameOutcome}
+use Rattle.adapter.specs.declared.outcome.Outcome.TheVariants as outcome
 use Rattle.scenario_bench.specs.Acts.{Act, history}
 use Rattle.scenario_bench.specs.SocketLists.{SocketFrames, no_frames, with_frames, with_given}
 use Rattle.scenario_bench.specs.Given.{given_from, next_number, numbered}
@@ -78,7 +78,7 @@ abbrev pub TallyCounts : (host : ℕ) → Passage → (old new : List Tally) →
 TallyCounts host one old new = (k : ℕ) → slice_get new k ≡ option_map (counted_at k host one) (slice_get old k)
 
 -- the passage in an outcome, if there is one
-abbrev pub IsPassage : Outcome → Option Passage → Type 0
+abbrev pub IsPassage : FrameOutcome → Option Passage → Type 0
 IsPassage (outcome.Put frame) found = found ≡ Some passage.Put
 IsPassage (outcome.Delivered frame one) found = found ≡ Some (passage_by one)
 IsPassage one found = found ≡ None

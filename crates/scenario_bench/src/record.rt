@@ -13,9 +13,9 @@ ghost use Rattle.wire.specs.Runs.{accepted_of, given_of, said};
 use crate::drained::DrainedFrame;
 use crate::given::GivenFrames;
 use crate::tally::{Passage, Tally};
-use adapter::Fate;
+use adapter::{Fate, Outcome};
 use network_plan::{Answer, Event, HostPlan, Reply};
-use stations::{Numbered, Outcome, Tick};
+use stations::{HeapFrame, Numbered, Tick};
 use std::alloc::{AllocError, Global};
 
 /// The record of a run.
@@ -52,7 +52,7 @@ fn host_named(tick: Tick) -> Option<usize>
 }
 
 /// The passage of a frame in an outcome, if there is one.
-fn passage_of(outcome: &Outcome) -> Option<Passage>
+fn passage_of(outcome: &Outcome<HeapFrame>) -> Option<Passage>
     ensures { IsPassage outcome.now result }
 {
     match outcome {
@@ -114,7 +114,7 @@ fn count(hosts: &mut [Tally], host: usize, passage: Passage)
 
 /// Records the outcome of a tick at a host.
 #[tactic(auto, using(crate::proofs::Noting::told_passage, crate::proofs::Noting::told_nothing))]
-fn note_outcome(hosts: &mut [Tally], host: usize, outcome: &Outcome)
+fn note_outcome(hosts: &mut [Tally], host: usize, outcome: &Outcome<HeapFrame>)
     ensures { TalliesGrow (told_of host outcome.now) hosts.old hosts.new }
 {
     if let Some(passage) = passage_of(outcome) {

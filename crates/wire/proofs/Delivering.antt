@@ -19,9 +19,8 @@ use Rattle.dma_memory.specs.Layout.{Counts}
 use Rattle.stations.specs.AtomicSteps.{AtomicStep}
 use Rattle.stations.specs.Stations.{StationState, backlog_at, wire_at, world_at}
 use Rattle.stations.specs.AtomicRuns.{LeadsTo, past_at}
-use Rattle.packet_socket.specs.HeldFrames.{held_for_socket, socket_frames, without_socket}
+use Rattle.packet_socket.specs.HostCalls.{Given, did, given_for, held_for_socket, socket_frames, without_socket}
 use Rattle.packet_socket.specs.HostState.{HostState}
-use Rattle.packet_socket.specs.HostStretches.{Given, did, given_for}
 use Rattle.packet_socket.specs.SocketKinds.{goes_to, has_none}
 use Rattle.packet_socket.specs.declared.socket_kind.SocketKind.{SocketKind}
 use Rattle.delivery.proofs.Joining.{accepted-append, given-append, marks-append, missed-append, put-append, stored-append, waits-append}
@@ -195,7 +194,7 @@ pub delivers-runs : (caller k : ℕ) (steps : List AtomicStep) (happened : List 
     → Delivers k happened a b h h'
 delivers-runs caller k steps happened a b h h' taken given_are accepted_are leads enabled runs tells =
     let moves = frames-move caller k steps a b leads in
-    let flows = runs.flows.flows in
+    let flows = runs.flows.driver in
     let accounts = runs.flows.accounts in
     let past = past_at k steps in
     let right = fates-right caller k steps a b leads (all-leave h.driver.layout past.accesses runs.accesses) enabled in

@@ -21,12 +21,13 @@ use Rattle.bring_up.specs.ConfiguredAdapters.{IsConfigured, names_vlans}
 use Rattle.driver_law.specs.Beginnings.{new_driver}
 use Rattle.driver_law.specs.DriverState.{DriverState, with_owners}
 use Rattle.driver_law.specs.ReadyDrivers.{Ready}
-use Rattle.driver_law.specs.Stretches.{IsRefilled}
+use Rattle.driver_law.specs.Calls.{IsRefilled}
 use Rattle.driver.specs.Initialisation.{Initialises}
-use Rattle.packet_socket.specs.HeldFrames.{HostReady}
+use Rattle.packet_socket.specs.HostCalls.{HostReady}
 use Rattle.packet_socket.specs.HostState.{HostState, new_host}
 use Rattle.packet_socket.specs.declared.socket_kind.SocketKind.{SocketKind}
-use Rattle.solo_bus.specs.SoloBuses.{Recounts, SoloState}
+use Rattle.bus.specs.LivelyBuses.{IsSameMachine, Lives, machine_bytes, machine_world}
+use Rattle.bus.specs.declared.lively_bus.LivelyBus.{LivelyBus}
 use Rattle.stations.specs.Stations.{StationState}
 use Rattle.delivery.specs.CountedHosts.{CanAnswer}
 use Rattle.network_plan.specs.declared.plan.HostPlan.{HostPlan}
@@ -35,26 +36,20 @@ use Rattle.wire.proofs.ArrivalsAlone.{alone-stays}
 use Rattle.wire.proofs.OwnTicks.{IsAdapterOf, IsPhyOf}
 use Rattle.wire.proofs.PlansFilters.{Controls, controls, plans-filter}
 
--- what a solo bus shows of itself
-abbrev pub solo : Ghosts SoloState
-solo = record {
-  extent = λ bus. length bus.world.memory;
+-- what a lively bus shows of itself
+abbrev pub lively : Ghosts LivelyBus
+lively = record {
+  extent = machine_bytes;
   honest = λ bus. ⊤;
-  lively = λ bus. bus.lively ≡ true;
-  world = λ bus. bus.world;
-  happened = λ a b past. Recounts a b past;
-  lent_stays = λ a b. b.lively ≡ a.lively;
+  lively = λ bus. ⊤;
+  world = machine_world;
+  happened = Lives;
+  lent_stays = IsSameMachine;
 }
 
 -- a host on a wire, at whose end nothing waits
 abbrev pub station_on : (wire : ℕ) → World → StationState
 station_on wire world = record { world = world; wire = wire; backlog = [] }
-
-pub same-parts : (world : World) (memory : List ℕ) (adapter : AdapterState) → adapter ≡ world.adapter → memory ≡ world.memory
-    → (let made : World = record { memory = memory; adapter = adapter } in made) ≡ world
-same-parts world memory adapter one two =
-    ap (λ (bytes : List ℕ). let made : World = record { memory = bytes; adapter = adapter } in made) two
-    ∙ ap (λ (state : AdapterState). let made : World = record { memory = world.memory; adapter = state } in made) one
 
 valid : (ring : Ring) (count tail : ℕ) → count_of ring ≡ count → ring.head < count → ring.tail ≡ tail → tail < count → HasValidIndices ring
 valid ring count tail slots head is below = record { head = omega (arith, slots, head); tail = omega (arith, slots, is, below) }
@@ -79,18 +74,17 @@ can-answer plan size d world had counts ready configured =
     }
 
 -- What bring-up begins with, and what is known after it.
-pub record IsBroughtUp (plan : HostPlan) (old new : SoloState) (host : HostState) : Type 0 where
+pub record IsBroughtUp (plan : HostPlan) (old new : LivelyBus) (host : HostState) : Type 0 where
   pub size : ℕ
   pub had : CanBeHad plan.config size
   pub address : IsAddress (address_bytes plan.image)
-  pub waiting : old.waiting ≡ []
-  pub adapter : old.world.adapter ≡ new_adapter plan.image plan.link
-  pub memory : length new.world.memory ≡ size_of (counts_of plan.config)
+  pub adapter : (machine_world old).adapter ≡ new_adapter plan.image plan.link
+  pub memory : length (machine_world new).memory ≡ size_of (counts_of plan.config)
   pub host_is : host ≡ new_host host.driver plan.sockets.items
   pub fresh : host.driver ≡ with_owners (new_driver (counts_of plan.config) []) host.driver.buffers [] host.driver.pool []
   pub refilled : IsRefilled host.driver
-  pub initialises : Initialises solo plan.config old new host.driver
-  pub ready : HostReady host new.world
+  pub initialises : Initialises lively plan.config old new host.driver
+  pub ready : HostReady host (machine_world new)
 
 -- a link that is up isn't one that never comes up
 link-comes : (link : Link) (phy : PhyState) → IsPhyOf link phy → link_is_up phy ≡ true → link ≢ Never
@@ -99,12 +93,12 @@ link-comes link phy is up = λ never.
     cc
 
 -- What bring-up leaves of the adapter.
-left-alone : (plan : HostPlan) (old new : SoloState) (host : HostState) → IsBroughtUp plan old new host
-    → IsAdapterOf plan.link new.world.adapter
+left-alone : (plan : HostPlan) (old new : LivelyBus) (host : HostState) → IsBroughtUp plan old new host
+    → IsAdapterOf plan.link (machine_world new).adapter
 left-alone plan old new host is =
     let init = is.initialises in
-    let first = alone-stays old init.middle init.first is.waiting init.told_first in
-    let later = alone-stays init.middle new init.later first.waiting init.told_later in
+    let first = alone-stays old init.middle init.first init.reports_first in
+    let later = alone-stays init.middle new init.later init.reports_later in
     later.leaves plan.link
     (first.leaves plan.link
     (subst (λ (adapter : AdapterState). IsAdapterOf plan.link adapter) (sym is.adapter) (
@@ -112,12 +106,12 @@ left-alone plan old new host is =
       record { no_descriptor = refl; none_received = refl; none_transmitted = refl },
     )))
 
-no-frames : (plan : HostPlan) (old new : SoloState) (host : HostState) (wire : ℕ) → IsBroughtUp plan old new host
-    → HasNoFrames host (station_on wire new.world)
+no-frames : (plan : HostPlan) (old new : LivelyBus) (host : HostState) (wire : ℕ) → IsBroughtUp plan old new host
+    → HasNoFrames host (station_on wire (machine_world new))
 no-frames plan old new host wire is =
     let init = is.initialises in
-    let first = alone-stays old init.middle init.first is.waiting init.told_first in
-    let later = alone-stays init.middle new init.later first.waiting init.told_later in
+    let first = alone-stays old init.middle init.first init.reports_first in
+    let later = alone-stays init.middle new init.later init.reports_later in
     let counts = (left-alone plan old new host is).1 in
     record {
       to_send = init.started.frames.none_to_send;
@@ -137,15 +131,15 @@ no-frames plan old new host wire is =
       };
     }
 
-pub comes-up : (plan : HostPlan) (old new : SoloState) (host : HostState) (wire : ℕ) → IsBroughtUp plan old new host
-    → ComesUp plan host (station_on wire new.world)
+pub comes-up : (plan : HostPlan) (old new : LivelyBus) (host : HostState) (wire : ℕ) → IsBroughtUp plan old new host
+    → ComesUp plan host (station_on wire (machine_world new))
 comes-up plan old new host wire is =
     let init = is.initialises in
     let counts : host.driver.layout ≡ counts_of plan.config = ap (λ (d : DriverState). d.layout) is.fresh in
     let phy = (left-alone plan old new host is).0 in
-    let image : old.world.adapter.image ≡ plan.image = ap (λ (adapter : AdapterState). adapter.image) is.adapter in
-    let configured : IsConfigured plan.config (address_bytes plan.image) (settings_of new.world.adapter) =
-    subst (λ (words : List ℕ). IsConfigured plan.config (address_bytes words) (settings_of new.world.adapter)) image
+    let image : (machine_world old).adapter.image ≡ plan.image = ap (λ (adapter : AdapterState). adapter.image) is.adapter in
+    let configured : IsConfigured plan.config (address_bytes plan.image) (settings_of (machine_world new).adapter) =
+    subst (λ (words : List ℕ). IsConfigured plan.config (address_bytes words) (settings_of (machine_world new).adapter)) image
     init.adapter.configured in
     record {
       ready = record {
@@ -153,20 +147,20 @@ comes-up plan old new host wire is =
         work = init.started.work;
         refilled = is.refilled;
         offered = ap (λ (d : DriverState). d.staged) is.fresh;
-        can = can-answer plan is.size host.driver new.world is.had counts init.started.ready configured;
+        can = can-answer plan is.size host.driver (machine_world new) is.had counts init.started.ready configured;
       };
       sizes = record {
         layout = counts;
         memory = is.memory;
         kinds = ap (λ (h : HostState). h.kinds) is.host_is;
         allocation = configured.allocation;
-        filter = plans-filter plan (settings_of new.world.adapter) is.address configured;
+        filter = plans-filter plan (settings_of (machine_world new).adapter) is.address configured;
       };
       devices = record {
         image = init.adapter.image ∙ image;
         sum = subst HasRightSum image init.adapter.sum;
         link_is = phy.link_is;
-        comes = link-comes plan.link new.world.adapter.phy phy init.adapter.up.up;
+        comes = link-comes plan.link (machine_world new).adapter.phy phy init.adapter.up.up;
         link = init.adapter.up;
       };
       no_frames = no-frames plan old new host wire is;

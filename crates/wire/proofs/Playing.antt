@@ -9,7 +9,7 @@ use Rattle.bus.specs.TickGroups.{without_go}
 use Rattle.bus.specs.declared.event.Access.{Access}
 use Rattle.circular_buffer.proofs.Places.{slice_get-set_other}
 use Rattle.packet_socket.specs.HostState.{HostState}
-use Rattle.packet_socket.specs.HostStretches.{Given, did}
+use Rattle.packet_socket.specs.HostCalls.{Given, did}
 use Rattle.stations.specs.AtomicSteps.{AtomicStep}
 use Rattle.stations.specs.Outcomes.{OutcomeList}
 use Rattle.stations.specs.Stations.{StationState, wire_at}
@@ -42,10 +42,10 @@ pub call-goes : (caller : ℕ) (ticks : List Tick) (old : NetworkState) (station
     → HostsGo caller happened runs.steps old (record { hosts = slice_set old.hosts caller h'; stations = stations })
 call-goes caller ticks old stations before behind accesses h h' taken given accepted made happened stands there runs tells =
     hosts-go caller happened runs.steps old (record { hosts = slice_set old.hosts caller h'; stations = stations })
-    (λ k. of_host k caller taken) (λ k. of_host k caller given) (λ k. of_host k caller accepted) stands runs.are_told.leads
+    (λ k. of_host k caller taken) (λ k. of_host k caller given) (λ k. of_host k caller accepted) stands runs.of_call.leads
     (length-set old.hosts caller h')
     (λ k was is then now.
-    each-runs caller k runs.steps old.stations stations old.hosts h h' was is taken given accepted runs.are_told.leads there runs.runs
+    each-runs caller k runs.steps old.stations stations old.hosts h h' was is taken given accepted runs.of_call.leads there runs.runs
     then now (stands.each k was then).ready)
     tells
 
@@ -65,15 +65,15 @@ pub call-played : (caller : ℕ) (ticks : List Tick) (old : NetworkState) (stati
 call-played caller ticks old stations before behind h h' taken given accepted made happened reply answers stands there below empty same
     some runs tells answer =
     let noted : reply.outcomes.list ≡ noted_of 0 runs.steps =
-    ap (λ (list : OutcomeList). list.list) same ∙ runs.are_told.noted ∙ ap
+    ap (λ (list : OutcomeList). list.list) same ∙ runs.of_call.noted ∙ ap
     (λ (list : List Numbered). list ++ noted_of 0 runs.steps) empty in
-    let said : told ticks reply.outcomes.list ≡ happened_in runs.steps = ap (told ticks) noted ∙ runs.are_told.said in
+    let said : told ticks reply.outcomes.list ≡ happened_in runs.steps = ap (told ticks) noted ∙ runs.of_call.said in
     record {
       steps = runs.steps;
       go = call-goes caller ticks old stations before behind reply.accesses h h' taken given accepted made happened stands there runs
           (λ k. tells k said);
-      told = record {
-        played = runs.are_told.played;
+      replied = record {
+        played = runs.of_call.played;
         accesses = λ was then.
             let same_host : was ≡ h = let e : Some h ≡ Some was = sym there ∙ then in cc in (
               subst (λ (w : HostState). All (IsOfDriver w.driver.layout) (past_at caller runs.steps).accesses) (sym same_host)
@@ -82,9 +82,9 @@ call-played caller ticks old stations before behind h h' taken given accepted ma
             );
         unmade = λ past. absurd (omega (arith, past, below));
         no_host = (λ none. absurd (some none), λ low. absurd (omega (arith, low, below)));
-        counted = runs.are_told.counted;
+        counted = runs.of_call.counted;
         outcomes = noted;
-        numbered = ap Rattle.delivery.specs.TickNumbers.numbers_of noted ∙ runs.are_told.numbered;
+        numbered = ap Rattle.delivery.specs.TickNumbers.numbers_of noted ∙ runs.of_call.numbered;
         others = λ k other. slice_get-set_other old.hosts caller k h' other;
       };
       answer = λ was is then now.
@@ -137,7 +137,7 @@ absent-played caller ticks old stations before reply happened answers stands pas
       go = ticks-go caller happened plays.steps old stations stands plays.are plays.leads
           (λ k. subst (λ (list : List Happening). Tells k list plays.steps (wire_at old.stations) [] []) (sym said)
           (Rattle.wire.proofs.Tellings.tells-steps k plays.steps (wire_at old.stations)));
-      told = record {
+      replied = record {
         played = tells.played;
         accesses = λ was then. absurd (let gone = slice_get_past old.hosts caller past in
             let e : Some was ≡ None = sym then ∙ gone in cc);

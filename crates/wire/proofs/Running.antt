@@ -1,4 +1,4 @@
--- Events as they are told, and runs of them.
+-- Events with their replies, and runs of them.
 use Rattle.std.proofs.Common.{◌≡◌, ◌++◌, ◌∷◌, [], ℕ, List, Some, Vec, Global, refl, sym, ap}
 use Rattle.std.proofs.Common.{subst, ◌∙◌, append_assoc, arith}
 use Rattle.std.proofs.lemmas.List.{append-nil}
@@ -27,20 +27,20 @@ pub send-event : (old new : NetworkState) (host : ℕ) (frame : Vec ℕ Global) 
     (IsSendAnswer host frame.items) old new → NetworkStands old
     → EventRuns old (Send host frame ticks) reply new
 send-event old new host frame ticks reply played stood =
-    record { stood = stood; steps = played.steps; go = played.go; told = played.told; answer = played.answer }
+    record { stood = stood; steps = played.steps; go = played.go; replied = played.replied; answer = played.answer }
 
 pub recv-event : (old new : NetworkState) (host socket : ℕ) (ticks : Vec Tick Global) (reply : Reply)
     → CallPlayed (ticked host ticks.items) (told ticks.items reply.outcomes.list ++ given_of host socket reply.answer) reply
     (IsRecvAnswer host socket) old new → NetworkStands old
     → EventRuns old (Recv host socket ticks) reply new
 recv-event old new host socket ticks reply played stood =
-    record { stood = stood; steps = played.steps; go = played.go; told = played.told; answer = played.answer }
+    record { stood = stood; steps = played.steps; go = played.go; replied = played.replied; answer = played.answer }
 
 pub interrupt-event : (old new : NetworkState) (host : ℕ) (ticks : Vec Tick Global) (reply : Reply)
     → CallPlayed (ticked host ticks.items) (told ticks.items reply.outcomes.list) reply (IsInterruptAnswer host) old new → NetworkStands old
     → EventRuns old (Interrupt host ticks) reply new
 interrupt-event old new host ticks reply played stood =
-    record { stood = stood; steps = played.steps; go = played.go; told = played.told; answer = played.answer }
+    record { stood = stood; steps = played.steps; go = played.go; replied = played.replied; answer = played.answer }
 
 pub tick-event : (old : NetworkState) (stations : List StationState) (tick : Tick) (reply : Reply) → NetworkStands old
     → TickPlayed tick reply old.stations stations
@@ -53,8 +53,8 @@ tick-event old stations tick reply stands played =
       stood = stands;
       steps = played.steps;
       go = go;
-      told = played.told old.hosts;
-      answer = λ was is then now. (played.told old.hosts).answer;
+      replied = played.replied old.hosts;
+      answer = λ was is then now. (played.replied old.hosts).answer;
     }
 
 -- Runs.

@@ -23,10 +23,9 @@ use Rattle.stations.specs.Stations.{StationState, wire_at, world_at}
 use Rattle.stations.proofs.HostTrails.{trail-of}
 use Rattle.stations.specs.AtomicRuns.{LeadsTo, events_at, past_at}
 use Rattle.driver_law.proofs.FramesCounted.{slots_have_frames}
-use Rattle.driver_law.specs.Stretches.{HasNoForgottenWork, IsRefilled}
-use Rattle.packet_socket.specs.HeldFrames.{HostReady, driver_of}
+use Rattle.driver_law.specs.Calls.{HasNoForgottenWork, IsRefilled}
+use Rattle.packet_socket.specs.HostCalls.{Given, HostReady, did, driver_of}
 use Rattle.packet_socket.specs.HostState.{HostState}
-use Rattle.packet_socket.specs.HostStretches.{Given, did}
 use Rattle.delivery.proofs.Waiting.{length-stays}
 use Rattle.delivery.specs.Happenings.{Happening, of_host}
 use Rattle.delivery.proofs.HostSteps.{trail-goes}
@@ -108,7 +107,7 @@ stands-behind caller k steps a b h h' taken given accepted leads stands runs =
     (count_of (transmit_ring (world_at a k))) refl refl
     (all-counted h (world_at a k) (past_at k steps).accesses stands.ready runs.accesses) (trail-of caller k steps a b leads)
     stands.can).can
-    (runs.flows.flows.misses.small stands.exact.reads)
+    (runs.flows.driver.misses.small stands.exact.reads)
 
 -- Which host is which.
 

@@ -7,12 +7,11 @@ use Rattle.adapter.specs.HostFrames.{frames_held}
 use Rattle.stations.specs.AtomicSteps.{AtomicStep}
 use Rattle.stations.specs.Stations.{StationState, world_at}
 use Rattle.stations.specs.AtomicRuns.{past_at}
-use Rattle.packet_socket.specs.HeldFrames.{socket_frames, waiting_frames}
+use Rattle.packet_socket.specs.HostCalls.{did, socket_frames, waiting_frames}
 use Rattle.packet_socket.specs.HostState.{HostState}
 use Rattle.packet_socket.specs.SocketKinds.{goes_to}
 use Rattle.packet_socket.specs.declared.socket_kind.SocketKind.{SocketKind}
 use Rattle.host_calls.specs.CallsOfHosts.{HostRuns}
-use Rattle.packet_socket.specs.HostStretches.{did}
 use Rattle.host_calls.specs.ConnectedHosts.{connected}
 use Rattle.wire.specs.EventParts.{TakesFrames}
 
@@ -41,10 +40,10 @@ takes-frames k steps a b h h' taken runs =
     let now = frames_held h'.driver.oldest_receive (world_at b k) in
     let accounts = runs.flows.accounts in
     record {
-      left = runs.flows.flows.holds;
+      left = runs.flows.driver.holds;
       queues = λ socket.
           queue-grows h.kinds socket (waiting_frames h' socket (world_at b k)) (waiting_frames h socket (world_at a k)) taken now held
-          (past_at k steps).stored runs.flows.flows.holds
+          (past_at k steps).stored runs.flows.driver.holds
           (ap (λ (kinds : List SocketKind). waiting_frames h' socket (world_at b k) ++ socket_frames kinds socket now) (sym accounts.kinds)
           ∙ accounts.sockets socket);
     }

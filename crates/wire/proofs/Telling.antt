@@ -34,44 +34,44 @@ network-now inside caller happened steps old new go hosts stations =
     { hosts = list; stations = (with_items inside.stations new.stations).items } in network) one
     ∙ ap (λ (list : List StationState). let network : NetworkState = record { hosts = new.hosts; stations = list } in network) two
 
-told-as : (args old new now : NetworkState) (event was : Event) (reply : Reply) → old ≡ args → event ≡ was
+event-as : (args old new now : NetworkState) (event was : Event) (reply : Reply) → old ≡ args → event ≡ was
     → now ≡ new → EventRuns old was reply new → EventRuns args event reply now
-told-as args old new now event was reply old_is event_is now_is runs =
+event-as args old new now event was reply old_is event_is now_is runs =
     subst (λ (e : Event). EventRuns args e reply now) (sym event_is)
     (subst (λ (n : NetworkState). EventRuns args was reply n) (sym now_is)
     (subst (λ (o : NetworkState). EventRuns o was reply new) old_is runs))
 
-pub send-told : (args old new now : NetworkState) (event : Event) (host : ℕ) (frame : Vec ℕ Global) (ticks : Vec Tick Global)
+pub send-event-as : (args old new now : NetworkState) (event : Event) (host : ℕ) (frame : Vec ℕ Global) (ticks : Vec Tick Global)
     (reply : Reply) (bytes : List ℕ) (list : List Tick) → old ≡ args → event ≡ Send host frame ticks → bytes ≡ frame.items
     → list ≡ ticks.items → now ≡ new
     → CallPlayed (ticked host list) (accepted_of host bytes reply.answer ++ told list reply.outcomes.list) reply
     (IsSendAnswer host bytes) old new
     → NetworkStands old → EventRuns args event reply now
-send-told args old new now event host frame ticks reply bytes list old_is event_is bytes_are list_is now_is played stood =
-    told-as args old new now event (Send host frame ticks) reply old_is event_is now_is
+send-event-as args old new now event host frame ticks reply bytes list old_is event_is bytes_are list_is now_is played stood =
+    event-as args old new now event (Send host frame ticks) reply old_is event_is now_is
     (send-event old new host frame ticks reply
     (subst (λ (l : List Tick). CallPlayed (ticked host l) (accepted_of host frame.items reply.answer ++ told l reply.outcomes.list) reply
     (IsSendAnswer host frame.items) old new) list_is
     (subst (λ (b : List ℕ). CallPlayed (ticked host list) (accepted_of host b reply.answer ++ told list reply.outcomes.list) reply
     (IsSendAnswer host b) old new) bytes_are played)) stood)
 
-pub recv-told : (args old new now : NetworkState) (event : Event) (host socket : ℕ) (ticks : Vec Tick Global)
+pub recv-event-as : (args old new now : NetworkState) (event : Event) (host socket : ℕ) (ticks : Vec Tick Global)
     (reply : Reply) (list : List Tick) → old ≡ args → event ≡ Recv host socket ticks → list ≡ ticks.items → now ≡ new
     → CallPlayed (ticked host list) (told list reply.outcomes.list ++ given_of host socket reply.answer) reply
     (IsRecvAnswer host socket) old new
     → NetworkStands old → EventRuns args event reply now
-recv-told args old new now event host socket ticks reply list old_is event_is list_is now_is played stood =
-    told-as args old new now event (Recv host socket ticks) reply old_is event_is now_is
+recv-event-as args old new now event host socket ticks reply list old_is event_is list_is now_is played stood =
+    event-as args old new now event (Recv host socket ticks) reply old_is event_is now_is
     (recv-event old new host socket ticks reply
     (subst (λ (l : List Tick). CallPlayed (ticked host l) (told l reply.outcomes.list ++ given_of host socket reply.answer) reply
     (IsRecvAnswer host socket) old new) list_is played) stood)
 
-pub interrupt-told : (args old new now : NetworkState) (event : Event) (host : ℕ) (ticks : Vec Tick Global)
+pub interrupt-event-as : (args old new now : NetworkState) (event : Event) (host : ℕ) (ticks : Vec Tick Global)
     (reply : Reply) (list : List Tick) → old ≡ args → event ≡ Interrupt host ticks → list ≡ ticks.items → now ≡ new
     → CallPlayed (ticked host list) (told list reply.outcomes.list) reply (IsInterruptAnswer host) old new
     → NetworkStands old → EventRuns args event reply now
-interrupt-told args old new now event host ticks reply list old_is event_is list_is now_is played stood =
-    told-as args old new now event (Interrupt host ticks) reply old_is event_is now_is
+interrupt-event-as args old new now event host ticks reply list old_is event_is list_is now_is played stood =
+    event-as args old new now event (Interrupt host ticks) reply old_is event_is now_is
     (interrupt-event old new host ticks reply
     (subst (λ (l : List Tick). CallPlayed (ticked host l) (told l reply.outcomes.list) reply
     (IsInterruptAnswer host) old new) list_is played) stood)
@@ -88,12 +88,13 @@ tick-now inside tick reply old stations played hosts len =
     { hosts = list; stations = (with_items inside.stations stations).items } in network) one
     ∙ ap (λ (list : List StationState). let network : NetworkState = record { hosts = old.hosts; stations = list } in network) two
 
-pub tick-told : (args old : NetworkState) (stations : List StationState) (now : NetworkState) (event : Event) (tick : Tick) (reply : Reply)
+pub tick-event-as : (args old : NetworkState) (stations : List StationState) (now : NetworkState) (event : Event) (tick : Tick)
+    (reply : Reply)
     → old ≡ args → event ≡ Alone tick
     → (let network : NetworkState = record { hosts = old.hosts; stations = stations } in now ≡ network) → NetworkStands old
     → TickPlayed tick reply old.stations stations → EventRuns args event reply now
-tick-told args old stations now event tick reply old_is event_is now_is stands played =
-    told-as args old (record { hosts = old.hosts; stations = stations }) now event (Alone tick) reply old_is event_is now_is
+tick-event-as args old stations now event tick reply old_is event_is now_is stands played =
+    event-as args old (record { hosts = old.hosts; stations = stations }) now event (Alone tick) reply old_is event_is now_is
     (tick-event old stations tick reply stands played)
 
 pub tick-stands : (old : NetworkState) (stations : List StationState) (tick : Tick) (reply : Reply) → NetworkStands old

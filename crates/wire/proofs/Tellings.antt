@@ -6,7 +6,7 @@ use Rattle.std.proofs.lemmas.Bool.Decides.{Decides-eqb, Decides-like, same_from_
 use Rattle.std.proofs.lemmas.List.{append-nil}
 use Rattle.descriptors.specs.Frames.{padded}
 use Rattle.driver.specs.SendSteps.{SendAnswer, accepted_by}
-use Rattle.packet_socket.specs.HostStretches.{Given, given_for}
+use Rattle.packet_socket.specs.HostCalls.{Given, given_for}
 use Rattle.packet_socket.specs.declared.receive.RecvError.{RecvError}
 use Rattle.stations.specs.AtomicSteps.{AtomicStep}
 use Rattle.delivery.proofs.HostLists.{accepted-none, given-none}

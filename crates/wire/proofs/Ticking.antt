@@ -8,8 +8,8 @@ use Rattle.stations.specs.AtomicSteps.{At, AtomicStep, Idles, PlaysNoted, outcom
 use Rattle.stations.specs.Outcomes.{OutcomeList}
 use Rattle.stations.specs.Stations.{StationState}
 use Rattle.stations.specs.declared.outcomes.Numbered.{Numbered}
-use Rattle.stations.specs.declared.tick.Outcome.{Outcome}
-use Rattle.stations.specs.declared.tick.Outcome.TheVariants.{Nothing}
+use Rattle.adapter.specs.Outcomes.{FrameOutcome}
+use Rattle.adapter.specs.declared.outcome.Outcome.TheVariants.{Nothing}
 use Rattle.stations.specs.declared.tick.Tick.{Tick}
 use Rattle.stations.specs.declared.tick.Tick.TheVariants.{Deliver, Go, Step}
 use Rattle.stations.specs.AtomicRuns.{IsTick, counted_of, is_go, noted_of}
@@ -53,13 +53,13 @@ tick-played tick old new before reply empty not answer zero plays =
       are = are;
       leads = leads.leads;
       said = ap (told_alone tick) one ∙ said-alone old new tick plays.outcome plays.plays;
-      told = λ hosts. record {
+      replied = λ hosts. record {
         played = ap (λ (t : Tick). without_go is_go (t ∷ [])) plays.plays.tick_is;
         accesses = λ k. none-alone k (step ∷ []) are;
         counted = zero ∙ sym (counted-tick step leads.is_tick);
         outcomes =
             alone tick (step ∷ []) reply.outcomes.list not
-            (one ∙ ap (λ (o : Outcome). record { accesses = 0; outcome = o } ∷ []) (sym plays.plays.outcome_is)
+            (one ∙ ap (λ (o : FrameOutcome). record { accesses = 0; outcome = o } ∷ []) (sym plays.plays.outcome_is)
             ∙ sym (noted-tick step leads.is_tick));
         numbered = ap numbers_of one;
         answer = answer;
@@ -79,7 +79,7 @@ go-played old before reply empty answer zero noted =
       are = all-none IsTick;
       leads = λ caller. refl;
       said = ap (told_alone Go) one;
-      told = λ hosts. record {
+      replied = λ hosts. record {
         played = refl;
         accesses = λ k. none-alone k [] (all-none IsTick);
         counted = zero;

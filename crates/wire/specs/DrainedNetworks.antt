@@ -1,7 +1,7 @@
 -- A network of which a host was drained (our choice).
 use Rattle.std.specs.Prelude.{◌≡◌, ◌≢◌, ◌↔◌, ◌≤◌, ◌++◌, [], ℕ, List, length, map, replicate, slice_get}
 use Rattle.packet_socket.specs.HostState.{HostState}
-use Rattle.packet_socket.specs.HostStretches.{Given as GivenFrame}
+use Rattle.packet_socket.specs.HostCalls.{Given as GivenFrame}
 use Rattle.stations.specs.Stations.{world_at}
 use Rattle.delivery.specs.Happenings.{Given, Happening, Moved}
 use Rattle.adapter.specs.World.{World}

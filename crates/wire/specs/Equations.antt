@@ -5,9 +5,8 @@ use Rattle.descriptors.specs.Frames.{padded}
 use Rattle.adapter.specs.HostFrames.{frames_to_send}
 use Rattle.adapter.specs.World.{World}
 use Rattle.stations.specs.Stations.{StationState, backlog_at, wire_at, world_at}
-use Rattle.packet_socket.specs.HeldFrames.{held_for_socket, socket_frames, without_socket}
+use Rattle.packet_socket.specs.HostCalls.{held_for_socket, socket_frames, unclaimed_in, without_socket}
 use Rattle.packet_socket.specs.HostState.{HostState}
-use Rattle.packet_socket.specs.HostStretches.{unclaimed_in}
 use Rattle.packet_socket.specs.declared.socket_kind.SocketKind.{SocketKind}
 use Rattle.delivery.specs.Fates.{marks}
 use Rattle.delivery.specs.Happenings.{Happening, accepted, given, missed, put, reached, stored, toward}
@@ -40,8 +39,10 @@ pub record IsExact (host : HostState) (world : World) : Type 0 where
 pub record CountsMisses (h : HostState) (a : World) (misses : ℕ) (h' : HostState) (b : World) : Type 0 where
   pub at_most : counted h' b ≤ counted h a + misses
   pub exactly : IsExact h' b → IsExact h a × (counted h' b ≡ counted h a + misses)
-  -- It remains exact as long as neither MPC nor the sum would saturate. The sum of what the driver read never decreases.
+  -- It remains exact if MPC would be below its greatest value even without a read of MPC, and the sum wouldn't saturate. MPC is read in
+  -- an interrupt that is handled, once. So over several events `stays` of each event says more than that of all together.
   pub stays : IsExact h a → a.adapter.missed_packets + misses < greatest_count → sum_of h a + misses ≤ most_counted → IsExact h' b
+  -- The sum of what the driver read never decreases.
   pub grows : h.driver.missed ≤ h'.driver.missed
 
 -- Frames without a socket are counted, up to the greatest u64, or still held.

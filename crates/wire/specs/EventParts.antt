@@ -9,7 +9,7 @@ use Rattle.bus.specs.TickGroups.{without_go}
 use Rattle.stations.specs.AtomicSteps.{AtomicStep, tick_of}
 use Rattle.stations.specs.Stations.{StationState, world_at}
 use Rattle.stations.specs.declared.outcomes.Numbered.{Numbered}
-use Rattle.stations.specs.declared.tick.Outcome.TheVariants.{Nothing}
+use Rattle.adapter.specs.declared.outcome.Outcome.TheVariants.{Nothing}
 use Rattle.stations.specs.declared.tick.Tick.{Tick}
 use Rattle.stations.specs.declared.tick.Tick.TheVariants.{Deliver, Go, Step}
 use Rattle.stations.specs.AtomicRuns.{IsTick, LeadsTo, counted_of, is_go, noted_of, past_at}
@@ -18,10 +18,10 @@ use Rattle.delivery.specs.TickNumbers.{numbers, numbers_of}
 use Rattle.network_plan.specs.declared.reply.Answer.{Answer}
 use Rattle.network_plan.specs.declared.reply.Answer.TheVariants.{Interrupted, NoHost, Received, Sent, Ticked}
 use Rattle.network_plan.specs.declared.reply.Reply.{Reply}
-use Rattle.packet_socket.specs.HeldFrames.{socket_frames, waiting_frames}
+use Rattle.packet_socket.specs.HostCalls.{socket_frames, waiting_frames}
 use Rattle.host_calls.specs.InterruptCauses.{TellsCauses}
 use Rattle.host_calls.specs.CallsOfHosts.{IsOfDriver, OnlyLastWrites}
-use Rattle.host_calls.specs.CallAnswers.{AnswersInterrupt, AnswersRecv, AnswersSend, LeavesRecv, LeavesSend}
+use Rattle.host_calls.specs.CallAnswers.{AnswersInterrupt, AnswersRecv, AnswersSend, FreesFirstBy, LeavesRecv, LeavesSend}
 use Rattle.host_calls.specs.CallAnswers.{MakesInterrupt, MakesRecv, MakesSend}
 use Rattle.delivery.specs.Counts.{counts_of}
 use Rattle.delivery.specs.StepAnswers.{AreAnswered, OfEachTick, counts_at}
@@ -58,6 +58,8 @@ pub record IsSendAnswer (host : ℕ) (frame : List ℕ) (answer : Answer) (steps
   pub leaves : LeavesSend result old.host new.host (counted_of 0 steps)
   -- the accesses of its driver are exactly these, in order
   pub makes : MakesSend result frame old.host new.host (past_at host steps).accesses
+  -- Exactly the slots that are written back before the last load of a descriptor are freed.
+  pub frees_first : FreesFirstBy result host frame steps old new
 
 pub record IsRecvAnswer (host socket : ℕ) (answer : Answer) (steps : List AtomicStep) (old new : ConnectedHost) : Type 0 where
   pub result : Result (List ℕ) RecvError
@@ -77,6 +79,7 @@ pub record TakesFrames (host : ℕ) (steps : List AtomicStep) (taken : List (Lis
 pub record IsInterruptAnswer (host : ℕ) (answer : Answer) (steps : List AtomicStep) (old new : ConnectedHost) : Type 0 where
   pub result : Handled
   pub is : answer ≡ Interrupted result
+  -- ICR was read first, and showed these causes. By them the answer is NotMine or Handled.
   pub causes : ℕ
   pub tells : TellsCauses host steps causes (world_at old.stations host).adapter.causes.recorded result
   -- the frames that were taken off the receive ring: none if the answer is NotMine
@@ -97,8 +100,8 @@ abbrev pub ticked : ℕ → List Tick → TickedCall
 ticked host ticks = record { host = host; ticks = ticks }
 
 -- What a reply says of the call and its ticks, whichever call it is.
-pub record CallTold (reply : Reply) (steps : List AtomicStep) (old new : NetworkState) (call : TickedCall) : Type 0 where
-  -- the steps that aren't accesses are the ticks that aren't Go, in order
+pub record IsCallReply (reply : Reply) (steps : List AtomicStep) (old new : NetworkState) (call : TickedCall) : Type 0 where
+  -- The steps that aren't accesses are the ticks that aren't Go, in order. `tick_of` of an access is Go, so accesses are left out.
   pub played : without_go is_go (map tick_of steps) ≡ without_go is_go call.ticks
   -- each access is one of a driver that is up, and only the last may write a register
   pub accesses : (h : HostState) → IsHost old call.host h
@@ -106,7 +109,8 @@ pub record CallTold (reply : Reply) (steps : List AtomicStep) (old new : Network
   -- a call of a host that isn't there makes none, and answers NoHost; no other call does
   pub unmade : length old.hosts ≤ call.host → (past_at call.host steps).accesses ≡ []
   pub no_host : reply.answer ≡ NoHost ↔ (length old.hosts ≤ call.host)
-  -- the reply has the number of accesses, and the outcome of each tick
+  -- The reply has the number of accesses, and the outcome of each tick: those of these steps, counted from 0 accesses on. The number
+  -- is at most the greatest u64.
   pub counted : reply.accesses ≡ counted_of 0 steps
   pub outcomes : reply.outcomes.list ≡ noted_of 0 steps
   -- an outcome's number is the lesser of its group's number and the number of accesses
@@ -114,12 +118,13 @@ pub record CallTold (reply : Reply) (steps : List AtomicStep) (old new : Network
   -- of a host that isn't called neither driver nor queues change
   pub others : (k : ℕ) → k ≢ call.host → slice_get new.hosts k ≡ slice_get old.hosts k
 
--- A call was made, and this answers it.
+-- A call was made, and this replies to it. This record isn't part of the contract of `Lan::run`: it is the contract of a private function
+-- that plays one call, from which an `EventRuns` is built.
 pub record CallPlayed (call : TickedCall) (happened : List Happening) (reply : Reply)
     (answers : Answer → List AtomicStep → ConnectedHost → ConnectedHost → Type 0) (old new : NetworkState) : Type 0 where
   pub steps : List AtomicStep
   pub go : HostsGo call.host happened steps old new
-  pub told : CallTold reply steps old new call
+  pub replied : IsCallReply reply steps old new call
   pub answer : (h h' : HostState) → IsHost old call.host h → IsHost new call.host h'
       → answers reply.answer steps (connected h old.stations) (connected h' new.stations)
 
@@ -131,21 +136,23 @@ AreOutcomesAlone Go steps outcomes = (steps ≡ []) × (outcomes ≡ record { ac
 AreOutcomesAlone (Step host kind) steps outcomes = outcomes ≡ noted_of 0 steps
 AreOutcomesAlone (Deliver host) steps outcomes = outcomes ≡ noted_of 0 steps
 
-pub record TickTold (reply : Reply) (steps : List AtomicStep) (old new : NetworkState) (tick : Tick) : Type 0 where
+pub record IsTickReply (reply : Reply) (steps : List AtomicStep) (old new : NetworkState) (tick : Tick) : Type 0 where
+  -- the step of the tick; none if it is Go
   pub played : without_go is_go (map tick_of steps) ≡ without_go is_go (tick ∷ [])
   pub accesses : (k : ℕ) → (past_at k steps).accesses ≡ []
+  -- so the reply's number of accesses is 0
   pub counted : reply.accesses ≡ counted_of 0 steps
   pub outcomes : AreOutcomesAlone tick steps reply.outcomes.list
   pub numbered : numbers_of reply.outcomes.list ≡ 0 ∷ []
   pub answer : reply.answer ≡ Ticked
   pub others : new.hosts ≡ old.hosts
 
--- A tick was played by itself.
+-- A tick was played by itself. This record isn't part of the contract of `Lan::run` either: it is the contract of a private function.
 pub record TickPlayed (tick : Tick) (reply : Reply) (old new : List StationState) : Type 0 where
   pub steps : List AtomicStep
   pub are : All IsTick steps
   pub leads : (caller : ℕ) → LeadsTo caller steps old new
   pub said : told_alone tick reply.outcomes.list ≡ happened_in steps
   -- whatever hosts there are
-  pub told : (hosts : List HostState)
-      → TickTold reply steps (record { hosts = hosts; stations = old }) (record { hosts = hosts; stations = new }) tick
+  pub replied : (hosts : List HostState)
+      → IsTickReply reply steps (record { hosts = hosts; stations = old }) (record { hosts = hosts; stations = new }) tick

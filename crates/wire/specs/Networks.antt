@@ -5,8 +5,8 @@ use Rattle.adapter.specs.HostFrames.{frames_to_send}
 use Rattle.adapter.specs.World.{World}
 use Rattle.dma_memory.specs.Owners.{HasOneOwner}
 use Rattle.driver_law.specs.DriverState.{owners}
-use Rattle.driver_law.specs.Stretches.{HasNoForgottenWork, IsRefilled}
-use Rattle.packet_socket.specs.HeldFrames.{HostReady, driver_of}
+use Rattle.driver_law.specs.Calls.{HasNoForgottenWork, IsRefilled}
+use Rattle.packet_socket.specs.HostCalls.{HostReady, driver_of}
 use Rattle.packet_socket.specs.HostState.{HostState}
 use Rattle.stations.specs.Stations.{StationState, world_at}
 use Rattle.delivery.specs.CountedHosts.{CanAnswer}

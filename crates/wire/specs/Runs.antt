@@ -11,7 +11,7 @@ use Rattle.network_plan.specs.declared.reply.Answer.TheVariants.{Received, Sent,
 use Rattle.network_plan.specs.declared.reply.Reply.{Reply}
 use Rattle.host_calls.specs.ConnectedHosts.{ConnectedHost, connected}
 use Rattle.wire.specs.Equations.{Delivers}
-use Rattle.wire.specs.EventParts.{CallTold, HostsGo, IsInterruptAnswer, IsRecvAnswer, IsSendAnswer, TickTold, TickedCall, ticked}
+use Rattle.wire.specs.EventParts.{HostsGo, IsCallReply, IsInterruptAnswer, IsRecvAnswer, IsSendAnswer, IsTickReply, TickedCall, ticked}
 use Rattle.wire.specs.Networks.{IsHost, NetworkStands, NetworkState}
 
 -- What an event and its reply say of frames.
@@ -41,7 +41,7 @@ happenings (event ∷ events) (reply ∷ replies) = said event reply ++ happenin
 
 -- Events.
 
--- the host whose call it is; a tick by itself is of no call
+-- The host whose call it is. A tick by itself is of no call, so any number would do here: `IsTickReply.accesses` excludes each access.
 abbrev pub caller_of : Event → ℕ
 caller_of (Send host frame ticks) = host
 caller_of (Recv host socket ticks) = host
@@ -70,7 +70,7 @@ pub record EventRuns (old : NetworkState) (event : Event) (reply : Reply) (new :
   pub steps : List AtomicStep
   pub go : HostsGo (caller_of event) (said event reply) steps old new
   -- what the reply says of the steps
-  pub told : OfEvent event (CallTold reply steps old new) (TickTold reply steps old new)
+  pub replied : OfEvent event (IsCallReply reply steps old new) (IsTickReply reply steps old new)
   -- what is answered, and exactly which accesses the call made
   pub answer : (h h' : HostState) → IsHost old (caller_of event) h → IsHost new (caller_of event) h'
       → IsCallAnswer event reply.answer steps (connected h old.stations) (connected h' new.stations)

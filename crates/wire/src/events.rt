@@ -1,7 +1,7 @@
 // One event, over all hosts and their stations.
 
 ghost use Rattle.std.specs.Prelude.{◌≡◌, ◌≤◌, ◌<◌, ◌++◌, [], length, IfOk};
-ghost use Rattle.driver.specs.TakenFrames.{IsFrameSize};
+ghost use Rattle.driver.specs.HandlerSteps.{IsFrameSize};
 ghost use Rattle.host_calls.specs.CallAnswers.{frame_in};
 ghost use Rattle.bus.specs.TickGroups.{without_go};
 ghost use Rattle.delivery.specs.Happenings.{told};
@@ -12,10 +12,11 @@ ghost use Rattle.wire.specs.EventParts.{CallPlayed, IsInterruptAnswer, IsRecvAns
 ghost use Rattle.wire.specs.Networks.{NetworkStands};
 ghost use Rattle.wire.specs.Runs.{accepted_of, given_of};
 
+use adapter::Outcome;
 use host_calls::recv_into;
 use network_plan::{Answer, Reply};
 use packet_socket::{Host, RecvError};
-use stations::{HeapFrame, Outcome, Outcomes, Station, Tick, play, play_rest};
+use stations::{HeapFrame, Outcomes, Station, Tick, play, play_rest};
 
 /// A call for a host that isn't there: its ticks are played.
 fn no_host(stations: &mut [Station], ticks: &[Tick], outcomes: Outcomes) -> Reply
@@ -172,7 +173,7 @@ pub(crate) fn tick(stations: &mut [Station], tick: Tick, outcomes: Outcomes) -> 
 {
     let mut outcomes = outcomes;
     match tick {
-        Tick::Go => outcomes.note(0, Outcome::Nothing),
+        Tick::Go => outcomes.note(0, Outcome::Nothing, &[]),
         _ => play(stations, tick, 0, &mut outcomes),
     }
     Reply {

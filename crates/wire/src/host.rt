@@ -9,11 +9,11 @@ ghost use Rattle.wire.specs.HostsUp.{ComesUp, IsReason};
 use adapter::Adapter;
 use arrayvec::ArrayVec;
 use bring_up::InitError;
+use bus::{LivelyBus, Machine};
 use dma_memory::HostMemory;
 use eeprom::Image;
 use network_plan::{HostPlan, MOST_SOCKETS};
 use packet_socket::{Host, SocketKind};
-use solo_bus::SoloBus;
 use stations::Station;
 use std::alloc::Global;
 
@@ -39,11 +39,14 @@ pub fn bring_up_host(
     let layout = plan.config.layout(u64::MAX)?;
     let adapter = Adapter::new(alloc, &plan.image, plan.link)?;
     let memory = HostMemory::new(alloc, layout.size())?;
-    let mut bus = SoloBus::new(alloc, adapter, memory, true)?;
+    let mut machine = Machine::new(adapter, memory);
+    let mut bus = LivelyBus {
+        machine: &mut machine,
+        accesses: 0,
+    };
     let table = table_of(plan.sockets.as_slice());
     let host = Host::new(alloc, &mut bus, &plan.config, table)?;
-    let (adapter, memory) = bus.into_parts();
-    let station = Station::new(alloc, adapter, memory, wire)?;
+    let station = Station::new(alloc, machine, wire)?;
     Ok((host, station))
 }
 

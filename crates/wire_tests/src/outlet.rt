@@ -1,7 +1,7 @@
 //! What a drained host gives, kept.
 
 ghost use Rattle.std.specs.Prelude.{◌≤◌, ◌-◌, IfOk, length, map, vec_capacity};
-ghost use Rattle.packet_socket.specs.HostStretches.{Given};
+ghost use Rattle.packet_socket.specs.HostCalls.{Given};
 
 use descriptors::Frame;
 use std::alloc::{AllocError, Global};

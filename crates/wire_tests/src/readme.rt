@@ -3,16 +3,16 @@
 use crate::outlet::Taken;
 use crate::texts::two_hosts;
 use adapter::offsets::EERD;
-use adapter::{Adapter, StepKind};
+use adapter::{Adapter, Outcome, StepKind};
 use arrayvec::ArrayVec;
 use bring_up::Config;
-use bus::Bus;
+use bus::{Bus, Machine};
 use dma_memory::HostMemory;
 use driver::Handled;
 use eeprom::Image;
 use mdic_phy::Link;
 use network_plan::{HostPlan, Plan, PlanError};
-use stations::{LentBus, Outcome, Outcomes, Station, Tick, play};
+use stations::{LentBus, Outcomes, Station, Tick, play};
 use std::test::Fail;
 use wire::{Answer, Event, Lan, bring_up};
 
@@ -106,8 +106,8 @@ fn the_code_of_the_readme_of_network_plan(rt: HostRuntime) -> Result<(), Fail> {
 fn the_code_of_the_readme_of_stations(rt: HostRuntime) -> Result<(), Fail> {
     let image = Image::with_address([0x02, 0, 0, 0, 0, 0x01]);
     let adapter = Adapter::new(rt.alloc(), &image, Link::Never)?;
-    let memory = HostMemory::new(rt.alloc(), 4096)?;
-    let mut stations = [Station::new(rt.alloc(), adapter, memory, 0)?]; // on wire 0, and alone there
+    let machine = Machine::new(adapter, HostMemory::new(rt.alloc(), 4096)?);
+    let mut stations = [Station::new(rt.alloc(), machine, 0)?]; // on wire 0, and alone there
     let mut outcomes = Outcomes::with_room(rt.alloc(), 1)?;
     play(&mut stations, Tick::Deliver(0), 0, &mut outcomes); // behind no access
     for one in outcomes.as_slice() {
@@ -120,8 +120,8 @@ fn the_code_of_the_readme_of_stations(rt: HostRuntime) -> Result<(), Fail> {
 fn the_code_of_the_readme_of_stations_where_a_bus_is_lent(rt: HostRuntime) -> Result<(), Fail> {
     let image = Image::with_address([0x02, 0, 0, 0, 0, 0x01]);
     let adapter = Adapter::new(rt.alloc(), &image, Link::Never)?;
-    let memory = HostMemory::new(rt.alloc(), 4096)?;
-    let mut stations = [Station::new(rt.alloc(), adapter, memory, 0)?];
+    let machine = Machine::new(adapter, HostMemory::new(rt.alloc(), 4096)?);
+    let mut stations = [Station::new(rt.alloc(), machine, 0)?];
     let mut outcomes = Outcomes::with_room(rt.alloc(), 4)?;
     let ticks = [
         Tick::Go, // none before the first access,

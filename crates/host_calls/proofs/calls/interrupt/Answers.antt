@@ -17,5 +17,6 @@ returns c =
     (played_call c.args.place c.args.ticks.now c.args.outcomes.now noted ends.accesses) result
     (connected h c.args.stations.now) (connected h' stations))
     ends.stations.now _ ends.outcomes.now _ (search rules) (search rules)
-    (interrupt-runs _ c.interrupt-answer.new.bus ends h h' result refl c.requires.ready c.interrupt-answer.ensures.serves
+    (interrupt-runs _ c.interrupt-answer.new.bus ends h h' result refl c.requires.ready
+    c.interrupt-answer.ensures.only_receives c.interrupt-answer.ensures.serves
     (c.interrupt-answer.ensures.handles true (record { honest = tt; ready = c.requires.ready })) c.finish.ensures)

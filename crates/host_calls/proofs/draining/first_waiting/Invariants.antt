@@ -1,5 +1,5 @@
 use Rattle.std.proofs.Common.{◌≡◌, ◌<◌, [], ℕ}
-use Rattle.packet_socket.specs.SocketsState.{queue_at}
+use Rattle.packet_socket.specs.HostState.{queue_at}
 use Rattle.host_calls.proofs.draining.first_waiting.Given as goal
 
 -- for the sockets before this one nothing waits

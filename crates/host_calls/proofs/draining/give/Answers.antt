@@ -4,7 +4,7 @@ use Rattle.packet_socket.specs.declared.receive.RecvError.{RecvError}
 use Rattle.stations.specs.Stations.{world_at}
 use Rattle.host_calls.specs.CallAnswers.{MakesRecv, given_by}
 use Rattle.host_calls.specs.CallsOfHosts.{CallRuns}
-use Rattle.packet_socket.specs.HostStretches.{did}
+use Rattle.packet_socket.specs.HostCalls.{did}
 use Rattle.host_calls.specs.ConnectedHosts.{connected, played_call}
 use Rattle.host_calls.proofs.CallSteps.{given-steps, not-refused}
 use Rattle.host_calls.proofs.draining.give.Goals as goal

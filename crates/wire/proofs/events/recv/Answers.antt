@@ -58,6 +58,6 @@ returns c =
       result = answer;
       is = refl;
       answers = recv.answers;
-      leaves = subst (LeavesRecv answer c.args.socket host called.new.host) runs.are_told.counted recv.leaves;
+      leaves = subst (LeavesRecv answer c.args.socket host called.new.host) runs.of_call.counted recv.leaves;
       makes = runs.makes;
     })

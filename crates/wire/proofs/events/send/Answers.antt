@@ -50,7 +50,8 @@ returns c =
       result = c.send-called.result.answer;
       is = refl;
       answers = c.send-called.ensures.answers;
-      leaves = subst (LeavesSend c.send-called.result.answer host c.send-called.new.host) runs.are_told.counted
+      leaves = subst (LeavesSend c.send-called.result.answer host c.send-called.new.host) runs.of_call.counted
           c.send-called.ensures.leaves;
       makes = runs.makes;
+      frees_first = c.send-called.ensures.frees_first;
     })

@@ -1,7 +1,8 @@
 use Rattle.std.proofs.Common.{rules, ◌≡◌, subst, sym}
 use Rattle.wire.specs.LanView.{network_of}
 use Rattle.wire.specs.Networks.{NetworkStands, NetworkState}
-use Rattle.wire.proofs.Telling.{interrupt-told, network-now, recv-told, send-told, tick-moved, tick-now, tick-stands, tick-told, written}
+use Rattle.wire.proofs.Telling.{interrupt-event-as, network-now, recv-event-as, send-event-as, tick-event-as, tick-moved, tick-now}
+use Rattle.wire.proofs.Telling.{tick-stands, written}
 use Rattle.wire.proofs.lan.Lan.event.Goals as goal
 
 pub invariant_of-self-in-Tick : goal.invariant_of-self-in-Tick
@@ -21,7 +22,7 @@ returns-in_ok-outcomes-in-Send-clause-ok c =
     let old : NetworkState = record { hosts = c.as_mut_slice-hosts.result.now; stations = c.as_mut_slice-stations.result.now } in
     let same : network_of c.self.inside ≡ old = search rules in
     let old_is : old ≡ c.args.self.now = search rules in
-    send-told c.args.self.now old _ (written c.self.inside c.send.new.hosts c.send.new.stations) c.args.event.now c.in-Send.host
+    send-event-as c.args.self.now old _ (written c.self.inside c.send.new.hosts c.send.new.stations) c.args.event.now c.in-Send.host
     c.in-Send.frame c.in-Send.ticks c.send.result c.as_slice-frame.result.now c.as_slice.result.now old_is c.in-Send.is
     c.as_slice-frame.ensures.value c.as_slice.ensures.value
     (network-now c.self.inside _ _ _ old _ c.send.ensures.go c.as_mut_slice-hosts.ensures.len c.as_mut_slice-stations.ensures.len)
@@ -32,7 +33,7 @@ returns-in_ok-with_room-in-Recv-clause-ok c =
     let old : NetworkState = record { hosts = c.as_mut_slice-hosts.result.now; stations = c.as_mut_slice-stations.result.now } in
     let same : network_of c.self.inside ≡ old = search rules in
     let old_is : old ≡ c.args.self.now = search rules in
-    recv-told c.args.self.now old _ (written c.self.inside c.recv.new.hosts c.recv.new.stations) c.args.event.now c.in-Recv.host
+    recv-event-as c.args.self.now old _ (written c.self.inside c.recv.new.hosts c.recv.new.stations) c.args.event.now c.in-Recv.host
     c.in-Recv.socket c.in-Recv.ticks c.recv.result c.as_slice-ticks.result.now old_is c.in-Recv.is c.as_slice-ticks.ensures.value
     (network-now c.self.inside _ _ _ old _ c.recv.ensures.go c.as_mut_slice-hosts.ensures.len c.as_mut_slice-stations.ensures.len)
     c.recv.ensures (subst NetworkStands same c.self.invariant.stands)
@@ -42,7 +43,7 @@ returns-in_ok-outcomes-in-Interrupt-clause-ok c =
     let old : NetworkState = record { hosts = c.as_mut_slice-hosts.result.now; stations = c.as_mut_slice-stations.result.now } in
     let same : network_of c.self.inside ≡ old = search rules in
     let old_is : old ≡ c.args.self.now = search rules in
-    interrupt-told c.args.self.now old _ (written c.self.inside c.interrupt.new.hosts c.interrupt.new.stations) c.args.event.now
+    interrupt-event-as c.args.self.now old _ (written c.self.inside c.interrupt.new.hosts c.interrupt.new.stations) c.args.event.now
     c.in-Interrupt.host c.in-Interrupt.ticks c.interrupt.result c.as_slice-in-Interrupt.result.now old_is c.in-Interrupt.is
     c.as_slice-in-Interrupt.ensures.value
     (network-now c.self.inside _ _ _ old _ c.interrupt.ensures.go c.as_mut_slice-hosts.ensures.len
@@ -56,7 +57,7 @@ returns-in_ok-outcomes-in-Tick-clause-ok c =
     let old_is : old ≡ c.args.self.now = search rules in
     let played = tick-moved _ c.in-Tick.tick c.tick.result c.as_mut_slice-stations.result.now c.tick.new.stations (search rules)
     c.tick.ensures in
-    tick-told c.args.self.now old c.tick.new.stations (written inside old.hosts c.tick.new.stations) c.args.event.now c.in-Tick.tick
+    tick-event-as c.args.self.now old c.tick.new.stations (written inside old.hosts c.tick.new.stations) c.args.event.now c.in-Tick.tick
     c.tick.result old_is c.in-Tick.is
     (tick-now inside c.in-Tick.tick c.tick.result old c.tick.new.stations played c.as_mut_slice-hosts.ensures.len
     c.as_mut_slice-stations.ensures.len) (subst NetworkStands same c.self.invariant.stands) played
