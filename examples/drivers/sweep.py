@@ -39,8 +39,10 @@ def fault_of(name, wanted, got):
     for number, frame in enumerate(wanted):
         if number == len(got):
             return f"frame {number} was never {name}"
+        if len(got[number]) != len(frame):
+            return f"frame {number} was {name} with {len(got[number])} bytes instead of {len(frame)}"
         if got[number] != frame:
-            return f"frame {number} was {name} as one of {len(got[number])} bytes, in place of {len(frame)}"
+            return f"frame {number} was {name} with wrong bytes"
     return None if len(got) == len(wanted) else f"a frame was {name} that never was"
 
 
