@@ -2,6 +2,7 @@
 
 ghost use Rattle.std.specs.Prelude.{◌≡◌, ◌≢◌, ◌≤◌, ◌<◌, ◌+◌, [], None, IfNone, IfSome, false, length, ℕ};
 ghost use Rattle.registers.specs.Bits.{Meet};
+ghost use Rattle.adapter.specs.State.{IsAdapter};
 ghost use Rattle.packet_socket.specs.HostState.{HostState, all_of, queue_at};
 ghost use Rattle.stations.specs.Stations.{world_at};
 ghost use Rattle.host_calls.specs.DrainedHosts.{CanBeDrained, DrainsInto, HoldsNothing, count_held};
@@ -34,8 +35,6 @@ pub fn drain<S: Outlet>(
         (connected host.old stations.old) (connected host.new stations.new) }
     ensures left { length (S.frames sink.old) + S.places sink.old ≤ length (S.frames sink.new) + S.places sink.new }
 {
-    // A look at the adapter, so that the frames that are held may be counted as those of every adapter.
-    let _line = line_at(stations, place);
     let mut steps = 0;
     while step(host, stations, place, outcomes, sink) {
         steps += 1;
@@ -43,7 +42,7 @@ pub fn drain<S: Outlet>(
     steps
 }
 
-/// The next step, if one applies: else nothing is held.
+/// The next step, if one applies: else nothing is held. The room may rest on what holds of every adapter.
 fn step<S: Outlet>(
     host: &mut Host,
     stations: &mut [Station],
@@ -53,7 +52,9 @@ fn step<S: Outlet>(
 ) -> bool
     requires there { place < length stations.old }
     requires stands { CanBeDrained host.old (world_at stations.old place) }
-    requires room { count_held host.old (world_at stations.old place) ≤ S.places sink.old }
+    requires room { IsAdapter (world_at stations.old place).adapter
+        → count_held host.old (world_at stations.old place) ≤ S.places sink.old }
+    ensures adapter { IsAdapter (world_at stations.old place).adapter }
     ensures steps { StepsInto (steps_of result) place (outlet (S.frames sink.old) (S.places sink.old))
         (outlet (S.frames sink.new) (S.places sink.new))
         (connected host.old stations.old) (connected host.new stations.new) }
@@ -76,6 +77,7 @@ fn step<S: Outlet>(
 /// The adapter writes back the descriptor of the frame in progress, if there is one.
 fn finish(stations: &mut [Station], place: usize) -> bool
     requires there { place < length stations.old }
+    ensures adapter { IsAdapter (world_at stations.old place).adapter }
     ensures steps { (host : HostState) → CanBeDrained host (world_at stations.old place)
         → StepsOn (steps_of result) place [] (connected host stations.old) (connected host stations.new) }
     ensures free { (world_at stations.new place).adapter.receiver.work ≡ None }

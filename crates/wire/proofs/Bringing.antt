@@ -2,6 +2,7 @@
 use Rattle.std.proofs.Common.{List, length, sym, ap, subst, ◌∙◌, arith}
 use Rattle.std.proofs.lemmas.Option.{slice_get_within}
 use Rattle.circular_buffer.proofs.Places.{slice_get-some}
+use Rattle.adapter.specs.State.{IsAdapter}
 use Rattle.adapter.specs.World.{World}
 use Rattle.wire.specs.HostsUp.{AreUp}
 use Rattle.network_plan.specs.declared.plan.HostPlan.{HostPlan}
@@ -25,4 +26,12 @@ made-stands plans hosts stations up = record {
       subst (λ (world : World). HostStands host world) (ap world_of (sym station.1))
       (stands-with host station.0.world up_is.ready.ready up_is.ready.work up_is.ready.refilled up_is.ready.offered up_is.ready.can
       (λ small. up_is.no_frames.counts.exact));
+  adapters = λ k host is.
+      let below = slice_get_within hosts k host is in
+      let count = up.host_count in
+      let places = up.station_count in
+      let plan = slice_get-some plans k (omega (arith, below, count)) in
+      let station = slice_get-some stations k (omega (arith, below, count, places)) in
+      subst (λ (world : World). IsAdapter world.adapter) (ap world_of (sym station.1))
+      (up.each k plan.0 host station.0 plan.1 is station.1).adapter;
 }

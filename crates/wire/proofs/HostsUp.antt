@@ -1,5 +1,6 @@
 -- A host is brought up over a bus of its own.
-use Rattle.std.proofs.Common.{◌≡◌, ◌≢◌, ◌<◌, ◌-◌, [], true, false, ℕ, List, length, replicate, refl, sym, ap, subst, ◌∙◌, arith}
+use Rattle.std.proofs.Common.{◌≡◌, ◌≢◌, ◌<◌, ◌+◌, ◌-◌, [], true, false, ℕ, List, length, replicate, refl, sym, ap, subst, ◌∙◌, arith}
+use Rattle.std.proofs.Common.{length-append}
 use Rattle.std.specs.Bool.{⊤}
 use Rattle.dma_memory.specs.Layout.{Counts, size_of}
 use Rattle.descriptors.specs.Ring.{HasValidIndices, count_of}
@@ -12,17 +13,21 @@ use Rattle.mdic_phy.specs.declared.phy.Link.TheVariants.{Never}
 use Rattle.mdic_phy.specs.Phy.{PhyState, is_complete, link_is_up}
 use Rattle.rx_engine.specs.Addresses.{IsAddress}
 use Rattle.adapter.specs.Registers.{new_adapter}
-use Rattle.adapter.specs.State.{AdapterState}
+use Rattle.adapter.specs.State.{AdapterState, IsAdapter}
 use Rattle.adapter.specs.World.{World, receive_ring, transmit_ring}
+use Rattle.bus.specs.PastOfStretch.{Past}
 use Rattle.bus.specs.Settings.{settings_of}
+use Rattle.bus.specs.declared.event.Access.{Access}
 use Rattle.bus.specs.declared.bus.Bus.{Ghosts}
 use Rattle.bring_up.specs.Configuration.{CanBeHad, counts_of}
 use Rattle.bring_up.specs.ConfiguredAdapters.{IsConfigured, names_vlans}
+use Rattle.bring_up.specs.DriverSteps.{accesses_of}
+use Rattle.bring_up.specs.WrittenRegisters.{mask_writes}
 use Rattle.driver_law.specs.Beginnings.{new_driver}
 use Rattle.driver_law.specs.DriverState.{DriverState, with_owners}
 use Rattle.driver_law.specs.ReadyDrivers.{Ready}
 use Rattle.driver_law.specs.Calls.{IsRefilled}
-use Rattle.driver.specs.Initialisation.{Initialises}
+use Rattle.driver.specs.Initialisation.{Initialises, transmit_accesses}
 use Rattle.packet_socket.specs.HostCalls.{HostReady}
 use Rattle.packet_socket.specs.HostState.{HostState, new_host}
 use Rattle.packet_socket.specs.declared.socket_kind.SocketKind.{SocketKind}
@@ -32,6 +37,7 @@ use Rattle.stations.specs.Stations.{StationState}
 use Rattle.delivery.specs.CountedHosts.{CanAnswer}
 use Rattle.network_plan.specs.declared.plan.HostPlan.{HostPlan}
 use Rattle.wire.specs.HostsUp.{ComesUp, HasNoFrames}
+use Rattle.wire.proofs.AdaptersStay.{adapter-ticked}
 use Rattle.wire.proofs.ArrivalsAlone.{alone-stays}
 use Rattle.wire.proofs.OwnTicks.{IsAdapterOf, IsPhyOf}
 use Rattle.wire.proofs.PlansFilters.{Controls, controls, plans-filter}
@@ -131,6 +137,20 @@ no-frames plan old new host wire is =
       };
     }
 
+-- After the write of RCTL an access was made. Before it the EEPROM took a step, which is one of an adapter.
+still-adapter : (plan : HostPlan) (old new : LivelyBus) (host : HostState) → IsBroughtUp plan old new host
+    → IsAdapter (machine_world new).adapter
+still-adapter plan old new host is =
+    let init = is.initialises in
+    let lives = init.reports_later in
+    let writes = transmit_accesses host.driver.layout in
+    let made : length init.later.accesses ≡ length writes + length (accesses_of mask_writes) =
+    ap (λ (accesses : List Access). length accesses) init.accesses.rest ∙ length-append writes (accesses_of mask_writes) in
+    let one : length (accesses_of mask_writes) ≡ 1 = refl in
+    let steps = ap (λ (past : Past). past.eeprom_ticks) lives.past_is in
+    adapter-ticked lives.events (machine_world init.middle) (machine_world new) lives.trail
+    (omega (arith, made, one, steps, lives.eeprom))
+
 pub comes-up : (plan : HostPlan) (old new : LivelyBus) (host : HostState) (wire : ℕ) → IsBroughtUp plan old new host
     → ComesUp plan host (station_on wire (machine_world new))
 comes-up plan old new host wire is =
@@ -164,4 +184,5 @@ comes-up plan old new host wire is =
         link = init.adapter.up;
       };
       no_frames = no-frames plan old new host wire is;
+      adapter = still-adapter plan old new host is;
     }

@@ -1,5 +1,6 @@
 pub mod Delivering
 pub mod Tellings
+pub mod AdaptersStay
 pub mod Standing
 pub mod Playing
 pub mod Ticking

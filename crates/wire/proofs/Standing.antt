@@ -37,6 +37,7 @@ use Rattle.host_calls.specs.CallsOfHosts.{HostRuns, IsOfDriver, IsTailWrite}
 use Rattle.host_calls.specs.ConnectedHosts.{connected}
 use Rattle.wire.specs.EventParts.{HostsGo}
 use Rattle.wire.specs.Networks.{HostStands, IsHost, NetworkStands, NetworkState}
+use Rattle.wire.proofs.AdaptersStay.{adapter-behind}
 use Rattle.wire.proofs.Delivering.{Tells, delivers-runs}
 
 -- Accesses of a driver that is up can be counted.
@@ -204,5 +205,9 @@ hosts-go caller happened steps old new taken given accepted stands leads same ru
         let some = slice_get-some old.hosts k (let below = slice_get_within new.hosts k is here in omega (arith, below, same)) in
         stands-behind caller k steps old.stations new.stations some.0 is (taken k) (given k) (accepted k) leads
         (stands.each k some.0 some.1) (runs k some.0 is some.1 here);
+    adapters = λ k is here.
+        let some = slice_get-some old.hosts k (let below = slice_get_within new.hosts k is here in omega (arith, below, same)) in
+        adapter-behind (events_at k steps) (world_at old.stations k) (world_at new.stations k)
+        (trail-of caller k steps old.stations new.stations leads) (stands.adapters k some.0 some.1);
   };
 }

@@ -6,6 +6,7 @@ use Rattle.eeprom.specs.Image.{HasRightSum}
 use Rattle.mdic_phy.specs.declared.phy.Link.TheVariants.{Never}
 use Rattle.dma_memory.specs.Layout.{size_of}
 use Rattle.adapter.specs.HostFrames.{frames_held, frames_to_send}
+use Rattle.adapter.specs.State.{IsAdapter}
 use Rattle.adapter.specs.World.{World}
 use Rattle.bus.specs.Link.{HasLink}
 use Rattle.bring_up.specs.Configuration.{counts_of}
@@ -66,12 +67,13 @@ pub record HasPlansDevices (plan : HostPlan) (world : World) : Type 0 where
   pub comes : plan.link ≢ Never
   pub link : HasLink world
 
--- A host and its station are as its plan says.
+-- A host and its station are as its plan says. What holds of every adapter holds of its adapter.
 pub record ComesUp (plan : HostPlan) (host : HostState) (station : StationState) : Type 0 where
   pub ready : IsReadyToRun host station.world
   pub sizes : HasPlansSizes plan host station.world
   pub devices : HasPlansDevices plan station.world
   pub no_frames : HasNoFrames host station
+  pub adapter : IsAdapter station.world.adapter
 
 -- Why a host isn't initialized, other than for want of memory: its EEPROM's checksum is wrong; or it is right, and the link needs more than
 -- 2,000 ticks or never comes up.

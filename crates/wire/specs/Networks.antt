@@ -2,6 +2,7 @@
 use Rattle.std.specs.Prelude.{◌≡◌, ◌≤◌, ◌<◌, ◌+◌, [], ℕ, IsTrue, List, Some, length, slice_get}
 use Rattle.registers.specs.Counting.{greatest_count}
 use Rattle.adapter.specs.HostFrames.{frames_to_send}
+use Rattle.adapter.specs.State.{IsAdapter}
 use Rattle.adapter.specs.World.{World}
 use Rattle.dma_memory.specs.Owners.{HasOneOwner}
 use Rattle.driver_law.specs.DriverState.{owners}
@@ -44,7 +45,8 @@ pub record HostStands (host : HostState) (world : World) : Type 0 where
   pub sends_at_most : length (frames_to_send world) + 1 ≤ host.driver.layout.tx
   pub exact : CountsExactly host world
 
--- Each host has its station, and stands.
+-- Each host has its station, and stands. What holds of every adapter holds of its adapter.
 pub record NetworkStands (network : NetworkState) : Type 0 where
   pub same : length network.stations ≡ length network.hosts
   pub each : (k : ℕ) (host : HostState) → IsHost network k host → HostStands host (world_at network.stations k)
+  pub adapters : (k : ℕ) (host : HostState) → IsHost network k host → IsAdapter (world_at network.stations k).adapter

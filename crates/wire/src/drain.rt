@@ -10,7 +10,7 @@ ghost use Rattle.wire.specs.Networks.{IsHost, NetworkStands};
 use crate::Lan;
 use host_calls::Outlet;
 use packet_socket::Host;
-use stations::{Outcomes, Station, line_at};
+use stations::{Outcomes, Station};
 
 /// How many frames a receive packet buffer has room for, at most.
 const MOST_BUFFERED: usize = 24;
@@ -29,8 +29,6 @@ impl Lan {
         if host >= hosts.len() {
             return 0;
         }
-        // A look at the adapter, so that the frames that are held may be counted as those of every adapter.
-        let _line = line_at(self.stations.as_slice(), host);
         usize::from(hosts[host].layout().buffers()) + MOST_BUFFERED
     }
 

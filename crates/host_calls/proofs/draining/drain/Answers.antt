@@ -12,12 +12,14 @@ loop-steps-init g c = record {
       (g.S.Outlet.frames c.args.sink.now) (g.S.Outlet.places c.args.sink.now) 0
       (steps-none c.args.place c.args.stations.now c.args.host.now c.requires.stands);
   stands = c.requires.stands;
+  adapter = λ adapter. adapter;
 }
 
 pub step-requires-clause-room : goal.step-requires-clause-room
-step-requires-clause-room g c =
+step-requires-clause-room g c = λ adapter.
     let into = c.loop-steps.invariant.into in
-    let most = held-at_most c.args.host.now (world_at c.args.stations.now c.args.place) c.requires.stands c.line_at-line.ensures.adapter in
+    let most = held-at_most c.args.host.now (world_at c.args.stations.now c.args.place) c.requires.stands
+    (c.loop-steps.invariant.adapter adapter) in
     omega (arith, into.room, into.on.counts.held, most, c.requires.room)
 
 pub overflow_add-steps : goal.overflow_add-steps
@@ -29,7 +31,8 @@ overflow_add-steps g c =
     (outlet (g.S.Outlet.frames c.step.new.sink) (g.S.Outlet.places c.step.new.sink))
     (connected c.loop-steps.host c.loop-steps.stations)
     (connected c.step.new.host c.step.new.stations)) c.loop-steps-test.true c.step.ensures.steps in
-    let fit = steps-fit c.args.host.now (world_at c.args.stations.now c.args.place) c.requires.stands c.line_at-line.ensures.adapter in
+    let fit = steps-fit c.args.host.now (world_at c.args.stations.now c.args.place) c.requires.stands
+    (c.loop-steps.invariant.adapter c.step.ensures.adapter) in
     omega (arith, into.on.counts.most, step.on.counts.most, fit)
 
 pub loop-steps-preserved : goal.loop-steps-preserved
@@ -48,6 +51,7 @@ loop-steps-preserved g c =
           (g.S.Outlet.places c.step.new.sink) into step;
       stands = stands-on 1 c.args.place c.loop-steps.stations c.step.new.stations c.loop-steps.host c.step.new.host step.given step.on
           c.loop-steps.invariant.stands;
+      adapter = λ adapter. c.loop-steps.invariant.adapter c.step.ensures.adapter;
     }
 
 pub returns-clause-drains : goal.returns-clause-drains
@@ -68,7 +72,8 @@ returns-clause-drains g c =
     c.loop-steps.host c.step.new.host (g.S.Outlet.frames c.args.sink.now) (g.S.Outlet.frames c.loop-steps.sink)
     (g.S.Outlet.frames c.step.new.sink) (g.S.Outlet.places c.args.sink.now) (g.S.Outlet.places c.loop-steps.sink)
     (g.S.Outlet.places c.step.new.sink) into c.step.ensures.steps))
-    (c.step.ensures.ends c.loop-steps-test.false) c.requires.stands c.line_at-line.ensures.adapter
+    (c.step.ensures.ends c.loop-steps-test.false) c.requires.stands
+    (c.loop-steps.invariant.adapter c.step.ensures.adapter)
 
 pub returns-clause-left : goal.returns-clause-left
 returns-clause-left g c =

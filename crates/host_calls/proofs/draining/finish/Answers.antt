@@ -1,6 +1,9 @@
 use Rattle.host_calls.proofs.AdapterSteps.{finishes-done, finishes-free, finishes-none}
 use Rattle.host_calls.proofs.draining.finish.Goals as goal
 
+pub returns-in-Done-clause-adapter : goal.returns-in-Done-clause-adapter
+returns-in-Done-clause-adapter c = c.step_at.ensures.occurs.0
+
 pub returns-in-Done-clause-steps : goal.returns-in-Done-clause-steps
 returns-in-Done-clause-steps c = λ host stands.
     finishes-done c.args.place c.args.stations.now c.step_at.new.stations host c.step_at.result c.requires.there
@@ -13,6 +16,7 @@ returns-in-Done-clause-free c =
 
 pub returns-in_default : goal.returns-in_default
 returns-in_default c = record {
+  adapter = c.step_at.ensures.occurs.0;
   steps = λ host stands.
       finishes-none c.args.place c.args.stations.now c.step_at.new.stations host c.step_at.result c.requires.there
       c.step_at.ensures.occurs c.step_at.ensures.state c.in_default.not-Done stands;

@@ -25,7 +25,7 @@ give-requires-clause-stands g c =
 pub give-requires-clause-room : goal.give-requires-clause-room
 give-requires-clause-room g c =
     room-left c.args.host.now (world_at c.args.stations.now c.args.place) c.in-Some.socket (g.S.Outlet.places c.args.sink.now)
-    c.in-Some.ensures.some.1 c.requires.room
+    c.in-Some.ensures.some.1 (c.requires.room c.finish.ensures.adapter)
 
 pub returns-in-Some-clause-steps : goal.returns-in-Some-clause-steps
 returns-in-Some-clause-steps g c = record {

@@ -1,9 +1,8 @@
 use Rattle.std.proofs.Common.{rules, ◌≡◌, List, Some, arith, ap, slice_get, slice_index_or, subst, sym, ◌∙◌}
 use Rattle.std.proofs.lemmas.Option.{slice_get-get_or}
-use Rattle.adapter.specs.State.{IsAdapter}
 use Rattle.dma_memory.specs.Layout.{Counts}
 use Rattle.packet_socket.specs.HostState.{HostState}
-use Rattle.stations.specs.Stations.{StationState, world_at}
+use Rattle.stations.specs.Stations.{world_at}
 use Rattle.host_calls.proofs.Endings.{held-at_most}
 use Rattle.wire.specs.LanView.{network_of}
 use Rattle.wire.specs.Networks.{NetworkStands}
@@ -14,11 +13,9 @@ pub returns-clause-enough : goal.returns-clause-enough
 returns-clause-enough c = λ state is.
     let same : network_of c.self.inside ≡ c.args.self.now = search rules in
     let stands = subst NetworkStands same c.self.invariant.stands in
-    let stations : c.as_slice.result.now ≡ c.args.self.now.stations = search rules in
-    let adapter = subst (λ (list : List StationState). IsAdapter (world_at list c.args.host).adapter) stations
-    c.line_at-line.ensures.adapter in
     let world = world_at c.args.self.now.stations c.args.host in
-    let held = held-at_most state world (can-drain state world (stands.each c.args.host state is)) adapter in
+    let held = held-at_most state world (can-drain state world (stands.each c.args.host state is))
+    (stands.adapters c.args.host state is) in
     let hosts : c.as_slice-hosts.result.now ≡ c.args.self.now.hosts = search rules in
     let own = slice_index_or c.as_slice-hosts.result.now c.args.host c.index-hosts-host.result in
     let there : slice_get c.as_slice-hosts.result.now c.args.host ≡ Some own =
