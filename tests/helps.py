@@ -27,11 +27,12 @@ from the top of the repository:
   frames 1 skipped 0 cut no
 
 Exit status: 0 success, 1 a trace or a scenario is invalid, 2 usage error, help or version, 3 a file failed,
-4 out of memory. After 1, 3 and 4 standard error has 'nicbench: CODE NAME'. IN is any input: also the TRACE
-of show, and the SCENARIO of run with each FILE that it feeds. If IN is -, it is standard input, which can be
-read only once. Standard input and named pipes are read to their end first, up to 1 GiB. OUT is any output:
-also each file in the OUTDIR of run. Codes E40 to E56 come from run only: nicbench run --help. For E57, E66
-and E67 of serve: nicbench serve --help
+4 out of memory. If the status is 1, 3 or 4, nicbench prints 'nicbench: CODE NAME' on standard error, or
+'nicbench: line N: CODE NAME' if a line of a scenario is invalid. IN is any input: also the TRACE of show, and
+the SCENARIO of run with each FILE that it feeds. If IN is -, it is standard input, which can be read only
+once. Standard input and named pipes are read to their end first, up to 1 GiB. OUT is any output: also each
+file in the OUTDIR of run. Codes E40 to E56 come from run only: nicbench run --help. For E57, E66 and E67 of
+serve: nicbench serve --help
 
   E57 Memory    Out of memory before anything was written, or standard input or a pipe has more than
                 1 GiB. Free some, split IN, or copy it to a file first
@@ -78,10 +79,10 @@ Run this example from the top of the repository:
   written   frames in OUT
   cut       whether IN ends inside a packet
 
-On an error, standard error has 'nicbench: CODE NAME':
+If pass fails, it prints 'nicbench: CODE NAME' on standard error:
 
   E60 to E64  IN is invalid, status 1
-  E66 to E68  A file or standard output failed, status 3
+  E66 to E68  Opening, reading or writing failed, status 3
   E57, E65    Out of memory, status 4
 
 What each code means, and what to do: nicbench --help
@@ -157,8 +158,8 @@ The counts are of frames that its sends accepted, that its adapter put on the wi
 it stored, and that it missed because its receive packet buffer was full ('atleast' in place of 'exact' if
 there may be more); then frames that its sockets returned, and frames that none of its sockets takes.
 
-For an error in a line, standard error has 'nicbench: line N: CODE NAME', and else 'nicbench: CODE NAME'. If
-existing files in OUTDIR are unchanged, a second line says so:
+If run fails, it prints 'nicbench: CODE NAME' on standard error, or 'nicbench: line N: CODE NAME' if a line is
+invalid. If existing files in OUTDIR are unchanged, a second line says so:
 
   E40 Name      The name of a host or a wire isn't 1 to 16 of a-z 0-9 _ -. Choose another
   E41 Ends      A wire has only 1 host, or more than 8. Check the names of wires, or add a host
@@ -171,7 +172,7 @@ existing files in OUTDIR are unchanged, a second line says so:
   E46 Init      An adapter could not be initialized; the reason follows, such as E14 NoLink: its link is
                 never up, or only after more than 2000 ticks. Use a smaller link
   E47 Memory    Out of memory during the run. Free some, or split the scenario
-  E50 Word      The first word is none of those above. Correct it, or begin a comment with #
+  E50 Word      The line's first word isn't in the lists above. Correct it, or begin a comment with #
   E51 Count     There are too few or too many words, or an option twice. Compare with the list above
   E52 Value     A word doesn't have its form: a decimal number, an address, an even number of up to 8000
                 hexadecimal digits, a tick, an option. Compare with the list above
@@ -204,10 +205,10 @@ frames and the packets that were captured in part, and says whether TRACE ends i
   2 1518 02:00:00:00:00:02 02:00:00:00:00:01 0800
   frames 3 skipped 0 cut no
 
-On an error, standard error has 'nicbench: CODE NAME':
+If show fails, it prints 'nicbench: CODE NAME' on standard error:
 
   E60 to E64  TRACE is invalid, status 1
-  E66 to E68  A file or standard output failed, status 3
+  E66 to E68  Opening, reading or writing failed, status 3
   E57, E65    Out of memory, status 4
 
 What each code means, and what to do: nicbench --help
@@ -258,11 +259,11 @@ Numbers are decimal, or hexadecimal after 0x. A register is read and written as 
 writel, read, write or memset. The adapter takes no step by itself: each step is a request, or random,
 and the same seed gives the same steps. Lines between a request and its answer say what happened: 'IRQ
 raise 0', 'IRQ lower 0', 'frame HEX' for a frame put on the wire, and '# ...' while the log is on. If the
-answer isn't OK, the request changed nothing: the answer is 'FAIL unknown', or 'ERR' with count, value,
-size, address, text or long.
+answer isn't OK, the request changed nothing. Such an answer is 'FAIL unknown', or 'ERR' and one reason:
+count, value, size, address, text or long.
 
-At the end of its input the server ends with exit status 0. On an error, standard error has 'nicbench: CODE
-NAME':
+At the end of its input the server ends with exit status 0. If it fails, it prints 'nicbench: CODE NAME' on
+standard error:
 
   E57 Memory    Out of memory, status 4. Free some, or reduce --memory
   E66 Read      Standard input could not be read, status 3. Check where it comes from
