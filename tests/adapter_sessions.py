@@ -200,13 +200,119 @@ def receiving(server):
         ("the tail is no slot", [writes(RDT, 8)], 60, "fault"), ("the descriptor lies past the memory", [writes(RDBAL, 0x100000)], 60, "fault"),
         ("the buffer lies past the memory", [stores(0, "c4ff0f")], 61, "fault"), ("the buffer ends with the memory", [stores(0, "c4ff0f")], 60, "moved"),
         ("buffers of another unit", [writes(RCTL, 0x02008002)], 60, "fault"), ("a buffer of 256 bytes is filled", [writes(RCTL, 0x00038002)], 256, "moved"),
-        ("a buffer of 256 bytes is too small", [writes(RCTL, 0x00038002)], 257, "fault"),
+        ("a buffer of 256 bytes has room for a part", [writes(RCTL, 0x00038002)], 257, "part"),
     ]:
         server.talks(f"adapter: a frame's place: {name}", [*SLOTS, *OFFERED, arrives("stored", "ff" * size), *changed, *steps(("rxdata", outcome))])
     server.talks("adapter: a fault stops reception", [
         *SLOTS, writes(RCTL, RECEIVE), writes(RDLEN, 100), writes(RDT, 1), arrives("stored"), *steps(("rxdata", "fault"), ("rxdata", "nothing")),
         loads(0, "0048" + "00" * 14), loads(0x4800, "00" * 60), reads(RDH, 0), *OFFERED, *steps(("rxdata", "nothing")), writes(CTRL, RESET), *OFFERED,
         arrives("stored"), *steps(("rxdata", "moved"))])
+
+
+# RCTL with EN and BAM for each size of a receive buffer (13.4.22: BSIZE, bits 17:16), and the longest frame, whose pieces all differ.
+SIZES = {2048: 0x00008002, 1024: 0x00018002, 512: 0x00028002, 256: 0x00038002}
+LONG = "ff" * 6 + "".join(f"{number:04x}" for number in range(756))
+NOTHING_LEFT = steps(("rxdata", "nothing"), ("rxdone", "nothing"))
+
+
+def awaited(size, *changed, frame=LONG):
+    """Seven buffers of this size are offered, and a frame is stored."""
+    return [*SLOTS, *OFFERED, writes(RCTL, SIZES[size]), *changed, arrives("stored", frame)]
+
+
+def written_back(slot, length, status):
+    """A descriptor after its write-back (3.2.3): its buffer, the length, checksum 0, the status, errors 0, special 0."""
+    return loads(16 * slot, f"00{0x48 + 8 * slot:02x}{'00' * 6}{length.to_bytes(2, 'little').hex()}0000{status:02x}000000")
+
+
+def holds(slot, first, length, frame=LONG):
+    """The buffer of a slot has the frame's bytes from `first` on. The four bytes after them were not written."""
+    return loads(0x4800 + 0x800 * slot, frame[2 * first:2 * (first + length)] + "00" * 4)
+
+
+def comes(*lengths, slot=0, first=0, left=False, frame=LONG):
+    """Pieces of these lengths are moved and finished, one for each slot. The last piece ends the frame, unless some of the frame is left."""
+    rows = []
+    for number, length in enumerate(lengths):
+        ends, place = not left and number == len(lengths) - 1, (slot + number) % 8
+        rows += [*steps(("rxdata", "moved" if ends else "part"), ("rxdone", "done")), written_back(place, length, 0x03 if ends else 0x01),
+                 holds(place, first, length, frame)]
+        first += length
+    return rows
+
+
+def pieces(server):
+    """A frame that is longer than a receive buffer goes into several, one piece for each descriptor."""
+    server.check("adapter: the longest frame has 1,518 bytes", len(LONG), 2 * 1518)
+    part = [*steps(("rxdata", "part"), ("rxdata", "nothing")), reads(GPRC, 0), *steps(("rxdone", "done"), ("rxdone", "nothing"))]
+    server.talks("adapter: six pieces of a frame", [
+        *awaited(256, writes(IMS, 0x80)), *steps(("rxdata", "part")), reads(RDH, 1), loads(0, "0048" + "00" * 14), *steps(("rxdone", "done")),
+        loads(0, "00480000000000000001000001000000"), reads(ICR, 0), *part, reads(ICR, 0), *part, reads(ICR, 0x10), *part, reads(ICR, 0), *part, reads(ICR, 0),
+        *steps(("rxdata", "moved"), ("rxdata", "nothing")), reads(ICR, 0), reads(GPRC, 0), loads(0x50, "0070" + "00" * 14),
+        ("step rxdone", "IRQ raise 0\nOK done"), loads(0x50, "0070000000000000ee00000003000000"), reads(ICR, 0x80, "IRQ lower 0\n"), reads(GPRC, 1),
+        *(holds(slot, first, length) for slot, first, length in [(0, 0, 256), (1, 256, 256), (2, 512, 256), (3, 768, 256), (4, 1024, 256), (5, 1280, 238)]),
+        *NOTHING_LEFT, reads(RDH, 6), loads(0x60, "0078" + "00" * 14), reads(RNBC, 0)])
+    for size, length, lengths in [
+        (256, 255, [255]), (256, 256, [256]), (256, 257, [256, 1]), (256, 511, [256, 255]), (256, 512, [256, 256]), (256, 513, [256, 256, 1]),
+        (512, 512, [512]), (512, 1518, [512, 512, 494]), (1024, 1024, [1024]), (1024, 1025, [1024, 1]), (1024, 1518, [1024, 494]), (2048, 1518, [1518]),
+    ]:
+        server.talks(f"adapter: {length} bytes in buffers of {size}", [
+            *awaited(size, frame=LONG[:2 * length]), *comes(*lengths), *NOTHING_LEFT, reads(RDH, len(lengths)), reads(GPRC, 1)])
+    server.talks("adapter: the pieces of two frames", [
+        *awaited(512), arrives("stored"), *comes(512, 512, 494), reads(ICR, 0x90), *comes(60, slot=3, frame=BROADCAST), reads(ICR, 0x80), *NOTHING_LEFT,
+        reads(GPRC, 2)])
+    server.talks("adapter: a frame's pieces wrap around the ring", [
+        *awaited(512, writes(RDH, 6), writes(RDT, 5)), *comes(512, 512, 494, slot=6), *NOTHING_LEFT, reads(RDH, 1), reads(ICR, 0x90)])
+    server.talks("adapter: `settle` moves the six pieces", [
+        *awaited(256), ("settle", "OK 0x000000000000000c"), reads(RDH, 6), reads(ICR, 0x90), reads(GPRC, 1), ("settle", "OK 0x0000000000000000"),
+        holds(0, 0, 256), holds(5, 1280, 238)])
+    server.talks("adapter: `settle` moves the pieces for which there are descriptors", [
+        *awaited(256, writes(RDT, 4)), ("settle", "OK 0x0000000000000008"), reads(RDH, 4), reads(ICR, 0), reads(GPRC, 0), writes(RDT, 7),
+        ("settle", "OK 0x0000000000000004"), *(written_back(slot, 256, 0x01) for slot in range(5)), written_back(5, 238, 0x03), reads(RDH, 6), reads(GPRC, 1)])
+    server.talks("adapter: the log has a part", [
+        *awaited(1024), ("log on", "OK"), ("step rxdata", "# step rxdata -> part\nOK part"), ("step rxdone", "# step rxdone -> done\nOK done"),
+        ("step rxdata", "# step rxdata -> moved\nOK moved")])
+
+
+def pieces_later(server):
+    """What happens while some of a frame is left."""
+    for size, rest in [(2048, [1262]), (1024, [1024, 238]), (512, [512, 512, 238])]:
+        server.talks(f"adapter: buffers of 256 bytes become buffers of {size} in mid-frame", [
+            *awaited(256), *steps(("rxdata", "part")), writes(RCTL, SIZES[size]), *steps(("rxdone", "done")), written_back(0, 256, 0x01),
+            *comes(*rest, slot=1, first=256), *NOTHING_LEFT, reads(GPRC, 1)])
+    server.talks("adapter: buffers of 1,024 bytes become buffers of 256 in mid-frame", [
+        *awaited(1024), *comes(1024, left=True), writes(RCTL, SIZES[256]), *comes(256, 238, slot=1, first=1024), *NOTHING_LEFT])
+    server.talks("adapter: reception is off in mid-frame", [
+        *awaited(256), *steps(("rxdata", "part")), writes(RCTL, 0x00038000), *steps(("rxdata", "nothing"), ("rxdone", "done"), ("rxdata", "nothing")),
+        written_back(0, 256, 0x01), arrives("off"), reads(RDH, 1), writes(RCTL, SIZES[256]), *comes(256, 256, 256, 256, 238, slot=1, first=256), *NOTHING_LEFT,
+        reads(GPRC, 1)])
+    server.talks("adapter: no descriptor is left in mid-frame", [
+        *awaited(256, writes(RDT, 2)), *comes(256, 256, left=True), *NOTHING_LEFT, reads(RDH, 2), reads(RNBC, 0), arrives("stored"), reads(RNBC, 1),
+        reads(MPC, 0), reads(ICR, 0), writes(RDT, 7), arrives("stored"), *comes(256, 256, 256, 238, slot=2, first=512), reads(ICR, 0x90),
+        *comes(60, slot=6, frame=BROADCAST), *NOTHING_LEFT, reads(RDH, 7), reads(RNBC, 0), reads(GPRC, 2)])
+    for tail, recorded in [(7, [0, 0, 0x10, 0, 0, 0]), (6, [0, 0x10, 0, 0, 0, 0]), (5, [0x10, 0, 0, 0, 0]), (4, [0, 0, 0, 0])]:
+        server.talks(f"adapter: half of the descriptors are free in mid-frame, tail {tail}", [*awaited(256, writes(RDT, tail)), *(
+            row for number, causes_told in enumerate(recorded) for row in [
+                *steps(("rxdata", "moved" if number == 5 else "part")), reads(ICR, causes_told), *steps(("rxdone", "done")),
+                reads(ICR, 0x80 if number == 5 else 0)])])
+    server.talks("adapter: a frame has its room until its last piece is moved", [
+        writes(PBA, 2), *awaited(256), *steps(("rxdata", "part")), arrives("missed"), *steps(("rxdone", "done")), arrives("missed"), reads(MPC, 2),
+        reads(ICR, 0x40), *comes(256, 256, 256, 256, slot=1, first=256, left=True), arrives("missed"), reads(MPC, 1), *steps(("rxdata", "moved")),
+        arrives("stored"), reads(GPRC, 0), *steps(("rxdone", "done")), written_back(5, 238, 0x03),
+        *comes(60, slot=6, frame=BROADCAST), *NOTHING_LEFT, reads(GPRC, 2), reads(RNBC, 0)])
+    again = [writes(CTRL, RESET), *OFFERED, writes(RCTL, SIZES[256])]
+    server.talks("adapter: a fault in mid-frame", [
+        *awaited(256, stores(16, "000010")), *steps(("rxdata", "part"), ("rxdata", "nothing"), ("rxdone", "done"), ("rxdata", "fault")), *NOTHING_LEFT,
+        reads(RDH, 1), written_back(0, 256, 0x01), loads(16, "000010" + "00" * 13), stores(16, "005000"), *NOTHING_LEFT, reads(ICR, 0),
+        reads(GPRC, 0), *again, *NOTHING_LEFT, arrives("stored", "ff" * 300), *comes(256, 44, frame="ff" * 300), *NOTHING_LEFT, reads(GPRC, 1)])
+    for name, buffer, outcome in [("ends with the memory", "12ff0f", "moved"), ("lies past the memory", "13ff0f", "fault")]:
+        server.talks(f"adapter: the buffer of the last piece {name}", [
+            *awaited(256, stores(0x50, buffer)), *comes(256, 256, 256, 256, 256, left=True), *steps(("rxdata", outcome))])
+    for name, begun, descriptor in [("in progress", [], loads(0, "0048" + "00" * 14)), ("finished", steps(("rxdone", "done")), written_back(0, 256, 0x01))]:
+        server.talks(f"adapter: a reset in mid-frame, the piece is {name}", [
+            *awaited(256), *steps(("rxdata", "part")), *begun, *again, *NOTHING_LEFT, descriptor, reads(RDH, 0), reads(GPRC, 0), reads(ICR, 0),
+            arrives("stored"), *steps(("rxdata", "moved"), ("rxdone", "done")), written_back(0, 60, 0x03),
+            loads(0x4800, BROADCAST + LONG[120:128]), reads(GPRC, 1)])
 
 
 def slot(length, told, number=0):
@@ -252,5 +358,5 @@ def sending(server):
 
 
 def all_cases(server):
-    for part in [registers, causes, eeprom, phy, filters, arrivals, receiving, sending]:
+    for part in [registers, causes, eeprom, phy, filters, arrivals, receiving, pieces, pieces_later, sending]:
         part(server)

@@ -17,12 +17,13 @@ use Rattle.adapter.specs.declared.register.Register.TheVariants.{Icr, Ics, Ims, 
 use Rattle.adapter.specs.declared.step.StepKind.{StepKind}
 use Rattle.adapter.specs.declared.step.StepKind.TheVariants.{TxTake, TxPut, RxData, RxDone, EepromTick, PhyTick}
 use Rattle.adapter.specs.Outcomes.{FrameOutcome}
-use Rattle.adapter.specs.declared.outcome.Outcome.TheVariants.{Took, Put, Moved, Done, Fault}
+use Rattle.adapter.specs.declared.outcome.Outcome.TheVariants.{Took, Put, Part, Moved, Done, Fault}
 use Rattle.adapter.specs.History.{AdapterEvent, Read, Write, Step, Arrive, after_event, after_events}
 use Rattle.adapter.specs.PacketBuffer.{IsAllocation, allocation_written, is_allocation}
 use Rattle.adapter.specs.Registers.{after_reset, answer, by_row, is_reset, left_by_read, left_by_write, new_adapter, read_of, write_of}
 use Rattle.adapter.specs.State.{AdapterState, CausesAlone, CountersFit, HasTables, HasRegisters}
-use Rattle.adapter.specs.Receiving.{after_arrive, after_data, after_done, causes_of_moving, no_buffers_counted}
+use Rattle.adapter.specs.Receiving.{after_arrive, after_data, after_done, causes_of_finishing, causes_of_moving, is_ending}
+use Rattle.adapter.specs.Receiving.{no_buffers_counted, received_counted}
 use Rattle.adapter.specs.Recording.{one_more, with_causes}
 use Rattle.adapter.specs.Steps.{after_phy_told, causes_told, after_step}
 use Rattle.adapter.specs.Transmitting.{after_put, after_take, causes_of_putting, causes_of_taking}
@@ -181,6 +182,13 @@ no_buffers-fit state adapter = by_test (state.receive_ring.head == state.receive
     by_test true = one_more-fits state.no_receive_buffers
     by_test false = adapter.counters.no_buffers
 
+received-fit : (state : AdapterState) → HasRegisters state → received_counted state ≤ greatest_count
+received-fit state adapter = by_test (is_ending state.receiver.work)
+  where
+    by_test : (test : Bool) → (if test then one_more state.received_packets else state.received_packets) ≤ greatest_count
+    by_test true = one_more-fits state.received_packets
+    by_test false = adapter.counters.received
+
 HasRegisters-took : (answer : FrameOutcome) (memory : List ℕ) (state : AdapterState) → HasRegisters state
     → HasRegisters (after_take answer memory state)
 HasRegisters-took Took memory state adapter =
@@ -203,6 +211,9 @@ HasRegisters-put (Put frame) state adapter =
 HasRegisters-put _ state adapter = adapter
 
 HasRegisters-moved : (answer : FrameOutcome) (state : AdapterState) → HasRegisters state → HasRegisters (after_data answer state)
+HasRegisters-moved Part state adapter =
+    HasRegisters-with_causes (causes_of_moving state.receive_ring) _ (cause-alone _ 0x10 refl)
+    (of-parts adapter.tables adapter.allocation adapter.causes adapter.counters)
 HasRegisters-moved Moved state adapter =
     HasRegisters-with_causes (causes_of_moving state.receive_ring) _ (cause-alone _ 0x10 refl)
     (of-parts adapter.tables adapter.allocation adapter.causes adapter.counters)
@@ -213,9 +224,9 @@ HasRegisters-moved _ state adapter = adapter
 HasRegisters-done : (answer : FrameOutcome) (state : AdapterState) → HasRegisters state → HasRegisters (after_done answer state)
 HasRegisters-done Done state adapter =
     let c = adapter.counters in
-    HasRegisters-with_causes 0x80 _ refl
+    HasRegisters-with_causes (causes_of_finishing state.receiver.work) _ (cause-alone _ 0x80 refl)
     (of-parts adapter.tables adapter.allocation adapter.causes
-    (of-counters c.missed (one_more-fits state.received_packets) c.transmitted c.no_buffers))
+    (of-counters c.missed (received-fit state adapter) c.transmitted c.no_buffers))
 HasRegisters-done _ state adapter = adapter
 
 pub HasRegisters-arrived : (fate : Fate) (frame : List ℕ) (state : AdapterState) → HasRegisters state

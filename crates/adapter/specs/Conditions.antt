@@ -1,16 +1,18 @@
 -- The conditions under which a driver and its adapter share memory: without them no frame can be told from another (our choice).
-use Rattle.std.specs.Prelude.{◌≡◌, ◌≤◌, ◌++◌, ℕ, true, List, All, map}
-use Rattle.descriptors.specs.Frames.{longest_frame, shortest_frame}
+use Rattle.std.specs.Prelude.{◌≡◌, ◌≤◌, ◌<◌, ◌++◌, ℕ, true, All, length, map}
+use Rattle.descriptors.specs.Frames.{IsLegal, longest_frame, shortest_frame}
 use Rattle.dma_memory.specs.Areas.{AreSeparate}
 use Rattle.registers.specs.Bits.{HasBit}
 use Rattle.descriptors.specs.declared.rx_desc.RxDesc.{RxDesc}
 use Rattle.descriptors.specs.RxStatus.{status_bits, eop}
 use Rattle.registers.specs.Places.{tctl_psp}
 use Rattle.rx_engine.specs.Descriptors.{descriptor_at}
+use Rattle.rx_engine.specs.Held.{HasBegun}
+use Rattle.rx_engine.specs.Pieces.{IsCut, begun_of, frames_of}
 use Rattle.tx_engine.specs.Fetching.{fetched}
 use Rattle.tx_engine.specs.Transmitter.{Queued}
 use Rattle.adapter.specs.HostAreas.{areas, buffer_size, work_areas}
-use Rattle.adapter.specs.HostFrames.{named}
+use Rattle.adapter.specs.HostFrames.{finished_pieces, named, pieces_in_slots}
 use Rattle.adapter.specs.Slots.{IsDealt, buffered, finished, in_work, offered}
 use Rattle.adapter.specs.World.{World, receive_ring, transmit_ring}
 
@@ -25,20 +27,28 @@ pub record Sound (oldest_receive oldest_transmit : ℕ) (world : World) : Type 0
   pub separate : AreSeparate world.memory (areas oldest_receive world)
   -- every frame to be sent asks for a report
   pub reports : All Reports (world.adapter.transmitter.buffer ++ map (fetched true world.memory) (offered (transmit_ring world)))
+  -- Of the oldest frame in the receive packet buffer, the slots after the last EOP contain the bytes that were moved.
+  pub begun : HasBegun world.memory (finished_pieces oldest_receive world) world.adapter.receiver
   -- TCTL.PSP
   pub pads : ¬ (world.adapter.transmit_ring.head ≡ world.adapter.transmit_ring.tail) → HasBit world.adapter.transmit_control tctl_psp
 
--- a descriptor as this adapter finishes one: EOP, no errors, and the length of a legal frame
+-- a descriptor as this adapter finishes one with a frame in one piece: EOP, no errors, and the length of a legal frame
 pub record IsWhole (descriptor : RxDesc) : Type 0 where
   pub ended : HasBit (status_bits descriptor.status) eop
   pub has_no_errors : descriptor.errors ≡ 0
   pub least : shortest_frame ≤ descriptor.length
   pub most : descriptor.length ≤ longest_frame
 
-abbrev pub AreWhole : List ℕ → List ℕ → Type 0
-AreWhole memory slots = All (λ slot. IsWhole (descriptor_at memory slot)) slots
+-- The finished slots, and the one in progress, contain frames as this adapter cuts them into buffers of one size.
+pub record AreCut (oldest_receive : ℕ) (world : World) : Type 0 where
+  pub have_no_errors : All (λ slot. (descriptor_at world.memory slot).errors ≡ 0) (finished oldest_receive world)
+  -- Each piece fills its buffer, by RCTL.BSIZE, unless it is the last of its frame.
+  pub cut : All (IsCut (buffer_size world)) (pieces_in_slots oldest_receive world)
+  -- Each frame that ends in them is legal, and the one that doesn't end yet is shorter than the longest frame.
+  pub legal : All IsLegal (frames_of (pieces_in_slots oldest_receive world))
+  pub short : length (begun_of (pieces_in_slots oldest_receive world)) < longest_frame
 
--- Each finished frame, and the one in work, has at most as many bytes as a receive buffer, by RCTL.BSIZE.
+-- Each finished piece, and the one in progress, has at most as many bytes as a receive buffer, by RCTL.BSIZE.
 pub record FitBuffers (oldest_receive : ℕ) (world : World) : Type 0 where
   pub finished_fit : All (λ slot. (named world.memory slot).size ≤ buffer_size world) (finished oldest_receive world)
   pub work_fits : All (λ area. area.size ≤ buffer_size world) (work_areas world.memory world.adapter.receiver.work)

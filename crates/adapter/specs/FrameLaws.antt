@@ -1,12 +1,14 @@
 -- What steps and arrivals do to the frames of an adapter, proved.
-use Rattle.std.proofs.Common.{◌≡◌, ◌∷◌, [], ℕ, List, All, drop, refl, sym, ap, ◌∙◌, append_assoc, inr}
+use Rattle.std.proofs.Common.{◌≡◌, ◌∷◌, [], ℕ, List, All, drop, refl, sym, ap, ◌∙◌, inr}
 use Rattle.std.proofs.lemmas.List.{append-nil}
 use Rattle.dma_memory.specs.Areas.{area_at}
 use Rattle.descriptors.specs.declared.ring.Ring.{Ring}
 use Rattle.descriptors.specs.Ring.{address_of, offered_places}
-use Rattle.rx_engine.specs.Held.{held, in_work}
-use Rattle.rx_engine.specs.Laws.{held-after_data, held-after_done}
+use Rattle.rx_engine.specs.Arriving.{kept}
+use Rattle.rx_engine.specs.Held.{held}
+use Rattle.rx_engine.specs.Laws.{held-after_arrival, held-after_data, held-after_done}
 use Rattle.rx_engine.specs.Moving.{is_half_free}
+use Rattle.rx_engine.specs.declared.arrival.Fate.{Fate}
 use Rattle.rx_engine.specs.declared.arrival.Fate.TheVariants.{Stored}
 use Rattle.rx_engine.specs.declared.data.Data.TheVariants as answers
 use Rattle.tx_engine.specs.Fetching.{pads}
@@ -15,8 +17,10 @@ use Rattle.tx_engine.specs.StatusLaws.{to_send-written_back}
 use Rattle.tx_engine.specs.Steps.{IfFront, status_place}
 use Rattle.tx_engine.specs.ToSend.{IsAwayFrom, to_send}
 use Rattle.tx_engine.specs.Transmitter.{Queued}
-use Rattle.adapter.specs.declared.outcome.Outcome.TheVariants.{Took, Moved}
-use Rattle.adapter.specs.Frames.{ArrivalGrowsFrames, DataLeavesFrames, DoneTakesFirstFrame, PuttingTakesFirst, TakingLeavesFrames}
+use Rattle.adapter.specs.declared.outcome.Outcome.TheVariants.{Took, Part, Moved}
+use Rattle.adapter.specs.Frames.{ArrivalGrowsFrames, DataLeavesFrames, DoneFinishesPiece, HoldsThen, PuttingTakesFirst}
+use Rattle.adapter.specs.Frames.{TakingLeavesFrames}
+use Rattle.adapter.specs.Receiving.{after_arrive}
 use Rattle.adapter.specs.Rings.{ring_of}
 use Rattle.adapter.specs.Transmitting.{IsOldest, moved_on, reported}
 
@@ -45,15 +49,24 @@ putting_takes_first wire_free memory state frame told apart = by_buffer state.tr
         ∙ ap (λ (fs : List (List ℕ)). frame ∷ fs) (sym (to_send-written_back memory ring (pads state.transmit_control) later queued apart))
 
 pub data_leaves_frames : DataLeavesFrames
-data_leaves_frames memory state Moved told apart =
-    held-after_data state.filter.rctl (ring_of state.receive_ring) state.receiver memory
-    (answers.Moved (is_half_free (ring_of (moved_on state.receive_ring))))
-    (λ moved. record { has = told.0; can = told.1; apart = apart })
-data_leaves_frames memory state _ told apart = refl
+data_leaves_frames finished memory state Part begun told apart =
+    held-after_data state.filter.rctl (ring_of state.receive_ring) state.receiver memory finished
+    (answers.Part (is_half_free (ring_of (moved_on state.receive_ring)))) begun
+    (record { has = told.0; can = told.1; last_is = told.2; apart = apart })
+data_leaves_frames finished memory state Moved begun told apart =
+    held-after_data state.filter.rctl (ring_of state.receive_ring) state.receiver memory finished
+    (answers.Moved (is_half_free (ring_of (moved_on state.receive_ring)))) begun
+    (record { has = told.0; can = told.1; last_is = told.2; apart = apart })
+data_leaves_frames finished memory state _ begun told apart =
+    record { frames = sym (append-nil (held memory finished state.receiver)); begun = begun }
 
-pub done_takes_first_frame : DoneTakesFirstFrame
-done_takes_first_frame memory state work engine is lies apart = held-after_done state.receiver memory engine work is lies apart
+pub done_finishes_piece : DoneFinishesPiece
+done_finishes_piece finished memory state work engine begun is lies apart =
+    held-after_done state.receiver memory finished engine begun work is lies apart
 
 pub arrival_grows_frames : ArrivalGrowsFrames
-arrival_grows_frames memory frame state Stored = sym (append_assoc (in_work memory state.receiver.work) state.receiver.buffer (frame ∷ []))
-arrival_grows_frames memory frame state _ = sym (append-nil (held memory state.receiver))
+arrival_grows_frames finished memory frame state fate engine begun = by_fate fate
+  where
+    by_fate : (fate : Fate) → HoldsThen (kept fate frame) finished memory memory state (after_arrive fate frame state)
+    by_fate Stored = held-after_arrival Stored frame memory finished state.receiver engine begun
+    by_fate _ = record { frames = sym (append-nil (held memory finished state.receiver)); begun = begun }

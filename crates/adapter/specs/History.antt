@@ -9,7 +9,7 @@ use Rattle.adapter.specs.declared.register.RingRegister.TheVariants.{Head}
 use Rattle.adapter.specs.declared.step.StepKind.{StepKind}
 use Rattle.adapter.specs.declared.step.StepKind.TheVariants.{TxTake, RxData}
 use Rattle.adapter.specs.Outcomes.{FrameOutcome}
-use Rattle.adapter.specs.declared.outcome.Outcome.TheVariants.{Took, Moved}
+use Rattle.adapter.specs.declared.outcome.Outcome.TheVariants.{Took, Part, Moved}
 use Rattle.adapter.specs.Receiving.{after_arrive}
 use Rattle.adapter.specs.Registers.{answer_at, after_read, after_write, is_reset, new_adapter}
 use Rattle.adapter.specs.State.{AdapterState}
@@ -45,6 +45,7 @@ is_reset_event (Arrive fate frame) = false
 -- A step of this kind with this answer moves the head of a ring on, which stands at this offset.
 abbrev pub moves_head : ℕ → StepKind → FrameOutcome → Bool
 moves_head place TxTake Took = place == (row_of (Transmit Head)).offset
+moves_head place RxData Part = place == (row_of (Receive Head)).offset
 moves_head place RxData Moved = place == (row_of (Receive Head)).offset
 moves_head place kind answer = false
 

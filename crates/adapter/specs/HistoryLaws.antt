@@ -15,7 +15,7 @@ use Rattle.adapter.specs.declared.step.StepKind.{StepKind}
 use Rattle.adapter.specs.declared.register.RingRegister.TheVariants.{BaseLow, BaseHigh, Length, Head, Tail}
 use Rattle.adapter.specs.declared.step.StepKind.TheVariants.{TxTake, TxPut, RxData, RxDone, EepromTick, PhyTick}
 use Rattle.adapter.specs.Outcomes.{FrameOutcome}
-use Rattle.adapter.specs.declared.outcome.Outcome.TheVariants.{Took, Put, Moved, Done, Fault}
+use Rattle.adapter.specs.declared.outcome.Outcome.TheVariants.{Took, Put, Part, Moved, Done, Fault}
 use Rattle.adapter.specs.AccessLaws.{Touches, link_shown, causes_set, mask_cleared}
 use Rattle.adapter.specs.AdapterLaws.{HasRegisters-after_events, HasRegisters-new}
 use Rattle.adapter.specs.History.{AdapterEvent, Read, Write, Step, Arrive, after_event, after_events, is_reset_event, moves_head}
@@ -73,6 +73,7 @@ parts-put (Put frame) state = record { image = refl; eerd = refl; mdic = refl; p
 parts-put _ state = leaves_all state
 
 pub parts-moved : (answer : FrameOutcome) (state : AdapterState) → LeavesParts state (after_data answer state)
+parts-moved Part state = record { image = refl; eerd = refl; mdic = refl; phy = refl }
 parts-moved Moved state = record { image = refl; eerd = refl; mdic = refl; phy = refl }
 parts-moved Fault state = record { image = refl; eerd = refl; mdic = refl; phy = refl }
 parts-moved _ state = leaves_all state
@@ -170,6 +171,13 @@ plain-put _ _ kept state plain = refl
 plain-moved : (register : Register) (answered : FrameOutcome) (kept : ℕ) (state : AdapterState) → (row_of register).kept ≡ Some kept
     → moves_head (row_of register).offset RxData answered ≡ false
     → answer register (after_data answered state) ≡ answer register state
+plain-moved (Receive Head) Part kept state plain none = absurd (elsewhere 0x2810 none)
+plain-moved (Receive BaseLow) Part kept state plain none = refl
+plain-moved (Receive BaseHigh) Part kept state plain none = refl
+plain-moved (Receive Length) Part kept state plain none = refl
+plain-moved (Receive Tail) Part kept state plain none = refl
+plain-moved Icr Part kept state plain none = cc
+plain-moved _ Part kept state plain none = refl
 plain-moved (Receive Head) Moved kept state plain none = absurd (elsewhere 0x2810 none)
 plain-moved (Receive BaseLow) Moved kept state plain none = refl
 plain-moved (Receive BaseHigh) Moved kept state plain none = refl

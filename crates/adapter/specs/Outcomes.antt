@@ -3,7 +3,7 @@ use Rattle.std.specs.Prelude.{ℕ, List, [], ◌∷◌}
 use Rattle.tx_engine.specs.Transmitter.{Queued}
 use Rattle.adapter.specs.State.{AdapterState}
 use Rattle.adapter.specs.declared.outcome.Outcome.{Outcome}
-use Rattle.adapter.specs.declared.outcome.Outcome.TheVariants.{Took, Put, WireFull, Moved, Done, Delivered, Ticked, Nothing, Fault}
+use Rattle.adapter.specs.declared.outcome.Outcome.TheVariants.{Took, Put, WireFull, Part, Moved, Done, Delivered, Ticked, Nothing, Fault}
 
 -- an outcome with the bytes of its frame
 abbrev pub FrameOutcome : Type 0
@@ -19,6 +19,7 @@ abbrev pub with_frame : {F G : Type 0} → G → Outcome F → Outcome G
 with_frame frame Took = Took
 with_frame frame (Put old) = Put frame
 with_frame frame WireFull = WireFull
+with_frame frame Part = Part
 with_frame frame Moved = Moved
 with_frame frame Done = Done
 with_frame frame (Delivered old fate) = Delivered frame fate

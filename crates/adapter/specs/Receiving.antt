@@ -1,6 +1,6 @@
--- The ways of a frame from the wire into memory ("3.2 Packet Reception"): it arrives, a data step moves it to memory, and a done step
--- writes its descriptor back.
-use Rattle.std.specs.Prelude.{◌≡◌, ◌≤◌, ◌<◌, ◌+◌, ◌/◌, ◌==◌, ℕ, List, IfSome, None, length, if◌then◌else◌}
+-- The ways of a frame from the wire into memory ("3.2 Packet Reception"): it arrives, data steps move it to memory piece by piece, and a
+-- done step after each writes the descriptor back.
+use Rattle.std.specs.Prelude.{◌≡◌, ◌≤◌, ◌<◌, ◌+◌, ◌/◌, ◌==◌, ℕ, Bool, true, false, List, IfSome, Option, None, Some, length, if◌then◌else◌}
 use Rattle.dma_memory.specs.Areas.{ChangesOnly, area_at}
 use Rattle.registers.specs.Bits.{HasBit}
 use Rattle.descriptors.specs.Frames.{IsLegal}
@@ -8,17 +8,18 @@ use Rattle.descriptors.specs.Ring.{address_of}
 use Rattle.registers.specs.Places.{alone, rctl_en, rxdmt0, rxo, rxt0}
 use Rattle.rx_engine.specs.Arriving.{IsAccepted, after_arrival}
 use Rattle.rx_engine.specs.Descriptors.{named_address}
-use Rattle.rx_engine.specs.Receiver.{oldest}
 use Rattle.rx_engine.specs.Finishing.{engine_after_done, memory_after_done}
-use Rattle.rx_engine.specs.Moving.{HasFrameToMove, CanMove, engine_after_data, is_half_free, memory_after_data}
+use Rattle.rx_engine.specs.Moving.{HasFrameToMove, CanMove, engine_after_data, is_half_free, is_last, memory_after_data, next_piece}
 use Rattle.rx_engine.specs.declared.arrival.Fate.{Fate}
+use Rattle.rx_engine.specs.declared.data.Data.{Data}
 use Rattle.rx_engine.specs.declared.arrival.Fate.TheVariants.{Off, Illegal, Filtered, Missed, Stored}
 use Rattle.rx_engine.specs.declared.data.Data.TheVariants as answers
+use Rattle.rx_engine.specs.declared.engine.Work.{Work}
 use Rattle.rx_engine.specs.Passing.{Passes}
 use Rattle.rx_engine.specs.Registers.{filter_of}
 use Rattle.adapter.specs.declared.ring.RingRegisters.{RingRegisters}
 use Rattle.adapter.specs.Outcomes.{FrameOutcome}
-use Rattle.adapter.specs.declared.outcome.Outcome.TheVariants.{Moved, Done, Nothing, Fault}
+use Rattle.adapter.specs.declared.outcome.Outcome.TheVariants.{Part, Moved, Done, Nothing, Fault}
 use Rattle.adapter.specs.Recording.{one_more, with_causes}
 use Rattle.adapter.specs.Rings.{ring_of}
 use Rattle.adapter.specs.State.{AdapterState}
@@ -63,45 +64,63 @@ after_arrive Stored frame state =
 abbrev pub HasFrameAndDescriptor : AdapterState → Type 0
 HasFrameAndDescriptor state = HasFrameToMove state.filter.rctl (ring_of state.receive_ring) state.receiver
 
--- the oldest frame of the packet buffer can be moved to where the descriptor at RDH says
-abbrev pub CanMoveFrame : List ℕ → AdapterState → Type 0
-CanMoveFrame memory state = CanMove state.filter.rctl (ring_of state.receive_ring) memory (length (oldest state.receiver.buffer))
+-- how many bytes the next piece of the oldest frame has: what is left of the frame, at most a buffer's size by RCTL.BSIZE
+abbrev pub piece_size : AdapterState → ℕ
+piece_size state = length (next_piece state.filter.rctl state.receiver)
+
+-- it is the frame's last piece
+abbrev pub is_last_piece : AdapterState → Bool
+is_last_piece state = is_last state.filter.rctl state.receiver
+
+-- it can be moved to the buffer that the descriptor at RDH names
+abbrev pub CanMovePiece : List ℕ → AdapterState → Type 0
+CanMovePiece memory state = CanMove state.filter.rctl (ring_of state.receive_ring) memory (piece_size state)
 
 -- what each answer of a data step says of the adapter and the memory before it
 abbrev pub DataAnswers : List ℕ → AdapterState → FrameOutcome → Type 0
 DataAnswers memory state Nothing = ¬ (HasFrameAndDescriptor state)
-DataAnswers memory state Fault = HasFrameAndDescriptor state × (¬ (CanMoveFrame memory state))
-DataAnswers memory state Moved = HasFrameAndDescriptor state × CanMoveFrame memory state
+DataAnswers memory state Fault = HasFrameAndDescriptor state × (¬ (CanMovePiece memory state))
+DataAnswers memory state Part = HasFrameAndDescriptor state × CanMovePiece memory state × (is_last_piece state ≡ false)
+DataAnswers memory state Moved = HasFrameAndDescriptor state × CanMovePiece memory state × (is_last_piece state ≡ true)
 DataAnswers memory state _ = ⊥
 
 -- RXDMT0, bit 4, where the free descriptors become half the ring (13.4.17; 13.4.22, RDMTS 00)
 abbrev pub causes_of_moving : RingRegisters → ℕ
 causes_of_moving ring = if is_half_free (ring_of (moved_on ring)) then alone rxdmt0 else 0
 
--- The oldest frame has left the packet buffer and is in work, and RDH has moved on. A fault stops the engine.
-abbrev pub after_data : FrameOutcome → AdapterState → AdapterState
-after_data Moved state =
+-- the adapter after a step of the receive engine with this answer, which took the descriptor at RDH
+abbrev pub after_move : Data → AdapterState → AdapterState
+after_move answer state =
     with_causes (causes_of_moving state.receive_ring) (record state {
-      receiver = engine_after_data (answers.Moved (is_half_free (ring_of (moved_on state.receive_ring))))
-          (ring_of state.receive_ring) state.receiver;
+      receiver = engine_after_data answer state.filter.rctl (ring_of state.receive_ring) state.receiver;
       receive_ring = moved_on state.receive_ring;
     })
-after_data Fault state = record state { receiver = engine_after_data answers.Fault (ring_of state.receive_ring) state.receiver }
+
+-- A piece of the oldest frame is in progress, and RDH has moved on. With its last piece the frame leaves the packet buffer. A fault stops
+-- the engine.
+abbrev pub after_data : FrameOutcome → AdapterState → AdapterState
+after_data Part state = after_move (answers.Part (is_half_free (ring_of (moved_on state.receive_ring)))) state
+after_data Moved state = after_move (answers.Moved (is_half_free (ring_of (moved_on state.receive_ring)))) state
+after_data Fault state =
+    record state { receiver = engine_after_data answers.Fault state.filter.rctl (ring_of state.receive_ring) state.receiver }
 after_data _ state = state
 
--- The oldest frame stands in the buffer that the descriptor at RDH names.
+-- The piece is in the buffer that the descriptor at RDH names.
 abbrev pub memory_after_data_step : FrameOutcome → List ℕ → AdapterState → List ℕ
+memory_after_data_step Part memory state =
+    memory_after_data (answers.Part (is_half_free (ring_of (moved_on state.receive_ring))))
+    state.filter.rctl (ring_of state.receive_ring) state.receiver memory
 memory_after_data_step Moved memory state =
     memory_after_data (answers.Moved (is_half_free (ring_of (moved_on state.receive_ring))))
-    (ring_of state.receive_ring) state.receiver memory
+    state.filter.rctl (ring_of state.receive_ring) state.receiver memory
 memory_after_data_step _ memory state = memory
 
--- A data step changes at most so many bytes of the buffer that the descriptor at RDH names as the oldest frame has.
+-- A data step changes at most the piece's bytes of the buffer that the descriptor at RDH names.
 abbrev pub DataChangesOnly : AdapterState → List ℕ → List ℕ → Type 0
 DataChangesOnly state memory memory' =
     ChangesOnly memory memory'
     (area_at (named_address memory (address_of (ring_of state.receive_ring) state.receive_ring.head))
-    (length (oldest state.receiver.buffer)))
+    (piece_size state))
 
 -- Done steps.
 
@@ -111,11 +130,24 @@ DoneAnswers state Nothing = state.receiver.work ≡ None
 DoneAnswers state Done = ¬ (state.receiver.work ≡ None)
 DoneAnswers state _ = ⊥
 
--- No frame is in work; RXT0, bit 7, is recorded, and the frame is counted by GPRC (its place of counting is own).
+-- the piece in progress is the last of its frame
+abbrev pub is_ending : Option Work → Bool
+is_ending None = false
+is_ending (Some work) = work.ends
+
+-- then RXT0, bit 7, is recorded (13.4.17)
+abbrev pub causes_of_finishing : Option Work → ℕ
+causes_of_finishing work = if is_ending work then alone rxt0 else 0
+
+-- and GPRC counts the frame (that it counts here is our choice)
+abbrev pub received_counted : AdapterState → ℕ
+received_counted state = if is_ending state.receiver.work then one_more state.received_packets else state.received_packets
+
+-- Nothing is in progress any more.
 abbrev pub after_done : FrameOutcome → AdapterState → AdapterState
 after_done Done state =
-    with_causes (alone rxt0)
-    (record state { receiver = engine_after_done state.receiver; received_packets = one_more state.received_packets })
+    with_causes (causes_of_finishing state.receiver.work)
+    (record state { receiver = engine_after_done state.receiver; received_packets = received_counted state })
 after_done _ state = state
 
 -- Bytes 8 to 15 of the descriptor in work are written, where it lies in memory.

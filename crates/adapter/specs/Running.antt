@@ -4,8 +4,6 @@ use Rattle.registers.specs.Bits.{HasBit}
 use Rattle.descriptors.specs.Ring.{HasValidIndices}
 use Rattle.registers.specs.Places.{rctl_bsex}
 use Rattle.tx_engine.specs.Fetching.{IsTransmittable, descriptor_at}
-use Rattle.adapter.specs.HostAreas.{buffer_size}
-use Rattle.adapter.specs.HostFrames.{AreWithin}
 use Rattle.adapter.specs.Slots.{offered}
 use Rattle.adapter.specs.World.{World, receive_ring, transmit_ring}
 
@@ -20,9 +18,8 @@ pub record CanRun (world : World) : Type 0 where
   -- Where head isn't tail, both are slots of their ring.
   pub receive_indices : world.adapter.receive_ring.head ≢ world.adapter.receive_ring.tail → HasValidIndices (receive_ring world)
   pub transmit_indices : world.adapter.transmit_ring.head ≢ world.adapter.transmit_ring.tail → HasValidIndices (transmit_ring world)
-  -- RCTL.BSEX is 0, and each frame in the receive packet buffer fits into a buffer of the size that RCTL.BSIZE names.
+  -- RCTL.BSEX is 0.
   pub not_extended : ¬ (HasBit world.adapter.filter.rctl rctl_bsex)
-  pub frames : AreWithin (buffer_size world) world.adapter.receiver.buffer
   -- The descriptors from TDH to TDT can be transmitted.
   pub transmittable : All (CanTransmit world.memory) (offered (transmit_ring world))
 

@@ -141,8 +141,8 @@ impl Adapter {
         match kind {
             StepKind::TxTake => self.take_frame(memory),
             StepKind::TxPut => self.put_frame(memory, wire_free),
-            StepKind::RxData => self.move_frame(memory),
-            StepKind::RxDone => self.finish_frame(memory),
+            StepKind::RxData => self.move_piece(memory),
+            StepKind::RxDone => self.finish_piece(memory),
             StepKind::EepromTick => self.tick_eeprom(),
             StepKind::PhyTick => self.tick_phy(),
         }

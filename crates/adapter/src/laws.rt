@@ -3,7 +3,7 @@
 ghost use Rattle.adapter.specs.AccessLaws.{AccessesByOffset, OffsetsByTable, OthersStayAtRead, OthersStayAtWrite};
 ghost use Rattle.adapter.specs.AccessLaws.{OutsideIsIgnored, PlainReadsBack, PowerOnByTable, ResetByTable};
 ghost use Rattle.adapter.specs.AccessLaws.{TouchedByWrites};
-ghost use Rattle.adapter.specs.Frames.{ArrivalGrowsFrames, DataLeavesFrames, DoneTakesFirstFrame, PuttingTakesFirst};
+ghost use Rattle.adapter.specs.Frames.{ArrivalGrowsFrames, DataLeavesFrames, DoneFinishesPiece, PuttingTakesFirst};
 ghost use Rattle.adapter.specs.Frames.{TakingLeavesFrames};
 ghost use Rattle.adapter.specs.History.{PlainByHistory};
 ghost use Rattle.adapter.specs.Parts.{PartsHaveTheirLaws};
@@ -54,16 +54,16 @@ pub fn parts_have_their_laws()
 /// What steps and arrivals do to the frames that an adapter holds.
 /// - The frames to be sent are those in the transmit packet buffer, then those that the descriptors
 ///   from TDH to TDT name. A step that takes leaves them; one that puts takes the first.
-/// - The frames held are the one in work, as it stands in memory, then those in the receive packet
-///   buffer. A frame that is stored is behind them, a data step leaves them, a done step takes the
-///   first, which then stands finished at its descriptor.
+/// - The frames held are those that end in finished slots and in the one in progress, each with its
+///   pieces joined, then those in the receive packet buffer. A frame that is stored is after them, a
+///   data step doesn't change them, a done step makes the piece in progress a finished one.
 ///
-/// Where a step writes to memory, the bytes written are apart from the descriptors and frames that
-/// are still to be read: the conditions are in the laws.
+/// If a step writes to memory, the bytes written are apart from the descriptors and frames that are
+/// still to be read: the conditions are in the laws.
 pub fn frames_by_steps()
     ensures taking { TakingLeavesFrames }
     ensures putting { PuttingTakesFirst }
     ensures arrival { ArrivalGrowsFrames }
     ensures data { DataLeavesFrames }
-    ensures done { DoneTakesFirstFrame }
+    ensures done { DoneFinishesPiece }
 {}

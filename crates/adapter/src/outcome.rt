@@ -15,7 +15,10 @@ pub enum Outcome<F> {
     Put(F),
     /// The wire has no room for the frame that is to be put. Nothing changed.
     WireFull,
-    /// A frame was written to memory. Its descriptor isn't written back yet.
+    /// A piece of a received frame was written to memory, and more of the frame is left. Its descriptor isn't written
+    /// back yet.
+    Part,
+    /// The last piece of a received frame was written to memory. Its descriptor isn't written back yet.
     Moved,
     /// A receive descriptor was written back.
     Done,
@@ -45,6 +48,7 @@ impl<F> Outcome<F> {
             Outcome::Took => Outcome::Took,
             Outcome::Put(_) => Outcome::Put(frame),
             Outcome::WireFull => Outcome::WireFull,
+            Outcome::Part => Outcome::Part,
             Outcome::Moved => Outcome::Moved,
             Outcome::Done => Outcome::Done,
             Outcome::Delivered(_, fate) => Outcome::Delivered(frame, fate),

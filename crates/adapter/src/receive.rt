@@ -3,7 +3,7 @@
 ghost use Rattle.std.specs.Prelude.{◌≡◌, length, if◌then◌else◌};
 ghost use Rattle.registers.specs.Bits.{IsSubset};
 ghost use Rattle.registers.specs.Kept.{all_causes};
-ghost use Rattle.registers.specs.Places.{alone, rxdmt0};
+ghost use Rattle.registers.specs.Places.{alone, rxdmt0, rxt0};
 ghost use Rattle.adapter.specs.Outcomes.{framed};
 ghost use Rattle.adapter.specs.State.{IsAdapter};
 ghost use Rattle.adapter.specs.Receiving.{DataAnswers, DataChangesOnly, DoneAnswers, DoneChangesOnly, IsFate};
@@ -44,8 +44,8 @@ impl Adapter {
         fate
     }
 
-    /// Writes the oldest frame of the packet buffer to memory.
-    pub(crate) fn move_frame(&mut self, memory: &mut HostMemory) -> Outcome<()>
+    /// Writes the next piece of the packet buffer's oldest frame to memory.
+    pub(crate) fn move_piece(&mut self, memory: &mut HostMemory) -> Outcome<()>
         ensures answer { DataAnswers memory.old self.old (framed result self.old) }
         ensures state { self.new ≡ after_data (framed result self.old) self.old }
         ensures memory { memory.new ≡ memory_after_data_step (framed result self.old) memory.old self.old }
@@ -58,6 +58,11 @@ impl Adapter {
         match rx_data(&mut self.receiver, &mut ring, file.filter.rctl(), memory) {
             Data::Nothing => Outcome::Nothing,
             Data::Fault => Outcome::Fault,
+            Data::Part { low } => {
+                file.receive_ring.head = ring.head;
+                file.causes.raise(causes_of_moving(low));
+                Outcome::Part
+            }
             Data::Moved { low } => {
                 file.receive_ring.head = ring.head;
                 file.causes.raise(causes_of_moving(low));
@@ -66,8 +71,9 @@ impl Adapter {
         }
     }
 
-    /// Writes the descriptor of the frame in work back.
-    pub(crate) fn finish_frame(&mut self, memory: &mut HostMemory) -> Outcome<()>
+    /// Writes the descriptor of the piece in progress back. If it is the last piece of its frame, RXT0 is recorded, and
+    /// GPRC counts the frame.
+    pub(crate) fn finish_piece(&mut self, memory: &mut HostMemory) -> Outcome<()>
         ensures answer { DoneAnswers self.old (framed result self.old) }
         ensures state { self.new ≡ after_done (framed result self.old) self.old }
         ensures memory { memory.new ≡ memory_after_done_step memory.old self.old }
@@ -75,21 +81,32 @@ impl Adapter {
         ensures size { length memory.new ≡ length memory.old }
         ensures adapter { IsAdapter self.new }
     {
+        let ends = self.receiver.work().is_some_and(|work| work.ends);
         match rx_done(&mut self.receiver, memory) {
             Done::Nothing => Outcome::Nothing,
             Done::Done => {
-                self.file.causes.raise(Cause::RXT0);
-                self.file.gprc.bump();
+                self.file.causes.raise(causes_of_finishing(ends));
+                if ends {
+                    self.file.gprc.bump();
+                }
                 Outcome::Done
             }
         }
     }
 }
 
-/// The causes that a moved frame records: RXDMT0 where the free descriptors have become half the ring.
+/// The causes that a moved piece records: RXDMT0 if the free descriptors have become half the ring.
 fn causes_of_moving(low: bool) -> Cause
     ensures causes { result.0 ≡ (if low then alone rxdmt0 else 0) }
     ensures alone { IsSubset result.0 all_causes }
 {
     if low { Cause::RXDMT0 } else { Cause::empty() }
+}
+
+/// The causes that a write-back records: RXT0 if its frame ends.
+fn causes_of_finishing(ends: bool) -> Cause
+    ensures causes { result.0 ≡ (if ends then alone rxt0 else 0) }
+    ensures alone { IsSubset result.0 all_causes }
+{
+    if ends { Cause::RXT0 } else { Cause::empty() }
 }

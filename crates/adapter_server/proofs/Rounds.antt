@@ -6,7 +6,7 @@ use Rattle.std.proofs.lemmas.Bool.Decides.{nat_tests}
 use Rattle.std.proofs.lemmas.List.Elements.{All-append, All-cons, All-nil}
 use Rattle.std.proofs.lemmas.List.Sums.{sum_by-append}
 use Rattle.adapter.specs.declared.outcome.Outcome.{Outcome}
-use Rattle.adapter.specs.declared.outcome.Outcome.TheVariants.{Took, Put, WireFull, Moved, Done, Delivered, Ticked, Nothing, Fault}
+use Rattle.adapter.specs.declared.outcome.Outcome.TheVariants.{Took, Put, WireFull, Part, Moved, Done, Delivered, Ticked, Nothing, Fault}
 use Rattle.adapter_server.specs.Devices.{Round, Settles, most_rounds, with_last}
 use Rattle.adapter_server.specs.Order.{InOrder, Tells}
 use Rattle.adapter_server.specs.Outcomes.{moved_by}
@@ -17,6 +17,7 @@ pub moved_little : (outcome : Outcome (Unit {0})) → moved_by outcome ≤ 1
 moved_little Took = omega arith
 moved_little (Put unit) = omega arith
 moved_little WireFull = omega arith
+moved_little Part = omega arith
 moved_little Moved = omega arith
 moved_little Done = omega arith
 moved_little (Delivered unit fate) = omega arith

@@ -9,7 +9,7 @@ use Rattle.hex.specs.Hex.{encode_lower}
 use Rattle.adapter.specs.declared.step.StepKind.{StepKind}
 use Rattle.adapter.specs.declared.step.StepKind.TheVariants.{TxTake, TxPut, RxData, RxDone, EepromTick, PhyTick}
 use Rattle.adapter.specs.declared.outcome.Outcome.{Outcome}
-use Rattle.adapter.specs.declared.outcome.Outcome.TheVariants.{Took, Put, WireFull, Moved, Done, Delivered, Ticked, Nothing, Fault}
+use Rattle.adapter.specs.declared.outcome.Outcome.TheVariants.{Took, Put, WireFull, Part, Moved, Done, Delivered, Ticked, Nothing, Fault}
 use Rattle.rx_engine.specs.declared.arrival.Fate.{Fate}
 use Rattle.rx_engine.specs.declared.arrival.Fate.TheVariants.{Off, Illegal, Filtered, Missed, Stored}
 use Rattle.adapter_server.specs.declared.refusal.Refusal.{Refusal}
@@ -35,6 +35,7 @@ abbrev pub outcome_word : Outcome (Unit {0}) → Text
 outcome_word Took = codes "took"
 outcome_word (Put frame) = codes "put"
 outcome_word WireFull = codes "wirefull"
+outcome_word Part = codes "part"
 outcome_word Moved = codes "moved"
 outcome_word Done = codes "done"
 outcome_word (Delivered frame fate) = codes "delivered"

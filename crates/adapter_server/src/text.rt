@@ -28,6 +28,7 @@ pub(crate) fn outcome_word(outcome: Outcome<()>) -> &'static [u8]
         Outcome::Took => b"took",
         Outcome::Put(()) => b"put",
         Outcome::WireFull => b"wirefull",
+        Outcome::Part => b"part",
         Outcome::Moved => b"moved",
         Outcome::Done => b"done",
         Outcome::Delivered((), _) => b"delivered",

@@ -1,30 +1,29 @@
 -- An adapter at rest stays so while a driver sets it up.
-use Rattle.std.proofs.Common.{arith, ◌≡◌, ◌≤◌, ◌++◌, [], true, false, ℕ, Bool, List, Option, None, Some, length, map, if◌then◌else◌, refl}
-use Rattle.std.proofs.Common.{sym, ap, subst, ◌∙◌}
+use Rattle.std.proofs.Common.{arith, ◌≡◌, ◌≤◌, ◌-◌, ◌++◌, [], true, false, ℕ, Bool, List, Option, None, Some, length, map}
+use Rattle.std.proofs.Common.{if◌then◌else◌, refl, sym, ap, subst, ◌∙◌}
 use Rattle.std.specs.List.{All, take_while}
-use Rattle.dma_memory.specs.Areas.{bytes_in}
 use Rattle.descriptors.specs.declared.ring.Ring.{Ring}
 use Rattle.descriptors.specs.Ring.{address_of, offered_places}
 use Rattle.descriptors.specs.RingLaws.{places-none}
 use Rattle.registers.specs.Bits.{HasBit}
 use Rattle.registers.specs.Laws.{HasBit-zero}
-use Rattle.rx_engine.specs.Held.{held, in_work}
-use Rattle.rx_engine.specs.Receiver.{Receiver, new_receiver}
+use Rattle.rx_engine.specs.Held.{held, in_slots}
+use Rattle.rx_engine.specs.Pieces.{Piece, frames_of}
+use Rattle.rx_engine.specs.Receiver.{Receiver, new_receiver, oldest}
 use Rattle.rx_engine.specs.Registers.{FilterRegisters}
 use Rattle.tx_engine.specs.Fetching.{frame_at}
 use Rattle.tx_engine.specs.ToSend.{to_send}
 use Rattle.tx_engine.specs.Transmitter.{Queued, Transmitter, new_transmitter}
 use Rattle.adapter.specs.declared.register.Register.{Register}
 use Rattle.adapter.specs.declared.register.Register.TheVariants.{Icr, Mpc, Gprc, Gptc, Rctl, Receive, Rnbc, Transmit}
-use Rattle.adapter.specs.HostAreas.{buffer_size}
-use Rattle.adapter.specs.HostFrames.{AreWithin, frames_held, frames_to_send, named}
+use Rattle.adapter.specs.HostFrames.{finished_pieces, frames_held, frames_to_send, piece_in}
 use Rattle.adapter.specs.Registers.{after_reset, by_row, is_reset, left_by_read, left_by_write, read_of, write_of}
 use Rattle.adapter.specs.Running.{CanRun, CanTransmit}
-use Rattle.adapter.specs.Slots.{done_slots, is_done}
+use Rattle.adapter.specs.Slots.{is_done}
 use Rattle.adapter.specs.State.{AdapterState}
 use Rattle.adapter.specs.Table.{register_at, row_of}
 use Rattle.adapter.specs.World.{World, receive_ring, transmit_ring}
-use Rattle.bus.specs.IdleRings.{IsIdle, IsOfRing}
+use Rattle.bus.specs.IdleRings.{IsIdle, IsOfRing, moved_bytes}
 use Rattle.bus.specs.declared.event.Access.TheVariants.{Loads, Reads, Stores, Writes}
 use Rattle.bus.specs.AdaptersAtRest.{AccessesKeepRest, HappeningsKeepRest, IsAtRest, IsElsewhere, RestAfterReset, RestIsIdle}
 use Rattle.bus.proofs.IdleRings.{happenings_keep_idle, idle_after_reset, idle_rings_are_sound, offered-none, other_writes_keep_idle}
@@ -35,6 +34,7 @@ use Rattle.bus.proofs.RegisterWrites.{row-leaves}
 idle-of : (world : World) → IsAtRest world → IsIdle world
 idle-of world rest = record {
   work = ap (λ (receiver : Receiver). receiver.work) rest.receiver;
+  unmoved = ap moved_bytes rest.receiver;
   buffer = ap (λ (transmitter : Transmitter). transmitter.buffer) rest.transmitter;
   rings = rest.rings;
 }
@@ -46,8 +46,6 @@ runs-of world rest = record {
   receive_indices = λ differ. absurd (differ rest.rings.receive);
   transmit_indices = λ differ. absurd (differ rest.rings.transmit);
   not_extended = subst (λ (control : ℕ). ¬ (HasBit control 25)) (sym rest.control) (HasBit-zero 25);
-  frames = subst (λ (receiver : Receiver). AreWithin (buffer_size world) receiver.buffer) (sym rest.receiver)
-      (all-none (λ frame. length frame ≤ buffer_size world));
   transmittable = subst (λ (slots : List ℕ). All (CanTransmit world.memory) slots)
       (sym (offered-none (transmit_ring world) rest.rings.transmit)) (all-none (CanTransmit world.memory));
 }
@@ -65,10 +63,9 @@ rest_after_reset world = record
 none-held : (world : World) → IsAtRest world → frames_held world.adapter.receive_ring.tail world ≡ []
 none-held world rest =
     let ring = receive_ring world in
-    let none : done_slots world.memory ring ring.tail ≡ [] = ap (take_while (is_done world.memory)) (outstanding-none ring) in
-    ap (λ (slots : List ℕ). map (λ (slot : ℕ). bytes_in world.memory (named world.memory slot)) slots
-    ++ held world.memory world.adapter.receiver) none
-    ∙ ap (held world.memory) rest.receiver
+    let none : finished_pieces ring.tail world ≡ [] =
+    ap (λ (slots : List ℕ). map (piece_in world.memory) (take_while (is_done world.memory) slots)) (outstanding-none ring) in
+    ap (λ (pieces : List Piece). held world.memory pieces world.adapter.receiver) none ∙ ap (held world.memory []) rest.receiver
 
 none-queued : (memory : List ℕ) (ring : Ring) (buffer : List Queued) → buffer ≡ [] → ring.head ≡ ring.tail
     → to_send memory ring true buffer ≡ []
@@ -81,14 +78,20 @@ none-queued memory ring buffer none same =
 none-to-send : (world : World) → IsIdle world → frames_to_send world ≡ []
 none-to-send world idle = none-queued world.memory (transmit_ring world) world.adapter.transmitter.buffer idle.buffer idle.rings.transmit
 
-new-again : (receiver : Receiver) → receiver.buffer ≡ [] → receiver.work ≡ None → receiver.stopped ≡ false → receiver ≡ new_receiver
-new-again receiver buffer work stopped = rw (buffer, work, stopped) refl
+new-again : (receiver : Receiver) → receiver.buffer ≡ [] → receiver.moved ≡ 0 → receiver.work ≡ None → receiver.stopped ≡ false
+    → receiver ≡ new_receiver
+new-again receiver buffer moved work stopped = rw (buffer, moved, work, stopped) refl
+
+-- Of no frame no byte is moved.
+none-moved : (receiver : Receiver) → receiver.moved ≤ length (oldest receiver.buffer) - 1 → receiver.buffer ≡ [] → receiver.moved ≡ 0
+none-moved receiver begun none =
+    let most = subst (λ (frames : List (List ℕ)). receiver.moved ≤ length (oldest frames) - 1) none begun in omega (arith, most)
 
 unused-again : (transmitter : Transmitter) → transmitter.buffer ≡ [] → transmitter.stopped ≡ false → transmitter ≡ new_transmitter
 unused-again transmitter buffer stopped = rw (buffer, stopped) refl
 
 pub happenings_keep_rest : HappeningsKeepRest
-happenings_keep_rest a b past happens rest =
+happenings_keep_rest a b past happens is rest =
     let idle = idle-of a rest in
     let o = a.adapter.receive_ring.tail in
     let steady = happens.steady in
@@ -96,15 +99,13 @@ happenings_keep_rest a b past happens rest =
     let after = happenings_keep_idle a b past happens idle in
     let off = steady.off (subst (λ (control : ℕ). ¬ (HasBit control 1)) (sym rest.control) (HasBit-zero 1)) in
     let empty : frames_held o b ≡ [] = between.holds ∙ ap (λ (frames : List (List ℕ)). frames ++ past.stored) (none-held a rest) ∙ off.0 in
-    let held_none = append-empty (map (λ (slot : ℕ). bytes_in b.memory (named b.memory slot)) (done_slots b.memory (receive_ring b) o))
-    (held b.memory b.adapter.receiver) empty in
-    let buffer_none = append-empty (in_work b.memory b.adapter.receiver.work) b.adapter.receiver.buffer held_none.1 in
-    let runs = between.runs (subst (AreWithin (buffer_size a)) (sym off.0) (all-none (λ frame. length frame ≤ buffer_size a)))
-    (runs-of a rest) in
+    let receiver = b.adapter.receiver in
+    let buffer_none = (append-empty (frames_of (in_slots b.memory (finished_pieces o b) receiver)) receiver.buffer empty).1 in
+    let runs = between.runs (runs-of a rest) in
     let sent = append-empty past.put (frames_to_send b) (between.sends ∙ none-to-send a idle) in (
       record {
         rings = after.rings;
-        receiver = new-again b.adapter.receiver buffer_none.1 after.work runs.receiver_runs;
+        receiver = new-again receiver buffer_none (none-moved receiver is.receiver.begun buffer_none) after.work runs.receiver_runs;
         transmitter = unused-again b.adapter.transmitter after.buffer runs.transmitter_runs;
         control = ap (λ (filter : FilterRegisters). filter.rctl) steady.filter ∙ rest.control;
         none_missed = omega (arith, steady.missed, rest.none_missed, off.1);

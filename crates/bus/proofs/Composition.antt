@@ -1,16 +1,17 @@
 -- What may happen between two accesses composes, and nothing at all is one of its cases.
-use Rattle.std.proofs.Common.{◌≡◌, ◌≤◌, ◌⊎◌, ◌+◌, ℕ, zero, suc, List, length, [], ◌++◌, refl, sym, ap, subst, ◌∙◌, inl, inr, append_assoc}
+use Rattle.std.proofs.Common.{◌≡◌, ◌⊎◌, ◌+◌, ℕ, zero, suc, List, [], ◌++◌, refl, sym, ap, subst, ◌∙◌, inl, inr, append_assoc}
 use Rattle.std.proofs.Common.{arith, length-append}
 use Rattle.std.proofs.lemmas.List.{append-nil}
 use Rattle.std.specs.Fn.{iterate}
+use Rattle.std.specs.List.{All}
 use Rattle.eeprom.specs.Eerd as eeprom
-use Rattle.registers.specs.Bits.{HasBit, field}
-use Rattle.registers.specs.ReceiveControl.{buffer_size_of}
+use Rattle.registers.specs.Bits.{HasBit}
+use Rattle.registers.specs.Places.{rxt0}
+use Rattle.rx_engine.specs.Pieces.{IsPart, Piece}
 use Rattle.rx_engine.specs.Registers.{FilterRegisters}
 use Rattle.adapter.specs.declared.ring.RingRegisters.{RingRegisters}
 use Rattle.adapter.specs.Slots.{finished, written_back}
-use Rattle.adapter.specs.HostAreas.{buffer_size}
-use Rattle.adapter.specs.HostFrames.{AreWithin, frames_held, frames_to_send}
+use Rattle.adapter.specs.HostFrames.{finished_pieces, frames_held, frames_to_send}
 use Rattle.adapter.specs.Conditions.{Sound}
 use Rattle.bus.specs.Law.{Between, Happens, Steady, management_of, phy_ticked}
 use Rattle.bus.specs.PastOfStretch.{Past, joined, nothing}
@@ -19,7 +20,7 @@ use Rattle.descriptors.specs.Frames.{IsLegal}
 use Rattle.descriptors.specs.Ring.{HasValidIndices}
 use Rattle.adapter.specs.Rings.{ring_of}
 use Rattle.std.proofs.lemmas.List.Elements.{All-append}
-use Rattle.bus.proofs.Lists.{all-left, all-none, all-right}
+use Rattle.bus.proofs.Lists.{all-none}
 
 -- As often as two numbers say together is as often as the one says, and then as the other does.
 pub iterate-add : {A : Type 0} (h : A → A) (m n : ℕ) (x : A) → iterate h (m + n) x ≡ iterate h n (iterate h m x)
@@ -99,14 +100,14 @@ steady_refl a = record {
 
 -- Frames.
 
--- A cause that is recorded where slots finished in a first stretch still is after a later one.
-told-joined : (m1 m2 : List ℕ) (b c : World) → (m1 ≡ []) ⊎ HasBit b.adapter.causes.recorded 7
-    → (m2 ≡ []) ⊎ HasBit c.adapter.causes.recorded 7
+-- A cause that is recorded if a frame ended in a first stretch still is after a later one.
+told-joined : (first later : List Piece) (b c : World) → All IsPart first ⊎ HasBit b.adapter.causes.recorded rxt0
+    → All IsPart later ⊎ HasBit c.adapter.causes.recorded rxt0
     → ((place : ℕ) → HasBit b.adapter.causes.recorded place → HasBit c.adapter.causes.recorded place)
-    → (m1 ++ m2 ≡ []) ⊎ HasBit c.adapter.causes.recorded 7
-told-joined m1 m2 b c (inr set) two keeps = inr (keeps 7 set)
-told-joined m1 m2 b c (inl none) (inr set) keeps = inr set
-told-joined m1 m2 b c (inl none) (inl still) keeps = inl (rw (none, still) refl)
+    → All IsPart (first ++ later) ⊎ HasBit c.adapter.causes.recorded rxt0
+told-joined first later b c (inr set) two keeps = inr (keeps rxt0 set)
+told-joined first later b c (inl parts) (inr set) keeps = inr set
+told-joined first later b c (inl parts) (inl still) keeps = inl (All-append IsPart first later parts still)
 
 pub between_trans : (o p : ℕ) (a b c : World) (first later : Past) → Steady a b first → Steady b c later → Between o p a b first
     → Between o p b c later → Between o p a c (joined first later)
@@ -121,17 +122,15 @@ between_trans o p a b c first later earlier steady one two = record {
       ∙ append_assoc (frames_held o a) first.stored later.stored;
   more = one.more ++ two.more;
   done = two.done ∙ ap (λ (slots : List ℕ). slots ++ two.more) one.done ∙ append_assoc (finished o a) one.more two.more;
-  told = told-joined one.more two.more b c one.told two.told steady.causes;
+  pieces = one.pieces ++ two.pieces;
+  grown = two.grown ∙ ap (λ (list : List Piece). list ++ two.pieces) one.grown
+      ∙ append_assoc (finished_pieces o a) one.pieces two.pieces;
+  told = told-joined one.pieces two.pieces b c one.told two.told steady.causes;
   fits = λ fit. two.fits (one.fits fit);
   whole = λ are. two.whole (one.whole are);
   untouched = λ area apart. two.untouched area (one.foreign area apart) ∙ one.untouched area apart;
   foreign = λ area apart. two.foreign area (one.foreign area apart);
-  runs = λ short can.
-      let Short : List ℕ → Type 0 = λ frame. length frame ≤ buffer_size a in
-      let late = all-right Short first.stored later.stored short in
-      two.runs (subst (λ (filter : FilterRegisters). AreWithin (buffer_size_of (field filter.rctl 16 2)) later.stored)
-      (sym earlier.filter) late)
-      (one.runs (all-left Short first.stored later.stored short) can);
+  runs = λ can. two.runs (one.runs can);
   sound = two.sound;
 }
 
@@ -144,12 +143,14 @@ between_refl o p a sound = record {
   holds = sym (append-nil (frames_held o a));
   more = [];
   done = sym (append-nil (finished o a));
-  told = inl refl;
+  pieces = [];
+  grown = sym (append-nil (finished_pieces o a));
+  told = inl (all-none IsPart);
   fits = λ fit. fit;
   whole = λ are. are;
   untouched = λ area apart. refl;
   foreign = λ area apart. apart;
-  runs = λ short can. can;
+  runs = λ can. can;
   sound = sound;
 }
 

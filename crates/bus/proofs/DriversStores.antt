@@ -1,11 +1,10 @@
 -- A driver's store to memory of its own.
-use Rattle.std.proofs.Common.{◌≡◌, ◌++◌, [], ℕ, List, length, map, cond, sym, ap, subst, ◌∙◌}
+use Rattle.std.proofs.Common.{◌≡◌, ◌++◌, [], ℕ, List, length, map, cond, sym, ap, subst}
 use Rattle.std.specs.List.{All}
 use Rattle.dma_memory.specs.Areas.{AreApart, Area, ChangesOnly}
 use Rattle.dma_memory.specs.AreaLaws.{changes_only_stored}
 use Rattle.dma_memory.specs.HostMemory.{LiesIn, with_bytes}
 use Rattle.dma_memory.specs.Laws.{length-with_bytes}
-use Rattle.rx_engine.specs.Held as engine
 use Rattle.tx_engine.specs.Transmitter.{Queued}
 use Rattle.adapter.specs.HostAreas.{areas, buffer_of, data_of, offered_buffers, receives, reported_half, ring_area, status_byte, work_areas}
 use Rattle.adapter.specs.Slots.{buffered, finished, in_work, offered, outstanding}
@@ -14,7 +13,7 @@ use Rattle.adapter.specs.Conditions.{Reports, Sound}
 use Rattle.bus.specs.DriversStores.{IsDriversArea, DriversStoresLeaveForeign, DriversStoresLeaveFrames}
 use Rattle.adapter.specs.World.{receive_ring, transmit_ring, World, world_after_store}
 use Rattle.bus.proofs.Areas.{separate-same}
-use Rattle.bus.proofs.WrittenAreas.{IsSame, buffers-kept, frame_of, receive_kept_by_slots, same-apart, transmit_kept_by_slots}
+use Rattle.bus.proofs.WrittenAreas.{IsSame, buffers-kept, receive_kept_by_slots, same-apart, transmit_kept_by_slots}
 use Rattle.bus.proofs.Lists.{all-left, all-right}
 use Rattle.bus.proofs.TxPutSteps.{areas-same}
 use Rattle.bus.proofs.RunningEngines.{transmittable-kept}
@@ -71,17 +70,15 @@ drivers_stores_leave_frames o p a address bytes sound lies own =
               sound.separate;
           reports = subst (λ (queue : List Queued). All Reports (a.adapter.transmitter.buffer ++ queue))
               (sym transmitting.fetches) sound.reports;
+          begun = receiving.begun sound.begun;
           pads = sound.pads;
         };
-        held =
-            ap (λ (frames : List (List ℕ)). frames ++ (engine.in_work memory' a.adapter.receiver.work ++ a.adapter.receiver.buffer))
-            receiving.frames
-            ∙ ap (λ (frames : List (List ℕ)). map (frame_of memory) (finished o a) ++ (frames ++ a.adapter.receiver.buffer))
-            receiving.frame_in_work;
+        held = receiving.held;
         to_send = transmitting.sends;
         finished_same = receiving.done;
         written_same = transmitting.done;
-        whole = receiving.whole;
+        pieces_same = receiving.pieces;
+        whole = λ equal. receiving.whole;
         fits = λ larger fit. receiving.fits fit;
       };
       runs = λ can. record {
@@ -90,7 +87,6 @@ drivers_stores_leave_frames o p a address bytes sound lies own =
         receive_indices = can.receive_indices;
         transmit_indices = can.transmit_indices;
         not_extended = can.not_extended;
-        frames = can.frames;
         transmittable = transmittable-kept memory memory' (offered (transmit_ring a)) size transmitting.same_offered can.transmittable;
       };
     }

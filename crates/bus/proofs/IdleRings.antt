@@ -11,6 +11,8 @@ use Rattle.descriptors.specs.declared.ring.Ring.{Ring}
 use Rattle.descriptors.specs.Ring.{HasValidIndices, address_of}
 use Rattle.descriptors.specs.RingLaws.{places-none}
 use Rattle.rx_engine.specs.declared.engine.Work.{Work}
+use Rattle.rx_engine.specs.Held as engine
+use Rattle.rx_engine.specs.Pieces.{Piece, begun_of}
 use Rattle.tx_engine.specs.Fetching.{fetched}
 use Rattle.rx_engine.specs.Receiver.{Receiver}
 use Rattle.tx_engine.specs.Transmitter.{Queued, Transmitter}
@@ -23,9 +25,9 @@ use Rattle.adapter.specs.State.{AdapterState}
 use Rattle.adapter.specs.Table.{register_at, row_of}
 use Rattle.adapter.specs.HostAreas.{areas, buffer_of, data_of, ring_area, work_areas}
 use Rattle.adapter.specs.Slots.{buffered, done_slots, finished, in_work, is_done, IsDealt, offered, outstanding, slot_of_work}
-use Rattle.adapter.specs.HostFrames.{named}
+use Rattle.adapter.specs.HostFrames.{finished_pieces, named, piece_in}
 use Rattle.bus.specs.IdleRings.{HappeningsKeepIdle, IdleAfterPowerOn, IdleAfterReset, IdleRingsAreSound, IsIdle, OtherWritesKeepIdle}
-use Rattle.bus.specs.IdleRings.{ReadsKeepIdle, StoresKeepIdle, WritesKeepIdle}
+use Rattle.bus.specs.IdleRings.{ReadsKeepIdle, StoresKeepIdle, WritesKeepIdle, moved_bytes}
 use Rattle.adapter.specs.Conditions.{Reports, Sound}
 use Rattle.adapter.specs.World.{receive_ring, transmit_ring, World, world_after_write}
 use Rattle.bus.proofs.Lists.{all-head, all-left, all-none, all-weaker, append-empty, map-empty, pairs-head, pairs-none}
@@ -69,10 +71,19 @@ idle-areas world idle =
     areas-same _ _ [] _ [] _ [] _ [] _ (ap (map (data_of memory)) unsent) (ap (map (named memory)) unfinished)
     (ap (work_areas memory) idle.work) (buffers-none _ (buffer_of world) (offered ring) unoffered)
 
+-- Where no slot is finished and no piece is in progress, there are no pieces in slots.
+pub no-pieces : (memory : List ℕ) (finished : List Piece) (receiver : Receiver) → finished ≡ [] → receiver.work ≡ None
+    → engine.in_slots memory finished receiver ≡ []
+no-pieces memory finished receiver none free =
+    ap (λ (pieces : List Piece). pieces ++ engine.in_work memory receiver.work) none ∙ ap (engine.in_work memory) free
+
 pub idle_rings_are_sound : IdleRingsAreSound
 idle_rings_are_sound world idle =
     let memory = world.memory in
     let unsent = offered-none (transmit_ring world) idle.rings.transmit in
+    let ring = receive_ring world in
+    let pieces : finished_pieces ring.tail world ≡ [] =
+    ap (λ (slots : List ℕ). map (piece_in memory) (take_while (is_done memory) slots)) (outstanding-none ring) in
     let queue : world.adapter.transmitter.buffer ++ map (fetched true memory) (offered (transmit_ring world)) ≡ [] =
     ap (λ (frames : List Queued). frames ++ map (fetched true memory) (offered (transmit_ring world))) idle.buffer
     ∙ ap (map (fetched true memory)) unsent in
@@ -82,6 +93,7 @@ idle_rings_are_sound world idle =
           (ap (map (λ (queued : Queued). queued.descriptor)) idle.buffer);
       separate = subst (λ (list : List Area). AreSeparate memory list) (sym (idle-areas world idle)) idle.rings.separate;
       reports = subst (λ (frames : List Queued). All Reports frames) (sym queue) (all-none Reports);
+      begun = ap begun_of (no-pieces memory (finished_pieces ring.tail world) world.adapter.receiver pieces idle.work) ∙ sym idle.unmoved;
       pads = λ differ. absurd (differ idle.rings.transmit);
     }
 
@@ -101,6 +113,7 @@ empty_rings memory =
 pub idle_after_power_on : IdleAfterPowerOn
 idle_after_power_on memory words link = record {
   work = refl;
+  unmoved = refl;
   buffer = refl;
   rings = record { receive = refl; transmit = refl; separate = empty_rings memory };
 }
@@ -108,6 +121,7 @@ idle_after_power_on memory words link = record {
 pub idle_after_reset : IdleAfterReset
 idle_after_reset world = record {
   work = refl;
+  unmoved = refl;
   buffer = refl;
   rings = record { receive = refl; transmit = refl; separate = empty_rings world.memory };
 }
@@ -154,12 +168,17 @@ happenings_keep_idle a b past happens idle =
     let p = a.adapter.transmit_ring.tail in
     let steady = happens.steady in
     let sound : Sound o p b = (happens.between o p (idle_rings_are_sound a idle)).sound in
-    let received = none-dealt b.memory (receive_ring b) o (in_work b)
-    (sym (ap (λ (ring : RingRegisters). ring.tail) steady.receive_ring)) sound.receive_slots in
+    let tail : o ≡ b.adapter.receive_ring.tail = sym (ap (λ (ring : RingRegisters). ring.tail) steady.receive_ring) in
+    let received = none-dealt b.memory (receive_ring b) o (in_work b) tail sound.receive_slots in
+    let work = work-empty b.adapter.receiver.work received.0 in
+    let pieces : finished_pieces o b ≡ [] =
+    ap (λ (slots : List ℕ). map (piece_in b.memory) (take_while (is_done b.memory) slots))
+    (ap (outstanding (receive_ring b)) tail ∙ outstanding-none (receive_ring b)) in
     let sent = none-dealt b.memory (transmit_ring b) p (buffered b)
     (sym (ap (λ (ring : RingRegisters). ring.tail) steady.transmit_ring)) sound.transmit_slots in
     record {
-      work = work-empty b.adapter.receiver.work received.0;
+      work = work;
+      unmoved = sym sound.begun ∙ ap begun_of (no-pieces b.memory (finished_pieces o b) b.adapter.receiver pieces work);
       buffer = map-empty (λ (queued : Queued). queued.descriptor) b.adapter.transmitter.buffer sent.0;
       rings = record {
         receive = still-idle a.adapter.receive_ring b.adapter.receive_ring steady.receive_ring steady.receive_head idle.rings.receive
@@ -173,11 +192,12 @@ happenings_keep_idle a b past happens idle =
 -- Accesses leave them idle.
 
 -- Idle by the parts of the adapter that this rests on.
-idle-same : (memory memory' : List ℕ) (a b : AdapterState) → length memory' ≡ length memory → b.receiver.work ≡ a.receiver.work
+idle-same : (memory memory' : List ℕ) (a b : AdapterState) → length memory' ≡ length memory → b.receiver ≡ a.receiver
     → b.transmitter.buffer ≡ a.transmitter.buffer → b.receive_ring ≡ a.receive_ring → b.transmit_ring ≡ a.transmit_ring
     → IsIdle (record { memory = memory; adapter = a }) → IsIdle (record { memory = memory'; adapter = b })
-idle-same memory memory' a b size work buffer r t idle = record {
-  work = work ∙ idle.work;
+idle-same memory memory' a b size receiver buffer r t idle = record {
+  work = ap (λ (there : Receiver). there.work) receiver ∙ idle.work;
+  unmoved = ap moved_bytes receiver ∙ idle.unmoved;
   buffer = buffer ∙ idle.buffer;
   rings = record {
     receive = ap (λ (ring : RingRegisters). ring.head) r ∙ idle.rings.receive ∙ sym (ap (λ (ring : RingRegisters). ring.tail) r);
@@ -222,17 +242,19 @@ stores_keep_idle address bytes world size idle = idle-same world.memory _ world.
 -- What a write leaves of the frames: it makes none.
 record NoFrames (state : AdapterState) : Type 0 where
   work : state.receiver.work ≡ None
+  unmoved : moved_bytes state.receiver ≡ []
   buffer : state.transmitter.buffer ≡ []
 
 write-frames : (register : Register) (value : ℕ) (state : AdapterState) → NoFrames state → NoFrames (write_of register value state)
 write-frames register value state none = by_test (is_reset register value)
   where
     by_test : (test : Bool) → NoFrames (if test then after_reset state else by_row (row_of register).kept register value state)
-    by_test true = record { work = refl; buffer = refl }
+    by_test true = record { work = refl; unmoved = refl; buffer = refl }
     by_test false =
         let leaves = row-leaves register value state in
         record {
           work = ap (λ (receiver : Receiver). receiver.work) leaves.receiver ∙ none.work;
+          unmoved = ap moved_bytes leaves.receiver ∙ none.unmoved;
           buffer = ap (λ (transmitter : Transmitter). transmitter.buffer) leaves.transmitter ∙ none.buffer;
         }
 
@@ -241,14 +263,16 @@ writes_keep_idle offset value world idle rings = by_case (register_at offset) re
   where
     by_case : (found : Option Register) → register_at offset ≡ found → IsIdle (world_after_write offset value world)
     by_case (Some register) is =
-        let none = write-frames register value world.adapter (record { work = idle.work; buffer = idle.buffer }) in
+        let none = write-frames register value world.adapter (record { work = idle.work; unmoved = idle.unmoved; buffer = idle.buffer }) in
         record {
           work = ap (λ (found : Option Register). (left_by_write found value world.adapter).receiver.work) is ∙ none.work;
+          unmoved = ap (λ (found : Option Register). moved_bytes (left_by_write found value world.adapter).receiver) is ∙ none.unmoved;
           buffer = ap (λ (found : Option Register). (left_by_write found value world.adapter).transmitter.buffer) is ∙ none.buffer;
           rings = rings;
         }
     by_case None is = record {
       work = ap (λ (found : Option Register). (left_by_write found value world.adapter).receiver.work) is ∙ idle.work;
+      unmoved = ap (λ (found : Option Register). moved_bytes (left_by_write found value world.adapter).receiver) is ∙ idle.unmoved;
       buffer = ap (λ (found : Option Register). (left_by_write found value world.adapter).transmitter.buffer) is ∙ idle.buffer;
       rings = rings;
     }
@@ -265,5 +289,5 @@ other_writes_keep_idle register value world other idle = by_test (is_reset regis
         let leaves = row-leaves register value world.adapter in
         let rings = leaves.rings other in
         idle-same world.memory world.memory world.adapter _ refl
-        (ap (λ (receiver : Receiver). receiver.work) leaves.receiver)
+        leaves.receiver
         (ap (λ (transmitter : Transmitter). transmitter.buffer) leaves.transmitter) rings.0 rings.1 idle

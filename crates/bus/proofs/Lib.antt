@@ -3,8 +3,10 @@ pub mod Lists
 pub mod Areas
 pub mod Rings
 pub mod EachArea
+pub mod KeptPieces
 pub mod WrittenAreas
 pub mod EngineRegisters
+pub mod CutPieces
 pub mod RunningEngines
 pub mod StepsBesideRings
 pub mod TxTakeSteps
@@ -22,7 +24,9 @@ pub mod DriversSlots
 pub mod DriversStores
 pub mod WritableSlots
 pub mod SlotOffers
+pub mod Pieces
 pub mod TakingSlots
+pub mod RunsOfSlots
 pub mod SpareMemory
 pub mod KnownMemory
 pub mod KnownRings

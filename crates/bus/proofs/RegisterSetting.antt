@@ -8,6 +8,7 @@ use Rattle.std.proofs.Math.Nat.{mod-add-mod, mod-eq_of_lt}
 use Rattle.descriptors.specs.Ring.{address_of, count_of, next_of, offered_places, slots_from}
 use Rattle.descriptors.specs.RingLaws.{next-below, places-none}
 use Rattle.mdic_phy.specs.declared.phy.Link.TheVariants.{Never}
+use Rattle.rx_engine.specs.Pieces.{IsCut}
 use Rattle.rx_engine.specs.Receiver.{Receiver}
 use Rattle.tx_engine.specs.Fetching.{fetched, frame_at}
 use Rattle.tx_engine.specs.ToSend.{to_send}
@@ -20,10 +21,10 @@ use Rattle.adapter.specs.Rings.{ring_of}
 use Rattle.adapter.specs.Table.{register_at, row_of}
 use Rattle.adapter.specs.Slots.{finished, offered, outstanding, written_back}
 use Rattle.adapter.specs.HostAreas.{buffer_size}
-use Rattle.adapter.specs.HostFrames.{frames_held, frames_to_send}
+use Rattle.adapter.specs.HostFrames.{finished_pieces, frames_held, frames_to_send, pieces_in_slots}
 use Rattle.bus.specs.RegisterSetting.{CanOfferMany, ManySlotsCanBeOffered, OfferedMany, OtherWritesLeaveFrames, ReadsLeaveFrames}
 use Rattle.bus.specs.RegisterSetting.{ReceiverCanBeSet, TransmitRingCanBeSet, TransmitterCanBeSet, with_receive_control, with_tail}
-use Rattle.adapter.specs.Conditions.{AreWhole, FitBuffers, Reports, Sound}
+use Rattle.adapter.specs.Conditions.{AreCut, FitBuffers, Reports, Sound}
 use Rattle.bus.specs.SlotOffers.{offering}
 use Rattle.bus.specs.DriversStores.{LeavesFrames, SameFrames}
 use Rattle.adapter.specs.Running.{CanRun, CanTransmit}
@@ -43,13 +44,20 @@ receiver_can_be_set o p control world sound separate = record {
       transmit_slots = sound.transmit_slots;
       separate = separate;
       reports = sound.reports;
+      begun = sound.begun;
       pads = sound.pads;
     };
     held = refl;
     to_send = refl;
     finished_same = refl;
     written_same = refl;
-    whole = λ are. are;
+    pieces_same = refl;
+    whole = λ equal cut. record {
+      have_no_errors = cut.have_no_errors;
+      cut = subst (λ (n : ℕ). All (IsCut n) (pieces_in_slots o world)) (sym equal) cut.cut;
+      legal = cut.legal;
+      short = cut.short;
+    };
     fits = λ larger fit.
         let within : (n : ℕ) → n ≤ buffer_size world
         → n ≤ buffer_size (with_receive_control control world) = λ n small. omega (arith, small, larger) in
@@ -58,13 +66,12 @@ receiver_can_be_set o p control world sound separate = record {
           work_fits = λ k place below. within _ (fit.work_fits k place below);
         };
   };
-  runs = λ not_extended short can. record {
+  runs = λ not_extended can. record {
     receiver_runs = can.receiver_runs;
     transmitter_runs = can.transmitter_runs;
     receive_indices = can.receive_indices;
     transmit_indices = can.transmit_indices;
     not_extended = not_extended;
-    frames = short;
     transmittable = can.transmittable;
   };
 }
@@ -77,13 +84,15 @@ transmitter_can_be_set o p control world sound pads = record {
       transmit_slots = sound.transmit_slots;
       separate = sound.separate;
       reports = sound.reports;
+      begun = sound.begun;
       pads = pads;
     };
     held = refl;
     to_send = refl;
     finished_same = refl;
     written_same = refl;
-    whole = λ are. are;
+    pieces_same = refl;
+    whole = λ equal cut. record { have_no_errors = cut.have_no_errors; cut = cut.cut; legal = cut.legal; short = cut.short };
     fits = λ larger fit. record { finished_fit = fit.finished_fit; work_fits = fit.work_fits };
   };
   runs = λ can. record {
@@ -92,7 +101,6 @@ transmitter_can_be_set o p control world sound pads = record {
     receive_indices = can.receive_indices;
     transmit_indices = can.transmit_indices;
     not_extended = can.not_extended;
-    frames = can.frames;
     transmittable = can.transmittable;
   };
 }
@@ -119,6 +127,7 @@ transmit_ring_can_be_set o p ring world sound none same separate =
         transmit_slots = dealt-idle memory (ring_of ring) _ same (ap (map (λ (queued : Queued). queued.descriptor)) none);
         separate = separate;
         reports = subst (λ (frames : List Queued). All Reports frames) (sym queue) (all-none Reports);
+        begun = sound.begun;
         pads = λ differ. absurd (differ same);
       };
       none_outstanding = outstanding-none (ring_of ring);
@@ -132,7 +141,6 @@ transmit_ring_can_be_set o p ring world sound none same separate =
         receive_indices = can.receive_indices;
         transmit_indices = λ differ. absurd (differ same);
         not_extended = can.not_extended;
-        frames = can.frames;
         transmittable = subst (λ (slots : List ℕ). All (CanTransmit memory) slots) (sym unsent) (all-none (CanTransmit memory));
       };
     }
@@ -165,6 +173,7 @@ to_parts o p world sound = record {
   transmit_slots = sound.transmit_slots;
   separate = sound.separate;
   reports = sound.reports;
+  begun = sound.begun;
   pads = sound.pads;
 }
 
@@ -174,6 +183,7 @@ from_parts o p world sound = record {
   transmit_slots = sound.transmit_slots;
   separate = sound.separate;
   reports = sound.reports;
+  begun = sound.begun;
   pads = sound.pads;
 }
 
@@ -184,7 +194,6 @@ running_to_parts world can = record {
   receive_indices = can.receive_indices;
   transmit_indices = can.transmit_indices;
   not_extended = can.not_extended;
-  frames = can.frames;
   transmittable = can.transmittable;
 }
 
@@ -195,7 +204,6 @@ running_from_parts world can = record {
   receive_indices = can.receive_indices;
   transmit_indices = can.transmit_indices;
   not_extended = can.not_extended;
-  frames = can.frames;
   transmittable = can.transmittable;
 }
 
@@ -205,6 +213,12 @@ fit_to_parts o world fit = record { finished_fit = fit.finished_fit; work_fits =
 fit_from_parts : (o : ℕ) (world : World) → FitBuffers o (parts world) → FitBuffers o world
 fit_from_parts o world fit = record { finished_fit = fit.finished_fit; work_fits = fit.work_fits }
 
+cut_to_parts : (o : ℕ) (world : World) → AreCut o world → AreCut o (parts world)
+cut_to_parts o world cut = record { have_no_errors = cut.have_no_errors; cut = cut.cut; legal = cut.legal; short = cut.short }
+
+cut_from_parts : (o : ℕ) (world : World) → AreCut o (parts world) → AreCut o world
+cut_from_parts o world cut = record { have_no_errors = cut.have_no_errors; cut = cut.cut; legal = cut.legal; short = cut.short }
+
 by-parts : (o p : ℕ) (a b : World) → parts b ≡ parts a → Sound o p a → LeavesFrames o p a b
 by-parts o p a b same sound = record {
   same = record {
@@ -213,7 +227,8 @@ by-parts o p a b same sound = record {
     to_send = ap frames_to_send same;
     finished_same = ap (finished o) same;
     written_same = ap (written_back p) same;
-    whole = λ are. subst (λ (world : World). AreWhole world.memory (finished o world)) (sym same) are;
+    pieces_same = ap (finished_pieces o) same;
+    whole = λ equal cut. cut_from_parts o b (subst (AreCut o) (sym same) (cut_to_parts o a cut));
     fits = λ larger fit. fit_from_parts o b (subst (FitBuffers o) (sym same) (fit_to_parts o a fit));
   };
   runs = λ can. running_from_parts b (subst CanRun (sym same) (running_to_parts a can));
@@ -260,7 +275,8 @@ same_trans o p a b d size one two = record {
   to_send = two.to_send ∙ one.to_send;
   finished_same = two.finished_same ∙ one.finished_same;
   written_same = two.written_same ∙ one.written_same;
-  whole = λ are. two.whole (one.whole are);
+  pieces_same = two.pieces_same ∙ one.pieces_same;
+  whole = λ equal cut. two.whole (equal ∙ sym size) (one.whole size cut);
   fits = λ larger fit. two.fits (omega (arith, size, larger)) (one.fits (omega (arith, size)) fit);
 }
 

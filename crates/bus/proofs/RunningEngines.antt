@@ -1,5 +1,6 @@
--- Engines that can run: no fault stops them, and what stays of them where memory is written or frames come and go.
-use Rattle.std.proofs.Common.{◌≡◌, ◌≢◌, ◌≤◌, inr, ◌∷◌, [], Bool, true, false, cond, ℕ, List, length, drop, map, sym, ap, subst, arith}
+-- Engines that can run: no fault stops them, and what stays of them if memory is written.
+use Rattle.std.proofs.Common.{◌≡◌, ◌≢◌, ◌≤◌, inr, [], Bool, true, false, cond, ℕ, List, length, length-take, drop, map}
+use Rattle.std.proofs.Common.{sym, ap, subst, arith}
 use Rattle.std.specs.List.{All}
 use Rattle.std.proofs.lemmas.Bool.{eq-eqb}
 use Rattle.dma_memory.specs.Areas.{Area, IsInside, descriptor_area}
@@ -8,9 +9,10 @@ use Rattle.dma_memory.specs.HostMemory.{LiesIn}
 use Rattle.descriptors.specs.declared.tx_desc.TxDesc.{TxDesc}
 use Rattle.descriptors.specs.Ring.{address_of}
 use Rattle.descriptors.specs.TxDesc.{tx_desc_of}
-use Rattle.rx_engine.specs.Receiver.{oldest}
+use Rattle.rx_engine.specs.Moving.{buffer_bytes, next_piece}
+use Rattle.rx_engine.specs.Receiver.{Receiver, oldest}
 use Rattle.tx_engine.specs.Fetching.{IsTransmittable}
-use Rattle.adapter.specs.Receiving.{CanMoveFrame, HasFrameAndDescriptor}
+use Rattle.adapter.specs.Receiving.{CanMovePiece, HasFrameAndDescriptor, piece_size}
 use Rattle.adapter.specs.Steps.{Answers, ticked}
 use Rattle.adapter.specs.Transmitting.{CanTake, HasNothingToTake}
 use Rattle.adapter.specs.declared.step.StepKind.{StepKind}
@@ -18,15 +20,14 @@ use Rattle.adapter.specs.declared.step.StepKind.TheVariants.{TxTake, TxPut, RxDa
 use Rattle.adapter.specs.Outcomes.{FrameOutcome}
 use Rattle.adapter.specs.declared.outcome.Outcome.TheVariants.{Fault}
 use Rattle.bus.specs.Faults.{FaultsNeverCome}
-use Rattle.adapter.specs.HostAreas.{buffer_of, buffer_size, receives, ring_area}
-use Rattle.adapter.specs.HostFrames.{AreWithin}
+use Rattle.adapter.specs.HostAreas.{buffer_of, receives, ring_area}
 use Rattle.adapter.specs.Slots.{buffered, in_work, offered}
 use Rattle.adapter.specs.Conditions.{Sound}
 use Rattle.adapter.specs.Running.{CanRun, CanTransmit}
 use Rattle.adapter.specs.World.{receive_ring, transmit_ring, World}
 use Rattle.bus.proofs.EachArea.{of-areas}
 use Rattle.bus.proofs.WrittenAreas.{IsSame}
-use Rattle.bus.proofs.Lists.{all-head, all-none, all-right, all-tail}
+use Rattle.bus.proofs.Lists.{all-head, all-right}
 use Rattle.bus.proofs.Rings.{dealt-right, offered-head, outstanding-inside}
 
 -- No fault.
@@ -57,13 +58,12 @@ can_take o p a sound can not_idle =
           (subst (λ (list : List ℕ). All (CanTransmit a.memory) list) first can.transmittable);
     }
 
--- The oldest of frames within a size has at most as many bytes.
-oldest-fits : (size : ℕ) (buffer : List (List ℕ)) → AreWithin size buffer → length (oldest buffer) ≤ size
-oldest-fits size [] short = omega arith
-oldest-fits size (frame ∷ later) short = all-head (λ (f : List ℕ). length f ≤ size) frame later short
+-- The next piece has at most as many bytes as a buffer.
+pub piece-fits : (control : ℕ) (engine : Receiver) → length (next_piece control engine) ≤ buffer_bytes control
+piece-fits control engine = omega (arith, length-take (buffer_bytes control) (drop engine.moved (oldest engine.buffer)))
 
 -- What a data step finds.
-pub can_move : (o p : ℕ) (a : World) → Sound o p a → CanRun a → HasFrameAndDescriptor a.adapter → CanMoveFrame a.memory a.adapter
+pub can_move : (o p : ℕ) (a : World) → Sound o p a → CanRun a → HasFrameAndDescriptor a.adapter → CanMovePiece a.memory a.adapter
 can_move o p a sound can has =
     let ring = receive_ring a in
     let r = ring_area ring in
@@ -82,13 +82,12 @@ can_move o p a sound can has =
     (λ (set : Bool). All (Lies a.memory) (cond set (map (buffer_of a) (offered ring)) [])) enabled lie.buffers in
     let place : LiesIn a.memory buffer.address buffer.size = all-head (Lies a.memory) buffer _
     (subst (λ (list : List ℕ). All (Lies a.memory) (map (buffer_of a) list)) first on) in
-    let short = oldest-fits (buffer_size a) a.adapter.receiver.buffer can.frames in
+    let short : piece_size a.adapter ≤ buffer.size = piece-fits a.adapter.filter.rctl a.adapter.receiver in
     record {
       indices = in_ring;
       descriptor = lies-inside a.memory (descriptor_area head) r inside lie.received;
       place = omega (arith, place, short);
       not_extended = can.not_extended;
-      size = short;
     }
 
 -- A tick is no fault.
@@ -119,8 +118,3 @@ transmittable-kept memory memory' slots size same can = λ k d below.
     let there : IsTransmittable memory' _ = record
     { ends = old.ends; legacy = old.legacy; least = old.least; most = old.most; lies = omega (arith, size, old.lies) } in
     subst (λ (desc : TxDesc). IsTransmittable memory' desc) (sym (ap tx_desc_of (same k d below))) there
-
--- Frames without the oldest.
-pub later-fit : (size : ℕ) (buffer : List (List ℕ)) → AreWithin size buffer → AreWithin size (drop 1 buffer)
-later-fit size [] short = all-none (λ (f : List ℕ). length f ≤ size)
-later-fit size (frame ∷ later) short = all-tail (λ (f : List ℕ). length f ≤ size) frame later short

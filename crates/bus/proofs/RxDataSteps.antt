@@ -1,6 +1,6 @@
--- A frame is moved from the receive packet buffer to memory.
-use Rattle.std.proofs.Common.{inr, ◌≡◌, ◌≤◌, inl, ◌++◌, ◌∷◌, [], Bool, true, cond, ℕ, List, Option, None, length, map, refl, sym, ap, subst}
-use Rattle.std.proofs.Common.{◌∙◌, append_assoc, arith}
+-- A piece of a frame is moved from the receive packet buffer to memory.
+use Rattle.std.proofs.Common.{inr, ◌≡◌, ◌≢◌, ◌≤◌, ◌+◌, inl, ◌++◌, ◌∷◌, [], Bool, true, false, cond, ℕ, List, Option, Some, None}
+use Rattle.std.proofs.Common.{length, map, drop, refl, sym, ap, subst, ◌∙◌, append_assoc, arith}
 use Rattle.std.specs.List.{All}
 use Rattle.std.proofs.lemmas.Bool.{eq-eqb}
 use Rattle.std.proofs.lemmas.List.{append-nil}
@@ -12,23 +12,25 @@ use Rattle.dma_memory.specs.Laws.{length-with_bytes}
 use Rattle.descriptors.specs.Ring.{address_of, next_of}
 use Rattle.descriptors.specs.RxDesc.{rx_desc_of}
 use Rattle.rx_engine.specs.Descriptors as receive
-use Rattle.rx_engine.specs.Receiver.{oldest}
-use Rattle.rx_engine.specs.Held.{held}
-use Rattle.rx_engine.specs.Laws.{held-after_data}
-use Rattle.rx_engine.specs.Moving.{is_half_free}
+use Rattle.rx_engine.specs.Receiver.{IsReceiver, Receiver, oldest}
+use Rattle.rx_engine.specs.Pieces.{IsPart, Piece, begun_of}
+use Rattle.rx_engine.specs.Held.{HasBegun, Holds, MovesApart, held, in_work, piece_of}
+use Rattle.rx_engine.specs.Laws.{bytes_of_work-moved, held-after_data}
+use Rattle.rx_engine.specs.Moving.{is_half_free, next_piece, work_at}
 use Rattle.rx_engine.specs.declared.data.Data.TheVariants as answers
 use Rattle.rx_engine.specs.declared.engine.Work.{Work}
 use Rattle.tx_engine.specs.Transmitter.{Queued}
-use Rattle.adapter.specs.Receiving.{CanMoveFrame, DataAnswers, HasFrameAndDescriptor, causes_of_moving}
+use Rattle.adapter.specs.Receiving.{CanMovePiece, DataAnswers, HasFrameAndDescriptor, causes_of_moving, is_last_piece, piece_size}
 use Rattle.adapter.specs.Rings.{ring_of}
 use Rattle.adapter.specs.Transmitting.{moved_on}
 use Rattle.adapter.specs.declared.step.StepKind.TheVariants.{RxData}
 use Rattle.adapter.specs.Outcomes.{FrameOutcome}
-use Rattle.adapter.specs.declared.outcome.Outcome.TheVariants.{Took, Put, WireFull, Moved, Done, Ticked, Nothing, Fault}
-use Rattle.adapter.specs.HostAreas.{areas, buffer_of, data_of, offered_buffers, receives, reported_half, ring_area, status_byte, work_areas}
+use Rattle.adapter.specs.declared.outcome.Outcome.TheVariants.{Part, Moved, Nothing, Fault}
+use Rattle.adapter.specs.HostAreas.{areas, buffer_of, buffer_size, data_of, offered_buffers, receives, reported_half}
+use Rattle.adapter.specs.HostAreas.{ring_area, status_byte, work_areas}
 use Rattle.adapter.specs.Slots.{buffered, done_slots, finished, is_done, IsDealt, offered, outstanding, written_back}
-use Rattle.adapter.specs.HostFrames.{frames_held, named}
-use Rattle.adapter.specs.Conditions.{AreWhole, Reports, Sound}
+use Rattle.adapter.specs.HostFrames.{finished_pieces, frames_held, named, piece_in, pieces_in_slots}
+use Rattle.adapter.specs.Conditions.{AreCut, Reports, Sound}
 use Rattle.bus.specs.Law.{Between, Happens}
 use Rattle.bus.specs.PastOfStretch.{nothing}
 use Rattle.bus.specs.StepsAndArrivals.{world_after_step}
@@ -37,42 +39,87 @@ use Rattle.adapter.specs.World.{receive_ring, transmit_ring, World}
 use Rattle.bus.proofs.Areas.{separate-same, separate-shorter}
 use Rattle.bus.proofs.Composition.{happens_none}
 use Rattle.bus.proofs.EngineRegisters.{added, steady_moves, still}
-use Rattle.bus.proofs.WrittenAreas.{IsSame, buffers-kept, frame_of, frames-kept, is_done-same, named-kept, names_fit-kept, NamesFit}
-use Rattle.bus.proofs.WrittenAreas.{same-outstanding, transmit_kept, whole-kept}
+use Rattle.bus.proofs.CutPieces.{CutPieces, HaveNoErrors, are-cut, errors-kept, next-piece}
+use Rattle.bus.proofs.WrittenAreas.{IsSame, buffers-kept, descriptors-kept, is_done-same, named-kept, names_fit-kept, NamesFit}
+use Rattle.bus.proofs.WrittenAreas.{pieces-kept, same-outstanding, transmit_kept}
 use Rattle.bus.proofs.Lists.{all-head, all-left, all-right, all-tail, all-weaker, all-without, pairs-before}
 use Rattle.bus.proofs.TxPutSteps.{areas-same}
 use Rattle.bus.proofs.StepsBesideRings.{between_stopped}
 use Rattle.bus.proofs.Rings.{dealt-left, dealt-moved, dealt-right, dealt-same, done-same, offered-head, outstanding-inside}
 use Rattle.descriptors.specs.Frames.{IsLegal}
 use Rattle.bus.proofs.Lists.{all-none}
-use Rattle.bus.proofs.RunningEngines.{can_move, later-fit, transmittable-kept}
+use Rattle.bus.proofs.RunningEngines.{can_move, piece-fits, transmittable-kept}
 use Rattle.descriptors.specs.RingLaws.{next-below}
 use Rattle.descriptors.specs.Ring.{count_of}
 
--- the world with this frame in work
+-- the world with this piece in progress
 abbrev pub with_work : Option Work → World → World
 with_work work world = record world { adapter = record world.adapter { receiver = record world.adapter.receiver { work = work } } }
 
-pub between_moved : (o p : ℕ) (a0 : World) → HasFrameAndDescriptor (with_work None a0).adapter → CanMoveFrame a0.memory a0.adapter
-    → Sound o p (with_work None a0) → Between o p (with_work None a0) (world_after_step RxData Moved a0) nothing
-between_moved o p a0 has can sound =
+-- the receive engine with this packet buffer, so many bytes of its oldest frame moved, and a piece in progress
+abbrev pub moved_engine : Bool → List (List ℕ) → ℕ → World → Receiver
+moved_engine ends buffer moved world = record world.adapter.receiver {
+  buffer = buffer;
+  moved = moved;
+  work = Some (work_at world.adapter.filter.rctl (receive_ring world) world.adapter.receiver ends);
+}
+
+-- the world after a data step that moved a piece, with that engine: the rest of it is the same for each piece of a frame
+abbrev pub moved_world : Bool → List (List ℕ) → ℕ → World → World
+moved_world ends buffer moved world = record {
+  memory = (world_after_step RxData Moved world).memory;
+  adapter = record (world_after_step RxData Moved world).adapter { receiver = moved_engine ends buffer moved world };
+}
+
+-- the step leaves the frames held
+abbrev pub KeepsHeld : Bool → List (List ℕ) → ℕ → ℕ → World → Type 0
+KeepsHeld ends buffer moved o a =
+    MovesApart a.adapter.filter.rctl (receive_ring a) a.adapter.receiver a.memory ends
+    → Holds (frames_held o a) (held (moved_world ends buffer moved a).memory (finished_pieces o a) (moved_engine ends buffer moved a)) []
+    (moved_world ends buffer moved a).memory (finished_pieces o a) (moved_engine ends buffer moved a)
+
+oldest-legal : (buffer : List (List ℕ)) → buffer ≢ [] → All IsLegal buffer → IsLegal (oldest buffer)
+oldest-legal [] some legal = absurd (some refl)
+oldest-legal (frame ∷ later) some legal = all-head IsLegal frame later legal
+
+-- The pieces in slots before the step, and then the next piece of the oldest frame.
+cut-moved : (ends : Bool) (o : ℕ) (a : World) → a.adapter.receiver.work ≡ None → a.adapter.receiver.buffer ≢ []
+    → IsReceiver a.adapter.receiver → is_last_piece a.adapter ≡ ends
+    → HasBegun a.memory (finished_pieces o a) a.adapter.receiver → AreCut o a
+    → CutPieces (buffer_size a) (finished_pieces o a ++ piece_of ends (next_piece a.adapter.filter.rctl a.adapter.receiver) ∷ [])
+cut-moved ends o a free some is last begun are =
+    let engine = a.adapter.receiver in
+    let legal = oldest-legal engine.buffer some is.frames in
+    let none : pieces_in_slots o a ≡ finished_pieces o a =
+    ap (λ (work : Option Work). finished_pieces o a ++ in_work a.memory work) free ∙ append-nil (finished_pieces o a) in
+    let before : CutPieces (buffer_size a) (pieces_in_slots o a) = record { cut = are.cut; legal = are.legal; short = are.short } in
+    next-piece ends (buffer_size a) engine.moved (oldest engine.buffer) (finished_pieces o a) last legal
+    (omega (arith, is.begun, legal.least)) (ap begun_of (sym none) ∙ begun)
+    (subst (λ (pieces : List Piece). CutPieces (buffer_size a) pieces) none before)
+
+pub between_moved : (ends : Bool) (buffer : List (List ℕ)) (moved : ℕ) (o p : ℕ) (a0 : World)
+    → HasFrameAndDescriptor (with_work None a0).adapter → CanMovePiece a0.memory a0.adapter → is_last_piece a0.adapter ≡ ends
+    → IsReceiver (with_work None a0).adapter.receiver → KeepsHeld ends buffer moved o (with_work None a0) → Sound o p (with_work None a0)
+    → Between o p (with_work None a0) (moved_world ends buffer moved a0) nothing
+between_moved ends buffer moved o p a0 has can last_is is keeps_held sound =
     let a = with_work None a0 in
-    let b = world_after_step RxData Moved a0 in
+    let b = moved_world ends buffer moved a0 in
     let memory = a.memory in
     let memory' = b.memory in
     let ring = receive_ring a in
     let next = receive_ring b in
-    let frame = oldest a.adapter.receiver.buffer in
-    let n = length frame in
+    let piece = next_piece a.adapter.filter.rctl a.adapter.receiver in
+    let n = length piece in
     let head = address_of ring ring.head in
     let rest = offered next in
     let at = receive.named_address memory head in
     let bsize = (buffer_of a 0).size in
-    let size : length memory' ≡ length memory = length-with_bytes memory frame at can.place in
+    let size : length memory' ≡ length memory = length-with_bytes memory piece at can.place in
     let area : Area = record { address = at; size = n } in
     let whole_buffer : Area = record { address = at; size = bsize } in
-    let part : IsInside area whole_buffer = record { from = omega arith; to = omega (arith, can.size) } in
-    let keeps : ChangesOnly memory memory' area = changes_only_stored memory frame at can.place in
+    let short : n ≤ bsize = piece-fits a.adapter.filter.rctl a.adapter.receiver in
+    let part : IsInside area whole_buffer = record { from = omega arith; to = omega (arith, short) } in
+    let keeps : ChangesOnly memory memory' area = changes_only_stored memory piece at can.place in
     let first : offered ring ≡ head ∷ rest = offered-head ring can.indices has.offered in
     let enabled : receives a ≡ true = eq-eqb _ _ has.enabled in
     let r = ring_area ring in
@@ -113,13 +160,16 @@ between_moved o p a0 has can sound =
     (dealt-right memory ring o [] (λ d. IsInside (descriptor_area d) r) slots (outstanding-inside ring o slots.slot)) in
     let apart_head : AreApart area (descriptor_area head) = inside-apart area (descriptor_area head) r
     (all-head (λ d. IsInside (descriptor_area d) r) head rest inside) apart_r in
-    let holding : held memory' b.adapter.receiver ≡ held memory a.adapter.receiver =
-    held-after_data a.adapter.filter.rctl ring a.adapter.receiver memory
-    (answers.Moved (is_half_free (ring_of (moved_on a.adapter.receive_ring))))
-    (λ _. record { has = has; can = can; apart = apart_head }) in
-    let frames : map (frame_of memory') (done_slots memory' ring o) ≡ map (frame_of memory) (finished o a) =
-    ap (map (frame_of memory')) done
-    ∙ frames-kept memory memory' area (finished o a) keeps same_done (all-right (AreApart area) payload names apart_rest) in
+    let step : MovesApart a.adapter.filter.rctl ring a.adapter.receiver memory ends = record
+    { has = has; can = can; last_is = last_is; apart = apart_head } in
+    let holding = keeps_held step in
+    let same_pieces : finished_pieces o b ≡ finished_pieces o a =
+    ap (map (piece_in memory')) done
+    ∙ pieces-kept memory memory' area (finished o a) keeps same_done (all-right (AreApart area) payload names apart_rest) in
+    let all_pieces : pieces_in_slots o b ≡ finished_pieces o a ++ piece_of ends piece ∷ [] =
+    ap (λ (pieces : List Piece). pieces ++ in_work memory' b.adapter.receiver.work) same_pieces
+    ∙ ap (λ (bytes : List ℕ). finished_pieces o a ++ piece_of ends bytes ∷ [])
+    (bytes_of_work-moved memory piece head ends can.place apart_head) in
     let named_same : map (named memory') (done_slots memory' ring o) ≡ names = ap (map (named memory')) done
     ∙ named-kept memory memory' (finished o a) same_done in
     let place : receive.named_address memory' head
@@ -136,19 +186,24 @@ between_moved o p a0 has can sound =
       written = transmitting.done ∙ sym (append-nil (written_back p a));
       each_reported = refl;
       holds =
-          ap (λ (list : List (List ℕ)). list ++ held memory' b.adapter.receiver) frames
-          ∙ ap (λ (list : List (List ℕ)). map (frame_of memory) (finished o a) ++ list) holding
-          ∙ sym (append-nil (frames_held o a));
+          ap (λ (pieces : List Piece). held memory' pieces b.adapter.receiver) same_pieces ∙ holding.frames;
       more = [];
       done = done ∙ sym (append-nil (finished o a));
-      told = inl refl;
+      pieces = [];
+      grown = same_pieces ∙ sym (append-nil (finished_pieces o a));
+      told = inl (all-none IsPart);
       fits = λ fit. record {
         finished_fit = subst (λ (list : List ℕ). NamesFit memory' bsize list) (sym done)
             (names_fit-kept memory memory' bsize (finished o a) same_done fit.finished_fit);
         work_fits = subst (λ (places : List Area). All (λ there. there.size ≤ bsize) places) (sym working)
-            (All-cons (λ (there : Area). there.size ≤ bsize) area [] can.size (all-none (λ (there : Area). there.size ≤ bsize)));
+            (All-cons (λ (there : Area). there.size ≤ bsize) area [] short (all-none (λ (there : Area). there.size ≤ bsize)));
       };
-      whole = λ are. subst (λ (list : List ℕ). AreWhole memory' list) (sym done) (whole-kept memory memory' (finished o a) same_done are);
+      whole = λ are.
+          let errors = errors-kept memory memory' (finished o a) (descriptors-kept memory memory' (finished o a) same_done)
+          are.have_no_errors in
+          are-cut o b (subst (λ (list : List ℕ). HaveNoErrors memory' list) (sym done) errors)
+          (subst (λ (pieces : List Piece). CutPieces bsize pieces) (sym all_pieces)
+          (cut-moved ends o a refl has.ready.frames is last_is sound.begun are));
       untouched = λ other foreign.
           let there = subst (λ (list : List Area). All (AreApart other) (map reported_half (offered ring) ++ (bytes ++ list))) buffers
           foreign in
@@ -165,13 +220,12 @@ between_moved o p a0 has can sound =
           (all-right (AreApart other) (map reported_half (offered ring)) (bytes ++ whole_buffer ∷ others) there) in
           let all = All-append (AreApart other) (map reported_half (head ∷ rest)) (bytes ++ others) halves behind in
           subst (λ (list : List Area). All (AreApart other) (map reported_half (head ∷ rest) ++ (bytes ++ list))) (sym left) all;
-      runs = λ short run. record {
+      runs = λ run. record {
         receiver_runs = run.receiver_runs;
         transmitter_runs = run.transmitter_runs;
         receive_indices = λ still_more. record { head = next-below (count_of ring) ring.head can.indices.head; tail = can.indices.tail };
         transmit_indices = run.transmit_indices;
         not_extended = run.not_extended;
-        frames = later-fit bsize a.adapter.receiver.buffer run.frames;
         transmittable = transmittable-kept memory memory' (offered (transmit_ring a)) size transmitting.same_offered run.transmittable;
       };
       sound = record {
@@ -180,39 +234,52 @@ between_moved o p a0 has can sound =
         separate =
             separate-same memory memory' (front ++ area ∷ others) (areas o b) size
             (areas-same r t _ _ _ _ _ _ _ _ transmitting.data_areas named_same working left ∙ joined_front (area ∷ others))
-            (separate-shorter memory front at bsize n others can.size separate);
+            (separate-shorter memory front at bsize n others short separate);
         reports = subst (λ (queue : List Queued). All Reports (a.adapter.transmitter.buffer ++ queue))
             (sym transmitting.fetches) sound.reports;
+        begun = subst (λ (pieces : List Piece). HasBegun memory' pieces b.adapter.receiver) (sym same_pieces) holding.begun;
         pads = sound.pads;
       };
     }
 
--- Any answer of a data step.
-pub data_happens : (a : World) (answer : FrameOutcome) → IsAdapter a.adapter → DataAnswers a.memory a.adapter answer
-    → Happens a (world_after_step RxData answer a) nothing
-data_happens a Moved running answers = record {
+-- A piece is moved.
+data_moved : (ends : Bool) (buffer : List (List ℕ)) (moved : ℕ) (a : World) → IsAdapter a.adapter → HasFrameAndDescriptor a.adapter
+    → CanMovePiece a.memory a.adapter → is_last_piece a.adapter ≡ ends
+    → ((o : ℕ) → HasBegun a.memory (finished_pieces o a) (with_work None a).adapter.receiver
+    → KeepsHeld ends buffer moved o (with_work None a)) → Happens a (moved_world ends buffer moved a) nothing
+data_moved ends buffer moved a running has can last keeps_held = record {
   steady =
-      steady_moves a (world_after_step RxData Moved a).memory
+      steady_moves a (moved_world ends buffer moved a).memory
       (record (still a.adapter) {
         recorded = union a.adapter.causes.recorded (causes_of_moving a.adapter.receive_ring);
         receive_head = next_of (receive_ring a) a.adapter.receive_ring.head;
-        receiver = (world_after_step RxData Moved a).adapter.receiver;
+        receiver = moved_engine ends buffer moved a;
       })
-      nothing (length-with_bytes a.memory (oldest a.adapter.receiver.buffer) _ answers.1.place)
+      nothing (length-with_bytes a.memory (next_piece a.adapter.filter.rctl a.adapter.receiver) _ can.place)
       (added a.adapter.causes.recorded (causes_of_moving a.adapter.receive_ring)) (omega (arith, running.registers.counters.missed))
       (λ off. (refl, refl))
-      (inr (record {
-        head = next-below (count_of (receive_ring a)) a.adapter.receive_ring.head answers.1.indices.head;
-        tail =
-            answers.1.indices.tail;
-      })) (inl refl) (all-none IsLegal) refl refl;
+      (inr (record { head = next-below (count_of (receive_ring a)) a.adapter.receive_ring.head can.indices.head; tail = can.indices.tail }))
+      (inl refl) (all-none IsLegal) refl refl;
   between = λ o p sound.
-      let free = answers.0.ready.free in
-      let has = subst (λ (work : Option Work). HasFrameAndDescriptor (with_work work a).adapter) free answers.0 in
+      let free = has.ready.free in
+      let has_free = subst (λ (work : Option Work). HasFrameAndDescriptor (with_work work a).adapter) free has in
+      let is = subst (λ (work : Option Work). IsReceiver (with_work work a).adapter.receiver) free running.receiver in
       let before = subst (λ (work : Option Work). Sound o p (with_work work a)) free sound in
-      subst (λ (work : Option Work). Between o p (with_work work a) (world_after_step RxData Moved a) nothing) (sym free)
-      (between_moved o p a has answers.1 before);
+      subst (λ (work : Option Work). Between o p (with_work work a) (moved_world ends buffer moved a) nothing) (sym free)
+      (between_moved ends buffer moved o p a has_free can last is (keeps_held o before.begun) before);
 }
+
+-- Any answer of a data step.
+pub data_happens : (a : World) (answer : FrameOutcome) → IsAdapter a.adapter → DataAnswers a.memory a.adapter answer
+    → Happens a (world_after_step RxData answer a) nothing
+data_happens a Part running says =
+    data_moved false a.adapter.receiver.buffer (a.adapter.receiver.moved + piece_size a.adapter) a running says.0 says.1 says.2
+    (λ o begun. held-after_data a.adapter.filter.rctl (receive_ring a) (with_work None a).adapter.receiver a.memory
+    (finished_pieces o a) (answers.Part (is_half_free (ring_of (moved_on a.adapter.receive_ring)))) begun)
+data_happens a Moved running says =
+    data_moved true (drop 1 a.adapter.receiver.buffer) 0 a running says.0 says.1 says.2
+    (λ o begun. held-after_data a.adapter.filter.rctl (receive_ring a) (with_work None a).adapter.receiver a.memory
+    (finished_pieces o a) (answers.Moved (is_half_free (ring_of (moved_on a.adapter.receive_ring)))) begun)
 data_happens a Fault running answers = record {
   steady =
       steady_moves a a.memory (record (still a.adapter) { receiver = (world_after_step RxData Fault a).adapter.receiver })

@@ -1,35 +1,38 @@
--- The descriptor of the frame in work is written back.
-use Rattle.std.proofs.Common.{inl, ◌≡◌, ◌≤◌, ◌+◌, inr, ◌++◌, ◌∷◌, [], Bool, true, false, cond, nat_le, ℕ, List, Option, Some, None, length}
-use Rattle.std.proofs.Common.{map, refl, sym, ap, subst, ◌∙◌, append_assoc, arith}
+-- The descriptor of the piece in progress is written back.
+use Rattle.std.proofs.Common.{inl, ◌≡◌, ◌≤◌, ◌+◌, ◌⊎◌, inr, ◌++◌, ◌∷◌, [], Bool, true, false, cond, nat_le, ℕ, List, Option, Some, None}
+use Rattle.std.proofs.Common.{length, map, refl, sym, ap, subst, ◌∙◌, append_assoc, arith, if◌then◌else◌}
 use Rattle.std.specs.List.{All}
 use Rattle.std.proofs.lemmas.Bool.{eq-eqb}
 use Rattle.std.proofs.lemmas.Bool.Decides.{nat_tests}
 use Rattle.std.proofs.lemmas.List.{append-nil, map-append}
 use Rattle.std.proofs.lemmas.List.Elements.{All-append, All-cons}
-use Rattle.dma_memory.specs.Areas.{AreApart, Area, ChangesOnly, IsInside, descriptor_area}
+use Rattle.dma_memory.specs.Areas.{AreApart, Area, ChangesOnly, IsInside, bytes_in, descriptor_area}
 use Rattle.dma_memory.specs.AreaLaws.{apart-inside, apart-sym, changes_only_stored, lies-inside}
-use Rattle.registers.specs.Bits.{union}
+use Rattle.registers.specs.Bits.{HasBit, union}
 use Rattle.registers.specs.Laws.{HasBit-union}
+use Rattle.registers.specs.Places.{alone, rxt0}
 use Rattle.dma_memory.specs.HostMemory.{bytes_at, with_bytes, LiesIn}
-use Rattle.dma_memory.specs.Laws.{length-bytes_at, length-with_bytes}
+use Rattle.dma_memory.specs.Laws.{length-with_bytes}
 use Rattle.descriptors.specs.declared.rx_desc.RxDesc.{RxDesc}
 use Rattle.descriptors.specs.RxDesc.{rx_desc_of}
 use Rattle.rx_engine.specs.Descriptors as receive
 use Rattle.rx_engine.specs.Finishing.{IsFinished, StandsApart, finished_bytes, memory_after_done}
+use Rattle.rx_engine.specs.Held.{piece_of}
+use Rattle.rx_engine.specs.Pieces.{IsPart, Piece, begun_of, frames_of}
+use Rattle.rx_engine.specs.Pieces.Piece.{Part}
 use Rattle.rx_engine.specs.Laws.{descriptor_at-finished, memory_after_done-lies, written_back-finished}
 use Rattle.rx_engine.specs.declared.engine.Work.{Work}
 use Rattle.tx_engine.specs.Transmitter.{Queued}
-use Rattle.adapter.specs.Receiving.{DoneAnswers, after_done}
-use Rattle.adapter.specs.Recording.{one_more}
+use Rattle.adapter.specs.Receiving.{DoneAnswers, after_done, causes_of_finishing, received_counted}
 use Rattle.adapter.specs.State.{AdapterState}
 use Rattle.adapter.specs.declared.step.StepKind.TheVariants.{RxDone}
 use Rattle.adapter.specs.Outcomes.{FrameOutcome}
-use Rattle.adapter.specs.declared.outcome.Outcome.TheVariants.{Took, Put, WireFull, Moved, Done, Ticked, Nothing, Fault}
+use Rattle.adapter.specs.declared.outcome.Outcome.TheVariants.{Done, Nothing}
 use Rattle.adapter.specs.HostAreas.{areas, buffer_of, buffer_size, data_of, frame_areas, offered_buffers, receives, reported_half}
 use Rattle.adapter.specs.HostAreas.{ring_area, status_byte}
 use Rattle.adapter.specs.Slots.{buffered, done_slots, finished, in_work, is_done, offered, written_back}
-use Rattle.adapter.specs.HostFrames.{frames_held, named}
-use Rattle.adapter.specs.Conditions.{AreWhole, IsWhole, Reports, Sound}
+use Rattle.adapter.specs.HostFrames.{finished_pieces, frames_held, named, piece_in, pieces_in_slots}
+use Rattle.adapter.specs.Conditions.{Reports, Sound}
 use Rattle.bus.specs.Law.{Between, Happens}
 use Rattle.bus.specs.PastOfStretch.{nothing}
 use Rattle.bus.specs.StepsAndArrivals.{world_after_step}
@@ -38,9 +41,9 @@ use Rattle.adapter.specs.World.{receive_ring, transmit_ring, World}
 use Rattle.bus.proofs.Areas.{separate-same}
 use Rattle.bus.proofs.Composition.{happens_none}
 use Rattle.bus.proofs.EngineRegisters.{added, steady_moves, still}
-use Rattle.bus.proofs.WrittenAreas.{IsSame, buffers-kept, frame_of, frames-kept, is_done-same, named-kept, names_fit-kept, NamesFit}
-use Rattle.bus.proofs.WrittenAreas.{same-apart}
-use Rattle.bus.proofs.WrittenAreas.{transmit_kept, whole-kept}
+use Rattle.bus.proofs.CutPieces.{CutPieces, HaveNoErrors, are-cut, errors-kept}
+use Rattle.bus.proofs.WrittenAreas.{IsSame, buffers-kept, descriptors-kept, is_done-same, named-kept, names_fit-kept, NamesFit}
+use Rattle.bus.proofs.WrittenAreas.{pieces-kept, same-apart, transmit_kept}
 use Rattle.bus.proofs.Lists.{all-head, all-left, all-none, all-right, all-tail, all-weaker, pairs-head}
 use Rattle.bus.proofs.RxDataSteps.{with_work}
 use Rattle.bus.proofs.RunningEngines.{transmittable-kept}
@@ -48,29 +51,22 @@ use Rattle.bus.proofs.Rings.{dealt-others, dealt-reported, dealt-right, outstand
 use Rattle.descriptors.specs.Frames.{IsLegal}
 
 -- A finished descriptor is done.
-is_done-finished : (memory : List ℕ) (descriptor : ℕ) (frame : List ℕ) → IsFinished memory descriptor frame
+is_done-finished : (memory : List ℕ) (descriptor : ℕ) (ends : Bool) (piece : List ℕ) → IsFinished memory descriptor ends piece
     → is_done memory descriptor ≡ true
 unfolding rx_desc_of
-is_done-finished memory descriptor frame finishes = eq-eqb _ _ finishes.done
+is_done-finished memory descriptor ends piece finishes = eq-eqb _ _ finishes.done
 
--- and whole, where its frame has a legal length.
-is_whole-finished : (memory : List ℕ) (descriptor n : ℕ) (frame : List ℕ) → length frame ≡ n → 60 ≤ n → n ≤ 1518
-    → IsFinished memory descriptor frame → IsWhole (receive.descriptor_at memory descriptor)
-is_whole-finished memory descriptor n frame count least most finishes =
-    let long : (receive.descriptor_at memory descriptor).length ≡ n = finishes.length ∙ count in
-    record {
-      ended = finishes.ended;
-      has_no_errors = finishes.has_no_errors;
-      least = omega (arith, long, least);
-      most =
-          omega (arith, long, most);
-    }
+-- If a frame ends in the piece, RXT0 is recorded.
+told-of : (ends : Bool) (recorded : ℕ) (bytes : List ℕ)
+    → All IsPart (piece_of ends bytes ∷ []) ⊎ HasBit (union recorded (if ends then alone rxt0 else 0)) rxt0
+told-of true recorded bytes = inr ((HasBit-union recorded (alone rxt0) rxt0).1 (inr refl))
+told-of false recorded bytes = inl (All-cons IsPart (Part bytes) [] tt (all-none IsPart))
 
--- the adapter behind a step that wrote back
+-- the adapter after a step that wrote back
 abbrev pub done_adapter : World → AdapterState
 done_adapter world = after_done Done world.adapter
 
--- Where the frame in work and its descriptor stand.
+-- Where the piece in progress and its descriptor stand.
 pub record WorkStands (world : World) (work : Work) : Type 0 where
   pub inside : IsInside (descriptor_area work.descriptor) (ring_area (receive_ring world))
   pub lies : LiesIn world.memory work.descriptor 16
@@ -108,25 +104,26 @@ work-stands o p work a0 sound =
       };
     }
 
-pub between_done : (o p : ℕ) (work : Work) (a : World) → 60 ≤ work.length → work.length ≤ 1518 → Sound o p (with_work (Some work) a)
+pub between_done : (o p : ℕ) (work : Work) (a : World) → work.length ≤ 1518 → Sound o p (with_work (Some work) a)
     → Between o p (with_work (Some work) a)
     (record {
-      memory = with_bytes a.memory (work.descriptor + 8) (finished_bytes work.length);
+      memory = with_bytes a.memory (work.descriptor + 8) (finished_bytes work.length work.ends);
       adapter = done_adapter
           (with_work (Some work) a);
     }) nothing
-between_done o p work a0 least most sound =
+between_done o p work a0 most sound =
     let a = with_work (Some work) a0 in
     let memory = a.memory in
     let d = work.descriptor in
     let n = work.length in
-    let memory' = with_bytes memory (d + 8) (finished_bytes n) in
+    let bytes_after = finished_bytes n work.ends in
+    let memory' = with_bytes memory (d + 8) bytes_after in
     let b : World = record { memory = memory'; adapter = done_adapter a } in
     let stand = work-stands o p work a0 sound in
     let fits : LiesIn memory (d + 8) 8 = omega (arith, stand.lies) in
-    let size : length memory' ≡ length memory = length-with_bytes memory (finished_bytes n) (d + 8) fits in
+    let size : length memory' ≡ length memory = length-with_bytes memory bytes_after (d + 8) fits in
     let area = reported_half d in
-    let keeps : ChangesOnly memory memory' area = changes_only_stored memory (finished_bytes n) (d + 8) fits in
+    let keeps : ChangesOnly memory memory' area = changes_only_stored memory bytes_after (d + 8) fits in
     let ring = receive_ring a in
     let r = ring_area ring in
     let t = ring_area (transmit_ring a) in
@@ -154,27 +151,29 @@ between_done o p work a0 least most sound =
     (λ e far. apart-inside area (descriptor_area d) (descriptor_area e) in_descriptor far) apart) in
     let same_done = into (finished o a) others.0 in
     let same_offered = into (offered ring) others.1 in
-    let frame = bytes_at memory (receive.named_address memory d) n in
-    let finishes : IsFinished memory' d frame = written_back-finished memory d n (omega (arith, most)) stand.lies stand.stands in
+    let piece = bytes_at memory (receive.named_address memory d) n in
+    let finishes : IsFinished memory' d work.ends piece =
+    written_back-finished memory d n work.ends (omega (arith, most)) stand.lies stand.stands in
     let receiving =
     dealt-reported memory memory' ring o d [] slots
     (λ other apart. is_done-same memory memory' other
     (keeps.others (descriptor_area other) (apart-inside area (descriptor_area d) (descriptor_area other) in_descriptor apart)))
-    (is_done-finished memory' d frame finishes) in
-    let count : length frame ≡ n = length-bytes_at memory (receive.named_address memory d) n stand.stands.place in
+    (is_done-finished memory' d work.ends piece finishes) in
     let named_done : named memory' d ≡ place =
     ap (λ (desc : RxDesc). let there : Area = record { address = desc.address; size = desc.length } in there)
-    (descriptor_at-finished memory d n (omega (arith, most)) stand.lies) in
+    (descriptor_at-finished memory d n work.ends (omega (arith, most)) stand.lies) in
     let names_after : map (named memory') (done_slots memory' ring o) ≡ names ++ place ∷ [] =
     ap (map (named memory')) receiving.grown ∙ map-append (named memory') (finished o a) (d ∷ [])
     ∙ ap (λ (list : List Area). list ++ named memory' d ∷ []) (named-kept memory memory' (finished o a) same_done)
     ∙ ap (λ (there : Area). names ++ there ∷ []) named_done in
-    let frames_before = map (frame_of memory) (finished o a) in
-    let frames_after : map (frame_of memory') (done_slots memory' ring o) ≡ frames_before ++ frame ∷ [] =
-    ap (map (frame_of memory')) receiving.grown ∙ map-append (frame_of memory') (finished o a) (d ∷ [])
-    ∙ ap (λ (list : List (List ℕ)). list ++ frame_of memory' d ∷ [])
-    (frames-kept memory memory' area (finished o a) keeps same_done apart_names)
-    ∙ ap (λ (bytes : List ℕ). frames_before ++ bytes ∷ []) finishes.bytes in
+    let piece_done : piece_in memory' d ≡ piece_of work.ends piece =
+    ap (λ (ends : Bool). piece_of ends (bytes_in memory' (named memory' d))) finishes.ended ∙ ap (piece_of work.ends) finishes.bytes in
+    let pieces_after : finished_pieces o b ≡ pieces_in_slots o a =
+    ap (map (piece_in memory')) receiving.grown ∙ map-append (piece_in memory') (finished o a) (d ∷ [])
+    ∙ ap (λ (list : List Piece). list ++ piece_in memory' d ∷ [])
+    (pieces-kept memory memory' area (finished o a) keeps same_done apart_names)
+    ∙ ap (λ (done : Piece). finished_pieces o a ++ done ∷ []) piece_done in
+    let all_pieces : pieces_in_slots o b ≡ pieces_in_slots o a = append-nil (finished_pieces o b) ∙ pieces_after in
     let left : offered_buffers b ≡ buffers =
     ap (λ (there : List Area). cond (receives a) there []) (buffers-kept memory memory' (buffer_of a 0).size (offered ring) same_offered) in
     let halves = map reported_half (offered ring) in
@@ -185,12 +184,12 @@ between_done o p work a0 least most sound =
       written = transmitting.done ∙ sym (append-nil (written_back p a));
       each_reported = refl;
       holds =
-          ap (λ (list : List (List ℕ)). list ++ a.adapter.receiver.buffer) frames_after
-          ∙ append_assoc frames_before (frame ∷ []) a.adapter.receiver.buffer
-          ∙ sym (append-nil (frames_held o a));
+          ap (λ (pieces : List Piece). frames_of pieces ++ a.adapter.receiver.buffer) all_pieces ∙ sym (append-nil (frames_held o a));
       more = d ∷ [];
       done = receiving.grown;
-      told = inr ((HasBit-union a.adapter.causes.recorded 0x80 7).1 (inr refl));
+      pieces = piece_of work.ends piece ∷ [];
+      grown = pieces_after;
+      told = told-of work.ends a.adapter.causes.recorded piece;
       fits = λ fit.
           let last : NamesFit memory' (buffer_size a) (d ∷ []) = All-cons (λ slot. (named memory' slot).size ≤ buffer_size a) d []
           (subst (λ (there : Area). there.size ≤ buffer_size a) (sym named_done)
@@ -203,24 +202,25 @@ between_done o p work a0 least most sound =
             work_fits = all-none (λ (there : Area). there.size ≤ buffer_size a);
           };
       whole = λ are.
-          let last : AreWhole memory' (d ∷ []) = All-cons (λ slot. IsWhole (receive.descriptor_at memory' slot)) d []
-          (is_whole-finished memory' d n frame count least most finishes)
-          (all-none (λ slot. IsWhole (receive.descriptor_at memory' slot))) in
-          let all = All-append (λ slot. IsWhole (receive.descriptor_at memory' slot)) (finished o a) (d ∷ [])
-          (whole-kept memory memory' (finished o a) same_done are) last in
-          subst (λ (list : List ℕ). AreWhole memory' list) (sym receiving.grown) all;
+          let HasNoErrors : ℕ → Type 0 = λ slot. (receive.descriptor_at memory' slot).errors ≡ 0 in
+          let errors = errors-kept memory memory' (finished o a) (descriptors-kept memory memory' (finished o a) same_done)
+          are.have_no_errors in
+          let all = All-append HasNoErrors (finished o a) (d ∷ []) errors
+          (All-cons HasNoErrors d [] finishes.has_no_errors (all-none HasNoErrors)) in
+          are-cut o b (subst (λ (list : List ℕ). HaveNoErrors memory' list) (sym receiving.grown) all)
+          (subst (λ (pieces : List Piece). CutPieces (buffer_size a) pieces) (sym all_pieces)
+          (record { cut = are.cut; legal = are.legal; short = are.short }));
       untouched = λ other foreign. keeps.others other
           (apart-sym other area (all-head (AreApart other) area (halves ++ (bytes ++ buffers)) foreign));
       foreign = λ other foreign.
           subst (λ (there : List Area). All (AreApart other) (halves ++ (bytes ++ there))) (sym left)
           (all-tail (AreApart other) area (halves ++ (bytes ++ buffers)) foreign);
-      runs = λ short can. record {
+      runs = λ can. record {
         receiver_runs = can.receiver_runs;
         transmitter_runs = can.transmitter_runs;
         receive_indices = can.receive_indices;
         transmit_indices = can.transmit_indices;
         not_extended = can.not_extended;
-        frames = can.frames;
         transmittable = transmittable-kept memory memory' (offered (transmit_ring a)) size transmitting.same_offered can.transmittable;
       };
       sound = record {
@@ -232,6 +232,7 @@ between_done o p work a0 least most sound =
             sound.separate;
         reports = subst (λ (queue : List Queued). All Reports (a.adapter.transmitter.buffer ++ queue))
             (sym transmitting.fetches) sound.reports;
+        begun = ap begun_of all_pieces ∙ sound.begun;
         pads = sound.pads;
       };
     }
@@ -245,11 +246,11 @@ length-back : (memory : List ℕ) (work : Work) → length (memory_after_done (S
 length-back memory work = by-test (nat_le (work.descriptor + 16) (length memory)) refl
   where
     by-test : (fits : Bool) → nat_le (work.descriptor + 16) (length memory) ≡ fits
-        → length (cond fits (with_bytes memory (work.descriptor + 8) (finished_bytes work.length)) memory) ≡ length memory
+        → length (cond fits (with_bytes memory (work.descriptor + 8) (finished_bytes work.length work.ends)) memory) ≡ length memory
     by-test false is = refl
     by-test true is =
         let below : work.descriptor + 16 ≤ length memory = grind (arith, nat_tests, is) in
-        length-with_bytes memory (finished_bytes work.length) (work.descriptor + 8) (omega (arith, below))
+        length-with_bytes memory (finished_bytes work.length work.ends) (work.descriptor + 8) (omega (arith, below))
 
 done_work : (work : Option Work) (a : World) → IsAdapter (with_work work a).adapter → DoneAnswers (with_work work a).adapter Done
     → Happens (with_work work a) (world_after_step RxDone Done (with_work work a)) nothing
@@ -260,15 +261,16 @@ done_work (Some work) a running answers =
       steady =
           steady_moves w (memory_after_done (Some work) w.memory)
           (record (still w.adapter) {
-            recorded = union w.adapter.causes.recorded 0x80;
-            received = one_more w.adapter.received_packets;
+            recorded = union w.adapter.causes.recorded (causes_of_finishing (Some work));
+            received = received_counted w.adapter;
             receiver = (with_work None a).adapter.receiver;
           })
-          nothing (length-back w.memory work) (added w.adapter.causes.recorded 0x80) (omega (arith, running.registers.counters.missed))
+          nothing (length-back w.memory work) (added w.adapter.causes.recorded (causes_of_finishing (Some work)))
+          (omega (arith, running.registers.counters.missed))
           (λ off. (refl, refl)) (inl refl) (inl refl) (all-none IsLegal) refl refl;
       between = λ o p sound.
           let stand = work-stands o p work a sound in
-          let there = between_done o p work a (running.receiver.least work refl) (running.receiver.most work refl) sound in
+          let there = between_done o p work a (running.receiver.most work refl) sound in
           subst (λ (memory : List ℕ). Between o p w (record { memory = memory; adapter = done_adapter w }) nothing)
           (sym (memory_after_done-lies w.memory work stand.lies)) there;
     }

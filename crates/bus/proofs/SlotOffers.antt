@@ -10,20 +10,22 @@ use Rattle.dma_memory.specs.HostMemory.{LiesIn}
 use Rattle.descriptors.specs.declared.ring.Ring.{Ring}
 use Rattle.descriptors.specs.Ring.{HasValidIndices, address_of, count_of, distance_of, next_of, offered_places}
 use Rattle.descriptors.specs.RingLaws.{distance-grows, length-places, next-below, places-tail}
-use Rattle.rx_engine.specs.Held.{held}
+use Rattle.rx_engine.specs.Held.{HasBegun, held, in_slots}
+use Rattle.rx_engine.specs.Pieces.{Piece}
 use Rattle.adapter.specs.HostAreas.{areas, buffer_of, buffer_size, data_of, IsForeign, offered_buffers, receives, reported_half, ring_area}
 use Rattle.adapter.specs.HostAreas.{status_byte, work_areas}
 use Rattle.adapter.specs.Slots.{buffered, done_slots, finished, in_work, is_done, IsDealt, offered, outstanding}
-use Rattle.adapter.specs.HostFrames.{named}
-use Rattle.adapter.specs.Conditions.{AreWhole, Reports}
+use Rattle.adapter.specs.HostFrames.{finished_pieces, named, piece_in}
+use Rattle.adapter.specs.Conditions.{Reports}
 use Rattle.bus.specs.SlotOffers.{FramesCanBeOffered, SlotsCanBeOffered, offering, offering_frame}
 use Rattle.adapter.specs.Running.{CanTransmit}
 use Rattle.adapter.specs.World.{receive_ring, transmit_ring, World}
+use Rattle.bus.proofs.KeptPieces.{cut-kept}
 use Rattle.bus.proofs.WrittenAreas.{NamesFit}
 use Rattle.bus.proofs.Lists.{all-head, all-left, all-none, all-right, all-tail, all-unmapped, pairs-head, pairs-tail, take_while-passes}
 use Rattle.bus.proofs.Lists.{take_while-split}
 use Rattle.std.proofs.lemmas.List.Kept.{AllPairs-cons}
-use Rattle.dma_memory.specs.Areas.{AreApart, AreSeparate, Area, bytes_in}
+use Rattle.dma_memory.specs.Areas.{AreApart, AreSeparate, Area}
 use Rattle.dma_memory.specs.AreaLaws.{apart-sym}
 use Rattle.tx_engine.specs.Fetching.{fetched}
 use Rattle.tx_engine.specs.Laws.{to_send-offer}
@@ -178,6 +180,8 @@ slots_can_be_offered o p a sound can =
     let grown = dealt-offered a.memory ring o (in_work a) sound.receive_slots
     (record { head = can.head_slot; tail = can.tail_slot }) can.oldest_slot can.room can.fresh in
     let names : map (named a.memory) (finished o b) ≡ map (named a.memory) (finished o a) = ap (map (named a.memory)) grown.done in
+    let pieces : finished_pieces o b ≡ finished_pieces o a = ap (map (piece_in a.memory)) grown.done in
+    let receiver = a.adapter.receiver in
     let separate : AreSeparate a.memory (areas o b) =
     ⊎_elim
     (λ (more : offered_buffers b ≡ offered_buffers a ++ buffer_of a last ∷ []).
@@ -198,14 +202,16 @@ slots_can_be_offered o p a sound can =
           transmit_slots = sound.transmit_slots;
           separate = separate;
           reports = sound.reports;
+          begun = subst (λ (list : List Piece). HasBegun a.memory list receiver) (sym pieces) sound.begun;
           pads = sound.pads;
         };
-        held = ap (λ (slots : List ℕ). map (λ (slot : ℕ). bytes_in a.memory (named a.memory slot)) slots
-            ++ held a.memory a.adapter.receiver) grown.done;
+        held = ap (λ (list : List Piece). held a.memory list receiver) pieces;
         to_send = refl;
         finished_same = grown.done;
         written_same = refl;
-        whole = subst (λ (slots : List ℕ). AreWhole a.memory slots) (sym grown.done);
+        pieces_same = pieces;
+        whole = λ equal. cut-kept o a b equal grown.done (λ k d below. refl)
+            (ap (λ (list : List Piece). in_slots a.memory list receiver) pieces);
         fits = λ larger fit. record {
           finished_fit = subst (λ (slots : List ℕ). NamesFit a.memory (buffer_size a) slots) (sym grown.done) fit.finished_fit;
           work_fits = fit.work_fits;
@@ -217,7 +223,6 @@ slots_can_be_offered o p a sound can =
         receive_indices = λ some. record { head = can.head_slot; tail = next-below (count_of ring) ring.tail can.tail_slot };
         transmit_indices = run.transmit_indices;
         not_extended = run.not_extended;
-        frames = run.frames;
         transmittable = run.transmittable;
       };
       last = grown.outstanding_grown;
@@ -302,13 +307,15 @@ frames_can_be_offered o p a sound can =
             subst (λ (frames : List Queued). All Asks frames) (sym queue)
             (All-append Asks (buffer ++ map (fetched true a.memory) (offered ring)) (fetched true a.memory last ∷ []) sound.reports
             (All-cons Asks (fetched true a.memory last) [] can.reports (all-none Asks)));
+        begun = sound.begun;
         pads = λ differ. can.pads;
       };
       to_send = to_send-offer a.memory ring true buffer in_ring away;
       held = refl;
       finished_same = refl;
       written_same = grown.done;
-      whole = λ are. are;
+      pieces_same = refl;
+      whole = λ cut. record { have_no_errors = cut.have_no_errors; cut = cut.cut; legal = cut.legal; short = cut.short };
       fits = λ fit. record { finished_fit = fit.finished_fit; work_fits = fit.work_fits };
       last = grown.outstanding_grown;
       runs = λ new run. record {
@@ -317,7 +324,6 @@ frames_can_be_offered o p a sound can =
         receive_indices = run.receive_indices;
         transmit_indices = λ some. record { head = can.head_slot; tail = next-below (count_of ring) ring.tail can.tail_slot };
         not_extended = run.not_extended;
-        frames = run.frames;
         transmittable =
             subst (λ (slots : List ℕ). All (CanTransmit a.memory) slots) (sym grown.offered_grown)
             (All-append (CanTransmit a.memory) (offered ring) (last ∷ []) run.transmittable

@@ -1,8 +1,6 @@
 -- Steps that leave memory, rings and slots: ticks, arrivals, and faults.
 use Rattle.std.specs.Fn.{iterate}
-use Rattle.std.specs.List.{All}
-use Rattle.std.proofs.Common.{◌≡◌, ◌≤◌, ◌++◌, [], inl, Bool, true, false, ℕ, List, Option, Some, None, length, map, refl, sym, ap, subst}
-use Rattle.std.proofs.Common.{◌∙◌, append_assoc, arith}
+use Rattle.std.proofs.Common.{◌≡◌, ◌≤◌, ◌++◌, [], inl, Bool, true, false, ℕ, List, Option, Some, None, length, refl, sym, ap, arith}
 use Rattle.std.proofs.lemmas.List.{append-nil}
 use Rattle.std.proofs.Common.{cond}
 use Rattle.eeprom.specs.Eerd as eeprom
@@ -14,7 +12,9 @@ use Rattle.mdic_phy.specs.Phy as phy
 use Rattle.mdic_phy.specs.declared.mdic.Ticked.{Ticked as Told}
 use Rattle.registers.specs.Bits.{HasBit, union}
 use Rattle.registers.specs.Counting.{greatest_count}
-use Rattle.rx_engine.specs.Held.{held, in_work}
+use Rattle.rx_engine.specs.Held.{Holds, held}
+use Rattle.rx_engine.specs.Laws.{held-after_arrival}
+use Rattle.rx_engine.specs.Pieces.{IsPart}
 use Rattle.rx_engine.specs.declared.arrival.Fate.{Fate}
 use Rattle.rx_engine.specs.declared.arrival.Fate.TheVariants.{Off, Illegal, Filtered, Missed, Stored}
 use Rattle.adapter.specs.Receiving.{IsFate, no_buffers_counted}
@@ -24,8 +24,7 @@ use Rattle.adapter.specs.Steps.{after_phy_told, causes_told}
 use Rattle.adapter.specs.declared.step.StepKind.TheVariants.{EepromTick, PhyTick}
 use Rattle.adapter.specs.Outcomes.{FrameOutcome}
 use Rattle.adapter.specs.Slots.{finished, written_back}
-use Rattle.adapter.specs.HostAreas.{buffer_size}
-use Rattle.adapter.specs.HostFrames.{frames_to_send, named}
+use Rattle.adapter.specs.HostFrames.{finished_pieces, frames_held, frames_to_send}
 use Rattle.adapter.specs.Conditions.{Sound}
 use Rattle.bus.specs.Law.{Between, Happens, Management, Steady, management_of, phy_ticked}
 use Rattle.bus.specs.PastOfStretch.{Past, nothing}
@@ -36,8 +35,8 @@ use Rattle.adapter.specs.World.{World}
 use Rattle.bus.proofs.Composition.{happens_none}
 use Rattle.bus.proofs.EngineRegisters.{added, steady_moves, still}
 use Rattle.descriptors.specs.Frames.{IsLegal}
-use Rattle.std.proofs.lemmas.List.Elements.{All-append, All-cons}
-use Rattle.dma_memory.specs.Areas.{bytes_in}
+use Rattle.std.proofs.lemmas.List.Elements.{All-cons}
+use Rattle.bus.proofs.KeptPieces.{cut-kept}
 use Rattle.bus.proofs.Lists.{all-none}
 
 -- what such a step may change of an adapter
@@ -86,40 +85,43 @@ pub record GoOn (receiver_stopped transmitter_stopped : Bool) : Type 0 where
 pub going : (a : World) → CanRun a → GoOn a.adapter.receiver.stopped a.adapter.transmitter.stopped
 going a can = record { receiver_runs = can.receiver_runs; transmitter_runs = can.transmitter_runs }
 
-pub between_quiet : (o p : ℕ) (a : World) (c : Changes) (past : Past) → past.put ≡ [] → c.buffer ≡ a.adapter.receiver.buffer ++ past.stored
+-- with the changed packet buffer the same frames are held, and then those stored
+abbrev pub HoldsQuietly : ℕ → World → List (List ℕ) → List (List ℕ) → Type 0
+HoldsQuietly o a buffer stored = Holds (frames_held o a)
+    (held a.memory (finished_pieces o a) (record a.adapter.receiver { buffer = buffer })) stored
+    a.memory (finished_pieces o a) (record a.adapter.receiver { buffer = buffer })
+
+-- An unchanged packet buffer does.
+pub holds-same : (o p : ℕ) (a : World) → Sound o p a → HoldsQuietly o a a.adapter.receiver.buffer []
+holds-same o p a sound = record { frames = sym (append-nil (frames_held o a)); begun = sound.begun }
+
+pub between_quiet : (o p : ℕ) (a : World) (c : Changes) (past : Past) → past.put ≡ [] → HoldsQuietly o a c.buffer past.stored
     → (CanRun a → GoOn c.receiver_stopped c.transmitter_stopped) → Sound o p a
     → Between o p a (record a { adapter = changed c a.adapter }) past
-between_quiet o p a c past no_put stored goes sound =
-    let frames = map (λ (descriptor : ℕ). bytes_in a.memory (named a.memory descriptor)) (finished o a) in
-    let work = in_work a.memory a.adapter.receiver.work in
-    let grown : work ++ c.buffer ≡ held a.memory a.adapter.receiver ++ past.stored =
-    ap (λ (buffer : List (List ℕ)). work ++ buffer) stored ∙ sym (append_assoc work a.adapter.receiver.buffer past.stored) in
+between_quiet o p a c past no_put holds goes sound =
     record {
       sends = ap (λ (put : List (List ℕ)). put ++ frames_to_send a) no_put;
       reported = [];
       written = sym (append-nil (written_back p a));
       each_reported = sym (ap length no_put);
-      holds =
-          ap (λ (behind : List (List ℕ)). frames ++ behind) grown
-          ∙ sym (append_assoc frames (held a.memory a.adapter.receiver) past.stored);
+      holds = holds.frames;
       more = [];
       done = sym (append-nil (finished o a));
-      told = inl refl;
+      pieces = [];
+      grown = sym (append-nil (finished_pieces o a));
+      told = inl (all-none IsPart);
       fits = λ fit. record { finished_fit = fit.finished_fit; work_fits = fit.work_fits };
-      whole = λ are. are;
+      whole = λ are. cut-kept o a (record a { adapter = changed c a.adapter }) refl refl (λ k d below. refl) refl are;
       untouched = λ area apart. refl;
       foreign = λ area apart. apart;
-      runs = λ short can.
+      runs = λ can.
           let on = goes can in
-          let Short : List ℕ → Type 0 = λ frame. length frame ≤ buffer_size a in
           record {
             receiver_runs = on.receiver_runs;
             transmitter_runs = on.transmitter_runs;
             receive_indices = can.receive_indices;
             transmit_indices = can.transmit_indices;
             not_extended = can.not_extended;
-            frames = subst (λ (buffer : List (List ℕ)). All Short buffer) (sym stored)
-                (All-append Short a.adapter.receiver.buffer past.stored can.frames short);
             transmittable = can.transmittable;
           };
       sound = record {
@@ -127,6 +129,7 @@ between_quiet o p a c past no_put stored goes sound =
         transmit_slots = sound.transmit_slots;
         separate = sound.separate;
         reports = sound.reports;
+        begun = holds.begun;
         pads = sound.pads;
       };
     }
@@ -138,7 +141,7 @@ pub between_stopped : (o p : ℕ) (a : World) (receiver transmitter : Bool) → 
     nothing
 between_stopped o p a receiver transmitter cannot sound =
     between_quiet o p a (record (unchanged a.adapter) { receiver_stopped = receiver; transmitter_stopped = transmitter }) nothing refl
-    (sym (append-nil a.adapter.receiver.buffer)) (λ can. absurd (cannot can)) sound
+    (holds-same o p a sound) (λ can. absurd (cannot can)) sound
 
 -- Ticks.
 
@@ -181,7 +184,7 @@ eeprom_tick_happens a answer running =
           (λ place set. set) refl refl;
       between = λ o p sound.
           between_quiet o p a (record (unchanged a.adapter) { eerd = read })
-          (record nothing { eeprom_ticks = 1 }) refl (sym (append-nil a.adapter.receiver.buffer)) (going a) sound;
+          (record nothing { eeprom_ticks = 1 }) refl (holds-same o p a sound) (going a) sound;
     }
 
 -- the PHY's tick, by what it tells
@@ -192,7 +195,7 @@ tick_told a None answer is running moves = record {
   steady = steady_ticked a a.adapter.causes.recorded a.adapter.eerd (management_of a.adapter) 0 1 running.registers.counters.missed
       (λ place set. set) refl moves;
   between = λ o p sound. between_quiet o p a (unchanged a.adapter) (record nothing { phy_ticks = 1 }) refl
-      (sym (append-nil a.adapter.receiver.buffer)) (going a) sound;
+      (holds-same o p a sound) (going a) sound;
 }
 tick_told a (Some tells) answer is running moves =
     let recorded = union a.adapter.causes.recorded (causes_told tells) in
@@ -202,7 +205,7 @@ tick_told a (Some tells) answer is running moves =
           (added a.adapter.causes.recorded (causes_told tells)) refl moves;
       between = λ o p sound.
           between_quiet o p a (record (unchanged a.adapter) { recorded = recorded; mdic = after.mdic; phy = after.phy })
-          (record nothing { phy_ticks = 1 }) refl (sym (append-nil a.adapter.receiver.buffer)) (going a) sound;
+          (record nothing { phy_ticks = 1 }) refl (holds-same o p a sound) (going a) sound;
     }
 
 -- It moves MDIC and the PHY exactly where there is something to do.
@@ -245,7 +248,7 @@ arrival_happens a Missed frame running is = record {
         missed = one_more a.adapter.missed_packets;
         no_buffers = no_buffers_counted a.adapter;
       })
-      (past_of_arrival Missed frame) refl (sym (append-nil a.adapter.receiver.buffer)) (going a) sound;
+      (past_of_arrival Missed frame) refl (holds-same o p a sound) (going a) sound;
 }
 arrival_happens a Stored frame running is = record {
   steady =
@@ -262,6 +265,6 @@ arrival_happens a Stored frame running is = record {
         no_buffers = no_buffers_counted a.adapter;
         buffer = (world_after_arrival Stored frame a).adapter.receiver.buffer;
       })
-      (past_of_arrival Stored frame) refl refl
-      (going a) sound;
+      (past_of_arrival Stored frame) refl
+      (held-after_arrival Stored frame a.memory (finished_pieces o a) a.adapter.receiver running.receiver sound.begun) (going a) sound;
 }

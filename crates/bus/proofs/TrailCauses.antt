@@ -14,7 +14,7 @@ use Rattle.rx_engine.specs.declared.arrival.Fate.{Fate}
 use Rattle.rx_engine.specs.declared.arrival.Fate.TheVariants.{Missed, Stored}
 use Rattle.tx_engine.specs.Steps.{IfFront}
 use Rattle.tx_engine.specs.Transmitter.{Queued}
-use Rattle.adapter.specs.Receiving.{after_arrive, causes_of_moving}
+use Rattle.adapter.specs.Receiving.{after_arrive, causes_of_finishing, causes_of_moving, is_ending}
 use Rattle.adapter.specs.Rings.{ring_of}
 use Rattle.adapter.specs.State.{AdapterState}
 use Rattle.adapter.specs.Steps.{after_phy_told, causes_told}
@@ -24,7 +24,7 @@ use Rattle.adapter.specs.declared.ring.RingRegisters.{RingRegisters}
 use Rattle.adapter.specs.declared.step.StepKind.{StepKind}
 use Rattle.adapter.specs.declared.step.StepKind.TheVariants.{TxTake, TxPut, RxData, RxDone, EepromTick, PhyTick}
 use Rattle.adapter.specs.Outcomes.{FrameOutcome}
-use Rattle.adapter.specs.declared.outcome.Outcome.TheVariants.{Took, Put, Moved, Done, Fault}
+use Rattle.adapter.specs.declared.outcome.Outcome.TheVariants.{Took, Put, Part, Moved, Done, Fault}
 use Rattle.bus.specs.Accesses.{LeavesCauses, LeavesMask}
 use Rattle.bus.specs.StepsAndArrivals.{world_after_step}
 use Rattle.bus.specs.TrailCauses.{CausesAreThoseOfSteps, MasksStay, RecordedCausesStay}
@@ -62,6 +62,7 @@ step_records TxTake Fault world = none world.adapter.causes.recorded
 step_records TxTake _ world = none world.adapter.causes.recorded
 step_records TxPut (Put frame) world = refl
 step_records TxPut _ world = none world.adapter.causes.recorded
+step_records RxData Part world = refl
 step_records RxData Moved world = refl
 step_records RxData Fault world = none world.adapter.causes.recorded
 step_records RxData _ world = none world.adapter.causes.recorded
@@ -94,6 +95,7 @@ step-mask TxTake Fault world = refl
 step-mask TxTake _ world = refl
 step-mask TxPut (Put frame) world = refl
 step-mask TxPut _ world = refl
+step-mask RxData Part world = refl
 step-mask RxData Moved world = refl
 step-mask RxData Fault world = refl
 step-mask RxData _ world = refl
@@ -193,11 +195,16 @@ recorded_causes_stay later a b leaves = record {
       (taking-empties a.adapter.transmit_ring last);
   link = λ wire_free answer trail ticked tells is.
       tick-is-recorded wire_free answer later a b 2 ticked leaves trail tells (link-is-told ticked is);
+  part = λ wire_free trail half.
+      first_is_recorded (Steps RxData wire_free Part) later a b 4 (causes_of_moving a.adapter.receive_ring) leaves trail refl
+      (chosen (is_half_free (ring_of (moved_on a.adapter.receive_ring))) 0x10 4 refl half);
   moved = λ wire_free trail half.
       first_is_recorded (Steps RxData wire_free Moved) later a b 4 (causes_of_moving a.adapter.receive_ring) leaves trail refl
       (chosen (is_half_free (ring_of (moved_on a.adapter.receive_ring))) 0x10 4 refl half);
   missed = λ frame trail. first_is_recorded (Arrives frame Missed) later a b 6 0x40 leaves trail refl refl;
-  done = λ wire_free trail. first_is_recorded (Steps RxDone wire_free Done) later a b 7 0x80 leaves trail refl refl;
+  done = λ wire_free trail ends.
+      first_is_recorded (Steps RxDone wire_free Done) later a b 7 (causes_of_finishing a.adapter.receiver.work) leaves trail refl
+      (chosen (is_ending a.adapter.receiver.work) 0x80 7 refl ends);
   management = λ wire_free answer trail ticked tells is.
       tick-is-recorded wire_free answer later a b 9 ticked leaves trail tells (end-is-told ticked is);
 }

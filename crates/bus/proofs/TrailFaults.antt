@@ -19,7 +19,7 @@ use Rattle.adapter.specs.declared.register.Register.TheVariants.{Icr, Mpc, Gprc,
 use Rattle.adapter.specs.declared.step.StepKind.{StepKind}
 use Rattle.adapter.specs.declared.step.StepKind.TheVariants.{TxTake, TxPut, RxData, RxDone, EepromTick, PhyTick}
 use Rattle.adapter.specs.Outcomes.{FrameOutcome}
-use Rattle.adapter.specs.declared.outcome.Outcome.TheVariants.{Took, Put, Moved, Done, Fault}
+use Rattle.adapter.specs.declared.outcome.Outcome.TheVariants.{Took, Put, Part, Moved, Done, Fault}
 use Rattle.bus.specs.Accesses.{IsNoReset, ResetsNothing}
 use Rattle.bus.specs.declared.event.Access.TheVariants.{Loads, Reads, Stores, Writes}
 use Rattle.bus.specs.StepsAndArrivals.{world_after_step}
@@ -47,6 +47,7 @@ step_stays TxTake Fault world = record { receiver = λ stopped. stopped; transmi
 step_stays TxTake _ world = same world.adapter _ refl refl
 step_stays TxPut (Put frame) world = same world.adapter _ refl refl
 step_stays TxPut _ world = same world.adapter _ refl refl
+step_stays RxData Part world = same world.adapter _ refl refl
 step_stays RxData Moved world = same world.adapter _ refl refl
 step_stays RxData Fault world = record { receiver = λ stopped. refl; transmitter = λ stopped. stopped }
 step_stays RxData _ world = same world.adapter _ refl refl

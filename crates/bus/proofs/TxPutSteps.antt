@@ -9,7 +9,7 @@ use Rattle.dma_memory.specs.AreaLaws.{apart-inside, apart-sym, changes_only_stor
 use Rattle.registers.specs.Bits.{is_set, union}
 use Rattle.dma_memory.specs.HostMemory.{bytes_at, with_bytes, LiesIn}
 use Rattle.dma_memory.specs.Laws.{bytes_at-parts, bytes_at-stored, length-bytes_at, length-with_bytes}
-use Rattle.rx_engine.specs.Held as engine
+use Rattle.rx_engine.specs.Pieces.{IsPart}
 use Rattle.tx_engine.specs.Fetching.{fetched}
 use Rattle.tx_engine.specs.Steps.{written_back as reported_in}
 use Rattle.tx_engine.specs.Laws.{to_send-put}
@@ -19,11 +19,11 @@ use Rattle.adapter.specs.State.{AdapterState}
 use Rattle.adapter.specs.Transmitting.{PutAnswers, after_put, causes_of_putting}
 use Rattle.adapter.specs.declared.step.StepKind.TheVariants.{TxPut}
 use Rattle.adapter.specs.Outcomes.{FrameOutcome}
-use Rattle.adapter.specs.declared.outcome.Outcome.TheVariants.{Took, Put, WireFull, Moved, Done, Ticked, Nothing, Fault}
+use Rattle.adapter.specs.declared.outcome.Outcome.TheVariants.{Put, WireFull, Nothing}
 use Rattle.adapter.specs.HostAreas.{areas, buffer_of, data_of, frame_areas, offered_buffers, receives, reported_half, ring_area}
 use Rattle.adapter.specs.HostAreas.{status_byte, work_areas}
 use Rattle.adapter.specs.Slots.{buffered, finished, in_work, is_done, offered}
-use Rattle.adapter.specs.HostFrames.{frames_held, named}
+use Rattle.adapter.specs.HostFrames.{finished_pieces, frames_held, named}
 use Rattle.adapter.specs.Conditions.{Reports, Sound}
 use Rattle.bus.specs.Law.{Between, Happens}
 use Rattle.bus.specs.PastOfStretch.{nothing}
@@ -32,8 +32,9 @@ use Rattle.adapter.specs.State.{IsAdapter}
 use Rattle.adapter.specs.World.{receive_ring, transmit_ring, World}
 use Rattle.bus.proofs.Areas.{separate-same}
 use Rattle.bus.proofs.Composition.{happens_none}
+use Rattle.bus.proofs.KeptPieces.{cut-kept}
 use Rattle.bus.proofs.EngineRegisters.{added, steady_moves, still}
-use Rattle.bus.proofs.WrittenAreas.{IsSame, buffers-kept, data-kept, fetched-kept, frame_of, is_done-same, receive_kept, to_send-kept}
+use Rattle.bus.proofs.WrittenAreas.{IsSame, buffers-kept, data-kept, fetched-kept, is_done-same, receive_kept, to_send-kept}
 use Rattle.bus.proofs.Lists.{all-head, all-left, all-right, all-tail, all-weaker, all-without, map-same, pairs-head, pairs-tail}
 use Rattle.bus.proofs.Rings.{dealt-others, dealt-reported, dealt-right, outstanding-inside}
 use Rattle.descriptors.specs.Frames.{IsLegal}
@@ -155,17 +156,14 @@ between_put o p queued later a0 sound =
       reported = d ∷ [];
       written = transmitting.grown;
       each_reported = refl;
-      holds =
-          ap (λ (frames : List (List ℕ)). frames ++ (engine.in_work memory' a.adapter.receiver.work ++ a.adapter.receiver.buffer))
-          receiving.frames
-          ∙ ap (λ (frames : List (List ℕ)). map (frame_of memory) (finished o a) ++ (frames ++ a.adapter.receiver.buffer))
-          receiving.frame_in_work
-          ∙ sym (append-nil (frames_held o a));
+      holds = receiving.held ∙ sym (append-nil (frames_held o a));
       more = [];
       done = receiving.done ∙ sym (append-nil (finished o a));
-      told = inl refl;
+      pieces = [];
+      grown = receiving.pieces ∙ sym (append-nil (finished_pieces o a));
+      told = inl (all-none IsPart);
       fits = λ fit. let kept = receiving.fits fit in record { finished_fit = kept.finished_fit; work_fits = kept.work_fits };
-      whole = receiving.whole;
+      whole = λ are. cut-kept o a b refl receiving.done receiving.descriptors receiving.all_pieces are;
       untouched = λ other foreign.
           let reports = all-left (AreApart other) (status_byte d ∷ bytes) (offered_buffers a)
           (all-right (AreApart other) halves ((status_byte d ∷ bytes) ++ offered_buffers a) foreign) in
@@ -173,13 +171,12 @@ between_put o p queued later a0 sound =
       foreign = λ other foreign.
           subst (λ (there : List Area). All (AreApart other) (halves ++ (bytes ++ there))) (sym buffers)
           (all-without (AreApart other) halves area (bytes ++ offered_buffers a) foreign);
-      runs = λ short can. record {
+      runs = λ can. record {
         receiver_runs = can.receiver_runs;
         transmitter_runs = can.transmitter_runs;
         receive_indices = can.receive_indices;
         transmit_indices = can.transmit_indices;
         not_extended = can.not_extended;
-        frames = can.frames;
         transmittable = transmittable-kept memory memory' offers size same_offers can.transmittable;
       };
       sound = record {
@@ -194,6 +191,7 @@ between_put o p queued later a0 sound =
             subst (λ (queue : List Queued). All Reports (later ++ queue))
             (sym (map-same (fetched true memory') (fetched true memory) offers fetches))
             (all-tail Reports queued (later ++ map (fetched true memory) offers) sound.reports);
+        begun = receiving.begun sound.begun;
         pads = sound.pads;
       };
     }

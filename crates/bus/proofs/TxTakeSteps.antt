@@ -6,6 +6,7 @@ use Rattle.std.proofs.lemmas.List.{append-nil, map-append}
 use Rattle.dma_memory.specs.Areas.{AreApart, AreSeparate}
 use Rattle.registers.specs.Bits.{union}
 use Rattle.descriptors.specs.Ring.{HasValidIndices, address_of, next_of}
+use Rattle.rx_engine.specs.Pieces.{IsPart}
 use Rattle.tx_engine.specs.Fetching.{fetched, pads}
 use Rattle.tx_engine.specs.Laws.{to_send-take}
 use Rattle.tx_engine.specs.Transmitter.{Queued}
@@ -13,10 +14,10 @@ use Rattle.adapter.specs.Recording.{with_causes}
 use Rattle.adapter.specs.Transmitting.{CanTake, HasNothingToTake, TakeAnswers, causes_of_taking, moved_on}
 use Rattle.adapter.specs.declared.step.StepKind.TheVariants.{TxTake}
 use Rattle.adapter.specs.Outcomes.{FrameOutcome}
-use Rattle.adapter.specs.declared.outcome.Outcome.TheVariants.{Took, Put, WireFull, Moved, Done, Ticked, Nothing, Fault}
+use Rattle.adapter.specs.declared.outcome.Outcome.TheVariants.{Took, Nothing, Fault}
 use Rattle.adapter.specs.Slots.{buffered, finished, in_work, IsDealt, offered, written_back}
 use Rattle.adapter.specs.HostAreas.{data_of, offered_buffers, reported_half, ring_area, status_byte, work_areas}
-use Rattle.adapter.specs.HostFrames.{frames_held, named}
+use Rattle.adapter.specs.HostFrames.{finished_pieces, frames_held, named}
 use Rattle.adapter.specs.Conditions.{Reports, Sound}
 use Rattle.bus.specs.Law.{Between, Happens}
 use Rattle.bus.specs.PastOfStretch.{nothing}
@@ -26,6 +27,7 @@ use Rattle.adapter.specs.State.{IsAdapter}
 use Rattle.adapter.specs.World.{receive_ring, transmit_ring, World}
 use Rattle.bus.proofs.Areas.{separate-without}
 use Rattle.bus.proofs.Composition.{happens_none}
+use Rattle.bus.proofs.KeptPieces.{cut-kept}
 use Rattle.bus.proofs.StepsBesideRings.{between_stopped}
 use Rattle.bus.proofs.EngineRegisters.{added, steady_moves, still}
 use Rattle.bus.proofs.Rings.{dealt-moved, offered-head}
@@ -78,20 +80,21 @@ between_padded o p a in_ring differ sound =
       holds = sym (append-nil (frames_held o a));
       more = [];
       done = sym (append-nil (finished o a));
-      told = inl refl;
+      pieces = [];
+      grown = sym (append-nil (finished_pieces o a));
+      told = inl (all-none IsPart);
       fits = λ fit. record { finished_fit = fit.finished_fit; work_fits = fit.work_fits };
-      whole = λ are. are;
+      whole = λ are. cut-kept o a b refl refl (λ k d below. refl) refl are;
       untouched = λ area apart. refl;
       foreign = λ area apart.
           subst (λ (slots : List ℕ). All (AreApart area)
           (map reported_half (in_work a ++ offered (receive_ring a)) ++ (map status_byte slots ++ offered_buffers a))) (sym same) apart;
-      runs = λ short can. record {
+      runs = λ can. record {
         receiver_runs = can.receiver_runs;
         transmitter_runs = can.transmitter_runs;
         receive_indices = can.receive_indices;
         transmit_indices = λ still_more. record { head = next-below (count_of ring) ring.head in_ring.head; tail = in_ring.tail };
         not_extended = can.not_extended;
-        frames = can.frames;
         transmittable = all-tail (CanTransmit a.memory) head rest
             (subst (λ (slots : List ℕ). All (CanTransmit a.memory) slots) first can.transmittable);
       };
@@ -104,6 +107,7 @@ between_padded o p a in_ring differ sound =
             (map (data_of a.memory) rest ++ others) areas;
         reports = subst (λ (queue : List Queued). All Reports queue)
             (sym (append_assoc buffer (fetched true a.memory head ∷ []) (map (fetched true a.memory) rest))) reports;
+        begun = sound.begun;
         pads = λ still_more. sound.pads differ;
       };
     }

@@ -1,20 +1,28 @@
 -- What waits while initialisation goes on.
-use Rattle.std.proofs.Common.{◌≡◌, ◌++◌, [], inl, ℕ, List, Option, None, Some, map, refl, sym, ap, subst, ◌∙◌}
+use Rattle.std.proofs.Common.{◌≡◌, ◌≤◌, ◌<◌, ◌/◌, ◌^◌, ◌++◌, ◌∷◌, [], inl, ℕ, List, Option, None, Some, length, length-append}
+use Rattle.std.proofs.Common.{refl, sym, ap, subst, ◌∙◌, take, arith, zero, suc}
+use Rattle.std.proofs.lemmas.Nat.{mod_below}
 use Rattle.std.specs.List.{All}
-use Rattle.dma_memory.specs.Areas.{bytes_in}
+use Rattle.std.proofs.Math.Seq.{take-nil}
+use Rattle.registers.specs.Bits.{field}
+use Rattle.registers.specs.ReceiveControl.{buffer_size_of}
 use Rattle.rx_engine.specs.Descriptors.{named_address}
 use Rattle.rx_engine.specs.Held as engine
+use Rattle.rx_engine.specs.Pieces.{IsCut, Piece, begun_from, begun_of, frames_from, frames_of}
+use Rattle.rx_engine.specs.Pieces.Piece.{Last, Part}
+use Rattle.rx_engine.specs.Receiver.{oldest}
 use Rattle.rx_engine.specs.declared.engine.Work.{Work}
 use Rattle.tx_engine.specs.Transmitter.{Queued}
 use Rattle.adapter.specs.declared.ring.RingRegisters.{RingRegisters}
 use Rattle.adapter.specs.Rings.{ring_of}
 use Rattle.adapter.specs.Slots.{buffered, finished, in_work, offered, outstanding, slot_of_work}
-use Rattle.adapter.specs.HostFrames.{frames_held, named}
+use Rattle.adapter.specs.HostFrames.{finished_pieces, frames_held, piece_in, pieces_in_slots}
 use Rattle.bus.specs.RegisterSetting.{OffersWait, TransmitStaysIdle}
-use Rattle.adapter.specs.Conditions.{Sound}
+use Rattle.adapter.specs.Conditions.{AreCut, Sound}
+use Rattle.adapter.specs.HostAreas.{buffer_size}
 use Rattle.adapter.specs.World.{receive_ring, transmit_ring, World}
 use Rattle.bus.proofs.IdleRings.{none-dealt, still-idle}
-use Rattle.bus.proofs.Lists.{append-empty, map-empty}
+use Rattle.bus.proofs.Lists.{all-head, append-empty, map-empty}
 use Rattle.bus.proofs.DriversSlots.{drivers_side_stays}
 use Rattle.bus.proofs.Rings.{each-outstanding}
 
@@ -30,7 +38,7 @@ transmit_stays_idle o a b past sound same happens =
       ring = still-idle a.adapter.transmit_ring b.adapter.transmit_ring steady.transmit_ring steady.transmit_head same sent.1;
     }
 
--- No frame is held where there is none of a finished slot and none in work.
+-- No slot is finished, and no piece is in progress.
 pub record HoldsNone (o : ℕ) (world : World) : Type 0 where
   pub none_finished : finished o world ≡ []
   pub no_work : world.adapter.receiver.work ≡ None
@@ -39,15 +47,48 @@ no_work-held : (memory : List ℕ) (work : Option Work) → engine.in_work memor
 no_work-held memory None none = refl
 no_work-held memory (Some work) none = absurd (cc)
 
-pub holds-none : (o : ℕ) (world : World) → frames_held o world ≡ [] → HoldsNone o world
-holds-none o world none =
-    let frames = map (λ (descriptor : ℕ). bytes_in world.memory (named world.memory descriptor)) (finished o world) in
+-- Pieces in which no frame ends join to at least what was begun.
+begun-grows : (begun : List ℕ) (pieces : List Piece) → frames_from begun pieces ≡ [] → length begun ≤ length (begun_from begun pieces)
+begun-grows begun [] none = omega arith
+begun-grows begun (Part bytes ∷ later) none =
+    let rest = begun-grows (begun ++ bytes) later none in
+    omega (arith, rest, length-append begun bytes)
+begun-grows begun (Last bytes ∷ later) none = absurd (cc)
+
+-- If no frame ends in pieces and they join to no bytes, there are none: a part isn't empty.
+no-pieces-cut : (size : ℕ) (pieces : List Piece) → 1 ≤ size → All (IsCut size) pieces → frames_of pieces ≡ [] → begun_of pieces ≡ []
+    → pieces ≡ []
+no-pieces-cut size [] some cut none nothing = refl
+no-pieces-cut size (Part bytes ∷ later) some cut none nothing =
+    let full : length bytes ≡ size = all-head (IsCut size) (Part bytes) later cut in
+    let grows : length bytes ≤ length (begun_from bytes later) = begun-grows bytes later none in
+    let empty : length (begun_from bytes later) ≡ 0 = ap length nothing in
+    absurd (omega (arith, some, full, grows, empty))
+no-pieces-cut size (Last bytes ∷ later) some cut none nothing = absurd (cc)
+
+-- A receive buffer isn't empty.
+some-sized : (code : ℕ) → code < 4 → 1 ≤ buffer_size_of code
+some-sized zero small = omega arith
+some-sized (suc zero) small = omega arith
+some-sized (suc (suc zero)) small = omega arith
+some-sized (suc (suc (suc zero))) small = omega arith
+some-sized (suc (suc (suc (suc code)))) small = absurd (omega (arith, small))
+
+some-bytes : (world : World) → 1 ≤ buffer_size world
+some-bytes world = some-sized (field world.adapter.filter.rctl 16 2) (mod_below (world.adapter.filter.rctl / 2 ^ 16) 4 (omega arith))
+
+-- If no frame is held, so it is.
+pub holds-none : (o p : ℕ) (world : World) → Sound o p world → AreCut o world → frames_held o world ≡ [] → HoldsNone o world
+holds-none o p world sound cut none =
     let receiver = world.adapter.receiver in
-    let both = append-empty frames (engine.held world.memory receiver) none in
-    let engine_empty = append-empty (engine.in_work world.memory receiver.work) receiver.buffer both.1 in
+    let both = append-empty (frames_of (pieces_in_slots o world)) receiver.buffer none in
+    let begun : begun_of (pieces_in_slots o world) ≡ [] =
+    sound.begun ∙ ap (λ (frames : List (List ℕ)). take receiver.moved (oldest frames)) both.1 ∙ take-nil receiver.moved in
+    let empty = no-pieces-cut (buffer_size world) (pieces_in_slots o world) (some-bytes world) cut.cut both.0 begun in
+    let parts = append-empty (finished_pieces o world) (engine.in_work world.memory receiver.work) empty in
     record {
-      none_finished = map-empty (λ (descriptor : ℕ). bytes_in world.memory (named world.memory descriptor)) (finished o world) both.0;
-      no_work = no_work-held world.memory receiver.work engine_empty.0;
+      none_finished = map-empty (piece_in world.memory) (finished o world) parts.0;
+      no_work = no_work-held world.memory receiver.work parts.1;
     }
 
 -- Then all outstanding slots are offered.
@@ -59,11 +100,12 @@ all-offered o p world sound none =
     ∙ ap (λ (work : Option Work). slot_of_work work ++ slots) none.no_work
 
 pub offers_wait : OffersWait
-offers_wait o p a b past sound within off none happens =
+offers_wait o p a b past sound within off cut none happens =
     let between = happens.between o p sound in
     let steady = happens.steady in
-    let before = holds-none o a none in
-    let after = holds-none o b (between.holds ∙ ap (λ (frames : List (List ℕ)). frames ++ past.stored) none ∙ (steady.off off).0) in
+    let before = holds-none o p a sound cut none in
+    let after = holds-none o p b between.sound (between.whole cut)
+    (between.holds ∙ ap (λ (frames : List (List ℕ)). frames ++ past.stored) none ∙ (steady.off off).0) in
     let same : outstanding (receive_ring b) o
     ≡ outstanding (receive_ring a) o = ap (λ (ring : RingRegisters). outstanding (ring_of ring) o) steady.receive_ring in
     let Stays : ℕ → Type 0 = λ slot. named_address b.memory slot ≡ named_address a.memory slot in

@@ -9,10 +9,14 @@ use Rattle.descriptors.specs.declared.ring.Ring.{Ring}
 use Rattle.descriptors.specs.declared.tx_desc.TxDesc.{TxDesc}
 use Rattle.descriptors.specs.Ring.{address_of, offered_places}
 use Rattle.descriptors.specs.RxDesc.{rx_desc_of}
+use Rattle.descriptors.specs.RxStatus.{eop, status_bits}
+use Rattle.descriptors.specs.declared.rx_desc.RxDesc.{RxDesc}
 use Rattle.descriptors.specs.TxDesc.{tx_desc_of}
 use Rattle.descriptors.specs.TxFields.{command_bits}
 use Rattle.rx_engine.specs.Descriptors as receive
 use Rattle.rx_engine.specs.Held as engine
+use Rattle.rx_engine.specs.Held.{HasBegun, piece_of}
+use Rattle.rx_engine.specs.Pieces.{Piece, begun_of, frames_of}
 use Rattle.rx_engine.specs.declared.engine.Work.{Work}
 use Rattle.tx_engine.specs.Fetching as transmit
 use Rattle.tx_engine.specs.Fetching.{as_sent, fetched, frame_at}
@@ -20,9 +24,10 @@ use Rattle.tx_engine.specs.ToSend.{to_send}
 use Rattle.tx_engine.specs.Transmitter.{Queued}
 use Rattle.adapter.specs.Slots.{buffered, done_slots, finished, in_work, is_done, IsDealt, offered, outstanding, slot_of_work, written_back}
 use Rattle.adapter.specs.HostAreas.{buffer_size, data_of, ring_area, work_areas}
-use Rattle.adapter.specs.HostFrames.{frames_to_send, named}
-use Rattle.adapter.specs.Conditions.{AreWhole, FitBuffers, IsWhole}
+use Rattle.adapter.specs.HostFrames.{finished_pieces, frames_held, frames_to_send, named, piece_in, pieces_in_slots}
+use Rattle.adapter.specs.Conditions.{AreCut, FitBuffers}
 use Rattle.adapter.specs.World.{receive_ring, transmit_ring, World}
+use Rattle.bus.proofs.KeptPieces.{SameDescriptors, cut-kept}
 use Rattle.bus.proofs.Lists.{all-head, all-left, all-right, all-unmapped, map-same}
 use Rattle.bus.proofs.Rings.{dealt-left, dealt-right, dealt-same, done-same, outstanding-inside}
 
@@ -47,6 +52,14 @@ pub frame-same : (memory memory' : List ℕ) (area : Area) (descriptor : ℕ) �
     → bytes_in memory' (named memory' descriptor) ≡ bytes_in memory (named memory descriptor)
 frame-same memory memory' area descriptor keeps same apart =
     ap (bytes_in memory') (named-same memory memory' descriptor same) ∙ keeps.others (named memory descriptor) apart
+
+pub piece-same : (memory memory' : List ℕ) (area : Area) (descriptor : ℕ) → ChangesOnly memory memory' area
+    → IsSame memory memory' descriptor → AreApart area (named memory descriptor) → piece_in memory' descriptor ≡ piece_in memory descriptor
+piece-same memory memory' area descriptor keeps same apart =
+    let desc : receive.descriptor_at memory' descriptor ≡ receive.descriptor_at memory descriptor = ap rx_desc_of same in
+    ap (λ (d : RxDesc). piece_of (is_set (status_bits d.status) eop) (bytes_in memory' (named memory' descriptor))) desc
+    ∙ ap (piece_of (is_set (status_bits (receive.descriptor_at memory descriptor).status) eop))
+    (frame-same memory memory' area descriptor keeps same apart)
 
 pub fetched-same : (memory memory' : List ℕ) (area : Area) (descriptor : ℕ) → ChangesOnly memory memory' area
     → IsSame memory memory' descriptor → AreApart area (data_of memory descriptor)
@@ -79,23 +92,16 @@ pub named-kept : (memory memory' : List ℕ) (slots : List ℕ) → All (IsSame 
 named-kept memory memory' slots same = map-same (named memory') (named memory) slots
     (λ k d below. named-same memory memory' _ (same k d below))
 
--- the bytes that a finished descriptor names
-abbrev pub frame_of : List ℕ → ℕ → List ℕ
-frame_of memory descriptor = bytes_in memory (named memory descriptor)
-
-pub frames-kept : (memory memory' : List ℕ) (area : Area) (slots : List ℕ) → ChangesOnly memory memory' area
+pub pieces-kept : (memory memory' : List ℕ) (area : Area) (slots : List ℕ) → ChangesOnly memory memory' area
     → All (IsSame memory memory') slots → All (AreApart area) (map (named memory) slots)
-    → map (frame_of memory') slots ≡ map (frame_of memory) slots
-frames-kept memory memory' area slots keeps same apart =
+    → map (piece_in memory') slots ≡ map (piece_in memory) slots
+pieces-kept memory memory' area slots keeps same apart =
     let each = all-unmapped (AreApart area) (named memory) slots apart in
-    map-same (frame_of memory') (frame_of memory) slots
-    (λ k d below. frame-same memory memory' area _ keeps (same k d below) (each k d below))
+    map-same (piece_in memory') (piece_in memory) slots
+    (λ k d below. piece-same memory memory' area _ keeps (same k d below) (each k d below))
 
-pub whole-kept : (memory memory' : List ℕ) (slots : List ℕ) → All (IsSame memory memory') slots → AreWhole memory slots
-    → AreWhole memory' slots
-whole-kept memory memory' slots same whole = λ k d below.
-    let desc : receive.descriptor_at memory' _ ≡ receive.descriptor_at memory _ = ap rx_desc_of (same k d below) in
-    subst IsWhole (sym desc) (whole k d below)
+pub descriptors-kept : (memory memory' : List ℕ) (slots : List ℕ) → All (IsSame memory memory') slots → SameDescriptors memory memory' slots
+descriptors-kept memory memory' slots same = λ k d below. ap rx_desc_of (same k d below)
 
 -- the frames that these finished slots name have at most so many bytes
 abbrev pub NamesFit : List ℕ → ℕ → List ℕ → Type 0
@@ -114,16 +120,16 @@ work-kept memory memory' (Some work) same =
     ap (λ (bytes : List ℕ). (rx_desc_of bytes).address) (all-head (IsSame memory memory') work.descriptor [] same) in
     ap (λ (at : ℕ). let area : Area = record { address = at; size = work.length } in area ∷ []) address
 
-pub work_frame-kept : (memory memory' : List ℕ) (area : Area) (work : Option Work) → ChangesOnly memory memory' area
+pub work_piece-kept : (memory memory' : List ℕ) (area : Area) (work : Option Work) → ChangesOnly memory memory' area
     → All (IsSame memory memory') (slot_of_work work) → All (AreApart area) (work_areas memory work)
     → engine.in_work memory' work ≡ engine.in_work memory work
-work_frame-kept memory memory' area None keeps same apart = refl
-work_frame-kept memory memory' area (Some work) keeps same apart =
+work_piece-kept memory memory' area None keeps same apart = refl
+work_piece-kept memory memory' area (Some work) keeps same apart =
     let address : receive.named_address memory' work.descriptor ≡ receive.named_address memory work.descriptor =
     ap (λ (bytes : List ℕ). (rx_desc_of bytes).address) (all-head (IsSame memory memory') work.descriptor [] same) in
     let place : Area = record { address = receive.named_address memory work.descriptor; size = work.length } in
-    ap (λ (at : ℕ). bytes_at memory' at work.length ∷ []) address
-    ∙ ap (λ (frame : List ℕ). frame ∷ []) (keeps.others place (all-head (AreApart area) place [] apart))
+    ap (λ (at : ℕ). piece_of work.ends (bytes_at memory' at work.length) ∷ []) address
+    ∙ ap (λ (bytes : List ℕ). piece_of work.ends bytes ∷ []) (keeps.others place (all-head (AreApart area) place [] apart))
 
 -- a buffer of this size that a receive descriptor names
 abbrev pub sized_buffer : List ℕ → ℕ → ℕ → Area
@@ -206,11 +212,15 @@ pub record ReceiveKept (world : World) (memory' : List ℕ) (oldest : ℕ) : Typ
   pub dealt : IsDealt memory' (receive_ring world) oldest (in_work world)
   pub done : done_slots memory' (receive_ring world) oldest ≡ finished oldest world
   pub named_areas : map (named memory') (done_slots memory' (receive_ring world) oldest) ≡ map (named world.memory) (finished oldest world)
-  pub frames : map (frame_of memory') (done_slots memory' (receive_ring world) oldest) ≡ map (frame_of world.memory) (finished oldest world)
-  pub whole : AreWhole world.memory (finished oldest world) → AreWhole memory' (done_slots memory' (receive_ring world) oldest)
+  pub descriptors : SameDescriptors world.memory memory' (finished oldest world)
+  pub pieces : finished_pieces oldest (record world { memory = memory' }) ≡ finished_pieces oldest world
+  pub all_pieces : pieces_in_slots oldest (record world { memory = memory' }) ≡ pieces_in_slots oldest world
+  pub held : frames_held oldest (record world { memory = memory' }) ≡ frames_held oldest world
+  pub begun : HasBegun world.memory (finished_pieces oldest world) world.adapter.receiver
+      → HasBegun memory' (finished_pieces oldest (record world { memory = memory' })) world.adapter.receiver
+  pub whole : AreCut oldest world → AreCut oldest (record world { memory = memory' })
   pub fits : FitBuffers oldest world → FitBuffers oldest (record world { memory = memory' })
   pub areas_of_work : work_areas memory' world.adapter.receiver.work ≡ work_areas world.memory world.adapter.receiver.work
-  pub frame_in_work : engine.in_work memory' world.adapter.receiver.work ≡ engine.in_work world.memory world.adapter.receiver.work
 
 pub receive_kept_by_slots : (world : World) (memory' : List ℕ) (oldest : ℕ) (area : Area) → ChangesOnly world.memory memory' area
     → IsDealt world.memory (receive_ring world) oldest (in_work world)
@@ -228,21 +238,30 @@ receive_kept_by_slots world memory' oldest area keeps dealt same named_apart wor
     let same_work = all-left (IsSame memory memory') (in_work world) (offered ring) right in
     let done : done_slots memory' ring oldest ≡ finished oldest world = done-same memory memory' ring oldest done_as in
     let areas_of_work = work-kept memory memory' work same_work in
+    let descriptors = descriptors-kept memory memory' (finished oldest world) same_done in
+    let pieces : finished_pieces oldest (record world { memory = memory' }) ≡ finished_pieces oldest world =
+    ap (map (piece_in memory')) done ∙ pieces-kept memory memory' area (finished oldest world) keeps same_done named_apart in
+    let all_pieces : pieces_in_slots oldest (record world { memory = memory' }) ≡ pieces_in_slots oldest world =
+    ap (λ (list : List Piece). list ++ engine.in_work memory' work) pieces
+    ∙ ap (λ (list : List Piece). finished_pieces oldest world ++ list)
+    (work_piece-kept memory memory' area work keeps same_work work_apart) in
     record {
       same_offered = all-right (IsSame memory memory') (in_work world) (offered ring) right;
       dealt = dealt-same memory memory' ring oldest (in_work world) done_as dealt;
       done = done;
       named_areas = ap (map (named memory')) done ∙ named-kept memory memory' (finished oldest world) same_done;
-      frames = ap (map (frame_of memory')) done ∙ frames-kept memory memory' area (finished oldest world) keeps same_done named_apart;
-      whole = λ are. subst (λ (slots : List ℕ). AreWhole memory' slots) (sym done)
-          (whole-kept memory memory' (finished oldest world) same_done are);
+      descriptors = descriptors;
+      pieces = pieces;
+      all_pieces = all_pieces;
+      held = ap (λ (list : List Piece). frames_of list ++ world.adapter.receiver.buffer) all_pieces;
+      begun = λ begun. ap begun_of all_pieces ∙ begun;
+      whole = λ cut. cut-kept oldest world (record world { memory = memory' }) refl done descriptors all_pieces cut;
       fits = λ fit. record {
         finished_fit = subst (λ (slots : List ℕ). NamesFit memory' (buffer_size world) slots) (sym done)
             (names_fit-kept memory memory' (buffer_size world) (finished oldest world) same_done fit.finished_fit);
         work_fits = subst (λ (places : List Area). All (λ place. place.size ≤ buffer_size world) places) (sym areas_of_work) fit.work_fits;
       };
       areas_of_work = areas_of_work;
-      frame_in_work = work_frame-kept memory memory' area work keeps same_work work_apart;
     }
 
 pub receive_kept : (world : World) (memory' : List ℕ) (oldest : ℕ) (area : Area) → ChangesOnly world.memory memory' area

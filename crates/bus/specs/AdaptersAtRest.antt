@@ -5,6 +5,7 @@ use Rattle.tx_engine.specs.Transmitter.{new_transmitter}
 use Rattle.adapter.specs.Registers.{after_reset}
 use Rattle.adapter.specs.Running.{CanRun}
 use Rattle.adapter.specs.Table.{register_at}
+use Rattle.adapter.specs.State.{IsAdapter}
 use Rattle.adapter.specs.World.{World}
 use Rattle.adapter.specs.declared.register.Register.{Register}
 use Rattle.adapter.specs.declared.register.Register.TheVariants.{Rctl, Receive, Transmit}
@@ -39,7 +40,7 @@ pub record NoFrame (past : Past) : Type 0 where
 
 -- Whatever happens leaves it at rest, and no frame comes or leaves.
 abbrev pub HappeningsKeepRest : Type 0
-HappeningsKeepRest = (a b : World) (past : Past) → Happens a b past → IsAtRest a → IsAtRest b × NoFrame past
+HappeningsKeepRest = (a b : World) (past : Past) → Happens a b past → IsAdapter b.adapter → IsAtRest a → IsAtRest b × NoFrame past
 
 -- a register other than RCTL and those of the rings
 abbrev pub IsElsewhere : Option Register → Type 0

@@ -4,8 +4,8 @@ use Rattle.dma_memory.specs.Areas.{AreApart, Area, descriptor_area}
 use Rattle.dma_memory.specs.HostMemory.{LiesIn}
 use Rattle.adapter.specs.Slots.{finished, outstanding, written_back}
 use Rattle.adapter.specs.HostAreas.{buffer_size, frame_areas, IsForeign}
-use Rattle.adapter.specs.HostFrames.{frames_held, frames_to_send}
-use Rattle.adapter.specs.Conditions.{AreWhole, FitBuffers, Sound}
+use Rattle.adapter.specs.HostFrames.{finished_pieces, frames_held, frames_to_send}
+use Rattle.adapter.specs.Conditions.{AreCut, FitBuffers, Sound}
 use Rattle.adapter.specs.Running.{GoOn}
 use Rattle.adapter.specs.World.{receive_ring, transmit_ring, World, world_after_store}
 
@@ -15,15 +15,17 @@ pub record IsDriversArea (oldest_receive oldest_transmit : ℕ) (world : World) 
   pub sent : All (λ slot. AreApart area (descriptor_area slot)) (outstanding (transmit_ring world) oldest_transmit)
   pub frames : All (AreApart area) (frame_areas oldest_receive world)
 
--- The conditions hold in the second world as in the first, slots and frames are the same, and finished slots that are whole stay whole.
+-- The conditions hold in the second world as in the first, and slots, pieces and frames are the same.
 pub record SameFrames (oldest_receive oldest_transmit : ℕ) (a b : World) : Type 0 where
   pub sound : Sound oldest_receive oldest_transmit b
   pub held : frames_held oldest_receive b ≡ frames_held oldest_receive a
   pub to_send : frames_to_send b ≡ frames_to_send a
   pub finished_same : finished oldest_receive b ≡ finished oldest_receive a
   pub written_same : written_back oldest_transmit b ≡ written_back oldest_transmit a
-  pub whole : AreWhole a.memory (finished oldest_receive a) → AreWhole b.memory (finished oldest_receive b)
-  -- and frames that fit into their buffers still do, where these are no smaller
+  pub pieces_same : finished_pieces oldest_receive b ≡ finished_pieces oldest_receive a
+  -- Frames that are cut into buffers of one size still are if the buffers have the same size, and pieces that fit into their buffers still do
+  -- if these are no smaller.
+  pub whole : buffer_size b ≡ buffer_size a → AreCut oldest_receive a → AreCut oldest_receive b
   pub fits : buffer_size a ≤ buffer_size b → FitBuffers oldest_receive a → FitBuffers oldest_receive b
 
 -- And engines that could run still can.

@@ -1,8 +1,9 @@
 -- Rings that offer nothing, of an adapter that has none of the host's slots (our choice): as after power-on, after a reset, and in each
 -- state of initialization before the first slot is offered ("14.4 Receive Initialization", "14.5 Transmit Initialization").
-use Rattle.std.specs.Prelude.{⊤, ◌≡◌, ℕ, List, [], ◌∷◌, None, length}
+use Rattle.std.specs.Prelude.{⊤, ◌≡◌, ℕ, List, [], ◌∷◌, None, length, take}
 use Rattle.dma_memory.specs.Areas.{AreSeparate}
 use Rattle.mdic_phy.specs.declared.phy.Link.{Link}
+use Rattle.rx_engine.specs.Receiver.{Receiver, oldest}
 use Rattle.adapter.specs.Registers.{after_reset, new_adapter, write_of}
 use Rattle.adapter.specs.declared.register.Register.{Register}
 use Rattle.adapter.specs.declared.register.Register.TheVariants.{Receive, Transmit}
@@ -19,9 +20,15 @@ pub record HasIdleRings (world : World) : Type 0 where
   pub transmit : world.adapter.transmit_ring.head ≡ world.adapter.transmit_ring.tail
   pub separate : AreSeparate world.memory (ring_area (receive_ring world) ∷ ring_area (transmit_ring world) ∷ [])
 
--- And no slot is taken: no frame is in work and none in the transmit packet buffer. In the receive packet buffer frames may wait.
+-- the bytes of the packet buffer's oldest frame that are moved
+abbrev pub moved_bytes : Receiver → List ℕ
+moved_bytes receiver = take receiver.moved (oldest receiver.buffer)
+
+-- And no slot is taken: no piece is in progress, and no frame is in the transmit packet buffer. In the receive packet buffer frames may
+-- wait, of which no byte is moved.
 pub record IsIdle (world : World) : Type 0 where
   pub work : world.adapter.receiver.work ≡ None
+  pub unmoved : moved_bytes world.adapter.receiver ≡ []
   pub buffer : world.adapter.transmitter.buffer ≡ []
   pub rings : HasIdleRings world
 

@@ -9,9 +9,10 @@ use Rattle.registers.specs.Bits.{HasBit}
 use Rattle.registers.specs.Counting.{greatest_count}
 use Rattle.descriptors.specs.Frames.{IsLegal}
 use Rattle.descriptors.specs.Ring.{HasValidIndices}
-use Rattle.adapter.specs.Conditions.{AreWhole, FitBuffers, Sound}
-use Rattle.adapter.specs.HostAreas.{IsForeign, buffer_size}
-use Rattle.adapter.specs.HostFrames.{AreWithin, frames_held, frames_to_send}
+use Rattle.rx_engine.specs.Pieces.{IsPart, Piece}
+use Rattle.adapter.specs.Conditions.{AreCut, FitBuffers, Sound}
+use Rattle.adapter.specs.HostAreas.{IsForeign}
+use Rattle.adapter.specs.HostFrames.{finished_pieces, frames_held, frames_to_send}
 use Rattle.adapter.specs.Rings.{ring_of}
 use Rattle.adapter.specs.Running.{CanRun}
 use Rattle.adapter.specs.Slots.{finished, written_back}
@@ -74,19 +75,22 @@ pub record Between (oldest_receive oldest_transmit : ℕ) (a b : World) (past : 
   pub each_reported : length reported ≡ length past.put
   -- The frames held grow at the end by those that were stored.
   pub holds : frames_held oldest_receive b ≡ frames_held oldest_receive a ++ past.stored
-  -- The finished slots from the oldest on only grow, and where they grew RXT0, bit 7, is recorded.
+  -- The finished slots from the oldest on only grow, and so do the pieces in them.
   pub more : List ℕ
   pub done : finished oldest_receive b ≡ finished oldest_receive a ++ more
-  pub told : (more ≡ []) ⊎ HasBit b.adapter.causes.recorded rxt0
-  -- Frames that fit into their buffers still do, and new ones do.
+  pub pieces : List Piece
+  pub grown : finished_pieces oldest_receive b ≡ finished_pieces oldest_receive a ++ pieces
+  -- If a frame ends in a new one, RXT0, bit 7, is recorded.
+  pub told : All IsPart pieces ⊎ HasBit b.adapter.causes.recorded rxt0
+  -- Pieces that fit into their buffers still do, and new ones do.
   pub fits : FitBuffers oldest_receive a → FitBuffers oldest_receive b
-  -- Finished slots that are whole stay whole, and new ones are.
-  pub whole : AreWhole a.memory (finished oldest_receive a) → AreWhole b.memory (finished oldest_receive b)
+  -- If frames are cut into buffers of one size, by RCTL.BSIZE, new ones are, too.
+  pub whole : AreCut oldest_receive a → AreCut oldest_receive b
   -- What isn't the adapter's stays as it is, and stays not the adapter's.
   pub untouched : (area : Area) → IsForeign a area → bytes_in b.memory area ≡ bytes_in a.memory area
   pub foreign : (area : Area) → IsForeign a area → IsForeign b area
-  -- Where the frames stored fit into a buffer, engines that can run can run further: no fault stops them.
-  pub runs : AreWithin (buffer_size a) past.stored → CanRun a → CanRun b
+  -- Engines that can run can run further: no fault stops them.
+  pub runs : CanRun a → CanRun b
   pub sound : Sound oldest_receive oldest_transmit b
 
 -- Any adapter steps and deliveries, whichever slots the driver counts as its oldest.

@@ -19,6 +19,8 @@ pub mod WritableSlots
 pub mod KnownRings
 pub mod SlotOffers
 pub mod TakingSlots
+pub mod RunsOfSlots
+pub mod LargeBuffers
 pub mod SpareMemory
 pub mod IdleRings
 pub mod RegisterSetting

@@ -1,5 +1,5 @@
 -- Reports of a lively bus join over consecutive intervals.
-use Rattle.std.proofs.Common.{◌≡◌, ◌+◌, ◌++◌, [], List, length, min, refl, sym, ap, ◌∙◌, arith, length-append}
+use Rattle.std.proofs.Common.{◌≡◌, ◌+◌, ◌++◌, [], length, min, refl, sym, ap, ◌∙◌, arith, length-append}
 use Rattle.std.proofs.lemmas.List.Elements.{All-append, All-nil}
 use Rattle.bus.specs.LivelyBuses.{IsQuietEvent, IsSameMachine, Lives, machine_world, most_accesses}
 use Rattle.bus.specs.PastOfStretch.{Past, joined, nothing}

@@ -10,10 +10,10 @@ use Rattle.adapter.specs.Registers.{is_reset, write_of}
 use Rattle.adapter.specs.declared.register.Register.{Register}
 use Rattle.adapter.specs.declared.register.Register.TheVariants.{Rctl, Receive, Tctl, Transmit}
 use Rattle.adapter.specs.declared.ring.RingRegisters.{RingRegisters}
-use Rattle.adapter.specs.HostAreas.{areas, buffer_size}
+use Rattle.adapter.specs.HostAreas.{areas}
 use Rattle.adapter.specs.Slots.{finished, offered, outstanding}
-use Rattle.adapter.specs.HostFrames.{AreWithin, frames_held, frames_to_send}
-use Rattle.adapter.specs.Conditions.{FitBuffers, Sound}
+use Rattle.adapter.specs.HostFrames.{frames_held, frames_to_send}
+use Rattle.adapter.specs.Conditions.{AreCut, FitBuffers, Sound}
 use Rattle.bus.specs.Law.{Happens}
 use Rattle.bus.specs.SlotOffers.{CanOffer, offering}
 use Rattle.bus.specs.DriversStores.{LeavesFrames, SameFrames}
@@ -57,11 +57,10 @@ abbrev pub with_receive_control : ℕ → World → World
 with_receive_control control world = record world
     { adapter = record world.adapter { filter = record world.adapter.filter { rctl = control } } }
 
--- The conditions hold, and frames are the same; where BSEX is 0 and BSIZE names room for each frame in the receive packet buffer, engines
--- that could run still can.
+-- The conditions hold, and frames are the same; if BSEX is 0, engines that could run still can.
 pub record ReceiverSet (oldest_receive oldest_transmit : ℕ) (a b : World) : Type 0 where
   pub same : SameFrames oldest_receive oldest_transmit a b
-  pub runs : ¬ (HasBit b.adapter.filter.rctl rctl_bsex) → AreWithin (buffer_size b) b.adapter.receiver.buffer → GoOn a b
+  pub runs : ¬ (HasBit b.adapter.filter.rctl rctl_bsex) → GoOn a b
 
 -- RCTL may be written where the rings, the frames and the buffers that then count are apart, in memory.
 abbrev pub ReceiverCanBeSet : Type 0
@@ -148,9 +147,11 @@ pub record OffersStay (oldest_receive : ℕ) (a b : World) : Type 0 where
   pub slots : offered (receive_ring b) ≡ offered (receive_ring a)
   pub addresses : All (λ slot. named_address b.memory slot ≡ named_address a.memory slot) (offered (receive_ring a))
 
--- While RCTL.EN is 0 and no frame is held, the receive slots that are offered wait.
+-- While RCTL.EN is 0 and no frame is held, the receive slots that are offered wait. No slot contains a part of a frame then, if frames are
+-- cut into buffers of one size.
 abbrev pub OffersWait : Type 0
 OffersWait =
     (oldest_receive oldest_transmit : ℕ) (a b : World) (past : Past) → Sound oldest_receive oldest_transmit a
     → oldest_receive < count_of (receive_ring a)
-    → ¬ (HasBit a.adapter.filter.rctl rctl_en) → frames_held oldest_receive a ≡ [] → Happens a b past → OffersStay oldest_receive a b
+    → ¬ (HasBit a.adapter.filter.rctl rctl_en) → AreCut oldest_receive a → frames_held oldest_receive a ≡ [] → Happens a b past
+    → OffersStay oldest_receive a b

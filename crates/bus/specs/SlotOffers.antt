@@ -8,8 +8,8 @@ use Rattle.registers.specs.Places.{tctl_psp}
 use Rattle.tx_engine.specs.Fetching.{fetched, frame_at}
 use Rattle.adapter.specs.HostAreas.{areas, buffer_of, data_of, IsForeign, reported_half, status_byte}
 use Rattle.adapter.specs.Slots.{finished, is_done, outstanding, written_back}
-use Rattle.adapter.specs.HostFrames.{frames_held, frames_to_send}
-use Rattle.adapter.specs.Conditions.{AreWhole, FitBuffers, Reports, Sound}
+use Rattle.adapter.specs.HostFrames.{finished_pieces, frames_held, frames_to_send}
+use Rattle.adapter.specs.Conditions.{AreCut, FitBuffers, Reports, Sound}
 use Rattle.bus.specs.DriversStores.{SameFrames}
 use Rattle.adapter.specs.Running.{CanTransmit, GoOn}
 use Rattle.adapter.specs.World.{receive_ring, transmit_ring, World}
@@ -88,7 +88,8 @@ pub record OfferedFrame (oldest_receive oldest_transmit : ℕ) (a b : World) : T
   pub held : frames_held oldest_receive b ≡ frames_held oldest_receive a
   pub finished_same : finished oldest_receive b ≡ finished oldest_receive a
   pub written_same : written_back oldest_transmit b ≡ written_back oldest_transmit a
-  pub whole : AreWhole a.memory (finished oldest_receive a) → AreWhole b.memory (finished oldest_receive b)
+  pub pieces_same : finished_pieces oldest_receive b ≡ finished_pieces oldest_receive a
+  pub whole : AreCut oldest_receive a → AreCut oldest_receive b
   pub fits : FitBuffers oldest_receive a → FitBuffers oldest_receive b
   pub last : outstanding (transmit_ring b) oldest_transmit ≡ outstanding (transmit_ring a) oldest_transmit
       ++ address_of (transmit_ring a) a.adapter.transmit_ring.tail ∷ []

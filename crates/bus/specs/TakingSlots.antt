@@ -1,11 +1,13 @@
--- A driver takes its oldest finished receive slot, or frees its oldest written-back transmit slot: the next one is its oldest then.
+-- A driver takes its oldest finished receive slot, if a frame ends in it, or frees its oldest written-back transmit slot: the next one is its
+-- oldest then.
 use Rattle.std.specs.Prelude.{◌≡◌, ◌∷◌, ℕ, List}
 use Rattle.descriptors.specs.Ring.{address_of, next_of}
 use Rattle.rx_engine.specs.Descriptors.{descriptor_at}
+use Rattle.rx_engine.specs.Pieces.{IsLast}
 use Rattle.adapter.specs.Slots.{finished, outstanding, written_back}
-use Rattle.adapter.specs.HostFrames.{frames_held, named}
+use Rattle.adapter.specs.HostFrames.{frames_held, named, piece_in}
 use Rattle.adapter.specs.HostAreas.{IsForeign}
-use Rattle.adapter.specs.Conditions.{AreWhole, FitBuffers, IsWhole, Sound}
+use Rattle.adapter.specs.Conditions.{AreCut, FitBuffers, IsWhole, Sound}
 use Rattle.bus.specs.DriversSlots.{IsDriversSlot, frame_named}
 use Rattle.adapter.specs.World.{receive_ring, transmit_ring, World}
 
@@ -27,13 +29,13 @@ pub record Taken (oldest_receive oldest_transmit : ℕ) (world : World) (slot : 
   pub own : IsDriversSlot (receive_ring world) (behind_oldest_receive oldest_receive world) oldest_receive
   pub foreign : IsForeign world (named world.memory slot)
   pub fits : FitBuffers oldest_receive world → FitBuffers (behind_oldest_receive oldest_receive world) world
-  pub whole : AreWhole world.memory (finished oldest_receive world) → IsWhole (descriptor_at world.memory slot)
-      × AreWhole world.memory later
+  pub whole : AreCut oldest_receive world → IsWhole (descriptor_at world.memory slot)
+      × AreCut (behind_oldest_receive oldest_receive world) world
 
 abbrev pub FinishedSlotsCanBeTaken : Type 0
 FinishedSlotsCanBeTaken =
     (oldest_receive oldest_transmit : ℕ) (world : World) (slot : ℕ) (later : List ℕ)
-    → Sound oldest_receive oldest_transmit world → finished oldest_receive world ≡ slot ∷ later
+    → Sound oldest_receive oldest_transmit world → finished oldest_receive world ≡ slot ∷ later → IsLast (piece_in world.memory slot)
     → Taken oldest_receive oldest_transmit world slot later
 
 -- A written-back slot.

@@ -1,5 +1,5 @@
 -- Which interrupt causes the events of a trail record, each as the adapter does by itself (13.4.17 "Interrupt Cause Read Register").
-use Rattle.std.specs.Prelude.{◌≡◌, ℕ, Bool, true, List, [], ◌∷◌, Option, Some, None, All}
+use Rattle.std.specs.Prelude.{◌≡◌, ℕ, Bool, true, List, [], ◌∷◌, Option, Some, None, All, if◌then◌else◌}
 use Rattle.mdic_phy.specs.declared.mdic.Ticked.{Ticked}
 use Rattle.mdic_phy.specs.Mdic.{told}
 use Rattle.registers.specs.Bits.{HasBit, union}
@@ -8,7 +8,7 @@ use Rattle.rx_engine.specs.Moving.{is_half_free}
 use Rattle.rx_engine.specs.declared.arrival.Fate.{Fate}
 use Rattle.rx_engine.specs.declared.arrival.Fate.TheVariants.{Missed}
 use Rattle.tx_engine.specs.Steps.{IfFront}
-use Rattle.adapter.specs.Receiving.{causes_of_moving}
+use Rattle.adapter.specs.Receiving.{causes_of_moving, is_ending}
 use Rattle.adapter.specs.Rings.{ring_of}
 use Rattle.adapter.specs.State.{AdapterState}
 use Rattle.adapter.specs.Steps.{causes_told}
@@ -17,7 +17,7 @@ use Rattle.adapter.specs.World.{World}
 use Rattle.adapter.specs.declared.step.StepKind.{StepKind}
 use Rattle.adapter.specs.declared.step.StepKind.TheVariants.{TxTake, TxPut, RxData, RxDone, PhyTick}
 use Rattle.adapter.specs.Outcomes.{FrameOutcome}
-use Rattle.adapter.specs.declared.outcome.Outcome.TheVariants.{Took, Put, Moved, Done}
+use Rattle.adapter.specs.declared.outcome.Outcome.TheVariants.{Took, Put, Part, Moved, Done}
 use Rattle.bus.specs.Accesses.{LeavesCauses, LeavesMask}
 use Rattle.bus.specs.Trails.{Trail, past_of, world_after}
 use Rattle.bus.specs.declared.event.Event.{Event}
@@ -34,8 +34,9 @@ causes_by_tick None = 0
 abbrev pub causes_by_step : StepKind → FrameOutcome → AdapterState → ℕ
 causes_by_step TxTake Took adapter = causes_of_taking adapter.transmit_ring
 causes_by_step TxPut (Put frame) adapter = causes_of_putting adapter.transmitter.buffer
+causes_by_step RxData Part adapter = causes_of_moving adapter.receive_ring
 causes_by_step RxData Moved adapter = causes_of_moving adapter.receive_ring
-causes_by_step RxDone Done adapter = alone rxt0
+causes_by_step RxDone Done adapter = if is_ending adapter.receiver.work then alone rxt0 else 0
 causes_by_step PhyTick answer adapter = causes_by_tick (told adapter.mdic adapter.phy)
 causes_by_step kind answer adapter = 0
 
@@ -78,13 +79,16 @@ pub record IsRecorded (later : List Event) (a b : World) : Type 0 where
   pub link : (wire_free : Bool) (answer : FrameOutcome) → Trail (Steps PhyTick wire_free answer ∷ later) a b
       → (ticked : Ticked) → told a.adapter.mdic a.adapter.phy ≡ Some ticked → ticked.link_changed ≡ true
       → HasBit b.adapter.causes.recorded lsc
-  -- RXDMT0, bit 4: the descriptors from RDH to RDT became half the ring as a frame was moved.
+  -- RXDMT0, bit 4: the descriptors from RDH to RDT became half the ring as a piece of a frame was moved.
+  pub part : (wire_free : Bool) → Trail (Steps RxData wire_free Part ∷ later) a b
+      → is_half_free (ring_of (moved_on a.adapter.receive_ring)) ≡ true → HasBit b.adapter.causes.recorded rxdmt0
   pub moved : (wire_free : Bool) → Trail (Steps RxData wire_free Moved ∷ later) a b
       → is_half_free (ring_of (moved_on a.adapter.receive_ring)) ≡ true → HasBit b.adapter.causes.recorded rxdmt0
   -- RXO, bit 6: a frame was missed.
   pub missed : (frame : List ℕ) → Trail (Arrives frame Missed ∷ later) a b → HasBit b.adapter.causes.recorded rxo
-  -- RXT0, bit 7: a received frame was written back.
-  pub done : (wire_free : Bool) → Trail (Steps RxDone wire_free Done ∷ later) a b → HasBit b.adapter.causes.recorded rxt0
+  -- RXT0, bit 7: the last piece of a received frame was written back.
+  pub done : (wire_free : Bool) → Trail (Steps RxDone wire_free Done ∷ later) a b → is_ending a.adapter.receiver.work ≡ true
+      → HasBit b.adapter.causes.recorded rxt0
   -- MDAC, bit 9: a command of MDIC whose end is told ended at a tick of the PHY.
   pub management : (wire_free : Bool) (answer : FrameOutcome) → Trail (Steps PhyTick wire_free answer ∷ later) a b
       → (ticked : Ticked) → told a.adapter.mdic a.adapter.phy ≡ Some ticked → ticked.access_complete ≡ true

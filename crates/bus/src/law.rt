@@ -8,8 +8,10 @@ ghost use Rattle.bus.specs.IdleRings.{OtherWritesKeepIdle, ReadsKeepIdle, Stores
 ghost use Rattle.bus.specs.RegisterSetting.{ManySlotsCanBeOffered, OffersWait, OtherWritesLeaveFrames};
 ghost use Rattle.bus.specs.RegisterSetting.{ReadsLeaveFrames, ReceiverCanBeSet, TransmitRingCanBeSet};
 ghost use Rattle.bus.specs.RegisterSetting.{TransmitStaysIdle, TransmitterCanBeSet};
+ghost use Rattle.bus.specs.RunsOfSlots.{RunsCanBeTaken};
 ghost use Rattle.bus.specs.SlotOffers.{FramesCanBeOffered, SlotsCanBeOffered};
 ghost use Rattle.bus.specs.DriversSlots.{DriversSideStaysAlways};
+ghost use Rattle.bus.specs.LargeBuffers.{LargeBuffersTakeFrames};
 ghost use Rattle.bus.specs.KnownRings.{KnownRingStays, ReceiveTailMoves, TransmitTailMoves};
 ghost use Rattle.bus.specs.WritableSlots.{DriversReceiveSlotsCanBeWritten, DriversTransmitSlotsCanBeWritten};
 ghost use Rattle.bus.specs.WritableSlots.{SlotsFromTailBelongToDriver, TailSlotsBelongToDriver};
@@ -111,11 +113,24 @@ pub fn frames_can_be_offered()
     ensures { FramesCanBeOffered }
 {}
 
-/// A driver takes its oldest finished receive slot, by counting the next one as its oldest: the
-/// conditions of the law hold then, the slot is the driver's, and its frame, which isn't the
-/// adapter's to write, leaves the front of the frames held.
+/// If receive buffers have room for each legal frame, no frame is cut: each slot that is finished or in
+/// progress contains a whole frame.
+pub fn large_buffers_take_frames()
+    ensures { LargeBuffersTakeFrames }
+{}
+
+/// A driver takes its oldest finished receive slot, if a frame ends in it, by counting the next one as
+/// its oldest. The conditions of the law hold then, the slot is the driver's, and its frame, which the
+/// adapter may not write any more, leaves the front of the frames held.
 pub fn finished_slots_can_be_taken()
     ensures { FinishedSlotsCanBeTaken }
+{}
+
+/// A driver takes a run of its oldest finished receive slots, of which only the last has EOP, by counting the
+/// slot after them as its oldest. The conditions of the law hold then, the slots are the driver's, and their
+/// frame, with its pieces joined, leaves the front of the frames held.
+pub fn runs_can_be_taken()
+    ensures { RunsCanBeTaken }
 {}
 
 /// A driver frees its oldest written-back transmit slot, by counting the next one as its oldest: the
@@ -132,8 +147,9 @@ pub fn areas_stay_apart()
     ensures { AreasStayApart }
 {}
 
-/// An adapter with no frame in work and none to send, whose rings offer nothing and stand in memory, apart
-/// from each other, meets the conditions of the law, with the tails as the driver's oldest slots. So it is
+/// An adapter with no piece in progress, no moved byte of a frame in its packet buffer, and no frame to send,
+/// whose rings offer nothing and are in memory, apart from each other, meets the conditions of the law, with
+/// the tails as the driver's oldest slots. So it is
 /// after power-on and after a reset, in a memory of any size.
 pub fn idle_rings_are_sound()
     ensures sound { IdleRingsAreSound }
@@ -174,8 +190,8 @@ pub fn registers_can_be_set()
 {}
 
 /// What waits while a driver initialises, whatever happens between two of its accesses.
-/// - `offers`: while RCTL.EN is 0 and no frame is held, the receive slots offered, and the addresses of
-///   their buffers.
+/// - `offers`: while RCTL.EN is 0, no frame is held, and frames are cut into buffers of one size, the receive
+///   slots offered, and the addresses of their buffers.
 /// - `transmit_ring`: a transmit ring of which nothing is outstanding.
 pub fn rings_wait()
     ensures offers { OffersWait }

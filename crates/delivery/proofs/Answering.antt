@@ -1,8 +1,10 @@
 -- What a step answers, by what is counted of the adapter.
-use Rattle.std.proofs.Common.{◌≡◌, ◌≢◌, ◌==◌, ◌||◌, ◌⊎◌, ℕ, suc, Bool, true, false, not, Option, Some, None, List, [], ◌∷◌, length, inl}
+use Rattle.std.proofs.Common.{◌≡◌, ◌≢◌, ◌==◌, ◌||◌, ◌⊎◌, ◌-◌, ℕ, suc, Bool, true, false, not, Option, Some, None, List, [], ◌∷◌, length}
+use Rattle.std.proofs.Common.{if◌then◌else◌, inl}
 use Rattle.std.proofs.Common.{inr, refl}
 use Rattle.std.proofs.Common.{sym, ap, ◌∙◌, arith}
-use Rattle.std.specs.Prelude.{is_some}
+use Rattle.std.specs.Prelude.{is_some, nat_le}
+use Rattle.std.proofs.lemmas.List.{length-map}
 use Rattle.std.proofs.lemmas.Bool.Decides.{eqb_tells}
 use Rattle.eeprom.specs.Eerd.{is_pending}
 use Rattle.mdic_phy.specs.declared.mdic.Operation.{Operation}
@@ -10,17 +12,18 @@ use Rattle.mdic_phy.specs.declared.phy.Negotiation.{Negotiation}
 use Rattle.mdic_phy.specs.declared.phy.Negotiation.TheVariants.{NotStarted, Running, Complete}
 use Rattle.mdic_phy.specs.Mdic.{has_work}
 use Rattle.mdic_phy.specs.Phy.{PhyState, is_running}
-use Rattle.adapter.specs.Receiving.{DataAnswers, DoneAnswers}
+use Rattle.rx_engine.specs.Receiver.{oldest}
+use Rattle.adapter.specs.Receiving.{DataAnswers, DoneAnswers, HasFrameAndDescriptor}
 use Rattle.adapter.specs.Rings.{ring_of}
 use Rattle.adapter.specs.State.{AdapterState}
 use Rattle.adapter.specs.Steps.{ticked}
 use Rattle.adapter.specs.Transmitting.{HasNothingToTake, TakeAnswers}
 use Rattle.adapter.specs.Outcomes.{FrameOutcome}
-use Rattle.adapter.specs.declared.outcome.Outcome.TheVariants.{Done, Fault, Moved, Nothing, Ticked, Took}
+use Rattle.adapter.specs.declared.outcome.Outcome.TheVariants.{Done, Fault, Moved, Nothing, Part, Ticked, Took}
 use Rattle.delivery.proofs.Rings.{none-offered, some-offered}
-use Rattle.delivery.specs.Counts.{counts_of, negotiation_ticks, ticks_left}
+use Rattle.delivery.specs.Counts.{bytes_left, counts_of, negotiation_ticks, ticks_left}
 use Rattle.delivery.specs.CountedHosts.{CanAnswer}
-use Rattle.delivery.specs.StepAnswers.{has_nothing_to_move, has_nothing_to_take, nothing_if}
+use Rattle.delivery.specs.StepAnswers.{has_nothing_to_move, has_nothing_to_take, left_of_oldest, moved_or_part, nothing_if}
 
 -- it is Nothing where the test holds, and the other where it doesn't
 idles : (test : Bool) (other : FrameOutcome) → test ≡ true → Nothing ≡ nothing_if test other
@@ -74,6 +77,19 @@ take-answer memory a _ can runs well answers = absurd answers
 
 -- Moving.
 
+pub count-left : (moved : ℕ) (frames : List (List ℕ)) → length (bytes_left moved frames) ≡ length frames
+count-left moved [] = refl
+count-left moved (frame ∷ frames) = ap suc (length-map frames length)
+
+first-left : (moved : ℕ) (frames : List (List ℕ)) → left_of_oldest (bytes_left moved frames) ≡ length (oldest frames) - moved
+first-left moved [] = omega arith
+first-left moved (frame ∷ frames) = refl
+
+-- which of the two it is
+last-or-part : (moved size : ℕ) (frames : List (List ℕ)) (last : Bool) → nat_le (length (oldest frames) - moved) size ≡ last
+    → nat_le (left_of_oldest (bytes_left moved frames)) size ≡ last
+last-or-part moved size frames last is = ap (λ (n : ℕ). nat_le n size) (first-left moved frames) ∙ is
+
 barred : {X : Type 0} (work : Option X) (frames : List (List ℕ)) (offered : ℕ) → (work ≡ None → frames ≢ [] → offered ≢ 0 → ⊥)
     → (is_some work || (length frames == 0 || offered == 0)) ≡ true
 barred (Some x) frames offered isnt = refl
@@ -94,20 +110,34 @@ free : {X : Type 0} (work : Option X) (frames : List (List ℕ)) (offered : ℕ)
 free (Some x) frames offered none some slots = absurd (cc)
 free None frames offered none some slots = neither (length frames) offered 0 (λ zero. some (empty frames zero)) slots
 
+to_move : (a : AdapterState) → has_nothing_to_move (counts_of a).receive
+    ≡ (is_some a.receiver.work || (length a.receiver.buffer == 0 || (counts_of a).receive.ring.offered == 0))
+to_move a = ap (λ (n : ℕ). is_some a.receiver.work || (n == 0 || (counts_of a).receive.ring.offered == 0))
+    (count-left a.receiver.moved a.receiver.buffer)
+
+has-to-move : (a : AdapterState) → CanAnswer a → HasFrameAndDescriptor a → has_nothing_to_move (counts_of a).receive ≡ false
+has-to-move a can has =
+    to_move a ∙ free a.receiver.work a.receiver.buffer _ has.ready.free has.ready.frames
+    (some-offered (ring_of a.receive_ring) can.receive has.offered)
+
 pub data-answer : (memory : List ℕ) (a : AdapterState) (answer : FrameOutcome) → CanAnswer a → a.receiver.stopped ≡ false
     → answer ≢ Fault → DataAnswers memory a answer
-    → answer ≡ nothing_if (has_nothing_to_move (counts_of a).receive) Moved
+    → answer ≡ nothing_if (has_nothing_to_move (counts_of a).receive) (moved_or_part (counts_of a).receive)
 data-answer memory a Nothing can runs well answers =
-    idles (has_nothing_to_move (counts_of a).receive) Moved
-    (barred a.receiver.work a.receiver.buffer _ (λ none some slots. answers (record {
+    idles (has_nothing_to_move (counts_of a).receive) (moved_or_part (counts_of a).receive)
+    (to_move a ∙ barred a.receiver.work a.receiver.buffer _ (λ none some slots. answers (record {
       enabled = can.receives;
       ready = record { running = runs; free = none; frames = some };
       offered = λ same. slots (none-offered (ring_of a.receive_ring) can.receive same);
     })))
 data-answer memory a Moved can runs well answers =
-    acts (has_nothing_to_move (counts_of a).receive) Moved
-    (free a.receiver.work a.receiver.buffer _ answers.0.ready.free answers.0.ready.frames
-    (some-offered (ring_of a.receive_ring) can.receive answers.0.offered))
+    ap (λ (last : Bool). if last then Moved else Part) (sym (last-or-part a.receiver.moved _ a.receiver.buffer true answers.2))
+    ∙ acts (has_nothing_to_move (counts_of a).receive) (moved_or_part (counts_of a).receive)
+    (has-to-move a can answers.0)
+data-answer memory a Part can runs well answers =
+    ap (λ (last : Bool). if last then Moved else Part) (sym (last-or-part a.receiver.moved _ a.receiver.buffer false answers.2))
+    ∙ acts (has_nothing_to_move (counts_of a).receive) (moved_or_part (counts_of a).receive)
+    (has-to-move a can answers.0)
 data-answer memory a Fault can runs well answers = absurd (well refl)
 data-answer memory a _ can runs well answers = absurd answers
 

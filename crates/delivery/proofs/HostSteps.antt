@@ -1,10 +1,12 @@
 -- What each event leaves of what is counted of a host's adapter.
 use Rattle.std.proofs.Common.{◌≡◌, ◌+◌, ◌-◌, ℕ, Bool, true, false, Option, Some, None, List, [], ◌∷◌, drop, length, inl, inr, refl, sym}
 use Rattle.std.proofs.Common.{ap, subst, ◌∙◌}
-use Rattle.std.proofs.Common.{◌||◌, arith, cond, length-append}
-use Rattle.std.specs.Prelude.{IfSome}
+use Rattle.std.proofs.Common.{◌≤◌, ◌<◌, ◌++◌, ◌||◌, arith, cond, length-append, length-drop, length-take, map, take}
+use Rattle.std.specs.Prelude.{IfSome, nat_le}
 use Rattle.std.specs.List.{All}
+use Rattle.std.proofs.lemmas.Bool.{leb-false}
 use Rattle.std.proofs.lemmas.Bool.Decides.{leb_tells}
+use Rattle.std.proofs.lemmas.List.{append-nil, map-append}
 use Rattle.std.proofs.lemmas.Nat.{mod_below}
 use Rattle.eeprom.specs.Eerd as eeprom
 use Rattle.eeprom.specs.declared.eerd.ReadState.{ReadState}
@@ -18,10 +20,12 @@ use Rattle.mdic_phy.specs.Mdic.{has_work, phy_after_tick, told}
 use Rattle.mdic_phy.specs.Phy.{PhyState, counted, is_running}
 use Rattle.rx_engine.specs.declared.arrival.Fate.{Fate}
 use Rattle.rx_engine.specs.declared.arrival.Fate.TheVariants.{Off, Illegal, Filtered, Missed, Stored}
+use Rattle.rx_engine.specs.Receiver.{oldest}
 use Rattle.adapter.specs.Receiving.{after_arrive}
 use Rattle.adapter.specs.Registers.{left_by_read, left_by_write, read_of, write_of}
 use Rattle.adapter.specs.Rings.{ring_of}
-use Rattle.adapter.specs.State.{AdapterState}
+use Rattle.adapter.specs.State.{AdapterState, IsAdapter}
+use Rattle.adapter.specs.Transmitting.{moved_on}
 use Rattle.adapter.specs.Steps.{Answers, after_phy_told, ticked}
 use Rattle.adapter.specs.Table.{register_at}
 use Rattle.adapter.specs.World.{World}
@@ -41,9 +45,9 @@ use Rattle.bus.specs.StepsAndArrivals.{world_after_step}
 use Rattle.bus.specs.Trails.{Occurs, Trail, past_of, past_of_event, world_after}
 use Rattle.delivery.proofs.Rings.{moved-counts, tail-counts}
 use Rattle.delivery.specs.CountedHosts.{IsCounted, IsCountedWrite}
-use Rattle.delivery.specs.Counts.{HostCounts, RingCounts, ReceiveCounts, TransmitCounts, after_outcome, after_write, counts_after}
-use Rattle.delivery.specs.Counts.{counts_behind, counts_of, negotiation_ticks, tail_of, ticks_left}
-use Rattle.delivery.specs.CountedHosts.{CanAnswer}
+use Rattle.delivery.specs.Counts.{HostCounts, RingCounts, ReceiveCounts, TransmitCounts, after_outcome, after_piece, after_write}
+use Rattle.delivery.specs.Counts.{bytes_left, counts_after, counts_behind, counts_of, negotiation_ticks, tail_of, ticks_left}
+use Rattle.delivery.specs.CountedHosts.{AreEnabled, CanAnswer}
 
 -- The adapter is still set up, with rings of as many slots, and this is what is counted of it.
 pub record Goes (r t : ℕ) (counts : HostCounts) (state : AdapterState) : Type 0 where
@@ -58,10 +62,10 @@ GoesOn a counts b = Goes (count_of (ring_of a.receive_ring)) (count_of (ring_of 
 
 -- Counts whose parts are the same.
 
-receive-same : (ring ring' : RingCounts) (n n' : ℕ) (working : Bool) → ring ≡ ring' → n ≡ n'
-    → (let c : ReceiveCounts = record { ring = ring; buffered = n; is_working = working } in c)
-    ≡ record { ring = ring'; buffered = n'; is_working = working }
-receive-same ring ring' n n' working same same_n = rw (same, same_n) refl
+receive-same : (ring ring' : RingCounts) (size : ℕ) (left left' : List ℕ) (working : Bool) → ring ≡ ring' → left ≡ left'
+    → (let c : ReceiveCounts = record { ring = ring; buffer_size = size; left = left; is_working = working } in c)
+    ≡ record { ring = ring'; buffer_size = size; left = left'; is_working = working }
+receive-same ring ring' size left left' working same same_left = rw (same, same_left) refl
 
 transmit-same : (ring ring' : RingCounts) (n n' : ℕ) → ring ≡ ring' → n ≡ n'
     → (let c : TransmitCounts = record { ring = ring; buffered = n } in c) ≡ record { ring = ring'; buffered = n' }
@@ -133,19 +137,53 @@ put-goes outcome.Nothing wire_free w answers can = same-counts w.adapter can
 put-goes outcome.WireFull wire_free w answers can = same-counts w.adapter can
 put-goes _ wire_free w answers can = absurd answers
 
+-- the oldest frame left the packet buffer
+left-after_last : (moved : ℕ) (frames : List (List ℕ)) → bytes_left 0 (drop 1 frames) ≡ drop 1 (bytes_left moved frames)
+left-after_last moved [] = refl
+left-after_last moved (frame ∷ []) = refl
+left-after_last moved (frame ∷ second ∷ later) = ap (λ (n : ℕ). n ∷ map length later) (omega arith)
+
+-- a piece of it was moved, and more is left
+left-after_part : (moved size : ℕ) (frames : List (List ℕ)) → nat_le (length (oldest frames) - moved) size ≡ false
+    → bytes_left (moved + length (take size (drop moved (oldest frames)))) frames ≡ after_piece size (bytes_left moved frames)
+left-after_part moved size [] more = refl
+left-after_part moved size (frame ∷ later) more =
+    let full : size < length frame - moved = leb-false (length frame - moved) size more in
+    ap (λ (n : ℕ). n ∷ map length later)
+    (omega (arith, full, length-take size (drop moved frame), length-drop moved frame))
+
+-- RDH moved on
+moved-can : (a : AdapterState) → CanAnswer a
+    → AreEnabled a.filter.rctl a.transmit_control (ring_of (moved_on a.receive_ring)) (ring_of a.transmit_ring)
+moved-can a can =
+    let ring = ring_of a.receive_ring in
+    record {
+      receives = can.receives;
+      transmits = can.transmits;
+      receive = record { head = mod_below (ring.head + 1) (count_of ring) (omega (arith, can.receive.head)); tail = can.receive.tail };
+      transmit = can.transmit;
+    }
+
 data-goes : (answer : FrameOutcome) (wire_free : Bool) (w : World) → StepGoes RxData wire_free answer w
+data-goes outcome.Part wire_free w answers can =
+    let a = w.adapter in
+    let ring = ring_of a.receive_ring in
+    record {
+      can = moved-can a can;
+      is = with-receive (counts_of a) _ _
+          (receive-same _ _ _ _ _ true (moved-counts ring can.receive answers.0.offered)
+          (left-after_part a.receiver.moved _ a.receiver.buffer answers.2));
+      receive_slots = refl;
+      transmit_slots = refl;
+    }
 data-goes outcome.Moved wire_free w answers can =
     let a = w.adapter in
     let ring = ring_of a.receive_ring in
     record {
-      can = record {
-        receives = can.receives;
-        transmits = can.transmits;
-        receive = record { head = mod_below (ring.head + 1) (count_of ring) (omega (arith, can.receive.head)); tail = can.receive.tail };
-        transmit = can.transmit;
-      };
+      can = moved-can a can;
       is = with-receive (counts_of a) _ _
-          (receive-same _ _ _ _ true (moved-counts ring can.receive answers.0.offered) (fewer a.receiver.buffer));
+          (receive-same _ _ _ _ _ true (moved-counts ring can.receive answers.0.offered)
+          (left-after_last a.receiver.moved a.receiver.buffer));
       receive_slots = refl;
       transmit_slots = refl;
     }
@@ -234,23 +272,35 @@ step-goes PhyTick wire_free answer w answers can = phy-goes answer wire_free w a
 
 -- Arrivals.
 
-more-buffered : (a : AdapterState) (n n' : ℕ) → n ≡ n'
-    → (let c : HostCounts = record (counts_of a) { receive = record (counts_of a).receive { buffered = n } } in c)
-    ≡ record (counts_of a) { receive = record (counts_of a).receive { buffered = n' } }
-more-buffered a n n' same = with-receive (counts_of a) _ _ (receive-same _ _ n n' _ refl same)
+more-left : (a : AdapterState) (left left' : List ℕ) → left ≡ left'
+    → (let c : HostCounts = record (counts_of a) { receive = record (counts_of a).receive { left = left } } in c)
+    ≡ record (counts_of a) { receive = record (counts_of a).receive { left = left' } }
+more-left a left left' same = with-receive (counts_of a) _ _ (receive-same _ _ _ left left' _ refl same)
 
 none-stored : (a : AdapterState) → CanAnswer a → GoesOn a (counts_after (Arrives [] Off) (counts_of a)) a
-none-stored a can = record { can = can; is = more-buffered a _ _ (omega arith); receive_slots = refl; transmit_slots = refl }
-
-arrival-goes : (fate : Fate) (frame : List ℕ) (a : AdapterState) → CanAnswer a
-    → GoesOn a (counts_after (Arrives frame fate) (counts_of a)) (after_arrive fate frame a)
-arrival-goes Off frame a can = none-stored a can
-arrival-goes Illegal frame a can = none-stored a can
-arrival-goes Filtered frame a can = none-stored a can
-arrival-goes Missed frame a can = record { can = can; is = (none-stored a can).is; receive_slots = refl; transmit_slots = refl }
-arrival-goes Stored frame a can = record {
+none-stored a can = record {
   can = can;
-  is = more-buffered a _ _ (length-append a.receiver.buffer (frame ∷ []));
+  is = more-left a _ _ (sym (append-nil (bytes_left a.receiver.moved a.receiver.buffer)));
+  receive_slots = refl;
+  transmit_slots = refl;
+}
+
+-- of a frame that is stored nothing is moved yet
+left-stored : (moved : ℕ) (frames : List (List ℕ)) (frame : List ℕ) → moved ≤ length (oldest frames) - 1
+    → bytes_left moved (frames ++ frame ∷ []) ≡ bytes_left moved frames ++ length frame ∷ []
+left-stored moved [] frame begun = ap (λ (n : ℕ). n ∷ []) (omega (arith, begun))
+left-stored moved (first ∷ frames) frame begun =
+    ap (λ (later : List ℕ). (length first - moved) ∷ later) (map-append length frames (frame ∷ []))
+
+arrival-goes : (fate : Fate) (frame : List ℕ) (a : AdapterState) → IsAdapter a → CanAnswer a
+    → GoesOn a (counts_after (Arrives frame fate) (counts_of a)) (after_arrive fate frame a)
+arrival-goes Off frame a is can = none-stored a can
+arrival-goes Illegal frame a is can = none-stored a can
+arrival-goes Filtered frame a is can = none-stored a can
+arrival-goes Missed frame a is can = record { can = can; is = (none-stored a can).is; receive_slots = refl; transmit_slots = refl }
+arrival-goes Stored frame a is can = record {
+  can = can;
+  is = more-left a _ _ (left-stored a.receiver.moved a.receiver.buffer frame is.receiver.begun);
   receive_slots = refl;
   transmit_slots = refl;
 }
@@ -280,7 +330,7 @@ write-goes (Receive Tail) value a slot can = record {
     transmit = can.transmit;
   };
   is = with-receive (counts_of a) _ _
-      (receive-same _ _ _ _ _ (tail-counts (ring_of a.receive_ring) (tail_of value) can.receive slot) refl);
+      (receive-same _ _ _ _ _ _ (tail-counts (ring_of a.receive_ring) (tail_of value) can.receive slot) refl);
   receive_slots = refl;
   transmit_slots = refl;
 }
@@ -319,7 +369,7 @@ AreCounted a event = All (IsCounted (count_of (ring_of a.receive_ring)) (count_o
 event-goes : (event : Event) (w : World) → AreCounted w.adapter event → Occurs event w → CanAnswer w.adapter
     → GoesOn w.adapter (counts_after event (counts_of w.adapter)) (world_after event w).adapter
 event-goes (Steps kind wire_free answer) w counted occurs can = step-goes kind wire_free answer w occurs.1 can
-event-goes (Arrives frame fate) w counted occurs can = arrival-goes fate frame w.adapter can
+event-goes (Arrives frame fate) w counted occurs can = arrival-goes fate frame w.adapter occurs.0 can
 event-goes (Accesses (Reads offset value)) w counted occurs can = found-read (register_at offset) w.adapter can
 event-goes (Accesses (Writes offset value)) w counted occurs can =
     found-written (register_at offset) value w.adapter (all-head (IsCounted _ _) (Writes offset value) [] counted) can

@@ -93,6 +93,7 @@ step-receives RxData wire_free outcome.Moved w answers = record {
   kilobytes = refl;
   fates = (length (drop 1 w.adapter.receiver.buffer), one-fewer w.adapter.receiver.buffer answers.0.ready.frames, refl);
 }
+step-receives RxData wire_free outcome.Part w answers = same w.adapter _ refl refl refl
 step-receives RxData wire_free outcome.Fault w answers = same w.adapter _ refl refl refl
 step-receives RxData wire_free _ w answers = receives-none w.adapter
 step-receives RxDone wire_free outcome.Moved w answers = absurd answers

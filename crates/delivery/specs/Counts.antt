@@ -1,6 +1,6 @@
 -- What is counted of a host's adapter, and what outcomes and accesses leave of it (our choice).
-use Rattle.std.specs.Prelude.{◌+◌, ◌-◌, ◌%◌, ℕ, suc, Bool, true, false, Option, Some, List, [], ◌∷◌, bit_and, is_some, length, max}
-use Rattle.std.specs.Prelude.{if◌then◌else◌}
+use Rattle.std.specs.Prelude.{◌+◌, ◌-◌, ◌%◌, ◌++◌, ℕ, suc, Bool, true, false, Option, Some, List, [], ◌∷◌, bit_and, drop, is_some}
+use Rattle.std.specs.Prelude.{length, map, max, if◌then◌else◌}
 use Rattle.descriptors.specs.declared.ring.Ring.{Ring}
 use Rattle.descriptors.specs.Ring.{count_of, distance_of}
 use Rattle.eeprom.specs.Eerd.{is_pending}
@@ -9,6 +9,7 @@ use Rattle.mdic_phy.specs.declared.phy.Negotiation.TheVariants.{NotStarted, Runn
 use Rattle.mdic_phy.specs.Mdic.{MdicState, phy_after_tick}
 use Rattle.mdic_phy.specs.Phy.{PhyState}
 use Rattle.rx_engine.specs.Arriving.{kept}
+use Rattle.rx_engine.specs.Moving.{buffer_bytes}
 use Rattle.adapter.specs.declared.register.Register.{Register}
 use Rattle.adapter.specs.declared.register.Register.TheVariants.{Receive, Transmit}
 use Rattle.adapter.specs.declared.register.RingRegister.TheVariants.{Tail}
@@ -22,7 +23,7 @@ use Rattle.bus.specs.declared.event.Access.TheVariants.{Loads, Reads, Stores, Wr
 use Rattle.bus.specs.declared.event.Event.{Event}
 use Rattle.bus.specs.declared.event.Event.TheVariants.{Accesses, Arrives, Steps}
 use Rattle.adapter.specs.Outcomes.{FrameOutcome}
-use Rattle.adapter.specs.declared.outcome.Outcome.TheVariants.{Done, Moved, Put, Ticked, Took}
+use Rattle.adapter.specs.declared.outcome.Outcome.TheVariants.{Done, Moved, Part, Put, Ticked, Took}
 
 -- The numbers.
 
@@ -38,9 +39,11 @@ pub record RingCounts : Type 0 where
 -- of the side that receives
 pub record ReceiveCounts : Type 0 where
   pub ring : RingCounts
-  -- the frames in the packet buffer
-  pub buffered : ℕ
-  -- whether a frame is in work
+  -- the size of a receive buffer in bytes, by RCTL.BSIZE
+  pub buffer_size : ℕ
+  -- of each frame in the packet buffer, oldest first, how many bytes are still to be moved
+  pub left : List ℕ
+  -- whether a piece is in progress
   pub is_working : Bool
 
 -- of the side that transmits
@@ -71,11 +74,16 @@ abbrev pub ticks_left : MdicState → PhyState → ℕ
 ticks_left mdic phy = if is_some mdic.pending then suc (negotiation_ticks (phy_after_tick mdic phy).negotiation)
     else negotiation_ticks phy.negotiation
 
+abbrev pub bytes_left : (moved : ℕ) → List (List ℕ) → List ℕ
+bytes_left moved [] = []
+bytes_left moved (frame ∷ later) = (length frame - moved) ∷ map length later
+
 abbrev pub counts_of : AdapterState → HostCounts
 counts_of state = record {
   receive = record {
     ring = ring_counts (ring_of state.receive_ring);
-    buffered = length state.receiver.buffer;
+    buffer_size = buffer_bytes state.filter.rctl;
+    left = bytes_left state.receiver.moved state.receiver.buffer;
     is_working = is_some state.receiver.work;
   };
   transmit = record { ring = ring_counts (ring_of state.transmit_ring); buffered = length state.transmitter.buffer };
@@ -97,6 +105,15 @@ moved_on_by ring tail = (tail + ring.slots - ring.tail) % ring.slots
 abbrev pub with_tail : ℕ → RingCounts → RingCounts
 with_tail tail ring = record ring { tail = tail; offered = (ring.offered + moved_on_by ring tail) % ring.slots }
 
+-- of the oldest frame so many bytes were moved
+abbrev pub after_piece : (size : ℕ) → List ℕ → List ℕ
+after_piece size [] = []
+after_piece size (oldest ∷ later) = (oldest - size) ∷ later
+
+-- the adapter took a receive slot for a piece, and these bytes are left
+abbrev pub with_piece : (left : List ℕ) → ReceiveCounts → ReceiveCounts
+with_piece left counts = record counts { ring = one_fewer counts.ring; left = left; is_working = true }
+
 abbrev pub after_tick : StepKind → HostCounts → HostCounts
 after_tick EepromTick counts = record counts { is_reading = false }
 after_tick PhyTick counts = record counts { phy_ticks = counts.phy_ticks - 1 }
@@ -108,8 +125,9 @@ after_outcome kind Took counts =
     record counts { transmit = record { ring = one_fewer counts.transmit.ring; buffered = counts.transmit.buffered + 1 } }
 after_outcome kind (Put frame) counts =
     record counts { transmit = record counts.transmit { buffered = counts.transmit.buffered - 1 } }
-after_outcome kind Moved counts =
-    record counts { receive = record { ring = one_fewer counts.receive.ring; buffered = counts.receive.buffered - 1; is_working = true } }
+after_outcome kind Part counts =
+    record counts { receive = with_piece (after_piece counts.receive.buffer_size counts.receive.left) counts.receive }
+after_outcome kind Moved counts = record counts { receive = with_piece (drop 1 counts.receive.left) counts.receive }
 after_outcome kind Done counts = record counts { receive = record counts.receive { is_working = false } }
 after_outcome kind Ticked counts = after_tick kind counts
 after_outcome kind _ counts = counts
@@ -136,7 +154,7 @@ after_access (Stores address bytes) counts = counts
 abbrev pub counts_after : Event → HostCounts → HostCounts
 counts_after (Steps kind wire_free answer) counts = after_outcome kind answer counts
 counts_after (Arrives frame fate) counts =
-    record counts { receive = record counts.receive { buffered = counts.receive.buffered + length (kept fate frame) } }
+    record counts { receive = record counts.receive { left = counts.receive.left ++ map length (kept fate frame) } }
 counts_after (Accesses access) counts = after_access access counts
 
 -- what events leave, one after the other

@@ -1,5 +1,5 @@
 -- What each tick answers, judged by counting (our choice).
-use Rattle.std.specs.Prelude.{◌≡◌, ◌==◌, ◌||◌, ◌++◌, not, ℕ, Bool, List, [], ◌∷◌, MatchBool, if◌then◌else◌}
+use Rattle.std.specs.Prelude.{◌≡◌, ◌==◌, ◌||◌, ◌++◌, not, ℕ, Bool, List, [], ◌∷◌, MatchBool, length, nat_le, if◌then◌else◌}
 use Rattle.rx_engine.specs.declared.arrival.Fate.{Fate}
 use Rattle.adapter.specs.declared.step.StepKind.{StepKind}
 use Rattle.adapter.specs.declared.step.StepKind.TheVariants.{TxTake, TxPut, RxData, RxDone, EepromTick, PhyTick}
@@ -7,7 +7,7 @@ use Rattle.adapter.specs.Transmitting.{IsOldest}
 use Rattle.stations.specs.AtomicSteps.{AtomicStep, after, outcome_of, tick_of}
 use Rattle.stations.specs.Stations.{StationState, world_at}
 use Rattle.adapter.specs.Outcomes.{FrameOutcome}
-use Rattle.adapter.specs.declared.outcome.Outcome.TheVariants.{Delivered, Done, Moved, Nothing, Put, Ticked, Took, WireFull}
+use Rattle.adapter.specs.declared.outcome.Outcome.TheVariants.{Delivered, Done, Moved, Nothing, Part, Put, Ticked, Took, WireFull}
 use Rattle.stations.specs.declared.tick.Tick.{Tick}
 use Rattle.stations.specs.declared.tick.Tick.TheVariants.{Deliver, Go, Step}
 use Rattle.stations.specs.AtomicRuns.{events_at}
@@ -26,9 +26,18 @@ nothing_if is_idle outcome = if is_idle then Nothing else outcome
 abbrev pub has_nothing_to_take : TransmitCounts → Bool
 has_nothing_to_take counts = counts.buffered == transmit_room || counts.ring.offered == 0
 
--- a frame is in work, the receive packet buffer is empty, or no slot is offered
+-- a piece is in progress, the receive packet buffer is empty, or no slot is offered
 abbrev pub has_nothing_to_move : ReceiveCounts → Bool
-has_nothing_to_move counts = counts.is_working || (counts.buffered == 0 || counts.ring.offered == 0)
+has_nothing_to_move counts = counts.is_working || (length counts.left == 0 || counts.ring.offered == 0)
+
+-- how many bytes of the oldest frame are still to be moved
+abbrev pub left_of_oldest : List ℕ → ℕ
+left_of_oldest [] = 0
+left_of_oldest (oldest ∷ later) = oldest
+
+-- If there is a frame to move: Moved for its last piece, else Part.
+abbrev pub moved_or_part : ReceiveCounts → FrameOutcome
+moved_or_part counts = if nat_le (left_of_oldest counts.left) counts.buffer_size then Moved else Part
 
 -- what stations are left by these atomic steps
 abbrev pub stations_behind : List AtomicStep → List StationState → List StationState
@@ -47,7 +56,8 @@ abbrev pub IsStepAnswer : (start : List StationState) (before : List AtomicStep)
 IsStepAnswer start before host counts TxTake outcome = outcome ≡ nothing_if (has_nothing_to_take counts.transmit) Took
 IsStepAnswer start before host counts TxPut outcome =
     MatchBool (counts.transmit.buffered == 0) (outcome ≡ Nothing) (IsPutAnswer start before host outcome)
-IsStepAnswer start before host counts RxData outcome = outcome ≡ nothing_if (has_nothing_to_move counts.receive) Moved
+IsStepAnswer start before host counts RxData outcome =
+    outcome ≡ nothing_if (has_nothing_to_move counts.receive) (moved_or_part counts.receive)
 IsStepAnswer start before host counts RxDone outcome = outcome ≡ nothing_if (not counts.receive.is_working) Done
 IsStepAnswer start before host counts EepromTick outcome = outcome ≡ nothing_if (not counts.is_reading) Ticked
 IsStepAnswer start before host counts PhyTick outcome = outcome ≡ nothing_if (counts.phy_ticks == 0) Ticked

@@ -1,5 +1,5 @@
 -- What a frame, and the offer of its buffer, make of a lane.
-use Rattle.std.proofs.Common.{◌≡◌, ◌≤◌, ◌<◌, ◌+◌, ◌*◌, ◌^◌, ◌⊎◌, inl, inr, ℕ, List, length, sym, ap, subst, ◌∙◌, arith}
+use Rattle.std.proofs.Common.{◌≡◌, ◌≤◌, ◌<◌, ◌+◌, ◌*◌, ◌^◌, ◌⊎◌, inl, inr, ℕ, true, List, length, sym, ap, subst, ◌∙◌, arith}
 use Rattle.std.proofs.lemmas.Bool.{cases_lt}
 use Rattle.dma_memory.specs.Areas.{AreApart, area_at, descriptor_area}
 use Rattle.dma_memory.specs.HostMemory.{bytes_at, with_bytes, LiesIn}
@@ -10,7 +10,7 @@ use Rattle.descriptors.specs.RxDesc.{rx_desc_of, rx_desc_bytes, Fits}
 use Rattle.descriptors.specs.Laws.{rx_desc_of-rx_desc_bytes, length-rx_desc_bytes}
 use Rattle.rx_engine.specs.Descriptors.{descriptor_at, named_address}
 use Rattle.rx_engine.specs.Finishing.{finished_bytes, IsFinished}
-use Rattle.rx_engine.specs.Laws.{descriptor_at-apart, descriptor_at-finished, frame_of_work-moved, written_back-finished}
+use Rattle.rx_engine.specs.Laws.{bytes_of_work-moved, descriptor_at-apart, descriptor_at-finished, written_back-finished}
 use Rattle.pcap_bench.specs.Lane.{slots, buffer_at, offered, NameBuffers}
 
 -- ---- where things lie
@@ -34,7 +34,7 @@ abbrev pub with_frame : List ℕ → ℕ → List ℕ → List ℕ
 with_frame memory slot frame = with_bytes memory (named_address memory (16 * slot)) frame
 
 abbrev pub with_finished : List ℕ → ℕ → List ℕ → List ℕ
-with_finished memory slot frame = with_bytes (with_frame memory slot frame) (16 * slot + 8) (finished_bytes (length frame))
+with_finished memory slot frame = with_bytes (with_frame memory slot frame) (16 * slot + 8) (finished_bytes (length frame) true)
 
 -- The place of the frame lies in memory, behind the descriptors.
 pub record HasRoom (memory : List ℕ) (slot : ℕ) (frame : List ℕ) : Type 0 where
@@ -62,9 +62,9 @@ kept_by_frame memory frame slot other below room =
 
 -- None but its own changes while it is written back.
 kept_by_finish : (memory : List ℕ) (slot other n : ℕ) → slot < slots → other < slots → length memory ≡ 34816 → IsOther other slot
-    → descriptor_at (with_bytes memory (16 * slot + 8) (finished_bytes n)) (16 * other) ≡ descriptor_at memory (16 * other)
+    → descriptor_at (with_bytes memory (16 * slot + 8) (finished_bytes n true)) (16 * other) ≡ descriptor_at memory (16 * other)
 kept_by_finish memory slot other n below other_below size apart =
-    descriptor_at-apart memory (finished_bytes n) (16 * other) (16 * slot + 8) (omega arith) (elim apart [
+    descriptor_at-apart memory (finished_bytes n true) (16 * other) (16 * slot + 8) (omega arith) (elim apart [
       | inl before ↦ inr (omega arith)
       | inr after ↦ inl (omega arith)
     ])
@@ -85,7 +85,8 @@ NameBuffers-finished memory frame slot below named legal room =
             let same : slot ≡ k = omega arith in
             let most = legal.most in
             let size = room.size in
-            let whole = descriptor_at-finished (with_frame memory slot frame) (16 * slot) (length frame) (omega arith) (omega arith) in
+            let whole =
+            descriptor_at-finished (with_frame memory slot frame) (16 * slot) (length frame) true (omega arith) (omega arith) in
             subst (λ (i : ℕ). named_address (with_finished memory slot frame) (16 * i)
             ≡ named_address (with_frame memory slot frame) (16 * i)) same (ap (λ (d : RxDesc). d.address) whole) ∙ middle
       ]
@@ -95,11 +96,11 @@ pub length-finished : (memory frame : List ℕ) (slot : ℕ) → slot < slots �
     → length (with_finished memory slot frame) ≡ 34816
 length-finished memory frame slot below room =
     let size = room.size in
-    length-with_bytes (with_frame memory slot frame) (finished_bytes (length frame)) (16 * slot + 8) (omega arith) ∙ size
+    length-with_bytes (with_frame memory slot frame) (finished_bytes (length frame) true) (16 * slot + 8) (omega arith) ∙ size
 
 -- The descriptor is finished with the frame.
 pub frame_finished : (memory frame : List ℕ) (slot : ℕ) → slot < slots → length memory ≡ 34816 → NameBuffers memory → IsLegal frame
-    → HasRoom memory slot frame → IsFinished (with_finished memory slot frame) (16 * slot) frame
+    → HasRoom memory slot frame → IsFinished (with_finished memory slot frame) (16 * slot) true frame
 frame_finished memory frame slot below size named legal room =
     let middle = with_frame memory slot frame in
     let middle_size = room.size in
@@ -109,14 +110,15 @@ frame_finished memory frame slot below size named legal room =
     let apart : AreApart (area_at (named_address memory at) (length frame)) (descriptor_area at) = inr (omega arith) in
     let same : named_address middle at
     ≡ named_address memory at = ap (λ (d : RxDesc). d.address) (kept_by_frame memory frame slot slot below room) in
-    let moved : bytes_at middle (named_address middle at) (length frame) ≡ frame = frame_of_work-moved memory frame at room.lies apart in
+    let moved : bytes_at middle (named_address middle at) (length frame) ≡ frame =
+    bytes_of_work-moved memory frame at true room.lies apart in
     let place : LiesIn middle (named_address middle at) (length frame) =
     let lies = room.lies in
     subst (λ (i : ℕ). LiesIn middle i (length frame)) (sym same) (omega arith) in
     let stays : AreApart (area_at (named_address middle at) (length frame)) (descriptor_area at) = subst
     (λ (i : ℕ). AreApart (area_at i (length frame)) (descriptor_area at)) (sym same) apart in
-    subst (IsFinished (with_finished memory slot frame) at) moved
-    (written_back-finished middle at (length frame) (omega arith) (desc_lies middle slot below middle_size)
+    subst (IsFinished (with_finished memory slot frame) at true) moved
+    (written_back-finished middle at (length frame) true (omega arith) (desc_lies middle slot below middle_size)
     (record { place = place; apart = stays }))
 
 -- ---- a buffer is offered

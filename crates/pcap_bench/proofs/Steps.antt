@@ -1,17 +1,21 @@
 -- A frame's way through the adapter of a lane.
-use Rattle.std.proofs.Common.{◌≡◌, ◌≤◌, ◌<◌, ◌+◌, ◌*◌, ◌%◌, ℕ, List, length, Bool, true, leb, refl, sym, ap, subst, ◌∙◌, arith}
+use Rattle.std.proofs.Common.{◌≡◌, ◌<◌, ◌+◌, ◌-◌, ◌*◌, ◌%◌, ℕ, List, length, Bool, true, leb, take, refl, sym, ap, subst, ◌∙◌, arith}
 use Rattle.std.specs.Prelude.{if◌then◌else◌}
 use Rattle.std.proofs.lemmas.Bool.{le-leb}
+use Rattle.std.proofs.lemmas.List.{take_all}
 use Rattle.registers.specs.ReceiveControl.{buffer_size_of}
 use Rattle.dma_memory.specs.HostMemory.{with_bytes, LiesIn}
 use Rattle.descriptors.specs.Frames.{IsLegal}
 use Rattle.rx_engine.specs.Descriptors.{named_address}
 use Rattle.rx_engine.specs.Receiver.{Receiver, new_receiver}
 use Rattle.rx_engine.specs.Finishing.{finished_bytes}
+use Rattle.rx_engine.specs.Moving.{next_piece}
+use Rattle.rx_engine.specs.declared.arrival.Fate.{Fate}
 use Rattle.rx_engine.specs.declared.arrival.Fate.TheVariants.{Stored}
 use Rattle.adapter.specs.declared.ring.RingRegisters.{RingRegisters}
 use Rattle.adapter.specs.declared.outcome.Outcome.TheVariants.{Moved, Done}
-use Rattle.adapter.specs.Receiving.{after_arrive, after_data, after_done, memory_after_data_step, memory_after_done_step, CanMoveFrame}
+use Rattle.adapter.specs.Receiving.{after_arrive, after_data, after_done, memory_after_data_step, memory_after_done_step, is_last_piece}
+use Rattle.adapter.specs.Receiving.{CanMovePiece}
 use Rattle.adapter.specs.State.{AdapterState}
 use Rattle.pcap_bench.specs.Lane.{slots, buffer_at, ring_at, HasFrame, IsLane, IsReceiving, IsWaiting, LaneState, NameBuffers}
 use Rattle.pcap_bench.proofs.Lanes.{HasRoom, frame_finished, length-finished, length-offer, with_finished, with_frame, with_offer}
@@ -29,7 +33,7 @@ is_calm state head slot room idle ring =
     ∙ ap (λ (e : Receiver). record state { receive_kilobytes = 48; receiver = e }) idle
     ∙ ap (λ (r : RingRegisters). record state { receive_kilobytes = 48; receiver = new_receiver; receive_ring = r }) ring
 
-pub calm_of : (lane : LaneState) → IsLane lane → IsWaiting lane → lane.adapter ≡ calm lane.adapter lane.slot lane.slot
+calm_of : (lane : LaneState) → IsLane lane → IsWaiting lane → lane.adapter ≡ calm lane.adapter lane.slot lane.slot
 calm_of lane is waiting =
     is_calm lane.adapter lane.slot lane.slot is.room is.idle (is.ring ∙ ap (λ (head : ℕ). ring_at head lane.slot) waiting)
 
@@ -37,25 +41,43 @@ calm_of lane is waiting =
 abbrev pub with_stored : AdapterState → ℕ → List ℕ → AdapterState
 with_stored state slot frame = after_arrive Stored frame (calm state slot slot)
 
+pub is_stored : (lane : LaneState) (frame : List ℕ) (fate : Fate) (after : AdapterState) → IsLane lane → IsWaiting lane
+    → after ≡ after_arrive fate frame lane.adapter → fate ≡ Stored → after ≡ with_stored lane.adapter lane.slot frame
+is_stored lane frame fate after is waiting arrives stored =
+    arrives ∙ ap (λ (f : Fate). after_arrive f frame lane.adapter) stored ∙ ap (after_arrive Stored frame) (calm_of lane is waiting)
+
 -- A ring at address 0 has its descriptors from there on.
 at_slot : (slot : ℕ) → 0 + 16 * slot ≡ 16 * slot
 at_slot slot = omega arith
 
+-- A buffer has room for a whole frame, so the frame is moved in one piece.
+pub one_piece : (state : AdapterState) (frame : List ℕ) (slot : ℕ) → IsReceiving state.filter.rctl → IsLegal frame
+    → next_piece state.filter.rctl (with_stored state slot frame).receiver ≡ frame
+one_piece state frame slot receiving legal =
+    let most = legal.most in
+    ap (λ (code : ℕ). take (buffer_size_of code) frame) receiving.size ∙ take_all 2048 frame (omega arith)
+
+pub last_piece : (state : AdapterState) (frame : List ℕ) (slot : ℕ) → IsReceiving state.filter.rctl → IsLegal frame
+    → is_last_piece (with_stored state slot frame) ≡ true
+last_piece state frame slot receiving legal =
+    let most = legal.most in
+    ap (λ (code : ℕ). leb (length frame - 0) (buffer_size_of code)) receiving.size ∙ le-leb (length frame - 0) 2048 (omega arith)
+
 -- The frame can be moved to memory.
 pub can_move : (state : AdapterState) (memory frame : List ℕ) (slot : ℕ) → IsReceiving state.filter.rctl → slot < slots
     → length memory ≡ 34816 → IsLegal frame → HasRoom memory slot frame
-    → CanMoveFrame memory (with_stored state slot frame)
+    → CanMovePiece memory (with_stored state slot frame)
 can_move state memory frame slot receiving below size legal room =
-    let most = legal.most in
     record {
       indices = record { head = omega arith; tail = omega arith };
       descriptor = omega arith;
-      place = subst (λ (at : ℕ). LiesIn memory (named_address memory at) (length frame)) (sym (at_slot slot)) room.lies;
+      place = subst (λ (piece : List ℕ). LiesIn memory (named_address memory (0 + 16 * slot)) (length piece))
+          (sym (one_piece state frame slot receiving legal))
+          (subst (λ (at : ℕ). LiesIn memory (named_address memory at) (length frame)) (sym (at_slot slot)) room.lies);
       not_extended = receiving.not_extended;
-      size = subst (λ (code : ℕ). length frame ≤ buffer_size_of code) (sym receiving.size) (omega arith);
     }
 
--- the lane behind both steps
+-- the lane after both steps
 abbrev pub after_steps : AdapterState → List ℕ → List ℕ → ℕ → LaneState
 after_steps state memory frame slot = record {
   adapter = after_done Done (after_data Moved (with_stored state slot frame));
@@ -63,14 +85,21 @@ after_steps state memory frame slot = record {
   slot = slot;
 }
 
-pub memory_is : (state : AdapterState) (memory frame : List ℕ) (slot : ℕ) → slot < slots → HasRoom memory slot frame
+-- memory after both, by the descriptor's address and the piece
+abbrev with_piece : List ℕ → ℕ → List ℕ → List ℕ
+with_piece memory at piece =
+    let moved = with_bytes memory (named_address memory at) piece in
+    if leb (at + 16) (length moved) then with_bytes moved (at + 8) (finished_bytes (length piece) true) else moved
+
+pub memory_is : (state : AdapterState) (memory frame : List ℕ) (slot : ℕ) → IsReceiving state.filter.rctl → slot < slots → IsLegal frame
+    → HasRoom memory slot frame
     → memory_after_done_step (memory_after_data_step Moved memory (with_stored state slot frame))
     (after_data Moved (with_stored state slot frame)) ≡ with_finished memory slot frame
-memory_is state memory frame slot below room =
+memory_is state memory frame slot receiving below legal room =
     let size = room.size in
     let within : leb (16 * slot + 16) (length (with_frame memory slot frame)) ≡ true = le-leb _ _ (omega arith) in
-    ap (λ (at : ℕ). (let moved = with_bytes memory (named_address memory at) frame in if leb (at + 16) (length moved) then with_bytes moved
-    (at + 8) (finished_bytes (length frame)) else moved)) (at_slot slot)
+    ap (with_piece memory (0 + 16 * slot)) (one_piece state frame slot receiving legal)
+    ∙ ap (λ (at : ℕ). with_piece memory at frame) (at_slot slot)
     ∙ ap (λ (lies : Bool). if lies then with_finished memory slot frame else with_frame memory slot frame) within
 
 pub record Received (lane : LaneState) (frame : List ℕ) : Type 0 where

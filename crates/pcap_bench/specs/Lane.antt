@@ -1,6 +1,6 @@
 -- An adapter that receives into a host's memory, with the driver that empties its ring: eight descriptors, each with its buffer. (Intel's
 -- manual, "3.2.6 Receive Descriptor Queue Structure"; the ring's size and places here are own)
-use Rattle.std.specs.Prelude.{◌≡◌, ◌<◌, ◌+◌, ◌*◌, ◌%◌, ℕ, List, length}
+use Rattle.std.specs.Prelude.{◌≡◌, ◌<◌, ◌+◌, ◌*◌, ◌%◌, ℕ, List, length, true}
 use Rattle.registers.specs.Bits.{HasBit, field}
 use Rattle.dma_memory.specs.HostMemory.{bytes_at}
 use Rattle.descriptors.specs.declared.rx_desc.RxDesc.{RxDesc}
@@ -64,7 +64,7 @@ slot_desc lane = descriptor_at lane.memory (16 * lane.slot)
 abbrev pub slot_bytes : LaneState → List ℕ
 slot_bytes lane = bytes_at lane.memory (slot_desc lane).address (slot_desc lane).length
 
--- The adapter has finished the descriptor at the driver's slot with a frame, and has moved on.
+-- The adapter has finished the descriptor at the driver's slot with a whole frame, and has moved on.
 pub record HasFrame (lane : LaneState) (frame : List ℕ) : Type 0 where
   pub head : lane.adapter.receive_ring.head ≡ (lane.slot + 1) % slots
-  pub finished : IsFinished lane.memory (16 * lane.slot) frame
+  pub finished : IsFinished lane.memory (16 * lane.slot) true frame

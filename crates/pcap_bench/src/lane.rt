@@ -1,5 +1,5 @@
 //! An adapter that receives into a host's memory, with the driver that empties its ring.
-ghost use Rattle.std.specs.Prelude.{◌≡◌, ◌↔◌, ◌+◌, ◌*◌, ◌%◌, IsTrue, IfOk};
+ghost use Rattle.std.specs.Prelude.{◌≡◌, ◌↔◌, ◌+◌, ◌*◌, ◌%◌, true, IsTrue, IfOk};
 ghost use Rattle.descriptors.specs.Frames.{padded, is_sendable, IsLegal};
 ghost use Rattle.descriptors.specs.RxStatus.{status_bits};
 ghost use Rattle.rx_engine.specs.Descriptors.{descriptor_at};
@@ -7,7 +7,7 @@ ghost use Rattle.rx_engine.specs.FilterLaws.{SameSets};
 ghost use Rattle.rx_engine.specs.Passing.{Passes};
 ghost use Rattle.rx_engine.specs.Registers.{filter_of};
 ghost use Rattle.adapter.specs.Receiving.{after_data, after_done, memory_after_data_step, memory_after_done_step};
-ghost use Rattle.adapter.specs.Receiving.{CanMoveFrame, HasFrameAndDescriptor};
+ghost use Rattle.adapter.specs.Receiving.{is_last_piece, CanMovePiece, HasFrameAndDescriptor};
 ghost use Rattle.adapter.specs.declared.outcome.Outcome.TheVariants.{Moved, Done};
 ghost use Rattle.pcap_bench.specs.Lane.{ring_at, slot_bytes, slot_desc, HasFrame, IsWaiting};
 ghost use Rattle.pcap_bench.specs.Options.{filter_for, HasVlanNumber};
@@ -64,10 +64,12 @@ fn write_ring(adapter: &mut Adapter, layout: &Layout)
     adapter.write(RDT, u32::from(SLOTS - 1));
 }
 
-/// Takes the two steps that bring the oldest frame of the packet buffer to memory and finish its descriptor.
+/// Takes the two steps that bring the oldest frame of the packet buffer to memory, in one piece, and finish its
+/// descriptor.
 fn finish_frame(adapter: &mut Adapter, memory: &mut HostMemory)
     requires frame { HasFrameAndDescriptor adapter.old }
-    requires place { CanMoveFrame memory.old adapter.old }
+    requires place { CanMovePiece memory.old adapter.old }
+    requires last { is_last_piece adapter.old ≡ true }
     ensures adapter { adapter.new ≡ after_done Done (after_data Moved adapter.old) }
     ensures memory { memory.new
         ≡ memory_after_done_step (memory_after_data_step Moved memory.old adapter.old)

@@ -1,7 +1,7 @@
 -- The done step of the receive engine ("3.2.3 Receive Descriptor Format").
-use Rattle.std.specs.Prelude.{◌≡◌, ◌+◌, ◌++◌, ℕ, List, [], ◌∷◌, length, nat_le, Option, None, Some, if◌then◌else◌}
+use Rattle.std.specs.Prelude.{◌≡◌, ◌+◌, ◌++◌, ℕ, List, [], ◌∷◌, length, nat_le, Option, None, Some, Bool, true, false, if◌then◌else◌}
 use Rattle.byteorder.specs.Endian.{little_bytes}
-use Rattle.registers.specs.Bits.{HasBit, union}
+use Rattle.registers.specs.Bits.{HasBit, is_set, union}
 use Rattle.registers.specs.Places.{alone}
 use Rattle.dma_memory.specs.Areas.{area_at, descriptor_area, AreApart}
 use Rattle.dma_memory.specs.HostMemory.{bytes_at, with_bytes, LiesIn}
@@ -10,36 +10,39 @@ use Rattle.rx_engine.specs.Descriptors.{descriptor_at, named_address}
 use Rattle.rx_engine.specs.Receiver.{Receiver}
 use Rattle.rx_engine.specs.declared.engine.Work.{Work}
 
--- the status of a finished descriptor: DD and EOP (3.2.3.1)
-abbrev pub finished_status : ℕ
-finished_status = union (alone dd) (alone eop)
+-- the status of a finished descriptor: DD, and EOP if the frame ends in it (3.2.3.1)
+abbrev pub finished_status : Bool → ℕ
+finished_status true = union (alone dd) (alone eop)
+finished_status false = alone dd
 
 -- bytes 8 to 15 of a finished descriptor: the length, checksum 0, the status, errors 0, special 0
-abbrev pub finished_bytes : ℕ → List ℕ
-finished_bytes n = little_bytes 2 n ++ 0 ∷ 0 ∷ finished_status ∷ 0 ∷ 0 ∷ 0 ∷ []
+abbrev pub finished_bytes : ℕ → Bool → List ℕ
+finished_bytes n ends = little_bytes 2 n ++ 0 ∷ 0 ∷ finished_status ends ∷ 0 ∷ 0 ∷ 0 ∷ []
 
--- the engine after a done step: no frame is in work
+-- the engine after a done step: no piece is in progress
 abbrev pub engine_after_done : Receiver → Receiver
 engine_after_done engine = record engine { work = None }
 
--- Memory after a done step: bytes 8 to 15 of the descriptor in work are written. In a memory that ends before the descriptor's end
+-- Memory after a done step: bytes 8 to 15 of the descriptor in progress are written. In a memory that ends before the descriptor's end
 -- nothing is written.
 abbrev pub memory_after_done : Option Work → List ℕ → List ℕ
 memory_after_done None memory = memory
 memory_after_done (Some work) memory =
-    if nat_le (work.descriptor + 16) (length memory) then with_bytes memory (work.descriptor + 8) (finished_bytes work.length) else memory
+    if nat_le (work.descriptor + 16) (length memory)
+    then with_bytes memory (work.descriptor + 8) (finished_bytes work.length work.ends)
+    else memory
 
 -- so many bytes at the address that a descriptor names lie in memory, apart from that descriptor
 pub record StandsApart (memory : List ℕ) (descriptor n : ℕ) : Type 0 where
   pub place : LiesIn memory (named_address memory descriptor) n
   pub apart : AreApart (area_at (named_address memory descriptor) n) (descriptor_area descriptor)
 
--- the descriptor at an address is finished with a frame: it is done, holds the end of its packet and had no error, and its
--- address and length name the frame
-pub record IsFinished (memory : List ℕ) (descriptor : ℕ) (frame : List ℕ) : Type 0 where
+-- the descriptor at an address is finished with a piece of a frame: it is done, tells whether the frame ends in it, had no error, and its
+-- address and length name the piece
+pub record IsFinished (memory : List ℕ) (descriptor : ℕ) (ends : Bool) (piece : List ℕ) : Type 0 where
   -- DD and EOP (3.2.3.1)
   pub done : HasBit (status_bits (descriptor_at memory descriptor).status) dd
-  pub ended : HasBit (status_bits (descriptor_at memory descriptor).status) eop
+  pub ended : is_set (status_bits (descriptor_at memory descriptor).status) eop ≡ ends
   pub has_no_errors : (descriptor_at memory descriptor).errors ≡ 0
-  pub length : (descriptor_at memory descriptor).length ≡ length frame
-  pub bytes : bytes_at memory (named_address memory descriptor) (descriptor_at memory descriptor).length ≡ frame
+  pub length : (descriptor_at memory descriptor).length ≡ length piece
+  pub bytes : bytes_at memory (named_address memory descriptor) (descriptor_at memory descriptor).length ≡ piece

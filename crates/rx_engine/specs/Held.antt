@@ -1,5 +1,6 @@
--- The frames that the receive engine holds: on their way from the wire to a finished descriptor (our choice).
-use Rattle.std.specs.Prelude.{◌≡◌, ◌++◌, ℕ, List, [], ◌∷◌, length, Option, None, Some}
+-- The frames between the wire and the driver: in finished slots that the driver hasn't taken, in progress, and in the packet buffer (our
+-- choice).
+use Rattle.std.specs.Prelude.{◌≡◌, ◌++◌, ℕ, Bool, true, false, List, [], ◌∷◌, length, take, Option, None, Some}
 use Rattle.std.specs.Option.{ForSome}
 use Rattle.dma_memory.specs.Areas.{Area, area_at, descriptor_area, AreApart, ChangesOnly}
 use Rattle.dma_memory.specs.HostMemory.{bytes_at, with_bytes, LiesIn}
@@ -7,77 +8,113 @@ use Rattle.descriptors.specs.declared.ring.Ring.{Ring}
 use Rattle.descriptors.specs.Ring.{address_of}
 use Rattle.rx_engine.specs.Arriving.{kept, after_arrival}
 use Rattle.rx_engine.specs.Descriptors.{named_address}
+use Rattle.rx_engine.specs.Pieces.{Piece, begun_of, frames_of}
+use Rattle.rx_engine.specs.Pieces.Piece.{Last, Part}
 use Rattle.rx_engine.specs.Receiver.{Receiver, IsReceiver, oldest}
 use Rattle.rx_engine.specs.Finishing.{engine_after_done, memory_after_done, StandsApart, IsFinished}
-use Rattle.rx_engine.specs.Moving.{HasFrameToMove, CanMove, IsMoved, engine_after_data, memory_after_data}
+use Rattle.rx_engine.specs.Moving.{HasFrameToMove, CanMove, engine_after_data, is_last, memory_after_data, next_piece}
 use Rattle.rx_engine.specs.declared.arrival.Fate.{Fate}
 use Rattle.rx_engine.specs.declared.data.Data.{Data}
+use Rattle.rx_engine.specs.declared.data.Data.TheVariants as answers
 use Rattle.rx_engine.specs.declared.engine.Work.{Work}
 
--- the frame in work as it stands in memory: the bytes at the address that its descriptor names
-abbrev pub frame_of_work : List ℕ → Work → List ℕ
-frame_of_work memory work = bytes_at memory (named_address memory work.descriptor) work.length
+-- the bytes of the piece in progress, at the address that its descriptor names
+abbrev pub bytes_of_work : List ℕ → Work → List ℕ
+bytes_of_work memory work = bytes_at memory (named_address memory work.descriptor) work.length
 
-abbrev pub in_work : List ℕ → Option Work → List (List ℕ)
+-- a piece with these bytes, in which its frame ends or not
+abbrev pub piece_of : Bool → List ℕ → Piece
+piece_of true bytes = Last bytes
+piece_of false bytes = Part bytes
+
+abbrev pub in_work : List ℕ → Option Work → List Piece
 in_work memory None = []
-in_work memory (Some work) = frame_of_work memory work ∷ []
+in_work memory (Some work) = piece_of work.ends (bytes_of_work memory work) ∷ []
 
--- the frames that the engine holds: the frame in work, then the packet buffer, oldest first
-abbrev pub held : List ℕ → Receiver → List (List ℕ)
-held memory engine = in_work memory engine.work ++ engine.buffer
+-- the pieces in slots: the finished ones, and then the one in progress
+abbrev pub in_slots : List ℕ → List Piece → Receiver → List Piece
+in_slots memory finished engine = finished ++ in_work memory engine.work
 
--- What the steps do to that list.
+-- the frames held: those that end in slots, each with its pieces joined, then those in the packet buffer, whose oldest one counts whole
+-- until its last piece is moved
+abbrev pub held : List ℕ → List Piece → Receiver → List (List ℕ)
+held memory finished engine = frames_of (in_slots memory finished engine) ++ engine.buffer
 
--- A frame that is stored is behind the others; any other fate leaves them.
+-- After the last end, the slots contain the bytes of the packet buffer's oldest frame that are moved.
+abbrev pub HasBegun : List ℕ → List Piece → Receiver → Type 0
+HasBegun memory finished engine = begun_of (in_slots memory finished engine) ≡ take engine.moved (oldest engine.buffer)
+
+-- the same frames are held, and then these; and the slots contain the bytes of the oldest frame that are moved
+pub record Holds (before after : List (List ℕ)) (more : List (List ℕ)) (memory : List ℕ) (finished : List Piece)
+    (engine : Receiver) : Type 0 where
+  pub frames : after ≡ before ++ more
+  pub begun : HasBegun memory finished engine
+
+-- What the steps do to that list, whichever slots are finished.
+
+-- A frame that is stored is after the others; any other fate doesn't change them.
 abbrev pub ArrivalGrowsHeld : Type 0
-ArrivalGrowsHeld = (fate : Fate) (frame memory : List ℕ) (engine : Receiver)
-    → held memory (after_arrival fate frame engine) ≡ held memory engine ++ kept fate frame
+ArrivalGrowsHeld =
+    (fate : Fate) (frame memory : List ℕ) (finished : List Piece) (engine : Receiver) → IsReceiver engine → HasBegun memory finished engine
+    → Holds (held memory finished engine) (held memory finished (after_arrival fate frame engine)) (kept fate frame)
+    memory finished (after_arrival fate frame engine)
 
--- the step, where it moves a frame, had one to move and a place for it in memory, which is apart from its descriptor
-pub record MovesApart (control : ℕ) (ring : Ring) (engine : Receiver) (memory : List ℕ) : Type 0 where
+-- the step had a piece to move, and a place for it in memory that is apart from its descriptor
+pub record MovesApart (control : ℕ) (ring : Ring) (engine : Receiver) (memory : List ℕ) (last : Bool) : Type 0 where
   pub has : HasFrameToMove control ring engine
-  pub can : CanMove control ring memory (length (oldest engine.buffer))
-  pub apart : AreApart (area_at (named_address memory (address_of ring ring.head)) (length (oldest engine.buffer)))
+  pub can : CanMove control ring memory (length (next_piece control engine))
+  pub last_is : is_last control engine ≡ last
+  pub apart : AreApart (area_at (named_address memory (address_of ring ring.head)) (length (next_piece control engine)))
       (descriptor_area (address_of ring ring.head))
 
--- A data step leaves them as they are: the oldest frame of the packet buffer becomes the frame in work.
+abbrev pub MovesBy : Data → ℕ → Ring → Receiver → List ℕ → Type 0
+MovesBy answers.Nothing control ring engine memory = Unit {0}
+MovesBy (answers.Part low) control ring engine memory = MovesApart control ring engine memory false
+MovesBy (answers.Moved low) control ring engine memory = MovesApart control ring engine memory true
+MovesBy answers.Fault control ring engine memory = Unit {0}
+
+-- A data step doesn't change them: the next piece of the packet buffer's oldest frame becomes the piece in progress, and with the last one
+-- the frame leaves the packet buffer. The pieces in finished slots are the same before and after.
 abbrev pub DataKeepsHeld : Type 0
 DataKeepsHeld =
-    (control : ℕ) (ring : Ring) (engine : Receiver) (memory : List ℕ) (answer : Data)
-    → (IsMoved answer → MovesApart control ring engine memory)
-    → held (memory_after_data answer ring engine memory) (engine_after_data answer ring engine) ≡ held memory engine
+    (control : ℕ) (ring : Ring) (engine : Receiver) (memory : List ℕ) (finished : List Piece) (answer : Data)
+    → HasBegun memory finished engine → MovesBy answer control ring engine memory
+    → Holds (held memory finished engine)
+    (held (memory_after_data answer control ring engine memory) finished (engine_after_data answer control ring engine)) []
+    (memory_after_data answer control ring engine memory) finished (engine_after_data answer control ring engine)
 
--- of the frames that were held the first has gone, the others are held still, and that one stands finished at a descriptor
-pub record FinishesFirst (before after : List (List ℕ)) (memory : List ℕ) (descriptor : ℕ) : Type 0 where
-  pub frame : List ℕ
-  pub first : before ≡ frame ∷ after
-  pub finished : IsFinished memory descriptor frame
+-- the piece in progress is finished at its descriptor, and with it among the finished ones the same frames are held
+pub record Finishes (memory : List ℕ) (finished : List Piece) (engine : Receiver) (work : Work) : Type 0 where
+  pub stands : IsFinished (memory_after_done engine.work memory) work.descriptor work.ends (bytes_of_work memory work)
+  pub holds :
+      Holds (held memory finished engine)
+      (held (memory_after_done engine.work memory) (finished ++ piece_of work.ends (bytes_of_work memory work) ∷ [])
+      (engine_after_done engine))
+      [] (memory_after_done engine.work memory) (finished ++ piece_of work.ends (bytes_of_work memory work) ∷ []) (engine_after_done engine)
 
--- A done step takes the first, the frame in work, which then stands finished at its descriptor, wherever it is apart from that.
-abbrev pub DoneTakesFirst : Type 0
-DoneTakesFirst =
-    (engine : Receiver) (memory : List ℕ) → IsReceiver engine
+-- A done step doesn't change them either: the piece in progress is then a finished one, if it is apart from its descriptor.
+abbrev pub DoneKeepsHeld : Type 0
+DoneKeepsHeld =
+    (engine : Receiver) (memory : List ℕ) (finished : List Piece) → IsReceiver engine → HasBegun memory finished engine
     → ForSome engine.work (λ work. LiesIn memory work.descriptor 16 → StandsApart memory work.descriptor work.length
-    → FinishesFirst (held memory engine) (held (memory_after_done engine.work memory) (engine_after_done engine))
-    (memory_after_done engine.work memory) work.descriptor)
+    → Finishes memory finished engine work)
 
--- an area is apart from the descriptor of the frame in work, and from the frame
+-- an area is apart from the descriptor of the piece in progress, and from the piece
 pub record IsAwayFromWork (memory : List ℕ) (area : Area) (work : Work) : Type 0 where
   pub descriptor : AreApart area (descriptor_area work.descriptor)
-  pub frame : AreApart area (area_at (named_address memory work.descriptor) work.length)
+  pub piece : AreApart area (area_at (named_address memory work.descriptor) work.length)
 
--- Bytes written apart from the frame in work and its descriptor leave the frames.
-abbrev pub OtherBytesLeaveHeld : Type 0
-OtherBytesLeaveHeld =
+-- Bytes written apart from the piece in progress and its descriptor don't change the piece.
+abbrev pub OtherBytesLeaveSlots : Type 0
+OtherBytesLeaveSlots =
     (memory : List ℕ) (engine : Receiver) (place : ℕ) (bytes : List ℕ)
     → LiesIn memory place (length bytes) → ForSome engine.work (IsAwayFromWork memory (area_at place (length bytes)))
-    → held (with_bytes memory place bytes) engine ≡ held memory engine
+    → in_work (with_bytes memory place bytes) engine.work ≡ in_work memory engine.work
 
--- A descriptor that is finished with a frame stays so while only bytes change that are apart from it and from the frame. So finished
--- descriptors only grow in number.
+-- A descriptor that is finished with a piece stays so while only bytes change that are apart from it and from the piece.
 abbrev pub FinishedStays : Type 0
 FinishedStays =
-    (memory memory' : List ℕ) (area : Area) (descriptor : ℕ) (frame : List ℕ)
+    (memory memory' : List ℕ) (area : Area) (descriptor : ℕ) (ends : Bool) (piece : List ℕ)
     → ChangesOnly memory memory' area → AreApart area (descriptor_area descriptor)
-    → AreApart area (area_at (named_address memory descriptor) (length frame))
-    → IsFinished memory descriptor frame → IsFinished memory' descriptor frame
+    → AreApart area (area_at (named_address memory descriptor) (length piece))
+    → IsFinished memory descriptor ends piece → IsFinished memory' descriptor ends piece

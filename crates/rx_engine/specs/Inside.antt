@@ -4,7 +4,7 @@ use Rattle.rx_engine.specs.Receiver.{Receiver, IsReceiver}
 use Rattle.rx_engine.specs.declared.engine.RxEngine.TheInside.{Inside}
 
 abbrev pub receiver_of : Inside → Receiver
-receiver_of engine = record { buffer = engine.buffer.frames; work = engine.work; stopped = engine.stopped }
+receiver_of engine = record { buffer = engine.buffer.frames; moved = engine.moved; work = engine.work; stopped = engine.stopped }
 
 pub record IsConsistent (engine : Inside) : Type 0 where
   pub capacity : engine.buffer.capacity ≡ 24

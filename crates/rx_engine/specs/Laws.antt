@@ -1,8 +1,9 @@
 -- What the engine's steps do to the frames that it holds, and to descriptors.
-use Rattle.std.proofs.Common.{◌≡◌, ◌≤◌, ◌<◌, ◌+◌, ◌/◌, ◌%◌, ◌^◌, inl, inr, Option, None, Some, ◌++◌, ◌∷◌, [], ℕ, List, length, drop}
+use Rattle.std.proofs.Common.{◌≡◌, ◌≤◌, ◌<◌, ◌+◌, ◌/◌, ◌%◌, ◌^◌, inl, inr, Option, None, Some, ◌++◌, ◌∷◌, [], ℕ, List, length, take, drop}
+use Rattle.std.proofs.Common.{◌-◌, true, false, append_assoc, length-take, length-drop}
 use Rattle.std.proofs.Common.{slice_index, refl, sym, ap, ◌∙◌, Bool, if◌then◌else◌, arith}
-use Rattle.std.proofs.lemmas.Bool.{le-leb}
-use Rattle.std.proofs.lemmas.List.{drop_at, drop-drop, get_or-append_right}
+use Rattle.std.proofs.lemmas.Bool.{le-leb, leb-false, leb-true}
+use Rattle.std.proofs.lemmas.List.{append-nil, drop_at, drop-drop, get_or-append_right}
 use Rattle.std.specs.Option.{ForSome}
 use Rattle.byteorder.specs.Endian.{little_number}
 use Rattle.byteorder.specs.Numbers.{little_from-append, little_from-take, little_number-reads_back}
@@ -14,12 +15,22 @@ use Rattle.descriptors.specs.RxDesc.{rx_desc_of}
 use Rattle.descriptors.specs.RxStatus.{status_bits, status_of}
 use Rattle.rx_engine.specs.Descriptors.{descriptor_at, named_address}
 use Rattle.rx_engine.specs.Receiver.{oldest}
-use Rattle.rx_engine.specs.Finishing.{finished_bytes, memory_after_done, StandsApart, IsFinished}
-use Rattle.rx_engine.specs.Held.{frame_of_work, in_work, IsAwayFromWork, DataKeepsHeld, DoneTakesFirst, FinishedStays, OtherBytesLeaveHeld}
-use Rattle.rx_engine.specs.declared.data.Data.TheVariants.{Nothing, Moved, Fault}
+use Rattle.rx_engine.specs.Finishing.{finished_bytes, finished_status, memory_after_done, StandsApart, IsFinished}
+use Rattle.registers.specs.Bits.{is_set}
+use Rattle.descriptors.specs.declared.ring.Ring.{Ring}
+use Rattle.descriptors.specs.Ring.{address_of}
+use Rattle.rx_engine.specs.Receiver.{Receiver}
+use Rattle.rx_engine.specs.Moving.{buffer_bytes, left_bytes, next_piece, work_at}
+use Rattle.rx_engine.specs.Held.{bytes_of_work, held, in_slots, in_work, piece_of, ArrivalGrowsHeld, DataKeepsHeld, DoneKeepsHeld}
+use Rattle.rx_engine.specs.Held.{FinishedStays}
+use Rattle.rx_engine.specs.Held.{IsAwayFromWork, MovesApart, OtherBytesLeaveSlots}
+use Rattle.rx_engine.specs.Pieces.{Piece, begun_of, frames_of}
+use Rattle.rx_engine.specs.PieceLaws.{last-begun, last-frames, part-begun, part-frames}
+use Rattle.rx_engine.specs.declared.arrival.Fate.TheVariants.{Off, Illegal, Filtered, Missed, Stored}
+use Rattle.rx_engine.specs.declared.data.Data.TheVariants.{Nothing, Part, Moved, Fault}
 use Rattle.rx_engine.specs.declared.engine.Work.{Work}
 
--- Where the bytes of a descriptor stay, it stays.
+-- If the bytes of a descriptor stay, it stays.
 pub descriptor_at-kept : (memory memory' : List ℕ) (at : ℕ) → bytes_at memory' at 16 ≡ bytes_at memory at 16
     → descriptor_at memory' at ≡ descriptor_at memory at
 descriptor_at-kept memory memory' at same = ap rx_desc_of same
@@ -36,31 +47,113 @@ apart_behind : (at : ℕ) (area : Area) → AreApart area (descriptor_area at) �
 apart_behind at area (inl before) = inr (omega arith)
 apart_behind at area (inr after) = inl (omega arith)
 
--- A frame written apart from the descriptor at the head is the frame in work.
-pub frame_of_work-moved : (memory frame : List ℕ) (at : ℕ) → LiesIn memory (named_address memory at) (length frame)
-    → AreApart (area_at (named_address memory at) (length frame)) (descriptor_area at)
-    → frame_of_work (with_bytes memory (named_address memory at) frame) (record { descriptor = at; length = length frame }) ≡ frame
-frame_of_work-moved memory frame at lies apart =
-    let same : named_address (with_bytes memory (named_address memory at) frame) at
+-- A piece written apart from the descriptor at the head is the piece in progress.
+pub bytes_of_work-moved : (memory piece : List ℕ) (at : ℕ) (ends : Bool) → LiesIn memory (named_address memory at) (length piece)
+    → AreApart (area_at (named_address memory at) (length piece)) (descriptor_area at)
+    → bytes_of_work (with_bytes memory (named_address memory at) piece)
+    (record { descriptor = at; length = length piece; ends = ends }) ≡ piece
+bytes_of_work-moved memory piece at ends lies apart =
+    let same : named_address (with_bytes memory (named_address memory at) piece) at
     ≡ named_address memory at = ap (λ (desc : RxDesc). desc.address)
-    (descriptor_at-apart memory frame at (named_address memory at) lies apart) in
-    ap (λ (address : ℕ). bytes_at (with_bytes memory (named_address memory at) frame) address (length frame)) same
-    ∙ bytes_at-stored memory frame (named_address memory at) lies
+    (descriptor_at-apart memory piece at (named_address memory at) lies apart) in
+    ap (λ (address : ℕ). bytes_at (with_bytes memory (named_address memory at) piece) address (length piece)) same
+    ∙ bytes_at-stored memory piece (named_address memory at) lies
 
 -- A packet buffer that isn't empty is its oldest frame and the others.
 pub oldest-drop : (frames : List (List ℕ)) → ¬ (frames ≡ []) → oldest frames ∷ drop 1 frames ≡ frames
 oldest-drop [] some = absurd (some refl)
 oldest-drop (frame ∷ frames) some = refl
 
--- A data step leaves the frames that the engine holds.
+-- A frame that arrives doesn't change which bytes of the oldest one are moved.
+oldest-arrived : (frames : List (List ℕ)) (frame : List ℕ) (moved : ℕ) → moved ≤ length (oldest frames) - 1
+    → take moved (oldest (frames ++ frame ∷ [])) ≡ take moved (oldest frames)
+oldest-arrived [] frame moved begun = let none : moved ≡ 0 = omega (arith, begun) in rw none refl
+oldest-arrived (first ∷ frames) frame moved begun = refl
+
+pub held-after_arrival : ArrivalGrowsHeld
+held-after_arrival Off frame memory finished engine is begun = record {
+  frames = sym (append-nil (held memory finished engine));
+  begun = begun;
+}
+held-after_arrival Illegal frame memory finished engine is begun = record {
+  frames = sym (append-nil (held memory finished engine));
+  begun = begun;
+}
+held-after_arrival Filtered frame memory finished engine is begun = record {
+  frames = sym (append-nil (held memory finished engine));
+  begun = begun;
+}
+held-after_arrival Missed frame memory finished engine is begun = record {
+  frames = sym (append-nil (held memory finished engine));
+  begun = begun;
+}
+held-after_arrival Stored frame memory finished engine is begun = record {
+  frames = sym (append_assoc (frames_of (in_slots memory finished engine)) engine.buffer (frame ∷ []));
+  begun = begun ∙ sym (oldest-arrived engine.buffer frame engine.moved is.begun);
+}
+
+-- What is in slots after a data step, if no piece was in progress before.
+slots-moved : (control : ℕ) (ring : Ring) (engine : Receiver) (memory : List ℕ) (finished : List Piece) (ends : Bool)
+    → MovesApart control ring engine memory ends
+    → finished ++ in_work (with_bytes memory (named_address memory (address_of ring ring.head)) (next_piece control engine))
+    (Some (work_at control ring engine ends)) ≡ finished ++ piece_of ends (next_piece control engine) ∷ []
+slots-moved control ring engine memory finished ends step =
+    ap (λ (bytes : List ℕ). finished ++ piece_of ends bytes ∷ [])
+    (bytes_of_work-moved memory (next_piece control engine) (address_of ring ring.head) ends step.can.place step.apart)
+
+slots-free : (memory : List ℕ) (finished : List Piece) (work : Option Work) → work ≡ None → finished ++ in_work memory work ≡ finished
+slots-free memory finished work none = ap (λ (there : Option Work). finished ++ in_work memory there) none ∙ append-nil finished
+
+-- If more is left than a buffer's size, a buffer is filled.
+piece-full : (size moved : ℕ) (frame : List ℕ) → size < length frame - moved → length (take size (drop moved frame)) ≡ size
+piece-full size moved frame more = omega (arith, length-take size (drop moved frame), length-drop moved frame)
+
+-- A data step leaves the frames held.
 pub held-after_data : DataKeepsHeld
-held-after_data control ring engine memory Nothing moves = refl
-held-after_data control ring engine memory Fault moves = refl
-held-after_data control ring engine memory (Moved low) moves =
-    let step = moves tt in
-    let moved = frame_of_work-moved memory (oldest engine.buffer) _ step.can.place step.apart in
-    let none = step.has.ready.free in
-    rw (none, moved) (oldest-drop engine.buffer step.has.ready.frames)
+held-after_data control ring engine memory finished Nothing begun moves = record {
+  frames = sym (append-nil (held memory finished engine));
+  begun = begun;
+}
+held-after_data control ring engine memory finished Fault begun moves = record {
+  frames = sym (append-nil (held memory finished engine));
+  begun = begun;
+}
+held-after_data control ring engine memory finished (Part low) begun step =
+    let frame = oldest engine.buffer in
+    let size = buffer_bytes control in
+    let piece = next_piece control engine in
+    let free = slots-free memory finished engine.work step.has.ready.free in
+    let there = slots-moved control ring engine memory finished false step in
+    let before : begun_of finished ≡ take engine.moved frame = ap begun_of (sym free) ∙ begun in
+    let more = leb-false (left_bytes engine) size step.last_is in
+    record {
+      frames =
+          ap (λ (pieces : List Piece). frames_of pieces ++ engine.buffer) there
+          ∙ ap (λ (frames : List (List ℕ)). frames ++ engine.buffer) (part-frames finished piece)
+          ∙ ap (λ (pieces : List Piece). frames_of pieces ++ engine.buffer) (sym free)
+          ∙ sym (append-nil (held memory finished engine));
+      begun =
+          ap begun_of there ∙ part-begun finished frame engine.moved size before
+          ∙ ap (λ (n : ℕ). take (engine.moved + n) frame) (sym (piece-full size engine.moved frame more));
+    }
+held-after_data control ring engine memory finished (Moved low) begun step =
+    let frame = oldest engine.buffer in
+    let piece = next_piece control engine in
+    let rest = drop 1 engine.buffer in
+    let free = slots-free memory finished engine.work step.has.ready.free in
+    let there = slots-moved control ring engine memory finished true step in
+    let before : begun_of finished ≡ take engine.moved frame = ap begun_of (sym free) ∙ begun in
+    let short = leb-true (left_bytes engine) (buffer_bytes control) step.last_is in
+    record {
+      frames =
+          ap (λ (pieces : List Piece). frames_of pieces ++ rest) there
+          ∙ ap (λ (frames : List (List ℕ)). frames ++ rest) (last-frames finished frame engine.moved (buffer_bytes control) before short)
+          ∙ append_assoc (frames_of finished) (frame ∷ []) rest
+          ∙ ap (λ (frames : List (List ℕ)). frames_of finished ++ frames) (oldest-drop engine.buffer step.has.ready.frames)
+          ∙ ap (λ (pieces : List Piece). frames_of pieces ++ engine.buffer) (sym free)
+          ∙ sym (append-nil (held memory finished engine));
+      begun = ap begun_of there ∙ last-begun finished piece;
+    }
 
 -- Descriptors with the same fields are the same.
 same_fields : (a a' n n' c c' s s' e e' x x' : ℕ) → a ≡ a' → n ≡ n' → c ≡ c' → s ≡ s' → e ≡ e' → x ≡ x'
@@ -69,19 +162,26 @@ same_fields : (a a' n n' c c' s s' e e' x x' : ℕ) → a ≡ a' → n ≡ n' �
 same_fields a a' n n' c c' s s' e e' x x' ea en ec es ee ex = rw (ea, en, ec, es, ee, ex) refl
 
 -- The descriptor of eight bytes, which name its buffer, and those of a finished one.
-rx_desc_of-finished : (front : List ℕ) (n : ℕ) → length front ≡ 8 → n < 2 ^ 16
-    → rx_desc_of (front ++ finished_bytes n)
-    ≡ record { address = little_number 8 front; length = n; checksum = 0; status = status_of 3; errors = 0; special = 0 }
+rx_desc_of-finished : (front : List ℕ) (n : ℕ) (ends : Bool) → length front ≡ 8 → n < 2 ^ 16
+    → rx_desc_of (front ++ finished_bytes n ends)
+    ≡ record {
+      address = little_number 8 front;
+      length = n;
+      checksum = 0;
+      status = status_of (finished_status ends);
+      errors = 0;
+      special = 0;
+    }
 unfolding rx_desc_of
-rx_desc_of-finished front n eight short =
-    let rest = finished_bytes n in
+rx_desc_of-finished front n ends eight short =
+    let rest = finished_bytes n ends in
     let whole = front ++ rest in
     let address : little_number 8 whole ≡ little_number 8 front = little_from-append 8 front rest (omega arith) in
     let behind : drop 8 whole ≡ rest = drop_at front rest 8 eight in
     let length : little_number 2 (drop 8 whole) ≡ n = ap (little_number 2) behind
-    ∙ little_number-reads_back 2 n (0 ∷ 0 ∷ 3 ∷ 0 ∷ 0 ∷ 0 ∷ []) short in
+    ∙ little_number-reads_back 2 n (0 ∷ 0 ∷ finished_status ends ∷ 0 ∷ 0 ∷ 0 ∷ []) short in
     let checksum : little_number 2 (drop 10 whole) ≡ 0 = ap (little_number 2) (sym (drop-drop 2 8 whole) ∙ ap (drop 2) behind) in
-    let status : slice_index whole 12 ≡ 3 = get_or-append_right front rest 8 12 0 eight (omega arith) in
+    let status : slice_index whole 12 ≡ finished_status ends = get_or-append_right front rest 8 12 0 eight (omega arith) in
     let errors : slice_index whole 13 ≡ 0 = get_or-append_right front rest 8 13 0 eight (omega arith) in
     let special : little_number 2 (drop 14 whole) ≡ 0 = ap (little_number 2) (sym (drop-drop 6 8 whole) ∙ ap (drop 6) behind) in
     same_fields _ _ _ _ _ _ _ _ _ _ _ _ address length checksum status errors special
@@ -93,84 +193,107 @@ named_address-front memory at = little_from-take 0 8 16 (drop at memory) (omega 
     ∙ sym (little_from-take 0 8 8 (drop at memory) (omega arith))
 
 -- Once the bytes of a finished descriptor are written, it names the same buffer, and its other fields are those written.
-pub descriptor_at-finished : (memory : List ℕ) (at n : ℕ) → n < 2 ^ 16 → LiesIn memory at 16
-    → descriptor_at (with_bytes memory (at + 8) (finished_bytes n)) at
-    ≡ record { address = named_address memory at; length = n; checksum = 0; status = status_of 3; errors = 0; special = 0 }
-descriptor_at-finished memory at n short lies =
-    let memory' = with_bytes memory (at + 8) (finished_bytes n) in
+pub descriptor_at-finished : (memory : List ℕ) (at n : ℕ) (ends : Bool) → n < 2 ^ 16 → LiesIn memory at 16
+    → descriptor_at (with_bytes memory (at + 8) (finished_bytes n ends)) at
+    ≡ record {
+      address = named_address memory at;
+      length = n;
+      checksum = 0;
+      status = status_of (finished_status ends);
+      errors = 0;
+      special = 0;
+    }
+descriptor_at-finished memory at n ends short lies =
+    let memory' = with_bytes memory (at + 8) (finished_bytes n ends) in
     let lies_behind : LiesIn memory (at + 8) 8 = omega arith in
     let front : bytes_at memory' at 8
-    ≡ bytes_at memory at 8 = bytes_at-before memory (finished_bytes n) (at + 8) at 8 lies_behind (omega arith) in
-    let behind : bytes_at memory' (at + 8) 8 ≡ finished_bytes n = bytes_at-stored memory (finished_bytes n) (at + 8) lies_behind in
-    let whole : bytes_at memory' at 16 ≡ bytes_at memory at 8 ++ finished_bytes n = bytes_at-parts memory' at 8 8
+    ≡ bytes_at memory at 8 = bytes_at-before memory (finished_bytes n ends) (at + 8) at 8 lies_behind (omega arith) in
+    let behind : bytes_at memory' (at + 8) 8
+    ≡ finished_bytes n ends = bytes_at-stored memory (finished_bytes n ends) (at + 8) lies_behind in
+    let whole : bytes_at memory' at 16 ≡ bytes_at memory at 8 ++ finished_bytes n ends = bytes_at-parts memory' at 8 8
     ∙ rw (front, behind) refl in
     let count : length (bytes_at memory at 8) ≡ 8 = length-bytes_at memory at 8 (omega arith) in
-    rw (whole, named_address-front memory at) (rx_desc_of-finished (bytes_at memory at 8) n count short)
+    rw (whole, named_address-front memory at) (rx_desc_of-finished (bytes_at memory at 8) n ends count short)
 
--- A descriptor that names a frame, apart from it, is finished with the frame once it is written back.
-pub written_back-finished : (memory : List ℕ) (at n : ℕ) → n < 2 ^ 16 → LiesIn memory at 16 → StandsApart memory at n
-    → IsFinished (with_bytes memory (at + 8) (finished_bytes n)) at (bytes_at memory (named_address memory at) n)
-written_back-finished memory at n short lies stands =
-    let memory' = with_bytes memory (at + 8) (finished_bytes n) in
+-- The bits of a finished status.
+done-set : (ends : Bool) → finished_status ends / 2 ^ 0 % 2 ≡ 1
+done-set true = refl
+done-set false = refl
+
+ended-set : (ends : Bool) → is_set (finished_status ends) 1 ≡ ends
+ended-set true = refl
+ended-set false = refl
+
+-- A descriptor that names a piece, apart from it, is finished with the piece once it is written back.
+pub written_back-finished : (memory : List ℕ) (at n : ℕ) (ends : Bool) → n < 2 ^ 16 → LiesIn memory at 16 → StandsApart memory at n
+    → IsFinished (with_bytes memory (at + 8) (finished_bytes n ends)) at ends (bytes_at memory (named_address memory at) n)
+written_back-finished memory at n ends short lies stands =
+    let memory' = with_bytes memory (at + 8) (finished_bytes n ends) in
     let address = named_address memory at in
-    let desc = descriptor_at-finished memory at n short lies in
+    let desc = descriptor_at-finished memory at n ends short lies in
     let count : length (bytes_at memory address n) ≡ n = length-bytes_at memory address n stands.place in
     let lies_behind : LiesIn memory (at + 8) 8 = omega arith in
     let kept : bytes_at memory' address n
-    ≡ bytes_at memory address n = bytes_at-elsewhere memory (finished_bytes n) (at + 8) address n lies_behind
+    ≡ bytes_at memory address n = bytes_at-elsewhere memory (finished_bytes n ends) (at + 8) address n lies_behind
     (apart_behind at (area_at address n) stands.apart) in
     record {
-      done = ap (λ (d : RxDesc). status_bits d.status / 2 ^ 0 % 2) desc;
-      ended = ap (λ (d : RxDesc). status_bits d.status / 2 ^ 1 % 2) desc;
+      done = ap (λ (d : RxDesc). status_bits d.status / 2 ^ 0 % 2) desc ∙ done-set ends;
+      ended = ap (λ (d : RxDesc). is_set (status_bits d.status) 1) desc ∙ ended-set ends;
       has_no_errors = ap (λ (d : RxDesc). d.errors) desc;
       length = ap (λ (d : RxDesc). d.length) desc ∙ sym count;
       bytes = ap (λ (d : RxDesc). bytes_at memory' d.address d.length) desc ∙ kept;
     }
 
--- Where the descriptor in work lies in memory, a done step writes bytes 8 to 15 of it.
+-- If the descriptor in progress is in memory, a done step writes bytes 8 to 15 of it.
 pub memory_after_done-lies : (memory : List ℕ) (work : Work) → LiesIn memory work.descriptor 16
-    → memory_after_done (Some work) memory ≡ with_bytes memory (work.descriptor + 8) (finished_bytes work.length)
+    → memory_after_done (Some work) memory ≡ with_bytes memory (work.descriptor + 8) (finished_bytes work.length work.ends)
 memory_after_done-lies memory work lies =
-    ap (λ (test : Bool). if test then with_bytes memory (work.descriptor + 8) (finished_bytes work.length) else memory)
+    ap (λ (test : Bool). if test then with_bytes memory (work.descriptor + 8) (finished_bytes work.length work.ends) else memory)
     (le-leb (work.descriptor + 16) (length memory) (omega arith))
 
--- A done step takes the first of the frames that the engine holds, which then stands finished.
-pub held-after_done : DoneTakesFirst
-held-after_done engine memory sound work is lies stands =
+-- A done step makes the piece in progress a finished one.
+pub held-after_done : DoneKeepsHeld
+held-after_done engine memory finished sound begun work is lies stands =
     let most : work.length ≤ 1518 = sound.most work is in
     let short : work.length < 2 ^ 16 = omega arith in
-    rw (is, memory_after_done-lies memory work lies) (record {
-      frame = frame_of_work memory work;
-      first = refl;
-      finished = written_back-finished memory work.descriptor work.length short lies stands;
-    })
+    let pieces = finished ++ piece_of work.ends (bytes_of_work memory work) ∷ [] in
+    let before : in_slots memory finished engine ≡ pieces = ap (λ (there : Option Work). finished ++ in_work memory there) is in
+    let there : IsFinished (with_bytes memory (work.descriptor + 8) (finished_bytes work.length work.ends)) work.descriptor work.ends
+    (bytes_of_work memory work) = written_back-finished memory work.descriptor work.length work.ends short lies stands in
+    record {
+      stands = rw (is, memory_after_done-lies memory work lies) there;
+      holds = record {
+        frames =
+            ap (λ (list : List Piece). frames_of list ++ engine.buffer) (append-nil pieces ∙ sym before)
+            ∙ sym (append-nil (held memory finished engine));
+        begun = ap begun_of (append-nil pieces ∙ sym before) ∙ begun;
+      };
+    }
 
--- Bytes away from the frame in work and its descriptor leave the frame as it stands in memory.
-frame_of_work-away : (memory bytes : List ℕ) (place : ℕ) (work : Work) → LiesIn memory place (length bytes)
+-- Bytes away from the piece in progress and its descriptor leave the piece.
+bytes_of_work-away : (memory bytes : List ℕ) (place : ℕ) (work : Work) → LiesIn memory place (length bytes)
     → IsAwayFromWork memory (area_at place (length bytes)) work
-    → frame_of_work (with_bytes memory place bytes) work ≡ frame_of_work memory work
-frame_of_work-away memory bytes place work lies away =
+    → bytes_of_work (with_bytes memory place bytes) work ≡ bytes_of_work memory work
+bytes_of_work-away memory bytes place work lies away =
     let at = named_address memory work.descriptor in
     let same : named_address (with_bytes memory place bytes) work.descriptor
     ≡ at = ap (λ (desc : RxDesc). desc.address) (descriptor_at-apart memory bytes work.descriptor place lies away.descriptor) in
     ap (λ (address : ℕ). bytes_at (with_bytes memory place bytes) address work.length) same
-    ∙ bytes_at-elsewhere memory bytes place at work.length lies away.frame
+    ∙ bytes_at-elsewhere memory bytes place at work.length lies away.piece
 
 in_work-away : (memory bytes : List ℕ) (place : ℕ) (work : Option Work) → LiesIn memory place (length bytes)
     → ForSome work (IsAwayFromWork memory (area_at place (length bytes)))
     → in_work (with_bytes memory place bytes) work ≡ in_work memory work
 in_work-away memory bytes place None lies away = refl
-in_work-away memory bytes place (Some work) lies away = ap (λ (frame : List ℕ). frame ∷ [])
-    (frame_of_work-away memory bytes place work lies (away work refl))
+in_work-away memory bytes place (Some work) lies away = ap (λ (piece : List ℕ). piece_of work.ends piece ∷ [])
+    (bytes_of_work-away memory bytes place work lies (away work refl))
 
--- and so the frames that the engine holds.
-pub held-elsewhere : OtherBytesLeaveHeld
-held-elsewhere memory engine place bytes lies away = ap (λ (frames : List (List ℕ)). frames ++ engine.buffer)
-    (in_work-away memory bytes place engine.work lies away)
+pub slots-elsewhere : OtherBytesLeaveSlots
+slots-elsewhere memory engine place bytes lies away = in_work-away memory bytes place engine.work lies away
 
 -- What is finished stays finished.
 pub finished-kept : FinishedStays
-finished-kept memory memory' area descriptor frame only apart away finished =
+finished-kept memory memory' area descriptor ends frame only apart away finished =
     let same = descriptor_at-kept memory memory' descriptor (only.others (descriptor_area descriptor) apart) in
     let count : (descriptor_at memory descriptor).length ≡ length frame = finished.length in
     let kept : bytes_at memory' (named_address memory descriptor) (length frame)
@@ -180,7 +303,7 @@ finished-kept memory memory' area descriptor frame only apart away finished =
     ≡ frame = ap (bytes_at memory (named_address memory descriptor)) (sym count) ∙ finished.bytes in
     record {
       done = ap (λ (d : RxDesc). status_bits d.status / 2 ^ 0 % 2) same ∙ finished.done;
-      ended = ap (λ (d : RxDesc). status_bits d.status / 2 ^ 1 % 2) same ∙ finished.ended;
+      ended = ap (λ (d : RxDesc). is_set (status_bits d.status) 1) same ∙ finished.ended;
       has_no_errors = ap (λ (d : RxDesc). d.errors) same ∙ finished.has_no_errors;
       length = ap (λ (d : RxDesc). d.length) same ∙ count;
       bytes = ap (λ (d : RxDesc). bytes_at memory' d.address d.length) same ∙ ap (bytes_at memory' (named_address memory descriptor)) count

@@ -8,6 +8,8 @@ pub mod Inside
 pub mod Laws
 pub mod Moving
 pub mod Passing
+pub mod PieceLaws
+pub mod Pieces
 pub mod Receiver
 pub mod Registers
 pub mod Writing

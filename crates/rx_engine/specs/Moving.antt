@@ -1,5 +1,5 @@
 -- The data step of the receive engine ("3.2.6 Receive Descriptor Queue Structure"; that it can fault is our choice).
-use Rattle.std.specs.Prelude.{◌≢◌, ◌==◌, ◌≤◌, ◌*◌, ⊤, ℕ, List, length, drop, Bool, true, Some}
+use Rattle.std.specs.Prelude.{◌≢◌, ◌==◌, ◌+◌, ◌-◌, ◌*◌, ⊤, ℕ, List, length, take, drop, nat_le, Bool, true, false, Some, if◌then◌else◌}
 use Rattle.registers.specs.Bits.{HasBit, field}
 use Rattle.registers.specs.Places.{rctl_bsex, rctl_bsize, rctl_en}
 use Rattle.registers.specs.ReceiveControl.{buffer_size_of}
@@ -9,7 +9,8 @@ use Rattle.descriptors.specs.Ring.{HasValidIndices, address_of, count_of, distan
 use Rattle.rx_engine.specs.Descriptors.{named_address}
 use Rattle.rx_engine.specs.Receiver.{Receiver, IsReady, oldest}
 use Rattle.rx_engine.specs.declared.data.Data.{Data}
-use Rattle.rx_engine.specs.declared.data.Data.TheVariants.{Nothing, Moved, Fault}
+use Rattle.rx_engine.specs.declared.engine.Work.{Work}
+use Rattle.rx_engine.specs.declared.data.Data.TheVariants.{Nothing, Part, Moved, Fault}
 
 -- with RCTL at this word there is a frame to move, and a descriptor for it
 pub record HasFrameToMove (control : ℕ) (ring : Ring) (engine : Receiver) : Type 0 where
@@ -18,50 +19,92 @@ pub record HasFrameToMove (control : ℕ) (ring : Ring) (engine : Receiver) : Ty
   pub ready : IsReady engine
   pub offered : ring.head ≢ ring.tail
 
--- with RCTL at this word a frame of n bytes can be moved: else the step is a fault (our choice)
+-- the size of a receive buffer in bytes, by RCTL.BSIZE
+abbrev pub buffer_bytes : ℕ → ℕ
+buffer_bytes control = buffer_size_of (field control rctl_bsize 2)
+
+-- how many bytes of the oldest frame haven't been moved yet
+abbrev pub left_bytes : Receiver → ℕ
+left_bytes engine = length (oldest engine.buffer) - engine.moved
+
+-- the next piece of it: these bytes, at most a buffer's size
+abbrev pub next_piece : ℕ → Receiver → List ℕ
+next_piece control engine = take (buffer_bytes control) (drop engine.moved (oldest engine.buffer))
+
+-- it is the last one
+abbrev pub is_last : ℕ → Receiver → Bool
+is_last control engine = nat_le (left_bytes engine) (buffer_bytes control)
+
+-- with RCTL at this word a piece of n bytes can be moved; otherwise the step is a fault (our choice)
 pub record CanMove (control : ℕ) (ring : Ring) (memory : List ℕ) (n : ℕ) : Type 0 where
   pub indices : HasValidIndices ring
   pub descriptor : LiesIn memory (address_of ring ring.head) 16
   pub place : LiesIn memory (named_address memory (address_of ring ring.head)) n
   -- RCTL.BSEX
   pub not_extended : ¬ (HasBit control rctl_bsex)
-  -- RCTL.BSIZE
-  pub size : n ≤ buffer_size_of (field control rctl_bsize 2)
 
 -- the free descriptors, those from head to tail, are half the ring (13.4.22, RDMTS 00)
 abbrev pub is_half_free : Ring → Bool
 is_half_free ring = 2 * distance_of ring ring.head ring.tail == count_of ring
 
--- the step moved a frame
+-- the step moved a piece, and more of its frame is left
+abbrev pub IsPartMoved : Data → Type 0
+IsPartMoved Nothing = ⊥
+IsPartMoved (Part low) = ⊤
+IsPartMoved (Moved low) = ⊥
+IsPartMoved Fault = ⊥
+
+-- the step moved the last piece of a frame
 abbrev pub IsMoved : Data → Type 0
 IsMoved Nothing = ⊥
+IsMoved (Part low) = ⊥
 IsMoved (Moved low) = ⊤
 IsMoved Fault = ⊥
 
 -- a fact of what it told of the free descriptors
 abbrev pub IfMoved : Data → (Bool → Type 0) → Type 0
 IfMoved Nothing fact = ⊤
+IfMoved (Part low) fact = fact low
 IfMoved (Moved low) fact = fact low
 IfMoved Fault fact = ⊤
 
--- the engine after a step with this answer: the oldest frame is in work, or the engine is stopped
-abbrev pub engine_after_data : Data → Ring → Receiver → Receiver
-engine_after_data Nothing ring engine = engine
-engine_after_data (Moved low) ring engine = record engine {
-  buffer = drop 1 engine.buffer;
-  work = Some (record { descriptor = address_of ring ring.head; length = length (oldest engine.buffer) });
+-- the next piece, in progress at the head's descriptor
+abbrev pub work_at : ℕ → Ring → Receiver → Bool → Work
+work_at control ring engine ends =
+    record { descriptor = address_of ring ring.head; length = length (next_piece control engine); ends = ends }
+
+-- the engine with a piece in progress: with the last one the frame leaves the packet buffer
+abbrev pub begun_with : Work → Receiver → Receiver
+begun_with work engine = if work.ends then record engine { buffer = drop 1 engine.buffer; moved = 0; work = Some work }
+    else record engine { moved = engine.moved + work.length; work = Some work }
+
+-- the engine after a step with this answer: a piece of the oldest frame is in progress, and with the last one the frame leaves the packet
+-- buffer; or the engine is stopped
+abbrev pub engine_after_data : Data → ℕ → Ring → Receiver → Receiver
+engine_after_data Nothing control ring engine = engine
+engine_after_data (Part low) control ring engine = record engine {
+  moved = engine.moved + length (next_piece control engine);
+  work = Some (work_at control ring engine false);
 }
-engine_after_data Fault ring engine = record engine { stopped = true }
+engine_after_data (Moved low) control ring engine = record engine {
+  buffer = drop 1 engine.buffer;
+  moved = 0;
+  work = Some (work_at control ring engine true);
+}
+engine_after_data Fault control ring engine = record engine { stopped = true }
 
 -- the ring: head moves on
 abbrev pub ring_after_data : Data → Ring → Ring
 ring_after_data Nothing ring = ring
+ring_after_data (Part low) ring = record ring { head = next_of ring ring.head }
 ring_after_data (Moved low) ring = record ring { head = next_of ring ring.head }
 ring_after_data Fault ring = ring
 
--- memory: the oldest frame stands where the descriptor at the head says
-abbrev pub memory_after_data : Data → Ring → Receiver → List ℕ → List ℕ
-memory_after_data Nothing ring engine memory = memory
-memory_after_data (Moved low) ring engine memory = with_bytes memory (named_address memory (address_of ring ring.head))
-    (oldest engine.buffer)
-memory_after_data Fault ring engine memory = memory
+-- memory: the piece is in the buffer that the descriptor at the head names
+abbrev pub memory_after_data : Data → ℕ → Ring → Receiver → List ℕ → List ℕ
+memory_after_data Nothing control ring engine memory = memory
+memory_after_data (Part low) control ring engine memory = with_bytes memory (named_address memory (address_of ring ring.head))
+    (next_piece control engine)
+memory_after_data (Moved low) control ring engine memory = with_bytes memory (named_address memory (address_of ring ring.head))
+    (next_piece control engine)
+memory_after_data Fault control ring engine memory = memory

@@ -1,20 +1,22 @@
 -- What the receive engine holds (our choice; "3.2 Packet Reception" of Intel's manual has one packet buffer and one engine).
-use Rattle.std.specs.Prelude.{◌≡◌, ◌≢◌, ◌≤◌, ℕ, List, [], ◌∷◌, All, length, Bool, false, Option, None}
+use Rattle.std.specs.Prelude.{◌≡◌, ◌≢◌, ◌≤◌, ◌-◌, ℕ, List, [], ◌∷◌, All, length, Bool, false, Option, None}
 use Rattle.std.specs.Option.{ForSome}
-use Rattle.descriptors.specs.Frames.{IsLegal, longest_frame, shortest_frame}
+use Rattle.descriptors.specs.Frames.{IsLegal, longest_frame}
 use Rattle.rx_engine.specs.declared.engine.Work.{Work}
 
 pub record Receiver : Type 0 where
   -- the receive packet buffer: the frames in it, oldest first
   pub buffer : List (List ℕ)
-  -- the frame in work: it stands in memory, its descriptor isn't written back yet
+  -- how many bytes of the oldest of them have been moved to memory
+  pub moved : ℕ
+  -- the piece in progress: it is in memory, and its descriptor isn't written back yet
   pub work : Option Work
   -- a fault has stopped the data step
   pub stopped : Bool
 
 -- an engine that holds no frame and runs
 abbrev pub new_receiver : Receiver
-new_receiver = record { buffer = []; work = None; stopped = false }
+new_receiver = record { buffer = []; moved = 0; work = None; stopped = false }
 
 -- the oldest frame of a packet buffer that isn't empty
 abbrev pub oldest : List (List ℕ) → List ℕ
@@ -27,9 +29,11 @@ pub record IsReady (engine : Receiver) : Type 0 where
   pub free : engine.work ≡ None
   pub frames : engine.buffer ≢ []
 
--- what every engine keeps, whatever its steps: at most 24 frames wait, and each frame that it holds has a legal length
+-- what holds of every engine, whatever its steps: at most 24 frames wait, each has a legal length, and a piece in progress isn't empty
 pub record IsReceiver (engine : Receiver) : Type 0 where
   pub room : length engine.buffer ≤ 24
   pub frames : All IsLegal engine.buffer
-  pub least : ForSome engine.work (λ work. shortest_frame ≤ work.length)
+  -- At least one byte of the oldest frame isn't moved yet. If there is no frame, none is moved.
+  pub begun : engine.moved ≤ length (oldest engine.buffer) - 1
+  pub least : ForSome engine.work (λ work. 1 ≤ work.length)
   pub most : ForSome engine.work (λ work. work.length ≤ longest_frame)

@@ -1,15 +1,16 @@
-// The data step: a frame goes into a host's memory.
+// The data step: a piece of a frame goes into a host's memory.
 
-ghost use Rattle.std.specs.Prelude.{◌≡◌, ◌≤◌, ◌*◌, ◌↔◌, length, IsTrue, IsSome, IfSome};
+ghost use Rattle.std.specs.Prelude.{◌≡◌, ◌≤◌, ◌*◌, ◌↔◌, length, true, false, IsTrue, IsSome, IfSome};
 ghost use Rattle.registers.specs.Bits.{HasBit, field};
 ghost use Rattle.registers.specs.ReceiveControl.{buffer_size_of};
 ghost use Rattle.descriptors.specs.Ring.{HasValidIndices, address_of, count_of, distance_of};
 ghost use Rattle.dma_memory.specs.Areas.{ChangesOnly, area_at};
 ghost use Rattle.dma_memory.specs.HostMemory.{LiesIn};
 ghost use Rattle.rx_engine.specs.Descriptors.{named_address};
-ghost use Rattle.rx_engine.specs.Receiver.{oldest, IsReceiver};
-ghost use Rattle.rx_engine.specs.Moving.{HasFrameToMove, CanMove, engine_after_data, ring_after_data};
-ghost use Rattle.rx_engine.specs.Moving.{memory_after_data, IsMoved, IfMoved, is_half_free};
+ghost use Rattle.rx_engine.specs.Receiver.{IsReceiver};
+ghost use Rattle.rx_engine.specs.Moving.{HasFrameToMove, CanMove, engine_after_data, is_last, next_piece};
+ghost use Rattle.rx_engine.specs.Moving.{ring_after_data};
+ghost use Rattle.rx_engine.specs.Moving.{memory_after_data, IsMoved, IsPartMoved, IfMoved, is_half_free};
 
 use crate::storing::store_within;
 use crate::{RxEngine, Work};
@@ -22,16 +23,21 @@ use registers::Rctl;
 pub enum Data {
     /// There is nothing to do, and nothing changed.
     Nothing,
-    /// The oldest frame stands in memory and is in work.
-    Moved {
+    /// A piece of the oldest frame is in memory and in progress, and more of the frame is left.
+    Part {
         /// The free descriptors have become half the ring ("13.4.17 Interrupt Cause Read Register", RXDMT0).
         low: bool,
     },
-    /// The engine stopped in place of moving a frame (our choice).
+    /// The last piece of the oldest frame is in memory and in progress.
+    Moved {
+        /// As for `Part`.
+        low: bool,
+    },
+    /// The engine moved no piece, and is stopped (our choice).
     Fault,
 }
 
-/// Where the oldest frame goes.
+/// Where a piece goes.
 #[derive(Clone, Copy)]
 struct Target {
     /// The address of the descriptor at the head.
@@ -40,13 +46,14 @@ struct Target {
     buffer: u64,
 }
 
-/// Writes the oldest frame of the packet buffer to the buffer that the descriptor at the head names; the frame is
-/// then in work, and head moves on ("3.2.6 Receive Descriptor Queue Structure").
+/// Writes the next piece of the packet buffer's oldest frame to the buffer that the descriptor at the head names: the
+/// rest of the frame, at most the buffer size of RCTL.BSIZE. The piece is then in progress, and head moves on ("3.2.6
+/// Receive Descriptor Queue Structure"). With its last piece the frame leaves the packet buffer.
 ///
-/// Nothing where RCTL.EN is 0, a fault has stopped the engine, a frame is in work, the packet buffer is empty, or
-/// head equals tail. Else a fault where head or tail isn't a slot of the ring, the descriptor or the frame's place
-/// isn't in memory, RCTL.BSEX is set, or the frame is longer than the buffer size of RCTL.BSIZE; a fault leaves
-/// memory, ring and packet buffer, and stops the engine until a reset (our choice).
+/// Returns `Nothing` if RCTL.EN is 0, a fault has stopped the engine, a piece is in progress, the packet buffer is
+/// empty, or head equals tail. Otherwise returns `Fault` if head or tail isn't a slot of the ring, the descriptor or
+/// the place of the piece isn't in memory, or RCTL.BSEX is set. A fault changes neither memory nor ring nor packet
+/// buffer, and stops the engine until a reset (our choice).
 pub fn rx_data(
     engine: &mut RxEngine,
     ring: &mut Ring,
@@ -56,52 +63,62 @@ pub fn rx_data(
     ensures nothing { (result ≡ Data.Nothing) ↔ (¬ (HasFrameToMove control.0 ring.old engine.old)) }
     ensures fault { (result ≡ Data.Fault)
         ↔ (HasFrameToMove control.0 ring.old engine.old
-        × (¬ (CanMove control.0 ring.old memory.old (length (oldest engine.old.buffer))))) }
+        × (¬ (CanMove control.0 ring.old memory.old (length (next_piece control.0 engine.old))))) }
+    ensures part { IsPartMoved result
+        ↔ (HasFrameToMove control.0 ring.old engine.old
+        × CanMove control.0 ring.old memory.old (length (next_piece control.0 engine.old))
+        × (is_last control.0 engine.old ≡ false)) }
     ensures moved { IsMoved result
         ↔ (HasFrameToMove control.0 ring.old engine.old
-        × CanMove control.0 ring.old memory.old (length (oldest engine.old.buffer))) }
+        × CanMove control.0 ring.old memory.old (length (next_piece control.0 engine.old))
+        × (is_last control.0 engine.old ≡ true)) }
     ensures low { IfMoved result (λ low. low ≡ is_half_free ring.new) }
-    ensures engine { engine.new ≡ engine_after_data result ring.old engine.old }
+    ensures engine { engine.new ≡ engine_after_data result control.0 ring.old engine.old }
     ensures ring { ring.new ≡ ring_after_data result ring.old }
-    ensures memory { memory.new ≡ memory_after_data result ring.old engine.old memory.old }
+    ensures memory { memory.new ≡ memory_after_data result control.0 ring.old engine.old memory.old }
     ensures only { ChangesOnly memory.old memory.new
-        (area_at (named_address memory.old (address_of ring.old ring.old.head)) (length (oldest engine.old.buffer))) }
+        (area_at (named_address memory.old (address_of ring.old ring.old.head))
+        (length (next_piece control.0 engine.old))) }
     ensures before { IsReceiver engine.old }
     ensures after { IsReceiver engine.new }
 {
-    let Some(frame) = engine.next_frame() else {
+    let Some(left) = engine.left() else {
         return Data::Nothing;
     };
     if !control.is_enabled() || ring.head == ring.tail {
         return Data::Nothing;
     }
-    let length = frame.len() as u16;
+    let size = usize::from(control.buffer_size());
+    let ends = left.len() <= size;
+    let piece = &left[..left.len().min(size)];
+    let length = piece.len() as u16;
     let Some(target) = target_of(ring, control, memory, length) else {
         engine.stop();
         return Data::Fault;
     };
-    store_within(memory, target.buffer, frame);
+    store_within(memory, target.buffer, piece);
     engine.begin(Work {
         descriptor: target.descriptor,
         length,
+        ends,
     });
     ring.head = ring.next(ring.head);
-    Data::Moved {
-        low: is_half_free(ring),
+    let low = is_half_free(ring);
+    if ends {
+        Data::Moved { low }
+    } else {
+        Data::Part { low }
     }
 }
 
-/// Where a frame of this length goes, or `None` exactly where the step is a fault.
+/// Where a piece of this length goes, or `None` exactly if the step is a fault.
 fn target_of(ring: &Ring, control: Rctl, memory: &HostMemory, length: u16) -> Option<Target>
     ensures can { IsSome result ↔ CanMove control.0 ring.now memory.now length }
     ensures descriptor { IfSome result (λ target. target.descriptor ≡ address_of ring.now ring.now.head) }
     ensures buffer { IfSome result (λ target.
         target.buffer ≡ named_address memory.now (address_of ring.now ring.now.head)) }
 {
-    if !ring.has_valid_indices()
-        || control.extends_buffer_size()
-        || length > control.buffer_size()
-    {
+    if !ring.has_valid_indices() || control.extends_buffer_size() {
         return None;
     }
     let size = memory.size();
@@ -114,7 +131,7 @@ fn target_of(ring: &Ring, control: Rctl, memory: &HostMemory, length: u16) -> Op
     Some(Target { descriptor, buffer })
 }
 
-/// The address that the descriptor at an address names, or `None` exactly where that descriptor isn't in memory.
+/// The address that the descriptor at an address names, or `None` exactly if that descriptor isn't in memory.
 fn buffer_named_at(memory: &HostMemory, descriptor: u64) -> Option<u64>
     ensures lies { IsSome result ↔ LiesIn memory.now descriptor 16 }
     ensures value { IfSome result (λ address. address ≡ named_address memory.now descriptor) }

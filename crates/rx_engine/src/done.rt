@@ -3,9 +3,11 @@
 ghost use Rattle.std.specs.Prelude.{◌≡◌, ◌+◌, ◌↔◌, None, IfSome};
 ghost use Rattle.dma_memory.specs.Areas.{ChangesOnly, area_at};
 ghost use Rattle.dma_memory.specs.HostMemory.{LiesIn, bytes_at, with_bytes};
+ghost use Rattle.descriptors.specs.RxStatus.{status_of};
 ghost use Rattle.rx_engine.specs.Descriptors.{named_address};
 ghost use Rattle.rx_engine.specs.Receiver.{IsReceiver};
-ghost use Rattle.rx_engine.specs.Finishing.{engine_after_done, finished_bytes, memory_after_done, StandsApart};
+ghost use Rattle.rx_engine.specs.Finishing.{engine_after_done, finished_bytes, finished_status, memory_after_done};
+ghost use Rattle.rx_engine.specs.Finishing.{StandsApart};
 ghost use Rattle.rx_engine.specs.Finishing.{IsFinished};
 
 use crate::RxEngine;
@@ -20,24 +22,24 @@ const LENGTH_PLACE: u64 = 8;
 /// What a done step did.
 #[derive(Clone, Copy, Debug, PartialEq, Eq)]
 pub enum Done {
-    /// No frame was in work, and nothing changed.
+    /// No piece was in progress, and nothing changed.
     Nothing,
-    /// The descriptor of the frame in work is written back, and no frame is in work any more.
+    /// The descriptor of the piece in progress is written back, and no piece is in progress any more.
     Done,
 }
 
-/// Writes the descriptor of the frame in work back ("3.2.3 Receive Descriptor Format"): its length, and that it is
-/// done, holds the end of its packet and had no error. Nothing where no frame is in work.
+/// Writes the descriptor of the piece in progress back ("3.2.3 Receive Descriptor Format"): the length of the piece,
+/// DD, no error, and EOP if the frame ends in it. Returns `Nothing` if no piece is in progress.
 ///
-/// The caller hands a memory of the same size as to [`rx_data`](crate::rx_data), where that descriptor always lies.
-/// In a memory that ends before its end nothing is written.
+/// `memory` must have the size that it had for [`rx_data`](crate::rx_data); then the descriptor is always in it. In a
+/// memory that ends before the descriptor's end nothing is written.
 pub fn rx_done(engine: &mut RxEngine, memory: &mut HostMemory) -> Done
     ensures nothing { (result ≡ Done.Nothing) ↔ (engine.old.work ≡ None) }
     ensures engine { engine.new ≡ engine_after_done engine.old }
     ensures memory { memory.new ≡ memory_after_done engine.old.work memory.old }
     ensures finished { IfSome engine.old.work (λ work. LiesIn memory.old work.descriptor 16
         → StandsApart memory.old work.descriptor work.length
-        → IsFinished memory.new work.descriptor
+        → IsFinished memory.new work.descriptor work.ends
         (bytes_at memory.old (named_address memory.old work.descriptor) work.length)) }
     ensures only { IfSome engine.old.work
         (λ work. ChangesOnly memory.old memory.new (area_at (work.descriptor + 8) 8)) }
@@ -48,25 +50,36 @@ pub fn rx_done(engine: &mut RxEngine, memory: &mut HostMemory) -> Done
         return Done::Nothing;
     };
     if memory.view(work.descriptor, RX_DESC_BYTES).is_ok() {
-        write_back(memory, work.descriptor, work.length);
+        write_back(memory, work.descriptor, work.length, work.ends);
     }
     engine.end();
     Done::Done
 }
 
-/// Writes bytes 8 to 15 of the descriptor at an address, finished with a frame of this length.
-fn write_back(memory: &mut HostMemory, descriptor: u64, length: u16)
+/// The status of a finished descriptor: DD, and EOP if its frame ends in it.
+fn status(ends: bool) -> RxStatus
+    ensures { result ≡ status_of (finished_status ends) }
+{
+    if ends {
+        RxStatus::DD.union(RxStatus::EOP)
+    } else {
+        RxStatus::DD
+    }
+}
+
+/// Writes bytes 8 to 15 of the descriptor at an address, finished with a piece of this length.
+fn write_back(memory: &mut HostMemory, descriptor: u64, length: u16, ends: bool)
     requires { LiesIn memory.old descriptor 16 }
-    ensures memory { memory.new ≡ with_bytes memory.old (descriptor + 8) (finished_bytes length) }
+    ensures memory { memory.new ≡ with_bytes memory.old (descriptor + 8) (finished_bytes length ends) }
     ensures finished { StandsApart memory.old descriptor length
-        → IsFinished memory.new descriptor (bytes_at memory.old (named_address memory.old descriptor) length) }
+        → IsFinished memory.new descriptor ends (bytes_at memory.old (named_address memory.old descriptor) length) }
     ensures only { ChangesOnly memory.old memory.new (area_at (descriptor + 8) 8) }
 {
     let finished = RxDesc {
         address: 0,
         length,
         checksum: 0,
-        status: RxStatus::DD.union(RxStatus::EOP),
+        status: status(ends),
         errors: 0,
         special: 0,
     };

@@ -1,6 +1,7 @@
 // What the receive engine holds.
 
-ghost use Rattle.std.specs.Prelude.{◌≡◌, ◌<◌, ◌≤◌, ◌↔◌, [], ◌∷◌, ◌++◌, true, drop, length, option_copied, IsSome};
+ghost use Rattle.std.specs.Prelude.{◌≡◌, ◌<◌, ◌≤◌, ◌↔◌, [], ◌∷◌, ◌++◌, true, false, drop, length, option_copied};
+ghost use Rattle.std.specs.Prelude.{IsSome};
 ghost use Rattle.std.specs.Prelude.{IfSome, IfOk};
 
 use frame_queue::FrameQueue;
@@ -11,19 +12,24 @@ use std::marker::Model;
 /// bytes (our choice).
 pub const MOST_FRAMES: u8 = 24;
 
-/// The frame in work: it stands in memory, and its descriptor isn't written back yet.
+/// The piece of a frame in progress: it is in memory, and its descriptor isn't written back yet.
 #[derive(Clone, Copy, Debug, PartialEq, Eq)]
 pub struct Work {
     /// The address at which its descriptor was read.
     pub descriptor: u64,
-    /// How many bytes the frame has.
+    /// How many bytes the piece has.
     pub length: u16,
+    /// Whether the frame ends in it.
+    pub ends: bool,
 }
 
-/// The receive engine: its packet buffer, the frame in work, and whether a fault has stopped it.
+/// The receive engine: its packet buffer, how much of its oldest frame is moved, the piece in progress, and whether a
+/// fault has stopped it.
 #[derive(Debug, Drop)]
 pub struct RxEngine {
     buffer: FrameQueue,
+    /// How many bytes of the oldest frame are moved to memory.
+    moved: u16,
     work: Option<Work>,
     stopped: bool,
 }
@@ -42,6 +48,7 @@ impl Model for RxEngine {
 
 impl RxEngine {
     ghost use Rattle.rx_engine.specs.Receiver.{new_receiver, IsReceiver, IsReady, oldest};
+    ghost use Rattle.rx_engine.specs.Moving.{begun_with, left_bytes};
     ghost use Rattle.descriptors.specs.Frames.{IsLegal};
 
     /// An engine that holds no frame.
@@ -54,22 +61,24 @@ impl RxEngine {
     {
         Ok(RxEngine {
             buffer: FrameQueue::new(alloc, MOST_FRAMES)?,
+            moved: 0,
             work: None,
             stopped: false,
         })
     }
 
-    /// Empties the packet buffer, drops the frame in work and starts a stopped engine again, as a reset by CTRL.RST
+    /// Empties the packet buffer, drops the piece in progress and starts a stopped engine again, as a reset by CTRL.RST
     /// does ("13.4.1 Device Control Register").
     pub fn reset(&mut self)
         ensures { self.new ≡ new_receiver }
     {
         self.buffer.clear();
+        self.moved = 0;
         self.work = None;
         self.stopped = false;
     }
 
-    /// How many frames wait in the packet buffer; the frame in work isn't one of them.
+    /// How many frames wait in the packet buffer. A frame of which pieces are moved counts until its last piece is.
     pub fn buffered(&self) -> u8
         ensures count { result ≡ length self.now.buffer }
         ensures fits { result ≤ MOST_FRAMES }
@@ -78,7 +87,7 @@ impl RxEngine {
         self.buffer.len()
     }
 
-    /// The frame in work, if there is one.
+    /// The piece in progress, if there is one.
     pub fn work(&self) -> Option<&Work>
         ensures work { option_copied result ≡ self.now.work }
         ensures sound { IsReceiver self.now }
@@ -86,7 +95,7 @@ impl RxEngine {
         self.work.as_ref()
     }
 
-    /// Puts a frame of a legal length behind the others in the packet buffer, which has room for it.
+    /// Puts a frame of a legal length after the others in the packet buffer, which has room for it.
     pub(crate) fn store(&mut self, frame: &[u8])
         requires room { length self.old.buffer < MOST_FRAMES }
         requires legal { IsLegal frame.now }
@@ -96,31 +105,41 @@ impl RxEngine {
         self.buffer.push(frame);
     }
 
-    /// The oldest frame in the packet buffer, if the engine could begin with it: it runs, and no frame is in work.
-    pub(crate) fn next_frame(&self) -> Option<&[u8]>
+    /// The bytes of the packet buffer's oldest frame that aren't moved yet, if the engine can move them: no fault has
+    /// stopped it, and no piece is in progress.
+    pub(crate) fn left(&self) -> Option<&[u8]>
         ensures ready { IsSome result ↔ IsReady self.now }
-        ensures oldest { IfSome result (λ frame. frame.now ≡ oldest self.now.buffer) }
-        ensures legal { IfSome result (λ frame. IsLegal frame.now) }
+        ensures left { IfSome result (λ bytes. bytes.now ≡ drop self.now.moved (oldest self.now.buffer)) }
+        ensures some { IfSome result (λ bytes. 1 ≤ length bytes.now) }
+        ensures most { IfSome result (λ bytes. length bytes.now ≤ 1518) }
+        ensures count { IfSome result (λ bytes. length bytes.now ≡ left_bytes self.now) }
         ensures sound { IsReceiver self.now }
     {
         if self.stopped || self.work.is_some() {
             return None;
         }
-        self.buffer.front()
+        let frame = self.buffer.front()?;
+        Some(&frame[usize::from(self.moved)..])
     }
 
-    /// The oldest frame leaves the packet buffer and is in work.
+    /// A piece of the oldest frame is in progress. With the last one the frame leaves the packet buffer.
     pub(crate) fn begin(&mut self, work: Work)
-        requires least { 60 ≤ work.length }
+        requires least { 1 ≤ work.length }
         requires most { work.length ≤ 1518 }
-        ensures begun { self.new ≡ record self.old { buffer = drop 1 self.old.buffer; work = Some work } }
+        requires left { work.ends ≡ false → work.length < left_bytes self.old }
+        ensures begun { self.new ≡ begun_with work self.old }
         ensures sound { IsReceiver self.new }
     {
-        self.buffer.pop();
+        if work.ends {
+            self.buffer.pop();
+            self.moved = 0;
+        } else {
+            self.moved += work.length;
+        }
         self.work = Some(work);
     }
 
-    /// No frame is in work any more.
+    /// No piece is in progress any more.
     pub(crate) fn end(&mut self)
         ensures ended { self.new ≡ record self.old { work = None } }
         ensures sound { IsReceiver self.new }

@@ -1,20 +1,22 @@
 // What the engine's steps mean for the frames that it holds.
 
-ghost use Rattle.rx_engine.specs.Held.{ArrivalGrowsHeld, DataKeepsHeld, DoneTakesFirst, FinishedStays};
-ghost use Rattle.rx_engine.specs.Held.{OtherBytesLeaveHeld};
+ghost use Rattle.rx_engine.specs.Held.{ArrivalGrowsHeld, DataKeepsHeld, DoneKeepsHeld, FinishedStays};
+ghost use Rattle.rx_engine.specs.Held.{OtherBytesLeaveSlots};
 
-/// Laws of the frames that the engine holds, which are the frame in work, as it stands in memory, and then those in the
-/// packet buffer: a frame that is stored is behind the others, a data step leaves them as they are, wherever the
-/// frame's place is apart from its descriptor, a done step takes the first, which then stands finished at its
-/// descriptor, wherever it is apart from that, and bytes written apart from the frame in work and its descriptor
-/// leave them as they are. A finished descriptor stays finished with its frame while only bytes apart from both
-/// change.
+/// Laws of the frames that a host and its engine hold: those that end in finished slots and in the one in progress,
+/// each with its pieces joined, and then those in the packet buffer. In all states the slots contain, after the last
+/// end, the bytes of the packet buffer's oldest frame that are moved.
+/// - `arrival`: a frame that is stored is after the others.
+/// - `data`: a data step doesn't change them, if the place of the piece is apart from its descriptor.
+/// - `done`: a done step makes the piece in progress a finished one, if it is apart from its descriptor.
+/// - `others`: bytes written apart from the piece in progress and its descriptor don't change the piece.
+/// - `finished`: a finished descriptor stays finished with its piece while only bytes apart from both change.
 ///
 /// It does nothing: its contract is the laws.
 pub fn frames_held_by_the_receive_engine()
     ensures arrival { ArrivalGrowsHeld }
     ensures data { DataKeepsHeld }
-    ensures done { DoneTakesFirst }
-    ensures others { OtherBytesLeaveHeld }
+    ensures done { DoneKeepsHeld }
+    ensures others { OtherBytesLeaveSlots }
     ensures finished { FinishedStays }
 {}

@@ -1,26 +1,22 @@
 -- An access over a solo bus, behind what comes before it.
-use Rattle.std.proofs.Common.{◌≡◌, ◌+◌, ◌++◌, ◌∷◌, [], Bool, true, List, length, if◌then◌else◌, refl, sym, ap, ◌∙◌, arith}
+use Rattle.std.proofs.Common.{◌≡◌, ◌+◌, ◌++◌, ◌∷◌, [], Bool, true, List, length, if◌then◌else◌, refl, ap, ◌∙◌, arith}
 use Rattle.std.specs.Bool.{⊤}
-use Rattle.std.specs.List.{All}
-use Rattle.std.proofs.lemmas.List.{append-nil, map-append}
+use Rattle.std.proofs.lemmas.List.{map-append}
 use Rattle.bus.specs.BusMembers.{StaysWhole}
-use Rattle.bus.specs.Law.{Acts, Happens}
+use Rattle.bus.specs.Law.{Acts}
 use Rattle.bus.specs.PastOfStretch.{Past}
 use Rattle.bus.specs.declared.event.Access.{Access}
 use Rattle.bus.specs.TickGroups.{group_of}
 use Rattle.solo_bus.specs.SoloBuses.{Prepared, Recounts, SoloState, is_go, lively_ticks, tick_of}
 use Rattle.solo_bus.specs.SoloLaws.{are_free_joins, recounts_lively}
-use Rattle.bus.specs.TrailLaws.{past_of-append, same_past, trail_joins}
-use Rattle.bus.specs.Trails.{IsAnswered, IsStep, past_of, past_of_event, world_after_access}
-use Rattle.bus.specs.declared.event.Event.{Event}
-use Rattle.bus.specs.declared.event.Event.TheVariants.{Accesses, Arrives, Steps}
-use Rattle.adapter.specs.declared.step.StepKind.TheVariants.{TxTake, TxPut, RxData, RxDone, EepromTick, PhyTick}
+use Rattle.bus.specs.TrailLaws.{trail_joins}
+use Rattle.bus.specs.Trails.{IsAnswered, past_of, world_after_access}
+use Rattle.bus.specs.declared.event.Event.TheVariants.{Accesses}
 use Rattle.adapter.specs.State.{IsAdapter}
 use Rattle.adapter.specs.World.{World}
 use Rattle.solo_bus.specs.declared.solo_bus.SoloTick.{SoloTick}
 use Rattle.solo_bus.specs.declared.solo_bus.SoloTick.TheVariants.{Go}
-use Rattle.bus.proofs.Lists.{all-head, all-tail}
-use Rattle.bus.proofs.StepsThenAccess.{happens_accesses, no_access, past-with_access}
+use Rattle.bus.proofs.StepsThenAccess.{happens_accesses, past-with_access}
 use Rattle.bus.proofs.Trails.{trail_happens}
 
 -- The world of a solo bus.

@@ -22,13 +22,13 @@ use Rattle.rx_engine.specs.declared.arrival.Fate.TheVariants.{Off, Illegal, Filt
 use Rattle.rx_engine.specs.Passing.{AcceptsAddress, AcceptsVlan, Passes}
 use Rattle.rx_engine.specs.Registers.{filter_of}
 use Rattle.rx_engine.specs.Descriptors as receive
-use Rattle.adapter.specs.Receiving.{CanMoveFrame, DataAnswers, DoneAnswers, HasFrameAndDescriptor, IsFate}
+use Rattle.adapter.specs.Receiving.{CanMovePiece, DataAnswers, DoneAnswers, HasFrameAndDescriptor, IsFate, is_last_piece}
 use Rattle.adapter.specs.Steps.{Answers}
 use Rattle.adapter.specs.Transmitting.{CanTake, HasNothingToTake, TakeAnswers}
 use Rattle.adapter.specs.declared.step.StepKind.{StepKind}
 use Rattle.adapter.specs.declared.step.StepKind.TheVariants.{RxData, RxDone, TxTake}
 use Rattle.adapter.specs.Outcomes.{FrameOutcome}
-use Rattle.adapter.specs.declared.outcome.Outcome.TheVariants.{Took, Moved, Done, Nothing, Fault}
+use Rattle.adapter.specs.declared.outcome.Outcome.TheVariants.{Took, Part, Moved, Done, Nothing, Fault}
 use Rattle.adapter.specs.Registers.{new_adapter}
 use Rattle.adapter.specs.Table.{array_register_at, register_at}
 use Rattle.solo_bus.specs.SoundWorlds.{HasFinished, HasFramesInBuffer, HasFramesInRing, HasRings, HasWork}
@@ -80,6 +80,7 @@ resting-idle size words fits =
     let Lies : Area → Type 0 = λ area. LiesIn memory area.address area.size in
     record {
       work = refl;
+      unmoved = refl;
       buffer = refl;
       rings = record {
         receive = refl;
@@ -162,7 +163,7 @@ called-has_frame size words = record {
   offered = λ same. absurd (omega (arith, same));
 }
 
-pub called-can_move : (size : ℕ) (words : List ℕ) → 4096 ≤ size → CanMoveFrame (called size words).memory (called size words).adapter
+pub called-can_move : (size : ℕ) (words : List ℕ) → 4096 ≤ size → CanMovePiece (called size words).memory (called size words).adapter
 called-can_move size words fits =
     let long = length-replicate {A = ℕ} size 0 in
     let named_zero = zeros-address size 2048 (omega (arith, fits)) in
@@ -171,13 +172,17 @@ called-can_move size words fits =
       descriptor = omega (arith, long, fits);
       place = subst (λ (address : ℕ). LiesIn (replicate size 0) address 60) (sym named_zero) (omega (arith, long, fits));
       not_extended = λ set. absurd (omega (arith, set));
-      size = omega arith;
     }
+
+-- It is moved in one piece.
+pub called-last : (size : ℕ) (words : List ℕ) → is_last_piece (called size words).adapter ≡ true
+called-last size words = refl
 
 pub data-moved : (size : ℕ) (words : List ℕ) → 4096 ≤ size → (answer : FrameOutcome)
     → DataAnswers (called size words).memory (called size words).adapter answer → answer ≡ Moved
 data-moved size words fits Moved answers = refl
 data-moved size words fits Nothing answers = absurd (answers (called-has_frame size words))
+data-moved size words fits Part answers = let more : true ≡ false = sym (called-last size words) ∙ answers.2 in absurd (cc)
 data-moved size words fits Fault answers = absurd (answers.1 (called-can_move size words fits))
 data-moved size words fits _ answers = absurd answers
 

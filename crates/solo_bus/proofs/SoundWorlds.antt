@@ -1,17 +1,25 @@
 -- The conditions of the law hold of the worlds of `specs/SoundBuses`, and their engines can run.
-use Rattle.std.proofs.Common.{◌≡◌, ◌≤◌, ◌+◌, ◌++◌, ◌∷◌, [], true, ℕ, List, length, replicate, refl, sym, ap, subst, ◌∙◌, arith}
+use Rattle.std.proofs.Common.{◌≡◌, ◌≤◌, ◌+◌, ◌++◌, ◌∷◌, [], true, ℕ, List, replicate, refl, sym, ap, subst, ◌∙◌, arith}
 use Rattle.std.specs.List.{All, take_while}
 use Rattle.std.proofs.lemmas.List.Elements.{All-cons}
+use Rattle.std.proofs.lemmas.Option.{none-some}
 use Rattle.dma_memory.specs.Areas.{Area}
 use Rattle.dma_memory.specs.HostMemory.{with_bytes}
 use Rattle.descriptors.specs.Ring.{offered_places}
+use Rattle.descriptors.specs.Frames.{IsLegal}
 use Rattle.rx_engine.specs.Finishing.{finished_bytes}
+use Rattle.rx_engine.specs.Laws.{held-after_data}
+use Rattle.rx_engine.specs.Moving.{is_half_free}
+use Rattle.rx_engine.specs.Receiver.{IsReceiver}
+use Rattle.rx_engine.specs.declared.data.Data.TheVariants.{Moved}
 use Rattle.rx_engine.specs.declared.engine.Work.{Work}
 use Rattle.tx_engine.specs.Fetching.{fetched}
 use Rattle.tx_engine.specs.Transmitter.{Queued}
 use Rattle.solo_bus.specs.SoundWorlds.{HasFinished, HasFramesInBuffer, HasFramesInRing, HasRings, HasWork, HasWrittenBack, SomeSound}
 use Rattle.adapter.specs.HostAreas.{buffer_size}
-use Rattle.adapter.specs.HostFrames.{named}
+use Rattle.adapter.specs.HostFrames.{finished_pieces, named}
+use Rattle.adapter.specs.Rings.{ring_of}
+use Rattle.adapter.specs.Transmitting.{moved_on}
 use Rattle.adapter.specs.Slots.{finished, is_done, written_back}
 use Rattle.adapter.specs.Conditions.{FitBuffers, Sound}
 use Rattle.bus.specs.Law.{Between}
@@ -25,16 +33,12 @@ use Rattle.bus.proofs.Lists.{all-none}
 use Rattle.bus.proofs.RxDataSteps.{between_moved}
 use Rattle.bus.proofs.SlotOffers.{frames_can_be_offered, slots_can_be_offered}
 use Rattle.bus.proofs.TxPutSteps.{between_put, put_adapter}
-use Rattle.solo_bus.proofs.SoundBuses.{call-legal, called-can_move, called-has_frame, ready-has_rings, ready-sound, requested-can_send}
-use Rattle.solo_bus.proofs.SoundBuses.{requested-idle, resting-can_offer, resting-sound, sending-fields, sending-has_frames, sending-sound}
-use Rattle.solo_bus.proofs.SoundBuses.{working-has_work}
+use Rattle.solo_bus.proofs.SoundBuses.{call-legal, called-can_move, called-has_frame, called-last, ready-has_rings, ready-sound}
+use Rattle.solo_bus.proofs.SoundBuses.{requested-can_send, requested-idle, resting-can_offer, resting-sound, sending-fields}
+use Rattle.solo_bus.proofs.SoundBuses.{sending-has_frames, sending-sound, working-has_work}
 use Rattle.bus.proofs.TxTakeSteps.{between_padded, taken}
 
 -- Engines that can run.
-
--- this frame fits into a buffer
-abbrev Short : World → List ℕ → Type 0
-Short world frame = length frame ≤ buffer_size world
 
 -- over any memory, while nothing is offered
 resting-runs : (size : ℕ) (words memory : List ℕ) → CanRun (record (resting size words) { memory = memory })
@@ -44,7 +48,6 @@ resting-runs size words memory = record {
   receive_indices = λ differ. absurd (differ refl);
   transmit_indices = λ differ. absurd (differ refl);
   not_extended = λ set. absurd (omega (arith, set));
-  frames = all-none (Short (resting size words));
   transmittable = subst (λ (slots : List ℕ). All (CanTransmit memory) slots) (sym (offered-none (transmit_ring (resting size words)) refl))
       (all-none (CanTransmit memory));
 }
@@ -90,6 +93,7 @@ called-sound size words fits =
       transmit_slots = sound.transmit_slots;
       separate = sound.separate;
       reports = sound.reports;
+      begun = sound.begun;
       pads = sound.pads;
     }
 
@@ -105,28 +109,42 @@ called-runs size words fits =
       receive_indices = can.receive_indices;
       transmit_indices = can.transmit_indices;
       not_extended = can.not_extended;
-      frames = All-cons (Short (called size words)) call [] (omega (arith, call-legal.most)) (all-none (Short (called size words)));
       transmittable = can.transmittable;
     }
 
+called-receiver : (size : ℕ) (words : List ℕ) → IsReceiver (called size words).adapter.receiver
+called-receiver size words = record {
+  room = omega arith;
+  frames = All-cons IsLegal call [] call-legal (all-none IsLegal);
+  begun = omega arith;
+  least = λ work none. absurd (none-some work none);
+  most = λ work none. absurd (none-some work none);
+}
+
 -- It is in work,
 working-between : (size : ℕ) (words : List ℕ) → 4096 ≤ size → Between 0 0 (called size words) (working size words) nothing
-working-between size words fits = between_moved 0 0 (called size words) (called-has_frame size words) (called-can_move size words fits)
-    (called-sound size words fits)
+working-between size words fits =
+    let w = called size words in
+    let sound = called-sound size words fits in
+    between_moved true [] 0 0 0 w (called-has_frame size words) (called-can_move size words fits) (called-last size words)
+    (called-receiver size words)
+    (held-after_data w.adapter.filter.rctl (receive_ring w) w.adapter.receiver w.memory (finished_pieces 0 w)
+    (Moved (is_half_free (ring_of (moved_on w.adapter.receive_ring)))) sound.begun)
+    sound
 
 working-runs : (size : ℕ) (words : List ℕ) → 4096 ≤ size → CanRun (working size words)
-working-runs size words fits = (working-between size words fits).runs (all-none (Short (called size words))) (called-runs size words fits)
+working-runs size words fits = (working-between size words fits).runs (called-runs size words fits)
 
 abbrev work : Work
-work = record { descriptor = 2048; length = 60 }
+work = record { descriptor = 2048; length = 60; ends = true }
 
 -- and finished.
 abbrev done_with : ℕ → List ℕ → World
 done_with size words = record
-    { memory = with_bytes (working size words).memory (2048 + 8) (finished_bytes 60); adapter = done_adapter (working size words) }
+    { memory = with_bytes (working size words).memory (2048 + 8) (finished_bytes 60 true); adapter = done_adapter (working size words) }
 
 done-between : (size : ℕ) (words : List ℕ) → 4096 ≤ size → Between 0 0 (working size words) (done_with size words) nothing
-done-between size words fits = between_done 0 0 work (working size words) (omega arith) (omega arith)
+done-between size words fits = between_done 0 0 work (working size words) (omega arith)
     (working-between size words fits).sound
 
 done-finished : (size : ℕ) (words : List ℕ) → 4096 ≤ size → HasFinished (done_with size words)
@@ -147,7 +165,7 @@ took-between size words fits =
     (sending-sound size words fits)
 
 took-runs : (size : ℕ) (words : List ℕ) → 4096 ≤ size → CanRun (took size words)
-took-runs size words fits = (took-between size words fits).runs (all-none (Short (sending size words))) (sending-runs size words fits)
+took-runs size words fits = (took-between size words fits).runs (sending-runs size words fits)
 
 -- and put, and its slot is written back.
 abbrev fetched_one : ℕ → List ℕ → Queued
@@ -203,8 +221,7 @@ finished_can =
       done_with 4096 words,
       between.sound,
       fit,
-      between.runs (all-none (Short (working 4096 words)))
-          (working-runs 4096 words fits),
+      between.runs (working-runs 4096 words fits),
       done-finished 4096 words fits,
     )
 
@@ -233,7 +250,6 @@ written_can =
       put_with 4096 words,
       between.sound,
       fit,
-      between.runs (all-none (Short (took 4096 words)))
-          (took-runs 4096 words fits),
+      between.runs (took-runs 4096 words fits),
       put-written 4096 words fits,
     )

@@ -1,5 +1,5 @@
 -- An access over a lent bus, behind what comes before it.
-use Rattle.std.proofs.Common.{◌≡◌, ◌<◌, ◌+◌, ◌++◌, ◌∷◌, [], ℕ, List, All, Bool, inl, inr, length, min}
+use Rattle.std.proofs.Common.{◌≡◌, ◌<◌, ◌+◌, ◌++◌, ◌∷◌, [], ℕ, List, Bool, inl, inr, length, min}
 use Rattle.std.proofs.Common.{if◌then◌else◌, refl, sym, ap, subst, ◌∙◌, arith}
 use Rattle.std.specs.Bool.{⊤}
 use Rattle.std.proofs.lemmas.Bool.{eq-eqb}
@@ -11,13 +11,12 @@ use Rattle.bus.proofs.Trails.{trail_happens}
 use Rattle.bus.specs.BusMembers.{StaysWhole}
 use Rattle.bus.specs.Law.{Acts}
 use Rattle.bus.specs.PastOfStretch.{joined}
-use Rattle.bus.specs.TrailLaws.{past_of-append, same_past}
-use Rattle.bus.specs.Trails.{IsAnswered, IsStep, Trail, past_of, world_after_access}
+use Rattle.bus.specs.TrailLaws.{past_of-append}
+use Rattle.bus.specs.Trails.{IsAnswered, Trail, past_of, world_after_access}
 use Rattle.bus.specs.declared.event.Access.{Access}
 use Rattle.bus.specs.declared.event.Access.TheVariants.{Loads}
-use Rattle.bus.specs.declared.event.Event.{Event}
 use Rattle.bus.specs.declared.event.Event.TheVariants.{Accesses}
-use Rattle.bus.proofs.StepsThenAccess.{happens_accesses, no_access, past-with_access}
+use Rattle.bus.proofs.StepsThenAccess.{happens_accesses, past-with_access}
 use Rattle.stations.proofs.Places.{set-after, set-same}
 use Rattle.stations.specs.AtomicSteps.{At, OccursAt, tick_of}
 use Rattle.stations.specs.Stations.{StationState, stations_after, wire_of, world_at}

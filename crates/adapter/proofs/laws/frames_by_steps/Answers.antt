@@ -1,4 +1,4 @@
-use Rattle.adapter.specs.FrameLaws.{arrival_grows_frames, data_leaves_frames, done_takes_first_frame, putting_takes_first}
+use Rattle.adapter.specs.FrameLaws.{arrival_grows_frames, data_leaves_frames, done_finishes_piece, putting_takes_first}
 use Rattle.adapter.specs.FrameLaws.{taking_leaves_frames}
 use Rattle.adapter.proofs.laws.frames_by_steps.Goals as goal
 
@@ -15,4 +15,4 @@ pub returns-clause-data : goal.returns-clause-data
 returns-clause-data c = data_leaves_frames
 
 pub returns-clause-done : goal.returns-clause-done
-returns-clause-done c = done_takes_first_frame
+returns-clause-done c = done_finishes_piece

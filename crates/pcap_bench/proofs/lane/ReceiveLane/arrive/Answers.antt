@@ -1,12 +1,10 @@
 use Rattle.std.proofs.Common.{◌≡◌, List, ℕ, sym, ap, subst, ◌∙◌}
-use Rattle.rx_engine.specs.declared.arrival.Fate.{Fate}
-use Rattle.rx_engine.specs.declared.arrival.Fate.TheVariants.{Stored}
 use Rattle.adapter.specs.declared.outcome.Outcome.TheVariants.{Moved, Done}
-use Rattle.adapter.specs.Receiving.{after_arrive, after_data, after_done, memory_after_data_step, memory_after_done_step, CanMoveFrame}
+use Rattle.adapter.specs.Receiving.{after_data, after_done, memory_after_data_step, memory_after_done_step, is_last_piece, CanMovePiece}
 use Rattle.adapter.specs.State.{AdapterState}
 use Rattle.pcap_bench.specs.Lane.{LaneState}
 use Rattle.pcap_bench.proofs.Lanes.{has_room}
-use Rattle.pcap_bench.proofs.Steps.{after_steps, calm_of, can_move, memory_is, received, Received, with_stored}
+use Rattle.pcap_bench.proofs.Steps.{after_steps, can_move, is_stored, last_piece, memory_is, received, Received}
 use Rattle.pcap_bench.proofs.lane.ReceiveLane.arrive.Goals as goal
 
 pub finish_frame-requires-clause-place : goal.finish_frame-requires-clause-place
@@ -15,12 +13,19 @@ finish_frame-requires-clause-place c =
     let frame = c.args.frame.now in
     let is = c.self.invariant in
     let waiting = rw (← c.self.view_is) at c.requires.waiting in
-    let stored : c.arrive.new.self ≡ with_stored lane.adapter lane.slot frame =
-    c.arrive.ensures.state ∙ ap (λ (f : Fate). after_arrive f frame lane.adapter) c.in-Stored.is
-    ∙ ap (after_arrive Stored frame) (calm_of lane is waiting) in
+    let stored = is_stored lane frame c.arrive.result c.arrive.new.self is waiting c.arrive.ensures.state c.in-Stored.is in
     let room = has_room lane.memory frame lane.slot is.slot is.size is.buffers c.requires.legal in
-    subst (CanMoveFrame lane.memory) (sym stored)
+    subst (CanMovePiece lane.memory) (sym stored)
     (can_move lane.adapter lane.memory frame lane.slot is.receiving is.slot is.size c.requires.legal room)
+
+pub finish_frame-requires-clause-last : goal.finish_frame-requires-clause-last
+finish_frame-requires-clause-last c =
+    let lane : LaneState = record { adapter = c.self.inside.adapter; memory = c.self.inside.memory; slot = c.self.inside.slot } in
+    let frame = c.args.frame.now in
+    let is = c.self.invariant in
+    let waiting = rw (← c.self.view_is) at c.requires.waiting in
+    let stored = is_stored lane frame c.arrive.result c.arrive.new.self is waiting c.arrive.ensures.state c.in-Stored.is in
+    ap is_last_piece stored ∙ last_piece lane.adapter frame lane.slot is.receiving c.requires.legal
 
 all : (c : goal.After-finish_frame)
     → Received (record { adapter = c.finish_frame.new.adapter; memory = c.finish_frame.new.memory; slot = c.self.inside.slot })
@@ -30,16 +35,14 @@ all c =
     let frame = c.args.frame.now in
     let is = c.self.invariant in
     let waiting = rw (← c.self.view_is) at c.requires.waiting in
-    let stored : c.arrive.new.self ≡ with_stored lane.adapter lane.slot frame =
-    c.arrive.ensures.state ∙ ap (λ (f : Fate). after_arrive f frame lane.adapter) c.in-Stored.is
-    ∙ ap (after_arrive Stored frame) (calm_of lane is waiting) in
+    let stored = is_stored lane frame c.arrive.result c.arrive.new.self is waiting c.arrive.ensures.state c.in-Stored.is in
     let room = has_room lane.memory frame lane.slot is.slot is.size is.buffers c.requires.legal in
     let adapter : c.finish_frame.new.adapter ≡ (after_steps lane.adapter lane.memory frame lane.slot).adapter =
     c.finish_frame.ensures.adapter ∙ ap (λ (s : AdapterState). after_done Done (after_data Moved s)) stored in
     let memory : c.finish_frame.new.memory ≡ (after_steps lane.adapter lane.memory frame lane.slot).memory =
     c.finish_frame.ensures.memory
     ∙ ap (λ (s : AdapterState). memory_after_done_step (memory_after_data_step Moved lane.memory s) (after_data Moved s)) stored
-    ∙ memory_is lane.adapter lane.memory frame lane.slot is.slot room in
+    ∙ memory_is lane.adapter lane.memory frame lane.slot is.receiving is.slot c.requires.legal room in
     let last = received lane.adapter lane.memory frame lane.slot is.receiving is.slot is.size is.buffers c.requires.legal room in
     subst (λ (s : AdapterState). Received (record { adapter = s; memory = c.finish_frame.new.memory; slot = lane.slot }) frame)
     (sym adapter)

@@ -1,0 +1,60 @@
+-- A driver takes a run of its oldest finished receive slots if one frame ends in them, in the last: the slot after them is its oldest then.
+use Rattle.std.specs.Prelude.{◌≡◌, ◌++◌, ℕ, List, [], ◌∷◌, All, length, map}
+use Rattle.std.specs.List.{concat}
+use Rattle.descriptors.specs.Frames.{IsLegal}
+use Rattle.descriptors.specs.Ring.{address_of, count_of, slots_from}
+use Rattle.descriptors.specs.RingLaws.{place}
+use Rattle.rx_engine.specs.Descriptors.{descriptor_at}
+use Rattle.rx_engine.specs.Pieces.{IsLastSize, frames_of, parts}
+use Rattle.rx_engine.specs.Pieces.Piece.{Last}
+use Rattle.adapter.specs.Conditions.{AreCut, FitBuffers, Sound}
+use Rattle.adapter.specs.HostAreas.{IsForeign, buffer_size}
+use Rattle.adapter.specs.HostFrames.{finished_pieces, frames_held, named, piece_in}
+use Rattle.adapter.specs.Slots.{finished, outstanding}
+use Rattle.adapter.specs.World.{World, receive_ring}
+use Rattle.bus.specs.DriversSlots.{IsDriversSlot, frame_named}
+
+-- the places of these slots in the ring, from the oldest on
+abbrev pub places_of_run : ℕ → List ℕ → World → List ℕ
+places_of_run oldest run world = slots_from (count_of (receive_ring world)) oldest (length run)
+
+-- the place after them
+abbrev pub after_run : ℕ → List ℕ → World → ℕ
+after_run oldest run world = place (count_of (receive_ring world)) oldest (length run)
+
+-- If frames are cut into buffers of one size: the frame is legal, its parts fill their buffers, no slot has an error, and the frames of the
+-- other slots are cut so, too.
+pub record IsCutRun (oldest_receive : ℕ) (world : World) (run : List ℕ) (seen : List (List ℕ)) (last : List ℕ) : Type 0 where
+  pub legal : IsLegal (concat seen ++ last)
+  pub full : All (λ bytes. length bytes ≡ buffer_size world) seen
+  pub last_size : IsLastSize (buffer_size world) (length last)
+  pub have_no_errors : All (λ slot. (descriptor_at world.memory slot).errors ≡ 0) run
+  pub others : AreCut (after_run oldest_receive run world) world
+
+-- The slots contain parts, and then the last piece of their frame. With the place after them as the oldest the conditions hold, the slots
+-- are no longer outstanding but the driver's, and their frame leaves the front of the frames held. Its bytes aren't the adapter's to write.
+pub record RunTaken (oldest_receive oldest_transmit : ℕ) (world : World) (run : List ℕ) (seen : List (List ℕ)) (last : List ℕ)
+    (later : List ℕ) : Type 0 where
+  pub stand : run ≡ map (address_of (receive_ring world)) (places_of_run oldest_receive run world)
+  -- the bytes that each slot names, and how many its descriptor says they are
+  pub bytes : map (frame_named world) run ≡ seen ++ last ∷ []
+  pub sizes : map (λ slot. (descriptor_at world.memory slot).length) run ≡ map length (seen ++ last ∷ [])
+  pub sound : Sound (after_run oldest_receive run world) oldest_transmit world
+  pub behind : finished (after_run oldest_receive run world) world ≡ later
+  pub held : frames_held oldest_receive world ≡ (concat seen ++ last) ∷ frames_held (after_run oldest_receive run world) world
+  -- the frames that end in finished slots
+  pub ended : frames_of (finished_pieces oldest_receive world)
+      ≡ (concat seen ++ last) ∷ frames_of (finished_pieces (after_run oldest_receive run world) world)
+  pub first : outstanding (receive_ring world) oldest_receive
+      ≡ run ++ outstanding (receive_ring world) (after_run oldest_receive run world)
+  pub own : All (IsDriversSlot (receive_ring world) (after_run oldest_receive run world)) (places_of_run oldest_receive run world)
+  pub foreign : All (λ slot. IsForeign world (named world.memory slot)) run
+  pub fits : FitBuffers oldest_receive world → FitBuffers (after_run oldest_receive run world) world
+  pub cut : AreCut oldest_receive world → IsCutRun oldest_receive world run seen last
+
+abbrev pub RunsCanBeTaken : Type 0
+RunsCanBeTaken =
+    (oldest_receive oldest_transmit : ℕ) (world : World) (run : List ℕ) (seen : List (List ℕ)) (last : List ℕ) (later : List ℕ)
+    → Sound oldest_receive oldest_transmit world → finished oldest_receive world ≡ run ++ later
+    → map (piece_in world.memory) run ≡ parts seen ++ Last last ∷ []
+    → RunTaken oldest_receive oldest_transmit world run seen last later

@@ -1,0 +1,54 @@
+-- Frames in pieces: each piece is in a buffer of its own, and the descriptor of a frame's last piece has EOP ("3.2.3.1 Receive Descriptor
+-- Status Field"; the words for lists of pieces are our choice).
+use Rattle.std.specs.Prelude.{◌≡◌, ◌≤◌, ⊤, ℕ, List, [], ◌∷◌, ◌++◌, length}
+
+pub data Piece : Type 0 where
+  -- bytes of a frame that goes on in the next piece
+  Part : (bytes : List ℕ) → Piece
+  -- the last bytes of a frame: EOP
+  Last : (bytes : List ℕ) → Piece
+
+-- the frames that end in these pieces, if the first frame began with `begun`
+abbrev pub frames_from : List ℕ → List Piece → List (List ℕ)
+frames_from begun [] = []
+frames_from begun (Part bytes ∷ later) = frames_from (begun ++ bytes) later
+frames_from begun (Last bytes ∷ later) = (begun ++ bytes) ∷ frames_from [] later
+
+-- the bytes of the frame that doesn't end in them, after the last end
+abbrev pub begun_from : List ℕ → List Piece → List ℕ
+begun_from begun [] = begun
+begun_from begun (Part bytes ∷ later) = begun_from (begun ++ bytes) later
+begun_from begun (Last bytes ∷ later) = begun_from [] later
+
+-- the frames that end in these pieces, each with its pieces joined
+abbrev pub frames_of : List Piece → List (List ℕ)
+frames_of pieces = frames_from [] pieces
+
+-- the bytes after the last end, joined
+abbrev pub begun_of : List Piece → List ℕ
+begun_of pieces = begun_from [] pieces
+
+-- its frame goes on
+abbrev pub IsPart : Piece → Type 0
+IsPart (Part bytes) = ⊤
+IsPart (Last bytes) = ⊥
+
+-- a frame ends in it
+abbrev pub IsLast : Piece → Type 0
+IsLast (Part bytes) = ⊥
+IsLast (Last bytes) = ⊤
+
+-- the size of a frame's last piece
+pub record IsLastSize (size n : ℕ) : Type 0 where
+  pub least : 1 ≤ n
+  pub most : n ≤ size
+
+-- A piece of a frame that is cut into buffers of one size: it fills its buffer, unless it is the last.
+abbrev pub IsCut : ℕ → Piece → Type 0
+IsCut size (Part bytes) = length bytes ≡ size
+IsCut size (Last bytes) = IsLastSize size (length bytes)
+
+-- pieces without an end
+abbrev pub parts : List (List ℕ) → List Piece
+parts [] = []
+parts (bytes ∷ later) = Part bytes ∷ parts later
