@@ -73,7 +73,7 @@ module _ {B : Type 0} (bus : Ghosts B) where
       only = subst (λ (accesses : List Access). All (IsOf offset) (writes_in accesses)) (sym acts.only) only;
       settings = same ∙ happenings_leave_settings (bus.world old) acts.middle acts.past acts.before;
       rests = λ rest.
-          let waits = happenings_keep_rest (bus.world old) acts.middle acts.past acts.before rest in
+          let waits = happenings_keep_rest (bus.world old) acts.middle acts.past acts.before acts.adapter rest in
           (rests waits.0, waits.1);
     };
     count_is = omega (arith, ap (length {A = Access}) acts.only);

@@ -1,17 +1,15 @@
 -- Writes of registers as stretches of a driver's run, if it is known in which world each begins.
-use Rattle.std.proofs.Common.{Bool, true, false, ◌≡◌, ◌<◌, ◌+◌, ◌*◌, ◌⊎◌, ⊎_elim, ◌++◌, ◌∷◌, [], ℕ, List, length, Option, bit_and, map, inl}
+use Rattle.std.proofs.Common.{Bool, true, false, ◌≡◌, ◌<◌, ◌+◌, ◌*◌, ◌⊎◌, ⊎_elim, ◌++◌, ◌∷◌, [], ℕ, List, length, Option, bit_and, inl}
 use Rattle.std.proofs.Common.{inr, refl, sym, ap, subst, ◌∙◌, arith}
-use Rattle.std.proofs.lemmas.List.{append-nil}
+use Rattle.std.proofs.lemmas.List.{append-nil, nil_from_length}
 use Rattle.registers.specs.Bits.{HasBit}
 use Rattle.registers.specs.Laws.{HasBit-union}
-use Rattle.dma_memory.specs.Areas.{bytes_in}
 use Rattle.descriptors.specs.Ring.{count_of}
-use Rattle.rx_engine.specs.Held.{held}
+use Rattle.rx_engine.specs.Pieces.{frames_of}
 use Rattle.adapter.specs.HostAreas.{buffer_size}
-use Rattle.adapter.specs.HostFrames.{frames_held, named}
+use Rattle.adapter.specs.HostFrames.{frames_held}
 use Rattle.adapter.specs.KnownRing.{KnowsRing}
 use Rattle.adapter.specs.Registers.{left_by_write}
-use Rattle.adapter.specs.Slots.{finished}
 use Rattle.adapter.specs.TableLaws.{register_at-there}
 use Rattle.adapter.specs.World.{World, receive_ring, transmit_ring, world_after_write}
 use Rattle.adapter.specs.declared.register.Register.{Register}
@@ -24,11 +22,10 @@ use Rattle.bus.specs.declared.bus.Bus.{Ghosts}
 use Rattle.bus.specs.declared.event.Access.{Access}
 use Rattle.bus.specs.declared.event.Access.TheVariants.{Writes}
 use Rattle.bus.proofs.KnownRings.{known_transmit_ring_stays}
-use Rattle.bus.proofs.Lists.{append-empty, map-empty}
 use Rattle.bus.proofs.Settings.{happens-off}
-use Rattle.bus.proofs.WaitingRings.{offers_wait}
+use Rattle.bus.proofs.WaitingRings.{holds-none, offers_wait}
 use Rattle.driver_law.specs.Beginnings.{Enabled}
-use Rattle.driver_law.specs.Calls.{Goes, GoesTo, Ran, at, driver_did, driver_in, only}
+use Rattle.driver_law.specs.Calls.{Goes, GoesTo, Ran, at, driver_did, driver_in, frames_ended, only}
 use Rattle.driver_law.specs.DriverState.{DriverState, transmit_tail}
 use Rattle.driver_law.specs.ReadyDrivers.{Ready, ReadyWith}
 use Rattle.driver_law.proofs.Accesses.{SetsBy, access-link, access-set, write-sets}
@@ -107,7 +104,8 @@ lets-frames-in bus old new promiscuous by_vlan value d is written ready none off
     let acts = subst (WriteActs bus old new 0x0100) is written in
     let middle = acts.middle in
     let within : o < count_of (receive_ring (bus.world old)) = omega (arith, ready.driver_is.oldest_slot, ready.receive.slots) in
-    let waits = offers_wait o d.oldest_transmit (bus.world old) middle acts.past ready.law.sound within off none acts.before in
+    let waits = offers_wait o d.oldest_transmit (bus.world old) middle acts.past ready.law.sound within off ready.law.whole none acts.before
+    in
     let arrives = acts.before.steady.off off in
     let between = acts.before.between o d.oldest_transmit ready.law.sound in
     let empty : frames_held o middle ≡ [] = between.holds ∙ ap (λ (frames : List (List ℕ)). frames ++ acts.past.stored) none ∙ arrives.0 in
@@ -118,15 +116,12 @@ lets-frames-in bus old new promiscuous by_vlan value d is written ready none off
     (receiver_is_enabled d control middle ready_there waits.none_finished waits.no_work (not-extended promiscuous by_vlan)
     (big-buffers promiscuous by_vlan middle)) in
     let none_held : frames_held o (bus.world new) ≡ [] = goes.flows.holds ∙ append-nil (frames_held o middle) ∙ empty in
-    let parts = append-empty
-    (map (λ (descriptor : ℕ). bytes_in (bus.world new).memory (named (bus.world new).memory descriptor)) (finished o (bus.world new)))
-    (held (bus.world new).memory (bus.world new).adapter.receiver) none_held in
+    let law = goes.flows.ready.law in
     record {
       ran = ran_by-begins bus old new (Writes 0x0100 control) _ d acts (write-sets 0x0100 control (bus.world new)) ready
           (λ there. goes);
       none_held = none_held;
-      none_finished = map-empty (λ (descriptor : ℕ). bytes_in (bus.world new).memory (named (bus.world new).memory descriptor))
-          (finished o (bus.world new)) parts.0;
+      none_finished = (holds-none o d.oldest_transmit (bus.world new) law.sound law.whole none_held).none_finished;
       no_arrival = record { none_stored = arrives.0; none_missed = arrives.1 };
     }
 
@@ -153,19 +148,16 @@ lets-frames-out bus old new value d is written ready below knows =
 
 -- IMS.
 
-no-slots : (slots : List ℕ) → length slots ≡ 0 → slots ≡ []
-no-slots [] none = refl
-no-slots (slot ∷ slots) none = absurd (omega (arith, none))
-
--- What was told of finished slots before it.
+-- What was told of frames that end in finished slots before it.
 pub asked-still : (d : DriverState) (a b : World) (past : Past) → Goes (driver_in d a) (driver_in d b) (driver_did [] []) past
-    → (finished d.oldest_receive a ≡ []) ⊎ HasBit a.adapter.causes.recorded 7
-    → (finished d.oldest_receive b ≡ []) ⊎ HasBit b.adapter.causes.recorded 7
+    → (frames_ended (driver_in d a) ≡ []) ⊎ HasBit a.adapter.causes.recorded 7
+    → (frames_ended (driver_in d b) ≡ []) ⊎ HasBit b.adapter.causes.recorded 7
 asked-still d a b past goes asked =
     ⊎_elim
-    (λ (same : length (finished d.oldest_receive a) ≡ 0 + length (finished d.oldest_receive b)).
+    (λ (same : length (frames_ended (driver_in d a)) ≡ 0 + length (frames_ended (driver_in d b))).
     ⊎_elim
-    (λ (none : finished d.oldest_receive a ≡ []). inl (no-slots (finished d.oldest_receive b) (omega (arith, same, ap length none))))
+    (λ (none : frames_ended (driver_in d a) ≡ []).
+    inl (nil_from_length (frames_ended (driver_in d b)) (omega (arith, same, ap length none))))
     (λ (bit : HasBit a.adapter.causes.recorded 7). inr (goes.causes 7 bit))
     asked)
     (λ (bit : HasBit b.adapter.causes.recorded 7). inr bit)
@@ -205,7 +197,7 @@ enables-causes bus old new value d is written ready =
             enabled = mask;
             asked =
                 ⊎_elim
-                (λ (none : finished d.oldest_receive middle ≡ []). inl (enabled.finished_same ∙ none))
+                (λ (none : frames_ended (driver_in d middle) ≡ []). inl (ap frames_of enabled.pieces_same ∙ none))
                 (λ (bit : HasBit middle.adapter.causes.recorded 7). inr (subst (λ (bits : ℕ). HasBit bits 7) (sym enabled.recorded) bit))
                 (asked-still d (bus.world old) middle acts.past goes asked);
           };

@@ -39,7 +39,7 @@ asks-access bus old new access effect offset acts only left rests = record {
     only = subst (λ (accesses : List Access). All (λ write. write.offset ≡ offset) (writes_in accesses)) (sym acts.only) only;
     settings = left ∙ happenings_leave_settings (bus.world old) acts.middle acts.past acts.before;
     rests = λ rest.
-        let waits = happenings_keep_rest (bus.world old) acts.middle acts.past acts.before rest in
+        let waits = happenings_keep_rest (bus.world old) acts.middle acts.past acts.before acts.adapter rest in
         (rests waits.0, waits.1);
   };
   often = let one : length acts.past.accesses ≡ 1 = ap length acts.only in omega arith;

@@ -8,7 +8,7 @@ use Rattle.std.proofs.lemmas.List.Kept.{AllPairs-cons}
 use Rattle.registers.specs.Bits.{HasBit, field}
 use Rattle.registers.specs.Laws.{HasBit-zero}
 use Rattle.registers.specs.ReceiveControl.{buffer_size_of}
-use Rattle.dma_memory.specs.Areas.{AreApart, AreSeparate, Area, bytes_in}
+use Rattle.dma_memory.specs.Areas.{AreApart, AreSeparate, Area}
 use Rattle.dma_memory.specs.HostMemory.{LiesIn}
 use Rattle.dma_memory.specs.Layout.{IsRingSize, size_of}
 use Rattle.dma_memory.specs.LayoutLaws.{begins}
@@ -17,7 +17,7 @@ use Rattle.descriptors.specs.Ring.{count_of}
 use Rattle.rx_engine.specs.Held.{held}
 use Rattle.tx_engine.specs.Transmitter.{Transmitter}
 use Rattle.adapter.specs.HostAreas.{ring_area}
-use Rattle.adapter.specs.HostFrames.{frames_held, named}
+use Rattle.adapter.specs.HostFrames.{frames_held, piece_in}
 use Rattle.adapter.specs.KnownRing.{KnowsRing}
 use Rattle.adapter.specs.Rings.{new_ring, ring_distance, ring_of, ring_written}
 use Rattle.adapter.specs.Slots.{finished, is_done, outstanding}
@@ -76,7 +76,7 @@ rests-write bus old new part value word rx before after is written idle first sh
     record {
       sets = sets-write bus old new (0x2800 + ring_distance part) word acts;
       after_is = λ state.
-          let rest = (happenings_keep_rest (bus.world old) middle acts.past acts.before state.rest).0 in
+          let rest = (happenings_keep_rest (bus.world old) middle acts.past acts.before acts.adapter state.rest).0 in
           let receives : middle.adapter.receive_ring ≡ before =
           still-ring (bus.world old).adapter.receive_ring middle.adapter.receive_ring steady.receive_ring state.rest.rings.receive
           rest.rings.receive ∙ state.receives_is in
@@ -104,7 +104,7 @@ rests-write bus old new part value word rx before after is written idle first sh
             transmits = transmits;
             room = room;
           });
-      no_frame = λ state. (happenings_keep_rest (bus.world old) middle acts.past acts.before state.rest).1;
+      no_frame = λ state. (happenings_keep_rest (bus.world old) middle acts.past acts.before acts.adapter state.rest).1;
     }
 
 -- One step, and then another.
@@ -169,9 +169,8 @@ held-none world rest first =
     let ring = receive_ring world in
     let clear : outstanding ring 0 ≡ [] = subst (λ (oldest : ℕ). outstanding ring oldest ≡ []) first (outstanding-none ring) in
     let none : finished 0 world ≡ [] = ap (take_while (is_done world.memory)) clear in
-    ap (λ (slots : List ℕ). map (λ (slot : ℕ). bytes_in world.memory (named world.memory slot)) slots
-    ++ held world.memory world.adapter.receiver) none
-    ∙ ap (held world.memory) rest.receiver
+    ap (λ (slots : List ℕ). held world.memory (map (piece_in world.memory) slots) world.adapter.receiver) none
+    ∙ ap (held world.memory []) rest.receiver
 
 pub drivers_begin_at_rest : DriversBeginAtRest
 drivers_begin_at_rest counts pool world allowed owner lies has =

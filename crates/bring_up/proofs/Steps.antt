@@ -71,7 +71,7 @@ sets-access bus old new access effect writes acts are set rests link = record {
   writes_are = ap writes_in acts.only ∙ are;
   settings = set ∙ ap (settings_after_all writes) (happenings_leave_settings (bus.world old) acts.middle acts.past acts.before);
   rests = λ aside rest.
-      let waits = happenings_keep_rest (bus.world old) acts.middle acts.past acts.before rest in
+      let waits = happenings_keep_rest (bus.world old) acts.middle acts.past acts.before acts.adapter rest in
       (rests aside waits.0, waits.1);
   link = λ leaves up. link leaves (happenings_keep_link (bus.world old) acts.middle acts.past acts.before up);
 }

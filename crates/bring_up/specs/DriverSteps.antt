@@ -15,7 +15,7 @@ use Rattle.bus.specs.declared.bus.Bus.{Ghosts}
 use Rattle.bus.specs.declared.event.Access.{Access}
 use Rattle.bus.specs.declared.event.Access.TheVariants.{Writes}
 use Rattle.driver_law.specs.Beginnings.{Enabled}
-use Rattle.driver_law.specs.Calls.{FollowsWrites, Goes, HasNoForgottenWork, Ran, at, driver_did, driver_in, only}
+use Rattle.driver_law.specs.Calls.{FollowsWrites, Goes, HasNoForgottenWork, Ran, at, driver_did, driver_in, frames_ended, only}
 use Rattle.driver_law.specs.DriverState.{DriverState}
 use Rattle.driver_law.specs.ReadyDrivers.{Ready}
 
@@ -68,6 +68,6 @@ pub record EnablesCauses {B : Type 0} (bus : Ghosts B) (causes : ℕ) (d : Drive
   pub ready : Ready d (bus.world new)
   pub holds : frames_held d.oldest_receive (bus.world new) ≡ frames_held d.oldest_receive (bus.world old) ++ accessed.past.stored
   pub mask : HasBit (bus.world new).adapter.causes.mask rxt0
-  -- No work is forgotten, if no slot was finished before the write or RXT0 was recorded.
-  pub work : (finished d.oldest_receive (bus.world old) ≡ []) ⊎ HasBit (bus.world old).adapter.causes.recorded rxt0
+  -- No work is forgotten, if no frame ended in finished slots before the write or RXT0 was recorded.
+  pub work : (frames_ended (driver_in d (bus.world old)) ≡ []) ⊎ HasBit (bus.world old).adapter.causes.recorded rxt0
       → HasNoForgottenWork d (bus.world new)

@@ -56,7 +56,7 @@ pub fn interrupt_causes() -> Cause
 }
 
 /// Enables the causes that a driver handles. A driver that is ready stays so, and no work is forgotten afterwards,
-/// if no slot was finished before or RXT0 was recorded.
+/// if no frame ended in finished slots before or RXT0 was recorded.
 pub fn enable_interrupts<B: Bus>(bus: &mut B)
     ensures keeps { Keeps B.Bus bus.old bus.new }
     ensures sets { B.honest bus.old → Sets B.Bus mask_writes bus.old bus.new }

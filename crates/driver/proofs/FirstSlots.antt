@@ -44,7 +44,8 @@ head-first d world ready first full none =
     let ring = receive_ring world in
     let n = d.layout.rx in
     let knows = ready.receive in
-    let same = all-offered d.oldest_receive d.oldest_transmit world ready.law.sound (holds-none d.oldest_receive world none) in
+    let same = all-offered d.oldest_receive d.oldest_transmit world ready.law.sound
+    (holds-none d.oldest_receive d.oldest_transmit world ready.law.sound ready.law.whole none) in
     let from : Ring = record ring { head = d.oldest_receive } in
     let long : distance_of from d.oldest_receive ring.tail ≡ distance_of ring ring.head ring.tail =
     sym (length-places from) ∙ sym (length-map (offered_places from) (address_of from)) ∙ ap length same

@@ -1,6 +1,6 @@
 -- An adapter is brought up, step by step.
 use Rattle.std.proofs.Common.{Bool, IsTrue, Option, None, Some, is_some, true, false, ◌≡◌, ◌≤◌, ◌<◌, ◌+◌, ◌-◌, ◌*◌, ◌++◌, ◌∷◌, [], ℕ, List}
-use Rattle.std.proofs.Common.{length, inl, refl, sym, ap, subst, ◌∙◌, append_assoc, arith}
+use Rattle.std.proofs.Common.{length, map, inl, refl, sym, ap, subst, ◌∙◌, append_assoc, arith}
 use Rattle.std.specs.List.{All}
 use Rattle.std.proofs.lemmas.List.{append-nil}
 use Rattle.std.proofs.lemmas.List.Elements.{All-cons}
@@ -10,7 +10,8 @@ use Rattle.dma_memory.specs.Layout.{Counts}
 use Rattle.descriptors.specs.RingLaws.{place}
 use Rattle.rx_engine.specs.Addresses.{IsAddress}
 use Rattle.eeprom.specs.Image.{HasRightSum, address_bytes}
-use Rattle.adapter.specs.HostFrames.{frames_held, frames_to_send}
+use Rattle.rx_engine.specs.Pieces.{frames_of}
+use Rattle.adapter.specs.HostFrames.{frames_held, frames_to_send, piece_in}
 use Rattle.adapter.specs.Rings.{new_ring}
 use Rattle.adapter.specs.Slots.{finished}
 use Rattle.adapter.specs.TableLaws.{register_at-there}
@@ -283,8 +284,10 @@ counts-from d a b c first later one two none_to_send none_held none_missed =
     }
 
 -- If no frame is held, no slot is finished.
-none-finished : (oldest : ℕ) (world : World) → frames_held oldest world ≡ [] → finished oldest world ≡ []
-none-finished oldest world none = (holds-none oldest world none).none_finished
+none-finished : (d : DriverState) (world : World) → ReadyWith true d world → frames_held d.oldest_receive world ≡ []
+    → finished d.oldest_receive world ≡ []
+none-finished d world ready none =
+    (holds-none d.oldest_receive d.oldest_transmit world ready.law.sound ready.law.whole none).none_finished
 
 -- The link stays up.
 link-up : (config : Config) (address groups vlans : List ℕ) → length groups ≡ 128 → length vlans ≡ 128
@@ -378,12 +381,13 @@ initialises bus joins b0 b1 b2 b3 b4 b5 config size pool numbers d past had told
       };
       started = record {
         ready = masks.ready;
-        work = masks.work (asked-still d (bus.world b3) (bus.world b4) sends.past sends.goes (inl lets.none_finished));
+        work = masks.work (asked-still d (bus.world b3) (bus.world b4) sends.past sends.goes (inl (ap (λ (slots : List ℕ). frames_of (map (piece_in (bus.world b3).memory) slots))
+            lets.none_finished)));
         frames = record {
           held = held;
           none_put = from.none_put;
           none_to_send = masks.enabled.to_send ∙ from.none_to_send;
-          none_finished = λ none. none-finished d.oldest_receive (bus.world b5) (held ∙ none);
+          none_finished = λ none. none-finished d (bus.world b5) masks.ready (held ∙ none);
           head = λ none.
               head-first d (bus.world b5) masks.ready (ap (λ (s : DriverState). s.oldest_receive) is)
               (ap (λ (s : DriverState). length s.buffers + 1) is ∙ count ∙ sym (ap (λ (s : DriverState). s.layout.rx) is)) (held ∙ none);

@@ -1,7 +1,14 @@
 pub mod FreedSlots
 pub mod SentFrames
 pub mod BufferQueue
+pub mod PlacesOfParts
+pub mod PartsGiven
+pub mod SeenSlots
+pub mod ReadFrames
 pub mod RefillSteps
+pub mod TakenBuffers
+pub mod ShownRuns
+pub mod TakenRuns
 pub mod TakenFrames
 pub mod HandlerSteps
 pub mod FirstSlots

@@ -1,11 +1,12 @@
 -- Slots are staged one after the other, and then offered.
-use Rattle.std.proofs.Common.{◌≡◌, ◌+◌, ◌++◌, ◌∷◌, [], ℕ, List, length, refl, sym, ap, subst, ◌∙◌, append_assoc, length-append, arith}
+use Rattle.std.proofs.Common.{◌≡◌, ◌+◌, ◌++◌, [], ℕ, List, length, refl, sym, ap, subst, ◌∙◌, append_assoc, length-append, arith}
 use Rattle.std.proofs.lemmas.List.{append-nil, map-append}
 use Rattle.std.specs.List.{All}
-use Rattle.bus.proofs.Lists.{all-without}
+use Rattle.std.proofs.lemmas.List.Elements.{All-append}
+use Rattle.bus.proofs.Lists.{all-left, all-right}
 use Rattle.driver_law.proofs.TakenSlots.{buffers_can_come_back}
 use Rattle.dma_memory.specs.Owners.{HaveSameNumbers, copies}
-use Rattle.dma_memory.specs.OwnersLaws.{copies-append, copies-cons}
+use Rattle.dma_memory.specs.OwnersLaws.{copies-append}
 use Rattle.descriptors.specs.RingLaws.{place}
 use Rattle.bus.specs.Keeping.{Keeps}
 use Rattle.bus.specs.PastOfStretch.{Past, joined, nothing}
@@ -19,6 +20,8 @@ use Rattle.driver_law.specs.Calls.{Moment, Ran, Runs, WhereReady, at, held_at, o
 use Rattle.driver_law.specs.DriverState.{DriverState, HandedOut, holding, next_receive, numbers_of, owners, with_owners}
 use Rattle.driver_law.specs.ReadyDrivers.{Stands}
 use Rattle.bus.specs.declared.bus.Bus.{Ghosts}
+use Rattle.driver.specs.Parts.{buffers_in}
+use Rattle.driver.specs.declared.parts.Part.{Part}
 use Rattle.driver.specs.RefillSteps.{Refills, Stages, WhereHeld}
 
 -- No slot is staged.
@@ -111,28 +114,31 @@ owners-staged bus a b xs stages k =
     omega (arith, owners-count k d, owners-count k later, stages.pool k, copies-append k xs left, copies-append k d.staged xs)
     ∙ ap (λ (s : DriverState). copies k (owners s)) (sym stages.others)
 
--- A buffer comes back, and then slots are offered.
+-- Buffers come back, and then slots are offered.
 pub gives : {B : Type 0} (bus : Ghosts B) → ((b : B) → bus.happened b b nothing)
     → ((a b c : B) (first later : Past) → bus.happened a b first → bus.happened b c later → bus.happened a c (joined first later))
-    → (a : B) (d1 d2 : DriverState) (c : Moment B) (m : ℕ) → d2 ≡ record d1 { pool = d2.pool } → HaveSameNumbers (m ∷ d1.pool) d2.pool
-    → WhereReady bus (at a d2) c (Refills bus) → WhereHeld bus m (at a d1) c (Refills bus)
-gives {B} bus stays joins a d1 d2 c m others back refilling up first later one named is =
-    let before = first ++ one ∷ later in
+    → (a : B) (d1 d2 : DriverState) (c : Moment B) (parts : List Part) → d2 ≡ record d1 { pool = d2.pool }
+    → HaveSameNumbers (buffers_in parts ++ d1.pool) d2.pool
+    → WhereReady bus (at a d2) c (Refills bus) → WhereHeld bus parts (at a d1) c (Refills bus)
+gives {B} bus stays joins a d1 d2 c parts others back refilling up first pieces later named is =
+    let before = first ++ (pieces ++ later) in
     let left = first ++ later in
     let number : HandedOut → ℕ = λ x. x.number in
     let P = Stands d1.layout (bus.world a).memory in
-    let stand : All P left = all-without P first one later is.ready.stand in
+    let stand : All P left = All-append P first later (all-left P first (pieces ++ later) is.ready.stand)
+    (all-right P pieces later (all-right P first (pieces ++ later) is.ready.stand)) in
     let moves : (k : ℕ) → copies k d2.pool + copies k (numbers_of left) ≡ copies k d1.pool + copies k (numbers_of before) = λ k.
     omega (
       arith,
       back k,
-      copies-cons k m d1.pool,
+      copies-append k (buffers_in parts) d1.pool,
       ap (copies k) (map-append number first later),
       copies-append k (numbers_of first) (numbers_of later),
-      ap (copies k) (map-append number first (one ∷ later)),
-      copies-append k (numbers_of first) (one.number ∷ numbers_of later),
-      copies-cons k m (numbers_of later),
-      ap (λ (x : ℕ). copies k (x ∷ numbers_of later)) named,
+      ap (copies k) (map-append number first (pieces ++ later)),
+      copies-append k (numbers_of first) (numbers_of (pieces ++ later)),
+      ap (copies k) (map-append number pieces later),
+      copies-append k (numbers_of pieces) (numbers_of later),
+      ap (copies k) named,
     ) in
     let d2' : DriverState = record d1 { pool = d2.pool } in
     let comes = ran_by-itself bus stays a (holding before d1) (holding left d2') [] []

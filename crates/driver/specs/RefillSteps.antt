@@ -1,9 +1,11 @@
 -- What a driver does to offer receive slots.
-use Rattle.std.specs.Prelude.{◌≡◌, ◌++◌, ◌∷◌, ℕ, Bool, List}
+use Rattle.std.specs.Prelude.{◌≡◌, ◌++◌, ℕ, Bool, List}
 use Rattle.dma_memory.specs.Owners.{HaveSameNumbers}
 use Rattle.driver_law.specs.Calls.{IsReady, Moment, Ran, Runs, held_at, only, stores_from, tail_write}
 use Rattle.bus.specs.declared.bus.Bus.{Ghosts}
-use Rattle.driver_law.specs.DriverState.{HandedOut, next_receive, with_owners}
+use Rattle.driver_law.specs.DriverState.{HandedOut, next_receive, numbers_of, with_owners}
+use Rattle.driver.specs.Parts.{buffers_in}
+use Rattle.driver.specs.declared.parts.Part.{Part}
 
 -- The next slots are staged with these buffers of the pool: over a bus that obeys the law, by storing their descriptors one after the
 -- other.
@@ -27,9 +29,10 @@ pub record Refills {B : Type 0} (bus : Ghosts B) (up : Bool) (old new : Moment B
       Ran bus up (only (stores_from old.driver.layout (next_receive old.driver) numbers
       ++ tail_write (next_receive new.driver) (old.driver.staged ++ numbers))) old new
 
--- A call takes back the buffer of this number. If the bus obeys the law, and the driver is ready before the call with a frame held in that
--- buffer, `Holds` relates the moments before and after it.
-abbrev pub WhereHeld : {B : Type 0} → Ghosts B → ℕ → (old new : Moment B) → (Bool → Moment B → Moment B → Type 0) → Type 0
-WhereHeld bus number old new Holds =
-    (up : Bool) (first later : List HandedOut) (one : HandedOut) → one.number ≡ number
-    → IsReady bus up (held_at (first ++ one ∷ later) old) → Holds up (held_at (first ++ one ∷ later) old) (held_at (first ++ later) new)
+-- A call takes back the buffers of a frame's pieces. If the bus obeys the law, and the driver is ready before the call with pieces held in
+-- those buffers, `Holds` relates the moments before and after it.
+abbrev pub WhereHeld : {B : Type 0} → Ghosts B → List Part → (old new : Moment B) → (Bool → Moment B → Moment B → Type 0) → Type 0
+WhereHeld bus parts old new Holds =
+    (up : Bool) (first pieces later : List HandedOut) → numbers_of pieces ≡ buffers_in parts
+    → IsReady bus up (held_at (first ++ (pieces ++ later)) old)
+    → Holds up (held_at (first ++ (pieces ++ later)) old) (held_at (first ++ later) new)

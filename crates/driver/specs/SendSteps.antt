@@ -77,7 +77,7 @@ IsAnswer bus (Err TooShort) old new = ⊤
 IsAnswer bus (Err TooLong) old new = ⊤
 IsAnswer bus (Err RingFull) old new = IsFull bus old × IsFull bus new
 
--- the frame is shorter than `shortest_sent` or longer than `longest_frame`
+-- The answer is the error TooShort or TooLong. The contract of `transmit` states for which frames (`too_short`, `too_long`).
 abbrev pub HasWrongLength : SendAnswer → Type 0
 HasWrongLength (Err TooShort) = ⊤
 HasWrongLength (Err TooLong) = ⊤

@@ -35,7 +35,7 @@ pub struct Driver {
     pub(crate) missed: u64,
     /// Whether no miss was lost: MPC was never read as its greatest value, and the sum never saturated.
     pub(crate) exact: bool,
-    /// The number of finished slots that weren't delivered, up to the greatest `u64`.
+    /// The number of runs of finished slots that weren't delivered, up to the greatest `u64`.
     pub(crate) bad: u64,
 }
 
@@ -84,8 +84,8 @@ impl Driver {
         (self.missed, self.exact)
     }
 
-    /// The number of finished slots that weren't delivered, as they held no whole frame of 60 to 1,518 bytes. A bus
-    /// that obeys the law never has such a slot.
+    /// The number of runs of finished slots that weren't delivered, as they didn't contain a whole frame of 60 to 1,518
+    /// bytes. A bus that obeys the law never has such a run.
     pub fn bad(&self) -> u64
         ensures { result ≡ self.now.bad }
     {

@@ -24,7 +24,7 @@ pub enum Handled {
     NotMine,
     /// ICR had at least one of them.
     Handled {
-        /// The number of receive slots taken.
+        /// The number of frames that the receiver was shown. Runs of slots without a whole frame aren't counted here.
         taken: u64,
     },
 }
@@ -57,8 +57,9 @@ impl Driver {
     }
 
     /// Handles an interrupt. It reads ICR first. If ICR has none of TXDW, RXDMT0, RXO and RXT0, it does nothing more.
-    /// Otherwise it reads MPC, takes finished receive slots, among them all that were finished at the beginning, and
-    /// refills the ring.
+    /// Otherwise it reads MPC, takes the frames of finished receive slots, and refills the ring. If the bus obeys the
+    /// law and the driver is ready, the frames that it takes include all that ended in finished slots at the beginning.
+    /// `bus` must have at least `layout().size()` bytes.
     pub fn interrupt<B: Bus, R: Receiver>(&mut self, bus: &mut B, receiver: &mut R) -> Handled
         requires memory { size_of self.old.layout ≤ B.extent bus.old }
         ensures keeps { Keeps B.Bus bus.old bus.new }

@@ -7,6 +7,8 @@
 mod driver;
 mod init;
 mod interrupt;
+mod look;
+mod parts;
 mod read;
 mod receive;
 mod receiver;
@@ -15,5 +17,6 @@ mod transmit;
 
 pub use driver::Driver;
 pub use interrupt::Handled;
+pub use parts::{MOST_PARTS, Part, Parts};
 pub use receiver::{Received, Receiver};
 pub use transmit::SendError;

@@ -1,154 +1,131 @@
 // A driver takes received frames off its ring.
 
-ghost use Rattle.std.specs.Prelude.{◌≡◌, ◌↔◌, ◌+◌, ◌<◌, ◌≤◌, ◌∷◌, [], IfNone, IfSome, IsTrue};
+ghost use Rattle.std.specs.Prelude.{◌≡◌, ◌+◌, ◌<◌, ◌≤◌, ◌++◌, ◌∷◌, [], drop, length, sum, take, All, IsTrue};
+ghost use Rattle.circular_buffer.specs.Buffer.{buffer};
 ghost use Rattle.dma_memory.specs.Layout.{size_of};
-ghost use Rattle.dma_memory.specs.Owners.{HasNoSecondOwner, copies};
-ghost use Rattle.registers.specs.Bits.{HasBit, is_set};
-ghost use Rattle.descriptors.specs.RxStatus.{dd, eop, status_bits};
-ghost use Rattle.adapter.specs.Conditions.{IsWhole};
+ghost use Rattle.dma_memory.specs.Owners.{HasNoSecondOwner, HaveSameNumbers};
 ghost use Rattle.bus.specs.Keeping.{Keeps};
-ghost use Rattle.bus.specs.declared.event.Access.TheVariants.{Loads};
-ghost use Rattle.driver_law.specs.Calls.{Runs, WhereReady, at, only};
-ghost use Rattle.driver_law.specs.DriverState.{buffer_at, owners};
-ghost use Rattle.driver.specs.HandlerSteps.{HandsOn, HandsOver, IsFrameSize, LeavesRing, LooksAt, ReadsEtherType};
-ghost use Rattle.driver.specs.HandlerSteps.{Shows, TakesAll, TakesSlots, WhereReadyIn, WhereTaken, scene};
+ghost use Rattle.driver_law.specs.Calls.{Runs, at, ether_type_load, only};
+ghost use Rattle.driver_law.specs.DriverState.{owners};
+ghost use Rattle.driver.specs.HandlerSteps.{HandsOn, HandsOver, LeavesRing, ReadsEtherType, Shows, TakesAll};
+ghost use Rattle.driver.specs.HandlerSteps.{TakesSlots, WhereReadyIn, WhereTaken, scene};
+ghost use Rattle.driver.specs.Parts.{FitIntoBuffers, IsFrameSize, buffers_in, lengths_in};
 
-use crate::refill::receive_slot;
-use crate::{Driver, Received, Receiver};
-use bitflags::Flags;
+use crate::look::Run;
+use crate::{Driver, Part, Parts, Received, Receiver};
 use bus::Bus;
-use descriptors::{RX_DESC_BYTES, RxDesc, RxStatus};
+use circular_buffer::HeapCircularBuffer;
 use dma_memory::BufId;
-
-/// The size of the shortest frame that an adapter receives, in bytes, without its check sequence.
-const SHORTEST_RECEIVED: u16 = 60;
-
-/// The size of the longest frame that an adapter receives, in bytes, without its check sequence.
-const LONGEST_RECEIVED: u16 = 1518;
 
 /// The offset of the EtherType in a frame, in bytes.
 const ETHER_TYPE: u64 = 12;
 
-/// A slot that was taken off the ring.
-#[derive(Drop)]
-struct Finished {
-    buffer: BufId,
-    length: u16,
-    /// Whether its descriptor is that of a whole frame.
-    whole: bool,
-}
-
-/// Whether the adapter is done with a descriptor.
-fn is_done(descriptor: &RxDesc) -> bool
-    ensures { result ≡ is_set (status_bits descriptor.now.status) dd }
+/// Takes the oldest buffers of a queue, one for each length.
+fn take_parts(queue: &mut HeapCircularBuffer<BufId>, lengths: &[u16]) -> Parts
+    requires few { length lengths.now ≤ 6 }
+    requires enough { length lengths.now ≤ length queue.old.items }
+    ensures left { queue.new ≡ buffer (drop (length lengths.now) queue.old.items) queue.old.capacity }
+    ensures buffers { buffers_in result ≡ take (length lengths.now) queue.old.items }
+    ensures lengths { lengths_in result ≡ lengths.now }
 {
-    descriptor.status.contains(RxStatus::DD)
-}
-
-/// Whether a packet ends in a descriptor's buffer: EOP.
-fn is_ended(descriptor: &RxDesc) -> bool
-    ensures { IsTrue result ↔ HasBit (status_bits descriptor.now.status) eop }
-{
-    descriptor.status.contains(RxStatus::EOP)
-}
-
-/// Whether a descriptor is that of a whole frame: EOP, no errors, and a length of 60 to 1,518 bytes.
-fn is_whole(descriptor: &RxDesc) -> bool
-    ensures { IsTrue result ↔ IsWhole descriptor.now }
-{
-    if !is_ended(descriptor) || descriptor.errors != 0 {
-        return false;
+    let mut parts = Parts::new();
+    for length in lengths {
+        if let Some(buffer) = queue.pop_front() {
+            parts.push(Part {
+                buffer,
+                length: *length,
+            });
+        }
     }
-    SHORTEST_RECEIVED <= descriptor.length && descriptor.length <= LONGEST_RECEIVED
+    parts
 }
 
 impl Driver {
-    /// Loads the descriptor of the oldest outstanding receive slot, and takes the slot if that has DD. DD and the
-    /// length are of the same load.
-    fn take_next<B: Bus>(&mut self, bus: &mut B) -> Option<Finished>
-        requires memory { size_of self.old.layout ≤ B.extent bus.old }
-        ensures keeps { Keeps B.Bus bus.old bus.new }
-        ensures stays { IfNone result (self.new ≡ self.old) }
-        ensures leaves { IfSome result (λ slot. LeavesRing slot self.old self.new) }
-        ensures looks { WhereReady B.Bus (at bus.old self.old) (at bus.new self.new) (LooksAt B.Bus result) }
+    /// Takes the slots of a run off the ring, with their buffers.
+    fn take_run(&mut self, run: &Run) -> Parts
+        requires size { length run.now.lengths ≡ 6 }
+        requires few { run.now.count ≤ 6 }
+        requires enough { run.now.count ≤ length self.old.buffers }
+        ensures leaves { LeavesRing run.now result self.old self.new }
+        ensures one_owner { HasNoSecondOwner self.new.layout.buffers (buffers_in result ++ owners self.new) }
     {
-        if self.buffers.len() == usize::from(self.staged) {
-            return None;
-        }
-        let mut bytes = [0; RX_DESC_BYTES];
-        bus.load(receive_slot(self.oldest_receive), &mut bytes);
-        let descriptor = RxDesc::from_bytes(&bytes);
-        if !is_done(&descriptor) {
-            return None;
-        }
-        let Some(buffer) = self.buffers.pop_front() else {
-            return None;
-        };
-        self.oldest_receive = (self.oldest_receive + 1) % self.layout.rx();
-        Some(Finished {
-            buffer,
-            length: descriptor.length,
-            whole: is_whole(&descriptor),
-        })
+        let parts = take_parts(&mut self.buffers, &run.lengths[..run.count]);
+        self.oldest_receive = (self.oldest_receive + run.count as u16) % self.layout.rx();
+        parts
     }
 
-    /// Bytes 12 and 13 of the frame in a buffer, by one load.
-    fn ether_type<B: Bus>(&self, bus: &mut B, buffer: u16) -> u16
+    /// Bytes 12 and 13 of the frame in these buffers, by one load from the first. 0 if there is no buffer.
+    fn ether_type<B: Bus>(&self, bus: &mut B, parts: &Parts) -> u16
         requires memory { size_of self.now.layout ≤ B.extent bus.old }
-        requires known { buffer < self.now.layout.buffers }
+        requires known { All (λ number. number < self.now.layout.buffers) (buffers_in parts.now) }
         ensures keeps { Keeps B.Bus bus.old bus.new }
-        ensures ran { Runs B.Bus (only (Loads (buffer_at self.now.layout buffer + 12) 2 ∷ []))
+        ensures ran { Runs B.Bus (only (ether_type_load self.now.layout (buffers_in parts.now)))
             (at bus.old self.now) (at bus.new self.now) }
-        ensures shows { ReadsEtherType B.Bus buffer (at bus.old self.now) result }
+        ensures shows { ReadsEtherType B.Bus parts.now (at bus.old self.now) result }
     {
+        let Some(first) = parts.get(0) else {
+            return 0;
+        };
         let mut bytes = [0; 2];
-        bus.load(self.layout.receive_buffer(buffer) + ETHER_TYPE, &mut bytes);
+        bus.load(
+            self.layout.receive_buffer(first.buffer.number()) + ETHER_TYPE,
+            &mut bytes,
+        );
         u16::from_be_bytes(bytes)
     }
 
-    /// Shows a frame to the receiver, and puts its buffer into the pool if the receiver returns it.
+    /// Shows a frame to the receiver, and puts its buffers into the pool if the receiver returns them.
     fn show<R: Receiver>(&mut self, received: Received, receiver: &mut R)
-        requires known { received.buffer < self.old.layout.buffers }
-        requires out { copies received.buffer (owners self.old) ≡ 0 }
+        requires one_owner { HasNoSecondOwner self.old.layout.buffers (buffers_in received.parts ++ owners self.old) }
         ensures others { self.new ≡ record self.old { pool = self.new.pool } }
         ensures shows { Shows R.took receiver.old receiver.new received self.old.pool self.new.pool }
     {
-        if let Some(buffer) = receiver.take(received) {
-            self.put_back(buffer);
-        }
+        let back = receiver.take(received);
+        self.put_back(back);
     }
 
-    /// Passes on a slot that was taken. If its descriptor is that of a whole frame, the receiver takes it. Otherwise
-    /// its buffer goes back to the pool, and it counts as bad.
-    fn hand_on<B: Bus, R: Receiver>(&mut self, bus: &mut B, finished: Finished, receiver: &mut R)
+    /// Passes on a run that was taken, and returns whether it contains a whole frame. Then the receiver takes the frame.
+    /// Otherwise the run's buffers go back to the pool, and it counts as bad, once.
+    fn hand_on<B: Bus, R: Receiver>(
+        &mut self,
+        bus: &mut B,
+        parts: Parts,
+        run: &Run,
+        receiver: &mut R,
+    ) -> bool
         requires memory { size_of self.old.layout ≤ B.extent bus.old }
-        requires known { finished.buffer < self.old.layout.buffers }
-        requires out { copies finished.buffer (owners self.old) ≡ 0 }
-        requires size { IsTrue finished.whole → IsFrameSize finished.length }
+        requires one_owner { HasNoSecondOwner self.old.layout.buffers (buffers_in parts ++ owners self.old) }
+        requires lengths { lengths_in parts ≡ take run.now.count run.now.lengths }
+        requires sum { run.now.length ≡ sum (lengths_in parts) }
+        requires size { IsTrue run.now.whole → IsFrameSize run.now.length }
+        requires fits { IsTrue run.now.whole → FitIntoBuffers (take run.now.count run.now.lengths) }
         ensures keeps { Keeps B.Bus bus.old bus.new }
+        ensures whole { result ≡ run.now.whole }
         ensures others { self.new ≡ record self.old { pool = self.new.pool; bad = self.new.bad } }
-        ensures hands { HandsOn R.took receiver.old receiver.new finished.buffer self.old self.new }
-        ensures over { WhereTaken B.Bus finished
+        ensures hands { HandsOn R.took receiver.old receiver.new parts result self.old self.new }
+        ensures over { WhereTaken B.Bus parts result
             (scene bus.old self.old receiver.old) (scene bus.new self.new receiver.new)
             (HandsOver B.Bus R.Receiver) }
     {
-        if !finished.whole {
-            self.put_back(finished.buffer);
+        if !run.whole {
+            self.put_back(parts);
             self.bad = self.bad.saturating_add(1);
-            return;
+            return false;
         }
-        let ether_type = self.ether_type(bus, finished.buffer.number());
+        let ether_type = self.ether_type(bus, &parts);
         let received = Received {
-            buffer: finished.buffer,
-            length: finished.length,
+            parts,
+            length: run.length as u16,
             ether_type,
         };
         self.show(received, receiver);
+        true
     }
 
-    /// Takes every finished receive slot, from the oldest on up to the first that isn't finished, shows each whole
-    /// frame to the receiver, and returns the number of slots taken. Over a bus that obeys the law, each descriptor is
-    /// loaded once, and after that of each finished slot, bytes 12 and 13 of its frame.
+    /// Takes the frames of finished receive slots, from the oldest slot on up to the first that isn't finished, each as
+    /// a run of slots up to one with EOP, or of six without. It shows each whole frame to the receiver, and returns their
+    /// number. Finished slots that no end of a frame follows remain in the ring. Over a bus that obeys the law, each
+    /// descriptor is loaded once, and after those of a frame bytes 12 and 13 of the frame.
     pub fn take_finished<B: Bus, R: Receiver>(&mut self, bus: &mut B, receiver: &mut R) -> usize
         requires memory { size_of self.old.layout ≤ B.extent bus.old }
         ensures keeps { Keeps B.Bus bus.old bus.new }
@@ -157,10 +134,14 @@ impl Driver {
         ensures takes { WhereReadyIn B.Bus (scene bus.old self.old receiver.old) (scene bus.new self.new receiver.new)
             (TakesAll B.Bus R.Receiver result) }
     {
-        let before = self.receiving();
-        while let Some(finished) = self.take_next(bus) {
-            self.hand_on(bus, finished, receiver);
+        let _ = self.receiving();
+        let mut taken = 0;
+        while let Some(run) = self.look(bus) {
+            let parts = self.take_run(&run);
+            if self.hand_on(bus, parts, &run, receiver) {
+                taken += 1;
+            }
         }
-        before - self.receiving()
+        taken
     }
 }

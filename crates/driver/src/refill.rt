@@ -3,20 +3,21 @@
 ghost use Rattle.std.specs.Prelude.{◌≡◌, ◌⊎◌, ◌+◌, ◌*◌, ◌<◌, ◌≤◌, ◌++◌, ◌∷◌, ℕ, [], length};
 ghost use Rattle.std.specs.Bool.{OnFalse, OnTrue};
 ghost use Rattle.dma_memory.specs.Layout.{size_of};
-ghost use Rattle.dma_memory.specs.Owners.{HasNoSecondOwner, HaveSameNumbers, copies};
+ghost use Rattle.dma_memory.specs.Owners.{HasNoSecondOwner, HaveSameNumbers};
 ghost use Rattle.descriptors.specs.RxDesc.{rx_desc_bytes};
 ghost use Rattle.bus.specs.Keeping.{Keeps};
 ghost use Rattle.driver_law.specs.Calls.{OffersAll, Runs, WhereReady, at, only, tail_write};
 ghost use Rattle.driver_law.specs.DriverState.{next_receive, owners, with_owners};
 ghost use Rattle.driver_law.specs.ReadyDrivers.{empty_descriptor};
+ghost use Rattle.driver.specs.Parts.{buffers_in};
 ghost use Rattle.driver.specs.RefillSteps.{Refills, Stages, StagesSome, WhereHeld};
 
-use crate::Driver;
+use crate::{Driver, Parts};
 use adapter::offsets::RDT;
 use bitflags::Flags;
 use bus::Bus;
 use descriptors::{RxDesc, RxStatus};
-use dma_memory::{BufId, DESCRIPTOR_BYTES};
+use dma_memory::{DESCRIPTOR_BYTES, Pool};
 
 /// The address of a receive slot's descriptor. The ring begins at address 0.
 pub(crate) fn receive_slot(slot: u16) -> u64
@@ -36,6 +37,18 @@ fn descriptor_of(buffer: u64) -> RxDesc
         status: RxStatus::empty(),
         errors: 0,
         special: 0,
+    }
+}
+
+/// Puts buffers that are out back into the pool.
+fn give_all(pool: &mut Pool, parts: Parts)
+    requires { HasNoSecondOwner pool.old.buffers (buffers_in parts ++ pool.old.free) }
+    ensures given { HaveSameNumbers (buffers_in parts ++ pool.old.free) pool.new.free }
+    ensures buffers { pool.new.buffers ≡ pool.old.buffers }
+{
+    let mut left = parts;
+    while let Some(part) = left.pop() {
+        pool.give(part.buffer);
     }
 }
 
@@ -96,15 +109,14 @@ impl Driver {
         self.staged = 0;
     }
 
-    /// Puts a buffer back into the pool.
-    pub(crate) fn put_back(&mut self, buffer: BufId)
-        requires known { buffer < self.old.layout.buffers }
-        requires out { copies buffer (owners self.old) ≡ 0 }
+    /// Puts the buffers of a frame's pieces back into the pool.
+    pub(crate) fn put_back(&mut self, parts: Parts)
+        requires one_owner { HasNoSecondOwner self.old.layout.buffers (buffers_in parts ++ owners self.old) }
         ensures others { self.new ≡ record self.old { pool = self.new.pool } }
-        ensures back { HaveSameNumbers (buffer ∷ self.old.pool) self.new.pool }
+        ensures back { HaveSameNumbers (buffers_in parts ++ self.old.pool) self.new.pool }
         ensures one_owner { HasNoSecondOwner self.new.layout.buffers (owners self.new) }
     {
-        self.pool.give(buffer);
+        give_all(&mut self.pool, parts);
     }
 
     /// Offers receive slots with free buffers, until no buffer is free, or one slot is left, which stays the driver's.
@@ -120,17 +132,16 @@ impl Driver {
         self.offer(bus);
     }
 
-    /// Puts the buffer of a frame that a receiver kept back into the pool, and refills.
-    pub fn give<B: Bus>(&mut self, bus: &mut B, buffer: BufId)
+    /// Puts the buffers of a frame that a receiver kept back into the pool, and refills.
+    pub fn give<B: Bus>(&mut self, bus: &mut B, parts: Parts)
         requires memory { size_of self.old.layout ≤ B.extent bus.old }
-        requires known { buffer < self.old.layout.buffers }
-        requires out { copies buffer (owners self.old) ≡ 0 }
+        requires one_owner { HasNoSecondOwner self.old.layout.buffers (buffers_in parts ++ owners self.old) }
         ensures keeps { Keeps B.Bus bus.old bus.new }
         ensures offers { OffersAll self.old self.new }
-        ensures owners { HaveSameNumbers (buffer ∷ owners self.old) (owners self.new) }
-        ensures gives { WhereHeld B.Bus buffer (at bus.old self.old) (at bus.new self.new) (Refills B.Bus) }
+        ensures owners { HaveSameNumbers (buffers_in parts ++ owners self.old) (owners self.new) }
+        ensures gives { WhereHeld B.Bus parts (at bus.old self.old) (at bus.new self.new) (Refills B.Bus) }
     {
-        self.put_back(buffer);
+        self.put_back(parts);
         self.refill(bus);
     }
 }

@@ -135,15 +135,16 @@ impl Driver {
 
     /// Sends a frame of 14 to 1,518 bytes.
     ///
-    /// First it frees the oldest transmit slots whose descriptors have DD, by one load each; if a slot is left, its
-    /// descriptor is loaded, too. `bus` must have at least `layout().size()` bytes.
+    /// First it frees the oldest transmit slots whose descriptors have DD, by one load each; if slots are left, the
+    /// oldest one's descriptor is loaded, too. `bus` must have at least `layout().size()` bytes.
     ///
     /// # Errors
     ///
     /// E20 [`TooShort`](SendError::TooShort) if the frame has fewer than 14 bytes, E21
-    /// [`TooLong`](SendError::TooLong) if it has more than 1,518; in both cases there is no access. E22
-    /// [`RingFull`](SendError::RingFull) if all slots of the ring but one are still outstanding after
-    /// that.
+    /// [`TooLong`](SendError::TooLong) if it has more than 1,518; both without an access. E22
+    /// [`RingFull`](SendError::RingFull) if all slots of the transmit ring but one are still outstanding after the call
+    /// has freed those that are written back. If the bus obeys the law and the driver is ready with its transmit side
+    /// up, E22 means exactly one load and an unchanged driver.
     pub fn transmit<B: Bus>(&mut self, bus: &mut B, frame: &[u8]) -> Result<(), SendError>
         requires memory { size_of self.old.layout ≤ B.extent bus.old }
         ensures keeps { Keeps B.Bus bus.old bus.new }

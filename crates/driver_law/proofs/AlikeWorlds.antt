@@ -50,7 +50,7 @@ ready-left {up} driver a b ready leaves same =
         sound = leaves.same.sound;
         runs = leaves.runs ready.law.runs;
         fit = leaves.same.fits (omega (arith, size)) ready.law.fit;
-        whole = leaves.same.whole ready.law.whole;
+        whole = leaves.same.whole size ready.law.whole;
       };
       lies = subst (λ (memory : List ℕ). size_of counts ≤ length memory) (sym same.memory) ready.lies;
       size = size ∙ ready.size;

@@ -4,13 +4,14 @@ use Rattle.std.specs.List.{All, take_while}
 use Rattle.dma_memory.specs.Layout.{Counts}
 use Rattle.rx_engine.specs.Descriptors.{named_address}
 use Rattle.rx_engine.specs.declared.engine.Work.{Work}
-use Rattle.adapter.specs.Conditions.{AreWhole, FitBuffers, Sound}
+use Rattle.adapter.specs.Conditions.{FitBuffers, Sound}
 use Rattle.adapter.specs.HostAreas.{buffer_size, work_areas}
 use Rattle.adapter.specs.HostFrames.{named}
 use Rattle.adapter.specs.Slots.{finished, is_done, outstanding}
 use Rattle.adapter.specs.World.{World, receive_ring, transmit_ring}
 use Rattle.bus.proofs.IdleRings.{idle_rings_are_sound, outstanding-none}
 use Rattle.bus.proofs.Lists.{all-none}
+use Rattle.driver_law.proofs.EndedFrames.{none-cut}
 use Rattle.driver_law.specs.Beginnings.{DriversBegin}
 use Rattle.driver_law.specs.ReadyDrivers.{TransmitIs}
 
@@ -43,7 +44,7 @@ drivers_begin up counts pool world begun =
         sound = subst (λ (oldest : ℕ). Sound 0 oldest world) last own;
         runs = begun.runs;
         fit = begun-fits world none begun.idle.work;
-        whole = subst (AreWhole world.memory) (sym none) (all-none _);
+        whole = none-cut 0 world none begun.idle.work;
       };
       lies = begun.lies;
       size = begun.size;

@@ -6,7 +6,7 @@ use Rattle.std.proofs.lemmas.List.Elements.{All-cons, All-map}
 use Rattle.dma_memory.specs.Areas.{AreApart, Area, area_at, bytes_in}
 use Rattle.dma_memory.specs.AreaLaws.{apart-inside}
 use Rattle.dma_memory.specs.HostMemory.{LiesIn, bytes_at}
-use Rattle.dma_memory.specs.Layout.{Counts, ReceiveBuffer, ReceiveRing, TransmitBuffer, TransmitRing, area_of}
+use Rattle.dma_memory.specs.Layout.{Counts, ReceiveBuffer, ReceiveRing, TransmitBuffer, TransmitRing, area_of, buffer_bytes}
 use Rattle.dma_memory.specs.LayoutLaws.{begins, place-below_size, places-apart}
 use Rattle.dma_memory.specs.Owners.{copies}
 use Rattle.dma_memory.specs.OwnersLaws.{copies-cons, copies-itself}
@@ -89,7 +89,7 @@ buffer-spare {up} d world number ready known free =
 
 -- Each buffer lies in memory.
 pub buffer-lies : {up : Bool} (d : DriverState) (world : World) (number : ℕ) → ReadyWith up d world → number < d.layout.buffers
-    → LiesIn world.memory (buffer_at d.layout number) 2048
+    → LiesIn world.memory (buffer_at d.layout number) buffer_bytes
 buffer-lies {up} d world number ready known = let ends = place-below_size d.layout (ReceiveBuffer number) known in omega
     (arith, ends, ready.lies)
 
@@ -97,7 +97,7 @@ buffer-lies {up} d world number ready known = let ends = place-below_size d.layo
 -- from
 -- here on numbers are counted.
 pub record IsAside (d : DriverState) (world : World) (number : ℕ) : Type 0 where
-  pub lies : LiesIn world.memory (buffer_at d.layout number) 2048
+  pub lies : LiesIn world.memory (buffer_at d.layout number) buffer_bytes
   pub apart : All (λ other. AreApart other (area_of d.layout (ReceiveBuffer number))) (areas d.oldest_receive world)
   pub foreign : IsForeign world (area_of d.layout (ReceiveBuffer number))
 
@@ -125,7 +125,7 @@ front-same memory memory' address n size short same =
     take-shorter (suc i) (suc j) [] below = refl
     take-shorter (suc i) (suc j) (x ∷ xs) below = ap (λ (list : List ℕ). x ∷ list) (take-shorter i j xs (omega (arith, below)))
 
--- Frames that others hold are still in their buffers, if the buffers without an outstanding slot are the same.
+-- Pieces of frames that others hold are still in their buffers, if the buffers without an outstanding slot are the same.
 pub stand-kept : {up : Bool} (d : DriverState) (a b : World) → ReadyWith up d a
     → ((number : ℕ) → number < d.layout.buffers → copies number d.buffers ≡ 0
     → bytes_in b.memory (area_of d.layout (ReceiveBuffer number)) ≡ bytes_in a.memory (area_of d.layout (ReceiveBuffer number)))
@@ -147,7 +147,7 @@ stand-kept {up} d a b ready same = each d.handed_out (λ k. omega arith) ready.s
         let stands = all-head Before one list stand in
         All-cons Behind one list
         (record {
-          bytes = front-same a.memory b.memory (buffer_at d.layout one.number) (length one.frame) 2048 (omega (arith, stands.short))
+          bytes = front-same a.memory b.memory (buffer_at d.layout one.number) (length one.bytes) buffer_bytes stands.short
               (same one.number elsewhere.known elsewhere.free) ∙ stands.bytes;
           short = stands.short;
         })

@@ -2,6 +2,7 @@ pub mod Places
 pub mod Owners
 pub mod Buffers
 pub mod Stretches
+pub mod EndedFrames
 pub mod Readiness
 pub mod Steps
 pub mod StepsWithoutFrames
@@ -13,6 +14,7 @@ pub mod TransmitRing
 pub mod ReceiveControl
 pub mod Stores
 pub mod SlotOffers
+pub mod SeenSlots
 pub mod TakenSlots
 pub mod TransmitSlots
 pub mod OfferedAndFreedSlots

@@ -22,6 +22,7 @@ use Rattle.descriptors.specs.declared.tx_desc.TxDesc.{TxDesc}
 use Rattle.tx_engine.specs.Fetching.{IsTransmittable, descriptor_at, fetched, frame_at}
 use Rattle.adapter.specs.Conditions.{Sound}
 use Rattle.adapter.specs.HostAreas.{areas, data_of}
+use Rattle.rx_engine.specs.Pieces.{frames_of}
 use Rattle.adapter.specs.HostFrames.{frames_held, frames_to_send}
 use Rattle.adapter.specs.Running.{CanTransmit}
 use Rattle.adapter.specs.Slots.{is_done, outstanding, written_back}
@@ -174,13 +175,13 @@ frame_is_offered driver frame world ready room least short stands =
         layout = refl;
         sends = done.to_send ∙ ap (λ (last : List ℕ). frames_to_send world ++ last ∷ []) (says.frame ∙ ap padded stands.bytes);
         holds = done.held ∙ sym (append-nil (frames_held o world));
-        least = omega (arith, ap length done.finished_same);
+        least = omega (arith, ap length (ap frames_of done.pieces_same));
         frees = omega (arith, ap length done.written_same);
         mask = refl;
         misses = misses-stay driver (record driver { sending = driver.sending + 1 }) world (offering_frame world) refl refl refl;
       };
       causes = λ bit has. has;
-      recorded = inl (omega (arith, ap length done.finished_same));
+      recorded = inl (omega (arith, ap length (ap frames_of done.pieces_same)));
     }
 
 -- Written-back slots.
@@ -291,7 +292,7 @@ slot_is_freed driver world ready some done =
       exact = refl;
       to_send = refl;
       held = refl;
-      finished_same = refl;
+      pieces_same = refl;
       frees = omega (arith, ap length first, ap length there.behind, some);
       mask = refl;
       recorded = refl;

@@ -10,14 +10,13 @@ use Rattle.dma_memory.specs.HostMemory.{bytes_at}
 use Rattle.dma_memory.specs.Layout.{Counts, TransmitBuffer, area_of, size_of}
 use Rattle.descriptors.specs.declared.ring.Ring.{Ring}
 use Rattle.descriptors.specs.declared.tx_desc.TxDesc.{TxDesc}
-use Rattle.descriptors.specs.Frames.{IsLegal}
 use Rattle.descriptors.specs.Ring.{HasValidIndices, address_of, offered_places, slots_from}
 use Rattle.descriptors.specs.RingLaws.{places-none, place}
 use Rattle.rx_engine.specs.Descriptors.{named_address}
 use Rattle.tx_engine.specs.Fetching.{frame_at}
 use Rattle.tx_engine.specs.ToSend.{to_send}
 use Rattle.tx_engine.specs.Transmitter.{Queued}
-use Rattle.adapter.specs.HostAreas.{buffer_size, data_of}
+use Rattle.adapter.specs.HostAreas.{data_of}
 use Rattle.adapter.specs.HostFrames.{frames_to_send}
 use Rattle.adapter.specs.Rings.{ring_of}
 use Rattle.adapter.specs.Slots.{offered, outstanding}
@@ -27,7 +26,7 @@ use Rattle.bus.specs.Law.{Happens}
 use Rattle.bus.specs.DriversSlots.{IsDriversSlot}
 use Rattle.bus.specs.PastOfStretch.{Past}
 use Rattle.bus.proofs.IdleRings.{still-idle}
-use Rattle.bus.proofs.Lists.{all-unmapped, all-weaker, append-empty, map-empty, map-same}
+use Rattle.bus.proofs.Lists.{all-unmapped, append-empty, map-empty, map-same}
 use Rattle.bus.proofs.DriversSlots.{drivers_side_stays}
 use Rattle.bus.proofs.Rings.{each-outstanding}
 use Rattle.bus.proofs.KnownRings.{knows-carried}
@@ -156,12 +155,10 @@ keeps-happening {up} d a b past ready happens =
     let steady = happens.steady in
     let between = happens.between o p ready.law.sound in
     let own = drivers_side_stays o p a b past ready.law.sound happens in
-    let Fits : List ℕ → Type 0 = λ frame. length frame ≤ buffer_size a in
     record {
       law = record {
         sound = between.sound;
-        runs = between.runs (all-weaker IsLegal Fits past.stored (λ frame legal. omega (arith, legal.most, ready.size)) steady.legal)
-            ready.law.runs;
+        runs = between.runs ready.law.runs;
         fit = between.fits ready.law.fit;
         whole = between.whole ready.law.whole;
       };

@@ -1,33 +1,42 @@
 -- What a driver does with its receive slots over a bus.
-use Rattle.std.proofs.Common.{Bool, ◌≡◌, ◌≤◌, ◌<◌, ◌+◌, ◌-◌, ◌%◌, ◌++◌, ◌∷◌, [], true, false, ℕ, List, length, take, drop, slice_index}
-use Rattle.std.proofs.Common.{refl, sym, ap, subst, ◌∙◌, arith}
+use Rattle.std.proofs.Common.{Bool, ◌≡◌, ◌≤◌, ◌<◌, ◌+◌, ◌*◌, ◌-◌, ◌%◌, ◌++◌, ◌∷◌, [], ℕ, suc, List, length, map, take, drop}
+use Rattle.std.proofs.Common.{refl, sym, ap, subst, ◌∙◌, append_assoc, length-append, arith}
+use Rattle.std.specs.List.{All, concat}
+use Rattle.std.proofs.lemmas.List.{append-nil, drop-drop, drop-take, map-append, take-take}
+use Rattle.std.proofs.lemmas.List.Folds.{concat-append}
 use Rattle.registers.specs.Bits.{is_set}
 use Rattle.dma_memory.specs.HostMemory.{bytes_at}
-use Rattle.dma_memory.specs.Layout.{Counts}
+use Rattle.dma_memory.specs.Layout.{Counts, buffer_bytes}
+use Rattle.descriptors.specs.Frames.{longest_frame}
 use Rattle.dma_memory.specs.Owners.{HaveSameNumbers}
+use Rattle.descriptors.specs.Ring.{slots_from}
 use Rattle.descriptors.specs.RingLaws.{place}
 use Rattle.descriptors.specs.RxDesc.{rx_desc_of}
-use Rattle.adapter.specs.Conditions.{IsWhole}
+use Rattle.descriptors.specs.RxStatus.{dd, status_bits}
+use Rattle.rx_engine.specs.Pieces.{Piece, parts}
+use Rattle.rx_engine.specs.Pieces.Piece.{Last}
+use Rattle.adapter.specs.HostFrames.{finished_pieces}
 use Rattle.adapter.specs.World.{World, world_after_store, world_after_write}
 use Rattle.bus.specs.RegisterSetting.{with_tail}
 use Rattle.bus.specs.Law.{Acts}
 use Rattle.bus.specs.PastOfStretch.{nothing}
 use Rattle.bus.specs.declared.event.Access.{Access}
 use Rattle.bus.specs.declared.event.Access.TheVariants.{Loads, Stores, Writes}
-use Rattle.std.specs.List.{All}
-use Rattle.std.proofs.lemmas.List.{drop-drop, drop-take, take-take}
 use Rattle.bus.proofs.Lists.{all-head, all-right}
 use Rattle.bus.proofs.KnownRings.{receive_tail-written}
-use Rattle.driver_law.proofs.Accesses.{load-sets, ran_by-acts, store-sets, write-sets}
+use Rattle.driver_law.proofs.Accesses.{load-sets, ran_by-acts, ran_by-itself, store-sets, write-sets}
 use Rattle.driver_law.proofs.SlotOffers.{staged_can_be_offered}
-use Rattle.driver_law.proofs.Places.{place-below}
+use Rattle.driver_law.proofs.Places.{place-add, place-below}
+use Rattle.driver_law.proofs.SeenSlots.{slot-shows, slots_from-append}
 use Rattle.driver_law.proofs.Steps.{goes-happens, goes-stays}
 use Rattle.driver_law.proofs.Stores.{slots_can_be_staged}
-use Rattle.driver_law.proofs.TakenSlots.{finished-first, finished-none, oldest_can_be_taken, oldest_is_as_long, oldest_is_whole}
-use Rattle.driver_law.specs.Calls.{GoesTo, Ran, at, call_did, driver_did, driver_in, only, stores_from, takes_from}
-use Rattle.driver_law.specs.DriverState.{DriverState, HandedOut, buffer_at, next_receive, receive_slot, with_owners}
-use Rattle.driver_law.specs.OldestSlot.{LeavesOldest, TakesOldest}
+use Rattle.driver_law.proofs.TakenSlots.{numbers-in, oldest-contain, parts_are_few, run_can_be_taken, run_is_of_frame}
+use Rattle.driver_law.specs.Calls.{GoesTo, Ran, at, call_did, driver_did, driver_in, ether_type_load, only, receive_loads, stores_from}
+use Rattle.driver_law.specs.Calls.{takes_from}
+use Rattle.driver_law.specs.DriverState.{DriverState, HandedOut, buffer_at, frame_of, next_receive, numbers_of, receive_slot, with_owners}
+use Rattle.driver_law.specs.OldestSlot.{LooksAtSlot, ShowsSlot, slot_after_oldest}
 use Rattle.driver_law.specs.ReadyDrivers.{ReadyWith, Stands, empty_descriptor}
+use Rattle.driver_law.specs.ReceiveSteps.{AreOfFrame, ContainFrame, after_slots, pieces_in}
 use Rattle.bus.specs.declared.bus.Bus.{Ghosts}
 
 -- The lists of accesses grow at their ends.
@@ -39,13 +48,38 @@ stores-append counts slot (number ∷ xs) ys =
     ap (λ (list : List Access). Stores (receive_slot slot) (empty_descriptor (buffer_at counts number)) ∷ list)
     (stores-append counts ((slot + 1) % counts.rx) xs ys)
 
-pub takes-push : (counts : Counts) (slot m : ℕ) (xs : List ℕ)
-    → takes_from counts slot (xs ++ m ∷ []) ≡ takes_from counts slot xs ++ Loads (receive_slot (place counts.rx slot (length xs))) 16
-    ∷ Loads (buffer_at counts m + 12) 2 ∷ []
-takes-push counts slot m [] = refl
-takes-push counts slot m (number ∷ xs) =
-    ap (λ (list : List Access). Loads (receive_slot slot) 16 ∷ Loads (buffer_at counts number + 12) 2 ∷ list)
-    (takes-push counts ((slot + 1) % counts.rx) m xs)
+pub loads-append : (counts : Counts) (slot n m : ℕ)
+    → receive_loads counts slot (n + m) ≡ receive_loads counts slot n ++ receive_loads counts (place counts.rx slot n) m
+loads-append counts slot n m =
+    let load : ℕ → Access = λ place. Loads (receive_slot place) 16 in
+    ap (map load) (slots_from-append counts.rx slot n m)
+    ∙ map-append load (slots_from counts.rx slot n) (slots_from counts.rx (place counts.rx slot n) m)
+
+-- One load more.
+pub loads-push : (counts : Counts) (slot n : ℕ)
+    → receive_loads counts slot (n + 1) ≡ receive_loads counts slot n ++ Loads (receive_slot (place counts.rx slot n)) 16 ∷ []
+loads-push counts slot n = loads-append counts slot n 1
+
+-- One frame more.
+pub takes-push : (counts : Counts) (slot : ℕ) (taken : List (List ℕ)) (numbers : List ℕ)
+    → takes_from counts slot (taken ++ numbers ∷ [])
+    ≡ takes_from counts slot taken
+    ++ (receive_loads counts (place counts.rx slot (length (concat taken))) (length numbers) ++ ether_type_load counts numbers)
+takes-push counts slot [] numbers =
+    ap (λ (list : List Access). receive_loads counts slot (length numbers) ++ list) (append-nil (ether_type_load counts numbers))
+takes-push counts slot (first ∷ taken) numbers =
+    let n = length first in
+    let loads = receive_loads counts slot n in
+    let read = ether_type_load counts first in
+    let before = takes_from counts (place counts.rx slot n) taken in
+    let more : ℕ → List Access = λ at. receive_loads counts at (length numbers) ++ ether_type_load counts numbers in
+    let at : place counts.rx (place counts.rx slot n) (length (concat taken)) ≡ place counts.rx slot (length (concat (first ∷ taken))) =
+    sym (ap (place counts.rx slot) (length-append first (concat taken)) ∙ place-add counts.rx slot n (length (concat taken))) in
+    let after = more (place counts.rx slot (length (concat (first ∷ taken)))) in
+    ap (λ (list : List Access). loads ++ (read ++ list)) (takes-push counts (place counts.rx slot n) taken numbers
+    ∙ ap (λ (place : ℕ). before ++ more place) at)
+    ∙ ap (λ (list : List Access). loads ++ list) (sym (append_assoc read before after))
+    ∙ sym (append_assoc loads (read ++ before) after)
 
 -- The next slot's descriptor is stored.
 pub ran_by-stages : {up : Bool} {B : Type 0} (bus : Ghosts B) (old new : B) (d : DriverState) (m address : ℕ) (pool bytes : List ℕ)
@@ -92,87 +126,7 @@ ran_by-offers {up} bus old new d value value_is acts ready =
     subst (λ (w : World). GoesTo up (driver_in d middle) (driver_in d' w) (driver_did [] []) nothing) (sym done)
     (staged_can_be_offered up d middle set)))
 
--- The oldest slot's descriptor is loaded.
-
--- the bytes loaded are those in memory, which the load doesn't change
-abbrev Shows : (address : ℕ) (bytes : List ℕ) → World → World → Type 0
-Shows address bytes before after = (bytes ≡ bytes_at before.memory address 16) × (after ≡ before)
-
-ran_by-looks : {up : Bool} {B : Type 0} (bus : Ghosts B) (old new : B) (d d' : DriverState) (taken : List (List ℕ)) (address : ℕ)
-    (bytes : List ℕ)
-    → address ≡ receive_slot d.oldest_receive → Acts bus.world bus.happened bus.lively old new (Loads address 16) (Shows address bytes)
-    → ReadyWith up d (bus.world old)
-    → (ReadyWith up d (bus.world new)
-    → GoesTo up (driver_in d (bus.world new)) (driver_in d' (bus.world new)) (driver_did taken []) nothing)
-    → Ran bus up (call_did (Loads (receive_slot d.oldest_receive) 16 ∷ []) taken []) (at old d) (at new d')
-ran_by-looks {up} bus old new d d' taken address bytes address_is acts ready step =
-    subst (λ (place : ℕ). Ran bus up (call_did (Loads place 16 ∷ []) taken []) (at old d) (at new d')) address_is
-    (ran_by-acts bus old new (Loads address 16) (Shows address bytes) d d' taken [] acts
-    (load-sets address 16 (λ before. bytes ≡ bytes_at before.memory address 16) (bus.world new)) ready
-    (λ middle set shows.
-    subst (λ (w : World). GoesTo up (driver_in d w) (driver_in d' (bus.world new)) (driver_did taken []) nothing) shows.1
-    (step (subst (ReadyWith up d) (sym shows.1) set))))
-
--- What the load returned, in the world after it.
-record IsSeen (up : Bool) (d : DriverState) (world : World) (bytes : List ℕ) : Type 0 where
-  ready : ReadyWith up d world
-  shown : bytes ≡ bytes_at world.memory (receive_slot d.oldest_receive) 16
-
-seen : {up : Bool} {B : Type 0} (bus : Ghosts B) (old new : B) (d : DriverState) (address : ℕ) (bytes : List ℕ)
-    → address ≡ receive_slot d.oldest_receive → Acts bus.world bus.happened bus.lively old new (Loads address 16) (Shows address bytes)
-    → ReadyWith up d (bus.world old) → IsSeen up d (bus.world new) bytes
-seen {up} bus old new d address bytes address_is acts ready = record {
-  ready = subst (ReadyWith up d) (sym acts.effect_is.1)
-      (goes-happens d (bus.world old) acts.middle acts.past ready acts.before).flows.ready;
-  shown =
-      acts.effect_is.0
-      ∙ ap (λ (w : World). bytes_at w.memory address 16) (sym acts.effect_is.1)
-      ∙ ap (λ (place : ℕ). bytes_at (bus.world new).memory place 16) address_is;
-}
-
--- It isn't done.
-pub ran_by-leaves : {up : Bool} {B : Type 0} (bus : Ghosts B) (old new : B) (d : DriverState) (m address : ℕ) (later bytes : List ℕ)
-    → d.buffers ≡ m ∷ later → address ≡ receive_slot d.oldest_receive → is_set (slice_index bytes 12) 0 ≡ false
-    → Acts bus.world bus.happened bus.lively old new (Loads address 16) (Shows address bytes) → ReadyWith up d (bus.world old)
-    → LeavesOldest bus up (at old d) new
-ran_by-leaves {up} bus old new d m address later bytes buffers address_is clear acts ready =
-    let it = seen bus old new d address bytes address_is acts ready in
-    record {
-      none = finished-none d (bus.world new) m later buffers it.ready (ap (λ (list : List ℕ). is_set (slice_index list 12) 0) (sym it.shown)
-          ∙ clear);
-      ran = ran_by-looks bus old new d d [] address bytes address_is acts ready (goes-stays d (bus.world new));
-    }
-
--- It is done.
-pub ran_by-takes : {up : Bool} {B : Type 0} (bus : Ghosts B) (old new : B) (d : DriverState) (m address : ℕ) (later bytes : List ℕ)
-    → d.buffers ≡ m ∷ later → address ≡ receive_slot d.oldest_receive → is_set (slice_index bytes 12) 0 ≡ true
-    → Acts bus.world bus.happened bus.lively old new (Loads address 16) (Shows address bytes) → ReadyWith up d (bus.world old)
-    → TakesOldest bus up m (rx_desc_of bytes).length later (at old d) new
-ran_by-takes {up} bus old new d m address later bytes buffers address_is done acts ready =
-    let it = seen bus old new d address bytes address_is acts ready in
-    let first = finished-first d (bus.world new) m later buffers it.ready
-    (ap (λ (list : List ℕ). is_set (slice_index list 12) 0) (sym it.shown) ∙ done) in
-    record {
-      frame = _;
-      long = oldest_is_as_long up d m later first.0 (bus.world new) it.ready buffers first.1
-          ∙ ap (λ (list : List ℕ). (rx_desc_of list).length) (sym it.shown);
-      ran = ran_by-looks bus old new d _ _ address bytes address_is acts ready
-          (λ set. oldest_can_be_taken up d m later first.0 (bus.world new) set buffers first.1);
-    }
-
--- Its descriptor is whole then.
-pub takes-whole : {up : Bool} {B : Type 0} (bus : Ghosts B) (old new : B) (d : DriverState) (m address : ℕ) (later bytes : List ℕ)
-    → d.buffers ≡ m ∷ later → address ≡ receive_slot d.oldest_receive → is_set (slice_index bytes 12) 0 ≡ true
-    → Acts bus.world bus.happened bus.lively old new (Loads address 16) (Shows address bytes) → ReadyWith up d (bus.world old)
-    → IsWhole (rx_desc_of bytes)
-takes-whole {up} bus old new d m address later bytes buffers address_is done acts ready =
-    let it = seen bus old new d address bytes address_is acts ready in
-    let first = finished-first d (bus.world new) m later buffers it.ready
-    (ap (λ (list : List ℕ). is_set (slice_index list 12) 0) (sym it.shown) ∙ done) in
-    subst (λ (list : List ℕ). IsWhole (rx_desc_of list)) (sym it.shown)
-    (oldest_is_whole d m later first.0 (bus.world new) it.ready buffers first.1)
-
--- Bytes of a frame that was handed out are loaded: they are the frame's.
+-- Bytes are loaded.
 pub ran_by-reads : {up : Bool} {B : Type 0} (bus : Ghosts B) (old new : B) (d : DriverState) (address n : ℕ) (bytes : List ℕ)
     → Acts bus.world bus.happened bus.lively old new (Loads address n)
     (λ before after. (bytes ≡ bytes_at before.memory address n) × (after ≡ before))
@@ -185,13 +139,94 @@ ran_by-reads {up} bus old new d address n bytes acts ready =
     (λ middle set shows. subst (λ (w : World). GoesTo up (driver_in d middle) (driver_in d w) (driver_did [] []) nothing) (sym shows.1)
     (goes-stays d middle set))
 
+-- The descriptor of an outstanding slot is loaded.
+
+-- the bytes loaded are those in memory, which the load doesn't change
+abbrev Shows : (address : ℕ) (bytes : List ℕ) → World → World → Type 0
+Shows address bytes before after = (bytes ≡ bytes_at before.memory address 16) × (after ≡ before)
+
+pub ran_by-looks : {up : Bool} {B : Type 0} (bus : Ghosts B) (old new : B) (d : DriverState) (k address : ℕ) (bytes : List ℕ)
+    → k < length d.buffers → address ≡ receive_slot (slot_after_oldest d k)
+    → Acts bus.world bus.happened bus.lively old new (Loads address 16) (Shows address bytes)
+    → ReadyWith up d (bus.world old)
+    → LooksAtSlot bus up k (rx_desc_of bytes) (at old d) new
+ran_by-looks {up} bus old new d k address bytes below address_is acts ready =
+    let o = d.oldest_receive in
+    let slot = receive_slot (slot_after_oldest d k) in
+    let ran = ran_by-reads bus old new d address 16 bytes acts ready in
+    let between = acts.before.between o d.oldest_transmit ready.law.sound in
+    let shown : bytes ≡ bytes_at (bus.world new).memory slot 16 =
+    acts.effect_is.0
+    ∙ ap (λ (w : World). bytes_at w.memory address 16) (sym acts.effect_is.1)
+    ∙ ap (λ (place : ℕ). bytes_at (bus.world new).memory place 16) address_is in
+    record {
+      ran = subst (λ (place : ℕ). Ran bus up (only (Loads place 16 ∷ [])) (at old d) (at new d)) address_is ran;
+      more = between.pieces;
+      grows = ap (finished_pieces o) acts.effect_is.1 ∙ between.grown;
+      shows = subst
+          (λ (list : List ℕ). ShowsSlot (is_set (status_bits (rx_desc_of list).status) dd) k (finished_pieces o (bus.world new))
+          (rx_desc_of list)) (sym shown) (slot-shows d (bus.world new) k ran.goes.flows.ready below);
+    }
+
+-- A frame is taken off the ring, with its slots.
+
+pub ran_by-run : {up : Bool} {B : Type 0} (bus : Ghosts B) → ((b : B) → bus.happened b b nothing)
+    → (b : B) (d : DriverState) (numbers run : List ℕ) (seen : List (List ℕ)) (last : List ℕ) → ReadyWith up d (bus.world b)
+    → (contain : ContainFrame d (bus.world b) numbers run seen last)
+    → Ran bus up (call_did [] ((concat seen ++ last) ∷ []) []) (at b d)
+    (at b (after_slots d (length numbers) contain.others (d.handed_out ++ pieces_in (bus.world b) run numbers)))
+ran_by-run {up} bus stays b d numbers run seen last ready contain =
+    ran_by-itself bus stays b d _ ((concat seen ++ last) ∷ []) [] (run_can_be_taken up d numbers run seen last (bus.world b) ready contain)
+
+-- The oldest slots contain it, with the first of the driver's buffers.
+pub record TakesFrame {B : Type 0} (bus : Ghosts B) (up : Bool) (seen : List (List ℕ)) (last : List ℕ) (b : B) (d : DriverState)
+    : Type 0 where
+  pub pieces : List HandedOut
+  pub numbers : numbers_of pieces ≡ take (suc (length seen)) d.buffers
+  pub bytes : map (λ (one : HandedOut). one.bytes) pieces ≡ seen ++ last ∷ []
+  pub frame : frame_of pieces ≡ concat seen ++ last
+  pub is : AreOfFrame seen last
+  pub few : buffer_bytes * length seen ≤ longest_frame
+  pub size : length (take (suc (length seen)) d.buffers) ≡ suc (length seen)
+  pub ran : Ran bus up (call_did [] ((concat seen ++ last) ∷ []) []) (at b d)
+      (at b (after_slots d (suc (length seen)) (drop (suc (length seen)) d.buffers) (d.handed_out ++ pieces)))
+
+pub ran_by-takes : {up : Bool} {B : Type 0} (bus : Ghosts B) → ((b : B) → bus.happened b b nothing)
+    → (b : B) (d : DriverState) (seen : List (List ℕ)) (last : List ℕ) (later : List Piece) → ReadyWith up d (bus.world b)
+    → finished_pieces d.oldest_receive (bus.world b) ≡ parts seen ++ Last last ∷ later
+    → TakesFrame bus up seen last b d
+ran_by-takes {up} bus stays b d seen last later ready is =
+    let k = suc (length seen) in
+    let world = bus.world b in
+    let oldest = oldest-contain d world seen last later ready is in
+    let numbers = take k d.buffers in
+    let pieces = pieces_in world oldest.run numbers in
+    let frame = run_is_of_frame up d numbers oldest.run seen last world ready oldest.contain in
+    let ran = ran_by-run bus stays b d numbers oldest.run seen last ready oldest.contain in
+    let did = call_did [] ((concat seen ++ last) ∷ []) [] in
+    record {
+      pieces = pieces;
+      numbers = numbers-in world oldest.run numbers oldest.contain.count;
+      bytes = frame.1;
+      frame = ap concat frame.1 ∙ concat-append seen (last ∷ [])
+          ∙ ap (λ (list : List ℕ). concat seen ++ list) (append-nil last);
+      is = frame.0;
+      few = parts_are_few up d seen (Last last ∷ later) world ready is;
+      size = oldest.size;
+      ran =
+          subst (λ (others : List ℕ). Ran bus up did (at b d) (at b (after_slots d k others (d.handed_out ++ pieces)))) oldest.others
+          (subst (λ (n : ℕ). Ran bus up did (at b d) (at b (after_slots d n oldest.contain.others (d.handed_out ++ pieces))))
+          oldest.size ran);
+    }
+
+-- The bytes read from a piece that others hold are the piece's.
 pub frame-read : {up : Bool} {B : Type 0} (bus : Ghosts B) (old new : B) (d : DriverState) (first later : List HandedOut) (one : HandedOut)
     (address from n : ℕ) (bytes : List ℕ)
     → Acts bus.world bus.happened bus.lively old new (Loads address n)
     (λ before after. (bytes ≡ bytes_at before.memory address n) × (after ≡ before))
     → ReadyWith up d (bus.world old)
-    → d.handed_out ≡ first ++ one ∷ later → address ≡ buffer_at d.layout one.number + from → from + n ≤ length one.frame
-    → bytes ≡ take n (drop from one.frame)
+    → d.handed_out ≡ first ++ one ∷ later → address ≡ buffer_at d.layout one.number + from → from + n ≤ length one.bytes
+    → bytes ≡ take n (drop from one.bytes)
 frame-read {up} bus old new d first later one address from n bytes acts ready holds address_is fits =
     let middle = acts.middle in
     let set = (goes-happens d (bus.world old) middle acts.past ready acts.before).flows.ready in
@@ -200,8 +235,8 @@ frame-read {up} bus old new d first later one address from n bytes acts ready ho
     let start = buffer_at d.layout one.number in
     acts.effect_is.0
     ∙ ap (λ (place : ℕ). bytes_at middle.memory place n) address_is
-    ∙ inner middle.memory start from n (length one.frame) fits
-    ∙ ap (λ (frame : List ℕ). take n (drop from frame)) stands.bytes
+    ∙ inner middle.memory start from n (length one.bytes) fits
+    ∙ ap (λ (piece : List ℕ). take n (drop from piece)) stands.bytes
   where
     inner : (memory : List ℕ) (start from n size : ℕ) → from + n ≤ size
         → bytes_at memory (start + from) n ≡ take n (drop from (bytes_at memory start size))

@@ -7,14 +7,14 @@ use Rattle.std.proofs.lemmas.List.Elements.{All-cons, All-map}
 use Rattle.std.proofs.lemmas.List.Kept.{AllPairs-cons}
 use Rattle.dma_memory.specs.Areas.{AreApart, AreSeparate, Area, area_at}
 use Rattle.dma_memory.specs.HostMemory.{LiesIn}
-use Rattle.dma_memory.specs.Layout.{Counts, ReceiveBuffer, ReceiveRing, area_of}
+use Rattle.dma_memory.specs.Layout.{Counts, ReceiveBuffer, ReceiveRing, area_of, buffer_bytes}
 use Rattle.dma_memory.specs.LayoutLaws.{begins, places-apart}
 use Rattle.dma_memory.specs.Owners.{copies}
 use Rattle.dma_memory.specs.OwnersLaws.{copies-cons, copies-itself, no_second_from_one, once_from_no_second}
 use Rattle.rx_engine.specs.Descriptors.{named_address}
 use Rattle.rx_engine.specs.declared.engine.Work.{Work}
 use Rattle.adapter.specs.HostAreas.{areas, buffer_size, data_of, receives, ring_area, work_areas}
-use Rattle.adapter.specs.HostFrames.{AreWithin, named}
+use Rattle.adapter.specs.HostFrames.{named}
 use Rattle.adapter.specs.Slots.{finished, in_work, offered, outstanding, slot_of_work}
 use Rattle.adapter.specs.World.{World, receive_ring, transmit_ring}
 use Rattle.bus.proofs.IdleRings.{first-two, offered-none}
@@ -27,6 +27,7 @@ use Rattle.driver_law.specs.ReadyDrivers.{ReadyWith}
 use Rattle.driver_law.proofs.Buffers.{buffer-lies, known-area}
 use Rattle.driver_law.proofs.Owners.{all-copies, outstanding-number, owners-count}
 use Rattle.driver_law.proofs.StepsWithoutFrames.{goes-rests}
+use Rattle.driver_law.proofs.EndedFrames.{none-cut}
 
 -- The buffers that outstanding slots have.
 
@@ -91,7 +92,7 @@ rings-and-buffers driver world ready true =
     }
 
 -- What the slots name, as the driver's buffers.
-named-buffers : (counts : Counts) (memory : List ℕ) (size : ℕ) (slots numbers : List ℕ) → size ≡ 2048
+named-buffers : (counts : Counts) (memory : List ℕ) (size : ℕ) (slots numbers : List ℕ) → size ≡ buffer_bytes
     → map (named_address memory) slots ≡ map (buffer_at counts) numbers
     → map (λ slot. area_at (named_address memory slot) size) slots ≡ buffers_of counts numbers
 named-buffers counts memory size slots numbers big same =
@@ -131,12 +132,9 @@ receiver_is_enabled driver control world ready none idle plain big =
       driver_is = ready.driver_is;
       law = record {
         sound = set.same.sound;
-        runs =
-            set.runs plain
-            (subst (λ (size : ℕ). AreWithin size world.adapter.receiver.buffer) (ready.size ∙ sym big) ready.law.runs.frames)
-            ready.law.runs;
+        runs = set.runs plain ready.law.runs;
         fit = set.same.fits (omega (arith, ready.size, big)) ready.law.fit;
-        whole = ready.law.whole;
+        whole = none-cut o b none idle;
       };
       lies = ready.lies;
       size = big;
@@ -151,7 +149,7 @@ receiver_is_enabled driver control world ready none idle plain big =
       exact = refl;
       to_send = refl;
       held = refl;
-      finished_same = refl;
+      pieces_same = refl;
       frees = omega arith;
       mask =
           refl;

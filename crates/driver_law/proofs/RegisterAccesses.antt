@@ -2,7 +2,8 @@
 use Rattle.std.proofs.Common.{Bool, inl, ⊎_elim, ◌≡◌, ◌<◌, ◌^◌, ◌∷◌, [], ℕ, refl, sym, ap, subst, ◌∙◌}
 use Rattle.registers.specs.Bits.{HasBit}
 use Rattle.adapter.specs.Registers.{answer_at}
-use Rattle.adapter.specs.Slots.{finished}
+use Rattle.rx_engine.specs.Pieces.{frames_of}
+use Rattle.adapter.specs.HostFrames.{finished_pieces}
 use Rattle.adapter.specs.Table.{register_at}
 use Rattle.adapter.specs.World.{World, world_after_read}
 use Rattle.bus.proofs.RegisterSetting.{reads_leave_frames}
@@ -15,7 +16,7 @@ use Rattle.driver_law.proofs.RegisterReads.{causes_are_read, misses_are_read}
 use Rattle.driver_law.proofs.Steps.{goes-happens}
 use Rattle.driver_law.proofs.Stretches.{flows_join, joined-nothing, work_kept}
 use Rattle.driver_law.specs.DriverState.{DriverState}
-use Rattle.driver_law.specs.Calls.{FlowsTo, GoesTo, Ran, ReadsCauses, at, driver_did, driver_in, only, with_missed}
+use Rattle.driver_law.specs.Calls.{FlowsTo, GoesTo, Ran, ReadsCauses, at, driver_did, driver_in, frames_ended, only, with_missed}
 use Rattle.driver_law.specs.ReadyDrivers.{ReadyWith}
 use Rattle.bus.specs.declared.bus.Bus.{Ghosts}
 
@@ -39,8 +40,8 @@ reads-causes {up} bus old new d value acts ready =
     let later = subst (λ (w : World). FlowsTo up (driver_in d middle) (driver_in d w) (driver_did [] []) nothing) (sym effect.1)
     read.flows in
     let leaves = reads_leave_frames d.oldest_receive d.oldest_transmit 0xC0 middle first.flows.ready.law.sound in
-    let same : finished d.oldest_receive (bus.world new) ≡ finished d.oldest_receive middle = ap (finished d.oldest_receive) effect.1
-    ∙ leaves.same.finished_same in
+    let same : finished_pieces d.oldest_receive (bus.world new) ≡ finished_pieces d.oldest_receive middle =
+    ap (finished_pieces d.oldest_receive) effect.1 ∙ leaves.same.pieces_same in
     record {
       past = acts.past;
       reports = acts.told;
@@ -57,7 +58,7 @@ reads-causes {up} bus old new d value acts ready =
             enabled = subst (λ (mask : ℕ). HasBit mask 7) (sym later.mask) before.enabled;
             asked =
                 ⊎_elim
-                (λ (none : finished d.oldest_receive middle ≡ []). inl (same ∙ none))
+                (λ (none : frames_ended (driver_in d middle) ≡ []). inl (ap frames_of same ∙ none))
                 (λ (bit : HasBit middle.adapter.causes.recorded 7).
                 absurd (unread (subst (λ (causes : ℕ). HasBit causes 7) (sym (effect.0 ∙ shown-causes middle)) bit)))
                 before.asked;

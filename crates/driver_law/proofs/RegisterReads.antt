@@ -7,7 +7,7 @@ use Rattle.registers.specs.Bits.{HasBit}
 use Rattle.registers.specs.Counting.{greatest_count}
 use Rattle.adapter.specs.HostFrames.{frames_held, frames_to_send}
 use Rattle.adapter.specs.Registers.{answer_at, left_by_read, read_of}
-use Rattle.adapter.specs.Slots.{finished}
+use Rattle.rx_engine.specs.Pieces.{frames_of}
 use Rattle.adapter.specs.Table.{register_at, row_of}
 use Rattle.adapter.specs.TableLaws.{register_at-only}
 use Rattle.adapter.specs.World.{World, world_after_read}
@@ -16,7 +16,7 @@ use Rattle.adapter.specs.declared.register.Register.TheVariants.{Icr, Mpc, Gprc,
 use Rattle.bus.proofs.RegisterSetting.{reads_leave_frames}
 use Rattle.bus.specs.PastOfStretch.{nothing}
 use Rattle.driver_law.specs.DriverState.{DriverState}
-use Rattle.driver_law.specs.Calls.{FlowsTo, SumsMisses, adds_exactly, driver_did, driver_in}
+use Rattle.driver_law.specs.Calls.{FlowsTo, SumsMisses, adds_exactly, driver_did, driver_in, frames_ended}
 use Rattle.driver_law.specs.RegisterReadings.{CausesAreRead, MissesAreRead, OthersAreRead}
 use Rattle.driver_law.specs.ReadyDrivers.{ReadyWith}
 use Rattle.driver_law.proofs.Stretches.{misses-stay}
@@ -92,7 +92,7 @@ flows-read {up} driver offset missed exact a ready misses =
       layout = refl;
       sends = leaves.same.to_send ∙ sym (append-nil (frames_to_send a));
       holds = leaves.same.held ∙ sym (append-nil (frames_held driver.oldest_receive a));
-      least = omega (arith, ap length leaves.same.finished_same);
+      least = omega (arith, ap length (ap frames_of leaves.same.pieces_same));
       frees = omega (arith, ap length leaves.same.written_same);
       mask = read.mask;
       misses = misses;
@@ -129,7 +129,7 @@ misses_are_read up driver world fits ready =
     let b = world_after_read 0x4010 world in
     let shown : answer_at 0x4010 world.adapter ≡ world.adapter.missed_packets = refl in
     let none : b.adapter.missed_packets ≡ 0 = refl in
-    let same : length (finished driver.oldest_receive world) ≡ length (finished driver.oldest_receive b) = refl in
+    let same : length (frames_ended (driver_in driver world)) ≡ length (frames_ended (driver_in driver b)) = refl in
     let value = answer_at 0x4010 world.adapter in
     let missed = min (driver.missed + value) (2 ^ 64 - 1) in
     record {
@@ -190,5 +190,5 @@ others_are_read up driver offset world no_causes no_count ready =
     record {
       flows = flows;
       causes = λ place has. subst (λ (causes : ℕ). HasBit causes place) (sym quiet.recorded) has;
-      recorded = inl (omega (arith, ap length leaves.same.finished_same));
+      recorded = inl (omega (arith, ap length (ap frames_of leaves.same.pieces_same)));
     }

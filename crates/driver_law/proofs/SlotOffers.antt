@@ -102,7 +102,7 @@ goes-offers_one {up} d m rest a staged ready =
         sound = done.same.sound;
         runs = done.runs ready.law.runs;
         fit = done.same.fits (omega arith) ready.law.fit;
-        whole = done.same.whole ready.law.whole;
+        whole = done.same.whole refl ready.law.whole;
       };
       lies = ready.lies;
       size = ready.size;

@@ -10,8 +10,10 @@ use Rattle.dma_memory.specs.HostMemory.{bytes_at}
 use Rattle.dma_memory.specs.Layout.{ReceiveBuffer, area_of}
 use Rattle.descriptors.specs.Ring.{address_of}
 use Rattle.descriptors.specs.RingLaws.{place}
-use Rattle.adapter.specs.HostFrames.{frames_held, frames_to_send}
-use Rattle.adapter.specs.Slots.{finished, written_back}
+use Rattle.rx_engine.specs.PieceLaws.{frames-append}
+use Rattle.rx_engine.specs.Pieces.{IsPart, begun_of, frames_from, frames_of}
+use Rattle.adapter.specs.HostFrames.{finished_pieces, frames_held, frames_to_send}
+use Rattle.adapter.specs.Slots.{written_back}
 use Rattle.adapter.specs.World.{World, receive_ring}
 use Rattle.bus.specs.Law.{Happens}
 use Rattle.bus.specs.DriversStores.{SameFrames}
@@ -20,17 +22,18 @@ use Rattle.bus.proofs.DriversSlots.{drivers_side_stays}
 use Rattle.driver_law.proofs.Buffers.{buffer-aside, stand-kept}
 use Rattle.driver_law.proofs.Readiness.{keeps-happening, own-staged, ready-kept, stored-kept}
 use Rattle.driver_law.proofs.Stretches.{misses-counted}
+use Rattle.driver_law.proofs.EndedFrames.{frames-none}
 use Rattle.driver_law.specs.DriverState.{DriverState, HandedOut, receive_slot, receive_tail, with_owners}
 use Rattle.driver_law.specs.Calls.{GoesTo, driver_did, driver_in}
 use Rattle.driver_law.specs.ReadyDrivers.{ReadyWith, Stands}
 
--- Frames only leave and come, slots only become finished and written back, causes are only added, and MPC counts.
+-- Frames only leave and come, frames only end in slots, slots only become written back, causes are only added, and MPC counts.
 pub record Passes (o p : ℕ) (a b : World) (past : Past) : Type 0 where
   pub sends : past.put ++ frames_to_send b ≡ frames_to_send a
   pub holds : frames_held o b ≡ frames_held o a ++ past.stored
-  pub more : List ℕ
-  pub done : finished o b ≡ finished o a ++ more
-  pub told : (more ≡ []) ⊎ HasBit b.adapter.causes.recorded 7
+  pub ended : List (List ℕ)
+  pub grown : frames_of (finished_pieces o b) ≡ frames_of (finished_pieces o a) ++ ended
+  pub told : (ended ≡ []) ⊎ HasBit b.adapter.causes.recorded 7
   pub reported : List ℕ
   pub written : written_back p b ≡ written_back p a ++ reported
   pub each_reported : length reported ≡ length past.put
@@ -45,14 +48,14 @@ pub goes-passes : {up : Bool} (d : DriverState) (buffers staged pool : List ℕ)
     → ReadyWith up (with_owners d buffers staged pool handed_out) b
     → GoesTo up (driver_in d a) (driver_in (with_owners d buffers staged pool handed_out) b) (driver_did [] []) past
 goes-passes {up} d buffers staged pool handed_out a b past passes ready =
-    let longer = length-append (finished d.oldest_receive a) passes.more in
+    let longer = length-append (frames_of (finished_pieces d.oldest_receive a)) passes.ended in
     record {
       flows = record {
         ready = ready;
         layout = refl;
         sends = passes.sends ∙ sym (append-nil (frames_to_send a));
         holds = passes.holds;
-        least = omega (arith, ap length passes.done, longer);
+        least = omega (arith, ap length passes.grown, longer);
         frees = omega
             (arith, ap length passes.written, length-append (written_back d.oldest_transmit a) passes.reported, passes.each_reported);
         mask = passes.mask;
@@ -62,7 +65,7 @@ goes-passes {up} d buffers staged pool handed_out a b past passes ready =
       causes = passes.causes;
       recorded =
           ⊎_elim
-          (λ (none : passes.more ≡ []). inl (omega (arith, ap length passes.done, longer, ap length none)))
+          (λ (none : passes.ended ≡ []). inl (omega (arith, ap length passes.grown, longer, ap length none)))
           (λ (bit : HasBit b.adapter.causes.recorded 7). inr bit)
           passes.told;
     }
@@ -73,8 +76,8 @@ pub passes-same : (o p : ℕ) (a b : World) → SameFrames o p a b → b.adapter
 passes-same o p a b same causes missed = record {
   sends = same.to_send;
   holds = same.held ∙ sym (append-nil (frames_held o a));
-  more = [];
-  done = same.finished_same ∙ sym (append-nil (finished o a));
+  ended = [];
+  grown = ap frames_of same.pieces_same ∙ sym (append-nil (frames_of (finished_pieces o a)));
   told = inl refl;
   reported = [];
   written = same.written_same ∙ sym (append-nil (written_back p a));
@@ -98,7 +101,8 @@ goes-stays {up} d a ready =
       to_send = refl;
       finished_same = refl;
       written_same = refl;
-      whole = λ whole. whole;
+      pieces_same = refl;
+      whole = λ size whole. whole;
       fits =
           λ size fits. fits;
     }) refl refl)
@@ -121,13 +125,19 @@ goes-happens {up} d a b past ready happens =
     let stand : All (Stands d.layout b.memory) d.handed_out = stand-kept d a b ready (λ number known free.
     let aside = buffer-aside d a number ready known free in
     between.untouched (area_of d.layout (ReceiveBuffer number)) aside.foreign) in
+    let ready_after = ready-kept d d.staged d.pool a b ready (keeps-happening d a b past ready happens) ready.driver_is
+    (stored-kept a.memory b.memory d.layout (receive_tail d) d.staged kept ready.slots.stored) stand in
     goes-passes d d.buffers d.staged d.pool d.handed_out a b past
     (record {
       sends = between.sends;
       holds = between.holds;
-      more = between.more;
-      done = between.done;
-      told = between.told;
+      ended = frames_from (begun_of (finished_pieces o a)) between.pieces;
+      grown = ap frames_of between.grown ∙ frames-append [] (finished_pieces o a) between.pieces;
+      told =
+          ⊎_elim
+          (λ (are_parts : All IsPart between.pieces). inl (frames-none (begun_of (finished_pieces o a)) between.pieces are_parts))
+          (λ (bit : HasBit b.adapter.causes.recorded 7). inr bit)
+          between.told;
       reported = between.reported;
       written = between.written;
       each_reported = between.each_reported;
@@ -139,8 +149,7 @@ goes-happens {up} d a b past ready happens =
           let same = grown-below_greatest a.adapter.missed_packets past.missed (omega (arith, below_greatest, happens.steady.missed)) in
           omega (arith, same, happens.steady.missed);
     })
-    (ready-kept d d.staged d.pool a b ready (keeps-happening d a b past ready happens) ready.driver_is
-    (stored-kept a.memory b.memory d.layout (receive_tail d) d.staged kept ready.slots.stored) stand)
+    ready_after
   where
     grown : (x y : ℕ) → x + y ≤ greatest_count → max x (min (x + y) greatest_count) ≡ x + y
     grown x y fits = omega (arith, fits)

@@ -2,8 +2,9 @@
 use Rattle.std.proofs.Common.{Bool, ◌≡◌, ◌+◌, [], ℕ, length, inl, sym, ap, subst, ◌∙◌, arith}
 use Rattle.std.proofs.lemmas.List.{append-nil}
 use Rattle.registers.specs.Bits.{HasBit}
-use Rattle.adapter.specs.HostFrames.{frames_held, frames_to_send}
-use Rattle.adapter.specs.Slots.{finished, written_back}
+use Rattle.rx_engine.specs.Pieces.{frames_of}
+use Rattle.adapter.specs.HostFrames.{finished_pieces, frames_held, frames_to_send}
+use Rattle.adapter.specs.Slots.{written_back}
 use Rattle.adapter.specs.World.{World}
 use Rattle.bus.specs.PastOfStretch.{nothing}
 use Rattle.driver_law.proofs.Stretches.{misses-stay}
@@ -11,14 +12,14 @@ use Rattle.driver_law.specs.DriverState.{DriverState}
 use Rattle.driver_law.specs.Calls.{GoesTo, driver_did, driver_in}
 use Rattle.driver_law.specs.ReadyDrivers.{ReadyWith}
 
--- Frames, finished slots, causes and counts are the same; slots are freed if they were written back.
+-- Frames, the pieces in finished slots, causes and counts are the same; slots are freed if they were written back.
 pub record Rests (driver : DriverState) (a : World) (driver' : DriverState) (b : World) : Type 0 where
   pub layout : driver'.layout ≡ driver.layout
   pub missed : driver'.missed ≡ driver.missed
   pub exact : driver'.exact ≡ driver.exact
   pub to_send : frames_to_send b ≡ frames_to_send a
   pub held : frames_held driver'.oldest_receive b ≡ frames_held driver.oldest_receive a
-  pub finished_same : finished driver'.oldest_receive b ≡ finished driver.oldest_receive a
+  pub pieces_same : finished_pieces driver'.oldest_receive b ≡ finished_pieces driver.oldest_receive a
   pub frees : length (written_back driver.oldest_transmit a) + driver'.sending ≡ driver.sending
       + length (written_back driver'.oldest_transmit b)
   pub mask : b.adapter.causes.mask ≡ a.adapter.causes.mask
@@ -33,11 +34,11 @@ goes-rests {up} driver a driver' b ready rests = record {
     layout = rests.layout;
     sends = rests.to_send ∙ sym (append-nil (frames_to_send a));
     holds = rests.held ∙ sym (append-nil (frames_held driver.oldest_receive a));
-    least = omega (arith, ap length rests.finished_same);
+    least = omega (arith, ap length (ap frames_of rests.pieces_same));
     frees = omega (arith, rests.frees);
     mask = rests.mask;
     misses = misses-stay driver driver' a b rests.missed rests.exact rests.missed_packets;
   };
   causes = λ place has. subst (λ (causes : ℕ). HasBit causes place) (sym rests.recorded) has;
-  recorded = inl (omega (arith, ap length rests.finished_same));
+  recorded = inl (omega (arith, ap length (ap frames_of rests.pieces_same)));
 }

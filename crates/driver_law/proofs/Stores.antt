@@ -55,7 +55,7 @@ keeps-store {up} d a address bytes ready lies own =
         sound = leaves.same.sound;
         runs = leaves.runs ready.law.runs;
         fit = leaves.same.fits (omega arith) ready.law.fit;
-        whole = leaves.same.whole ready.law.whole;
+        whole = leaves.same.whole refl ready.law.whole;
       };
       size = length-with_bytes a.memory bytes address lies;
       filter = refl;

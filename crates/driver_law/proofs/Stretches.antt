@@ -1,16 +1,15 @@
 -- Two intervals of a driver's run join, and no work is forgotten in one.
-use Rattle.std.proofs.Common.{Bool, IsTrue, ◌≡◌, ◌≤◌, ◌<◌, ◌^◌, ◌+◌, ◌++◌, ◌∷◌, [], ℕ, List, length, refl, inl, inr, ⊎_elim, subst, sym, ap}
+use Rattle.std.proofs.Common.{Bool, IsTrue, ◌≡◌, ◌≤◌, ◌<◌, ◌^◌, ◌+◌, ◌++◌, [], ℕ, List, length, refl, inl, inr, ⊎_elim, subst, sym, ap}
 use Rattle.std.proofs.Common.{◌∙◌, add-zero, append_assoc, length-append, arith}
 use Rattle.std.proofs.lemmas.Bool.{cases_lt}
-use Rattle.std.proofs.lemmas.List.{append-nil}
+use Rattle.std.proofs.lemmas.List.{append-nil, nil_from_length}
 use Rattle.registers.specs.Bits.{HasBit}
 use Rattle.registers.specs.Counting.{greatest_count}
 use Rattle.adapter.specs.HostFrames.{frames_held, frames_to_send}
-use Rattle.adapter.specs.Slots.{finished}
 use Rattle.adapter.specs.World.{World}
 use Rattle.bus.specs.PastOfStretch.{Past, joined, nothing}
 use Rattle.driver_law.specs.DriverState.{DriverState}
-use Rattle.driver_law.specs.Calls.{FlowsTo, GoesTo, HasNoForgottenWork, SumsMisses, driver_did, driver_in}
+use Rattle.driver_law.specs.Calls.{FlowsTo, GoesTo, HasNoForgottenWork, SumsMisses, driver_did, driver_in, frames_ended}
 
 -- MPC isn't read: the driver's sum stays, and MPC counts the frames missed.
 pub misses-counted : (d d' : DriverState) (a b : World) (past : Past) → d'.missed ≡ d.missed → d'.exact ≡ d.exact
@@ -95,9 +94,9 @@ goes_join d1 d2 d3 a b c t1 t2 g1 g2 first later one two = record {
   causes = λ place has. two.causes place (one.causes place has);
   recorded =
       ⊎_elim
-      (λ (same : length (finished d2.oldest_receive b) ≡ length t2 + length (finished d3.oldest_receive c)).
+      (λ (same : length (frames_ended (driver_in d2 b)) ≡ length t2 + length (frames_ended (driver_in d3 c))).
       ⊎_elim
-      (λ (before : length (finished d1.oldest_receive a) ≡ length t1 + length (finished d2.oldest_receive b)). inl
+      (λ (before : length (frames_ended (driver_in d1 a)) ≡ length t1 + length (frames_ended (driver_in d2 b))). inl
       (omega (arith, before, same, length-append t1 t2)))
       (λ (bit : HasBit b.adapter.causes.recorded 7). inr (two.causes 7 bit))
       one.recorded)
@@ -125,15 +124,12 @@ work_kept d d' a b taken accepted past goes work = record {
   enabled = subst (λ (mask : ℕ). HasBit mask 7) (sym goes.flows.mask) work.enabled;
   asked =
       ⊎_elim
-      (λ (same : length (finished d.oldest_receive a) ≡ length taken + length (finished d'.oldest_receive b)).
+      (λ (same : length (frames_ended (driver_in d a)) ≡ length taken + length (frames_ended (driver_in d' b))).
       ⊎_elim
-      (λ (none : finished d.oldest_receive a ≡ []). inl (empty (finished d'.oldest_receive b) (omega (arith, same, ap length none))))
+      (λ (none : frames_ended (driver_in d a) ≡ []).
+      inl (nil_from_length (frames_ended (driver_in d' b)) (omega (arith, same, ap length none))))
       (λ (bit : HasBit a.adapter.causes.recorded 7). inr (goes.causes 7 bit))
       work.asked)
       (λ (bit : HasBit b.adapter.causes.recorded 7). inr bit)
       goes.recorded;
 }
-  where
-    empty : (xs : List ℕ) → length xs ≡ 0 → xs ≡ []
-    empty [] none = refl
-    empty (x ∷ xs) none = absurd (omega (arith, none))

@@ -1,169 +1,159 @@
--- The oldest receive slot is taken if it is finished, and a buffer comes back.
-use Rattle.std.proofs.Common.{inl, ◌≡◌, ◌+◌, ◌*◌, ◌%◌, ◌++◌, ◌∷◌, [], Bool, true, false, cond, ℕ, suc, List, length, map, refl, sym, ap}
-use Rattle.std.proofs.Common.{subst, ◌∙◌, arith}
-use Rattle.std.specs.List.{take_while}
-use Rattle.std.proofs.lemmas.List.{append-nil, map-append}
+-- The oldest finished receive slots are taken if they contain a whole frame, and buffers come back.
+use Rattle.std.proofs.Common.{inl, Bool, ◌≡◌, ◌≤◌, ◌+◌, ◌++◌, ◌∷◌, [], ℕ, suc, List, length, map, take, drop, refl, sym, ap, subst, ◌∙◌}
+use Rattle.std.proofs.Common.{length-append, arith}
+use Rattle.std.specs.List.{All, concat, take-map}
+use Rattle.std.proofs.lemmas.List.{append-nil, length-map, length-take, map-append, take-append-drop}
 use Rattle.std.proofs.lemmas.List.Elements.{All-append, All-cons}
-use Rattle.std.proofs.lemmas.List.Sums.{take_while-cons}
-use Rattle.dma_memory.specs.HostMemory.{bytes_at}
+use Rattle.dma_memory.specs.HostMemory.{LiesIn, bytes_at}
 use Rattle.dma_memory.specs.Laws.{length-bytes_at}
 use Rattle.dma_memory.specs.Owners.{copies}
-use Rattle.dma_memory.specs.OwnersLaws.{copies-cons, copies-itself, copies-push}
+use Rattle.dma_memory.specs.OwnersLaws.{copies-append}
+use Rattle.descriptors.specs.RingLaws.{length-slots_from, place}
 use Rattle.descriptors.specs.Ring.{slots_from}
-use Rattle.descriptors.specs.RingLaws.{next-below, place}
 use Rattle.rx_engine.specs.Descriptors.{descriptor_at, named_address}
-use Rattle.adapter.specs.Conditions.{AreWhole, FitBuffers, IsWhole, Sound}
-use Rattle.adapter.specs.HostFrames.{frames_held, frames_to_send}
-use Rattle.adapter.specs.Slots.{finished, is_done, outstanding}
+use Rattle.rx_engine.specs.Pieces.{IsLastSize, Piece, frames_of, parts}
+use Rattle.rx_engine.specs.Pieces.Piece.{Last, Part}
+use Rattle.adapter.specs.Conditions.{AreCut, FitBuffers, Sound}
+use Rattle.adapter.specs.HostAreas.{buffer_size}
+use Rattle.adapter.specs.HostFrames.{finished_pieces, frames_held, frames_to_send, named, piece_in}
+use Rattle.adapter.specs.Slots.{finished, in_work, offered, outstanding}
 use Rattle.adapter.specs.World.{World, receive_ring}
 use Rattle.bus.specs.DriversSlots.{frame_named}
 use Rattle.bus.specs.PastOfStretch.{nothing}
-use Rattle.bus.specs.TakingSlots.{Taken, behind_oldest_receive}
-use Rattle.bus.proofs.Lists.{all-none}
-use Rattle.bus.proofs.TakingSlots.{finished_slots_can_be_taken}
-use Rattle.driver_law.proofs.Buffers.{buffer-lies}
-use Rattle.driver_law.proofs.Owners.{one_owner-dealt, outstanding-number}
-use Rattle.driver_law.proofs.Places.{outstanding-known}
+use Rattle.bus.specs.RunsOfSlots.{RunTaken, after_run}
+use Rattle.bus.proofs.Lists.{all-head, all-left, all-none, all-tail}
+use Rattle.bus.proofs.RunsOfSlots.{runs_can_be_taken}
+use Rattle.driver_law.proofs.EndedFrames.{parts-few}
+use Rattle.driver_law.proofs.Owners.{one_owner-dealt}
+use Rattle.driver_law.proofs.Places.{place-add, place-below}
+use Rattle.driver_law.proofs.SeenSlots.{cons-parts, finished-lie, outstanding-slots}
 use Rattle.driver_law.proofs.Steps.{goes-passes, passes-same}
 use Rattle.driver_law.proofs.Stretches.{misses-stay}
 use Rattle.driver_law.specs.DriverState.{DriverState, HandedOut, buffer_at, numbers_of, receive_slot, receive_tail, with_owners}
 use Rattle.driver_law.specs.ReadyDrivers.{AreStored, ReadyWith, Stands}
-use Rattle.driver_law.specs.ReceiveSteps.{BuffersCanComeBack, OldestCanBeTaken, OldestIsAsLong, behind_oldest, oldest_frame}
+use Rattle.driver_law.specs.ReceiveSteps.{BuffersCanComeBack, ContainFrame, PartsAreFew, RunCanBeTaken, RunIsOfFrame, after_slots}
+use Rattle.driver_law.specs.ReceiveSteps.{pieces_in}
 
-cons-parts : (x y : ℕ) (xs ys : List ℕ) → x ∷ xs ≡ y ∷ ys → (x ≡ y) × (xs ≡ ys)
-cons-parts x y xs ys same = (cc, cc)
+-- Two lists in two parts, the first ones of one size.
+append-parts : (xs ys xs' ys' : List ℕ) → length xs ≡ length xs' → xs ++ ys ≡ xs' ++ ys' → (xs ≡ xs') × (ys ≡ ys')
+append-parts [] ys [] ys' count same = (refl, same)
+append-parts [] ys (x' ∷ xs') ys' count same = absurd (omega (arith, count))
+append-parts (x ∷ xs) ys [] ys' count same = absurd (omega (arith, count))
+append-parts (x ∷ xs) ys (x' ∷ xs') ys' count same =
+    let first = cons-parts x x' (xs ++ ys) (xs' ++ ys') same in
+    let later = append-parts xs ys xs' ys' (omega (arith, count)) first.1 in
+    (rw (first.0, later.0) refl, later.1)
 
--- What the oldest slot shows says whether any slot is finished.
+-- The pieces in slots, each in its buffer.
 
--- the slots after the oldest, if this many are outstanding besides it
-abbrev behind_it : DriverState → ℕ → List ℕ
-behind_it d i = map receive_slot (slots_from d.layout.rx ((d.oldest_receive + 1) % d.layout.rx) i)
+pub numbers-in : (world : World) (run numbers : List ℕ) → length numbers ≡ length run → numbers_of (pieces_in world run numbers) ≡ numbers
+numbers-in world [] [] count = refl
+numbers-in world [] (number ∷ numbers) count = absurd (omega (arith, count))
+numbers-in world (slot ∷ run) [] count = absurd (omega (arith, count))
+numbers-in world (slot ∷ run) (number ∷ numbers) count =
+    ap (λ (list : List ℕ). number ∷ list) (numbers-in world run numbers (omega (arith, count)))
 
-oldest-first : {up : Bool} (d : DriverState) (world : World) (m : ℕ) (rest : List ℕ) → d.buffers ≡ m ∷ rest → ReadyWith up d world
-    → outstanding (receive_ring world) d.oldest_receive ≡ receive_slot d.oldest_receive ∷ behind_it d (length rest)
-oldest-first {up} d world m rest buffers ready =
-    let n = d.layout.rx in
-    outstanding-known (receive_ring world) 0 n d.oldest_receive (length d.buffers) ready.receive ready.driver_is.oldest_slot
-    (omega (arith, ready.driver_is.room))
-    ∙ ap (λ (i : ℕ). map (λ (slot : ℕ). 0 + 16 * slot) (slots_from n d.oldest_receive i)) (ap length buffers)
-    ∙ from-zero (slots_from n d.oldest_receive (suc (length rest)))
-  where
-    from-zero : (xs : List ℕ) → map (λ (slot : ℕ). 0 + 16 * slot) xs ≡ map receive_slot xs
-    from-zero [] = refl
-    from-zero (x ∷ xs) = let here : 0 + 16 * x ≡ 16 * x = omega arith in rw (here, from-zero xs) refl
+bytes-in : (world : World) (run numbers : List ℕ) → length numbers ≡ length run
+    → map (λ (one : HandedOut). one.bytes) (pieces_in world run numbers) ≡ map (frame_named world) run
+bytes-in world [] numbers count = refl
+bytes-in world (slot ∷ run) [] count = absurd (omega (arith, count))
+bytes-in world (slot ∷ run) (number ∷ numbers) count =
+    ap (λ (list : List (List ℕ)). frame_named world slot ∷ list) (bytes-in world run numbers (omega (arith, count)))
 
-finished-by : {up : Bool} (d : DriverState) (world : World) (m : ℕ) (rest : List ℕ) → d.buffers ≡ m ∷ rest → ReadyWith up d world
-    → (done : Bool) → is_done world.memory (receive_slot d.oldest_receive) ≡ done
-    → finished d.oldest_receive world
-    ≡ cond done (receive_slot d.oldest_receive ∷ take_while (is_done world.memory) (behind_it d (length rest))) []
-finished-by {up} d world m rest buffers ready done is =
-    let slot = receive_slot d.oldest_receive in
-    let others = behind_it d (length rest) in
-    let test = is_done world.memory in
-    ap (take_while test) (oldest-first d world m rest buffers ready) ∙ take_while-cons test slot others
-    ∙ ap (λ (b : Bool). cond b (slot ∷ take_while test others) []) is
+-- the bytes that a finished slot names are in memory, and they fit into a buffer
+abbrev Lies : World → ℕ → Type 0
+Lies world slot = LiesIn world.memory (named world.memory slot).address (named world.memory slot).size
 
-pub finished-first : {up : Bool} (d : DriverState) (world : World) (m : ℕ) (rest : List ℕ) → d.buffers ≡ m ∷ rest → ReadyWith up d world
-    → is_done world.memory (receive_slot d.oldest_receive) ≡ true
-    → (later : List ℕ) × (finished d.oldest_receive world ≡ receive_slot d.oldest_receive ∷ later)
-finished-first {up} d world m rest buffers ready done = (_, finished-by d world m rest buffers ready true done)
+abbrev Fits : World → ℕ → Type 0
+Fits world slot = (named world.memory slot).size ≤ buffer_size world
 
-pub finished-none : {up : Bool} (d : DriverState) (world : World) (m : ℕ) (rest : List ℕ) → d.buffers ≡ m ∷ rest → ReadyWith up d world
-    → is_done world.memory (receive_slot d.oldest_receive) ≡ false
-    → finished d.oldest_receive world ≡ []
-finished-none {up} d world m rest buffers ready clear = finished-by d world m rest buffers ready false clear
-
-pub finished-empty : {up : Bool} (d : DriverState) (world : World) → d.buffers ≡ [] → ReadyWith up d world
-    → finished d.oldest_receive world ≡ []
-finished-empty {up} d world none ready =
-    ap (take_while (is_done world.memory))
-    (outstanding-known (receive_ring world) 0 d.layout.rx d.oldest_receive (length d.buffers) ready.receive ready.driver_is.oldest_slot
-    (omega (arith, ready.driver_is.room))
-    ∙ ap (λ (i : ℕ). map (λ (slot : ℕ). 0 + 16 * slot) (slots_from d.layout.rx d.oldest_receive i)) (ap length none))
-
--- What the law says of it, with its frame.
-record IsFirst (d : DriverState) (world : World) (m : ℕ) (slots : List ℕ) : Type 0 where
-  taken : Taken d.oldest_receive d.oldest_transmit world (receive_slot d.oldest_receive) slots
-  size : length (frame_named world (receive_slot d.oldest_receive)) ≡ (descriptor_at world.memory (receive_slot d.oldest_receive)).length
-  stands : Stands d.layout world.memory (oldest_frame d m world)
-
-first-known : {up : Bool} (d : DriverState) (world : World) (m : ℕ) (rest slots : List ℕ) → d.buffers ≡ m ∷ rest → ReadyWith up d world
-    → finished d.oldest_receive world ≡ receive_slot d.oldest_receive ∷ slots → IsFirst d world m slots
-first-known {up} d world m rest slots buffers ready done =
-    let slot = receive_slot d.oldest_receive in
-    let at = buffer_at d.layout m in
+pieces-stand : {up : Bool} (d : DriverState) (world : World) → ReadyWith up d world → (run numbers : List ℕ)
+    → map (named_address world.memory) run ≡ map (buffer_at d.layout) numbers
+    → All (Lies world) run → All (Fits world) run
+    → All (Stands d.layout world.memory) (pieces_in world run numbers)
+pieces-stand d world ready [] numbers names lie fit = all-none (Stands d.layout world.memory)
+pieces-stand d world ready (slot ∷ run) [] names lie fit = all-none (Stands d.layout world.memory)
+pieces-stand d world ready (slot ∷ run) (number ∷ numbers) names lie fit =
     let desc = descriptor_at world.memory slot in
-    let taken = finished_slots_can_be_taken d.oldest_receive d.oldest_transmit world slot slots ready.law.sound done in
-    let whole = (taken.whole ready.law.whole).0 in
-    let names : map (named_address world.memory) (slot ∷ behind_it d (length rest)) ≡ map (buffer_at d.layout) (m ∷ rest) =
-    sym (ap (map (named_address world.memory)) (oldest-first d world m rest buffers ready)) ∙ ready.slots.names
-    ∙ ap (map (buffer_at d.layout)) buffers in
-    let address : desc.address ≡ at = (cons-parts _ _ _ _ names).0 in
-    let lies = buffer-lies d world m ready
-    (outstanding-number d m ready.driver_is (omega (arith, ap (copies m) buffers, copies-itself m rest))) in
-    let stands : frame_named world slot
-    ≡ bytes_at world.memory at desc.length = ap (λ (place : ℕ). bytes_at world.memory place desc.length) address in
-    let size : length (frame_named world slot) ≡ desc.length = ap length stands
-    ∙ length-bytes_at world.memory at desc.length (omega (arith, lies, whole.most)) in
-    record {
-      taken = taken;
-      size = size;
-      stands = record { bytes = ap (bytes_at world.memory at) size ∙ sym stands; short = omega (arith, size, whole.most) };
-    }
+    let same = cons-parts _ _ (map (named_address world.memory) run) (map (buffer_at d.layout) numbers) names in
+    let stands : frame_named world slot ≡ bytes_at world.memory (buffer_at d.layout number) desc.length =
+    ap (λ (place : ℕ). bytes_at world.memory place desc.length) same.0 in
+    let size : length (frame_named world slot) ≡ desc.length =
+    length-bytes_at world.memory desc.address desc.length (all-head (Lies world) slot run lie) in
+    All-cons (Stands d.layout world.memory) (record { number = number; bytes = frame_named world slot }) (pieces_in world run numbers)
+    (record {
+      bytes = ap (bytes_at world.memory (buffer_at d.layout number)) size ∙ sym stands;
+      short = omega (arith, size, all-head (Fits world) slot run fit, ready.size);
+    })
+    (pieces-stand d world ready run numbers same.1 (all-tail (Lies world) slot run lie) (all-tail (Fits world) slot run fit))
 
-pub oldest_is_as_long : OldestIsAsLong
-oldest_is_as_long up d m rest slots world ready buffers done = (first-known d world m rest slots buffers ready done).size
-
-pub oldest_is_whole : {up : Bool} (d : DriverState) (m : ℕ) (rest slots : List ℕ) (world : World) → ReadyWith up d world
-    → d.buffers ≡ m ∷ rest
-    → finished d.oldest_receive world ≡ receive_slot d.oldest_receive ∷ slots
-    → IsWhole (descriptor_at world.memory (receive_slot d.oldest_receive))
-oldest_is_whole d m rest slots world ready buffers done =
-    ((first-known d world m rest slots buffers ready done).taken.whole ready.law.whole).0
-
--- With the next place in the driver's own words.
-record IsNextOldest (d : DriverState) (world : World) (slots : List ℕ) (next : ℕ) : Type 0 where
+-- What the law says of a run, with the next place in the driver's own words.
+record IsNextOldest (d : DriverState) (world : World) (run later : List ℕ) (frame : List ℕ) (next : ℕ) : Type 0 where
   sound : Sound next d.oldest_transmit world
-  behind : finished next world ≡ slots
-  held : frames_held d.oldest_receive world ≡ frame_named world (receive_slot d.oldest_receive) ∷ frames_held next world
-  first : outstanding (receive_ring world) d.oldest_receive ≡ receive_slot d.oldest_receive ∷ outstanding (receive_ring world) next
+  held : frames_held d.oldest_receive world ≡ frame ∷ frames_held next world
+  ended : frames_of (finished_pieces d.oldest_receive world) ≡ frame ∷ frames_of (finished_pieces next world)
+  first : outstanding (receive_ring world) d.oldest_receive ≡ run ++ outstanding (receive_ring world) next
   fits : FitBuffers next world
+  whole : AreCut next world
 
-pub oldest_can_be_taken : OldestCanBeTaken
-oldest_can_be_taken up d m rest slots a ready buffers done =
+run-taken : {up : Bool} (d : DriverState) (numbers run : List ℕ) (seen : List (List ℕ)) (last : List ℕ) (world : World)
+    → ReadyWith up d world
+    → (contain : ContainFrame d world numbers run seen last)
+    → RunTaken d.oldest_receive d.oldest_transmit world run seen last contain.later
+run-taken d numbers run seen last world ready contain =
+    runs_can_be_taken d.oldest_receive d.oldest_transmit world run seen last contain.later ready.law.sound contain.slots contain.pieces
+
+pub run_can_be_taken : RunCanBeTaken
+run_can_be_taken up d numbers run seen last a ready contain =
     let n = d.layout.rx in
     let o = d.oldest_receive in
-    let next = (o + 1) % n in
-    let slot = receive_slot o in
-    let one = oldest_frame d m a in
-    let d' = behind_oldest d rest (d.handed_out ++ one ∷ []) in
-    let known = first-known d a m rest slots buffers ready done in
-    let taken = known.taken in
-    let here : IsNextOldest d a slots (behind_oldest_receive o a) = record
-    { sound = taken.sound; behind = taken.behind; held = taken.held; first = taken.first; fits = taken.fits ready.law.fit } in
-    let at : IsNextOldest d a slots next = subst (IsNextOldest d a slots) (ap (λ (count : ℕ). (o + 1) % count) ready.receive.slots) here in
-    let count : length d.buffers ≡ suc (length rest) = ap length buffers in
-    let tail : receive_tail d ≡ place n next (length rest) = ap (place n o) count in
-    let names : map (named_address a.memory) (slot ∷ outstanding (receive_ring a) next) ≡ map (buffer_at d.layout) (m ∷ rest) =
-    sym (ap (map (named_address a.memory)) at.first) ∙ ready.slots.names ∙ ap (map (buffer_at d.layout)) buffers in
-    let numbers : numbers_of (d.handed_out ++ one ∷ []) ≡ numbers_of d.handed_out ++ m
-    ∷ [] = map-append (λ (entry : HandedOut). entry.number) d.handed_out (one ∷ []) in
-    let Standing = Stands d.layout a.memory in
+    let ring = receive_ring a in
+    let others = contain.others in
+    let next = place n o (length numbers) in
+    let pieces = pieces_in a run numbers in
+    let d' = after_slots d (length numbers) others (d.handed_out ++ pieces) in
+    let frame = concat seen ++ last in
+    let taken = run-taken d numbers run seen last a ready contain in
+    let here : IsNextOldest d a run contain.later frame (after_run o run a) = record {
+      sound = taken.sound;
+      held = taken.held;
+      ended = taken.ended;
+      first = taken.first;
+      fits = taken.fits ready.law.fit;
+      whole = (taken.cut ready.law.whole).others;
+    } in
+    let at : IsNextOldest d a run contain.later frame next = subst (IsNextOldest d a run contain.later frame)
+    (ap (λ (count : ℕ). place count o (length run)) ready.receive.slots ∙ ap (place n o) (sym contain.count)) here in
+    let count : length d.buffers ≡ length numbers + length others = ap length contain.buffers ∙ length-append numbers others in
+    let tail : receive_tail d ≡ place n next (length others) = ap (place n o) count ∙ place-add n o (length numbers) (length others) in
+    let address = named_address a.memory in
+    let buffer = buffer_at d.layout in
+    let names : map address run ++ map address (outstanding ring next) ≡ map buffer numbers ++ map buffer others =
+    sym (ap (map address) at.first ∙ map-append address run (outstanding ring next)) ∙ ready.slots.names
+    ∙ ap (map buffer) contain.buffers ∙ map-append buffer numbers others in
+    let same = append-parts (map address run) (map address (outstanding ring next)) (map buffer numbers) (map buffer others)
+    (omega (arith, length-map run address, length-map numbers buffer, contain.count)) names in
+    let held_by : numbers_of (d.handed_out ++ pieces) ≡ numbers_of d.handed_out ++ numbers =
+    map-append (λ (entry : HandedOut). entry.number) d.handed_out pieces
+    ∙ ap (λ (list : List ℕ). numbers_of d.handed_out ++ list) (numbers-in a run numbers contain.count) in
+    let lie = all-left (Lies a) run contain.later
+    (subst (λ (list : List ℕ). All (Lies a) list) contain.slots (finished-lie d a ready)) in
+    let fit = all-left (Fits a) run contain.later
+    (subst (λ (list : List ℕ). All (Fits a) list) contain.slots ready.law.fit.finished_fit) in
     record {
       flows = record {
         ready = record {
           driver_is = record {
-            oldest_slot = next-below n o ready.driver_is.oldest_slot;
+            oldest_slot = place-below n o (length numbers) ready.driver_is.oldest_slot;
             room = omega (arith, ready.driver_is.room, count);
             one_owner =
                 one_owner-dealt d.layout.buffers d d'
                 (λ k. omega (
                   arith,
-                  ap (copies k) buffers,
-                  copies-cons k m rest,
-                  ap (copies k) numbers,
-                  copies-push k m
-                      (numbers_of d.handed_out),
+                  ap (copies k) contain.buffers,
+                  copies-append k numbers others,
+                  ap (copies k) held_by,
+                  copies-append k (numbers_of d.handed_out) numbers,
                 ))
                 ready.driver_is.one_owner;
             addresses = ready.driver_is.addresses;
@@ -172,34 +162,98 @@ oldest_can_be_taken up d m rest slots a ready buffers done =
             sound = at.sound;
             runs = ready.law.runs;
             fit = at.fits;
-            whole = subst (AreWhole a.memory) (sym at.behind) (taken.whole ready.law.whole).1;
+            whole = at.whole;
           };
           lies = ready.lies;
           size = ready.size;
           receive = record {
             begins = ready.receive.begins;
             slots = ready.receive.slots;
-            last = ready.receive.last
-                ∙ tail;
+            last = ready.receive.last ∙ tail;
             head_slot = ready.receive.head_slot;
           };
           transmit = ready.transmit;
           slots = record {
-            names = (cons-parts _ _ _ _ names).1;
+            names = same.1;
             stored = subst (λ (place : ℕ). AreStored a.memory d.layout place d.staged) tail ready.slots.stored;
           };
-          stand = All-append Standing d.handed_out (one ∷ []) ready.stand (All-cons Standing one [] known.stands (all-none Standing));
+          stand = All-append (Stands d.layout a.memory) d.handed_out pieces ready.stand (pieces-stand d a ready run numbers same.0 lie fit);
         };
         layout = refl;
         sends = sym (append-nil (frames_to_send a));
         holds = sym at.held ∙ sym (append-nil (frames_held o a));
-        least = omega (arith, ap length done, ap length at.behind);
+        least = omega (arith, ap length at.ended);
         frees = omega arith;
         mask = refl;
         misses = misses-stay d d' a a refl refl refl;
       };
       causes = λ place has. has;
-      recorded = inl (omega (arith, ap length done, ap length at.behind));
+      recorded = inl (omega (arith, ap length at.ended));
+    }
+
+pub run_is_of_frame : RunIsOfFrame
+run_is_of_frame up d numbers run seen last a ready contain =
+    let taken = run-taken d numbers run seen last a ready contain in
+    let cut = taken.cut ready.law.whole in (
+      record {
+        legal = cut.legal;
+        full = subst (λ (size : ℕ). All (λ bytes. length bytes ≡ size) seen) ready.size cut.full;
+        last_size = subst (λ (size : ℕ). IsLastSize size (length last)) ready.size cut.last_size;
+      },
+      bytes-in a run numbers contain.count ∙ taken.bytes,
+    )
+
+pub parts_are_few : PartsAreFew
+parts_are_few up d seen later world ready is = parts-few d.oldest_receive world seen later ready.size ready.law.whole is
+
+-- The pieces show which slots contain the frame: the first ones, with the first buffers.
+
+length-parts : (seen : List (List ℕ)) (later : List Piece) → length (parts seen ++ later) ≡ length seen + length later
+length-parts [] later = omega arith
+length-parts (bytes ∷ seen) later = omega (arith, length-parts seen later)
+
+take-parts : (seen : List (List ℕ)) (last : List ℕ) (later : List Piece)
+    → take (suc (length seen)) (parts seen ++ Last last ∷ later) ≡ parts seen ++ Last last ∷ []
+take-parts [] last later = refl
+take-parts (bytes ∷ seen) last later = ap (λ (list : List Piece). Part bytes ∷ list) (take-parts seen last later)
+
+pub record OldestContain (d : DriverState) (world : World) (seen : List (List ℕ)) (last : List ℕ) : Type 0 where
+  pub run : List ℕ
+  pub contain : ContainFrame d world (take (suc (length seen)) d.buffers) run seen last
+  pub others : contain.others ≡ drop (suc (length seen)) d.buffers
+  pub size : length (take (suc (length seen)) d.buffers) ≡ suc (length seen)
+
+pub oldest-contain : {up : Bool} (d : DriverState) (world : World) (seen : List (List ℕ)) (last : List ℕ) (later : List Piece)
+    → ReadyWith up d world
+    → finished_pieces d.oldest_receive world ≡ parts seen ++ Last last ∷ later
+    → OldestContain d world seen last
+oldest-contain d world seen last later ready is =
+    let k = suc (length seen) in
+    let slots = finished d.oldest_receive world in
+    let piece = piece_in world.memory in
+    let all = ap length (outstanding-slots d world ready) in
+    let most : length slots ≤ length d.buffers = omega (
+      arith,
+      ap length ready.law.sound.receive_slots.classes,
+      length-append slots (in_work world ++ offered (receive_ring world)),
+      all,
+      length-map (slots_from d.layout.rx d.oldest_receive (length d.buffers)) receive_slot,
+      length-slots_from d.layout.rx d.oldest_receive (length d.buffers),
+    ) in
+    let some : k ≤ length slots = omega
+    (arith, ap length is, length-map slots piece, length-parts seen (Last last ∷ later)) in
+    record {
+      run = take k slots;
+      contain = record {
+        others = drop k d.buffers;
+        buffers = sym (take-append-drop k d.buffers);
+        later = drop k slots;
+        slots = sym (take-append-drop k slots);
+        count = omega (arith, length-take k slots, length-take k d.buffers, most);
+        pieces = sym (take-map piece k slots) ∙ ap (take k) is ∙ take-parts seen last later;
+      };
+      others = refl;
+      size = omega (arith, length-take k d.buffers, most, some);
     }
 
 pub buffers_can_come_back : BuffersCanComeBack
@@ -212,7 +266,8 @@ buffers_can_come_back up d pool handed_out a ready moves stand =
       to_send = refl;
       finished_same = refl;
       written_same = refl;
-      whole = λ whole. whole;
+      pieces_same = refl;
+      whole = λ size whole. whole;
       fits =
           λ size fits. fits;
     }) refl refl)

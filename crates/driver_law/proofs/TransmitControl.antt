@@ -1,5 +1,5 @@
 -- TCTL and IMS are written.
-use Rattle.std.proofs.Common.{◌≡◌, [], ℕ, inl, inr, ⊎_elim, refl, sym, subst, ◌∙◌, arith}
+use Rattle.std.proofs.Common.{◌≡◌, [], ℕ, inl, inr, ⊎_elim, refl, sym, ap, subst, ◌∙◌, arith}
 use Rattle.std.specs.List.{All}
 use Rattle.registers.specs.Bits.{HasBit}
 use Rattle.registers.specs.Kept.{causes_of}
@@ -7,8 +7,8 @@ use Rattle.registers.specs.Laws.{HasBit-union}
 use Rattle.dma_memory.specs.Areas.{IsInside}
 use Rattle.dma_memory.specs.Layout.{TransmitBuffer, area_of}
 use Rattle.descriptors.specs.Ring.{slots_from}
+use Rattle.rx_engine.specs.Pieces.{frames_of}
 use Rattle.adapter.specs.HostAreas.{data_of}
-use Rattle.adapter.specs.Slots.{finished}
 use Rattle.adapter.specs.Table.{register_at}
 use Rattle.adapter.specs.World.{world_after_write}
 use Rattle.adapter.specs.declared.register.Register.TheVariants.{Ims}
@@ -17,6 +17,7 @@ use Rattle.bus.proofs.Lists.{all-none}
 use Rattle.bus.specs.RegisterSetting.{with_transmit_control}
 use Rattle.bus.specs.DriversStores.{LeavesFrames}
 use Rattle.driver_law.specs.Beginnings.{CausesAreEnabled, TransmitterIsEnabled, EnabledForgetsNoWork}
+use Rattle.driver_law.specs.Calls.{driver_in, frames_ended}
 use Rattle.driver_law.specs.DriverState.{transmit_slot}
 use Rattle.driver_law.proofs.AlikeWorlds.{SameParts, ready-left}
 use Rattle.driver_law.proofs.StepsWithoutFrames.{goes-rests}
@@ -34,7 +35,7 @@ transmitter_is_enabled driver control world ready below knows pads =
         sound = leaves.same.sound;
         runs = leaves.runs ready.law.runs;
         fit = leaves.same.fits (omega arith) ready.law.fit;
-        whole = ready.law.whole;
+        whole = leaves.same.whole refl ready.law.whole;
       };
       lies = ready.lies;
       size = ready.size;
@@ -55,7 +56,7 @@ transmitter_is_enabled driver control world ready below knows pads =
       exact = refl;
       to_send = refl;
       held = refl;
-      finished_same = refl;
+      pieces_same = refl;
       frees = omega arith;
       mask = refl;
       recorded = refl;
@@ -75,6 +76,7 @@ causes_are_enabled up driver causes world ready =
       to_send = leaves.same.to_send;
       held = leaves.same.held;
       finished_same = leaves.same.finished_same;
+      pieces_same = leaves.same.pieces_same;
       written_same = leaves.same.written_same;
       missed = refl;
       recorded = refl;
@@ -87,7 +89,7 @@ enabled_forgets_no_work up driver causes a b enabled set asked = record {
       ((HasBit-union a.adapter.causes.mask (causes_of causes) 7).1 (inr set));
   asked =
       ⊎_elim
-      (λ (none : finished driver.oldest_receive a ≡ []). inl (enabled.finished_same ∙ none))
+      (λ (none : frames_ended (driver_in driver a) ≡ []). inl (ap frames_of enabled.pieces_same ∙ none))
       (λ (bit : HasBit a.adapter.causes.recorded 7). inr (subst (λ (recorded : ℕ). HasBit recorded 7) (sym enabled.recorded) bit))
       asked;
 }

@@ -10,12 +10,13 @@ use Rattle.dma_memory.specs.Layout.{ReceiveBuffer, ReceiveRing, TransmitRing, ar
 use Rattle.dma_memory.specs.LayoutLaws.{place-below_size, places-apart}
 use Rattle.rx_engine.specs.Descriptors.{named_address}
 use Rattle.adapter.specs.HostAreas.{buffer_of, buffer_size, data_of, frame_areas, offered_buffers, ring_area, work_areas}
-use Rattle.adapter.specs.HostFrames.{named}
+use Rattle.adapter.specs.HostFrames.{named, piece_in}
 use Rattle.adapter.specs.Rings.{new_ring, ring_of}
 use Rattle.adapter.specs.Slots.{finished, is_done, outstanding}
 use Rattle.adapter.specs.World.{World, receive_ring, transmit_ring}
 use Rattle.adapter.specs.declared.ring.RingRegisters.{RingRegisters}
 use Rattle.bus.proofs.IdleRings.{offered-none, outstanding-none}
+use Rattle.bus.proofs.KeptPieces.{cut-kept}
 use Rattle.bus.proofs.RegisterSetting.{transmit_ring_can_be_set}
 use Rattle.bus.proofs.Lists.{all-head, all-none, all-tail, all-unmapped, all-weaker, pairs-head, pairs-tail}
 use Rattle.bus.proofs.SpareMemory.{spare-apart}
@@ -147,7 +148,7 @@ transmit_ring_is_written driver ring world ready idle inside =
         sound = set.sound;
         runs = set.runs ready.law.runs;
         fit = set.fits ready.law.fit;
-        whole = ready.law.whole;
+        whole = cut-kept o world b refl set.finished_same (λ k d below. refl) refl ready.law.whole;
       };
       lies = ready.lies;
       size = ready.size;
@@ -170,7 +171,7 @@ transmit_ring_is_written driver ring world ready idle inside =
       to_send = set.none_to_send
           ∙ sym (none-to_send world.memory (transmit_ring world) world.adapter.transmitter.buffer ready.transmit.empty ready.transmit.idle);
       held = set.held;
-      finished_same = set.finished_same;
+      pieces_same = ap (map (piece_in world.memory)) set.finished_same;
       frees = omega (
         arith,
         ready.transmit.nothing,

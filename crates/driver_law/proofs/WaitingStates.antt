@@ -1,15 +1,11 @@
 -- Whatever happens in initialization, no frame arrives while RCTL.EN is 0, and the registers of a transmit ring that is off are the same.
-use Rattle.std.proofs.Common.{◌≡◌, ◌++◌, [], ℕ, List, Option, None, Some, map, refl, sym, ap, subst, ◌∙◌}
+use Rattle.std.proofs.Common.{◌≡◌, ◌++◌, ℕ, List, sym, ap, subst, ◌∙◌}
 use Rattle.std.proofs.lemmas.List.{append-nil}
 use Rattle.registers.specs.Bits.{HasBit}
 use Rattle.rx_engine.specs.Registers.{FilterRegisters}
-use Rattle.dma_memory.specs.Areas.{bytes_in}
-use Rattle.rx_engine.specs.Held.{held, in_work}
-use Rattle.rx_engine.specs.declared.engine.Work.{Work}
-use Rattle.adapter.specs.HostFrames.{frames_held, named}
-use Rattle.adapter.specs.Slots.{finished}
+use Rattle.adapter.specs.HostFrames.{frames_held}
 use Rattle.adapter.specs.declared.ring.RingRegisters.{RingRegisters}
-use Rattle.bus.proofs.Lists.{append-empty, map-empty}
+use Rattle.bus.proofs.WaitingRings.{holds-none}
 use Rattle.driver_law.proofs.Steps.{goes-happens}
 use Rattle.driver_law.specs.Beginnings.{NoFrameComes, NothingIsHeld, RingsThatAreOffStay}
 
@@ -23,19 +19,10 @@ no_frame_comes up driver a b past ready happens waits =
           ∙ append-nil (frames_held driver.oldest_receive a) ∙ waits.none;
     }
 
-none-in_work : (memory : List ℕ) (work : Option Work) → in_work memory work ≡ [] → work ≡ None
-none-in_work memory None none = refl
-none-in_work memory (Some work) none = absurd (cc)
-
 pub nothing_is_held : NothingIsHeld
-nothing_is_held driver world waits =
-    let parts = append-empty (map (λ (slot : ℕ). bytes_in world.memory (named world.memory slot)) (finished driver.oldest_receive world))
-    (held world.memory world.adapter.receiver) waits.none in
-    let work = append-empty (in_work world.memory world.adapter.receiver.work) world.adapter.receiver.buffer parts.1 in (
-      map-empty (λ (slot : ℕ). bytes_in world.memory (named world.memory slot))
-          (finished driver.oldest_receive world) parts.0,
-      none-in_work world.memory world.adapter.receiver.work work.0,
-    )
+nothing_is_held up driver world ready waits =
+    let none = holds-none driver.oldest_receive driver.oldest_transmit world ready.law.sound ready.law.whole waits.none in
+    (none.none_finished, none.no_work)
 
 pub rings_that_are_off_stay : RingsThatAreOffStay
 rings_that_are_off_stay driver a b past ready happens =

@@ -6,7 +6,7 @@ use Rattle.registers.specs.Kept.{causes_of}
 use Rattle.dma_memory.specs.Areas.{IsInside, area_at}
 use Rattle.dma_memory.specs.Layout.{Counts, TransmitRing, area_of, buffer_bytes, size_of}
 use Rattle.adapter.specs.HostAreas.{buffer_size, ring_area}
-use Rattle.adapter.specs.HostFrames.{frames_held, frames_to_send}
+use Rattle.adapter.specs.HostFrames.{finished_pieces, frames_held, frames_to_send}
 use Rattle.adapter.specs.Rings.{ring_of}
 use Rattle.adapter.specs.Running.{CanRun}
 use Rattle.adapter.specs.Slots.{finished, written_back}
@@ -18,7 +18,7 @@ use Rattle.bus.specs.Law.{Happens}
 use Rattle.bus.specs.PastOfStretch.{Past, nothing}
 use Rattle.adapter.specs.KnownRing.{KnowsRing}
 use Rattle.driver_law.specs.DriverState.{DriverState, next_receive, receive_slot, transmit_tail}
-use Rattle.driver_law.specs.Calls.{Goes, GoesTo, HasNoForgottenWork, driver_did, driver_in}
+use Rattle.driver_law.specs.Calls.{Goes, GoesTo, HasNoForgottenWork, driver_did, driver_in, frames_ended}
 use Rattle.driver_law.specs.ReadyDrivers.{IsDriver, ReadyWith, TransmitIs}
 use Rattle.registers.specs.Places.{rctl_bsex, rctl_en, rxt0, tctl_psp}
 
@@ -89,6 +89,7 @@ pub record Enabled (up : Bool) (driver : DriverState) (causes : ℕ) (a b : Worl
   pub to_send : frames_to_send b ≡ frames_to_send a
   pub held : frames_held driver.oldest_receive b ≡ frames_held driver.oldest_receive a
   pub finished_same : finished driver.oldest_receive b ≡ finished driver.oldest_receive a
+  pub pieces_same : finished_pieces driver.oldest_receive b ≡ finished_pieces driver.oldest_receive a
   pub written_same : written_back driver.oldest_transmit b ≡ written_back driver.oldest_transmit a
   pub missed : b.adapter.missed_packets ≡ a.adapter.missed_packets
   pub recorded : b.adapter.causes.recorded ≡ a.adapter.causes.recorded
@@ -100,11 +101,11 @@ CausesAreEnabled =
     (up : Bool) (driver : DriverState) (causes : ℕ) (world : World) → ReadyWith up driver world
     → Enabled up driver causes world (world_after_write IMS causes world)
 
--- After RXT0, bit 7, was enabled, no work is forgotten if before that no receive slot was finished or RXT0 was recorded.
+-- After RXT0, bit 7, was enabled, no work is forgotten if before that no frame ended in finished slots or RXT0 was recorded.
 abbrev pub EnabledForgetsNoWork : Type 0
 EnabledForgetsNoWork =
     (up : Bool) (driver : DriverState) (causes : ℕ) (a b : World) → Enabled up driver causes a b → HasBit (causes_of causes) rxt0
-    → (finished driver.oldest_receive a ≡ []) ⊎ HasBit a.adapter.causes.recorded rxt0 → HasNoForgottenWork driver b
+    → (frames_ended (driver_in driver a) ≡ []) ⊎ HasBit a.adapter.causes.recorded rxt0 → HasNoForgottenWork driver b
 
 -- Stores other than those that stage slots.
 
@@ -138,7 +139,7 @@ NoFrameComes =
 -- Then no receive slot is finished or in progress.
 abbrev pub NothingIsHeld : Type 0
 NothingIsHeld =
-    (driver : DriverState) (world : World) → IsWaiting driver world
+    (up : Bool) (driver : DriverState) (world : World) → ReadyWith up driver world → IsWaiting driver world
     → (finished driver.oldest_receive world ≡ []) × (world.adapter.receiver.work ≡ None)
 
 -- The registers of the transmit ring, TDH among them, don't change while the transmit side is off.

@@ -8,11 +8,13 @@ use Rattle.registers.specs.Places.{alone, rxt0}
 use Rattle.dma_memory.specs.Layout.{Counts, TransmitBuffer, start_of}
 use Rattle.dma_memory.specs.Owners.{HasNoSecondOwner}
 use Rattle.descriptors.specs.Ring.{slots_from}
+use Rattle.descriptors.specs.RingLaws.{place}
 use Rattle.descriptors.specs.TxDesc.{tx_desc_bytes}
 use Rattle.descriptors.specs.TxFields.{command_of, sent_of, tx_eop, tx_ifcs, tx_rs}
 use Rattle.adapter.specs.declared.offsets.TheConstants.{ICR, RDT, TDT}
-use Rattle.adapter.specs.HostFrames.{frames_held, frames_to_send}
-use Rattle.adapter.specs.Slots.{finished, written_back}
+use Rattle.rx_engine.specs.Pieces.{frames_of}
+use Rattle.adapter.specs.HostFrames.{finished_pieces, frames_held, frames_to_send}
+use Rattle.adapter.specs.Slots.{written_back}
 use Rattle.adapter.specs.World.{World}
 use Rattle.bus.specs.Link.{KeepsLink}
 use Rattle.bus.specs.PastOfStretch.{Past}
@@ -34,10 +36,14 @@ pub record DriverInWorld : Type 0 where
 abbrev pub driver_in : DriverState → World → DriverInWorld
 driver_in driver world = record { driver = driver; world = world }
 
--- No work is forgotten: RXT0 is enabled, and it is recorded if the oldest receive slot is finished.
+-- the frames that end in finished receive slots, from the driver's oldest slot on
+abbrev pub frames_ended : DriverInWorld → List (List ℕ)
+frames_ended now = frames_of (finished_pieces now.driver.oldest_receive now.world)
+
+-- No work is forgotten: RXT0 is enabled, and it is recorded if a frame ends in the finished receive slots.
 pub record HasNoForgottenWork (d : DriverState) (world : World) : Type 0 where
   pub enabled : HasBit world.adapter.causes.mask rxt0
-  pub asked : (finished d.oldest_receive world ≡ []) ⊎ HasBit world.adapter.causes.recorded rxt0
+  pub asked : (frames_ended (driver_in d world) ≡ []) ⊎ HasBit world.adapter.causes.recorded rxt0
 
 -- The ring is refilled: no buffer is free, or all slots but one are outstanding.
 abbrev pub IsRefilled : DriverState → Type 0
@@ -126,10 +132,8 @@ pub record FlowsTo (up : Bool) (old new : DriverInWorld) (did : DriverDid) (past
   -- Frames are received in order; none is lost or duplicated.
   pub holds :
       did.taken ++ frames_held new.driver.oldest_receive new.world ≡ frames_held old.driver.oldest_receive old.world ++ past.stored
-  -- Each slot that was finished at the beginning was taken, or is still finished.
-  pub least :
-      length (finished old.driver.oldest_receive old.world) ≤ length did.taken + length
-      (finished new.driver.oldest_receive new.world)
+  -- Each frame that ended in finished slots at the beginning was taken, or still does.
+  pub least : length (frames_ended old) ≤ length did.taken + length (frames_ended new)
   -- The number of outstanding transmit slots that aren't written back grows by the frames accepted, and falls by those put on the wire.
   pub frees :
       length (written_back old.driver.oldest_transmit old.world) + length past.put + new.driver.sending
@@ -142,10 +146,9 @@ pub record GoesTo (up : Bool) (old new : DriverInWorld) (did : DriverDid) (past 
   pub flows : FlowsTo up old new did past
   -- Causes are only added.
   pub causes : (place : ℕ) → HasBit old.world.adapter.causes.recorded place → HasBit new.world.adapter.causes.recorded place
-  -- RXT0 is recorded, unless the number of finished slots fell by exactly those taken.
+  -- RXT0 is recorded, unless the number of frames that end in finished slots fell by exactly those taken.
   pub recorded :
-      (length (finished old.driver.oldest_receive old.world) ≡ length did.taken + length
-      (finished new.driver.oldest_receive new.world)) ⊎ HasBit new.world.adapter.causes.recorded rxt0
+      (length (frames_ended old) ≡ length did.taken + length (frames_ended new)) ⊎ HasBit new.world.adapter.causes.recorded rxt0
 
 abbrev pub Goes : (old new : DriverInWorld) → DriverDid → Past → Type 0
 Goes = GoesTo true
@@ -156,7 +159,8 @@ pub record FollowsWrites (old new : World) (past : Past) : Type 0 where
   pub set : AreSet old new past
   -- If RCTL.EN is 0 and RCTL isn't written, no frame is stored or missed.
   pub off : WhileOff old past
-  -- A link that is up stays up, if neither CTRL nor MDIC is written.
+  -- If the link is up, no MDIC command is pending, and neither CTRL nor MDIC is written, then the link stays up, and no MDIC command is
+  -- pending at the end.
   pub link : KeepsLink old new past
 
 -- The accesses of the receive side.
@@ -172,16 +176,22 @@ abbrev pub tail_write : ℕ → (staged : List ℕ) → List Access
 tail_write slot [] = []
 tail_write slot (number ∷ later) = Writes RDT slot ∷ []
 
--- the receive slots from a place on are taken, with these buffers: for each its descriptor is loaded, and then bytes 12 and 13 of its frame
-abbrev pub takes_from : Counts → (slot : ℕ) → List ℕ → List Access
-takes_from counts slot [] = []
-takes_from counts slot (number ∷ later) =
-    Loads (receive_slot slot) 16 ∷ Loads (buffer_at counts number + 12) 2 ∷ takes_from counts ((slot + 1) % counts.rx) later
+-- the descriptors of n receive slots are loaded, from a place on
+abbrev pub receive_loads : Counts → (slot n : ℕ) → List Access
+receive_loads counts slot n = map (λ place. Loads (receive_slot place) 16) (slots_from counts.rx slot n)
 
--- the descriptor of the slot at a place is loaded if any are outstanding
-abbrev pub last_load : ℕ → (outstanding : List ℕ) → List Access
-last_load slot [] = []
-last_load slot (number ∷ later) = Loads (receive_slot slot) 16 ∷ []
+-- bytes 12 and 13 of a frame in these buffers are loaded
+abbrev pub ether_type_load : Counts → (numbers : List ℕ) → List Access
+ether_type_load counts [] = []
+ether_type_load counts (number ∷ later) = Loads (buffer_at counts number + 12) 2 ∷ []
+
+-- Frames are taken off the slots from a place on, each in these buffers: the descriptors of its slots are loaded, and then its bytes 12 and
+-- 13.
+abbrev pub takes_from : Counts → (slot : ℕ) → List (List ℕ) → List Access
+takes_from counts slot [] = []
+takes_from counts slot (numbers ∷ later) =
+    receive_loads counts slot (length numbers)
+    ++ (ether_type_load counts numbers ++ takes_from counts (place counts.rx slot (length numbers)) later)
 
 -- The accesses of the transmit side.
 
@@ -233,7 +243,7 @@ pub record Moment (B : Type 0) : Type 0 where
 abbrev pub at : {B : Type 0} → B → DriverState → Moment B
 at bus driver = record { bus = bus; driver = driver }
 
--- the same, while others hold these frames
+-- the same, while others hold these pieces of frames
 abbrev pub held_at : {B : Type 0} → List HandedOut → Moment B → Moment B
 held_at held now = record now { driver = holding held now.driver }
 

@@ -2,11 +2,16 @@
 use Rattle.std.specs.Prelude.{◌+◌, ◌*◌, ◌++◌, ℕ, Bool, List, length, map}
 use Rattle.dma_memory.specs.Layout.{Counts, ReceiveBuffer, start_of}
 use Rattle.descriptors.specs.RingLaws.{place}
+use Rattle.std.specs.List.{concat}
 
--- a frame that others hold, and the number of its buffer
+-- a piece of a frame that others hold, and the number of its buffer
 pub record HandedOut : Type 0 where
   pub number : ℕ
-  pub frame : List ℕ
+  pub bytes : List ℕ
+
+-- the frame that these pieces make up
+abbrev pub frame_of : List HandedOut → List ℕ
+frame_of pieces = concat (map (λ (one : HandedOut). one.bytes) pieces)
 
 abbrev pub numbers_of : List HandedOut → List ℕ
 numbers_of handed_out = map (λ (one : HandedOut). one.number) handed_out
@@ -20,7 +25,7 @@ pub record DriverState : Type 0 where
   pub staged : List ℕ
   -- the free buffers
   pub pool : List ℕ
-  -- the frames that others hold, and may still read
+  -- the pieces of frames that others hold, and may still read
   pub handed_out : List HandedOut
   -- the place of the oldest outstanding transmit slot, and how many are outstanding
   pub oldest_transmit : ℕ
@@ -29,7 +34,7 @@ pub record DriverState : Type 0 where
   pub missed : ℕ
   -- whether no miss was lost: MPC was never read as its greatest value, and the sum never saturated
   pub exact : Bool
-  -- the number of finished slots that weren't delivered, as their descriptors weren't those of whole frames
+  -- the number of runs of finished slots that weren't delivered, as they didn't contain a whole frame
   pub bad : ℕ
 
 -- the same driver with other owners of buffers
@@ -37,7 +42,7 @@ abbrev pub with_owners : DriverState → (buffers staged pool : List ℕ) → Li
 with_owners driver buffers staged pool handed_out = record driver
     { buffers = buffers; staged = staged; pool = pool; handed_out = handed_out }
 
--- the same driver, while others hold these frames
+-- the same driver, while others hold these pieces of frames
 abbrev pub holding : List HandedOut → DriverState → DriverState
 holding handed_out driver = record driver { handed_out = handed_out }
 

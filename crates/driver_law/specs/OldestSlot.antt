@@ -1,22 +1,42 @@
--- A driver looks at its oldest receive slot, by one load of its descriptor.
-use Rattle.std.specs.Prelude.{◌≡◌, ◌++◌, ◌∷◌, ℕ, Bool, List, [], length}
-use Rattle.adapter.specs.Slots.{finished}
+-- A driver looks at one of its outstanding receive slots, by one load of its descriptor.
+use Rattle.std.specs.Prelude.{◌≡◌, ◌≤◌, ◌++◌, ◌∷◌, ℕ, Bool, true, false, List, [], length}
+use Rattle.registers.specs.Bits.{is_set}
+use Rattle.descriptors.specs.RingLaws.{place}
+use Rattle.descriptors.specs.RxStatus.{dd, eop, status_bits}
+use Rattle.descriptors.specs.declared.rx_desc.RxDesc.{RxDesc}
+use Rattle.rx_engine.specs.Held.{piece_of}
+use Rattle.rx_engine.specs.Pieces.{Piece}
+use Rattle.adapter.specs.HostFrames.{finished_pieces}
 use Rattle.bus.specs.declared.bus.Bus.{Ghosts}
 use Rattle.bus.specs.declared.event.Access.TheVariants.{Loads}
-use Rattle.driver_law.specs.Calls.{Moment, Ran, at, call_did, only}
-use Rattle.driver_law.specs.DriverState.{receive_slot}
-use Rattle.driver_law.specs.ReceiveSteps.{behind_oldest}
+use Rattle.driver_law.specs.Calls.{Moment, Ran, at, only}
+use Rattle.driver_law.specs.DriverState.{DriverState, receive_slot}
 
--- It isn't done, so no slot is finished.
-pub record LeavesOldest {B : Type 0} (bus : Ghosts B) (up : Bool) (old : Moment B) (new : B) : Type 0 where
-  pub none : finished old.driver.oldest_receive (bus.world new) ≡ []
-  pub ran : Ran bus up (only (Loads (receive_slot old.driver.oldest_receive) 16 ∷ [])) old (at new old.driver)
+-- the place of the k-th slot after the oldest
+abbrev pub slot_after_oldest : DriverState → ℕ → ℕ
+slot_after_oldest d k = place d.layout.rx d.oldest_receive k
 
--- It is done: the slot is taken, and others hold its frame, whose size is the length in the descriptor.
-pub record TakesOldest {B : Type 0} (bus : Ghosts B) (up : Bool) (number size : ℕ) (later : List ℕ) (old : Moment B) (new : B) : Type 0
-  where
-    pub frame : List ℕ
-    pub long : length frame ≡ size
-    pub ran :
-        Ran bus up (call_did (Loads (receive_slot old.driver.oldest_receive) 16 ∷ []) (frame ∷ []) []) old
-        (at new (behind_oldest old.driver later (old.driver.handed_out ++ record { number = number; frame = frame } ∷ [])))
+-- It is finished: these are the pieces in the slots before it, the bytes in its buffer, and the pieces in the finished slots after it. Its
+-- descriptor, without errors, has the number of these bytes.
+pub record IsSeen (k : ℕ) (pieces : List Piece) (descriptor : RxDesc) : Type 0 where
+  pub before : List Piece
+  pub count : length before ≡ k
+  pub bytes : List ℕ
+  pub after : List Piece
+  pub is : pieces ≡ before ++ piece_of (is_set (status_bits descriptor.status) eop) bytes ∷ after
+  pub size : descriptor.length ≡ length bytes
+  pub has_no_errors : descriptor.errors ≡ 0
+
+-- what its descriptor shows, by DD
+abbrev pub ShowsSlot : (done : Bool) → (k : ℕ) → (pieces : List Piece) → RxDesc → Type 0
+ShowsSlot true k pieces descriptor = IsSeen k pieces descriptor
+ShowsSlot false k pieces descriptor = length pieces ≤ k
+
+-- The descriptor of the k-th outstanding slot after the oldest was loaded.
+pub record LooksAtSlot {B : Type 0} (bus : Ghosts B) (up : Bool) (k : ℕ) (descriptor : RxDesc) (old : Moment B) (new : B) : Type 0 where
+  pub ran : Ran bus up (only (Loads (receive_slot (slot_after_oldest old.driver k)) 16 ∷ [])) old (at new old.driver)
+  -- The pieces in finished slots are those from before, and then these.
+  pub more : List Piece
+  pub grows : finished_pieces old.driver.oldest_receive (bus.world new)
+      ≡ finished_pieces old.driver.oldest_receive (bus.world old.bus) ++ more
+  pub shows : ShowsSlot (is_set (status_bits descriptor.status) dd) k (finished_pieces old.driver.oldest_receive (bus.world new)) descriptor

@@ -1,6 +1,5 @@
 -- What a driver knows of its adapter and its memory between its actions, and what it relies on (our choice).
 use Rattle.std.specs.Prelude.{⊤, ◌≡◌, ◌≤◌, ◌<◌, ◌+◌, ◌*◌, ◌%◌, ◌^◌, ℕ, Bool, true, false, List, [], ◌∷◌, All, map, length}
-use Rattle.descriptors.specs.Frames.{longest_frame}
 use Rattle.registers.specs.Bits.{HasBit}
 use Rattle.dma_memory.specs.Areas.{IsInside}
 use Rattle.dma_memory.specs.HostMemory.{bytes_at}
@@ -14,11 +13,11 @@ use Rattle.descriptors.specs.RxStatus.{status_of}
 use Rattle.registers.specs.Places.{tctl_psp}
 use Rattle.rx_engine.specs.Descriptors.{named_address}
 use Rattle.tx_engine.specs.Transmitter.{Queued}
-use Rattle.adapter.specs.Conditions.{AreWhole, FitBuffers, Sound}
+use Rattle.adapter.specs.Conditions.{AreCut, FitBuffers, Sound}
 use Rattle.adapter.specs.HostAreas.{buffer_size, data_of}
 use Rattle.adapter.specs.KnownRing.{KnowsRing}
 use Rattle.adapter.specs.Running.{CanRun}
-use Rattle.adapter.specs.Slots.{finished, outstanding}
+use Rattle.adapter.specs.Slots.{outstanding}
 use Rattle.adapter.specs.World.{World, receive_ring, transmit_ring}
 use Rattle.driver_law.specs.DriverState.{DriverState, HandedOut, buffer_at, owners, receive_slot, receive_tail, transmit_slot}
 
@@ -46,10 +45,10 @@ AreStored memory counts slot (number ∷ later) =
     (bytes_at memory (receive_slot slot) 16 ≡ empty_descriptor (buffer_at counts number))
     × AreStored memory counts ((slot + 1) % counts.rx) later
 
--- A frame that others hold is in its buffer.
+-- A piece of a frame that others hold is in its buffer.
 pub record Stands (counts : Counts) (memory : List ℕ) (one : HandedOut) : Type 0 where
-  pub bytes : bytes_at memory (buffer_at counts one.number) (length one.frame) ≡ one.frame
-  pub short : length one.frame ≤ longest_frame
+  pub bytes : bytes_at memory (buffer_at counts one.number) (length one.bytes) ≡ one.bytes
+  pub short : length one.bytes ≤ buffer_bytes
 
 -- The transmit side is set up: the driver knows its ring, and the data of each outstanding slot is in that slot's own buffer.
 pub record TransmitIsUp (counts : Counts) (oldest sending : ℕ) (memory : List ℕ) (ring : Ring) (control : ℕ) : Type 0 where
@@ -79,10 +78,10 @@ TransmitIs false counts oldest sending memory ring control buffer = TransmitIsOf
 pub record MeetsLaw (oldest_receive oldest_transmit : ℕ) (world : World) : Type 0 where
   pub sound : Sound oldest_receive oldest_transmit world
   pub runs : CanRun world
-  -- A receive buffer is large enough for each finished frame, and for the one that is being stored.
+  -- A receive buffer is large enough for each finished piece of a frame, and for the one that is being stored.
   pub fit : FitBuffers oldest_receive world
-  -- Each finished descriptor is that of a whole frame.
-  pub whole : AreWhole world.memory (finished oldest_receive world)
+  -- Frames are cut into buffers of one size, and finished descriptors have no errors.
+  pub whole : AreCut oldest_receive world
 
 -- The descriptors of receive slots in memory agree with the driver's state.
 pub record SlotsAreStored (driver : DriverState) (world : World) : Type 0 where

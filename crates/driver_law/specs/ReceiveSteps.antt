@@ -1,7 +1,13 @@
 -- What a driver does with its receive slots. Each step is an interval of its run.
-use Rattle.std.specs.Prelude.{◌≡◌, ◌<◌, ◌+◌, ◌%◌, ◌++◌, ◌∷◌, ℕ, Bool, List, [], All, length}
+use Rattle.std.specs.Prelude.{◌≡◌, ◌≤◌, ◌<◌, ◌+◌, ◌*◌, ◌++◌, ◌∷◌, ℕ, Bool, List, [], All, length, map}
 use Rattle.dma_memory.specs.Owners.{HaveSameNumbers, copies}
-use Rattle.rx_engine.specs.Descriptors.{descriptor_at}
+use Rattle.dma_memory.specs.Layout.{buffer_bytes}
+use Rattle.descriptors.specs.Frames.{IsLegal, longest_frame}
+use Rattle.descriptors.specs.RingLaws.{place}
+use Rattle.std.specs.List.{concat}
+use Rattle.rx_engine.specs.Pieces.{IsLastSize, Piece, parts}
+use Rattle.rx_engine.specs.Pieces.Piece.{Last}
+use Rattle.adapter.specs.HostFrames.{finished_pieces, piece_in}
 use Rattle.adapter.specs.Slots.{finished}
 use Rattle.adapter.specs.World.{World, world_after_store}
 use Rattle.bus.specs.RegisterSetting.{with_tail}
@@ -29,32 +35,55 @@ StagedCanBeOffered =
     (driver_in (with_owners d (d.buffers ++ d.staged) [] d.pool d.handed_out) (with_tail (next_receive d) world))
     (driver_did [] []) nothing
 
--- the frame of the oldest slot, in the buffer that the driver has for it
-abbrev pub oldest_frame : DriverState → (number : ℕ) → World → HandedOut
-oldest_frame d number world = record { number = number; frame = frame_named world (receive_slot d.oldest_receive) }
+-- the pieces in these slots, each in the buffer that the driver has for its slot
+abbrev pub pieces_in : World → (slots numbers : List ℕ) → List HandedOut
+pieces_in world [] numbers = []
+pieces_in world (slot ∷ slots) [] = []
+pieces_in world (slot ∷ slots) (number ∷ numbers) = record { number = number; bytes = frame_named world slot } ∷ pieces_in world slots numbers
 
--- the driver after the oldest slot, with the first of its buffers, left the ring
-abbrev pub behind_oldest : DriverState → (later : List ℕ) → List HandedOut → DriverState
-behind_oldest d later handed_out = record d
-    { oldest_receive = (d.oldest_receive + 1) % d.layout.rx; buffers = later; handed_out = handed_out }
+-- the driver after its oldest slots, as many as `count`, left the ring; it has the other buffers for those that remain
+abbrev pub after_slots : DriverState → (count : ℕ) → (others : List ℕ) → List HandedOut → DriverState
+after_slots d count others handed_out = record d
+    { oldest_receive = place d.layout.rx d.oldest_receive count; buffers = others; handed_out = handed_out }
 
--- The oldest slot is taken if it is finished. Others hold its frame then.
-abbrev pub OldestCanBeTaken : Type 0
-OldestCanBeTaken =
-    (up : Bool) (d : DriverState) (number : ℕ) (later slots : List ℕ) (world : World) → ReadyWith up d world
-    → d.buffers ≡ number ∷ later → finished d.oldest_receive world ≡ receive_slot d.oldest_receive ∷ slots
+-- The oldest finished slots contain one whole frame: parts, and then its last piece. They have the first of the driver's buffers.
+pub record ContainFrame (d : DriverState) (world : World) (numbers run : List ℕ) (seen : List (List ℕ)) (last : List ℕ) : Type 0 where
+  pub others : List ℕ
+  pub buffers : d.buffers ≡ numbers ++ others
+  pub later : List ℕ
+  pub slots : finished d.oldest_receive world ≡ run ++ later
+  pub count : length numbers ≡ length run
+  pub pieces : map (piece_in world.memory) run ≡ parts seen ++ Last last ∷ []
+
+-- Then they are taken. Others hold the pieces of the frame then.
+abbrev pub RunCanBeTaken : Type 0
+RunCanBeTaken =
+    (up : Bool) (d : DriverState) (numbers run : List ℕ) (seen : List (List ℕ)) (last : List ℕ) (world : World) → ReadyWith up d world
+    → (contain : ContainFrame d world numbers run seen last)
     → GoesTo up (driver_in d world)
-    (driver_in (behind_oldest d later (d.handed_out ++ oldest_frame d number world ∷ [])) world)
-    (driver_did (frame_named world (receive_slot d.oldest_receive) ∷ []) []) nothing
+    (driver_in (after_slots d (length numbers) contain.others (d.handed_out ++ pieces_in world run numbers)) world)
+    (driver_did ((concat seen ++ last) ∷ []) []) nothing
 
--- The size of that frame is the length in the slot's descriptor.
-abbrev pub OldestIsAsLong : Type 0
-OldestIsAsLong =
-    (up : Bool) (d : DriverState) (number : ℕ) (later slots : List ℕ) (world : World) → ReadyWith up d world
-    → d.buffers ≡ number ∷ later → finished d.oldest_receive world ≡ receive_slot d.oldest_receive ∷ slots
-    → length (frame_named world (receive_slot d.oldest_receive)) ≡ (descriptor_at world.memory (receive_slot d.oldest_receive)).length
+-- The pieces of a legal frame are joined in the buffers: each fills its buffer but the last, which has at least one byte.
+pub record AreOfFrame (seen : List (List ℕ)) (last : List ℕ) : Type 0 where
+  pub legal : IsLegal (concat seen ++ last)
+  pub full : All (λ bytes. length bytes ≡ buffer_bytes) seen
+  pub last_size : IsLastSize buffer_bytes (length last)
 
--- Buffers whose frames others held come back into the pool.
+abbrev pub RunIsOfFrame : Type 0
+RunIsOfFrame =
+    (up : Bool) (d : DriverState) (numbers run : List ℕ) (seen : List (List ℕ)) (last : List ℕ) (world : World) → ReadyWith up d world
+    → (contain : ContainFrame d world numbers run seen last)
+    → AreOfFrame seen last × (map (λ (one : HandedOut). one.bytes) (pieces_in world run numbers) ≡ seen ++ last ∷ [])
+
+-- Parts that no last piece follows are full buffers, and no longer together than the longest frame. So with buffers of 256 bytes they are
+-- at most five.
+abbrev pub PartsAreFew : Type 0
+PartsAreFew =
+    (up : Bool) (d : DriverState) (seen : List (List ℕ)) (later : List Piece) (world : World) → ReadyWith up d world
+    → finished_pieces d.oldest_receive world ≡ parts seen ++ later → buffer_bytes * length seen ≤ longest_frame
+
+-- Buffers whose pieces others held come back into the pool.
 abbrev pub BuffersCanComeBack : Type 0
 BuffersCanComeBack =
     (up : Bool) (d : DriverState) (pool : List ℕ) (handed_out : List HandedOut) (world : World) → ReadyWith up d world

@@ -7,7 +7,7 @@ ghost use Rattle.bus.specs.PastOfStretch.{Past, joined};
 ghost use Rattle.driver_law.specs.DriverState.{DriverState};
 ghost use Rattle.driver_law.specs.Calls.{FlowsTo, GoesTo, HasNoForgottenWork, driver_did, driver_in};
 ghost use Rattle.driver_law.specs.ReadyDrivers.{ReadyWith, Stands};
-ghost use Rattle.driver_law.specs.ReceiveSteps.{BuffersCanComeBack, OldestCanBeTaken, OldestIsAsLong};
+ghost use Rattle.driver_law.specs.ReceiveSteps.{BuffersCanComeBack, PartsAreFew, RunCanBeTaken, RunIsOfFrame};
 ghost use Rattle.driver_law.specs.ReceiveSteps.{SlotsCanBeStaged, StagedCanBeOffered};
 
 /// Two intervals of a driver's run join to one. The frames taken, accepted, put and stored in it are those of both,
@@ -31,7 +31,7 @@ pub fn stretches_join()
 /// - `goes`: what it knows stays true, and what happens is an interval of its run in which no frame is taken or
 ///   accepted.
 /// - `work`: no work is forgotten, in any interval in which ICR isn't read.
-/// - `handed_out`: frames that others hold stay in their buffers.
+/// - `handed_out`: pieces of frames that others hold stay in their buffers.
 pub fn drivers_go_on()
     ensures goes { (up : Bool) (d : DriverState) (a b : World) (past : Past)
         → ReadyWith up d a → Happens a b past → GoesTo up (driver_in d a) (driver_in d b) (driver_did [] []) past }
@@ -45,13 +45,15 @@ pub fn drivers_go_on()
 /// What a driver does with the slots of its receive ring. Each step is an interval of its run.
 /// - `staged`: it stores the descriptor of the next slot, with a free buffer, if one slot more is left after that.
 /// - `offered`: it offers all staged slots by one write of RDT.
-/// - `taken`: it takes the oldest slot if that is finished. Others hold its frame then.
-/// - `length`: the size of that frame is the length in the slot's descriptor.
-/// - `comes_back`: a buffer whose frame others held comes back into the pool.
+/// - `taken`: it takes the oldest finished slots if they contain one whole frame. Others hold its pieces then.
+/// - `legal`: that frame is legal. Each of its pieces fills its buffer, but the last.
+/// - `few`: finished slots that no end of a frame follows are full, and no longer together than the longest frame.
+/// - `comes_back`: a buffer whose piece others held comes back into the pool.
 pub fn receive_slots_go_round()
     ensures staged { SlotsCanBeStaged }
     ensures offered { StagedCanBeOffered }
-    ensures taken { OldestCanBeTaken }
-    ensures length { OldestIsAsLong }
+    ensures taken { RunCanBeTaken }
+    ensures legal { RunIsOfFrame }
+    ensures few { PartsAreFew }
     ensures comes_back { BuffersCanComeBack }
 {}

@@ -6,8 +6,7 @@ use adapter::StepKind;
 use adapter::offsets::ICS;
 use bring_up::InitError;
 use bus::{Bus, HonestBus};
-use dma_memory::BufId;
-use driver::{Driver, Handled, Received, Receiver, SendError};
+use driver::{Driver, Handled, Parts, Received, Receiver, SendError};
 use packet_socket::RecvError;
 use solo_bus::SoloBus;
 use std::process::Abort;
@@ -27,14 +26,14 @@ impl Receiver for Keeper {
 
     ghost took = { λ old new shown kept. ⊤ };
 
-    fn take(&mut self, received: Received) -> Option<BufId> {
+    fn take(&mut self, received: Received) -> Parts {
         self.frames = self.frames.saturating_add(1);
         self.bytes = self.bytes.saturating_add(u32::from(received.length));
         if !self.keeps || self.first.is_some() {
-            return Some(received.buffer);
+            return received.parts;
         }
         self.first = Some(received);
-        None
+        Parts::new()
     }
 
     ghost stays = { λ receiver. tt };
@@ -112,7 +111,8 @@ fn with_errors(errors: u8) -> [u8; 16] {
     receive_descriptor(60, 0x03, errors)
 }
 
-/// Asserts what an interrupt over a device that lies left: so many frames were handed out, and so many slots were bad.
+/// Asserts what an interrupt over a device that lies left: so many frames were handed out, and so many runs of slots
+/// were bad.
 fn handed_out(rt: &impl Abort, driver: &Driver, keeper: &Keeper, frames: u8, bad: u64) {
     let frames = u32::from(frames);
     assert_eq!(rt;
@@ -123,31 +123,31 @@ fn handed_out(rt: &impl Abort, driver: &Driver, keeper: &Keeper, frames: u8, bad
 }
 
 /// Registers are all ones, so that MPC is at its greatest, and every descriptor is done for ever: each of seven slots
-/// is taken once. Ones have errors, too, and a length that no frame has. A slot is also bad if only EOP is clear, or if
-/// only one bit of errors is set.
+/// is taken once. Ones have errors, too, and a length that no frame has. A slot is also bad if only one bit of errors is
+/// set. Six slots without EOP are one bad run. The seventh stays in the ring, as no slot with EOP follows it.
 #[test]
 fn lengths_that_no_frame_has_are_bad(rt: HostRuntime) -> Result<(), Fail> {
     let mut bus = good_bus(rt.alloc())?;
     let mut driver = Driver::init(rt.alloc(), &mut bus, &config())?;
     let mut keeper = new_keeper(true);
-    for (descriptor, frames, bad) in [
-        ([0xFF; 16], 0, 7),
-        (finished(0), 0, 14),
-        (finished(59), 0, 21),
-        (receive_descriptor(60, 0x01, 0), 0, 28),
-        (with_errors(0x01), 0, 35),
-        (with_errors(0x02), 0, 42),
-        (with_errors(0x04), 0, 49),
-        (with_errors(0x08), 0, 56),
-        (with_errors(0x10), 0, 63),
-        (with_errors(0x20), 0, 70),
-        (with_errors(0x40), 0, 77),
-        (with_errors(0x80), 0, 84),
-        (finished(60), 7, 84),
-        (finished(60), 14, 84),
+    for (descriptor, taken, frames, bad) in [
+        ([0xFF; 16], 0, 0, 7),
+        (finished(0), 0, 0, 14),
+        (finished(59), 0, 0, 21),
+        (receive_descriptor(60, 0x01, 0), 0, 0, 22),
+        (with_errors(0x01), 0, 0, 29),
+        (with_errors(0x02), 0, 0, 36),
+        (with_errors(0x04), 0, 0, 43),
+        (with_errors(0x08), 0, 0, 50),
+        (with_errors(0x10), 0, 0, 57),
+        (with_errors(0x20), 0, 0, 64),
+        (with_errors(0x40), 0, 0, 71),
+        (with_errors(0x80), 0, 0, 78),
+        (finished(60), 7, 7, 78),
+        (finished(60), 7, 14, 78),
     ] {
         let mut lying = FakeBus::new(u32::MAX, descriptor);
-        let handled = Handled::Handled { taken: 7 };
+        let handled = Handled::Handled { taken };
         interrupt(&rt, &mut driver, &mut lying, &mut keeper, handled);
         handed_out(&rt, &driver, &keeper, frames, bad);
     }

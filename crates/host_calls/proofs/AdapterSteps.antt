@@ -36,6 +36,7 @@ use Rattle.host_calls.specs.DrainedHosts.{CanBeDrained, IsDrainStep}
 use Rattle.host_calls.specs.DrainSteps.{StepsOn, count_line, count_pending}
 use Rattle.host_calls.proofs.JoinedSteps.{nothing-stored}
 use Rattle.host_calls.proofs.SocketCounts.{held-counted, held-flows}
+use Rattle.host_calls.proofs.WholeFrames.{all-last, never-part}
 use Rattle.packet_socket.specs.HostCalls.{did}
 use Rattle.host_calls.specs.ConnectedHosts.{connected}
 
@@ -130,8 +131,8 @@ step-on steps moves place kind answer a b h receives stands takes moved buffered
     let played = At place (Steps kind true answer) ∷ [] in
     let runs = step-runs place kind answer a b h stands takes in
     let total = held-stays place moves played a b h takes.leads moved runs in
-    let one = held-counted h.driver.oldest_receive (world_at a place) in
-    let two = held-counted h.driver.oldest_receive (world_at b place) in
+    let one = held-counted h.driver.oldest_receive (world_at a place) (all-last _ (world_at a place) stands.ready.ready) in
+    let two = held-counted h.driver.oldest_receive (world_at b place) (all-last _ (world_at b place) runs.flows.driver.ready) in
     record {
       played = played;
       leads = takes.leads;
@@ -242,7 +243,7 @@ moves-frame place a b h outcome.Moved below occurs is same stands free =
     moved-steps place a b h stands free (takes-step place RxData outcome.Moved a b below (λ e. absurd (cc e)) occurs is)
 moves-frame place a b h result below occurs is same stands free = absurd (cc same)
 
--- Nothing is moved: then there was no frame to move, as no fault stops an engine that goes on.
+-- Nothing is moved: then there was no frame to move, as no fault stops an engine that goes on, and no frame is cut.
 pub record MovesNone (place : ℕ) (a b : List StationState) (h : HostState) : Type 0 where
   pub on : StepsOn 0 place [] (connected h a) (connected h b)
   pub takes : TakesStep place RxData outcome.Nothing a b
@@ -261,5 +262,7 @@ moves-none place a b h outcome.Fault below occurs is other stands =
     let runs = (step-runs place RxData outcome.Fault a b h stands takes).flows.driver.ready.law.runs.receiver_runs in
     let stopped = ap (λ (w : World). w.adapter.receiver.stopped) takes.world in
     let contrary : true ≡ false = sym stopped ∙ runs in absurd (cc contrary)
+moves-none place a b h outcome.Part below occurs is other stands =
+    absurd (never-part _ (world_at a place) stands.ready.ready occurs.0 occurs.1.2)
 moves-none place a b h outcome.Moved below occurs is other stands = absurd (other refl)
 moves-none place a b h result below occurs is other stands = absurd occurs.1

@@ -31,7 +31,7 @@ use Rattle.packet_socket.specs.HostCalls.{HostHandles, HostHandlesBy, HostReady,
 use Rattle.driver.specs.HandlerSteps.{Asked}
 use Rattle.packet_socket.specs.HostState.{HostState}
 use Rattle.host_calls.proofs.FirstAccess.{first-access}
-use Rattle.host_calls.proofs.QuietEvents.{common, leaves-alone, meets, quiet-events, quiet-steps}
+use Rattle.host_calls.proofs.QuietEvents.{common, leaves-alone, meets, quiet-events}
 use Rattle.host_calls.proofs.SilentEvents.{did-or_silent, silent-events}
 use Rattle.host_calls.specs.LentCalls.{lent}
 use Rattle.host_calls.specs.InterruptCauses.{AnswersCauses, DidSomething, ReadsIcrFirst, TellsCauses}
@@ -56,7 +56,7 @@ sums caller early a b causes run =
 -- No handled cause was read.
 pub quiet-answer : (caller : ℕ) (early : List AtomicStep) (a b : List StationState) (causes oldest_receive oldest_transmit : ℕ)
     → EarlyRun caller early a b causes → Sound oldest_receive oldest_transmit (world_at a caller)
-    → ¬ (Meet causes handled_causes) → AnswersCauses NotMine caller (world_at a caller).adapter.causes.recorded early
+    → ¬ (Meet causes handled_causes) → AnswersCauses NotMine caller (world_at a caller).adapter early
 quiet-answer caller early a b causes r t run sound none =
     let events = events_at caller early in
     let recorded = (world_at a caller).adapter.causes.recorded in
@@ -68,9 +68,8 @@ quiet-answer caller early a b causes r t run sound none =
           subst (λ (n : ℕ). HasBit n both.0) (sym (sums caller early a b causes run))
           ((HasBit-union recorded (causes_in events (world_at a caller)) both.0).1 (inl both.1)) in
           none (meets causes both.0 set both.2)),
-      quiet-steps caller early
-          (quiet-events events (world_at a caller) (world_at b caller) r t (steps-alone caller early run.ticks)
-          (trail-of caller caller early a b run.leads) sound at_end),
+      quiet-events events (world_at a caller) (world_at b caller) r t (steps-alone caller early run.ticks)
+          (trail-of caller caller early a b run.leads) sound at_end,
     )
 
 -- One was.
@@ -97,9 +96,10 @@ by-answer : (a m : LentBus) (h h' : HostState) (asked : Asked lent true (driver_
     (early : List AtomicStep) (b : List StationState)
     → HostReady h (world_here a) → HostHandlesBy lent result (host_at a h) (host_at m h') asked
     → EarlyRun a.host early a.stations.now b asked.causes
-    → AnswersCauses result a.host (world_here a).adapter.causes.recorded early
+    → AnswersCauses result a.host (world_here a).adapter early
 by-answer a m h h' asked NotMine early b ready behind run =
-    quiet-answer a.host early a.stations.now b asked.causes _ _ run ready.ready.law.sound behind.leaves.none
+    quiet-answer a.host early a.stations.now b asked.causes _ _ run ready.ready.law.sound
+    behind.leaves.none
 by-answer a m h h' asked (answers.Handled taken) early b ready behind run =
     mine-answer a.host early a.stations.now b asked.causes run behind.some
 
@@ -113,7 +113,7 @@ by-causes a m h h' asked (answers.Handled taken) behind = (λ is. absurd (cc), �
 pub calls-tell_causes : (a m b : LentBus) (h h' : HostState) (result : Handled) (past : Past) (more : List Access)
     → HostReady h (world_here a) → (handles : HostHandles lent result true (host_at a h) (host_at m h')) → (retells : Retells a b past)
     → past.accesses ≡ Reads ICR handles.asked.causes ∷ more
-    → TellsCauses a.host retells.steps handles.asked.causes (world_here a).adapter.causes.recorded result
+    → TellsCauses a.host retells.steps handles.asked.causes (world_here a).adapter result
 calls-tell_causes a m b h h' result past more ready handles retells reads =
     let only = sym (ap (λ (p : Past). p.accesses) retells.past_is) ∙ reads in
     let causes = handles.asked.causes in
@@ -133,7 +133,7 @@ calls-tell_causes a m b h h' result past more ready handles retells reads =
 
 pub answers-tell_causes : (a m : LentBus) (h h' : HostState) (result : Handled) → HostReady h (world_here a)
     → (handles : HostHandles lent result true (host_at a h) (host_at m h'))
-    → TellsCauses a.host handles.asked.reads.reports.steps handles.asked.causes (world_here a).adapter.causes.recorded result
+    → TellsCauses a.host handles.asked.reads.reports.steps handles.asked.causes (world_here a).adapter result
 answers-tell_causes a m h h' result ready handles =
     let reads = handles.asked.reads in
     calls-tell_causes a m handles.asked.after_read h h' result reads.past [] ready handles reads.reports reads.only

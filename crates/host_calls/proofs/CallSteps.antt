@@ -28,7 +28,7 @@ use Rattle.stations.proofs.HostTrails.{trail-of}
 use Rattle.stations.specs.AtomicRuns.{LeadsTo, events_at, events_by, is_go, past_at}
 use Rattle.delivery.specs.Happenings.{happened_in}
 use Rattle.packet_socket.specs.HostState.{HostState, all_of, queue_at}
-use Rattle.packet_socket.specs.HostCalls.{Given, did, given_for}
+use Rattle.packet_socket.specs.HostCalls.{Given, HostReady, did, given_for}
 use Rattle.packet_socket.specs.declared.receive.RecvError.{RecvError}
 use Rattle.packet_socket.specs.declared.receive.RecvError.TheVariants.{Empty, NoSocket}
 use Rattle.host_calls.specs.InterruptCauses.{ReadsIcrFirst}
@@ -43,6 +43,7 @@ use Rattle.host_calls.proofs.JoinedSteps.{nothing-stored}
 use Rattle.host_calls.proofs.QuietCalls.{IsAccess, LeavesEngine, accesses-alone, drain-steps, events-elsewhere, events-here}
 use Rattle.host_calls.proofs.QuietCalls.{nothing-happened, trail-clears, trail-leaves}
 use Rattle.host_calls.proofs.SocketCounts.{given-sum, held-counted, held-flows, queues-flow, sum_to}
+use Rattle.host_calls.proofs.WholeFrames.{all-last}
 
 -- What a call without ticks leaves.
 record Quiet (place : ℕ) (played : List AtomicStep) (a b : List StationState) : Type 0 where
@@ -102,14 +103,14 @@ flows place n played a b h h' taken given leads none runs fits fits' known =
 -- One step that was a call.
 one-call : (place n : ℕ) (played : List AtomicStep) (a b : List StationState) (h h' : HostState) (taken : List (List ℕ))
     (given : List Given)
-    → LeadsTo place played a b → without_go is_go (map tick_of played) ≡ []
+    → HostReady h (world_at a place) → LeadsTo place played a b → without_go is_go (map tick_of played) ≡ []
     → HostRuns place played (did taken given []) (connected h a) (connected h' b)
     → length h.queues ≤ n → length h'.queues ≤ n → length given ≤ sum_to n (λ socket. length (given_for socket given))
     → (world_at a place).adapter.receiver.work ≡ None → length given ≤ 1
     → 1 + (count_line (world_at b place).adapter.causes + length taken) ≤ count_line (world_at a place).adapter.causes
     + (length given + length taken)
     → StepsOn 1 place given (connected h a) (connected h' b)
-one-call place n played a b h h' taken given leads none runs fits fits' known free few line =
+one-call place n played a b h h' taken given ready leads none runs fits fits' known free few line =
     let calm = quiet place played a b h.driver.layout leads none runs.accesses in
     let flow = flows place n played a b h h' taken given leads calm.happened runs fits fits' known in
     let before = work-none (world_at a place).adapter.receiver.work free in
@@ -118,8 +119,8 @@ one-call place n played a b h h' taken given leads none runs fits fits' known fr
     let buffer = ap (λ (engine : Receiver). length engine.buffer) calm.engine.receiver in
     let pending = before.1 (count_line (world_at a place).adapter.causes) in
     let pending' = behind.1 (count_line (world_at b place).adapter.causes) in
-    let one = held-counted h.driver.oldest_receive (world_at a place) in
-    let two = held-counted h'.driver.oldest_receive (world_at b place) in
+    let one = held-counted h.driver.oldest_receive (world_at a place) (all-last _ (world_at a place) ready.ready) in
+    let two = held-counted h'.driver.oldest_receive (world_at b place) (all-last _ (world_at b place) runs.flows.driver.ready) in
     record {
       played = played;
       leads = leads;
@@ -163,19 +164,19 @@ clears place played early a b counts causes leads none own first =
 
 pub handled-steps : (result : Handled) (place : ℕ) (a b : List StationState) (before behind : OutcomeList) (accesses : ℕ)
     (h h' : HostState)
-    → InterruptRuns (played_call place [] before behind accesses) result (connected h a) (connected h' b)
+    → HostReady h (world_at a place) → InterruptRuns (played_call place [] before behind accesses) result (connected h a) (connected h' b)
     → (world_at a place).adapter.receiver.work ≡ None
     → Meet (world_at a place).adapter.causes.recorded (world_at a place).adapter.causes.mask
     → StepsOn 1 place [] (connected h a) (connected h' b)
-handled-steps result place a b before behind accesses h h' runs free meets =
+handled-steps result place a b before behind accesses h h' ready runs free meets =
     let of_call = runs.runs.of_call in
     let recorded = clears place runs.runs.steps runs.tells.early a b h.driver.layout runs.causes of_call.leads of_call.played
     runs.runs.runs.accesses runs.tells.first in
     let causes = (world_at b place).adapter.causes in
     let none : bit_and causes.recorded causes.mask ≡ 0 =
     ap (λ (r : ℕ). bit_and r causes.mask) recorded ∙ and_zero_l causes.mask in
-    one-call place (length h.queues + length h'.queues) runs.runs.steps a b h h' runs.taken [] of_call.leads of_call.played runs.runs.runs
-    (omega arith) (omega arith) (omega arith) free (omega arith) (omega (arith, none, meets))
+    one-call place (length h.queues + length h'.queues) runs.runs.steps a b h h' runs.taken [] ready of_call.leads of_call.played
+    runs.runs.runs (omega arith) (omega arith) (omega arith) free (omega arith) (omega (arith, none, meets))
 
 -- A frame that is given.
 
@@ -186,15 +187,16 @@ queue-there (queue ∷ later) (suc socket) some = let rest = queue-there later s
 
 pub given-steps : (place socket : ℕ) (frame : List ℕ) (a b : List StationState) (before behind : OutcomeList) (accesses : ℕ)
     (h h' : HostState) (made : List Access → Type 0)
+    → HostReady h (world_at a place)
     → CallRuns (played_call place [] before behind accesses) (did [] (given_by socket (Ok frame)) []) made (connected h a) (connected h' b)
     → (world_at a place).adapter.receiver.work ≡ None → StepsOn 1 place (given_by socket (Ok frame)) (connected h a) (connected h' b)
-given-steps place socket frame a b before behind accesses h h' made runs free =
+given-steps place socket frame a b before behind accesses h h' made ready runs free =
     let of_call = runs.of_call in
     let n = length h.queues + (length h'.queues + (socket + 1)) in
     let calm = quiet place runs.steps a b h.driver.layout of_call.leads of_call.played runs.runs.accesses in
     let line = line-stays (world_at a place).adapter (world_at b place).adapter calm.engine in
     let known = given-sum n (record { socket = socket; frame = frame }) (omega arith) in
-    one-call place n runs.steps a b h h' [] (given_by socket (Ok frame)) of_call.leads of_call.played runs.runs
+    one-call place n runs.steps a b h h' [] (given_by socket (Ok frame)) ready of_call.leads of_call.played runs.runs
     (omega arith) (omega arith) (omega (arith, known)) free (omega arith) (omega (arith, line))
 
 -- One was given, as one waited.

@@ -7,25 +7,66 @@ use Rattle.adapter.specs.declared.offsets.TheConstants.{ICR, MPC, RDT, TDT}
 use Rattle.dma_memory.specs.Layout.{Counts}
 use Rattle.descriptors.specs.Ring.{slots_from}
 use Rattle.descriptors.specs.RingLaws.{place}
-use Rattle.bus.proofs.Lists.{all-none}
+use Rattle.std.specs.List.{concat}
+use Rattle.bus.proofs.Lists.{all-head, all-none, all-tail}
 use Rattle.bus.specs.declared.event.Access.{Access}
 use Rattle.bus.specs.declared.event.Access.TheVariants.{Loads, Reads, Stores, Writes}
-use Rattle.driver_law.specs.Calls.{last_load, send_accesses, stores_from, tail_buffer, tail_slot, tail_write, takes_from, transmit_loads}
-use Rattle.driver_law.specs.Calls.{whole_descriptor}
+use Rattle.driver_law.specs.Calls.{ether_type_load, receive_loads, send_accesses, stores_from, tail_buffer, tail_slot, tail_write}
+use Rattle.driver_law.specs.Calls.{takes_from, transmit_loads, whole_descriptor}
 use Rattle.driver_law.specs.DriverState.{DriverState, buffer_at, next_receive, receive_slot, transmit_slot, transmit_tail}
 use Rattle.driver.specs.HandlerSteps.{handled_accesses}
+use Rattle.driver.specs.Parts.{part_loads}
 use Rattle.driver.specs.SendSteps.{SendAnswer, accesses_by, slots_looked_at}
+use Rattle.driver.specs.declared.parts.Part.{Part}
 use Rattle.driver.specs.declared.transmit.SendError.TheVariants.{TooShort, TooLong, RingFull}
 use Rattle.packet_socket.specs.HostCalls.{receive_accesses}
-use Rattle.std.specs.Prelude.{Ok, Err}
+use Rattle.std.specs.Prelude.{⊤, Ok, Err}
 use Rattle.host_calls.specs.CallsOfHosts.{IsOfDriver, OnlyLastWrites}
+
+-- Loads and stores are of a driver that is up, and write no register.
+
+abbrev IsOfMemory : Access → Type 0
+IsOfMemory (Reads offset value) = ⊥
+IsOfMemory (Writes offset value) = ⊥
+IsOfMemory (Loads address size) = ⊤
+IsOfMemory (Stores address bytes) = ⊤
+
+own-memory : (own : Counts) (accesses : List Access) → All IsOfMemory accesses → All (IsOfDriver own) accesses
+own-memory own [] all = all-none (IsOfDriver own)
+own-memory own (Reads offset value ∷ later) all = absurd (all-head IsOfMemory (Reads offset value) later all)
+own-memory own (Writes offset value ∷ later) all = absurd (all-head IsOfMemory (Writes offset value) later all)
+own-memory own (Loads address size ∷ later) all =
+    let rest = own-memory own later (all-tail IsOfMemory (Loads address size) later all) in
+    All-cons (IsOfDriver own) (Loads address size) later tt rest
+own-memory own (Stores address bytes ∷ later) all =
+    let rest = own-memory own later (all-tail IsOfMemory (Stores address bytes) later all) in
+    All-cons (IsOfDriver own) (Stores address bytes) later tt rest
+
+after-memory : (accesses later : List Access) → All IsOfMemory accesses → OnlyLastWrites later → OnlyLastWrites (accesses ++ later)
+after-memory [] later all last = last
+after-memory (Reads offset value ∷ rest) later all last = absurd (all-head IsOfMemory (Reads offset value) rest all)
+after-memory (Writes offset value ∷ rest) later all last = absurd (all-head IsOfMemory (Writes offset value) rest all)
+after-memory (Loads address size ∷ rest) later all last =
+    after-memory rest later (all-tail IsOfMemory (Loads address size) rest all) last
+after-memory (Stores address bytes ∷ rest) later all last =
+    after-memory rest later (all-tail IsOfMemory (Stores address bytes) rest all) last
+
+memory-last : (accesses : List Access) → All IsOfMemory accesses → OnlyLastWrites accesses
+memory-last [] all = tt
+memory-last (Reads offset value ∷ later) all = absurd (all-head IsOfMemory (Reads offset value) later all)
+memory-last (Writes offset value ∷ later) all = absurd (all-head IsOfMemory (Writes offset value) later all)
+memory-last (Loads address size ∷ later) all = memory-last later (all-tail IsOfMemory (Loads address size) later all)
+memory-last (Stores address bytes ∷ later) all = memory-last later (all-tail IsOfMemory (Stores address bytes) later all)
+
+slot-loads : (slot_address : ℕ → ℕ) (slots : List ℕ) → All IsOfMemory (map (λ slot. Loads (slot_address slot) 16) slots)
+slot-loads slot_address [] = all-none IsOfMemory
+slot-loads slot_address (slot ∷ later) = All-cons IsOfMemory (Loads (slot_address slot) 16)
+    (map (λ slot. Loads (slot_address slot) 16) later) tt (slot-loads slot_address later)
 
 -- Sending.
 
-all-loads : (counts own : Counts) (slots : List ℕ) → All (IsOfDriver own) (map (λ slot. Loads (transmit_slot counts slot) 16) slots)
-all-loads counts own [] = all-none (IsOfDriver own)
-all-loads counts own (slot ∷ later) = All-cons (IsOfDriver own) (Loads (transmit_slot counts slot) 16)
-    (map (λ slot. Loads (transmit_slot counts slot) 16) later) tt (all-loads counts own later)
+sent-memory : (d : DriverState) (k : ℕ) → All IsOfMemory (transmit_loads d.layout d.oldest_transmit k)
+sent-memory d k = slot-loads (transmit_slot d.layout) (slots_from d.layout.tx d.oldest_transmit k)
 
 all-sent : (own : Counts) (d : DriverState) (frame : List ℕ) → d.layout ≡ own → 0 < own.tx → All (IsOfDriver own) (send_accesses d frame)
 all-sent own d frame same some =
@@ -43,107 +84,108 @@ pub sends-of_driver : (own : Counts) (result : SendAnswer) (d d' : DriverState) 
 sends-of_driver own (Ok u) d d' frame same some =
     let k = slots_looked_at d.sending (d'.sending - 1) in
     All-append (IsOfDriver own) (transmit_loads d.layout d.oldest_transmit k) (send_accesses d frame)
-    (all-loads d.layout own (slots_from d.layout.tx d.oldest_transmit k)) (all-sent own d frame same some)
+    (own-memory own (transmit_loads d.layout d.oldest_transmit k) (sent-memory d k)) (all-sent own d frame same some)
 sends-of_driver own (Err TooShort) d d' frame same some = all-none (IsOfDriver own)
 sends-of_driver own (Err TooLong) d d' frame same some = all-none (IsOfDriver own)
 sends-of_driver own (Err RingFull) d d' frame same some =
-    all-loads d.layout own (slots_from d.layout.tx d.oldest_transmit (slots_looked_at d.sending d'.sending))
-
--- Offering slots.
-
-all-stores : (counts own : Counts) (slot : ℕ) (numbers : List ℕ) → All (IsOfDriver own) (stores_from counts slot numbers)
-all-stores counts own slot [] = all-none (IsOfDriver own)
-all-stores counts own slot (number ∷ later) = All-cons (IsOfDriver own) _ _ tt (all-stores counts own ((slot + 1) % counts.rx) later)
-
-all-tail : (own : Counts) (slot : ℕ) (staged : List ℕ) → slot < own.rx → All (IsOfDriver own) (tail_write slot staged)
-all-tail own slot [] below = all-none (IsOfDriver own)
-all-tail own slot (number ∷ later) below = All-cons (IsOfDriver own) (Writes RDT slot) [] (inl (refl, below)) (all-none (IsOfDriver own))
-
--- Receiving.
-
-pub receives-of_driver : (own : Counts) (d d' : DriverState) (buffer size : ℕ) (offered : List ℕ) → next_receive d' < own.rx
-    → All (IsOfDriver own) (receive_accesses d d' buffer size offered)
-receives-of_driver own d d' buffer size offered below =
-    All-cons (IsOfDriver own) _ _ tt
-    (All-append (IsOfDriver own) _ _ (all-stores d.layout own (next_receive d) offered)
-    (all-tail own (next_receive d') (d.staged ++ offered) below))
-
--- Handling an interrupt.
-
-all-takes : (counts own : Counts) (slot : ℕ) (numbers : List ℕ) → All (IsOfDriver own) (takes_from counts slot numbers)
-all-takes counts own slot [] = all-none (IsOfDriver own)
-all-takes counts own slot (number ∷ later) =
-    let behind = takes_from counts ((slot + 1) % counts.rx) later in
-    let load = Loads (buffer_at counts number + 12) 2 in
-    All-cons (IsOfDriver own) (Loads (receive_slot slot) 16) (load ∷ behind) tt
-    (All-cons (IsOfDriver own) load behind tt (all-takes counts own ((slot + 1) % counts.rx) later))
-
-all-last : (own : Counts) (slot : ℕ) (outstanding : List ℕ) → All (IsOfDriver own) (last_load slot outstanding)
-all-last own slot [] = all-none (IsOfDriver own)
-all-last own slot (number ∷ later) = All-cons (IsOfDriver own) (Loads (receive_slot slot) 16) [] tt (all-none (IsOfDriver own))
-
-pub handles-of_driver : (own : Counts) (d : DriverState) (misses : ℕ) (taken rest offered : List ℕ) (last : ℕ) → last < own.rx
-    → All (IsOfDriver own) (handled_accesses d misses taken rest offered last)
-handles-of_driver own d misses taken rest offered last below =
-    All-cons (IsOfDriver own) (Reads MPC misses) _ (inr refl)
-    (All-append (IsOfDriver own) _ _
-    (All-append (IsOfDriver own) _ _ (all-takes d.layout own d.oldest_receive taken) (all-last own _ rest))
-    (All-append (IsOfDriver own) _ _ (all-stores d.layout own (next_receive d) offered)
-    (all-tail own last (d.staged ++ offered) below)))
-
-pub causes-of_driver : (own : Counts) (causes : ℕ) → All (IsOfDriver own) (Reads ICR causes ∷ [])
-causes-of_driver own causes = All-cons (IsOfDriver own) (Reads ICR causes) [] (inl refl) (all-none (IsOfDriver own))
-
--- Of each call the last access alone writes a register.
-
-loads-last : (counts : Counts) (slots : List ℕ) → OnlyLastWrites (map (λ slot. Loads (transmit_slot counts slot) 16) slots)
-loads-last counts [] = tt
-loads-last counts (slot ∷ later) = loads-last counts later
-
-behind-loads : (counts : Counts) (slots : List ℕ) (behind : List Access) → OnlyLastWrites behind
-    → OnlyLastWrites (map (λ slot. Loads (transmit_slot counts slot) 16) slots ++ behind)
-behind-loads counts [] behind last = last
-behind-loads counts (slot ∷ later) behind last = behind-loads counts later behind last
+    let k = slots_looked_at d.sending d'.sending in
+    own-memory own (transmit_loads d.layout d.oldest_transmit k) (sent-memory d k)
 
 pub sends-last : (result : SendAnswer) (d d' : DriverState) (frame : List ℕ) → OnlyLastWrites (accesses_by result d d' frame)
 sends-last (Ok u) d d' frame =
-    let looked = slots_looked_at d.sending (d'.sending - 1) in
-    behind-loads d.layout (slots_from d.layout.tx d.oldest_transmit looked) (send_accesses d frame) refl
+    let k = slots_looked_at d.sending (d'.sending - 1) in
+    after-memory (transmit_loads d.layout d.oldest_transmit k) (send_accesses d frame) (sent-memory d k) refl
 sends-last (Err TooShort) d d' frame = tt
 sends-last (Err TooLong) d d' frame = tt
 sends-last (Err RingFull) d d' frame =
-    loads-last d.layout (slots_from d.layout.tx d.oldest_transmit (slots_looked_at d.sending d'.sending))
+    let k = slots_looked_at d.sending d'.sending in
+    memory-last (transmit_loads d.layout d.oldest_transmit k) (sent-memory d k)
+
+-- Offering slots.
+
+stores-memory : (counts : Counts) (slot : ℕ) (numbers : List ℕ) → All IsOfMemory (stores_from counts slot numbers)
+stores-memory counts slot [] = all-none IsOfMemory
+stores-memory counts slot (number ∷ later) = All-cons IsOfMemory _ _ tt (stores-memory counts ((slot + 1) % counts.rx) later)
+
+all-tail_write : (own : Counts) (slot : ℕ) (staged : List ℕ) → slot < own.rx → All (IsOfDriver own) (tail_write slot staged)
+all-tail_write own slot [] below = all-none (IsOfDriver own)
+all-tail_write own slot (number ∷ later) below = All-cons (IsOfDriver own) (Writes RDT slot) [] (inl (refl, below)) (all-none (IsOfDriver own))
 
 tail-last : (slot : ℕ) (staged : List ℕ) → OnlyLastWrites (tail_write slot staged)
 tail-last slot [] = tt
 tail-last slot (number ∷ later) = refl
 
-behind-stores : (counts : Counts) (slot : ℕ) (numbers : List ℕ) (behind : List Access) → OnlyLastWrites behind
-    → OnlyLastWrites (stores_from counts slot numbers ++ behind)
-behind-stores counts slot [] behind last = last
-behind-stores counts slot (number ∷ later) behind last = behind-stores counts ((slot + 1) % counts.rx) later behind last
+-- Of the memory's accesses, then stores, then a tail.
+offers-of_driver : (own counts : Counts) (first : List Access) (slot last : ℕ) (offered staged : List ℕ) → All IsOfMemory first
+    → last < own.rx → All (IsOfDriver own) (first ++ (stores_from counts slot offered ++ tail_write last staged))
+offers-of_driver own counts first slot last offered staged memory below =
+    let stores = stores_from counts slot offered in
+    All-append (IsOfDriver own) first (stores ++ tail_write last staged) (own-memory own first memory)
+    (All-append (IsOfDriver own) stores (tail_write last staged) (own-memory own stores (stores-memory counts slot offered))
+    (all-tail_write own last staged below))
 
-pub receives-last : (d d' : DriverState) (buffer size : ℕ) (offered : List ℕ)
-    → OnlyLastWrites (receive_accesses d d' buffer size offered)
-receives-last d d' buffer size offered =
-    behind-stores d.layout (next_receive d) offered (tail_write (next_receive d') (d.staged ++ offered))
-    (tail-last (next_receive d') (d.staged ++ offered))
+offers-last : (counts : Counts) (first : List Access) (slot last : ℕ) (offered staged : List ℕ) → All IsOfMemory first
+    → OnlyLastWrites (first ++ (stores_from counts slot offered ++ tail_write last staged))
+offers-last counts first slot last offered staged memory =
+    let stores = stores_from counts slot offered in
+    after-memory first (stores ++ tail_write last staged) memory
+    (after-memory stores (tail_write last staged) (stores-memory counts slot offered) (tail-last last staged))
 
-behind-last : (slot : ℕ) (outstanding : List ℕ) (behind : List Access) → OnlyLastWrites behind
-    → OnlyLastWrites (last_load slot outstanding ++ behind)
-behind-last slot [] behind last = last
-behind-last slot (number ∷ later) behind last = last
+-- Receiving.
 
-behind-takes : (counts : Counts) (slot : ℕ) (numbers : List ℕ) (load behind : List Access) → OnlyLastWrites (load ++ behind)
-    → OnlyLastWrites ((takes_from counts slot numbers ++ load) ++ behind)
-behind-takes counts slot [] load behind last = last
-behind-takes counts slot (number ∷ later) load behind last = behind-takes counts ((slot + 1) % counts.rx) later load behind last
+parts-memory : (counts : Counts) (parts : List Part) → All IsOfMemory (part_loads counts parts)
+parts-memory counts [] = all-none IsOfMemory
+parts-memory counts (part ∷ later) = All-cons IsOfMemory (Loads (buffer_at counts part.buffer) part.length) (part_loads counts later) tt
+    (parts-memory counts later)
 
-pub handles-last : (d : DriverState) (misses : ℕ) (taken rest offered : List ℕ) (last : ℕ)
-    → OnlyLastWrites (handled_accesses d misses taken rest offered last)
-handles-last d misses taken rest offered last =
-    let tail = tail_write last (d.staged ++ offered) in
-    let behind = stores_from d.layout (next_receive d) offered ++ tail in
-    let slot = place d.layout.rx d.oldest_receive (length taken) in
-    behind-takes d.layout d.oldest_receive taken (last_load slot rest) behind
-    (behind-last slot rest behind (behind-stores d.layout (next_receive d) offered tail (tail-last last (d.staged ++ offered))))
+pub receives-of_driver : (own : Counts) (d d' : DriverState) (parts : List Part) (offered : List ℕ) → next_receive d' < own.rx
+    → All (IsOfDriver own) (receive_accesses d d' parts offered)
+receives-of_driver own d d' parts offered below =
+    offers-of_driver own d.layout (part_loads d.layout parts) (next_receive d) (next_receive d') offered (d.staged ++ offered)
+    (parts-memory d.layout parts) below
+
+pub receives-last : (d d' : DriverState) (parts : List Part) (offered : List ℕ) → OnlyLastWrites (receive_accesses d d' parts offered)
+receives-last d d' parts offered =
+    offers-last d.layout (part_loads d.layout parts) (next_receive d) (next_receive d') offered (d.staged ++ offered)
+    (parts-memory d.layout parts)
+
+-- Handling an interrupt.
+
+looks-memory : (counts : Counts) (slot n : ℕ) → All IsOfMemory (receive_loads counts slot n)
+looks-memory counts slot n = slot-loads receive_slot (slots_from counts.rx slot n)
+
+type-memory : (counts : Counts) (numbers : List ℕ) → All IsOfMemory (ether_type_load counts numbers)
+type-memory counts [] = all-none IsOfMemory
+type-memory counts (number ∷ later) = All-cons IsOfMemory (Loads (buffer_at counts number + 12) 2) [] tt (all-none IsOfMemory)
+
+takes-memory : (counts : Counts) (slot : ℕ) (taken : List (List ℕ)) → All IsOfMemory (takes_from counts slot taken)
+takes-memory counts slot [] = all-none IsOfMemory
+takes-memory counts slot (numbers ∷ later) =
+    let rest = takes_from counts (place counts.rx slot (length numbers)) later in
+    All-append IsOfMemory (receive_loads counts slot (length numbers)) (ether_type_load counts numbers ++ rest)
+    (looks-memory counts slot (length numbers))
+    (All-append IsOfMemory (ether_type_load counts numbers) rest (type-memory counts numbers)
+    (takes-memory counts (place counts.rx slot (length numbers)) later))
+
+-- all loads of the handler
+handled-memory : (d : DriverState) (taken : List (List ℕ)) (loads : ℕ)
+    → All IsOfMemory (takes_from d.layout d.oldest_receive taken
+    ++ receive_loads d.layout (place d.layout.rx d.oldest_receive (length (concat taken))) loads)
+handled-memory d taken loads =
+    let slot = place d.layout.rx d.oldest_receive (length (concat taken)) in
+    All-append IsOfMemory (takes_from d.layout d.oldest_receive taken) (receive_loads d.layout slot loads)
+    (takes-memory d.layout d.oldest_receive taken) (looks-memory d.layout slot loads)
+
+pub handles-of_driver : (own : Counts) (d : DriverState) (misses : ℕ) (taken : List (List ℕ)) (loads : ℕ) (offered : List ℕ) (last : ℕ)
+    → last < own.rx → All (IsOfDriver own) (handled_accesses d misses taken loads offered last)
+handles-of_driver own d misses taken loads offered last below =
+    All-cons (IsOfDriver own) (Reads MPC misses) _ (inr refl)
+    (offers-of_driver own d.layout _ (next_receive d) last offered (d.staged ++ offered) (handled-memory d taken loads) below)
+
+pub handles-last : (d : DriverState) (misses : ℕ) (taken : List (List ℕ)) (loads : ℕ) (offered : List ℕ) (last : ℕ)
+    → OnlyLastWrites (handled_accesses d misses taken loads offered last)
+handles-last d misses taken loads offered last =
+    offers-last d.layout _ (next_receive d) last offered (d.staged ++ offered) (handled-memory d taken loads)
+
+pub causes-of_driver : (own : Counts) (causes : ℕ) → All (IsOfDriver own) (Reads ICR causes ∷ [])
+causes-of_driver own causes = All-cons (IsOfDriver own) (Reads ICR causes) [] (inl refl) (all-none (IsOfDriver own))

@@ -10,15 +10,21 @@ use Rattle.descriptors.specs.Ring.{address_of, offered_places}
 use Rattle.descriptors.specs.RingLaws.{places-none}
 use Rattle.dma_memory.specs.OwnersLaws.{length-one_owner}
 use Rattle.rx_engine.specs.Descriptors.{named_address}
-use Rattle.adapter.specs.HostFrames.{frames_held, frames_to_send}
+use Rattle.rx_engine.specs.Held.{in_work as pieces_in_work}
+use Rattle.rx_engine.specs.Pieces.{IsLast}
+use Rattle.adapter.specs.HostFrames.{finished_pieces, frames_held, frames_to_send, piece_in}
 use Rattle.adapter.specs.Slots.{finished, in_work, offered, outstanding, slot_of_work}
 use Rattle.adapter.specs.State.{IsAdapter}
 use Rattle.adapter.specs.World.{World, receive_ring}
+use Rattle.bus.proofs.Lists.{all-left}
 use Rattle.bus.specs.declared.event.Event.{Event}
 use Rattle.bus.specs.Trails.{Trail}
 use Rattle.driver.specs.declared.receiver.Received.{Received}
-use Rattle.driver_law.specs.DriverState.{HandedOut, buffer_at, numbers_of, owners}
-use Rattle.packet_socket.specs.HostCalls.{Given, driver_of, given_for, held_for_socket, socket_frames, waiting_entry, waiting_frame}
+use Rattle.driver.specs.Parts.{buffers_of}
+use Rattle.driver_law.specs.Calls.{driver_in, frames_ended}
+use Rattle.driver_law.specs.DriverState.{buffer_at, numbers_of, owners}
+use Rattle.packet_socket.proofs.QueuedPieces.{entries-fit, waiting-numbers}
+use Rattle.packet_socket.specs.HostCalls.{Given, driver_of, given_for, held_for_socket, socket_frames, waiting_frame}
 use Rattle.packet_socket.specs.HostCalls.{without_socket}
 use Rattle.packet_socket.specs.HostState.{HostState, all_of, queue_at}
 use Rattle.packet_socket.specs.QueueLaws.{queue-within}
@@ -32,7 +38,8 @@ use Rattle.host_calls.specs.ConnectedHosts.{connected}
 use Rattle.host_calls.specs.DrainSteps.{StepsInto, StepsOn, count_line, count_pending, count_steps, outlet}
 use Rattle.host_calls.proofs.AdapterSteps.{MovesNone, work-none}
 use Rattle.host_calls.proofs.JoinedSteps.{moves-missed, moves-put, moves-reached, moves-toward, nothing-stored}
-use Rattle.host_calls.proofs.SocketCounts.{held-counted}
+use Rattle.host_calls.proofs.SocketCounts.{ended-counted, ended-few, held-counted}
+use Rattle.host_calls.proofs.WholeFrames.{all-last}
 
 none-long : {X : Type 0} (xs : List X) → length xs ≡ 0 → xs ≡ []
 none-long [] none = refl
@@ -46,12 +53,11 @@ is-empty (x ∷ xs) none = absurd (none (λ same. absurd (cc same)))
 
 -- each buffer is free, in an outstanding slot, or in a queue
 buffers-counted : (h : HostState) (world : World) → CanBeDrained h world
-    → length h.driver.pool + (length h.driver.buffers + length (all_of h.queues)) ≡ h.driver.layout.buffers
+    → length h.driver.pool + (length h.driver.buffers + length (buffers_of (all_of h.queues))) ≡ h.driver.layout.buffers
 buffers-counted h world stands =
     let d = driver_of h world in
     let all = length-one_owner h.driver.layout.buffers (owners d) stands.ready.ready.driver_is.one_owner in
-    let handed = length-map d.handed_out (λ (one : HandedOut). one.number) in
-    let waiting = length-map (all_of h.queues) (waiting_entry h.driver.layout world.memory) in
+    let handed = ap length (waiting-numbers h.driver.layout world.memory (all_of h.queues)) in
     omega (
       arith,
       all,
@@ -60,7 +66,6 @@ buffers-counted h world stands =
       length-append d.staged (numbers_of d.handed_out),
       ap length stands.offered,
       handed,
-      waiting,
     )
 
 -- the outstanding slots are the finished ones, that in work, and those offered
@@ -89,8 +94,11 @@ held-at_most h world stands adapter =
     omega (
       arith,
       buffers-counted h world stands,
+      entries-fit (all_of h.queues) stands.ready.sizes,
       slots-counted h world stands,
-      held-counted h.driver.oldest_receive world,
+      ended-few [] (finished_pieces h.driver.oldest_receive world),
+      length-map (finished h.driver.oldest_receive world) (piece_in world.memory),
+      held-counted h.driver.oldest_receive world (all-last _ world stands.ready.ready),
       adapter.receiver.room,
     )
 
@@ -100,16 +108,26 @@ positive : (n place : ℕ) → HasBit n place → 0 < n
 positive zero place set = absurd (HasBit-zero place set)
 positive (suc n) place set = omega arith
 
-none-finished : (h : HostState) (world : World) → CanBeDrained h world → ¬ (Meet world.adapter.causes.recorded world.adapter.causes.mask)
-    → finished h.driver.oldest_receive world ≡ []
-none-finished h world stands quiet = ⊎_elim
-    (λ (none : finished h.driver.oldest_receive world ≡ []). none)
+none-ended : (h : HostState) (world : World) → CanBeDrained h world → ¬ (Meet world.adapter.causes.recorded world.adapter.causes.mask)
+    → frames_ended (driver_in h.driver world) ≡ []
+none-ended h world stands quiet = ⊎_elim
+    (λ (none : frames_ended (driver_in h.driver world) ≡ []). none)
     (λ (asked : HasBit world.adapter.causes.recorded rxt0).
     let both = (HasBit-intersection world.adapter.causes.recorded world.adapter.causes.mask rxt0).1 (asked, stands.work.enabled) in
     absurd (quiet (positive (bit_and world.adapter.causes.recorded world.adapter.causes.mask) rxt0 both))) stands.work.asked
 
+-- Each piece ends a frame, so no slot is finished then.
+none-finished : (h : HostState) (world : World) → CanBeDrained h world → frames_ended (driver_in h.driver world) ≡ []
+    → length (finished h.driver.oldest_receive world) ≡ 0
+none-finished h world stands none =
+    let o = h.driver.oldest_receive in
+    let pieces = finished_pieces o world in
+    let last = all-last _ world stands.ready.ready in
+    let ended = ended-counted [] pieces (all-left IsLast pieces (pieces_in_work world.memory world.adapter.receiver.work) last) in
+    omega (arith, ended, ap length none, length-map (finished o world) (piece_in world.memory))
+
 -- While no frame is finished, in work or queued, a slot is offered.
-some-offered : (h : HostState) (world : World) → CanBeDrained h world → finished h.driver.oldest_receive world ≡ []
+some-offered : (h : HostState) (world : World) → CanBeDrained h world → frames_ended (driver_in h.driver world) ≡ []
     → world.adapter.receiver.work ≡ None → all_of h.queues ≡ [] → 2 ≤ h.driver.layout.rx → 0 < h.driver.layout.buffers
     → world.adapter.receive_ring.head ≢ world.adapter.receive_ring.tail
 some-offered h world stands none free empty rings buffers same =
@@ -118,11 +136,13 @@ some-offered h world stands none free empty rings buffers same =
     let places = ap length (places-none ring same) in
     let slots = slots-counted h world stands in
     let work = (work-none world.adapter.receiver.work free).0 in
-    let outstanding_none : length h.driver.buffers ≡ 0 = omega (arith, slots, nowhere, places, work, ap length none) in
+    let outstanding_none : length h.driver.buffers ≡ 0 =
+    omega (arith, slots, nowhere, places, work, none-finished h world stands none) in
     ⊎_elim
     (λ (free_none : h.driver.pool ≡ []).
     let all = buffers-counted h world stands in
-    absurd (omega (arith, all, ap length free_none, outstanding_none, ap length empty, buffers)))
+    let queued : length (buffers_of (all_of h.queues)) ≡ 0 = ap (λ (list : List Received). length (buffers_of list)) empty in
+    absurd (omega (arith, all, ap length free_none, outstanding_none, queued, buffers)))
     (λ (full : length h.driver.buffers + 1 ≡ h.driver.layout.rx). absurd (omega (arith, full, outstanding_none, rings)))
     stands.refilled
 
@@ -140,7 +160,7 @@ pub nothing-left : (place : ℕ) (a b : List StationState) (h : HostState) → C
 nothing-left place a b h stands moves free quiet empty rings buffers =
     let world = world_at a place in
     let o = h.driver.oldest_receive in
-    let none = none-finished h world stands quiet in
+    let none = none-ended h world stands quiet in
     let slot = some-offered h world stands none free empty rings buffers in
     let buffer : world.adapter.receiver.buffer ≡ [] =
     is-empty world.adapter.receiver.buffer (λ some. moves.takes.answers (record {
@@ -149,16 +169,16 @@ nothing-left place a b h stands moves free quiet empty rings buffers =
       offered = slot;
     })) in
     let work = (work-none world.adapter.receiver.work free).0 in
-    let before = held-counted o world in
+    let before = held-counted o world (all-last _ world stands.ready.ready) in
     holds-none h (world_at b place)
     (omega (arith, moves.on.counts.held, before, ap length none, work, ap length buffer, ap length empty))
 
 -- What a drain did.
 
-steps-most : (h : HostState) (world : World) → count_steps h world ≤ 4 * count_held h world + 1
-steps-most h world =
+steps-most : (h : HostState) (world : World) → CanBeDrained h world → count_steps h world ≤ 4 * count_held h world + 1
+steps-most h world stands =
     let pending = bounded world.adapter.receiver.work (count_line world.adapter.causes) (omega arith) in
-    omega (arith, pending, held-counted h.driver.oldest_receive world)
+    omega (arith, pending, held-counted h.driver.oldest_receive world (all-last _ world stands.ready.ready))
   where
     bounded : (work : Option Rattle.rx_engine.specs.declared.engine.Work.Work) (line : ℕ) → line ≤ 1
         → count_pending work line ≤ 3 * length (slot_of_work work) + 1
@@ -168,7 +188,7 @@ steps-most h world =
 -- fewer than a u64 holds
 pub steps-fit : (h : HostState) (world : World) → CanBeDrained h world → IsAdapter world.adapter → count_steps h world + 1 < 2 ^ 64
 steps-fit h world stands adapter =
-    let most = steps-most h world in
+    let most = steps-most h world stands in
     let held = held-at_most h world stands adapter in
     let addresses = stands.ready.ready.driver_is.addresses in
     omega (arith, most, held, addresses)
@@ -196,9 +216,9 @@ drains steps place a b h h' given on none stands adapter =
     let flows = on.runs.flows.driver in
     let small = adapter.registers.counters.missed in
     let accounts = on.runs.flows.accounts in
-    let behind = held-counted h'.driver.oldest_receive two in
+    let behind = held-counted h'.driver.oldest_receive two (all-last _ two flows.ready) in
     let empty = ap length none.held in
-    let most = steps-most h one in
+    let most = steps-most h one stands in
     let counted = without_socket h.kinds (frames_held h.driver.oldest_receive one) in
     let without : without_socket h'.kinds (frames_held h'.driver.oldest_receive two) ≡ 0 = ap (without_socket h'.kinds) none.held in
     let without_stored : without_socket h.kinds past.stored ≡ 0 = ap (without_socket h.kinds) stored in

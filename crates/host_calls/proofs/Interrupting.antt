@@ -1,13 +1,13 @@
 -- A host handles an interrupt over a lent bus.
-use Rattle.std.proofs.Common.{◌≡◌, ◌≤◌, ◌<◌, ◌+◌, ◌++◌, ◌∷◌, [], ℕ, true, cond, List, drop, length, map, take, refl, sym}
+use Rattle.std.proofs.Common.{◌≡◌, ◌<◌, ◌+◌, ◌++◌, ◌∷◌, [], ℕ, true, cond, List, length, map, refl, sym}
 use Rattle.std.proofs.Common.{ap, subst, ◌∙◌, arith}
-use Rattle.std.proofs.lemmas.Grind.{common_steps}
-use Rattle.std.specs.List.{All}
-use Rattle.std.proofs.lemmas.List.{length-map}
+use Rattle.std.specs.List.{All, concat}
+use Rattle.std.proofs.lemmas.List.{length-map, map-append}
 use Rattle.std.proofs.lemmas.List.Elements.{All-append}
 use Rattle.std.proofs.lemmas.List.Sums.{sum_by-cons}
 use Rattle.rx_engine.specs.Addresses.{ether_type}
 use Rattle.bus.specs.PastOfStretch.{joined}
+use Rattle.adapter.specs.State.{AdapterState}
 use Rattle.adapter.specs.declared.offsets.TheConstants.{ICR}
 use Rattle.bus.specs.declared.event.Access.{Access}
 use Rattle.bus.specs.declared.event.Access.TheVariants.{Reads}
@@ -15,9 +15,10 @@ use Rattle.stations.specs.Retelling.{Finished, Retells, world_here}
 use Rattle.stations.specs.RetellingLaws.{retells_join}
 use Rattle.stations.specs.declared.lent_bus.LentBus.{LentBus}
 use Rattle.driver_law.proofs.Places.{place-below}
-use Rattle.driver_law.specs.DriverState.{HandedOut, next_receive, numbers_of}
+use Rattle.driver_law.specs.DriverState.{HandedOut, frame_of, next_receive, numbers_of}
 use Rattle.driver_law.specs.Calls.{IsRefilled}
-use Rattle.driver.specs.HandlerSteps.{GrowsBy, IfHandled, OnlyReceives, frames_of, handled_accesses, received_of}
+use Rattle.driver.specs.HandlerSteps.{GrowsBy, IfHandled, OnlyReceives}
+use Rattle.driver.specs.Parts.{frames_of, pieces_of, received_of}
 use Rattle.driver.specs.declared.receiver.Received.{Received}
 use Rattle.driver.specs.declared.interrupt.Handled.{Handled}
 use Rattle.driver.specs.declared.interrupt.Handled.TheVariants.{NotMine}
@@ -38,24 +39,24 @@ use Rattle.host_calls.proofs.Calling.{call-runs_by, lent_call}
 use Rattle.host_calls.proofs.DriversAccesses.{causes-of_driver, handles-last, handles-of_driver}
 
 -- Frames without a socket are counted as they are taken.
-same-count : (kinds : List SocketKind) (taken : List HandedOut) → unclaimed_of kinds (map received_of taken)
+same-count : (kinds : List SocketKind) (taken : List (List HandedOut)) → unclaimed_of kinds (map received_of taken)
     ≡ without_socket kinds (frames_of taken)
 same-count kinds [] = refl
 same-count kinds (one ∷ later) =
     let shown = sum_by-cons (λ (r : Received). cond (has_none kinds r.ether_type) 1 0) (received_of one) (map received_of later) in
-    let frames = sum_by-cons (λ (frame : List ℕ). cond (has_none kinds (ether_type frame)) 1 0) one.frame (frames_of later) in
+    let frames = sum_by-cons (λ (frame : List ℕ). cond (has_none kinds (ether_type frame)) 1 0) (frame_of one) (frames_of later) in
     let rest = same-count kinds later in
     omega (arith, shown, frames, rest)
 
-taken-unclaimed : (kinds : List SocketKind) (taken : List HandedOut) (before behind : ℕ)
+taken-unclaimed : (kinds : List SocketKind) (taken : List (List HandedOut)) (before behind : ℕ)
     → GrowsBy before behind (unclaimed_of kinds (map received_of taken)) → GrowsBy before behind (without_socket kinds (frames_of taken))
 taken-unclaimed kinds taken before behind grows = subst (GrowsBy before behind) (same-count kinds taken) grows
 
 -- What the first part of a call tells of causes, the whole call tells.
-tells-on : (caller : ℕ) (first last steps : List AtomicStep) (causes recorded : ℕ) (result : Handled)
-    → TellsCauses caller first causes recorded result → steps ≡ first ++ last → TellsCauses caller steps causes recorded result
-tells-on caller first last steps causes recorded result tells is =
-    subst (λ (list : List AtomicStep). TellsCauses caller list causes recorded result) (sym is)
+tells-on : (caller : ℕ) (first last steps : List AtomicStep) (causes : ℕ) (adapter : AdapterState) (result : Handled)
+    → TellsCauses caller first causes adapter result → steps ≡ first ++ last → TellsCauses caller steps causes adapter result
+tells-on caller first last steps causes adapter result tells is =
+    subst (λ (list : List AtomicStep). TellsCauses caller list causes adapter result) (sym is)
     (record {
       early = tells.early;
       first = first-reads_stay caller first tells.early last causes tells.first;
@@ -85,23 +86,17 @@ leaves-runs a m b h h' zero ready handles finished =
       taken = [];
       runs = made.0;
       causes = handles.asked.causes;
-      tells = tells-on a.host retells.steps finished.plays.steps made.0.steps handles.asked.causes (world_here a).adapter.causes.recorded
+      tells = tells-on a.host retells.steps finished.plays.steps made.0.steps handles.asked.causes (world_here a).adapter
           NotMine (calls-tell_causes a m m h h' NotMine past [] ready handles retells only) made.1;
       answer = record { stays = leaves.stays; none = refl };
     }
 
--- A list that begins with n things.
-record SplitsAt (n : ℕ) (front back whole : List ℕ) : Type 0 where
-  enough : n ≤ length whole
-  taken : take n whole ≡ front
-  dropped : drop n whole ≡ back
-
-split-at : (taken rest whole : List ℕ) (n : ℕ) → whole ≡ taken ++ rest → length taken ≡ n → SplitsAt n taken rest whole
-split-at taken rest whole n is count = record {
-  enough = grind (arith, common_steps, is, count);
-  taken = grind (arith, common_steps, is, count);
-  dropped = grind (arith, common_steps, is, count);
-}
+-- The buffers of frames, one frame after the other, are those of their pieces.
+numbers-joined : (taken : List (List HandedOut)) → numbers_of (pieces_of taken) ≡ concat (map numbers_of taken)
+numbers-joined [] = refl
+numbers-joined (pieces ∷ later) =
+    map-append (λ (one : HandedOut). one.number) pieces (pieces_of later)
+    ∙ ap (λ (numbers : List ℕ). numbers_of pieces ++ numbers) (numbers-joined later)
 
 works-runs : (a m b : LentBus) (h h' : HostState) (n : ℕ) → a.accesses ≡ 0 → HostReady h (world_here a) → IsRefilled h'.driver
     → h'.driver.staged ≡ [] → OnlyReceives h.driver h'.driver → HostHandles lent (answers.Handled n) true (host_at a h) (host_at m h')
@@ -118,13 +113,9 @@ works-runs a m b h h' n zero ready refilled offered only_receives handles finish
     let driver = it.flows.driver.ready.driver_is in
     let below : next_receive h'.driver < h'.driver.layout.rx =
     place-below h'.driver.layout.rx h'.driver.oldest_receive (length h'.driver.buffers + length h'.driver.staged) driver.oldest_slot in
-    let driver_accesses = handles-of_driver own h.driver works.misses.misses (numbers_of works.taken) served.rest served.offered
-    (next_receive h'.driver) (subst (λ (c : Counts). next_receive h'.driver < c.rx) counts below) in
+    let driver_accesses = handles-of_driver own h.driver works.misses.misses (map numbers_of works.taken) works.loads
+    served.offered (next_receive h'.driver) (subst (λ (c : Counts). next_receive h'.driver < c.rx) counts below) in
     let retells = retells_join a handles.asked.after_read m past works.ran.past handles.asked.reads.reports works.ran.reports in
-    let oldest = split-at (numbers_of works.taken) served.rest h.driver.buffers n served.oldest
-    (length-map works.taken (λ (one : HandedOut). one.number) ∙ works.count) in
-    let handled = λ (taken rest : List ℕ).
-    Reads ICR handles.asked.causes ∷ handled_accesses h.driver works.misses.misses taken rest served.offered (next_receive h'.driver) in
     let made = call-runs_by a m b (joined past works.ran.past) h h' (frames_of works.taken) [] []
     (MakesInterrupt (answers.Handled n) h h') zero retells it.flows
     (All-append (IsOfDriver own) past.accesses works.ran.past.accesses
@@ -132,19 +123,25 @@ works-runs a m b h h' n zero ready refilled offered only_receives handles finish
     (subst (λ (accesses : List Access). All (IsOfDriver own) accesses) (sym works.ran.only) driver_accesses))
     (subst OnlyLastWrites (ap (λ (accesses : List Access). accesses ++ works.ran.past.accesses) (sym only))
     (subst OnlyLastWrites (sym works.ran.only)
-    (handles-last h.driver works.misses.misses (numbers_of works.taken) served.rest served.offered (next_receive h'.driver))))
+    (handles-last h.driver works.misses.misses (map numbers_of works.taken) works.loads served.offered (next_receive h'.driver))))
     (record {
       causes = handles.asked.causes;
       missed = works.misses;
-      no_bad = served.no_bad;
-      enough = oldest.enough;
-      offered = served.offered;
-      newest = served.newest ∙ ap (λ (rest : List ℕ). rest ++ (h.driver.staged ++ served.offered)) (sym oldest.dropped);
+      taken = map numbers_of works.taken;
+      count = length-map works.taken numbers_of ∙ works.count;
+      groups = works.groups;
+      served = record {
+        rest = served.rest;
+        offered = served.offered;
+        oldest = served.oldest ∙ ap (λ (numbers : List ℕ). numbers ++ served.rest) (numbers-joined works.taken);
+        newest = served.newest;
+        no_bad = served.no_bad;
+      };
+      loads = works.loads;
+      look = works.look;
       exact =
           ap (λ (accesses : List Access). accesses ++ works.ran.past.accesses) only
-          ∙ ap (λ (accesses : List Access). Reads ICR handles.asked.causes ∷ accesses) works.ran.only
-          ∙ ap (λ (taken : List ℕ). handled taken served.rest) (sym oldest.taken)
-          ∙ ap (handled (take n h.driver.buffers)) (sym oldest.dropped);
+          ∙ ap (λ (accesses : List Access). Reads ICR handles.asked.causes ∷ accesses) works.ran.only;
     })
     (λ work. it.work work.enabled)
     (λ before. refilled) (λ before. offered) finished in
@@ -152,12 +149,12 @@ works-runs a m b h h' n zero ready refilled offered only_receives handles finish
       taken = frames_of works.taken;
       runs = made.0;
       causes = handles.asked.causes;
-      tells = tells-on a.host retells.steps finished.plays.steps made.0.steps handles.asked.causes (world_here a).adapter.causes.recorded
+      tells = tells-on a.host retells.steps finished.plays.steps made.0.steps handles.asked.causes (world_here a).adapter
           (answers.Handled n)
           (calls-tell_causes a m m h h' (answers.Handled n) (joined past works.ran.past) works.ran.past.accesses ready handles retells
           (ap (λ (accesses : List Access). accesses ++ works.ran.past.accesses) only)) made.1;
       answer = record {
-        count = length-map works.taken (λ (one : HandedOut). one.frame) ∙ works.count;
+        count = length-map works.taken frame_of ∙ works.count;
         least = it.least;
         unclaimed = taken-unclaimed h.kinds works.taken h.unclaimed h'.unclaimed works.sorted.unclaimed;
         only_receives = only_receives;

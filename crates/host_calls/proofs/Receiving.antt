@@ -17,11 +17,11 @@ use Rattle.driver_law.specs.DriverState.{next_receive, with_owners}
 use Rattle.driver_law.specs.Calls.{IsRefilled}
 use Rattle.packet_socket.proofs.Stretches.{host-happens}
 use Rattle.packet_socket.specs.HostCalls.{HostGoesTo, HostReady, LeavesQueue, Receives, Returns, ReturnsBy, did, host_at, in_world}
-use Rattle.packet_socket.specs.HostCalls.{receive_accesses, waiting_frames}
+use Rattle.packet_socket.specs.HostCalls.{waiting_frames}
 use Rattle.packet_socket.specs.HostState.{HostState, queue_at}
 use Rattle.packet_socket.specs.declared.receive.RecvError.{RecvError}
 use Rattle.packet_socket.specs.declared.receive.RecvError.TheVariants.{Empty, NoSocket}
-use Rattle.driver.specs.HandlerSteps.{IsFrameSize}
+use Rattle.driver.specs.Parts.{IsFrameSize}
 use Rattle.driver.specs.declared.receiver.Received.{Received}
 use Rattle.host_calls.specs.LentCalls.{lent}
 use Rattle.host_calls.specs.CallAnswers.{AnswersRecv, LeavesRecv, MakesRecv, frame_in, given_by}
@@ -47,17 +47,17 @@ recv-runs a m b h h' socket size bytes zero ready long receives refilled offered
     call-runs a m b ran.past h h' [] given [] (MakesRecv (Ok bytes) socket h h') zero ran.reports
     (flows-of h (world_here a) h' (world_here m) [] given [] ran.past goes)
     (subst (λ (accesses : List Access). All (IsOfDriver h.driver.layout) accesses) (sym ran.only)
-    (receives-of_driver h.driver.layout h.driver h'.driver receives.received.buffer size receives.offered
+    (receives-of_driver h.driver.layout h.driver h'.driver receives.received.parts receives.offered
     (subst (λ (c : Rattle.dma_memory.specs.Layout.Counts). next_receive h'.driver < c.rx) counts below)))
     (subst OnlyLastWrites (sym ran.only)
-    (receives-last h.driver h'.driver receives.received.buffer size receives.offered))
+    (receives-last h.driver h'.driver receives.received.parts receives.offered))
     (record {
       oldest = receives.received;
       front = receives.leaves.oldest;
       offered = receives.offered;
       newest = receives.newest;
-      exact = ran.only
-          ∙ ap (λ (n : ℕ). receive_accesses h.driver h'.driver receives.received.buffer n receives.offered) (sym long);
+      long = long ∙ receives.leaves.long;
+      exact = ran.only;
     })
     (work-goes h (world_here a) h' (world_here m) [] given [] ran.past goes)
     (λ before. refilled) (λ before. offered) finished

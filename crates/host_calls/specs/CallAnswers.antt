@@ -1,15 +1,16 @@
 -- What a call of a host answers, and which accesses it makes (our choice).
-use Rattle.std.specs.Prelude.{⊤, ◌≡◌, ◌↔◌, ◌≤◌, ◌<◌, ◌+◌, ◌-◌, ◌++◌, ◌∷◌, [], ℕ, List, Result, Ok, Err, drop, length, take}
+use Rattle.std.specs.Prelude.{⊤, ◌≡◌, ◌↔◌, ◌≤◌, ◌<◌, ◌+◌, ◌-◌, ◌++◌, ◌∷◌, [], ℕ, All, List, Result, Ok, Err, length, take}
 use Rattle.descriptors.specs.Frames.{longest_frame, shortest_sent}
 use Rattle.adapter.specs.HostFrames.{frames_to_send}
-use Rattle.adapter.specs.Slots.{finished, written_back}
+use Rattle.std.specs.List.{concat}
+use Rattle.adapter.specs.Slots.{written_back}
 use Rattle.adapter.specs.World.{World}
 use Rattle.adapter.specs.declared.offsets.TheConstants.{ICR}
 use Rattle.bus.specs.declared.event.Access.{Access}
 use Rattle.bus.specs.declared.event.Access.TheVariants.{Reads}
-use Rattle.driver_law.specs.Calls.{send_accesses}
+use Rattle.driver_law.specs.Calls.{driver_in, frames_ended, send_accesses}
 use Rattle.driver_law.specs.DriverState.{next_receive, with_owners}
-use Rattle.driver.specs.HandlerSteps.{GrowsBy, OnlyReceives, ReadsMisses, handled_accesses}
+use Rattle.driver.specs.HandlerSteps.{AreOfOneFrame, GrowsBy, IsLook, OnlyReceives, ReadsMisses, TakesAndOffers, handled_accesses}
 use Rattle.driver.specs.SendSteps.{SendAnswer, HasWrongLength, accepted_by, accesses_by, loads_to_free, with_transmit_slots}
 use Rattle.driver.specs.declared.transmit.SendError.TheVariants.{TooShort, TooLong, RingFull}
 use Rattle.driver.specs.declared.interrupt.Handled.{Handled}
@@ -87,11 +88,11 @@ abbrev pub LeavesRecv : Result (List ℕ) RecvError → (socket : ℕ) → (h h'
 LeavesRecv (Ok frame) socket h h' accesses = LeavesReturned socket (length frame) h h'
 LeavesRecv (Err error) socket h h' accesses = (h' ≡ h) × (accesses ≡ 0)
 
--- Handling an interrupt took n frames, among them all that were finished when the call began. Those without a socket were counted, up to
--- the greatest u64.
+-- Handling an interrupt took n frames, among them all that ended in finished slots when the call began. Those without a socket were
+-- counted, up to the greatest u64.
 pub record HandlesFrames (h h' : HostState) (world : World) (taken : List (List ℕ)) (n : ℕ) : Type 0 where
   pub count : length taken ≡ n
-  pub least : length (finished h.driver.oldest_receive world) ≤ n
+  pub least : length (frames_ended (driver_in h.driver world)) ≤ n
   pub unclaimed : GrowsBy h.unclaimed h'.unclaimed (without_socket h.kinds taken)
   -- The transmit slots don't change.
   pub only_receives : OnlyReceives h.driver h'.driver
@@ -135,31 +136,35 @@ FreesFirstBy (Err TooShort) k frame steps old new = ⊤
 FreesFirstBy (Err TooLong) k frame steps old new = ⊤
 FreesFirstBy (Err RingFull) k frame steps old new = SendFreesFirst k new.host.driver.sending [] steps old new
 
--- Receiving a frame of this size: it loads the frame from the buffer of the oldest entry of the socket's queue, then offers slots with
--- these buffers.
+-- Receiving a frame of this size: it loads the frame, piece by piece, from the buffers of the oldest entry of the socket's queue, and then
+-- offers slots with these buffers.
 pub record MakesReceipt (socket size : ℕ) (h h' : HostState) (accesses : List Access) : Type 0 where
   pub oldest : Received
   pub front : queue_at h.queues socket ≡ oldest ∷ queue_at h'.queues socket
   pub offered : List ℕ
   pub newest : h'.driver.buffers ≡ h.driver.buffers ++ (h.driver.staged ++ offered)
-  pub exact : accesses ≡ receive_accesses h.driver h'.driver oldest.buffer size offered
+  pub long : size ≡ oldest.length
+  pub exact : accesses ≡ receive_accesses h.driver h'.driver oldest.parts offered
 
 -- if no frame is returned, none
 abbrev pub MakesRecv : Result (List ℕ) RecvError → (socket : ℕ) → (h h' : HostState) → (accesses : List Access) → Type 0
 MakesRecv (Ok frame) socket h h' accesses = MakesReceipt socket (length frame) h h' accesses
 MakesRecv (Err error) socket h h' accesses = accesses ≡ []
 
--- Handling an interrupt for which it takes n slots: it reads ICR, then MPC, whose value it adds to the driver's sum. It takes the slots of
--- the n oldest buffers of the ring, none of which is bad. Then it offers slots with the buffers `offered`.
+-- Handling an interrupt for which it takes n frames: it reads ICR, then MPC, whose value it adds to the driver's sum. It takes the frames
+-- from the oldest slots of the ring, each in these buffers, and no run of slots is bad. It loads the descriptors of the next slots, as many
+-- as `loads`. Then it offers slots with the buffers `offered`.
 pub record MakesHandling (n : ℕ) (h h' : HostState) (accesses : List Access) : Type 0 where
   pub causes : ℕ
   pub missed : ReadsMisses h.driver h'.driver
-  pub no_bad : h'.driver.bad ≡ h.driver.bad
-  pub enough : n ≤ length h.driver.buffers
-  pub offered : List ℕ
-  pub newest : h'.driver.buffers ≡ drop n h.driver.buffers ++ (h.driver.staged ++ offered)
-  pub exact : accesses ≡ Reads ICR causes ∷ handled_accesses h.driver missed.misses (take n h.driver.buffers)
-      (drop n h.driver.buffers) offered (next_receive h'.driver)
+  -- the buffers of each frame, and those that remain outstanding
+  pub taken : List (List ℕ)
+  pub count : length taken ≡ n
+  pub groups : All AreOfOneFrame taken
+  pub served : TakesAndOffers h.driver h'.driver (concat taken)
+  pub loads : ℕ
+  pub look : IsLook loads served.rest
+  pub exact : accesses ≡ Reads ICR causes ∷ handled_accesses h.driver missed.misses taken loads served.offered (next_receive h'.driver)
 
 -- if no cause was this host's, it reads ICR only
 abbrev pub MakesInterrupt : Handled → (h h' : HostState) → (accesses : List Access) → Type 0
@@ -188,6 +193,6 @@ pub record InterruptRuns (call : PlayedCall) (result : Handled) (old new : Conne
   pub runs : CallRuns call (did taken [] []) (MakesInterrupt result old.host new.host) old new
   -- ICR was read first, and showed these causes
   pub causes : ℕ
-  -- the answer follows from the causes recorded when the call began, and from the ticks played before that read
-  pub tells : TellsCauses call.caller runs.steps causes (world_at old.stations call.caller).adapter.causes.recorded result
+  -- the answer follows from the adapter when the call began, and from the ticks played before that read
+  pub tells : TellsCauses call.caller runs.steps causes (world_at old.stations call.caller).adapter result
   pub answer : AnswersInterrupt result old.host new.host (world_at old.stations call.caller) taken

@@ -15,13 +15,13 @@ use Rattle.packet_socket.specs.HostState.{HostState}
 use Rattle.host_calls.specs.InterruptCauses.{ReadsIcrFirst, TellsCauses}
 use Rattle.host_calls.specs.LentCalls.{lent}
 
--- A host that is ready handles an interrupt over a lent bus. The answer follows from the causes recorded when it was called, and from the
--- ticks played before ICR was read.
+-- A host that is ready handles an interrupt over a lent bus. The answer follows from its adapter when it was called, and from the ticks
+-- played before ICR was read.
 abbrev pub AnswersTellCauses : Type 0
 AnswersTellCauses =
     (a m : LentBus) (h h' : HostState) (result : Handled) → HostReady h (world_here a)
     → (handles : HostHandles lent result true (host_at a h) (host_at m h'))
-    → TellsCauses a.host handles.asked.reads.reports.steps handles.asked.causes (world_here a).adapter.causes.recorded result
+    → TellsCauses a.host handles.asked.reads.reports.steps handles.asked.causes (world_here a).adapter result
 
 -- The same, for a list of accesses that goes on after that first part, as that of the whole call does.
 abbrev pub CallsTellCauses : Type 0
@@ -29,7 +29,7 @@ CallsTellCauses =
     (a m b : LentBus) (h h' : HostState) (result : Handled) (past : Past) (more : List Access) → HostReady h (world_here a)
     → (handles : HostHandles lent result true (host_at a h) (host_at m h')) → (retells : Retells a b past)
     → past.accesses ≡ Reads ICR handles.asked.causes ∷ more
-    → TellsCauses a.host retells.steps handles.asked.causes (world_here a).adapter.causes.recorded result
+    → TellsCauses a.host retells.steps handles.asked.causes (world_here a).adapter result
 
 -- The first access is the first, whatever follows.
 abbrev pub FirstReadsStay : Type 0

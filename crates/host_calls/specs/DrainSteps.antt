@@ -3,12 +3,12 @@ use Rattle.std.specs.Prelude.{◌≡◌, ◌≢◌, ◌≤◌, ◌+◌, ◌*◌,
 use Rattle.std.specs.Prelude.{if◌then◌else◌}
 use Rattle.registers.specs.Interrupts.{Interrupts}
 use Rattle.rx_engine.specs.declared.engine.Work.{Work}
-use Rattle.adapter.specs.Slots.{finished}
 use Rattle.adapter.specs.World.{World}
 use Rattle.stations.specs.AtomicSteps.{AtomicStep}
 use Rattle.stations.specs.Stations.{StationState, world_at}
 use Rattle.stations.specs.AtomicRuns.{LeadsTo, events_at}
 use Rattle.delivery.specs.Happenings.{Moved, happened_in}
+use Rattle.driver_law.specs.Calls.{driver_in, frames_ended}
 use Rattle.packet_socket.specs.HostState.{HostState, all_of}
 use Rattle.packet_socket.specs.HostCalls.{Given, did}
 use Rattle.host_calls.specs.CallsOfHosts.{HostRuns}
@@ -27,12 +27,12 @@ abbrev pub count_pending : Option Work → (line : ℕ) → ℕ
 count_pending None line = line
 count_pending (Some work) line = 3
 
--- The greatest number of steps that are left: four for each frame of the packet buffer, those above, and one for each frame that is
--- finished or queued.
+-- The greatest number of steps that are left: four for each frame of the packet buffer, those above, and one for each frame that ends in
+-- finished slots or is queued.
 abbrev pub count_steps : HostState → World → ℕ
 count_steps host world =
     4 * length world.adapter.receiver.buffer + count_pending world.adapter.receiver.work (count_line world.adapter.causes)
-    + length (finished host.driver.oldest_receive world) + length (all_of host.queues)
+    + length (frames_ended (driver_in host.driver world)) + length (all_of host.queues)
 
 -- one step, or none
 abbrev pub steps_of : Bool → ℕ

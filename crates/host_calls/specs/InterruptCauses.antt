@@ -1,16 +1,18 @@
 -- What the answer of an interrupt handler says of the adapter whose handler it is (13.4.17 "Interrupt Cause Read Register"; that a
 -- handler is called over a lent bus is our choice).
-use Rattle.std.specs.Prelude.{⊤, ◌≡◌, ◌≢◌, ◌↔◌, ◌⊎◌, ◌++◌, ◌∷◌, ℕ, List, All}
+use Rattle.std.specs.Prelude.{⊤, ◌≡◌, ◌≢◌, ◌↔◌, ◌⊎◌, ◌++◌, ◌∷◌, [], ℕ, Bool, true, false, List, All}
 use Rattle.registers.specs.Bits.{Meet}
 use Rattle.rx_engine.specs.declared.arrival.Fate.TheVariants.{Missed}
 use Rattle.adapter.specs.declared.offsets.TheConstants.{ICR}
 use Rattle.bus.specs.declared.event.Access.TheVariants.{Reads}
 use Rattle.bus.specs.declared.event.Event.{Event}
 use Rattle.bus.specs.declared.event.Event.TheVariants.{Accesses}
-use Rattle.stations.specs.AtomicSteps.{At, AtomicStep, Idles, outcome_of_event}
+use Rattle.stations.specs.AtomicSteps.{At, AtomicStep, outcome_of_event}
 use Rattle.adapter.specs.Outcomes.{FrameOutcome}
-use Rattle.adapter.specs.declared.outcome.Outcome.TheVariants.{Delivered, Done, Nothing, Put}
-use Rattle.stations.specs.AtomicRuns.{IsTick}
+use Rattle.adapter.specs.Receiving.{is_ending}
+use Rattle.adapter.specs.State.{AdapterState}
+use Rattle.adapter.specs.declared.outcome.Outcome.TheVariants.{Delivered, Done, Moved, Nothing, Part, Put}
+use Rattle.stations.specs.AtomicRuns.{IsTick, events_at}
 use Rattle.bring_up.specs.WrittenRegisters.{handled_causes}
 use Rattle.driver.specs.declared.interrupt.Handled.{Handled}
 use Rattle.driver.specs.declared.interrupt.Handled.TheVariants.{NotMine}
@@ -22,17 +24,26 @@ pub record ReadsIcrFirst (caller : ℕ) (steps early : List AtomicStep) (causes 
   pub split : steps ≡ early ++ At caller (Accesses (Reads ICR causes)) ∷ later
   pub ticks : All IsTick early
 
--- no frame was put, missed or written back: nothing that sets TXDW, RXO or RXT0
-abbrev pub IsQuietOutcome : FrameOutcome → Type 0
-IsQuietOutcome (Put frame) = ⊥
-IsQuietOutcome Done = ⊥
-IsQuietOutcome (Delivered frame Missed) = ⊥
-IsQuietOutcome outcome = ⊤
+-- Whether the piece in progress at an adapter is the last of its frame (`ends`), after an event with this outcome: Moved is of a last piece,
+-- Part of another, and after Done no piece is in progress.
+abbrev pub ends_after : (ends : Bool) → FrameOutcome → Bool
+ends_after ends Moved = true
+ends_after ends Part = false
+ends_after ends Done = false
+ends_after ends outcome = ends
 
--- the outcome of a step at the caller is such
-abbrev pub IsQuietStep : (caller : ℕ) → AtomicStep → Type 0
-IsQuietStep caller (At host event) = host ≡ caller → IsQuietOutcome (outcome_of_event event)
-IsQuietStep caller (Idles tick) = ⊤
+-- No frame was put or missed, and no frame's last piece was written back: nothing that sets TXDW, RXO or RXT0.
+abbrev pub IsQuietOutcome : (ends : Bool) → FrameOutcome → Type 0
+IsQuietOutcome ends (Put frame) = ⊥
+IsQuietOutcome ends Done = ends ≡ false
+IsQuietOutcome ends (Delivered frame Missed) = ⊥
+IsQuietOutcome ends outcome = ⊤
+
+-- The outcomes of events at an adapter are such, one after the other.
+abbrev pub AreQuietEvents : (ends : Bool) → List Event → Type 0
+AreQuietEvents ends [] = ⊤
+AreQuietEvents ends (event ∷ later) =
+    IsQuietOutcome ends (outcome_of_event event) × AreQuietEvents (ends_after ends (outcome_of_event event)) later
 
 -- At the caller one of the early steps did something.
 pub record DidSomething (caller : ℕ) (early : List AtomicStep) : Type 0 where
@@ -43,15 +54,16 @@ pub record DidSomething (caller : ℕ) (early : List AtomicStep) : Type 0 where
   pub something : outcome_of_event event ≢ Nothing
 
 -- NotMine: when the call began no cause was recorded that a driver handles, and no early step at the caller put a frame, missed one, or
--- wrote one back. Handled: such a cause was recorded then, or an early step at the caller did something.
-abbrev pub AnswersCauses : Handled → (caller recorded : ℕ) → (early : List AtomicStep) → Type 0
-AnswersCauses NotMine caller recorded early = (¬ (Meet recorded handled_causes)) × All (IsQuietStep caller) early
-AnswersCauses (answers.Handled taken) caller recorded early = Meet recorded handled_causes ⊎ DidSomething caller early
+-- wrote back the last piece of one. Handled: such a cause was recorded then, or an early step at the caller did something.
+abbrev pub AnswersCauses : Handled → (caller : ℕ) → AdapterState → (early : List AtomicStep) → Type 0
+AnswersCauses NotMine caller adapter early =
+    (¬ (Meet adapter.causes.recorded handled_causes)) × AreQuietEvents (is_ending adapter.receiver.work) (events_at caller early)
+AnswersCauses (answers.Handled taken) caller adapter early = Meet adapter.causes.recorded handled_causes ⊎ DidSomething caller early
 
--- ICR is read first. The answer follows from what was recorded when the call began, and from the steps before that read.
-pub record TellsCauses (caller : ℕ) (steps : List AtomicStep) (causes recorded : ℕ) (result : Handled) : Type 0 where
+-- ICR is read first. The answer follows from the caller's adapter as it was when the call began, and from the steps before that read.
+pub record TellsCauses (caller : ℕ) (steps : List AtomicStep) (causes : ℕ) (adapter : AdapterState) (result : Handled) : Type 0 where
   pub early : List AtomicStep
   pub first : ReadsIcrFirst caller steps early causes
   -- NotMine exactly if no cause that a driver handles was read
   pub not_mine : (result ≡ NotMine) ↔ (¬ (Meet causes handled_causes))
-  pub answer : AnswersCauses result caller recorded early
+  pub answer : AnswersCauses result caller adapter early

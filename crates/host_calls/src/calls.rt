@@ -1,7 +1,7 @@
 // Calls of one host, with the ticks inside them.
 
 ghost use Rattle.std.specs.Prelude.{◌≡◌, ◌≤◌, ◌<◌, length, IfOk};
-ghost use Rattle.driver.specs.HandlerSteps.{IsFrameSize};
+ghost use Rattle.driver.specs.Parts.{IsFrameSize};
 ghost use Rattle.stations.specs.Stations.{world_at};
 ghost use Rattle.packet_socket.specs.HostCalls.{HostReady};
 ghost use Rattle.host_calls.specs.ConnectedHosts.{connected, played_call};

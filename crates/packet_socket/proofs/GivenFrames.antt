@@ -1,31 +1,32 @@
 -- A host gives the oldest frame of a queue.
-use Rattle.std.proofs.Common.{Bool, true, false, cond, inl, inr, ◌≡◌, ◌≢◌, ◌++◌, ◌∷◌, [], ℕ, List, length, map}
+use Rattle.std.proofs.Common.{Bool, true, false, cond, inl, inr, ◌≡◌, ◌≢◌, ◌++◌, ◌∷◌, [], ℕ, List, map}
 use Rattle.std.proofs.Common.{refl, sym, ap, subst, ◌∙◌, arith}
 use Rattle.std.specs.Prelude.{◌==◌}
-use Rattle.std.specs.List.{All}
+use Rattle.std.specs.List.{All, flat_map}
 use Rattle.std.proofs.lemmas.Bool.Decides.{eqb_tells}
-use Rattle.std.proofs.lemmas.List.{append-nil, get_or-set_other, map-append}
+use Rattle.std.proofs.lemmas.Grind.{flat_map-append}
+use Rattle.std.proofs.lemmas.List.{append-nil, get_or-set_other}
+use Rattle.std.proofs.lemmas.Simd.{map-map}
 use Rattle.dma_memory.specs.Layout.{Counts}
 use Rattle.bus.proofs.Lists.{all-head, all-right, all-without}
 use Rattle.bus.specs.PastOfStretch.{Past, joined}
 use Rattle.bus.specs.declared.bus.Bus.{Ghosts}
 use Rattle.bus.specs.declared.event.Access.{Access}
-use Rattle.bus.specs.declared.event.Access.TheVariants.{Loads}
 use Rattle.driver_law.proofs.Accesses.{ran_by-join}
 use Rattle.driver_law.specs.Calls.{Ran, at, only, stores_from, tail_write}
-use Rattle.driver_law.specs.DriverState.{DriverState, HandedOut, buffer_at, holding, next_receive, with_owners}
+use Rattle.driver_law.specs.DriverState.{DriverState, HandedOut, frame_of, holding, next_receive, numbers_of, with_owners}
 use Rattle.driver_law.specs.ReadyDrivers.{ReadyWith, Stands}
 use Rattle.driver.specs.RefillSteps.{Refills}
-use Rattle.driver.specs.HandlerSteps.{AreFrames, IsFrameSize}
+use Rattle.driver.specs.Parts.{AreFrames, IsWholeFrame, buffers_in, part_loads, parts_of}
 use Rattle.driver.specs.declared.receiver.Received.{Received}
 use Rattle.packet_socket.specs.HostCalls.{Given, HostMoment, IsReadyHost, LeavesQueue, Receives, driver_at, driver_of, given_for}
-use Rattle.packet_socket.specs.HostCalls.{receive_accesses, waiting_entry, waiting_frame, waiting_frames}
+use Rattle.packet_socket.specs.HostCalls.{receive_accesses, waiting_frame, waiting_frames, waiting_piece, waiting_pieces}
 use Rattle.packet_socket.specs.HostState.{HostState, SocketsState, all_of, queue_at}
 use Rattle.packet_socket.specs.InsideHost.{host_with}
 use Rattle.packet_socket.specs.declared.socket_kind.SocketKind.{SocketKind}
 use Rattle.packet_socket.proofs.Accounts.{accounts}
 use Rattle.packet_socket.proofs.QueueParts.{Splits}
-use Rattle.packet_socket.proofs.WaitingFrames.{AreLong, AreSame, all-long, all-same, ends-as, queue-frames-same}
+use Rattle.packet_socket.proofs.WaitingFrames.{AreLong, AreSame, IsLong, all-long, all-same, ends-as, parts-waiting, queue-frames-same}
 use Rattle.packet_socket.proofs.Stretches.{ran-as}
 
 -- What is given, by sockets.
@@ -33,15 +34,14 @@ given-here : (socket : ℕ) (frame : List ℕ) (other : ℕ) (goes : Bool) → (
     → given_for other (record { socket = socket; frame = frame } ∷ []) ≡ cond goes (frame ∷ []) []
 given-here socket frame other goes is =
     let one : Given = record { socket = socket; frame = frame } in
-    let frame_of : Given → List ℕ = λ g. g.frame in
-    ap (λ (b : Bool). map frame_of (cond b (one ∷ []) [])) is ∙ by-cases goes
+    ap (λ (b : Bool). map (λ (g : Given). g.frame) (cond b (one ∷ []) [])) is ∙ by-cases goes
   where
     by-cases : (b : Bool)
         → map (λ (g : Given). g.frame) (cond b (record { socket = socket; frame = frame } ∷ []) []) ≡ cond b (frame ∷ []) []
     by-cases true = refl
     by-cases false = refl
 
--- What a call that gives back a buffer changes of its host.
+-- What a call that gives back buffers changes of its host.
 pub gives-others : (d d' : DriverState) (before after : SocketsState) → d' ≡ with_owners d d'.buffers [] d'.pool []
     → after.kinds ≡ before.kinds → after.unclaimed ≡ before.unclaimed
     → host_with d' after ≡ record (host_with d before) { driver = with_owners d d'.buffers [] d'.pool []; queues = after.queues }
@@ -57,13 +57,13 @@ pub host-receives : {up : Bool} {B : Type 0} (bus : Ghosts B)
     → ((a b c : B) (first later : Past) → bus.happened a b first → bus.happened b c later → bus.happened a c (joined first later))
     → (old new : HostMoment B) (b : B) (socket size : ℕ) (received : Received) (bytes : List ℕ) → IsReadyHost bus up old
     → Splits old.host.queues socket received (queue_at new.host.queues socket) → LeavesQueue old.host new.host socket size received
-    → Ran bus up (only (Loads (buffer_at old.host.driver.layout received.buffer) size ∷ [])) (driver_at bus old)
-    (at b (driver_at bus old).driver)
-    → ((first later : List HandedOut) (one : HandedOut) → ReadyWith up (holding (first ++ one ∷ later) old.host.driver) (bus.world old.bus)
-    → one.number ≡ received.buffer → length one.frame ≡ received.length → bytes ≡ one.frame)
-    → ((first later : List HandedOut) (one : HandedOut) → one.number ≡ received.buffer
-    → ReadyWith up (holding (first ++ one ∷ later) old.host.driver) (bus.world b)
-    → Refills bus up (at b (holding (first ++ one ∷ later) old.host.driver)) (at new.bus (holding (first ++ later) new.host.driver)))
+    → Ran bus up (only (part_loads old.host.driver.layout received.parts)) (driver_at bus old) (at b (driver_at bus old).driver)
+    → ((first pieces later : List HandedOut)
+    → ReadyWith up (holding (first ++ (pieces ++ later)) old.host.driver) (bus.world old.bus)
+    → parts_of pieces ≡ received.parts → bytes ≡ frame_of pieces)
+    → ((first pieces later : List HandedOut) → numbers_of pieces ≡ buffers_in received.parts
+    → ReadyWith up (holding (first ++ (pieces ++ later)) old.host.driver) (bus.world b)
+    → Refills bus up (at b (holding (first ++ (pieces ++ later)) old.host.driver)) (at new.bus (holding (first ++ later) new.host.driver)))
     → Receives bus (record { socket = socket; frame = bytes }) size up old new
 host-receives {up} bus joins old new b socket size received bytes is parts leaves reads shows gives =
     let a = old.bus in
@@ -75,24 +75,26 @@ host-receives {up} bus joins old new b socket size received bytes is parts leave
     let counts = h.driver.layout in
     let m = (bus.world a).memory in
     let mc = (bus.world c).memory in
-    let waiting : Received → HandedOut = waiting_entry counts m in
+    let waiting : Received → List HandedOut = waiting_pieces counts m in
     let frame : Received → List ℕ = waiting_frame counts m in
-    let first = map waiting parts.first in
-    let later = map waiting parts.last in
-    let one = waiting received in
+    let first = flat_map waiting parts.first in
+    let later = flat_map waiting parts.last in
+    let pieces = waiting received in
     let long : AreLong counts m (parts.first ++ received ∷ parts.last) = subst (AreLong counts m) parts.before
     (all-long h (bus.world a) host) in
-    let Long : Received → Type 0 = λ r. length (waiting_frame counts m r) ≡ r.length in
+    let Long : Received → Type 0 = λ r. All (IsLong counts m) r.parts in
     let whole : Long received = all-head Long received parts.last (all-right Long parts.first (received ∷ parts.last) long) in
-    let split : d ≡ holding (first ++ one ∷ later) h.driver =
-    ap (λ (list : List HandedOut). holding list h.driver) (ap (map waiting) parts.before
-    ∙ map-append waiting parts.first (received ∷ parts.last)) in
-    let d2 = holding (first ++ one ∷ later) h.driver in
+    let split : d ≡ holding (first ++ (pieces ++ later)) h.driver =
+    ap (λ (list : List HandedOut). holding list h.driver) (ap (flat_map waiting) parts.before
+    ∙ flat_map-append waiting parts.first (received ∷ parts.last)) in
+    let d2 = holding (first ++ (pieces ++ later)) h.driver in
     let ready : ReadyWith up d2 (bus.world a) = subst (λ (s : DriverState). ReadyWith up s (bus.world a)) split host.ready in
-    let loads : List Access = Loads (buffer_at counts received.buffer) size ∷ [] in
+    let loads : List Access = part_loads counts received.parts in
     let reads2 : Ran bus up (only loads) (at a d2) (at b d2) = subst
     (λ (s : DriverState). Ran bus up (only loads) (at a s) (at b s)) split reads in
-    let refills = gives first later one refl reads2.goes.flows.ready in
+    let numbers : numbers_of pieces ≡ buffers_in received.parts =
+    map-map (λ (one : HandedOut). one.number) (waiting_piece counts m) received.parts in
+    let refills = gives first pieces later numbers reads2.goes.flows.ready in
     let e = holding (first ++ later) h'.driver in
     let stores : List Access = stores_from counts (next_receive h.driver) refills.numbers
     ++ tail_write (next_receive h'.driver) (h.driver.staged ++ refills.numbers) in
@@ -103,18 +105,18 @@ host-receives {up} bus joins old new b socket size received bytes is parts leave
     let size_is : h'.driver.layout ≡ counts = from.goes.flows.layout in
     let left = parts.first ++ parts.last in
     let all : all_of h'.queues ≡ left = ap all_of leaves.others ∙ parts.behind in
-    let stand : All (Stands counts mc) (map waiting left) =
-    subst (λ (k : Counts). All (Stands k mc) (map waiting left)) size_is
+    let stand : All (Stands counts mc) (flat_map waiting left) =
+    subst (λ (k : Counts). All (Stands k mc) (flat_map waiting left)) size_is
     (subst (λ (list : List HandedOut). All (Stands h'.driver.layout mc) list)
-    (sym (map-append waiting parts.first parts.last)) from.goes.flows.ready.stand) in
+    (sym (flat_map-append waiting parts.first parts.last)) from.goes.flows.ready.stand) in
     let same : AreSame counts m mc left = all-same counts m mc left (all-without Long parts.first received parts.last long) stand in
     let end : e ≡ driver_of h' (bus.world c) =
     sym (ends-as h' (bus.world c) counts m left all size_is same
-    ∙ ap (λ (list : List HandedOut). holding list h'.driver) (map-append waiting parts.first parts.last)) in
+    ∙ ap (λ (list : List HandedOut). holding list h'.driver) (flat_map-append waiting parts.first parts.last)) in
     let queue_frames : (s : ℕ) → waiting_frames h' s (bus.world c) ≡ map frame (queue_at h'.queues s) = λ s.
     ap (λ (k : Counts). map (waiting_frame k mc) (queue_at h'.queues s)) size_is
     ∙ queue-frames-same counts m mc h'.queues (subst (AreSame counts m mc) (sym all) same) s in
-    let shown : bytes ≡ frame received = shows first later one ready refl whole in
+    let shown : bytes ≡ frame received = shows first pieces later ready (parts-waiting counts m received.parts whole) in
     let front : waiting_frames h socket (bus.world a) ≡ bytes ∷ waiting_frames h' socket (bus.world c) =
     ap (map frame) leaves.oldest
     ∙ ap (λ (list : List (List ℕ)). frame received ∷ list) (sym (queue_frames socket))
@@ -143,9 +145,8 @@ host-receives {up} bus joins old new b socket size received bytes is parts leave
       newest = refills.offered;
       ran = record {
         sizes = subst AreFrames (sym all)
-            (all-without (λ (r : Received). IsFrameSize r.length) parts.first received parts.last
-            (subst AreFrames parts.before host.sizes));
-        ran = ran-as bus (loads ++ stores) (receive_accesses h.driver h'.driver received.buffer size refills.numbers)
+            (all-without IsWholeFrame parts.first received parts.last (subst AreFrames parts.before host.sizes));
+        ran = ran-as bus (loads ++ stores) (receive_accesses h.driver h'.driver received.parts refills.numbers)
             a c d e (driver_of h' (bus.world c)) [] [] refl end from;
         accounts =
             accounts h (bus.world a) h' (bus.world c) given [] from.past.stored leaves.kinds from.goes.flows.holds moved

@@ -1,39 +1,40 @@
 -- A host handles an interrupt.
-use Rattle.std.proofs.Common.{Bool, ◌≡◌, ◌≤◌, ◌+◌, ◌++◌, ◌∷◌, [], ℕ, List, length, map, refl, sym, ap, subst, ◌∙◌}
+use Rattle.std.proofs.Common.{Bool, ◌≡◌, ◌≤◌, ◌+◌, ◌++◌, [], ℕ, List, length, map, refl, sym, ap, subst, ◌∙◌}
 use Rattle.std.proofs.Common.{length-append, arith}
-use Rattle.std.specs.List.{All, slice_index_or}
+use Rattle.std.specs.List.{All, flat_map, slice_index_or}
 use Rattle.std.proofs.lemmas.List.{length-map, map-append}
 use Rattle.std.proofs.lemmas.List.Elements.{All-append, All-map}
 use Rattle.std.proofs.lemmas.List.Sorted.{All-permutation}
-use Rattle.dma_memory.specs.HostMemory.{bytes_at}
 use Rattle.dma_memory.specs.Layout.{Counts}
-use Rattle.dma_memory.specs.Owners.{HasNoSecondOwner, copies}
+use Rattle.dma_memory.specs.Owners.{copies}
 use Rattle.dma_memory.specs.OwnersLaws.{copies-append, length-no_second}
 use Rattle.adapter.specs.World.{World}
 use Rattle.bus.proofs.Lists.{all-left, all-right}
 use Rattle.bus.specs.PastOfStretch.{joined}
-use Rattle.driver_law.proofs.Owners.{owners-count}
 use Rattle.driver_law.proofs.TakenSlots.{buffers_can_come_back}
 use Rattle.bus.specs.declared.bus.Bus.{Ghosts}
 use Rattle.driver_law.specs.Calls.{FlowsTo, at, driver_did, driver_in}
-use Rattle.driver_law.specs.DriverState.{DriverState, HandedOut, buffer_at, holding, numbers_of}
+use Rattle.driver_law.specs.DriverState.{DriverState, HandedOut, frame_of, holding, numbers_of, owners}
 use Rattle.driver_law.specs.ReadyDrivers.{ReadyWith, Stands}
-use Rattle.driver.specs.HandlerSteps.{Asked, DoesNothing, GrowsBy, Handles, HandlesIt, IfHandled, IfNotMine, IsPart, Scene, buffers_of}
-use Rattle.driver.specs.HandlerSteps.{frames_of, held_in, received_of}
+use Rattle.driver.specs.HandlerSteps.{Asked, DoesNothing, GrowsBy, Handles, HandlesIt, IfHandled, IfNotMine, IsPart, Scene, Serves}
+use Rattle.driver.specs.HandlerSteps.{held_in}
+use Rattle.driver.specs.Parts.{buffers_of, frames_of, pieces_of, received_of}
 use Rattle.driver.specs.declared.interrupt.Handled.{Handled}
 use Rattle.driver.specs.declared.interrupt.Handled.TheVariants.{NotMine}
 use Rattle.driver.specs.declared.interrupt.Handled.TheVariants as answers
 use Rattle.driver.specs.declared.receiver.Received.{Received}
 use Rattle.packet_socket.specs.HostCalls.{HostDoesNothing, HostHandles, HostHandlesIt, HostMoment, HostReadyWith, IsReadyHost, Queues}
-use Rattle.packet_socket.specs.HostCalls.{driver_at, driver_of, socket_entries, host_at, socket_frames, waiting_entry, waiting_frame}
-use Rattle.packet_socket.specs.HostCalls.{waiting_frames, without_socket}
+use Rattle.packet_socket.specs.HostCalls.{driver_at, driver_of, socket_entries, host_at, socket_frames, waiting_frame, waiting_frames}
+use Rattle.packet_socket.specs.HostCalls.{waiting_pieces, without_socket}
 use Rattle.packet_socket.specs.HostState.{HostState, SocketsState, all_of, queue_at}
 use Rattle.packet_socket.specs.InsideHost.{IsHost, host_with}
 use Rattle.packet_socket.specs.Sorting.{Sorts}
 use Rattle.packet_socket.proofs.Accounts.{accounts}
-use Rattle.packet_socket.proofs.ShownFrames.{queue-frames, received-numbers, unclaimed-frames}
+use Rattle.packet_socket.proofs.ShownFrames.{part-length, queue-frames, unclaimed-frames}
 use Rattle.packet_socket.proofs.ConsistentHosts.{kept-copies}
-use Rattle.packet_socket.proofs.WaitingFrames.{AreLong, AreSame, all-long, queue-frames-same}
+use Rattle.packet_socket.proofs.QueuedPieces.{all-joined, all-pieces, entries-fit, received-numbers, waiting-numbers}
+use Rattle.packet_socket.proofs.WaitingFrames.{AreLong, AreSame, IsLong, all-long, all-long-after, queue-frames-same, read-long}
+use Rattle.packet_socket.proofs.WaitingFrames.{read-pieces, read-stands}
 use Rattle.packet_socket.proofs.Stretches.{accounts-stay, driver-stays, flows-hold, goes-hold, queues-stand}
 
 -- a host's moment, of its driver and its sockets
@@ -68,100 +69,94 @@ leaves {up} {B} bus old new asked is it =
       };
     }
 
-waiting-numbers : (counts : Counts) (memory : List ℕ) (list : List Received)
-    → numbers_of (map (waiting_entry counts memory) list) ≡ buffers_of list
-waiting-numbers counts memory [] = refl
-waiting-numbers counts memory (received ∷ later) = ap (λ (numbers : List ℕ). received.buffer ∷ numbers)
-    (waiting-numbers counts memory later)
-
--- There is room for all that it hands out.
-has-room : {up : Bool} (d : DriverState) (b : World) → ReadyWith up d b → length d.handed_out ≤ d.layout.buffers
-has-room d b ready =
-    let number : HandedOut → ℕ = λ one. one.number in
-    let once : HasNoSecondOwner d.layout.buffers (numbers_of d.handed_out) = λ k. omega
-    (arith, ready.driver_is.one_owner k, owners-count k d) in
-    omega (arith, length-no_second d.layout.buffers (numbers_of d.handed_out) once, length-map d.handed_out number)
-
--- An entry of a queue, read from memory, stands there.
-stands-there : (counts : Counts) (memory : List ℕ) (received : Received) → length (waiting_frame counts memory received) ≡ received.length
-    → received.length ≤ 1518 → Stands counts memory (waiting_entry counts memory received)
-stands-there counts memory received long short = record {
-  bytes = ap (λ (n : ℕ). bytes_at memory (buffer_at counts received.buffer) n) long;
-  short = omega (arith, long, short);
-}
+-- There is room for as many frames as there were outstanding slots.
+has-room : (driver : DriverState) (before : SocketsState) (n : ℕ) → IsHost driver before → n ≤ length driver.buffers
+    → length (all_of before.queues) + n ≤ before.room
+has-room driver before n host few =
+    let waiting = buffers_of (all_of before.queues) in
+    let rest = driver.staged ++ numbers_of driver.handed_out in
+    omega (
+      arith,
+      few,
+      host.room,
+      length-no_second driver.layout.buffers (owners driver ++ waiting) host.owners,
+      length-append (owners driver) waiting,
+      length-append driver.pool (driver.buffers ++ rest),
+      length-append driver.buffers rest,
+      entries-fit (all_of before.queues) host.sizes,
+    )
 
 -- After the driver's work, the queues have what it handed out, and the driver is ready with that.
 pub record Sorted (up : Bool) (driver driver' : DriverState) (before after : SocketsState) (a b : World)
-    (taken handed_out : List HandedOut) : Type 0 where
-  pub queues : Queues before.kinds before.queues after.queues (map received_of handed_out)
+    (taken kept : List (List HandedOut)) : Type 0 where
+  pub queues : Queues before.kinds before.queues after.queues (map received_of kept)
   pub ready : ReadyWith up (driver_of (host_with driver' after) b) b
   pub frames : (socket : ℕ)
       → waiting_frames (host_with driver' after) socket b ≡ waiting_frames (host_with driver before) socket a
       ++ socket_frames before.kinds socket (frames_of taken)
 
-pub sorted : {up : Bool} (driver driver' : DriverState) (before after : SocketsState) (a b : World) (taken handed_out : List HandedOut)
+pub sorted : {up : Bool} (driver driver' : DriverState) (before after : SocketsState) (a b : World) (taken kept : List (List HandedOut))
     → IsHost driver before → IsHost driver' after
     → HostReadyWith up (host_with driver before) a → driver'.layout ≡ driver.layout
-    → ReadyWith up (holding ((driver_of (host_with driver before) a).handed_out ++ handed_out) driver') b → IsPart handed_out taken
-    → Sorts before after (map received_of taken) (map received_of handed_out) → Sorted up driver driver' before after a b taken handed_out
-sorted {up} driver driver' before after a b taken handed_out sound sound' host counts ready part shown =
+    → ReadyWith up (holding ((driver_of (host_with driver before) a).handed_out ++ pieces_of kept) driver') b → IsPart kept taken
+    → length taken ≤ length driver.buffers
+    → Sorts before after (map received_of taken) (map received_of kept) → Sorted up driver driver' before after a b taken kept
+sorted {up} driver driver' before after a b taken kept sound sound' host counts ready part few shown =
     let h = host_with driver before in
     let h' = host_with driver' after in
     let held = (driver_of h a).handed_out in
-    let last = holding (held ++ handed_out) driver' in
+    let pieces = pieces_of kept in
+    let last = holding (held ++ pieces) driver' in
     let old = a.memory in
     let new = b.memory in
-    let kept = map received_of handed_out in
+    let entries = map received_of kept in
     let waits = all_of before.queues in
     let P = Stands driver'.layout new in
     let frame : Received → List ℕ = waiting_frame driver'.layout new in
     let number : HandedOut → ℕ = λ one. one.number in
-    let same : AreSame driver.layout old new waits = queues-stand h driver' a b host counts (all-left P held handed_out ready.stand) in
-    let outs : All (λ (one : HandedOut). frame (received_of one) ≡ one.frame) handed_out = λ k one below.
-    (all-right P held handed_out ready.stand k one below).bytes in
-    let fits : length waits + length kept ≤ before.room =
+    let same : AreSame driver.layout old new waits = queues-stand h driver' a b host counts (all-left P held pieces ready.stand) in
+    let each = all-pieces P (λ (one : List HandedOut). one) kept (all-right P held pieces ready.stand) in
+    let outs : All (λ (one : List HandedOut). frame (received_of one) ≡ frame_of one) kept = λ k one below.
+    ap frame_of (read-pieces driver'.layout new (slice_index_or kept k one) (each k one below)) in
+    let numbers : (k : ℕ) → copies k (numbers_of (held ++ pieces)) ≡ copies k (buffers_of waits) + copies k (buffers_of entries) = λ k.
     omega (
       arith,
-      has-room last b ready,
-      length-append held handed_out,
-      length-map waits (waiting_entry driver.layout old),
-      length-map handed_out received_of,
-      sound.room,
-      ap (λ (c : Counts). c.buffers) counts,
+      ap (copies k) (received-numbers kept),
+      ap (copies k) (waiting-numbers driver.layout old waits),
+      ap (copies k) (map-append number held pieces),
+      copies-append k (numbers_of held) (numbers_of pieces),
     ) in
+    let fits = has-room driver before (length entries) sound (omega (arith, length-map kept received_of, part-length part, few)) in
     let queues = shown.queues fits in
-    let list = map (waiting_entry driver'.layout new) (all_of after.queues) in
+    let list = flat_map (waiting_pieces driver'.layout new) (all_of after.queues) in
     let moves : (k : ℕ) → copies k driver'.pool + copies k (numbers_of list)
-    ≡ copies k driver'.pool + copies k (numbers_of (held ++ handed_out)) = λ k.
+    ≡ copies k driver'.pool + copies k (numbers_of (held ++ pieces)) = λ k.
     omega (
       arith,
       ap (copies k) (waiting-numbers driver'.layout new (all_of after.queues)),
-      kept-copies k before.kinds before.queues after.queues kept queues,
-      ap (copies k) (received-numbers handed_out),
-      ap (copies k) (waiting-numbers driver.layout old waits),
-      ap (copies k) (map-append number held handed_out),
-      copies-append k (numbers_of held) (numbers_of handed_out),
+      kept-copies k before.kinds before.queues after.queues entries queues,
+      numbers k,
     ) in
-    let Long : Received → Type 0 = λ r. length (waiting_frame driver'.layout new r) ≡ r.length in
+    let Long : Received → Type 0 = λ r. All (IsLong driver'.layout new) r.parts in
     let long_before : AreLong driver'.layout new waits = subst (λ (c : Counts). AreLong c new waits) (sym counts)
-    (λ k r below. ap length (same k r below) ∙ all-long h a host k r below) in
-    let long_kept : All Long kept = All-map Long received_of handed_out (λ k one below. ap length (outs k one below)) in
-    let long : All Long (all_of after.queues) = All-permutation Long (waits ++ kept) (all_of after.queues) queues.all
-    (All-append Long waits kept long_before long_kept) in
-    let stand : All P list = All-map P (waiting_entry driver'.layout new) (all_of after.queues)
-    (λ k r below. stands-there driver'.layout new (slice_index_or (all_of after.queues) k r) (long k r below) (sound'.sizes k r below).most)
-    in
+    (all-long-after driver.layout old new waits (all-long h a host) same) in
+    let long_kept : All Long entries = All-map Long received_of kept
+    (λ k one below. read-long driver'.layout new (slice_index_or kept k one) (each k one below)) in
+    let long : All Long (all_of after.queues) = All-permutation Long (waits ++ entries) (all_of after.queues) queues.all
+    (All-append Long waits entries long_before long_kept) in
+    let stand : All P list = all-joined P (waiting_pieces driver'.layout new) (all_of after.queues)
+    (λ k r below. read-stands driver'.layout new (slice_index_or (all_of after.queues) k r) (long k r below) (sound'.sizes k r below)) in
     record {
       queues = queues;
       ready = (buffers_can_come_back up last driver'.pool list b ready moves stand).flows.ready;
       frames = λ socket.
           ap (map frame) (queues.ends socket)
-          ∙ map-append frame (queue_at before.queues socket) (socket_entries before.kinds socket kept)
-          ∙ ap (λ (front : List (List ℕ)). front ++ map frame (socket_entries before.kinds socket kept))
+          ∙ map-append frame (queue_at before.queues socket) (socket_entries before.kinds socket entries)
+          ∙ ap (λ (front : List (List ℕ)). front ++ map frame (socket_entries before.kinds socket entries))
           (ap (λ (c : Counts). map (waiting_frame c new) (queue_at before.queues socket)) counts
           ∙ queue-frames-same driver.layout old new before.queues same socket)
           ∙ ap (λ (behind : List (List ℕ)). waiting_frames h socket a ++ behind)
-          (queue-frames before.kinds socket frame handed_out taken part shown.claimed outs);
+          (queue-frames before.kinds socket frame kept taken part shown.claimed outs);
     }
 
 -- It does its work.
@@ -170,8 +165,9 @@ works : {up : Bool} {B : Type 0} (bus : Ghosts B) (old new : Scene B SocketsStat
     → (asked : Asked bus up (driver_at bus (host_in old)))
     → HandlesIt bus (record { took = Sorts }) n (held_in (driver_at bus (host_in old)).driver.handed_out old)
     (held_in (driver_at bus (host_in old)).driver.handed_out new) asked
+    → Serves (record { took = Sorts }) old.receiver new.receiver old.driver new.driver n
     → HostHandlesIt bus n (host_in old) (host_in new) asked
-works {up} bus old new n sound sound' is asked it =
+works {up} bus old new n sound sound' is asked it serves =
     let before = old.receiver in
     let after = new.receiver in
     let driver' = new.driver in
@@ -182,11 +178,13 @@ works {up} bus old new n sound sound' is asked it =
     let d = driver_of h a in
     let e = holding d.handed_out driver' in
     let w = it.works in
-    let last = holding (d.handed_out ++ w.handed_out) e in
+    let last = holding (d.handed_out ++ pieces_of w.kept) e in
     let frames = frames_of w.taken in
     let past = joined asked.reads.past w.ran.past in
-    let all = sorted old.driver driver' before after a b w.taken w.handed_out sound sound' is.ready it.flows.layout
-    w.ran.goes.flows.ready w.part w.shown in
+    let count : serves.takes.slots + length serves.between.buffers ≡ length old.driver.buffers = serves.takes.count in
+    let few : length w.taken ≤ length old.driver.buffers = omega (arith, w.count, serves.takes.least, count) in
+    let all = sorted old.driver driver' before after a b w.taken w.kept sound sound' is.ready it.flows.layout
+    w.ran.goes.flows.ready w.part few w.shown in
     let list = (driver_of h' b).handed_out in
     let grows : GrowsBy before.unclaimed after.unclaimed (without_socket before.kinds frames) = subst
     (GrowsBy before.unclaimed after.unclaimed) (unclaimed-frames before.kinds w.taken) w.shown.unclaimed in
@@ -195,6 +193,7 @@ works {up} bus old new n sound sound' is asked it =
       works = record {
         taken = w.taken;
         count = w.count;
+        groups = w.groups;
         misses = record { misses = w.misses.misses; missed = w.misses.missed; exact = w.misses.exact };
         served = record {
           rest = w.served.rest;
@@ -203,6 +202,8 @@ works {up} bus old new n sound sound' is asked it =
           newest = w.served.newest;
           no_bad = w.served.no_bad;
         };
+        loads = w.loads;
+        look = w.look;
         sorted = record {
           kinds = w.shown.kinds;
           queues = subst (Queues before.kinds before.queues after.queues) w.shown.claimed all.queues;
@@ -228,10 +229,11 @@ works {up} bus old new n sound sound' is asked it =
 pub host-handles : {up : Bool} {B : Type 0} (bus : Ghosts B) (old new : Scene B SocketsState) (result : Handled)
     → IsHost old.driver old.receiver → IsHost new.driver new.receiver → IsReadyHost bus up (host_in old)
     → IfNotMine result ((new.driver ≡ old.driver) × (new.receiver ≡ old.receiver))
+    → IfHandled result (Serves (record { took = Sorts }) old.receiver new.receiver old.driver new.driver)
     → Handles bus (record { took = Sorts }) result up (held_in (driver_at bus (host_in old)).driver.handed_out old)
     (held_in (driver_at bus (host_in old)).driver.handed_out new)
     → HostHandles bus result up (host_in old) (host_in new)
-host-handles {up} {B} bus old new NotMine sound sound' is stays it =
+host-handles {up} {B} bus old new NotMine sound sound' is stays serves it =
     let d = (driver_at bus (host_in old)).driver in
     let same : host_with new.driver new.receiver ≡ (host_in old).host = ap (λ (s : DriverState). host_with s new.receiver) stays.0
     ∙ ap (host_with old.driver) stays.1 in
@@ -243,12 +245,12 @@ host-handles {up} {B} bus old new NotMine sound sound' is stays it =
       then_does = subst (λ (end : HostState). HostDoesNothing bus (host_in old) (host_at new.bus end) it.asked) (sym same)
           (leaves bus (host_in old) new.bus it.asked is left);
     }
-host-handles {up} {B} bus old new (answers.Handled taken) sound sound' is stays it = record {
+host-handles {up} {B} bus old new (answers.Handled taken) sound sound' is stays serves it = record {
   asked = it.asked;
-  then_does = works bus old new taken sound sound' is it.asked it.then_does;
+  then_does = works bus old new taken sound sound' is it.asked it.then_does serves;
 }
 
--- What holds if slots were taken says less, too.
+-- What holds if frames were taken says less, too.
 pub taken-less : (result : Handled) (P Q : ℕ → Type 0) → ((n : ℕ) → P n → Q n) → IfHandled result P → IfHandled result Q
 taken-less NotMine P Q less holds = tt
 taken-less (answers.Handled taken) P Q less holds = less taken holds

@@ -1,5 +1,6 @@
 pub mod InsideQueues
 pub mod QueueParts
+pub mod QueuedPieces
 pub mod ConsistentHosts
 pub mod WaitingFrames
 pub mod Accounts

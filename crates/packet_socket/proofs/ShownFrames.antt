@@ -8,22 +8,29 @@ use Rattle.std.proofs.lemmas.List.Elements.{filter_passes}
 use Rattle.std.proofs.lemmas.List.Sums.{sum_by-cons}
 use Rattle.rx_engine.specs.Addresses.{ether_type}
 use Rattle.bus.proofs.Lists.{all-head, all-tail, all-unmapped}
-use Rattle.driver_law.specs.DriverState.{HandedOut, numbers_of}
-use Rattle.driver.specs.HandlerSteps.{IsPart, buffers_of, frames_of, part_none, part_with, part_without, received_of}
+use Rattle.driver_law.specs.DriverState.{HandedOut, frame_of}
+use Rattle.driver.specs.HandlerSteps.{IsPart, part_none, part_with, part_without}
+use Rattle.driver.specs.Parts.{frames_of, received_of}
 use Rattle.driver.specs.declared.receiver.Received.{Received}
 use Rattle.packet_socket.specs.HostCalls.{claimed_of, socket_entries, socket_frames, unclaimed_of, without_socket}
 use Rattle.packet_socket.specs.SocketKinds.{goes_to, has_none, has_socket, is_at, socket_of}
 use Rattle.packet_socket.specs.declared.socket_kind.SocketKind.{SocketKind}
 
 -- whether a frame that was taken has a socket, and whether it is this one
-abbrev pub has : List SocketKind → HandedOut → Bool
-has kinds one = has_socket kinds (ether_type one.frame)
+abbrev pub has : List SocketKind → List HandedOut → Bool
+has kinds one = has_socket kinds (ether_type (frame_of one))
 
-abbrev pub goes : List SocketKind → ℕ → HandedOut → Bool
-goes kinds socket one = goes_to kinds socket (ether_type one.frame)
+abbrev pub goes : List SocketKind → ℕ → List HandedOut → Bool
+goes kinds socket one = goes_to kinds socket (ether_type (frame_of one))
+
+-- Some of a list are no more than all of it.
+pub part-length : {some all : List (List HandedOut)} → IsPart some all → length some ≤ length all
+part-length part_none = omega arith
+part-length (part_with rest) = let later = part-length rest in omega (arith, later)
+part-length (part_without rest) = let later = part-length rest in omega (arith, later)
 
 -- Some of a list, all of which pass a test, are no more than those that do.
-part-count : {some all : List HandedOut} (p : HandedOut → Bool) → IsPart some all → All (λ one. p one ≡ true) some
+part-count : {some all : List (List HandedOut)} (p : List HandedOut → Bool) → IsPart some all → All (λ one. p one ≡ true) some
     → length some ≤ length (filter p all)
 part-count p part_none passes = omega arith
 part-count p (part_with {one = one} {some = some} {all = all} rest) passes =
@@ -38,8 +45,8 @@ part-count p (part_without {one = one} {some = some} {all = all} rest) passes =
     at true later = omega (arith, later)
     at false later = later
 
--- So they are those that do, where there are as many.
-part-is : {some all : List HandedOut} (p : HandedOut → Bool) → IsPart some all → All (λ one. p one ≡ true) some
+-- So they are those that do, if there are as many.
+part-is : {some all : List (List HandedOut)} (p : List HandedOut → Bool) → IsPart some all → All (λ one. p one ≡ true) some
     → length some ≡ length (filter p all) → some ≡ filter p all
 part-is p part_none passes many = refl
 part-is p (part_with {one = one} {some = some} {all = all} rest) passes many =
@@ -47,7 +54,7 @@ part-is p (part_with {one = one} {some = some} {all = all} rest) passes many =
     let taken : cond (p one) (one ∷ filter p all) (filter p all)
     ≡ one ∷ filter p all = ap (λ (b : Bool). cond b (one ∷ filter p all) (filter p all)) first in
     let later = part-is p rest (all-tail (λ x. p x ≡ true) one some passes) (omega (arith, many, ap length taken)) in
-    ap (λ (list : List HandedOut). one ∷ list) later ∙ sym taken
+    ap (λ (list : List (List HandedOut)). one ∷ list) later ∙ sym taken
 part-is p (part_without {one = one} {some = some} {all = all} rest) passes many =
     at (p one) (part-count p rest passes) (λ same. part-is p rest passes same) many
   where
@@ -79,61 +86,60 @@ filter-stronger p q so (x ∷ xs) = at (q x) refl (filter-stronger p q so xs)
     at false is rest = rest ∙ ap (λ (b : Bool). cond b (x ∷ filter p xs) (filter p xs)) (sym (so x is))
 
 -- Those that the sockets keep are those of them that have one.
-pub handed-out-is : (kinds : List SocketKind) (handed_out taken : List HandedOut) → IsPart handed_out taken
-    → map received_of handed_out ≡ claimed_of kinds (map received_of taken)
-    → handed_out ≡ filter (has kinds) taken
-handed-out-is kinds handed_out taken part is =
+pub kept-is : (kinds : List SocketKind) (kept taken : List (List HandedOut)) → IsPart kept taken
+    → map received_of kept ≡ claimed_of kinds (map received_of taken)
+    → kept ≡ filter (has kinds) taken
+kept-is kinds kept taken part is =
     let test : Received → Bool = λ r. has_socket kinds r.ether_type in
-    let passes : All (λ (one : HandedOut). has kinds one ≡ true) handed_out =
-    all-unmapped (λ (r : Received). test r ≡ true) received_of handed_out
+    let passes : All (λ (one : List HandedOut). has kinds one ≡ true) kept =
+    all-unmapped (λ (r : Received). test r ≡ true) received_of kept
     (subst (All (λ (r : Received). test r ≡ true)) (sym is) (filter_passes test (map received_of taken))) in
     part-is (has kinds) part passes
     (omega (
       arith,
-      length-map handed_out received_of,
+      length-map kept received_of,
       ap length is,
       ap length (filter-mapped received_of test taken),
       length-map (filter (has kinds) taken) received_of,
     ))
 
 -- Their frames, by sockets.
-kept-frames : (kinds : List SocketKind) (socket : ℕ) (frame : Received → List ℕ) (handed_out : List HandedOut)
-    → All (λ (one : HandedOut). frame (received_of one) ≡ one.frame) handed_out
-    → map frame (socket_entries kinds socket (map received_of handed_out)) ≡ frames_of (filter (goes kinds socket) handed_out)
+kept-frames : (kinds : List SocketKind) (socket : ℕ) (frame : Received → List ℕ) (kept : List (List HandedOut))
+    → All (λ (one : List HandedOut). frame (received_of one) ≡ frame_of one) kept
+    → map frame (socket_entries kinds socket (map received_of kept)) ≡ frames_of (filter (goes kinds socket) kept)
 kept-frames kinds socket frame [] same = refl
 kept-frames kinds socket frame (one ∷ later) same =
-    at (goes kinds socket one) (all-head (λ (x : HandedOut). frame (received_of x) ≡ x.frame) one later same)
-    (kept-frames kinds socket frame later (all-tail (λ (x : HandedOut). frame (received_of x) ≡ x.frame) one later same))
+    at (goes kinds socket one) (all-head (λ (x : List HandedOut). frame (received_of x) ≡ frame_of x) one later same)
+    (kept-frames kinds socket frame later (all-tail (λ (x : List HandedOut). frame (received_of x) ≡ frame_of x) one later same))
   where
-    at : (b : Bool) → frame (received_of one) ≡ one.frame
+    at : (b : Bool) → frame (received_of one) ≡ frame_of one
         → map frame (socket_entries kinds socket (map received_of later)) ≡ frames_of (filter (goes kinds socket) later)
         → map frame (cond b (received_of one ∷ socket_entries kinds socket (map received_of later))
         (socket_entries kinds socket (map received_of later)))
         ≡ frames_of (cond b (one ∷ filter (goes kinds socket) later) (filter (goes kinds socket) later))
     at true first rest =
         ap (λ (bytes : List ℕ). bytes ∷ map frame (socket_entries kinds socket (map received_of later))) first
-        ∙ ap (λ (list : List (List ℕ)). one.frame ∷ list) rest
+        ∙ ap (λ (list : List (List ℕ)). frame_of one ∷ list) rest
     at false first rest = rest
 
 no-socket : (socket : ℕ) (place : Option ℕ) → is_some place ≡ false → is_at socket place ≡ false
 no-socket socket None none = refl
 no-socket socket (Some place) none = absurd (cc (none))
 
-pub queue-frames : (kinds : List SocketKind) (socket : ℕ) (frame : Received → List ℕ) (handed_out taken : List HandedOut)
-    → IsPart handed_out taken
-    → map received_of handed_out ≡ claimed_of kinds (map received_of taken)
-    → All (λ (one : HandedOut). frame (received_of one) ≡ one.frame) handed_out
-    → map frame (socket_entries kinds socket (map received_of handed_out)) ≡ socket_frames kinds socket (frames_of taken)
-queue-frames kinds socket frame handed_out taken part is same =
-    let frame_of : HandedOut → List ℕ = λ one. one.frame in
-    kept-frames kinds socket frame handed_out same
-    ∙ ap (λ (list : List HandedOut). frames_of (filter (goes kinds socket) list)) (handed-out-is kinds handed_out taken part is)
+pub queue-frames : (kinds : List SocketKind) (socket : ℕ) (frame : Received → List ℕ) (kept taken : List (List HandedOut))
+    → IsPart kept taken
+    → map received_of kept ≡ claimed_of kinds (map received_of taken)
+    → All (λ (one : List HandedOut). frame (received_of one) ≡ frame_of one) kept
+    → map frame (socket_entries kinds socket (map received_of kept)) ≡ socket_frames kinds socket (frames_of taken)
+queue-frames kinds socket frame kept taken part is same =
+    kept-frames kinds socket frame kept same
+    ∙ ap (λ (list : List (List HandedOut)). frames_of (filter (goes kinds socket) list)) (kept-is kinds kept taken part is)
     ∙ ap frames_of (filter-stronger (goes kinds socket) (has kinds)
-    (λ one none. no-socket socket (socket_of kinds (ether_type one.frame)) none) taken)
+    (λ one none. no-socket socket (socket_of kinds (ether_type (frame_of one))) none) taken)
     ∙ sym (filter-mapped frame_of (λ (f : List ℕ). goes_to kinds socket (ether_type f)) taken)
 
 -- How many have no socket.
-pub unclaimed-frames : (kinds : List SocketKind) (taken : List HandedOut)
+pub unclaimed-frames : (kinds : List SocketKind) (taken : List (List HandedOut))
     → unclaimed_of kinds (map received_of taken) ≡ without_socket kinds (frames_of taken)
 unclaimed-frames kinds [] = refl
 unclaimed-frames kinds (one ∷ later) =
@@ -141,10 +147,5 @@ unclaimed-frames kinds (one ∷ later) =
       arith,
       unclaimed-frames kinds later,
       sum_by-cons (λ (r : Received). cond (has_none kinds r.ether_type) 1 0) (received_of one) (map received_of later),
-      sum_by-cons (λ (f : List ℕ). cond (has_none kinds (ether_type f)) 1 0) one.frame (frames_of later),
+      sum_by-cons (λ (f : List ℕ). cond (has_none kinds (ether_type f)) 1 0) (frame_of one) (frames_of later),
     )
-
--- Their numbers.
-pub received-numbers : (list : List HandedOut) → buffers_of (map received_of list) ≡ numbers_of list
-received-numbers [] = refl
-received-numbers (one ∷ later) = ap (λ (numbers : List ℕ). one.number ∷ numbers) (received-numbers later)

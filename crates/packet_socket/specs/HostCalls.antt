@@ -1,6 +1,6 @@
 -- What a host holds for its sockets, and what it does in its calls (our choice).
-use Rattle.std.specs.Prelude.{⊤, ◌≡◌, ◌==◌, ◌≤◌, ◌<◌, ◌+◌, ◌-◌, ◌^◌, ◌++◌, ◌∷◌, ℕ, Bool, true, List, [], Result, Ok, Err, count_by, drop}
-use Rattle.std.specs.Prelude.{filter, length, map, slice_set, take}
+use Rattle.std.specs.Prelude.{⊤, ◌≡◌, ◌==◌, ◌≤◌, ◌<◌, ◌+◌, ◌-◌, ◌*◌, ◌^◌, ◌++◌, ◌∷◌, ℕ, Bool, true, List, [], Result, Ok, Err, count_by}
+use Rattle.std.specs.Prelude.{All, drop, filter, flat_map, length, map, slice_set, take}
 use Rattle.std.specs.List.Sorted.{IsPermutation}
 use Rattle.registers.specs.Bits.{HasBit, Meet}
 use Rattle.registers.specs.Places.{rxt0}
@@ -10,19 +10,18 @@ use Rattle.dma_memory.specs.Owners.{HaveSameNumbers}
 use Rattle.descriptors.specs.RingLaws.{place}
 use Rattle.rx_engine.specs.Addresses.{ether_type}
 use Rattle.adapter.specs.HostFrames.{frames_held}
-use Rattle.adapter.specs.Slots.{finished}
 use Rattle.adapter.specs.World.{World}
 use Rattle.bus.specs.declared.bus.Bus.{Ghosts}
 use Rattle.bus.specs.PastOfStretch.{Past, joined}
 use Rattle.bus.specs.declared.event.Access.{Access}
-use Rattle.bus.specs.declared.event.Access.TheVariants.{Loads}
 use Rattle.driver_law.specs.Calls.{Did, DriverDid, DriverInWorld, FlowsTo, GoesTo, HasNoForgottenWork, IsRefilled, Moment, Ran, at}
-use Rattle.driver_law.specs.Calls.{call_did, driver_did, driver_in, only, stores_from, tail_write}
-use Rattle.driver_law.specs.DriverState.{DriverState, HandedOut, buffer_at, holding, next_receive, numbers_of, with_owners}
+use Rattle.driver_law.specs.Calls.{call_did, driver_did, driver_in, frames_ended, only, stores_from, tail_write}
+use Rattle.driver_law.specs.DriverState.{DriverState, HandedOut, buffer_at, frame_of, holding, next_receive, numbers_of, with_owners}
 use Rattle.driver_law.specs.ReadyDrivers.{ReadyWith}
 use Rattle.bring_up.specs.WrittenRegisters.{handled_causes}
-use Rattle.driver.specs.HandlerSteps.{AreFrames, Asked, DoesNothing, GrowsBy, IsFrameSize, ReadsMisses, TakesAndOffers, frames_of}
-use Rattle.driver.specs.HandlerSteps.{handled_accesses, received_of}
+use Rattle.driver.specs.HandlerSteps.{AreOfOneFrame, Asked, DoesNothing, GrowsBy, IsLook, ReadsMisses, TakesAndOffers, handled_accesses}
+use Rattle.driver.specs.Parts.{AreFrames, IsFrameSize, frames_of, part_loads, pieces_of, received_of}
+use Rattle.driver.specs.declared.parts.Part.{Part}
 use Rattle.driver.specs.SendSteps.{FreesFirst, IsAnswer, SendAnswer, sent_by}
 use Rattle.driver.specs.declared.interrupt.Handled.{Handled}
 use Rattle.driver.specs.declared.interrupt.Handled.TheVariants.{NotMine}
@@ -35,19 +34,24 @@ use Rattle.packet_socket.specs.declared.socket_kind.SocketKind.{SocketKind}
 
 -- The frames that a host holds for its sockets, read from the bytes of memory.
 
--- the frame of an entry of a queue: the first `length` bytes of its buffer
+-- the piece of a frame in a buffer: the first `length` bytes of the buffer
+abbrev pub waiting_piece : Counts → List ℕ → Part → HandedOut
+waiting_piece counts memory part = record { number = part.buffer; bytes = bytes_at memory (buffer_at counts part.buffer) part.length }
+
+-- the pieces of an entry of a queue, as the driver handed them out
+abbrev pub waiting_pieces : Counts → List ℕ → Received → List HandedOut
+waiting_pieces counts memory received = map (waiting_piece counts memory) received.parts
+
+-- the frame of an entry of a queue: its pieces joined
 abbrev pub waiting_frame : Counts → List ℕ → Received → List ℕ
-waiting_frame counts memory received = bytes_at memory (buffer_at counts received.buffer) received.length
+waiting_frame counts memory received = frame_of (waiting_pieces counts memory received)
 
--- the same frame, as one that the driver handed out
-abbrev pub waiting_entry : Counts → List ℕ → Received → HandedOut
-waiting_entry counts memory received = record { number = received.buffer; frame = waiting_frame counts memory received }
-
--- the host's driver; the frames of the host's queues are those that others hold
+-- the host's driver; the pieces of the frames in the host's queues are those that others hold
 abbrev pub driver_of : HostState → World → DriverState
-driver_of host world = holding (map (waiting_entry host.driver.layout world.memory) (all_of host.queues)) host.driver
+driver_of host world = holding (flat_map (waiting_pieces host.driver.layout world.memory) (all_of host.queues)) host.driver
 
--- The host is ready, with its transmit side set up or off: its driver is ready, and each queued frame has 60 to 1,518 bytes.
+-- The host is ready, with its transmit side set up or off: its driver is ready, and each queued frame has 60 to 1,518 bytes, those of its
+-- pieces.
 pub record HostReadyWith (up : Bool) (host : HostState) (world : World) : Type 0 where
   pub sizes : AreFrames (all_of host.queues)
   pub ready : ReadyWith up (driver_of host world) world
@@ -184,8 +188,9 @@ pub record HostRan {B : Type 0} (bus : Ghosts B) (up : Bool) (done : Did) (given
 pub record HostSends {B : Type 0} (bus : Ghosts B) (frame : List ℕ) (result : SendAnswer) (old new : HostMoment B) : Type 0 where
   pub ran : HostRan bus true (sent_by result (driver_at bus old).driver (driver_at bus new).driver frame) [] old new
   pub answer : IsAnswer bus result (driver_at bus old) (driver_at bus new)
-  -- Slots are freed first, up to one that isn't written back, or until none is left; then the frame is sent if it is accepted. The drivers
-  -- here hold the queued frames (`driver_at`), so `slots` and `more` also say that the bytes of the queued frames don't change.
+  -- For Ok and RingFull, slots are freed first, up to one that isn't written back, or until none is left. For Ok, the frame is sent then.
+  -- The drivers here hold the queued frames (`driver_at`). So for Ok, `slots` and `more` also state that the bytes of the queued frames
+  -- don't change. For RingFull, this follows from `ran.accounts` and `ran.ran.goes.flows.holds`.
   pub frees_first : FreesFirst bus frame result (driver_at bus old) (driver_at bus new)
 
 abbrev pub HostTransmits : {B : Type 0} → Ghosts B → List ℕ → SendAnswer → (old new : HostMoment B) → Type 0
@@ -201,13 +206,13 @@ pub record LeavesQueue (h h' : HostState) (socket size : ℕ) (received : Receiv
   pub unclaimed : h'.unclaimed ≡ h.unclaimed
   pub long : size ≡ received.length
 
--- The frame is loaded. Then slots are offered with these buffers; the frame's buffer may be one of them.
-abbrev pub receive_accesses : (d d' : DriverState) → (buffer size : ℕ) → (offered : List ℕ) → List Access
-receive_accesses d d' buffer size offered =
-    Loads (buffer_at d.layout buffer) size ∷
-    (stores_from d.layout (next_receive d) offered ++ tail_write (next_receive d') (d.staged ++ offered))
+-- The frame is loaded, piece by piece. Then slots are offered with these buffers; the frame's buffers may be among them.
+abbrev pub receive_accesses : (d d' : DriverState) → (parts : List Part) → (offered : List ℕ) → List Access
+receive_accesses d d' parts offered =
+    part_loads d.layout parts
+    ++ (stores_from d.layout (next_receive d) offered ++ tail_write (next_receive d') (d.staged ++ offered))
 
--- The oldest frame of a socket's queue is returned, and its buffer goes back to the driver.
+-- The oldest frame of a socket's queue is returned, and its buffers go back to the driver.
 pub record Receives {B : Type 0} (bus : Ghosts B) (given : Given) (size : ℕ) (up : Bool) (old new : HostMoment B) : Type 0 where
   pub received : Received
   pub leaves : LeavesQueue old.host new.host given.socket size received
@@ -215,17 +220,18 @@ pub record Receives {B : Type 0} (bus : Ghosts B) (given : Given) (size : ℕ) (
   pub front : waiting_frames old.host given.socket (bus.world old.bus)
       ≡ given.frame ∷ waiting_frames new.host given.socket (bus.world new.bus)
   pub offered : List ℕ
+  -- The buffers of the outstanding receive slots after the call: those before it, then those staged before it, then `offered`.
   pub newest : new.host.driver.buffers ≡ old.host.driver.buffers ++ (old.host.driver.staged ++ offered)
   pub ran :
-      HostRan bus up (only (receive_accesses old.host.driver new.host.driver received.buffer size offered)) (given ∷ []) old new
+      HostRan bus up (only (receive_accesses old.host.driver new.host.driver received.parts offered)) (given ∷ []) old new
 
--- by the answer
+-- By the answer. `into` is the caller's bytes after the call; for Ok, its first `size` bytes are the frame returned.
 abbrev pub ReturnsBy : {B : Type 0} → Ghosts B → (socket : ℕ) → (into : List ℕ) → Result ℕ RecvError → Bool
     → (old new : HostMoment B) → Type 0
 ReturnsBy bus socket into (Ok size) = Receives bus (record { socket = socket; frame = take size into }) size
 ReturnsBy bus socket into (Err error) = λ up old new. ⊤
 
--- Over any bus: the oldest entry of a queue is removed, its buffer goes back to the driver, and slots are offered. The caller's bytes are
+-- Over any bus: the oldest entry of a queue is removed, its buffers go back to the driver, and slots are offered. The caller's bytes are
 -- `into` before the call and `into'` after it; those after the entry's length don't change.
 pub record Returns (h h' : HostState) (socket : ℕ) (into into' : List ℕ) (size : ℕ) : Type 0 where
   pub received : Received
@@ -263,37 +269,49 @@ pub record SortsFrames (h h' : HostState) (shown : List Received) : Type 0 where
   pub queues : Queues h.kinds h.queues h'.queues (claimed_of h.kinds shown)
   pub unclaimed : GrowsBy h.unclaimed h'.unclaimed (unclaimed_of h.kinds shown)
 
--- n slots were taken. Each slot's frame was sorted, or the slot has no whole frame and was counted as bad.
-pub record SortsAll (h h' : HostState) (n : ℕ) : Type 0 where
+-- n frames were taken and sorted, and some runs of slots had no whole frame and were counted as bad.
+pub record SortsAll (h h' : HostState) (n bad_runs : ℕ) : Type 0 where
   pub shown : List Received
-  pub count : length shown ≤ n
+  pub count : length shown ≡ n
   pub sizes : AreFrames shown
   pub sorted : SortsFrames h h' shown
-  pub bad : GrowsBy h.driver.bad h'.driver.bad (n - length shown)
+  pub bad : GrowsBy h.driver.bad h'.driver.bad bad_runs
 
--- A value was added to the driver's sum of missed frames, n slots were taken, the oldest first, and then slots were offered.
+-- The slots of these runs left the ring, the oldest first. A run has one to six slots.
+pub record LeaveRing (d d' : DriverState) (runs : ℕ) : Type 0 where
+  pub slots : ℕ
+  pub least : runs ≤ slots
+  pub most : slots ≤ 6 * runs
+  pub outstanding : slots ≤ length d.buffers
+  pub next : d'.oldest_receive ≡ place d.layout.rx d.oldest_receive slots
+
+-- A value was added to the driver's sum of missed frames, n frames were taken, the oldest first, and then slots were offered.
 pub record HostServes (h h' : HostState) (n : ℕ) : Type 0 where
   pub misses : ReadsMisses h.driver h'.driver
-  pub sorts : SortsAll h h' n
-  pub outstanding : n ≤ length h.driver.buffers
-  pub next : h'.driver.oldest_receive ≡ place h.driver.layout.rx h.driver.oldest_receive n
+  pub bad_runs : ℕ
+  pub sorts : SortsAll h h' n bad_runs
+  pub leave : LeaveRing h.driver h'.driver (n + bad_runs)
   -- No buffer is lost or has another number of owners.
   pub owners : HaveSameNumbers (host_owners h) (host_owners h')
   -- No buffer is free, or all slots but one are outstanding; and each slot whose descriptor is stored is offered.
   pub refilled : IsRefilled h'.driver
   pub offered : h'.driver.staged ≡ []
 
--- The work after the read of ICR: n slots are taken, and their frames are sorted. Then slots are offered. `ran` has the accesses, in order.
+-- The work after the read of ICR: n frames are taken, each with its pieces, and sorted. Then slots are offered. `ran` has the accesses, in
+-- order.
 pub record HostWorks {B : Type 0} (bus : Ghosts B) (n : ℕ) {up : Bool} (old new : HostMoment B) (asked : Asked bus up (driver_at bus old))
     : Type 0 where
-  pub taken : List HandedOut
+  pub taken : List (List HandedOut)
   pub count : length taken ≡ n
+  pub groups : All AreOfOneFrame (map numbers_of taken)
   pub misses : ReadsMisses old.host.driver new.host.driver
-  pub served : TakesAndOffers old.host.driver new.host.driver (numbers_of taken)
+  pub served : TakesAndOffers old.host.driver new.host.driver (numbers_of (pieces_of taken))
+  pub loads : ℕ
+  pub look : IsLook loads served.rest
   pub sorted : SortsFrames old.host new.host (map received_of taken)
   pub ran :
       Ran bus up (call_did
-      (handled_accesses old.host.driver misses.misses (numbers_of taken) served.rest served.offered (next_receive new.host.driver))
+      (handled_accesses old.host.driver misses.misses (map numbers_of taken) loads served.offered (next_receive new.host.driver))
       (frames_of taken) []) (at asked.after_read (driver_at bus old).driver) (driver_at bus new)
 
 -- It handles the interrupt: ICR had one of its causes.
@@ -301,8 +319,9 @@ pub record HostHandlesIt {B : Type 0} (bus : Ghosts B) (n : ℕ) {up : Bool} (ol
     (asked : Asked bus up (driver_at bus old)) : Type 0 where
   pub some : Meet asked.causes handled_causes
   pub works : HostWorks bus n old new asked
-  -- It takes at least the slots that were finished at the beginning, and no work is forgotten.
-  pub least : length (finished old.host.driver.oldest_receive (bus.world old.bus)) ≤ n
+  -- It takes at least the frames that ended in finished slots at the beginning.
+  pub least : length (frames_ended (driver_in old.host.driver (bus.world old.bus))) ≤ n
+  -- If RXT0 is in the mask at the beginning, no work is forgotten at the end.
   pub work : HasBit (bus.world old.bus).adapter.causes.mask rxt0 → HasNoForgottenWork new.host.driver (bus.world new.bus)
   -- the read of ICR and the work together
   pub flows :

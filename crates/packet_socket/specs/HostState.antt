@@ -4,7 +4,7 @@ use Rattle.driver.specs.declared.receiver.Received.{Received}
 use Rattle.bring_up.specs.declared.config.Config.{Config}
 use Rattle.driver.specs.Initialisation.{IsFresh}
 use Rattle.driver_law.specs.DriverState.{DriverState, owners}
-use Rattle.driver.specs.HandlerSteps.{buffers_of}
+use Rattle.driver.specs.Parts.{buffers_of}
 use Rattle.packet_socket.specs.declared.socket_kind.SocketKind.{SocketKind}
 
 -- the queue of a socket; empty if there is no such socket

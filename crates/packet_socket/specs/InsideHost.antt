@@ -2,7 +2,7 @@
 use Rattle.std.specs.Prelude.{◌≡◌, ◌++◌, length}
 use Rattle.dma_memory.specs.Owners.{HasNoSecondOwner}
 use Rattle.driver_law.specs.DriverState.{DriverState, owners}
-use Rattle.driver.specs.HandlerSteps.{AreFrames, buffers_of}
+use Rattle.driver.specs.Parts.{AreFrames, buffers_of}
 use Rattle.packet_socket.specs.HostState.{HostState, SocketsState, all_of}
 use Rattle.packet_socket.specs.declared.host.Host.TheInside.{Inside}
 

@@ -12,7 +12,7 @@ ghost use Rattle.bus.specs.Keeping.{Keeps};
 ghost use Rattle.driver_law.specs.DriverState.{owners};
 ghost use Rattle.driver.specs.Initialisation.{Initialises, Refuses};
 ghost use Rattle.driver.specs.SendSteps.{HasWrongLength, with_transmit_slots};
-ghost use Rattle.driver.specs.HandlerSteps.{AreFrames, buffers_of};
+ghost use Rattle.driver.specs.Parts.{AreFrames, buffers_of};
 ghost use Rattle.driver.specs.declared.transmit.SendError.TheVariants as SendError;
 ghost use Rattle.packet_socket.specs.HostCalls.{HostReady, HostTransmits, host_at};
 ghost use Rattle.packet_socket.specs.HostState.{IsNewHost, all_of, queue_at};

@@ -23,10 +23,10 @@ pub enum RecvError {
 }
 
 impl Host {
-    /// Removes the oldest entry of a socket's queue, and returns its length, 60 to 1,518 bytes. Over a bus that obeys
-    /// the law, the first bytes of `into` are the entry's frame then. The bytes after this length don't change. The
-    /// entry's buffer goes back to the driver, which refills its receive ring. `bus` must have at least
-    /// `layout().size()` bytes.
+    /// Removes the oldest entry of a socket's queue, and returns its length, 60 to 1,518 bytes. The bytes of `into`
+    /// after this length don't change. The entry's buffers go back to the driver, which refills its receive ring. If
+    /// the bus obeys the law and the host is ready, the bytes of `into` up to this length are then the entry's frame.
+    /// Everything else holds over any bus. `bus` must have at least `layout().size()` bytes.
     ///
     /// # Errors
     ///
@@ -59,7 +59,7 @@ impl Host {
             return Err(RecvError::Empty);
         };
         let size = self.driver.read(bus, &received, into);
-        self.driver.give(bus, received.buffer);
+        self.driver.give(bus, received.parts);
         Ok(size)
     }
 }

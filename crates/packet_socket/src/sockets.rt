@@ -8,8 +8,7 @@ use crate::SocketKind;
 use crate::socket_kind::socket_of;
 use arrayvec::ArrayVec;
 use circular_buffer::HeapCircularBuffer;
-use dma_memory::BufId;
-use driver::{Received, Receiver};
+use driver::{Parts, Received, Receiver};
 use std::alloc::{AllocError, Global};
 use std::marker::Model;
 
@@ -111,15 +110,15 @@ impl Receiver for Sockets {
 
     ghost took = { Sorts };
 
-    /// Puts a frame at the end of its socket's queue. A frame without a socket is counted, and its buffer is returned
+    /// Puts a frame at the end of its socket's queue. A frame without a socket is counted, and its buffers are returned
     /// at once.
-    fn take(&mut self, received: Received) -> Option<BufId> {
+    fn take(&mut self, received: Received) -> Parts {
         let Some(socket) = socket_of(self.kinds.as_slice(), received.ether_type) else {
             self.unclaimed = self.unclaimed.saturating_add(1);
-            return Some(received.buffer);
+            return received.parts;
         };
         let _ = self.queues[socket].push_back(received);
-        None
+        Parts::new()
     }
 
     ghost stays = { sorts_stays };

@@ -1,15 +1,20 @@
 -- An adapter stays an adapter: what holds of every adapter before an event holds after it, too.
-use Rattle.std.proofs.Common.{◌≡◌, ◌≢◌, ◌≤◌, ◌<◌, ◌∷◌, [], Bool, true, false, ℕ, List, Option, Some, None, All}
-use Rattle.std.proofs.Common.{if◌then◌else◌, ap, arith, length, length-append, refl, subst, sym, ◌∙◌}
+use Rattle.std.proofs.Common.{◌≡◌, ◌≢◌, ◌≤◌, ◌<◌, ◌-◌, ◌/◌, ◌^◌, ◌∷◌, ◌++◌, [], Bool, true, false, ℕ, zero, suc, List, Option}
+use Rattle.std.proofs.Common.{Some, None, All}
+use Rattle.std.proofs.Common.{if◌then◌else◌, ap, arith, drop, length, length-append, length-drop, length-take, refl, subst, sym, ◌∙◌}
 use Rattle.std.specs.Option.{ForSome}
 use Rattle.std.specs.Prelude.{bit_and}
-use Rattle.std.proofs.lemmas.List.{length-drop}
+use Rattle.std.proofs.lemmas.Bool.{leb-false}
+use Rattle.std.proofs.lemmas.Nat.{mod_below}
 use Rattle.std.proofs.lemmas.List.Elements.{All-append, All-cons, All-drop}
 use Rattle.bus.proofs.Lists.{all-head, all-none}
 use Rattle.mdic_phy.specs.declared.mdic.Ticked.{Ticked}
 use Rattle.mdic_phy.specs.Mdic.{told}
-use Rattle.descriptors.specs.Frames.{IsLegal, longest_frame, shortest_frame}
-use Rattle.rx_engine.specs.Receiver.{IsReceiver, new_receiver, oldest}
+use Rattle.registers.specs.Bits.{field}
+use Rattle.registers.specs.ReceiveControl.{buffer_size_of}
+use Rattle.descriptors.specs.Frames.{IsLegal, longest_frame}
+use Rattle.rx_engine.specs.Moving.{buffer_bytes, left_bytes, next_piece}
+use Rattle.rx_engine.specs.Receiver.{IsReceiver, Receiver, new_receiver, oldest}
 use Rattle.rx_engine.specs.declared.arrival.Fate.{Fate}
 use Rattle.rx_engine.specs.declared.arrival.Fate.TheVariants.{Missed, Stored}
 use Rattle.rx_engine.specs.declared.engine.Work.{Work}
@@ -24,7 +29,7 @@ use Rattle.adapter.specs.Steps.{Answers, after_phy_told, after_step}
 use Rattle.adapter.specs.Table.{register_at, row_of}
 use Rattle.adapter.specs.Transmitting.{after_put, after_take}
 use Rattle.adapter.specs.World.{World}
-use Rattle.adapter.specs.declared.outcome.Outcome.TheVariants.{Done, Fault, Moved, Put, Took}
+use Rattle.adapter.specs.declared.outcome.Outcome.TheVariants.{Done, Fault, Moved, Part, Put, Took}
 use Rattle.adapter.specs.declared.register.Register.{Register}
 use Rattle.adapter.specs.declared.register.Register.TheVariants.{Ctrl, Eerd, Icr}
 use Rattle.adapter.specs.declared.step.StepKind.{StepKind}
@@ -55,7 +60,7 @@ by-row : (kept : Option ℕ) (register : Register) (value : ℕ) (state : Adapte
 by-row None register value state = by-rule register value state
 by-row (Some kept) register value state = by-kept register (bit_and value kept) state
 
--- what is said of the frame in work, where there is none, and where there is one
+-- what is said of the piece in progress, if there is none, and if there is one
 none-in_work : (P : Work → Type 0) → ForSome None P
 none-in_work P work is = absurd (cc)
 
@@ -67,7 +72,8 @@ is-empty : IsReceiver new_receiver
 is-empty = record {
   room = omega arith;
   frames = all-none IsLegal;
-  least = none-in_work (λ (work : Work). shortest_frame ≤ work.length);
+  begun = omega arith;
+  least = none-in_work (λ (work : Work). 1 ≤ work.length);
   most = none-in_work (λ (work : Work). work.length ≤ longest_frame);
 }
 
@@ -100,25 +106,61 @@ first-legal : (frames : List (List ℕ)) → frames ≢ [] → All IsLegal frame
 first-legal [] some are = absurd (some refl)
 first-legal (frame ∷ later) some are = all-head IsLegal frame later are
 
+-- a receive buffer isn't empty
+some-sized : (code : ℕ) → code < 4 → 1 ≤ buffer_size_of code
+some-sized zero small = omega arith
+some-sized (suc zero) small = omega arith
+some-sized (suc (suc zero)) small = omega arith
+some-sized (suc (suc (suc zero))) small = omega arith
+some-sized (suc (suc (suc (suc code)))) small = absurd (omega (arith, small))
+
+some-bytes : (control : ℕ) → 1 ≤ buffer_bytes control
+some-bytes control = some-sized (field control 16 2) (mod_below (control / 2 ^ 16) 4 (omega arith))
+
+-- so the next piece of a frame isn't either, and it isn't longer than the frame
+sized-piece : (control : ℕ) (engine : Receiver) → IsReceiver engine → engine.buffer ≢ []
+    → (1 ≤ length (next_piece control engine)) × (length (next_piece control engine) ≤ longest_frame)
+sized-piece control engine is some =
+    let first = first-legal engine.buffer some is.frames in
+    let piece = length-take (buffer_bytes control) (drop engine.moved (oldest engine.buffer)) in
+    let left = length-drop engine.moved (oldest engine.buffer) in
+    (omega (arith, is.begun, first.least, piece, left, some-bytes control), omega (arith, first.most, piece, left))
+
 after-moving : (answer : FrameOutcome) (memory : List ℕ) (state : AdapterState) → IsReceiver state.receiver
     → DataAnswers memory state answer → IsReceiver (after_data answer state).receiver
+after-moving Part memory state is answers =
+    let engine = state.receiver in
+    let size = buffer_bytes state.filter.rctl in
+    let piece = sized-piece state.filter.rctl engine is answers.0.ready.frames in
+    let more = leb-false (left_bytes engine) size answers.2 in
+    let count = length-take size (drop engine.moved (oldest engine.buffer)) in
+    record {
+      room = is.room;
+      frames = is.frames;
+      begun = omega (arith, more, count, length-drop engine.moved (oldest engine.buffer));
+      least = one-in_work (λ (work : Work). 1 ≤ work.length) _ piece.0;
+      most = one-in_work (λ (work : Work). work.length ≤ longest_frame) _ piece.1;
+    }
 after-moving Moved memory state is answers =
-    let first = first-legal state.receiver.buffer answers.0.ready.frames is.frames in
+    let piece = sized-piece state.filter.rctl state.receiver is answers.0.ready.frames in
     let fewer = length-drop 1 state.receiver.buffer in
     record {
       room = omega (arith, fewer, is.room);
       frames = All-drop IsLegal 1 state.receiver.buffer is.frames;
-      least = one-in_work (λ (work : Work). shortest_frame ≤ work.length) _ first.least;
-      most = one-in_work (λ (work : Work). work.length ≤ longest_frame) _ first.most;
+      begun = omega arith;
+      least = one-in_work (λ (work : Work). 1 ≤ work.length) _ piece.0;
+      most = one-in_work (λ (work : Work). work.length ≤ longest_frame) _ piece.1;
     }
-after-moving Fault memory state is answers = record { room = is.room; frames = is.frames; least = is.least; most = is.most }
+after-moving Fault memory state is answers =
+    record { room = is.room; frames = is.frames; begun = is.begun; least = is.least; most = is.most }
 after-moving _ memory state is answers = is
 
 after-finishing : (answer : FrameOutcome) (state : AdapterState) → IsReceiver state.receiver → IsReceiver (after_done answer state).receiver
 after-finishing Done state is = record {
   room = is.room;
   frames = is.frames;
-  least = none-in_work (λ (work : Work). shortest_frame ≤ work.length);
+  begun = is.begun;
+  least = none-in_work (λ (work : Work). 1 ≤ work.length);
   most = none-in_work (λ (work : Work). work.length ≤ longest_frame);
 }
 after-finishing _ state is = is
@@ -138,6 +180,13 @@ after-stepping PhyTick wire_free answer memory state is answers =
     subst IsReceiver (sym (after-telling (told state.mdic state.phy) state)) is
 
 -- Over arrivals: a frame is stored where there is room for it.
+
+-- it doesn't change how many bytes of the oldest frame are moved
+still-begun : (frames : List (List ℕ)) (frame : List ℕ) (moved : ℕ) → moved ≤ length (oldest frames) - 1
+    → moved ≤ length (oldest (frames ++ frame ∷ [])) - 1
+still-begun [] frame moved begun = omega (arith, begun)
+still-begun (first ∷ later) frame moved begun = begun
+
 after-arriving : (fate : Fate) (frame : List ℕ) (state : AdapterState) → IsAdapter state → IsFate state frame fate
     → IsReceiver (after_arrive fate frame state).receiver
 after-arriving Stored frame state is fated =
@@ -150,6 +199,7 @@ after-arriving Stored frame state is fated =
       frames =
           All-append IsLegal state.receiver.buffer (frame ∷ []) before.frames
           (All-cons IsLegal frame [] fated.0.legal (all-none IsLegal));
+      begun = still-begun state.receiver.buffer frame state.receiver.moved before.begun;
       least = before.least;
       most = before.most;
     }

@@ -81,7 +81,7 @@ pub record IsInterruptAnswer (host : ℕ) (answer : Answer) (steps : List Atomic
   pub is : answer ≡ Interrupted result
   -- ICR was read first, and showed these causes. By them the answer is NotMine or Handled.
   pub causes : ℕ
-  pub tells : TellsCauses host steps causes (world_at old.stations host).adapter.causes.recorded result
+  pub tells : TellsCauses host steps causes (world_at old.stations host).adapter result
   -- the frames that were taken off the receive ring: none if the answer is NotMine
   pub taken : List (List ℕ)
   pub answers : AnswersInterrupt result old.host new.host (world_at old.stations host) taken

@@ -31,7 +31,7 @@ pub record CountsExactly (host : HostState) (world : World) : Type 0 where
 pub record HostStands (host : HostState) (world : World) : Type 0 where
   -- its driver knows its rings and buffers, and the frames that wait for its sockets are in them
   pub ready : HostReady host world
-  -- No work is forgotten: if its oldest receive slot is finished, RXT0 is recorded, and it is in the mask.
+  -- No work is forgotten: if a frame ends in its finished receive slots, RXT0 is recorded, and it is in the mask.
   pub work : HasNoForgottenWork host.driver world
   -- No buffer is free, or all receive slots but one are outstanding.
   pub refilled : IsRefilled host.driver

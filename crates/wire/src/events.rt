@@ -1,7 +1,7 @@
 // One event, over all hosts and their stations.
 
 ghost use Rattle.std.specs.Prelude.{◌≡◌, ◌≤◌, ◌<◌, ◌++◌, [], length, IfOk};
-ghost use Rattle.driver.specs.HandlerSteps.{IsFrameSize};
+ghost use Rattle.driver.specs.Parts.{IsFrameSize};
 ghost use Rattle.host_calls.specs.CallAnswers.{frame_in};
 ghost use Rattle.bus.specs.TickGroups.{without_go};
 ghost use Rattle.delivery.specs.Happenings.{told};

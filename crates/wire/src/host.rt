@@ -1,6 +1,7 @@
 // A host is brought up by its plan.
 
 ghost use Rattle.std.specs.Prelude.{◌≡◌, ◌≤◌, IfErr, IfOk, length};
+ghost use Rattle.adapter.specs.Registers.{new_adapter};
 ghost use Rattle.eeprom.specs.Image.{address_bytes};
 ghost use Rattle.rx_engine.specs.Addresses.{IsAddress};
 ghost use Rattle.network_plan.specs.Plans.{HasConfig};
@@ -15,7 +16,7 @@ use eeprom::Image;
 use network_plan::{HostPlan, MOST_SOCKETS};
 use packet_socket::{Host, SocketKind};
 use stations::Station;
-use std::alloc::Global;
+use std::alloc::{AllocError, Global};
 
 /// Makes a host's adapter, and its memory of the layout's size, and initializes the adapter. Before each access of this
 /// its EEPROM and its PHY take a step, and no frame arrives. Then the host is on its wire.
@@ -37,9 +38,7 @@ pub fn bring_up_host(
     // The address has six bytes, so that `comes_up` may say what the filter does with it.
     let _address = address_of(&plan.image);
     let layout = plan.config.layout(u64::MAX)?;
-    let adapter = Adapter::new(alloc, &plan.image, plan.link)?;
-    let memory = HostMemory::new(alloc, layout.size())?;
-    let mut machine = Machine::new(adapter, memory);
+    let mut machine = machine_of(alloc, plan, layout.size())?;
     let mut bus = LivelyBus {
         machine: &mut machine,
         accesses: 0,
@@ -48,6 +47,20 @@ pub fn bring_up_host(
     let host = Host::new(alloc, &mut bus, &plan.config, table)?;
     let station = Station::new(alloc, machine, wire)?;
     Ok((host, station))
+}
+
+/// A new adapter with the plan's EEPROM and link, and a memory of `size` bytes.
+///
+/// # Errors
+///
+/// Want of memory alone.
+fn machine_of(alloc: Global, plan: &HostPlan, size: u64) -> Result<Machine, AllocError>
+    ensures adapter { IfOk result (λ machine. machine.world.adapter ≡ new_adapter plan.now.image plan.now.link) }
+    ensures memory { IfOk result (λ machine. length machine.world.memory ≡ size) }
+{
+    let adapter = Adapter::new(alloc, &plan.image, plan.link)?;
+    let memory = HostMemory::new(alloc, size)?;
+    Ok(Machine::new(adapter, memory))
 }
 
 /// The address that an EEPROM holds.

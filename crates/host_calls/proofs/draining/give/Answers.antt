@@ -18,7 +18,7 @@ returns-in-Ok g c =
       room = omega arith;
       on = given-steps c.args.place c.args.socket c.in-Ok.frame c.args.stations.now c.recv.new.stations c.args.outcomes.now
           c.recv.new.outcomes c.recv.result.accesses c.args.host.now c.recv.new.host
-          (MakesRecv (Ok c.in-Ok.frame) c.args.socket c.args.host.now c.recv.new.host)
+          (MakesRecv (Ok c.in-Ok.frame) c.args.socket c.args.host.now c.recv.new.host) c.requires.stands.ready
           (subst (λ (answer : Result (List ℕ) RecvError). CallRuns
           (played_call c.args.place [] c.args.outcomes.now c.recv.new.outcomes c.recv.result.accesses)
           (did [] (given_by c.args.socket answer) []) (MakesRecv answer c.args.socket c.args.host.now c.recv.new.host)

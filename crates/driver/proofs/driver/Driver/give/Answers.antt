@@ -1,9 +1,10 @@
 use Rattle.std.proofs.Common.{arith, ap}
 use Rattle.dma_memory.specs.Owners.{copies}
-use Rattle.dma_memory.specs.OwnersLaws.{copies-cons}
+use Rattle.dma_memory.specs.OwnersLaws.{copies-append}
 use Rattle.driver_law.proofs.Owners.{owners-count}
 use Rattle.driver_law.specs.Calls.{at}
 use Rattle.driver_law.specs.DriverState.{DriverState, owners}
+use Rattle.driver.specs.Parts.{buffers_in}
 use Rattle.driver.proofs.RefillSteps.{gives}
 use Rattle.driver.proofs.driver.Driver.give.Goals as goal
 
@@ -14,8 +15,8 @@ returns-clause-owners g c k =
     let later : DriverState = record d1 { pool = d2.pool } in
     omega (
       arith,
-      copies-cons k c.args.buffer (owners d1),
-      copies-cons k c.args.buffer d1.pool,
+      copies-append k (buffers_in c.args.parts) (owners d1),
+      copies-append k (buffers_in c.args.parts) d1.pool,
       owners-count k d1,
       owners-count k later,
       ap (λ (s : DriverState). copies k (owners s)) c.put_back.ensures.others,
@@ -26,4 +27,4 @@ returns-clause-owners g c k =
 pub returns-clause-gives : goal.returns-clause-gives
 returns-clause-gives g c =
     gives g.B.Bus g.met.B.Bus.composes.stays g.met.B.Bus.composes.joins c.args.bus.now c.args.self.now c.put_back.new.self
-    (at c.refill.new.bus c.refill.new.self) c.args.buffer c.put_back.ensures.others c.put_back.ensures.back c.refill.ensures.refills
+    (at c.refill.new.bus c.refill.new.self) c.args.parts c.put_back.ensures.others c.put_back.ensures.back c.refill.ensures.refills

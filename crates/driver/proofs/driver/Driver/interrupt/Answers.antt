@@ -4,6 +4,7 @@ use Rattle.driver_law.proofs.RegisterAccesses.{reads-causes}
 use Rattle.driver_law.specs.DriverState.{DriverState, holding}
 use Rattle.bring_up.specs.WrittenRegisters.{handled_causes}
 use Rattle.driver.specs.HandlerSteps.{TakesSlots, scene}
+use Rattle.driver.specs.Parts.{pieces_of}
 use Rattle.driver.proofs.HandlerSteps.{Follows, handled-timer, handles-it}
 use Rattle.driver.proofs.driver.Driver.interrupt.Goals as goal
 
@@ -45,15 +46,16 @@ returns-clause-handles g c up held is =
     let counts = c.count_missed.ensures.ran up held (record { honest = asking; ready = reads.flows.ready }) in
     let counting = c.count_missed.ensures.keeps.honest asking in
     let all = c.take_finished-taken.ensures.takes up held (record { honest = counting; ready = counts.goes.flows.ready }) in
-    let refills = c.refill.ensures.refills up (held ++ all.takes.handed_out)
+    let refills = c.refill.ensures.refills up (held ++ pieces_of all.takes.kept)
     (record { honest = c.take_finished-taken.ensures.keeps.honest counting; ready = all.takes.ran.goes.flows.ready }) in
     let from = scene c.read.new.self d1 c.args.receiver.now in
     let last = scene c.refill.new.bus c.refill.new.self c.take_finished-taken.new.receiver in
-    let follows : Follows c.count_missed.result c.take_finished-taken.result d1 c.count_missed.new.self c.take_finished-taken.new.self
+    let follows : Follows c.count_missed.result c.take_finished-taken.ensures.slots.slots d1 c.count_missed.new.self c.take_finished-taken.new.self
     c.refill.new.self = record {
       counted = c.count_missed.ensures.others;
       taken = c.take_finished-taken.ensures.slots.others;
       place = c.take_finished-taken.ensures.slots.next;
+      count = c.take_finished-taken.ensures.slots.count;
       refilled = c.refill.ensures.offers.others;
     } in
     record {
@@ -62,6 +64,6 @@ returns-clause-handles g c up held is =
           handles-it g.B.Bus g.R.Receiver g.met.B.Bus.composes.joins c.args.bus.now from
           (scene c.count_missed.new.bus c.count_missed.new.self c.args.receiver.now)
           (scene c.take_finished-taken.new.bus c.take_finished-taken.new.self c.take_finished-taken.new.receiver) last
-          c.read.result c.count_missed.result c.take_finished-taken.result held follows
+          c.read.result c.count_missed.result c.take_finished-taken.result _ held follows
           (c.is_mine.ensures.0 c.if-not-is_mine.false) reads counts all refills;
     }

@@ -1,16 +1,25 @@
-use Rattle.driver.proofs.BufferQueue.{given-inside, no_second-inside}
+use Rattle.driver.specs.Parts.{buffers_in}
+use Rattle.driver.proofs.BufferQueue.{no_second-inside}
+use Rattle.driver.proofs.PartsGiven.{parts-inside, parts-out}
 use Rattle.driver.proofs.driver.Driver.put_back.Goals as goal
+
+pub give_all-requires : goal.give_all-requires
+give_all-requires c =
+    let once = rw (← c.self.view_is) at c.requires.one_owner in
+    parts-out c.self.inside (buffers_in c.args.parts) c.self.invariant.receives once
 
 pub invariant_of-self : goal.invariant_of-self
 invariant_of-self c =
-    let known = rw (← c.self.view_is) at c.requires.known in
-    let out = rw (← c.self.view_is) at c.requires.out in
+    let once = rw (← c.self.view_is) at c.requires.one_owner in
     record {
-      receives = given-inside c.self.inside c.args.buffer c.give.new.self c.self.invariant.receives known out c.give.ensures.given
-          c.give.ensures.buffers;
+      receives = parts-inside c.self.inside (buffers_in c.args.parts) c.give_all.new.pool c.self.invariant.receives once
+          c.give_all.ensures.given c.give_all.ensures.buffers;
       sends = c.self.invariant.sends;
       sums = c.self.invariant.sums;
     }
 
 pub returns-clause-one_owner : goal.returns-clause-one_owner
-returns-clause-one_owner c = no_second-inside (record c.self.inside { pool = c.give.new.self }) (invariant_of-self c).receives
+returns-clause-one_owner c = no_second-inside (record c.self.inside { pool = c.give_all.new.pool }) (invariant_of-self c).receives
+
+pub returns-clause-back : goal.returns-clause-back
+returns-clause-back c = rw (← c.self.view_is) c.give_all.ensures.given

@@ -1,45 +1,115 @@
-use Rattle.std.proofs.Common.{◌≡◌, ◌+◌, ◌++◌, ◌∷◌, [], ℕ, length, take, drop, sym, ap, subst, ◌∙◌, refl, arith}
-use Rattle.std.proofs.lemmas.List.{take_at}
-use Rattle.std.proofs.Math.Seq.{take-length}
-use Rattle.bus.specs.declared.event.Access.{Access}
-use Rattle.bus.specs.declared.event.Access.TheVariants.{Loads}
-use Rattle.driver_law.proofs.ReceiveAccesses.{frame-read, ran_by-reads}
-use Rattle.driver_law.specs.DriverState.{buffer_at, holding}
-use Rattle.driver.proofs.driver.Driver.read.Given.{Over}
-use Rattle.driver.proofs.driver.Driver.read.Goals as goal
+use Rattle.std.proofs.Common.{rules, ◌≡◌, ◌<◌, ◌≤◌, ◌+◌, ◌-◌, ◌++◌, ℕ, List, length, take, drop, refl, ap, subst, ◌∙◌, arith}
+use Rattle.std.proofs.lemmas.List.{length-map, take_all}
+use Rattle.std.proofs.lemmas.Slice.{drop-put_mid, take-put_mid}
+use Rattle.bus.proofs.Keeping.{keeps-here, keeps-on}
+use Rattle.dma_memory.specs.Layout.{buffer_bytes}
+use Rattle.driver_law.proofs.Accesses.{ran_by-stays}
 use Rattle.driver_law.specs.Calls.{Ran, at, only}
+use Rattle.driver_law.specs.DriverState.{buffer_at, frame_of, holding}
+use Rattle.driver.specs.Parts.{part_loads, part_of}
+use Rattle.driver.specs.declared.parts.Part.{Part}
+use Rattle.driver.proofs.ReadFrames.{all-numbers, all-sizes, bytes-next, copied-long, frame-next}
+use Rattle.driver.proofs.ReadFrames.{is-next, part-long, read-fits, reads-next, rest-next}
+use Rattle.driver.proofs.driver.Driver.read.Goals as goal
 
--- How much is loaded, and from where.
-part : (g : Over) (c : goal.After-load g) → length (take c.from-size.result c.args.into.now) ≡ c.from-size.result
-part g c = let size : length c.load.new.into ≡ c.from-size.result = omega (arith, c.load.ensures.length) in sym c.load.ensures.length ∙ size
+pub loop-part-init : goal.loop-part-init
+loop-part-init g c = record {
+  few = omega arith;
+  read_is = refl;
+  room = search rules;
+  rest = refl;
+  keeps = keeps-here g.B.Bus g.met.B.Bus.composes.lent_stays_here c.args.bus.now;
+  ran = λ up held is. ran_by-stays g.B.Bus g.met.B.Bus.composes.stays c.args.bus.now (holding held c.args.self.now) is.ready;
+  frame = λ up first pieces later is are. refl;
+}
 
-place_is : (g : Over) (c : goal.After-load g) → c.receive_buffer-buffer.result ≡ buffer_at c.args.self.now.layout c.args.received.now.buffer
-place_is g c = rw (← c.self.view_is) (c.receive_buffer-buffer.ensures.start ∙ ap (buffer_at c.self.inside.layout) c.number.ensures)
+pub overflow_add-end : goal.overflow_add-end
+overflow_add-end g c =
+    let i = c.loop-part.invariant in
+    let next = is-next c.args.received.now.parts c.loop-part.index c.in-Some.part.now c.in-Some.ensures.some c.in-Some.ensures.part in
+    omega (
+      arith,
+      read-fits c.args.received.now c.loop-part.index c.loop-part.read c.from.result c.in-Some.part.now c.requires.whole next
+          i.read_is c.from.ensures,
+    )
+
+pub receive_buffer-buffer-requires : goal.receive_buffer-buffer-requires
+receive_buffer-buffer-requires g c =
+    let next = is-next c.args.received.now.parts c.loop-part.index c.in-Some.part.now c.in-Some.ensures.some c.in-Some.ensures.part in
+    let known = rw (← c.self.view_is) at c.requires.known in
+    let below = all-numbers (λ (number : ℕ). number < c.self.inside.layout.buffers) c.args.received.now.parts c.loop-part.index
+    c.in-Some.part.now next known in
+    omega (arith, c.number.ensures, below)
+
+pub slice_bounds-load-end : goal.slice_bounds-load-end
+slice_bounds-load-end g c =
+    let i = c.loop-part.invariant in
+    let next = is-next c.args.received.now.parts c.loop-part.index c.in-Some.part.now c.in-Some.ensures.some c.in-Some.ensures.part in
+    let fits = read-fits c.args.received.now c.loop-part.index c.loop-part.read c.from.result c.in-Some.part.now c.requires.whole next
+    i.read_is c.from.ensures in
+    omega (arith, fits)
+
+pub load-requires : goal.load-requires
+load-requires g c =
+    let i = c.loop-part.invariant in
+    let parts = c.args.received.now.parts in
+    let next = is-next parts c.loop-part.index c.in-Some.part.now c.in-Some.ensures.some c.in-Some.ensures.part in
+    let fits = read-fits c.args.received.now c.loop-part.index c.loop-part.read c.from.result c.in-Some.part.now c.requires.whole next
+    i.read_is c.from.ensures in
+    let long = part-long c.loop-part.into c.loop-part.read c.from.result (omega (arith, fits, i.room)) in
+    let short = all-sizes (λ (size : ℕ). size ≤ buffer_bytes) parts c.loop-part.index c.in-Some.part.now next c.requires.whole.fits in
+    let memory = rw (← c.self.view_is) at c.requires.memory in
+    omega (arith, long, short, c.from.ensures, c.receive_buffer-buffer.ensures.below_size, memory, i.keeps.extent)
+
+pub overflow_add-index : goal.overflow_add-index
+overflow_add-index g c = omega (arith, c.in-Some.ensures.some, c.in-Some.ensures.most)
+
+pub loop-part-preserved : goal.loop-part-preserved
+loop-part-preserved g c =
+    let i = c.loop-part.invariant in
+    let parts = c.args.received.now.parts in
+    let part = c.in-Some.part.now in
+    let index = c.loop-part.index in
+    let read = c.loop-part.read in
+    let n = c.from.result in
+    let into = c.loop-part.into in
+    let loaded = c.load.new.into in
+    let below = c.in-Some.ensures.some in
+    let next = is-next parts index part below c.in-Some.ensures.part in
+    let fits = read-fits c.args.received.now index read n part c.requires.whole next i.read_is c.from.ensures in
+    let long : length (take (read + n - read) (drop read into)) ≡ n = part-long into read n (omega (arith, fits, i.room)) in
+    let size : length loaded ≡ n = c.load.ensures.length ∙ long in
+    let place : c.receive_buffer-buffer.result ≡ buffer_at c.args.self.now.layout part.buffer =
+    rw (← c.self.view_is) (c.receive_buffer-buffer.ensures.start ∙ ap (buffer_at c.self.inside.layout) c.number.ensures) in
+    record {
+      few = omega (arith, below);
+      read_is = omega (arith, i.read_is, bytes-next parts index part next, c.from.ensures);
+      room = copied-long into loaded read (read + n - read) (omega (arith, fits, i.room)) (omega (arith, size)) ∙ i.room;
+      rest = rest-next into _ c.args.into.now read n
+          (drop-put_mid read (read + n - read) into loaded (read + n) (omega arith) (omega (arith, fits, i.room)) (omega (arith, size)))
+          i.rest;
+      keeps = keeps-on g.B.Bus g.met.B.Bus.composes.lent_stays_on _ _ _ i.keeps c.load.ensures.keeps;
+      ran = λ up held is. reads-next g.B.Bus g.met.B.Bus.composes.joins (holding held c.args.self.now) parts index
+          c.receive_buffer-buffer.result (length (take (read + n - read) (drop read into))) part loaded c.args.bus.now c.loop-part.bus
+          c.load.new.self next place (long ∙ c.from.ensures) (c.load.ensures.acts (i.keeps.honest is.honest)) (i.ran up held is);
+      frame = λ up first pieces later is are.
+          take-put_mid read (read + n - read) into loaded (read + n) (omega (arith, size)) (omega (arith, fits, i.room))
+          ∙ frame-next g.B.Bus (holding (first ++ (pieces ++ later)) c.args.self.now) first pieces later parts index
+          c.receive_buffer-buffer.result (length (take (read + n - read) (drop read into))) part loaded (take read into) c.loop-part.bus
+          c.load.new.self refl are below c.in-Some.ensures.part place (long ∙ c.from.ensures)
+          (c.load.ensures.acts (i.keeps.honest is.honest)) (i.ran up (first ++ (pieces ++ later)) is).goes.flows.ready
+          (i.frame up first pieces later is are);
+    }
 
 pub returns-clause-ran : goal.returns-clause-ran
 returns-clause-ran g c up held is =
-    let d = holding held c.args.self.now in
-    let access : Loads c.receive_buffer-buffer.result (length (take c.from-size.result c.args.into.now))
-    ≡ Loads (buffer_at c.args.self.now.layout c.args.received.now.buffer) c.from-size.result =
-    ap (Loads c.receive_buffer-buffer.result) (part g c) ∙ ap (λ (place : ℕ). Loads place c.from-size.result) (place_is g c) in
-    subst (λ (one : Access). Ran g.B.Bus up (only (one ∷ [])) (at c.args.bus.now d) (at c.load.new.self d)) access
-    (ran_by-reads g.B.Bus c.args.bus.now c.load.new.self d c.receive_buffer-buffer.result
-    (length (take c.from-size.result c.args.into.now)) c.load.new.into
-    (c.load.ensures.acts is.honest) is.ready)
+    let parts = c.args.received.now.parts in
+    subst (λ (list : List Part). Ran g.B.Bus up (only (part_loads c.args.self.now.layout list))
+    (at c.args.bus.now (holding held c.args.self.now)) (at c.loop-part.bus (holding held c.args.self.now)))
+    (take_all c.loop-part.index parts c.in_default.ensures.none) (c.loop-part.invariant.ran up held is)
 
 pub returns-clause-frame : goal.returns-clause-frame
-returns-clause-frame g c up first later one is number long =
-    let d = holding (first ++ one ∷ later) c.args.self.now in
-    let n = length (take c.from-size.result c.args.into.now) in
-    let whole : n ≡ length one.frame = omega (arith, part g c, c.from-size.ensures, long) in
-    let place : c.receive_buffer-buffer.result ≡ buffer_at c.args.self.now.layout one.number + 0 = omega (
-      arith,
-      place_is g c
-          ∙ ap (buffer_at c.args.self.now.layout) (sym number),
-    ) in
-    let bytes : c.load.new.into ≡ take n (drop 0 one.frame) =
-    frame-read g.B.Bus c.args.bus.now c.load.new.self d first later one c.receive_buffer-buffer.result
-    0 n c.load.new.into (c.load.ensures.acts is.honest) is.ready refl
-    place (omega (arith, whole)) in
-    take_at c.load.new.into _ c.from-size.result (c.load.ensures.length ∙ part g c) ∙ bytes
-    ∙ ap (λ (i : ℕ). take i (drop 0 one.frame)) whole ∙ take-length one.frame
+returns-clause-frame g c up first pieces later is are =
+    let all : length pieces ≤ c.loop-part.index =
+    omega (arith, c.in_default.ensures.none, ap length are, length-map pieces part_of) in
+    c.loop-part.invariant.frame up first pieces later is are ∙ ap frame_of (take_all c.loop-part.index pieces all)

@@ -1,70 +1,85 @@
-use Rattle.std.proofs.Common.{◌≡◌, ◌+◌, ◌-◌, ◌++◌, ℕ, length, sym, ap, subst, arith}
+use Rattle.std.proofs.Common.{Bool, ◌≡◌, ◌+◌, ◌++◌, ap, ◌∙◌, arith}
 use Rattle.bus.proofs.Keeping.{keeps-here, keeps-on}
-use Rattle.driver_law.specs.Calls.{Ran, at, last_load, only}
 use Rattle.driver_law.specs.DriverState.{DriverState, holding}
-use Rattle.driver.specs.HandlerSteps.{TakesAll, scene}
+use Rattle.driver.specs.HandlerSteps.{count_if}
+use Rattle.driver.specs.Parts.{pieces_of}
+use Rattle.driver.proofs.ShownRuns.{shows-owners}
 use Rattle.driver.proofs.TakenFrames.{walks-look, walks-next, walks-none}
-use Rattle.driver.proofs.driver.Driver.take_finished.Given.{Over}
 use Rattle.driver.proofs.driver.Driver.take_finished.Goals as goal
 
-pub loop-finished-init : goal.loop-finished-init
-loop-finished-init g c = record {
+pub loop-run-init : goal.loop-run-init
+loop-run-init g c = record {
   keeps = keeps-here g.B.Bus g.met.B.Bus.composes.lent_stays_here c.args.bus.now;
-  walks = (
-    0,
-    walks-none g.B.Bus g.R.Receiver g.met.B.Bus.composes.stays g.met.R.Receiver.stays
-        c.args.bus.now c.args.receiver.now c.args.self.now,
-  );
+  walks = walks-none g.B.Bus g.R.Receiver g.met.B.Bus.composes.stays g.met.R.Receiver.stays
+      c.args.bus.now c.args.receiver.now c.args.self.now;
 }
 
-pub loop-finished-preserved : goal.loop-finished-preserved
-loop-finished-preserved g c =
-    let l = c.loop-finished.invariant in
-    let t = c.take_next.ensures in
-    let s = c.in-Some.ensures in
+-- A run was shown, or it was bad.
+
+pub loop-run-preserved-then-hand_on : goal.loop-run-preserved-then-hand_on
+loop-run-preserved-then-hand_on g c =
+    let l = c.loop-run.invariant in
+    let look = c.in-Some.ensures in
     let h = c.hand_on.ensures in
+    let same : c.loop-run.taken + count_if c.hand_on.result ≡ c.loop-run.taken + 1 = ap (λ (b : Bool). c.loop-run.taken + count_if b) c.if-hand_on.true ∙ omega arith in
     record {
       keeps = keeps-on g.B.Bus g.met.B.Bus.composes.lent_stays_on _ _ _ l.keeps
-          (keeps-on g.B.Bus g.met.B.Bus.composes.lent_stays_on _ _ _ t.keeps h.keeps);
-      walks = (
-        _,
-        walks-next g.B.Bus g.R.Receiver g.met.B.Bus.composes.stays g.met.B.Bus.composes.joins
-            g.met.R.Receiver.joins c.args.bus.now c.loop-finished.bus c.take_next.new.bus c.hand_on.new.bus
-            c.args.receiver.now c.loop-finished.receiver c.hand_on.new.receiver c.args.self.now c.loop-finished.self c.take_next.new.self
-            c.hand_on.new.self l.walks.0 c.in-Some.finished l.keeps t.keeps l.walks.1 s.leaves s.looks h.others h.hands h.over,
-      );
+          (keeps-on g.B.Bus g.met.B.Bus.composes.lent_stays_on _ _ _ look.keeps h.keeps);
+      walks = walks-next g.B.Bus g.R.Receiver g.met.B.Bus.composes.stays g.met.B.Bus.composes.joins
+          g.met.R.Receiver.joins c.args.bus.now c.loop-run.bus c.look.new.bus c.hand_on.new.bus
+          c.args.receiver.now c.loop-run.receiver c.hand_on.new.receiver c.args.self.now c.loop-run.self c.take_run-parts.new.self
+          c.hand_on.new.self c.loop-run.taken (c.loop-run.taken + 1) c.in-Some.run' c.take_run-parts.result c.hand_on.result same l.keeps look.keeps
+          l.walks look.some look.most look.lengths look.looks c.take_run-parts.ensures.leaves h.others h.hands h.whole h.over;
     }
 
--- How many slots were taken is how many fewer are outstanding.
-number : (g : Over) (c : goal.After-receiving g) → c.loop-finished.invariant.walks.0 ≡ c.receiving-before.result - c.receiving.result
-number g c =
-    let walks = c.loop-finished.invariant.walks.1 in
+pub loop-run-preserved : goal.loop-run-preserved
+loop-run-preserved g c =
+    let l = c.loop-run.invariant in
+    let look = c.in-Some.ensures in
+    let h = c.hand_on.ensures in
+    let same : c.loop-run.taken + count_if c.hand_on.result ≡ c.loop-run.taken = ap (λ (b : Bool). c.loop-run.taken + count_if b) c.if-hand_on.false ∙ omega arith in
+    record {
+      keeps = keeps-on g.B.Bus g.met.B.Bus.composes.lent_stays_on _ _ _ l.keeps
+          (keeps-on g.B.Bus g.met.B.Bus.composes.lent_stays_on _ _ _ look.keeps h.keeps);
+      walks = walks-next g.B.Bus g.R.Receiver g.met.B.Bus.composes.stays g.met.B.Bus.composes.joins
+          g.met.R.Receiver.joins c.args.bus.now c.loop-run.bus c.look.new.bus c.hand_on.new.bus
+          c.args.receiver.now c.loop-run.receiver c.hand_on.new.receiver c.args.self.now c.loop-run.self c.take_run-parts.new.self
+          c.hand_on.new.self c.loop-run.taken c.loop-run.taken c.in-Some.run' c.take_run-parts.result c.hand_on.result same l.keeps look.keeps
+          l.walks look.some look.most look.lengths look.looks c.take_run-parts.ensures.leaves h.others h.hands h.whole h.over;
+    }
+
+-- Each frame had a slot that was outstanding at the beginning.
+pub overflow_add-taken : goal.overflow_add-taken
+overflow_add-taken g c =
+    let walks = c.loop-run.invariant.walks in
     omega (
       arith,
+      walks.least,
       walks.count,
-      ap (λ (d : DriverState). length d.staged) walks.others,
-      ap
-          (λ (d : DriverState). length d.buffers + length d.staged) c.in_default.ensures.stays,
-      c.receiving-before.ensures.count,
+      c.in-Some.ensures.some,
+      c.in-Some.ensures.outstanding,
       c.receiving.ensures.count,
+      c.receiving.type_inv,
     )
+
+pub returns-clause-one_owner : goal.returns-clause-one_owner
+returns-clause-one_owner g c =
+    let walks = c.loop-run.invariant.walks in
+    shows-owners g.R.Receiver.took c.args.receiver.now c.loop-run.receiver c.args.self.now c.loop-run.self c.loop-run.taken walks.bad_runs
+    (ap (λ (d : DriverState). d.layout) walks.others) walks.shows c.receiving.ensures.one_owner
 
 pub returns-clause-takes : goal.returns-clause-takes
 returns-clause-takes g c up held is =
-    let l = c.loop-finished.invariant in
+    let l = c.loop-run.invariant in
     let d = c.args.self.now in
-    let n = l.walks.0 in
-    let before = l.walks.1.takes up held is in
-    let look = c.in_default.ensures.looks up (held ++ before.handed_out)
+    let before = l.walks.takes up held is in
+    let look = c.in_default.ensures.looks up (held ++ pieces_of before.kept)
     (record { honest = l.keeps.honest is.honest; ready = before.ran.goes.flows.ready }) in
-    let still = c.in_default.ensures.stays in
-    let all = walks-look g.B.Bus g.R.Receiver g.met.B.Bus.composes.joins _ c.args.bus.now c.loop-finished.bus
-    c.take_next.new.bus c.args.receiver.now c.loop-finished.receiver (holding held d) (holding held c.loop-finished.self) n before
-    (subst (λ (last : DriverState). Ran g.B.Bus up (only (last_load c.loop-finished.self.oldest_receive c.loop-finished.self.buffers))
-    (at c.loop-finished.bus (holding (held ++ before.handed_out) c.loop-finished.self))
-    (at c.take_next.new.bus (holding (held ++ before.handed_out) last))) still look.ran) in
-    let Taken : ℕ → DriverState → Type 0 = λ k last.
-    TakesAll g.B.Bus g.R.Receiver k up (scene c.args.bus.now (holding held d) c.args.receiver.now)
-    (scene c.take_next.new.bus (holding held last) c.loop-finished.receiver) in
-    subst (λ (last : DriverState). Taken (c.receiving-before.result - c.receiving.result) last) (sym still)
-    (subst (λ (k : ℕ). Taken k c.loop-finished.self) (number g c) (record { none_left = look.none; takes = all }))
+    record {
+      none_left = look.none;
+      loads = look.loads;
+      loads_are = look.loads_are;
+      takes = walks-look g.B.Bus g.R.Receiver g.met.B.Bus.composes.joins _ c.args.bus.now c.loop-run.bus
+          c.look.new.bus c.args.receiver.now c.loop-run.receiver (holding held d) (holding held c.loop-run.self) c.loop-run.taken before
+          look.ran;
+    }

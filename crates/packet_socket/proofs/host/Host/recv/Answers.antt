@@ -1,6 +1,6 @@
 use Rattle.std.proofs.Common.{take, ap, sym, subst}
 use Rattle.driver_law.specs.DriverState.{DriverState}
-use Rattle.driver.specs.HandlerSteps.{IsFrameSize}
+use Rattle.driver.specs.Parts.{IsFrameSize}
 use Rattle.packet_socket.specs.HostCalls.{driver_of, host_at}
 use Rattle.packet_socket.specs.InsideHost.{host_of, host_with}
 use Rattle.packet_socket.specs.HostState.{SocketsState}
@@ -16,29 +16,21 @@ read-size-requires-clause-known g c =
     c.len.ensures.count c.in-Some.ensures.oldest in
     (can-come-back d before c.args.socket c.in-Some.received _ c.self.invariant parts).known
 
-pub read-size-requires-clause-size : goal.read-size-requires-clause-size
-read-size-requires-clause-size g c =
+pub read-size-requires-clause-whole : goal.read-size-requires-clause-whole
+read-size-requires-clause-whole g c =
     let d = c.self.inside.driver in
     let before = c.self.inside.sockets in
     let parts = entry-splits d before c.next.new.self c.args.socket c.len.result c.in-Some.received c.self.invariant c.if-socket-len.false
     c.len.ensures.count c.in-Some.ensures.oldest in
-    (can-come-back d before c.args.socket c.in-Some.received _ c.self.invariant parts).size.most
+    (can-come-back d before c.args.socket c.in-Some.received _ c.self.invariant parts).whole
 
-pub give-requires-clause-known : goal.give-requires-clause-known
-give-requires-clause-known g c =
+pub give-requires-clause-one_owner : goal.give-requires-clause-one_owner
+give-requires-clause-one_owner g c =
     let d = c.self.inside.driver in
     let before = c.self.inside.sockets in
     let parts = entry-splits d before c.next.new.self c.args.socket c.len.result c.in-Some.received c.self.invariant c.if-socket-len.false
     c.len.ensures.count c.in-Some.ensures.oldest in
-    (can-come-back d before c.args.socket c.in-Some.received _ c.self.invariant parts).known
-
-pub give-requires-clause-out : goal.give-requires-clause-out
-give-requires-clause-out g c =
-    let d = c.self.inside.driver in
-    let before = c.self.inside.sockets in
-    let parts = entry-splits d before c.next.new.self c.args.socket c.len.result c.in-Some.received c.self.invariant c.if-socket-len.false
-    c.len.ensures.count c.in-Some.ensures.oldest in
-    (can-come-back d before c.args.socket c.in-Some.received _ c.self.invariant parts).out
+    (can-come-back d before c.args.socket c.in-Some.received _ c.self.invariant parts).one_owner
 
 pub invariant_of-self-2 : goal.invariant_of-self-2
 invariant_of-self-2 g c =
@@ -70,7 +62,7 @@ returns-clause-ok g c = rw (← c.self.view_is) (
           c.give.ensures.owners;
       refilled = c.give.ensures.offers.refilled;
       legal = subst IsFrameSize (sym c.read-size.ensures.length)
-          (can-come-back d before c.args.socket c.in-Some.received _ c.self.invariant parts).size;
+          (can-come-back d before c.args.socket c.in-Some.received _ c.self.invariant parts).whole.size;
       rest = c.read-size.ensures.rest;
     })
 
@@ -94,7 +86,6 @@ returns-clause-receives g c = rw (← c.self.view_is) (λ up is.
       long = c.read-size.ensures.length;
     })
     (c.read-size.ensures.ran up held (record { honest = is.honest; ready = is.ready.ready }))
-    (λ first later one ready number long. c.read-size.ensures.frame up first later one (record { honest = is.honest; ready = ready })
-    number long)
-    (λ first later one number ready. c.give.ensures.gives up first later one number
+    (λ first pieces later ready. c.read-size.ensures.frame up first pieces later (record { honest = is.honest; ready = ready }))
+    (λ first pieces later numbers ready. c.give.ensures.gives up first pieces later numbers
     (record { honest = c.read-size.ensures.keeps.honest is.honest; ready = ready })))

@@ -1,0 +1,153 @@
+use Rattle.std.proofs.Common.{ℕ, ◌≡◌, Bool, List, length, length-set, refl, sym, ap, take, ◌-◌}
+use Rattle.std.proofs.Common.{◌∙◌, arith}
+use Rattle.std.specs.Prelude.{IsTrue}
+use Rattle.bus.proofs.Keeping.{keeps-here, keeps-on}
+use Rattle.driver_law.specs.Calls.{IsReady, at, held_at}
+use Rattle.driver_law.specs.DriverState.{DriverState, HandedOut, holding}
+use Rattle.adapter.specs.HostFrames.{finished_pieces}
+use Rattle.driver.specs.Parts.{FitIntoBuffers}
+use Rattle.driver.specs.declared.look.Run.{Run}
+use Rattle.driver.specs.InsideDriver.{state_of}
+use Rattle.driver.specs.declared.driver.Driver.TheInside.{Inside}
+use Rattle.driver.proofs.BufferQueue.{Receives, queue-split}
+use Rattle.driver.proofs.SeenSlots.{IsAdded, LoadsNext, NextSeen, finds-all_seen, finds-frame, finds-unfinished, fits-added, fits-none}
+use Rattle.driver.proofs.SeenSlots.{is-added, loads-next, never-six, next-shown, sees_slots-more, sees_slots-none, sum-added}
+use Rattle.driver.proofs.driver.Driver.look.Given.{Over}
+use Rattle.driver.proofs.driver.Driver.look.Goals.{After-add, After-descriptor_after-descriptor}
+use Rattle.driver.proofs.driver.Driver.look.Goals.{then-loop-run-test+else-run-outstanding, else-loop-run-test}
+use Rattle.driver.proofs.driver.Driver.look.Goals as goal
+
+pub loop-run-init : goal.loop-run-init
+loop-run-init g c =
+    let run = c.new-run.result in
+    let is = c.new-run.ensures in
+    record {
+      few = omega (arith, ap (λ (r : Run). r.count) is);
+      size = ap (λ (r : Run). length r.lengths) is;
+      outstanding = omega (arith, ap (λ (r : Run). r.count) is);
+      short = omega (arith, ap (λ (r : Run). r.length) is);
+      sum_is = rw is refl;
+      fits = λ whole. fits-none run (ap (λ (r : Run). r.count) is);
+      keeps = keeps-here g.B.Bus g.met.B.Bus.composes.lent_stays_here c.args.bus.now;
+      sees = λ up held ready. sees_slots-none g.B.Bus g.met.B.Bus.composes.stays run (holding held c.args.self.now) c.args.bus.now
+          (ap (λ (r : Run). r.count) is) (ap (λ (r : Run). r.length) is) (ap (λ (r : Run). r.whole) is) ready.ready;
+    }
+
+-- What a load shows.
+next : (g : Over) (c : After-descriptor_after-descriptor g) (up : Bool) (held : List HandedOut)
+    → IsReady g.B.Bus up (held_at held (at c.args.bus.now c.args.self.now))
+    → LoadsNext g.B.Bus c.loop-run.run c.descriptor_after-descriptor.result up (holding held c.args.self.now) c.args.bus.now
+    c.descriptor_after-descriptor.new.bus
+next g c up held is =
+    let i = c.loop-run.invariant in
+    let sees = i.sees up held is in
+    loads-next g.B.Bus g.met.B.Bus.composes.joins c.loop-run.run c.descriptor_after-descriptor.result (holding held c.args.self.now)
+    c.args.bus.now c.loop-run.bus c.descriptor_after-descriptor.new.bus sees
+    (c.descriptor_after-descriptor.ensures.looks up held
+    (record { honest = i.keeps.honest is.honest; ready = sees.ran.goes.flows.ready }))
+
+-- How many slots are outstanding.
+outstanding : (inside : Inside) (d : DriverState) (all staged : ℕ) → Receives inside → state_of inside ≡ d
+    → all ≡ length inside.buffers.items → staged ≡ inside.staged → all - staged ≡ length d.buffers
+outstanding inside d all staged receives shown long some =
+    omega (arith, (queue-split inside receives).outstanding, ap (λ (s : DriverState). length s.buffers) shown, long, some)
+
+-- The next slot isn't finished.
+pub returns-then-not-is_done-clause-looks : goal.returns-then-not-is_done-clause-looks
+returns-then-not-is_done-clause-looks g c up held is =
+    finds-unfinished g.B.Bus c.loop-run.run c.descriptor_after-descriptor.result (holding held c.args.self.now) c.args.bus.now
+    c.descriptor_after-descriptor.new.bus (next g c.before.before.before up held is) (sym c.if-not-is_done.ensures)
+    (omega (
+      arith,
+      c.if-run-outstanding.true,
+      outstanding c.self.inside c.args.self.now c.len.result c.from.result c.self.invariant.receives c.self.view_is c.len.ensures.len
+          c.from.ensures,
+    ))
+
+-- It is finished.
+
+abbrev loaded : (g : Over) → After-add g → After-descriptor_after-descriptor g
+loaded g c = c.before.before.before.before.before.before
+
+added : (g : Over) (c : After-add g) → IsAdded c.loop-run.run c.add.new.self c.descriptor_after-descriptor.result
+added g c =
+    let a = c.add.ensures in
+    is-added c.loop-run.run c.add.new.self c.descriptor_after-descriptor.result c.loop-run-test.true c.loop-run.invariant.size a.lengths
+    a.count a.length
+
+shown : (g : Over) (c : After-add g) (up : Bool) (held : List HandedOut)
+    → (is : IsReady g.B.Bus up (held_at held (at c.args.bus.now c.args.self.now)))
+    → NextSeen (finished_pieces c.args.self.now.oldest_receive (g.B.Bus.world c.descriptor_after-descriptor.new.bus))
+    (next g (loaded g c) up held is).sees.seen c.descriptor_after-descriptor.result
+shown g c up held is =
+    next-shown g.B.Bus c.loop-run.run c.descriptor_after-descriptor.result (holding held c.args.self.now) c.args.bus.now
+    c.descriptor_after-descriptor.new.bus (next g (loaded g c) up held is) (sym c.if-not-is_done.ensures)
+
+whole : (g : Over) (c : After-add g) (up : Bool) (held : List HandedOut)
+    → IsReady g.B.Bus up (held_at held (at c.args.bus.now c.args.self.now)) → IsTrue c.add.new.self.whole
+whole g c up held is = c.add.ensures.whole.1 ((shown g c up held is).sound, (next g (loaded g c) up held is).sees.whole)
+
+fits : (g : Over) (c : After-add g) → IsTrue c.add.new.self.whole → FitIntoBuffers (take c.add.new.self.count c.add.new.self.lengths)
+fits g c whole =
+    let both = c.add.ensures.whole.0 whole in
+    fits-added c.loop-run.run c.add.new.self c.descriptor_after-descriptor.result (added g c) both.0 (c.loop-run.invariant.fits both.1)
+
+pub returns-then-is_ended-clause-fits : goal.returns-then-is_ended-clause-fits
+returns-then-is_ended-clause-fits g c frame = fits g c.before.before.before.before.before (c.is_frame.ensures.0 frame).0
+
+pub returns-then-is_ended-clause-looks : goal.returns-then-is_ended-clause-looks
+returns-then-is_ended-clause-looks g c up held is =
+    let there = c.before.before.before.before.before in
+    let run : Run = record c.add.new.self { whole = c.is_frame.result } in
+    let a = added g there in
+    let same : IsAdded c.loop-run.run run c.descriptor_after-descriptor.result =
+    record { lengths = a.lengths; length_is = a.length_is; count = a.count } in
+    finds-frame g.B.Bus c.loop-run.run run c.descriptor_after-descriptor.result (holding held c.args.self.now) c.args.bus.now
+    c.descriptor_after-descriptor.new.bus (next g (loaded g there) up held is) (shown g there up held is) same (sym c.if-is_ended.ensures)
+    (λ legal. c.is_frame.ensures.1 (whole g there up held is, legal))
+
+pub loop-run-preserved : goal.loop-run-preserved
+loop-run-preserved g c =
+    let i = c.loop-run.invariant in
+    let a = c.add.ensures in
+    let there = c.before.before.before in
+    let run = c.loop-run.run in
+    let run' = c.add.new.self in
+    let desc = c.descriptor_after-descriptor.result in
+    record {
+      few = omega (arith, a.count, c.loop-run-test.true);
+      size = ap length a.lengths ∙ length-set run.lengths run.count desc.length ∙ i.size;
+      outstanding = omega (
+        arith,
+        a.count,
+        c.if-run-outstanding.true,
+        outstanding c.self.inside c.args.self.now c.len.result c.from.result
+            c.self.invariant.receives c.self.view_is c.len.ensures.len c.from.ensures,
+      );
+      short = omega (arith, a.count, a.length, i.short);
+      sum_is = sum-added run run' desc (added g there) i.sum_is;
+      fits = fits g there;
+      keeps = keeps-on g.B.Bus g.met.B.Bus.composes.lent_stays_on _ _ _ i.keeps c.descriptor_after-descriptor.ensures.keeps;
+      sees = λ up held is. sees_slots-more g.B.Bus run run' desc (holding held c.args.self.now) c.args.bus.now
+          c.descriptor_after-descriptor.new.bus (next g (loaded g there) up held is) (shown g there up held is) (added g there)
+          (sym c.if-is_ended.ensures) (whole g there up held is);
+    }
+
+-- Each outstanding slot was seen.
+pub returns-then-run-lt-MOST_PARTS-clause-looks : goal.returns-then-run-lt-MOST_PARTS-clause-looks
+returns-then-run-lt-MOST_PARTS-clause-looks g c up held is =
+    let i = c.loop-run.invariant in
+    finds-all_seen g.B.Bus c.loop-run.run (holding held c.args.self.now) c.args.bus.now c.loop-run.bus (i.sees up held is)
+    (let all = outstanding c.self.inside c.args.self.now c.len.result c.from.result c.self.invariant.receives c.self.view_is
+    c.len.ensures.len c.from.ensures in
+    elim c.loop-run-test.branch [
+      | then-loop-run-test+else-run-outstanding w ↦ omega (arith, w.if-run-outstanding.false, all, i.outstanding)
+      | else-loop-run-test w ↦ omega (arith, w.loop-run-test.false, c.if-run-lt-MOST_PARTS.true)
+    ])
+
+-- Six slots without an end were seen.
+pub returns-clause-looks : goal.returns-clause-looks
+returns-clause-looks g c up held is =
+    let i = c.loop-run.invariant in
+    absurd (never-six g.B.Bus c.loop-run.run (holding held c.args.self.now) c.args.bus.now c.loop-run.bus (i.sees up held is)
+    (omega (arith, c.if-run-lt-MOST_PARTS.false, i.few)))

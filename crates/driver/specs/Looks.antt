@@ -1,0 +1,62 @@
+-- What a driver finds in its oldest receive slots, by loads of their descriptors.
+use Rattle.std.specs.Prelude.{◌≡◌, ◌+◌, ◌++◌, ◌∷◌, [], ℕ, Bool, true, false, IsTrue, List, None, Option, Some, length, map, min, replicate}
+use Rattle.std.specs.Prelude.{suc, take}
+use Rattle.std.specs.List.{concat}
+use Rattle.dma_memory.specs.Layout.{buffer_bytes}
+use Rattle.registers.specs.Bits.{is_set}
+use Rattle.descriptors.specs.RxStatus.{eop, status_bits}
+use Rattle.descriptors.specs.declared.rx_desc.RxDesc.{RxDesc}
+use Rattle.rx_engine.specs.Pieces.{IsLastSize, Piece, parts}
+use Rattle.rx_engine.specs.Pieces.Piece.{Last}
+use Rattle.adapter.specs.HostFrames.{finished_pieces}
+use Rattle.bus.specs.declared.bus.Bus.{Ghosts}
+use Rattle.driver_law.specs.Calls.{Moment, Ran, frames_ended, in_world_of, only, receive_loads}
+use Rattle.driver_law.specs.OldestSlot.{LooksAtSlot}
+use Rattle.driver.specs.declared.look.Run.{Run}
+
+-- no slots
+abbrev pub new_run : Run
+new_run = record { lengths = replicate 6 0; count = 0; length = 0; whole = true }
+
+-- a piece of a whole frame may have this size, if its frame ends in it or not
+abbrev pub IsPartSize : (ends : Bool) → ℕ → Type 0
+IsPartSize true n = IsLastSize buffer_bytes n
+IsPartSize false n = n ≡ buffer_bytes
+
+-- whether a frame ends in a slot with this descriptor: EOP
+abbrev pub ends : RxDesc → Bool
+ends descriptor = is_set (status_bits descriptor.status) eop
+
+-- A descriptor may be that of such a piece.
+pub record IsSoundPart (descriptor : RxDesc) : Type 0 where
+  pub no_errors : descriptor.errors ≡ 0
+  pub size : IsPartSize (ends descriptor) descriptor.length
+
+-- Over a bus that obeys the law.
+
+-- The descriptor of the slot this many places after the oldest was loaded.
+abbrev pub LooksAtPlace : {B : Type 0} → Ghosts B → (places : ℕ) → RxDesc → (up : Bool) → (old new : Moment B) → Type 0
+LooksAtPlace bus places descriptor up old new = LooksAtSlot bus up places descriptor old new.bus
+
+-- No frame ends in finished slots. The descriptors of the finished slots, and of the next outstanding one if there is one, were loaded.
+pub record FindsNoFrame {B : Type 0} (bus : Ghosts B) (up : Bool) (old new : Moment B) : Type 0 where
+  pub none : frames_ended (in_world_of bus new) ≡ []
+  pub loads : ℕ
+  pub loads_are : loads ≡ min (suc (length (finished_pieces new.driver.oldest_receive (bus.world new.bus)))) (length new.driver.buffers)
+  pub ran : Ran bus up (only (receive_loads old.driver.layout old.driver.oldest_receive loads)) old new
+
+-- The oldest finished slots contain a whole frame: parts, and then its last piece. Their descriptors were loaded.
+pub record FindsFrame {B : Type 0} (bus : Ghosts B) (run : Run) (up : Bool) (old new : Moment B) : Type 0 where
+  pub seen : List (List ℕ)
+  pub last : List ℕ
+  pub later : List Piece
+  pub pieces : finished_pieces new.driver.oldest_receive (bus.world new.bus) ≡ parts seen ++ Last last ∷ later
+  pub count : run.count ≡ length seen + 1
+  pub lengths : take run.count run.lengths ≡ map length (seen ++ last ∷ [])
+  pub length_is : run.length ≡ length (concat seen ++ last)
+  pub whole : IsTrue run.whole
+  pub ran : Ran bus up (only (receive_loads old.driver.layout old.driver.oldest_receive run.count)) old new
+
+abbrev pub LooksAt : {B : Type 0} → Ghosts B → Option Run → (up : Bool) → (old new : Moment B) → Type 0
+LooksAt bus None = FindsNoFrame bus
+LooksAt bus (Some run) = FindsFrame bus run

@@ -1,0 +1,85 @@
+-- The pieces of received frames, in their buffers (our choice).
+use Rattle.std.specs.Prelude.{◌≡◌, ◌-◌, ◌≤◌, ◌++◌, ◌∷◌, [], ℕ, All, List, Option, Some, None, flat_map, length, map, replicate, sum}
+use Rattle.descriptors.specs.Frames.{longest_frame, shortest_frame}
+use Rattle.rx_engine.specs.Addresses.{ether_type}
+use Rattle.dma_memory.specs.Layout.{Counts, buffer_bytes}
+use Rattle.bus.specs.declared.event.Access.{Access}
+use Rattle.bus.specs.declared.event.Access.TheVariants.{Loads}
+use Rattle.driver_law.specs.DriverState.{HandedOut, buffer_at, frame_of}
+use Rattle.driver.specs.declared.parts.Part.{Part}
+use Rattle.driver.specs.declared.parts.Parts.TheInside.{Inside}
+use Rattle.driver.specs.declared.receiver.Received.{Received}
+
+-- How `Parts` keeps them.
+
+-- those that are in an array
+abbrev pub parts_in : List (Option Part) → List Part
+parts_in [] = []
+parts_in (Some part ∷ later) = part ∷ parts_in later
+parts_in (None ∷ later) = parts_in later
+
+-- these pieces first, and then empty places
+abbrev pub filled : List Part → (empty : ℕ) → List (Option Part)
+filled parts empty = map (λ (part : Part). Some part) parts ++ replicate empty None
+
+pub record IsFilled (inside : Inside) : Type 0 where
+  pub places : inside.places ≡ filled (parts_in inside.places) (6 - inside.count)
+  pub count : length (parts_in inside.places) ≡ inside.count
+  pub most : inside.count ≤ 6
+
+-- Buffers and sizes.
+
+-- the numbers of their buffers
+abbrev pub buffers_in : List Part → List ℕ
+buffers_in parts = map (λ (part : Part). part.buffer) parts
+
+-- their sizes in bytes
+abbrev pub lengths_in : List Part → List ℕ
+lengths_in parts = map (λ (part : Part). part.length) parts
+
+-- the buffers of what was received, one frame after the other
+abbrev pub buffers_of : List Received → List ℕ
+buffers_of list = flat_map (λ (received : Received). buffers_in received.parts) list
+
+-- the loads of all pieces of a frame, in order
+abbrev pub part_loads : Counts → List Part → List Access
+part_loads counts parts = map (λ (part : Part). Loads (buffer_at counts part.buffer) part.length) parts
+
+-- A received frame may have this size.
+pub record IsFrameSize (size : ℕ) : Type 0 where
+  pub least : shortest_frame ≤ size
+  pub most : size ≤ longest_frame
+
+-- Each of these sizes is at most that of a receive buffer.
+abbrev pub FitIntoBuffers : List ℕ → Type 0
+FitIntoBuffers sizes = All (λ size. size ≤ buffer_bytes) sizes
+
+-- It is as large as its pieces together, and may have this size. Each piece fits into its buffer.
+pub record IsWholeFrame (received : Received) : Type 0 where
+  pub size : IsFrameSize received.length
+  pub sum : received.length ≡ sum (lengths_in received.parts)
+  pub fits : FitIntoBuffers (lengths_in received.parts)
+
+abbrev pub AreFrames : List Received → Type 0
+AreFrames list = All IsWholeFrame list
+
+-- Frames that others hold.
+
+-- a piece that others hold, as a part of a received frame
+abbrev pub part_of : HandedOut → Part
+part_of one = record { buffer = one.number; length = length one.bytes }
+
+abbrev pub parts_of : List HandedOut → List Part
+parts_of pieces = map part_of pieces
+
+-- what a receiver is shown of the frame that these pieces make up
+abbrev pub received_of : List HandedOut → Received
+received_of pieces = record { parts = parts_of pieces; length = length (frame_of pieces); ether_type = ether_type (frame_of pieces) }
+
+-- the frames of which each list has the pieces
+abbrev pub frames_of : List (List HandedOut) → List (List ℕ)
+frames_of taken = map frame_of taken
+
+-- all these pieces, in order
+abbrev pub pieces_of : List (List HandedOut) → List HandedOut
+pieces_of taken = flat_map (λ (pieces : List HandedOut). pieces) taken

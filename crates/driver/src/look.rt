@@ -1,0 +1,156 @@
+// A driver looks at its oldest receive slots.
+
+ghost use Rattle.std.specs.Prelude.{◌≡◌, ◌↔◌, ◌+◌, ◌*◌, ◌<◌, ◌≤◌, length};
+ghost use Rattle.std.specs.Prelude.{replicate, slice_set, sum, take, IfNone, IfSome, IsTrue};
+ghost use Rattle.dma_memory.specs.Layout.{size_of};
+ghost use Rattle.registers.specs.Bits.{HasBit, is_set};
+ghost use Rattle.descriptors.specs.RxStatus.{dd, eop, status_bits};
+ghost use Rattle.bus.specs.Keeping.{Keeps};
+ghost use Rattle.driver_law.specs.Calls.{WhereReady, at};
+ghost use Rattle.driver.specs.Looks.{IsSoundPart, LooksAt, LooksAtPlace, new_run};
+ghost use Rattle.driver.specs.Parts.{FitIntoBuffers, IsFrameSize};
+
+use crate::Driver;
+use crate::parts::MOST_PARTS;
+use crate::refill::receive_slot;
+use bitflags::Flags;
+use bus::Bus;
+use descriptors::{RX_DESC_BYTES, RxDesc, RxStatus};
+use dma_memory::BUFFER_BYTES;
+
+/// The size of the shortest frame that an adapter receives, in bytes, without its check sequence.
+const SHORTEST_RECEIVED: u32 = 60;
+
+/// The size of the longest frame that an adapter receives, in bytes, without its check sequence.
+const LONGEST_RECEIVED: u32 = 1518;
+
+/// The oldest finished slots, up to one with EOP, or six without EOP.
+#[derive(Clone, Copy)]
+pub(crate) struct Run {
+    /// The length in each slot's descriptor.
+    pub lengths: [u16; MOST_PARTS],
+    /// The number of slots.
+    pub count: usize,
+    /// The sum of their lengths.
+    pub length: u32,
+    /// Whether they contain a whole frame: EOP in the last descriptor, no errors, each buffer full but the last, and a
+    /// legal length.
+    pub whole: bool,
+}
+
+/// Whether the adapter is done with a descriptor.
+fn is_done(descriptor: &RxDesc) -> bool
+    ensures { result ≡ is_set (status_bits descriptor.now.status) dd }
+{
+    descriptor.status.contains(RxStatus::DD)
+}
+
+/// Whether a packet ends in a descriptor's buffer: EOP.
+fn is_ended(descriptor: &RxDesc) -> bool
+    ensures { result ≡ is_set (status_bits descriptor.now.status) eop }
+{
+    descriptor.status.contains(RxStatus::EOP)
+}
+
+/// Whether a slot with this descriptor may contain a piece of a whole frame: it has no errors, and it is full, or the
+/// last and not empty.
+fn is_sound(descriptor: &RxDesc) -> bool
+    ensures { IsTrue result ↔ IsSoundPart descriptor.now }
+{
+    if descriptor.errors != 0 {
+        return false;
+    }
+    if is_ended(descriptor) {
+        1 <= descriptor.length && u64::from(descriptor.length) <= BUFFER_BYTES
+    } else {
+        u64::from(descriptor.length) == BUFFER_BYTES
+    }
+}
+
+impl Run {
+    /// No slots.
+    fn new() -> Run
+        ensures { result ≡ new_run }
+    {
+        Run {
+            lengths: [0; MOST_PARTS],
+            count: 0,
+            length: 0,
+            whole: true,
+        }
+    }
+
+    /// Appends a slot.
+    fn add(&mut self, descriptor: &RxDesc)
+        requires room { self.old.count < 6 }
+        requires short { self.old.length ≤ 65535 * self.old.count }
+        ensures lengths { self.new.lengths ≡ slice_set self.old.lengths self.old.count descriptor.now.length }
+        ensures count { self.new.count ≡ self.old.count + 1 }
+        ensures length { self.new.length ≡ self.old.length + descriptor.now.length }
+        ensures whole { IsTrue self.new.whole ↔ (IsSoundPart descriptor.now × IsTrue self.old.whole) }
+    {
+        self.whole = is_sound(descriptor) && self.whole;
+        self.lengths[self.count] = descriptor.length;
+        self.length += u32::from(descriptor.length);
+        self.count += 1;
+    }
+
+    /// Whether it contains a whole frame, if EOP is in its last descriptor.
+    fn is_frame(&self) -> bool
+        ensures { IsTrue result ↔ (IsTrue self.now.whole × IsFrameSize self.now.length) }
+    {
+        self.whole && SHORTEST_RECEIVED <= self.length && self.length <= LONGEST_RECEIVED
+    }
+}
+
+impl Driver {
+    /// Loads the descriptor of the slot that is this many places after the oldest.
+    fn descriptor_after<B: Bus>(&self, bus: &mut B, places: usize) -> RxDesc
+        requires memory { size_of self.now.layout ≤ B.extent bus.old }
+        requires outstanding { places < length self.now.buffers }
+        ensures keeps { Keeps B.Bus bus.old bus.new }
+        ensures looks { WhereReady B.Bus (at bus.old self.now) (at bus.new self.now)
+            (LooksAtPlace B.Bus places result) }
+    {
+        let mut bytes = [0; RX_DESC_BYTES];
+        let count = usize::from(self.layout.rx());
+        let slot = (usize::from(self.oldest_receive) + places) % count;
+        bus.load(receive_slot(slot as u16), &mut bytes);
+        RxDesc::from_bytes(&bytes)
+    }
+
+    /// Looks at the oldest outstanding slots, each by one load of its descriptor, up to one with EOP. Returns `None` if
+    /// a slot before that isn't finished or isn't outstanding; otherwise the slots up to the one with EOP, or six
+    /// without EOP. DD, EOP and the length of a slot are of the same load. No slot is taken.
+    pub(crate) fn look<B: Bus>(&self, bus: &mut B) -> Option<Run>
+        requires memory { size_of self.now.layout ≤ B.extent bus.old }
+        ensures keeps { Keeps B.Bus bus.old bus.new }
+        ensures lengths { IfSome result (λ run. length run.lengths ≡ 6) }
+        ensures some { IfSome result (λ run. 1 ≤ run.count) }
+        ensures most { IfSome result (λ run. run.count ≤ 6) }
+        ensures outstanding { IfSome result (λ run. run.count ≤ length self.now.buffers) }
+        ensures sum { IfSome result (λ run. run.length ≡ sum (take run.count run.lengths)) }
+        ensures size { IfSome result (λ run. IsTrue run.whole → IsFrameSize run.length) }
+        ensures fits { IfSome result (λ run. IsTrue run.whole → FitIntoBuffers (take run.count run.lengths)) }
+        ensures looks { WhereReady B.Bus (at bus.old self.now) (at bus.new self.now) (LooksAt B.Bus result) }
+    {
+        let outstanding = self.buffers.len() - usize::from(self.staged);
+        let mut run = Run::new();
+        while run.count < MOST_PARTS && run.count < outstanding {
+            let descriptor = self.descriptor_after(bus, run.count);
+            if !is_done(&descriptor) {
+                return None;
+            }
+            run.add(&descriptor);
+            if is_ended(&descriptor) {
+                run.whole = run.is_frame();
+                return Some(run);
+            }
+        }
+        if run.count < MOST_PARTS {
+            return None;
+        }
+        run.whole = false;
+        Some(run)
+    }
+}
