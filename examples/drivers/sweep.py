@@ -15,9 +15,11 @@ sys.dont_write_bytecode = True
 from adapter import Adapter, Refused  # noqa: E402
 from driver import BUGS, DeviceError, Driver  # noqa: E402
 
-ROUNDS = 8
+ROUNDS = 6
+# The lengths of frames, in turn. The two that arrive in a round take at most seven receive buffers.
+LENGTHS = 60, 257, 1518, 60, 256, 1518
 # The number of frames that are sent after these without a pause.
-BURST = 12
+BURST = 8
 # The most steps that are played before an access.
 STEPS = 3
 SELF, OTHER = bytes.fromhex("020000000001"), bytes.fromhex("020000000009")
@@ -25,7 +27,7 @@ SELF, OTHER = bytes.fromhex("020000000001"), bytes.fromhex("020000000009")
 
 def frame_of(number, to, source):
     """Returns a frame whose length and bytes depend on the number."""
-    return to + source + b"\x88\xb5" + bytes([number]) * (46 + number)
+    return (to + source + b"\x88\xb5").ljust(LENGTHS[number % len(LENGTHS)], bytes([number]))
 
 
 def handle(adapter, driver):
@@ -46,16 +48,29 @@ def fault_of(name, wanted, got):
     return None if len(got) == len(wanted) else f"a frame was {name} that never was"
 
 
+def arrive(adapter, number, came):
+    """Lets a frame arrive, and notes it if the adapter stores it."""
+    frame = frame_of(number, SELF, OTHER)
+    if adapter.arrive(frame) == "stored":
+        came.append(frame)
+
+
+def send(driver, number, sent):
+    """Sends a frame, and notes it unless the ring is full."""
+    frame = frame_of(number, OTHER, SELF)
+    if driver.send(frame):
+        sent.append(frame)
+
+
 def exchange(adapter, driver):
     """Runs rounds of frames that arrive and are sent, and then a burst. Returns the first fault, or None."""
     came, sent = [], []
     for number in range(ROUNDS):
-        for frame in (frame_of(2 * number + n, SELF, OTHER) for n in range(2)):
-            if adapter.arrive(frame) == "stored":
-                came.append(frame)
-        frame = frame_of(number, OTHER, SELF)
-        if driver.send(frame):
-            sent.append(frame)
+        arrive(adapter, 2 * number, came)
+        send(driver, number, sent)
+        # The first frame is finished before the second arrives. So the handler runs while the adapter moves the second.
+        adapter.settle()
+        arrive(adapter, 2 * number + 1, came)
         handle(adapter, driver)
         # Now the adapter does all that is left. If it doesn't interrupt the driver for that, nothing else does.
         adapter.settle()
@@ -68,10 +83,8 @@ def exchange(adapter, driver):
 
 def burst(adapter, driver, sent):
     """Sends frames one after the other, after those already sent. Returns the first fault, or None."""
-    for number in range(BURST):
-        frame = frame_of(ROUNDS + number, OTHER, SELF)
-        if driver.send(frame):
-            sent.append(frame)
+    for number in range(ROUNDS, ROUNDS + BURST):
+        send(driver, number, sent)
         if driver.sent > len(adapter.wire):
             return f"the buffer of frame {driver.sent - 1} was freed before the frame was on the wire"
     adapter.settle()
