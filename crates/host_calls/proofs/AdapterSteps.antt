@@ -1,16 +1,22 @@
 -- The steps of its adapter in a drain.
-use Rattle.std.proofs.Common.{◌≡◌, ◌≢◌, ◌≤◌, ◌<◌, ◌+◌, ◌-◌, ◌*◌, ◌⊎◌, ◌++◌, ◌∷◌, [], ℕ, Bool, true, false, Option, Some, None, List, length}
+use Rattle.std.proofs.Common.{◌≡◌, ◌≢◌, ◌≤◌, ◌<◌, ◌+◌, ◌-◌, ◌*◌, ◌⊎◌, ◌++◌, ◌∷◌, [], ℕ, Bool, true, false}
+use Rattle.std.proofs.Common.{Option, Some, None, List, drop, length}
 use Rattle.std.proofs.Common.{refl, sym, ap, subst, ◌∙◌, arith, if◌then◌else◌, inl, inr, replicate}
 use Rattle.std.specs.List.{All}
-use Rattle.std.proofs.lemmas.Bool.{eq-eqb}
+use Rattle.std.proofs.lemmas.Bool.{eq-eqb, leb-false, leb-true}
 use Rattle.std.proofs.lemmas.Bool.Decides.{eqb_tells}
-use Rattle.std.proofs.lemmas.List.{length-drop}
+use Rattle.std.proofs.lemmas.List.{length-drop, length-take}
 use Rattle.std.proofs.lemmas.List.Elements.{All-cons}
 use Rattle.circular_buffer.proofs.Places.{slice_get-some}
+use Rattle.dma_memory.specs.Layout.{buffer_bytes}
+use Rattle.rx_engine.specs.Moving.{left_bytes}
+use Rattle.rx_engine.specs.Receiver.{oldest}
 use Rattle.rx_engine.specs.declared.engine.Work.{Work}
+use Rattle.adapter.specs.HostAreas.{buffer_size}
 use Rattle.adapter.specs.HostFrames.{frames_held}
+use Rattle.adapter.specs.Receiving.{piece_size}
 use Rattle.adapter.specs.Slots.{slot_of_work}
-use Rattle.adapter.specs.State.{AdapterState}
+use Rattle.adapter.specs.State.{AdapterState, IsAdapter}
 use Rattle.adapter.specs.Steps.{Answers}
 use Rattle.adapter.specs.Outcomes.{FrameOutcome, framed}
 use Rattle.adapter.specs.World.{World}
@@ -32,16 +38,17 @@ use Rattle.packet_socket.specs.HostState.{HostState}
 use Rattle.host_calls.proofs.Calling.{runs-alone}
 use Rattle.host_calls.proofs.HostTrails.{happens-alone, none-alone}
 use Rattle.host_calls.specs.CallsOfHosts.{HostRuns}
-use Rattle.host_calls.specs.DrainedHosts.{CanBeDrained, IsDrainStep}
+use Rattle.host_calls.specs.DrainedHosts.{CanBeDrained, IsDrainStep, count_left, pieces_left}
 use Rattle.host_calls.specs.DrainSteps.{StepsOn, count_line, count_pending}
 use Rattle.host_calls.proofs.JoinedSteps.{nothing-stored}
-use Rattle.host_calls.proofs.SocketCounts.{held-counted, held-flows}
-use Rattle.host_calls.proofs.WholeFrames.{all-last, never-part}
+use Rattle.host_calls.proofs.SocketCounts.{held-flows}
+use Rattle.host_calls.proofs.PiecesLeft.{count_ending, ending-most, held-counted, left-last, left-part}
 use Rattle.packet_socket.specs.HostCalls.{did}
 use Rattle.host_calls.specs.ConnectedHosts.{connected}
 
 -- A step that was taken, by itself.
 pub record TakesStep (place : ℕ) (kind : StepKind) (answer : FrameOutcome) (a b : List StationState) : Type 0 where
+  pub adapter : IsAdapter (world_at a place).adapter
   pub answers : Answers kind true (world_at a place).memory (world_at a place).adapter answer
   pub leads : LeadsTo place (At place (Steps kind true answer) ∷ []) a b
   pub world : world_at b place ≡ world_after_step kind answer (world_at a place)
@@ -58,6 +65,7 @@ takes-step place kind answer a b below other event is =
       suits_wire = λ same. absurd (other same);
     } in
     record {
+      adapter = event.0;
       answers = event.1;
       leads = (occurs, tt, is);
       world = ap (λ (ss : List StationState). world_at ss place) is
@@ -112,7 +120,11 @@ count_buffered world = length world.adapter.receiver.buffer
 abbrev count_work : World → ℕ
 count_work world = length (slot_of_work world.adapter.receiver.work)
 
--- how many steps its frame in work asks for, or else its line
+-- 1 if a frame ends in its piece in work
+abbrev count_ends : World → ℕ
+count_ends world = count_ending world.adapter.receiver.work
+
+-- how many steps its piece in work asks for, or else its line
 abbrev count_asked : World → ℕ
 count_asked world = count_pending world.adapter.receiver.work (count_line world.adapter.causes)
 
@@ -122,17 +134,17 @@ step-on : (steps moves place : ℕ) (kind : StepKind) (answer : FrameOutcome) (a
     → happened_in (At place (Steps kind true answer) ∷ []) ≡ replicate moves (Moved place)
     → count_buffered (world_at a place) ≡ moves + count_buffered (world_at b place)
     → (world_at b place).adapter.filter ≡ (world_at a place).adapter.filter
-    → steps + 3 * count_buffered (world_at b place) + count_asked (world_at b place) + count_work (world_at a place)
-    ≤ 3 * count_buffered (world_at a place) + count_asked (world_at a place) + count_work (world_at b place)
-    → 2 * count_buffered (world_at a place) + count_work (world_at a place)
-    ≤ steps + 2 * count_buffered (world_at b place) + count_work (world_at b place)
+    → steps + moves + 4 * count_left (world_at b place) + count_asked (world_at b place) + count_ends (world_at a place)
+    ≤ 4 * count_left (world_at a place) + count_asked (world_at a place) + count_ends (world_at b place)
+    → 2 * count_left (world_at a place) + count_work (world_at a place)
+    ≤ steps + 2 * count_left (world_at b place) + count_work (world_at b place)
     → StepsOn steps place [] (connected h a) (connected h b)
 step-on steps moves place kind answer a b h receives stands takes moved buffered filter fewer least =
     let played = At place (Steps kind true answer) ∷ [] in
     let runs = step-runs place kind answer a b h stands takes in
     let total = held-stays place moves played a b h takes.leads moved runs in
-    let one = held-counted h.driver.oldest_receive (world_at a place) (all-last _ (world_at a place) stands.ready.ready) in
-    let two = held-counted h.driver.oldest_receive (world_at b place) (all-last _ (world_at b place) runs.flows.driver.ready) in
+    let one = held-counted h.driver.oldest_receive (world_at a place) in
+    let two = held-counted h.driver.oldest_receive (world_at b place) in
     record {
       played = played;
       leads = takes.leads;
@@ -147,13 +159,13 @@ step-on steps moves place kind answer a b h receives stands takes moved buffered
         filter = filter;
       };
       counts = record {
-        most = omega (arith, total, fewer, one, two);
+        most = omega (arith, total, fewer, buffered, one, two);
         least = omega (arith, least);
         held = omega (arith, total);
       };
     }
 
--- The frame in work is ended.
+-- The piece in work is finished.
 done-steps : (place : ℕ) (a b : List StationState) (h : HostState) → CanBeDrained h (world_at a place)
     → TakesStep place RxDone outcome.Done a b → StepsOn 1 place [] (connected h a) (connected h b)
 done-steps place a b h stands takes =
@@ -161,11 +173,13 @@ done-steps place a b h stands takes =
     let behind = work-none (world_at b place).adapter.receiver.work (ap (λ (w : World). w.adapter.receiver.work) takes.world) in
     let same : count_buffered (world_at b place) ≡ count_buffered (world_at a place) =
     ap (λ (w : World). count_buffered w) takes.world in
+    let left : count_left (world_at b place) ≡ count_left (world_at a place) = ap (λ (w : World). count_left w) takes.world in
+    let ends = ending-most (world_at a place).adapter.receiver.work in
     let pending = before.1 (count_line (world_at a place).adapter.causes) in
     let pending' = behind.1 (count_line (world_at b place).adapter.causes) in
     step-on 1 0 place RxDone outcome.Done a b h (inr refl) stands takes refl (omega (arith, same))
-    (ap (λ (w : World). w.adapter.filter) takes.world) (omega (arith, before.0, behind.0, same, pending, pending'))
-    (omega (arith, before.0, behind.0, same))
+    (ap (λ (w : World). w.adapter.filter) takes.world) (omega (arith, before.0, left, ends, pending, pending'))
+    (omega (arith, before.0, behind.0, left))
 
 -- There was none.
 idle-steps : (place : ℕ) (kind : StepKind) (a b : List StationState) (h : HostState) → (kind ≡ RxData) ⊎ (kind ≡ RxDone)
@@ -174,12 +188,14 @@ idle-steps : (place : ℕ) (kind : StepKind) (a b : List StationState) (h : Host
     → StepsOn 0 place [] (connected h a) (connected h b)
 idle-steps place kind a b h receives stands takes same =
     let buffer = ap (λ (s : AdapterState). length s.receiver.buffer) same in
+    let left = ap (λ (s : AdapterState). pieces_left s.receiver.moved s.receiver.buffer) same in
     let work = ap (λ (s : AdapterState). length (slot_of_work s.receiver.work)) same in
+    let ends = ap (λ (s : AdapterState). count_ending s.receiver.work) same in
     let pending = ap (λ (s : AdapterState). count_pending s.receiver.work (count_line s.causes)) same in
     step-on 0 0 place kind outcome.Nothing a b h receives stands takes refl (omega (arith, buffer))
-    (ap (λ (s : AdapterState). s.filter) same) (omega (arith, buffer, work, pending)) (omega (arith, buffer, work))
+    (ap (λ (s : AdapterState). s.filter) same) (omega (arith, left, ends, pending)) (omega (arith, left, work))
 
--- What a done step answers is that it ended a frame, or that there was none.
+-- What a done step answers is that it finished a piece, or that there was none.
 pub finishes-done : (place : ℕ) (a b : List StationState) (h : HostState) (result : Outcome (Unit {0})) → place < length a
     → Occurs (Steps RxDone true (framed result (world_at a place).adapter)) (world_at a place)
     → b ≡ stations_after place (Steps RxDone true (framed result (world_at a place).adapter)) a → result ≡ outcome.Done
@@ -198,7 +214,7 @@ finishes-none place a b h outcome.Nothing below occurs is other stands =
 finishes-none place a b h outcome.Done below occurs is other stands = absurd (other refl)
 finishes-none place a b h result below occurs is other stands = absurd occurs.1
 
--- After it no frame is in work.
+-- After it no piece is in work.
 pub finishes-free : (place : ℕ) (a b : List StationState) (result : Outcome (Unit {0})) → place < length a
     → Occurs (Steps RxDone true (framed result (world_at a place).adapter)) (world_at a place)
     → b ≡ stations_after place (Steps RxDone true (framed result (world_at a place).adapter)) a
@@ -211,7 +227,7 @@ finishes-free place a b outcome.Nothing below occurs is =
     ap (λ (w : World). w.adapter.receiver.work) takes.world ∙ occurs.1
 finishes-free place a b result below occurs is = absurd occurs.1
 
--- A frame is moved out of the packet buffer.
+-- A piece is moved out of the packet buffer: the last one of its frame,
 
 some-buffered : (frames : List (List ℕ)) → frames ≢ [] → 0 < length frames
 some-buffered [] some = absurd (some refl)
@@ -221,29 +237,71 @@ moved-steps : (place : ℕ) (a b : List StationState) (h : HostState) → CanBeD
     → (world_at a place).adapter.receiver.work ≡ None → TakesStep place RxData outcome.Moved a b
     → StepsOn 1 place [] (connected h a) (connected h b)
 moved-steps place a b h stands free takes =
-    let before = work-none (world_at a place).adapter.receiver.work free in
+    let world = world_at a place in
+    let engine = world.adapter.receiver in
+    let before = work-none engine.work free in
     let behind : (count_work (world_at b place) ≡ 1) × ((line : ℕ) → count_pending (world_at b place).adapter.receiver.work line ≡ 3) =
     work-counted (world_at b place).adapter.receiver.work
     (λ none. let e = sym (ap (λ (w : World). w.adapter.receiver.work) takes.world) ∙ none in absurd (cc e)) in
-    let some = some-buffered (world_at a place).adapter.receiver.buffer takes.answers.0.ready.frames in
-    let fewer : count_buffered (world_at b place) ≡ count_buffered (world_at a place) - 1 =
-    ap (λ (w : World). count_buffered w) takes.world ∙ length-drop 1 (world_at a place).adapter.receiver.buffer in
-    let pending = before.1 (count_line (world_at a place).adapter.causes) in
+    let some = takes.answers.0.ready.frames in
+    let long = some-buffered engine.buffer some in
+    let fewer : count_buffered (world_at b place) ≡ count_buffered world - 1 =
+    ap (λ (w : World). count_buffered w) takes.world ∙ length-drop 1 engine.buffer in
+    let left : count_left (world_at b place) ≡ pieces_left 0 (drop 1 engine.buffer) = ap (λ (w : World). count_left w) takes.world in
+    let ends : count_ends (world_at b place) ≡ 1 = ap (λ (w : World). count_ends w) takes.world in
+    let short = leb-true (left_bytes engine) (buffer_size world) takes.answers.2 in
+    let one = left-last engine.moved engine.buffer some takes.adapter.receiver.frames takes.adapter.receiver.begun
+    (omega (arith, short, stands.ready.ready.size)) in
+    let pending = before.1 (count_line world.adapter.causes) in
     let pending' = behind.1 (count_line (world_at b place).adapter.causes) in
-    step-on 1 1 place RxData outcome.Moved a b h (inl refl) stands takes refl (omega (arith, some, fewer))
-    (ap (λ (w : World). w.adapter.filter) takes.world) (omega (arith, before.0, behind.0, some, fewer, pending, pending'))
-    (omega (arith, before.0, behind.0, some, fewer))
+    step-on 1 1 place RxData outcome.Moved a b h (inl refl) stands takes refl (omega (arith, long, fewer))
+    (ap (λ (w : World). w.adapter.filter) takes.world)
+    (omega (arith, left, one, ends, ap (λ (work : Option Work). count_ending work) free, pending, pending'))
+    (omega (arith, before.0, behind.0, left, one))
 
-pub moves-frame : (place : ℕ) (a b : List StationState) (h : HostState) (result : Outcome (Unit {0})) → place < length a
-    → Occurs (Steps RxData true (framed result (world_at a place).adapter)) (world_at a place)
-    → b ≡ stations_after place (Steps RxData true (framed result (world_at a place).adapter)) a → result ≡ outcome.Moved
-    → CanBeDrained h (world_at a place) → (world_at a place).adapter.receiver.work ≡ None
+-- or another.
+part-steps : (place : ℕ) (a b : List StationState) (h : HostState) → CanBeDrained h (world_at a place)
+    → (world_at a place).adapter.receiver.work ≡ None → TakesStep place RxData outcome.Part a b
     → StepsOn 1 place [] (connected h a) (connected h b)
-moves-frame place a b h outcome.Moved below occurs is same stands free =
-    moved-steps place a b h stands free (takes-step place RxData outcome.Moved a b below (λ e. absurd (cc e)) occurs is)
-moves-frame place a b h result below occurs is same stands free = absurd (cc same)
+part-steps place a b h stands free takes =
+    let world = world_at a place in
+    let engine = world.adapter.receiver in
+    let before = work-none engine.work free in
+    let behind : (count_work (world_at b place) ≡ 1) × ((line : ℕ) → count_pending (world_at b place).adapter.receiver.work line ≡ 3) =
+    work-counted (world_at b place).adapter.receiver.work
+    (λ none. let e = sym (ap (λ (w : World). w.adapter.receiver.work) takes.world) ∙ none in absurd (cc e)) in
+    let same : count_buffered (world_at b place) ≡ count_buffered world = ap (λ (w : World). count_buffered w) takes.world in
+    let more = leb-false (left_bytes engine) (buffer_size world) takes.answers.2 in
+    let size : piece_size world.adapter ≡ buffer_bytes =
+    omega (
+      arith,
+      length-take (buffer_size world) (drop engine.moved (oldest engine.buffer)),
+      length-drop engine.moved (oldest engine.buffer),
+      more,
+      stands.ready.ready.size,
+    ) in
+    let left : count_left (world_at b place) ≡ pieces_left (engine.moved + buffer_bytes) engine.buffer =
+    ap (λ (w : World). count_left w) takes.world ∙ ap (λ (n : ℕ). pieces_left (engine.moved + n) engine.buffer) size in
+    let one = left-part engine.moved engine.buffer (omega (arith, more, stands.ready.ready.size)) in
+    let pending = before.1 (count_line world.adapter.causes) in
+    let pending' = behind.1 (count_line (world_at b place).adapter.causes) in
+    step-on 1 0 place RxData outcome.Part a b h (inl refl) stands takes refl (omega (arith, same))
+    (ap (λ (w : World). w.adapter.filter) takes.world)
+    (omega (arith, left, one, ap (λ (work : Option Work). count_ending work) free, pending, pending'))
+    (omega (arith, before.0, behind.0, left, one))
 
--- Nothing is moved: then there was no frame to move, as no fault stops an engine that goes on, and no frame is cut.
+pub moves-piece : (place : ℕ) (a b : List StationState) (h : HostState) (result : Outcome (Unit {0})) → place < length a
+    → Occurs (Steps RxData true (framed result (world_at a place).adapter)) (world_at a place)
+    → b ≡ stations_after place (Steps RxData true (framed result (world_at a place).adapter)) a
+    → (result ≡ outcome.Part) ⊎ (result ≡ outcome.Moved) → CanBeDrained h (world_at a place)
+    → (world_at a place).adapter.receiver.work ≡ None → StepsOn 1 place [] (connected h a) (connected h b)
+moves-piece place a b h outcome.Part below occurs is one stands free =
+    part-steps place a b h stands free (takes-step place RxData outcome.Part a b below (λ e. absurd (cc e)) occurs is)
+moves-piece place a b h outcome.Moved below occurs is one stands free =
+    moved-steps place a b h stands free (takes-step place RxData outcome.Moved a b below (λ e. absurd (cc e)) occurs is)
+moves-piece place a b h result below occurs is one stands free = elim one [ inl same ↦ absurd (cc same) | inr same ↦ absurd (cc same) ]
+
+-- Nothing is moved: then there was no frame to move, as no fault stops an engine that goes on.
 pub record MovesNone (place : ℕ) (a b : List StationState) (h : HostState) : Type 0 where
   pub on : StepsOn 0 place [] (connected h a) (connected h b)
   pub takes : TakesStep place RxData outcome.Nothing a b
@@ -251,18 +309,17 @@ pub record MovesNone (place : ℕ) (a b : List StationState) (h : HostState) : T
 
 pub moves-none : (place : ℕ) (a b : List StationState) (h : HostState) (result : Outcome (Unit {0})) → place < length a
     → Occurs (Steps RxData true (framed result (world_at a place).adapter)) (world_at a place)
-    → b ≡ stations_after place (Steps RxData true (framed result (world_at a place).adapter)) a → result ≢ outcome.Moved
-    → CanBeDrained h (world_at a place) → MovesNone place a b h
-moves-none place a b h outcome.Nothing below occurs is other stands =
+    → b ≡ stations_after place (Steps RxData true (framed result (world_at a place).adapter)) a → result ≢ outcome.Part
+    → result ≢ outcome.Moved → CanBeDrained h (world_at a place) → MovesNone place a b h
+moves-none place a b h outcome.Nothing below occurs is not_part other stands =
     let takes = takes-step place RxData outcome.Nothing a b below (λ e. absurd (cc e)) occurs is in
     let same = ap (λ (w : World). w.adapter) takes.world in
     record { on = idle-steps place RxData a b h (inl refl) stands takes same; takes = takes; same = same }
-moves-none place a b h outcome.Fault below occurs is other stands =
+moves-none place a b h outcome.Fault below occurs is not_part other stands =
     let takes = takes-step place RxData outcome.Fault a b below (λ e. absurd (cc e)) occurs is in
     let runs = (step-runs place RxData outcome.Fault a b h stands takes).flows.driver.ready.law.runs.receiver_runs in
     let stopped = ap (λ (w : World). w.adapter.receiver.stopped) takes.world in
     let contrary : true ≡ false = sym stopped ∙ runs in absurd (cc contrary)
-moves-none place a b h outcome.Part below occurs is other stands =
-    absurd (never-part _ (world_at a place) stands.ready.ready occurs.0 occurs.1.2)
-moves-none place a b h outcome.Moved below occurs is other stands = absurd (other refl)
-moves-none place a b h result below occurs is other stands = absurd occurs.1
+moves-none place a b h outcome.Part below occurs is not_part other stands = absurd (not_part refl)
+moves-none place a b h outcome.Moved below occurs is not_part other stands = absurd (other refl)
+moves-none place a b h result below occurs is not_part other stands = absurd occurs.1

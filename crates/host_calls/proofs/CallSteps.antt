@@ -36,14 +36,14 @@ use Rattle.host_calls.specs.CallAnswers.{AnswersRecv, InterruptRuns, given_by}
 use Rattle.host_calls.specs.CallsOfHosts.{CallRuns, HostRuns, IsOfDriver}
 use Rattle.host_calls.specs.ConnectedHosts.{connected, played_call}
 use Rattle.packet_socket.specs.QueueLaws.{queue-within}
-use Rattle.host_calls.specs.DrainedHosts.{IsDrainStep, count_held}
+use Rattle.host_calls.specs.DrainedHosts.{IsDrainStep, count_frames, pieces_left}
 use Rattle.host_calls.specs.DrainSteps.{StepsOn, count_line}
 use Rattle.host_calls.proofs.AdapterSteps.{work-none}
 use Rattle.host_calls.proofs.JoinedSteps.{nothing-stored}
 use Rattle.host_calls.proofs.QuietCalls.{IsAccess, LeavesEngine, accesses-alone, drain-steps, events-elsewhere, events-here}
 use Rattle.host_calls.proofs.QuietCalls.{nothing-happened, trail-clears, trail-leaves}
-use Rattle.host_calls.proofs.SocketCounts.{given-sum, held-counted, held-flows, queues-flow, sum_to}
-use Rattle.host_calls.proofs.WholeFrames.{all-last}
+use Rattle.host_calls.proofs.SocketCounts.{given-sum, held-flows, queues-flow, sum_to}
+use Rattle.host_calls.proofs.PiecesLeft.{count_ending, held-counted}
 
 -- What a call without ticks leaves.
 record Quiet (place : ℕ) (played : List AtomicStep) (a b : List StationState) : Type 0 where
@@ -119,8 +119,10 @@ one-call place n played a b h h' taken given ready leads none runs fits fits' kn
     let buffer = ap (λ (engine : Receiver). length engine.buffer) calm.engine.receiver in
     let pending = before.1 (count_line (world_at a place).adapter.causes) in
     let pending' = behind.1 (count_line (world_at b place).adapter.causes) in
-    let one = held-counted h.driver.oldest_receive (world_at a place) (all-last _ (world_at a place) ready.ready) in
-    let two = held-counted h'.driver.oldest_receive (world_at b place) (all-last _ (world_at b place) runs.flows.driver.ready) in
+    let left = ap (λ (engine : Receiver). pieces_left engine.moved engine.buffer) calm.engine.receiver in
+    let ends = ap (λ (engine : Receiver). count_ending engine.work) calm.engine.receiver in
+    let one = held-counted h.driver.oldest_receive (world_at a place) in
+    let two = held-counted h'.driver.oldest_receive (world_at b place) in
     record {
       played = played;
       leads = leads;
@@ -135,8 +137,8 @@ one-call place n played a b h h' taken given ready leads none runs fits fits' kn
         filter = calm.engine.filter;
       };
       counts = record {
-        most = omega (arith, flow.ring, flow.queues, before.0, behind.0, buffer, pending, pending', one, two, line);
-        least = omega (arith, before.0, behind.0, buffer, few);
+        most = omega (arith, flow.ring, flow.queues, left, ends, buffer, pending, pending', one, two, line);
+        least = omega (arith, before.0, behind.0, left, few);
         held = omega (arith, flow.ring, flow.queues);
       };
     }
@@ -210,7 +212,7 @@ not-refused result NoSocket socket h world answers known some is =
     let none = answers.no_socket.0 is in omega (arith, none, known)
 
 -- There is room for it.
-pub room-left : (h : HostState) (world : World) (socket places : ℕ) → queue_at h.queues socket ≢ [] → count_held h world ≤ places
+pub room-left : (h : HostState) (world : World) (socket places : ℕ) → queue_at h.queues socket ≢ [] → count_frames h world ≤ places
     → 0 < places
 room-left h world socket places some room =
     let one = some-long (queue_at h.queues socket) some in

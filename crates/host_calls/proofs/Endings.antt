@@ -1,28 +1,29 @@
 -- When a drain ends, and what it did.
-use Rattle.std.proofs.Common.{◌≡◌, ◌≢◌, ◌≤◌, ◌<◌, ◌+◌, ◌-◌, ◌*◌, ◌^◌, ◌⊎◌, ◌++◌, ◌∷◌, [], ℕ, zero, suc, None, List, Option, bit_and}
+use Rattle.std.proofs.Common.{◌≡◌, ◌≢◌, ◌≤◌, ◌<◌, ◌+◌, ◌*◌, ◌^◌, ◌++◌, ◌∷◌, [], ℕ, zero, suc, None, Some, List, Option, bit_and}
 use Rattle.std.proofs.Common.{length, map}
 use Rattle.std.proofs.Common.{refl, sym, ap, subst, ◌∙◌, arith, replicate, length-append, ⊎_elim}
 use Rattle.std.proofs.lemmas.List.{append-nil, length-map}
 use Rattle.registers.specs.Bits.{HasBit, Meet}
+use Rattle.registers.specs.Interrupts.{Interrupts}
 use Rattle.registers.specs.Laws.{HasBit-intersection, HasBit-zero}
 use Rattle.registers.specs.Places.{rxt0}
 use Rattle.descriptors.specs.Ring.{address_of, offered_places}
 use Rattle.descriptors.specs.RingLaws.{places-none}
 use Rattle.dma_memory.specs.OwnersLaws.{length-one_owner}
 use Rattle.rx_engine.specs.Descriptors.{named_address}
-use Rattle.rx_engine.specs.Held.{in_work as pieces_in_work}
-use Rattle.rx_engine.specs.Pieces.{IsLast}
-use Rattle.adapter.specs.HostFrames.{finished_pieces, frames_held, frames_to_send, piece_in}
+use Rattle.rx_engine.specs.Pieces.{frames_of}
+use Rattle.rx_engine.specs.declared.engine.Work.{Work}
+use Rattle.adapter.specs.HostFrames.{finished_pieces, frames_held, frames_to_send, piece_in, pieces_in_slots}
 use Rattle.adapter.specs.Slots.{finished, in_work, offered, outstanding, slot_of_work}
 use Rattle.adapter.specs.State.{IsAdapter}
 use Rattle.adapter.specs.World.{World, receive_ring}
-use Rattle.bus.proofs.Lists.{all-left}
 use Rattle.bus.specs.declared.event.Event.{Event}
 use Rattle.bus.specs.Trails.{Trail}
 use Rattle.driver.specs.declared.receiver.Received.{Received}
 use Rattle.driver.specs.Parts.{buffers_of}
 use Rattle.driver_law.specs.Calls.{driver_in, frames_ended}
-use Rattle.driver_law.specs.DriverState.{buffer_at, numbers_of, owners}
+use Rattle.driver_law.specs.DriverState.{DriverState, buffer_at, numbers_of, owners}
+use Rattle.driver_law.specs.ReadyDrivers.{Ready}
 use Rattle.packet_socket.proofs.QueuedPieces.{entries-fit, waiting-numbers}
 use Rattle.packet_socket.specs.HostCalls.{Given, driver_of, given_for, held_for_socket, socket_frames, waiting_frame}
 use Rattle.packet_socket.specs.HostCalls.{without_socket}
@@ -33,13 +34,15 @@ use Rattle.stations.proofs.HostTrails.{trail-of}
 use Rattle.stations.specs.AtomicRuns.{past_at}
 use Rattle.delivery.proofs.Laws.{frames-move}
 use Rattle.delivery.specs.Happenings.{Moved, missed, put, reached, toward}
-use Rattle.host_calls.specs.DrainedHosts.{CanBeDrained, Drains, DrainsInto, HoldsNothing, count_held}
+use Rattle.host_calls.specs.DrainedHosts.{CanBeDrained, Drains, DrainsInto, HoldsNothing, count_adapter_steps, count_frames, count_held}
+use Rattle.host_calls.specs.DrainedHosts.{count_pieces, pieces_left}
 use Rattle.host_calls.specs.ConnectedHosts.{connected}
 use Rattle.host_calls.specs.DrainSteps.{StepsInto, StepsOn, count_line, count_pending, count_steps, outlet}
 use Rattle.host_calls.proofs.AdapterSteps.{MovesNone, work-none}
 use Rattle.host_calls.proofs.JoinedSteps.{moves-missed, moves-put, moves-reached, moves-toward, nothing-stored}
-use Rattle.host_calls.proofs.SocketCounts.{ended-counted, ended-few, held-counted}
-use Rattle.host_calls.proofs.WholeFrames.{all-last}
+use Rattle.host_calls.proofs.PiecesLeft.{asked-most, count_ending, ending-most, finished-few, held-counted, pieces-append}
+use Rattle.host_calls.proofs.PiecesLeft.{pieces-least, pieces-most, queued-least}
+use Rattle.host_calls.proofs.SocketCounts.{ended-few}
 
 none-long : {X : Type 0} (xs : List X) → length xs ≡ 0 → xs ≡ []
 none-long [] none = refl
@@ -89,7 +92,7 @@ slots-counted h world stands =
 
 -- So a host holds at most as many frames as it has buffers, and those of the packet buffer.
 pub held-at_most : (h : HostState) (world : World) → CanBeDrained h world → IsAdapter world.adapter
-    → count_held h world ≤ h.driver.layout.buffers + 24
+    → count_frames h world ≤ h.driver.layout.buffers + 24
 held-at_most h world stands adapter =
     omega (
       arith,
@@ -98,7 +101,8 @@ held-at_most h world stands adapter =
       slots-counted h world stands,
       ended-few [] (finished_pieces h.driver.oldest_receive world),
       length-map (finished h.driver.oldest_receive world) (piece_in world.memory),
-      held-counted h.driver.oldest_receive world (all-last _ world stands.ready.ready),
+      held-counted h.driver.oldest_receive world,
+      ending-most world.adapter.receiver.work,
       adapter.receiver.room,
     )
 
@@ -116,19 +120,19 @@ none-ended h world stands quiet = ⊎_elim
     let both = (HasBit-intersection world.adapter.causes.recorded world.adapter.causes.mask rxt0).1 (asked, stands.work.enabled) in
     absurd (quiet (positive (bit_and world.adapter.causes.recorded world.adapter.causes.mask) rxt0 both))) stands.work.asked
 
--- Each piece ends a frame, so no slot is finished then.
-none-finished : (h : HostState) (world : World) → CanBeDrained h world → frames_ended (driver_in h.driver world) ≡ []
-    → length (finished h.driver.oldest_receive world) ≡ 0
-none-finished h world stands none =
-    let o = h.driver.oldest_receive in
-    let pieces = finished_pieces o world in
-    let last = all-last _ world stands.ready.ready in
-    let ended = ended-counted [] pieces (all-left IsLast pieces (pieces_in_work world.memory world.adapter.receiver.work) last) in
-    omega (arith, ended, ap length none, length-map (finished o world) (piece_in world.memory))
+-- Parts of a frame are at most five then.
+finished-most : (h : HostState) (world : World) → CanBeDrained h world → frames_ended (driver_in h.driver world) ≡ []
+    → length (finished h.driver.oldest_receive world) ≤ 5
+finished-most h world stands none =
+    omega (
+      arith,
+      finished-few _ world stands.ready.ready none,
+      length-map (finished h.driver.oldest_receive world) (piece_in world.memory),
+    )
 
--- While no frame is finished, in work or queued, a slot is offered.
+-- So while no frame ends in finished slots, no piece is in progress, and no frame is queued, a slot is offered.
 some-offered : (h : HostState) (world : World) → CanBeDrained h world → frames_ended (driver_in h.driver world) ≡ []
-    → world.adapter.receiver.work ≡ None → all_of h.queues ≡ [] → 2 ≤ h.driver.layout.rx → 0 < h.driver.layout.buffers
+    → world.adapter.receiver.work ≡ None → all_of h.queues ≡ [] → 8 ≤ h.driver.layout.rx → 8 ≤ h.driver.layout.buffers
     → world.adapter.receive_ring.head ≢ world.adapter.receive_ring.tail
 some-offered h world stands none free empty rings buffers same =
     let ring = receive_ring world in
@@ -136,27 +140,26 @@ some-offered h world stands none free empty rings buffers same =
     let places = ap length (places-none ring same) in
     let slots = slots-counted h world stands in
     let work = (work-none world.adapter.receiver.work free).0 in
-    let outstanding_none : length h.driver.buffers ≡ 0 =
-    omega (arith, slots, nowhere, places, work, none-finished h world stands none) in
+    let few : length h.driver.buffers ≤ 5 = omega (arith, slots, nowhere, places, work, finished-most h world stands none) in
     ⊎_elim
     (λ (free_none : h.driver.pool ≡ []).
     let all = buffers-counted h world stands in
     let queued : length (buffers_of (all_of h.queues)) ≡ 0 = ap (λ (list : List Received). length (buffers_of list)) empty in
-    absurd (omega (arith, all, ap length free_none, outstanding_none, queued, buffers)))
-    (λ (full : length h.driver.buffers + 1 ≡ h.driver.layout.rx). absurd (omega (arith, full, outstanding_none, rings)))
+    absurd (omega (arith, all, ap length free_none, few, queued, buffers)))
+    (λ (full : length h.driver.buffers + 1 ≡ h.driver.layout.rx). absurd (omega (arith, full, few, rings)))
     stands.refilled
 
-holds-none : (h : HostState) (world : World) → count_held h world ≡ 0 → HoldsNothing h world
+holds-none : (h : HostState) (world : World) → count_frames h world ≡ 0 → HoldsNothing h world
 holds-none h world none = record {
   held = none-long (frames_held h.driver.oldest_receive world) (omega (arith, none));
   queued = none-long (all_of h.queues) (omega (arith, none));
 }
 
--- No frame is held if none is in work, the line isn't asserted, none waits for a socket, and none is moved.
+-- No frame is held if no piece is in progress, the line isn't asserted, no frame waits for a socket, and no piece is moved.
 pub nothing-left : (place : ℕ) (a b : List StationState) (h : HostState) → CanBeDrained h (world_at a place) → MovesNone place a b h
     → (world_at a place).adapter.receiver.work ≡ None
     → ¬ (Meet (world_at a place).adapter.causes.recorded (world_at a place).adapter.causes.mask) → all_of h.queues ≡ []
-    → 2 ≤ h.driver.layout.rx → 0 < h.driver.layout.buffers → HoldsNothing h (world_at b place)
+    → 8 ≤ h.driver.layout.rx → 8 ≤ h.driver.layout.buffers → HoldsNothing h (world_at b place)
 nothing-left place a b h stands moves free quiet empty rings buffers =
     let world = world_at a place in
     let o = h.driver.oldest_receive in
@@ -168,30 +171,64 @@ nothing-left place a b h stands moves free quiet empty rings buffers =
       ready = record { running = stands.ready.ready.law.runs.receiver_runs; free = free; frames = some };
       offered = slot;
     })) in
-    let work = (work-none world.adapter.receiver.work free).0 in
-    let before = held-counted o world (all-last _ world stands.ready.ready) in
+    let ends = ap (λ (work : Option Work). count_ending work) free in
     holds-none h (world_at b place)
-    (omega (arith, moves.on.counts.held, before, ap length none, work, ap length buffer, ap length empty))
+    (omega (arith, moves.on.counts.held, held-counted o world, ap length none, ends, ap length buffer, ap length empty))
 
 -- What a drain did.
 
+line-few : (causes : Interrupts) → count_line causes ≤ 1
+line-few causes = omega arith
+
 steps-most : (h : HostState) (world : World) → CanBeDrained h world → count_steps h world ≤ 4 * count_held h world + 1
 steps-most h world stands =
-    let pending = bounded world.adapter.receiver.work (count_line world.adapter.causes) (omega arith) in
-    omega (arith, pending, held-counted h.driver.oldest_receive world (all-last _ world stands.ready.ready))
-  where
-    bounded : (work : Option Rattle.rx_engine.specs.declared.engine.Work.Work) (line : ℕ) → line ≤ 1
-        → count_pending work line ≤ 3 * length (slot_of_work work) + 1
-    bounded None line few = omega (arith, few)
-    bounded (Rattle.std.proofs.Common.Some work) line few = omega arith
+    let o = h.driver.oldest_receive in
+    let engine = world.adapter.receiver in
+    let in_slots = frames_of (pieces_in_slots o world) in
+    omega (
+      arith,
+      asked-most _ world (count_line world.adapter.causes) stands.ready.ready (line-few world.adapter.causes),
+      held-counted o world,
+      length-append in_slots engine.buffer,
+      pieces-append in_slots engine.buffer,
+      pieces-least in_slots stands.ready.ready.law.whole.legal,
+      queued-least (all_of h.queues) stands.ready.sizes,
+    )
 
 -- fewer than a u64 holds
 pub steps-fit : (h : HostState) (world : World) → CanBeDrained h world → IsAdapter world.adapter → count_steps h world + 1 < 2 ^ 64
 steps-fit h world stands adapter =
-    let most = steps-most h world stands in
-    let held = held-at_most h world stands adapter in
-    let addresses = stands.ready.ready.driver_is.addresses in
-    omega (arith, most, held, addresses)
+    let engine = world.adapter.receiver in
+    omega (
+      arith,
+      asked-most _ world (count_line world.adapter.causes) stands.ready.ready (line-few world.adapter.causes),
+      pieces-most engine.buffer adapter.receiver.frames,
+      adapter.receiver.room,
+      held-counted h.driver.oldest_receive world,
+      held-at_most h world stands adapter,
+      stands.ready.ready.driver_is.addresses,
+    )
+
+-- If no frame is held, no piece is in progress or still to be moved.
+none-asked : (d : DriverState) (world : World) → Ready d world → frames_held d.oldest_receive world ≡ [] → count_adapter_steps world ≡ 0
+none-asked d world ready none =
+    let engine = world.adapter.receiver in
+    let counted = held-counted d.oldest_receive world in
+    let empty = ap length none in
+    let buffer : engine.buffer ≡ [] = none-long engine.buffer (omega (arith, counted, empty)) in
+    omega (
+      arith,
+      counted,
+      empty,
+      asked-most d world 0 ready (omega arith),
+      work-asks engine.work,
+      ap (pieces_left engine.moved) buffer,
+      ap count_pieces buffer,
+    )
+  where
+    work-asks : (work : Option Work) → 3 * length (slot_of_work work) ≤ count_pending work 0
+    work-asks None = omega arith
+    work-asks (Some work) = omega arith
 
 nothing-waits : (h : HostState) (socket : ℕ) (world : World) → HoldsNothing h world → held_for_socket h socket world ≡ []
 nothing-waits h socket world none =
@@ -216,14 +253,15 @@ drains steps place a b h h' given on none stands adapter =
     let flows = on.runs.flows.driver in
     let small = adapter.registers.counters.missed in
     let accounts = on.runs.flows.accounts in
-    let behind = held-counted h'.driver.oldest_receive two (all-last _ two flows.ready) in
+    let behind = held-counted h'.driver.oldest_receive two in
+    let asked = none-asked _ two flows.ready none.held in
     let empty = ap length none.held in
     let most = steps-most h one stands in
     let counted = without_socket h.kinds (frames_held h.driver.oldest_receive one) in
     let without : without_socket h'.kinds (frames_held h'.driver.oldest_receive two) ≡ 0 = ap (without_socket h'.kinds) none.held in
     let without_stored : without_socket h.kinds past.stored ≡ 0 = ap (without_socket h.kinds) stored in
     record {
-      steps_are = record { at_most = omega (arith, on.counts.most, most); at_least = omega (arith, on.counts.least, behind, empty) };
+      steps_are = record { at_most = omega (arith, on.counts.most, most); at_least = omega (arith, on.counts.least, asked) };
       all_given = λ socket.
           sym (append-nil (given_for socket given))
           ∙ ap (λ (list : List (List ℕ)). given_for socket given ++ list) (sym (nothing-waits h' socket two none))

@@ -6,7 +6,7 @@ pub mod Sending
 pub mod Receiving
 pub mod Interrupting
 pub mod FirstAccess
-pub mod WholeFrames
+pub mod PiecesLeft
 pub mod QuietEvents
 pub mod SilentEvents
 pub mod Answering

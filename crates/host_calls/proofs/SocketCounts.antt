@@ -1,7 +1,6 @@
 -- Frames of all sockets, counted.
 use Rattle.std.proofs.Common.{◌≡◌, ◌≢◌, ◌≤◌, ◌<◌, ◌+◌, ◌==◌, ◌++◌, ◌∷◌, [], ℕ, zero, suc, Bool, true, false, cond, Option, Some, None}
 use Rattle.std.proofs.Common.{List, length, map}
-use Rattle.std.specs.List.{All}
 use Rattle.std.proofs.Common.{inl, inr, refl, sym, ap, subst, ◌∙◌, arith, length-append}
 use Rattle.std.proofs.lemmas.Bool.{eq-eqb}
 use Rattle.std.proofs.lemmas.Bool.Decides.{eqb_tells}
@@ -9,15 +8,10 @@ use Rattle.std.proofs.lemmas.List.{length-map}
 use Rattle.std.proofs.lemmas.List.Elements.{filter-append}
 use Rattle.std.proofs.lemmas.List.Sums.{length-filter, sum_by-cons}
 use Rattle.rx_engine.specs.Addresses.{ether_type}
-use Rattle.rx_engine.specs.Held.{in_work as pieces_in_work}
-use Rattle.rx_engine.specs.PieceLaws.{frames-append}
-use Rattle.rx_engine.specs.Pieces.{IsLast, Piece, begun_of, frames_from, frames_of}
+use Rattle.rx_engine.specs.Pieces.{Piece, frames_from}
 use Rattle.rx_engine.specs.Pieces.Piece.{Last, Part}
-use Rattle.rx_engine.specs.declared.engine.Work.{Work}
-use Rattle.adapter.specs.HostFrames.{finished_pieces, frames_held, pieces_in_slots}
-use Rattle.adapter.specs.Slots.{in_work, slot_of_work}
+use Rattle.adapter.specs.HostFrames.{frames_held}
 use Rattle.adapter.specs.World.{World}
-use Rattle.bus.proofs.Lists.{all-head, all-right, all-tail}
 use Rattle.driver.specs.declared.receiver.Received.{Received}
 use Rattle.packet_socket.specs.HostCalls.{Accounts, Given, given_for, socket_frames, waiting_frame, waiting_frames}
 use Rattle.packet_socket.specs.HostState.{HostState, all_of, queue_at}
@@ -135,35 +129,11 @@ given-sum n one below =
 
 -- Frames held.
 
--- Where each piece is the last of its frame, each is a frame.
-pub ended-counted : (begun : List ℕ) (pieces : List Piece) → All IsLast pieces → length (frames_from begun pieces) ≡ length pieces
-ended-counted begun [] all = refl
-ended-counted begun (Part bytes ∷ later) all = absurd (all-head IsLast (Part bytes) later all)
-ended-counted begun (Last bytes ∷ later) all = ap suc (ended-counted [] later (all-tail IsLast (Last bytes) later all))
-
 -- Frames are at most as many as pieces.
 pub ended-few : (begun : List ℕ) (pieces : List Piece) → length (frames_from begun pieces) ≤ length pieces
 ended-few begun [] = omega arith
 ended-few begun (Part bytes ∷ later) = omega (arith, ended-few (begun ++ bytes) later)
 ended-few begun (Last bytes ∷ later) = omega (arith, ended-few [] later)
-
-pub held-counted : (oldest : ℕ) (world : World) → All IsLast (pieces_in_slots oldest world) → length (frames_held oldest world)
-    ≡ length (frames_of (finished_pieces oldest world)) + (length (in_work world) + length world.adapter.receiver.buffer)
-held-counted oldest world last =
-    let pieces = finished_pieces oldest world in
-    let working = pieces_in_work world.memory world.adapter.receiver.work in
-    omega (
-      arith,
-      length-append (frames_of (pieces ++ working)) world.adapter.receiver.buffer,
-      ap length (frames-append [] pieces working),
-      length-append (frames_of pieces) (frames_from (begun_of pieces) working),
-      ended-counted (begun_of pieces) working (all-right IsLast pieces working last),
-      works world.adapter.receiver.work,
-    )
-  where
-    works : (work : Option Work) → length (pieces_in_work world.memory work) ≡ length (slot_of_work work)
-    works None = refl
-    works (Some work) = refl
 
 -- If nothing is stored, frames leave the ring and the adapter only as they are taken,
 pub held-flows : (taken now held stored : List (List ℕ)) → taken ++ now ≡ held ++ stored → stored ≡ []

@@ -13,7 +13,7 @@ use Rattle.packet_socket.specs.HostState.{HostState, all_of}
 use Rattle.packet_socket.specs.HostCalls.{Given, did}
 use Rattle.host_calls.specs.CallsOfHosts.{HostRuns}
 use Rattle.host_calls.specs.ConnectedHosts.{ConnectedHost}
-use Rattle.host_calls.specs.DrainedHosts.{IsDrainStep, count_adapter_steps, count_held}
+use Rattle.host_calls.specs.DrainedHosts.{IsDrainStep, count_adapter_steps, count_frames, count_left}
 
 -- The measure.
 
@@ -21,17 +21,17 @@ use Rattle.host_calls.specs.DrainedHosts.{IsDrainStep, count_adapter_steps, coun
 abbrev pub count_line : Interrupts → ℕ
 count_line causes = min 1 (bit_and causes.recorded causes.mask)
 
--- A frame that is being written back needs three more steps: its write-back, an interrupt, and a receive call. If there is none, an
--- asserted line needs one.
+-- A piece in progress needs at most three more steps: the write-back of its descriptor, an interrupt, and a receive call. If there is none,
+-- an asserted line needs one.
 abbrev pub count_pending : Option Work → (line : ℕ) → ℕ
 count_pending None line = line
 count_pending (Some work) line = 3
 
--- The greatest number of steps that are left: four for each frame of the packet buffer, those above, and one for each frame that ends in
--- finished slots or is queued.
+-- The greatest number of steps that are left: four for each piece that is still to be moved, those above, and one for each frame that ends
+-- in finished slots or is queued.
 abbrev pub count_steps : HostState → World → ℕ
 count_steps host world =
-    4 * length world.adapter.receiver.buffer + count_pending world.adapter.receiver.work (count_line world.adapter.causes)
+    4 * count_left world + count_pending world.adapter.receiver.work (count_line world.adapter.causes)
     + length (frames_ended (driver_in host.driver world)) + length (all_of host.queues)
 
 -- one step, or none
@@ -52,7 +52,7 @@ pub record CountsSteps (steps place given : ℕ) (old new : ConnectedHost) : Typ
   -- each step makes the measure less by one
   pub most : steps + count_steps new.host (world_at new.stations place) ≤ count_steps old.host (world_at old.stations place)
   pub least : given + count_adapter_steps (world_at old.stations place) ≤ steps + count_adapter_steps (world_at new.stations place)
-  pub held : given + count_held new.host (world_at new.stations place) ≤ count_held old.host (world_at old.stations place)
+  pub held : given + count_frames new.host (world_at new.stations place) ≤ count_frames old.host (world_at old.stations place)
 
 -- These steps of the drain were made, and the host gave these frames.
 pub record StepsOn (steps place : ℕ) (given : List Given) (old new : ConnectedHost) : Type 0 where

@@ -1,8 +1,10 @@
 -- A drained host: its sockets gave all frames that it held for them (our choice).
-use Rattle.std.specs.Prelude.{◌≡◌, ◌≢◌, ◌≤◌, ◌+◌, ◌-◌, ◌*◌, ◌^◌, ◌<◌, ◌⊎◌, ◌++◌, [], ℕ, All, IsTrue, List, length, replicate}
+use Rattle.std.specs.Prelude.{◌≡◌, ◌≢◌, ◌≤◌, ◌+◌, ◌-◌, ◌*◌, ◌/◌, ◌^◌, ◌<◌, ◌⊎◌, ◌++◌, ◌∷◌, [], ℕ, All, IsTrue, List, length, replicate}
+use Rattle.std.specs.Prelude.{sum_by}
 use Rattle.registers.specs.Bits.{HasBit}
 use Rattle.registers.specs.Counting.{greatest_count}
 use Rattle.registers.specs.Places.{rctl_en}
+use Rattle.dma_memory.specs.Layout.{buffer_bytes}
 use Rattle.adapter.specs.HostFrames.{frames_held, frames_to_send}
 use Rattle.adapter.specs.Slots.{in_work}
 use Rattle.adapter.specs.World.{World}
@@ -14,6 +16,7 @@ use Rattle.stations.specs.AtomicRuns.{LeadsTo}
 use Rattle.delivery.specs.Happenings.{Moved, happened_in}
 use Rattle.driver_law.specs.Calls.{HasNoForgottenWork, IsRefilled}
 use Rattle.driver.specs.HandlerSteps.{GrowsBy}
+use Rattle.driver.specs.declared.receiver.Received.{Received}
 use Rattle.packet_socket.specs.HostCalls.{Given, HostReady, did, given_for, held_for_socket, without_socket}
 use Rattle.packet_socket.specs.HostState.{HostState, all_of}
 use Rattle.host_calls.specs.CallsOfHosts.{HostRuns}
@@ -30,12 +33,38 @@ pub record CanBeDrained (host : HostState) (world : World) : Type 0 where
 -- Counts.
 
 -- how many frames a host holds: on its receive ring, in its adapter, and in the queues of its sockets
-abbrev pub count_held : HostState → World → ℕ
-count_held host world = length (frames_held host.driver.oldest_receive world) + length (all_of host.queues)
+abbrev pub count_frames : HostState → World → ℕ
+count_frames host world = length (frames_held host.driver.oldest_receive world) + length (all_of host.queues)
 
--- how many adapter steps they need: two for each in the packet buffer, and one for a frame whose descriptor isn't written back yet
+-- how many receive buffers a frame of this size needs: so many pieces it has
+abbrev pub buffers_for : (size : ℕ) → ℕ
+buffers_for size = (size + (buffer_bytes - 1)) / buffer_bytes
+
+-- how many pieces these frames have
+abbrev pub count_pieces : List (List ℕ) → ℕ
+count_pieces frames = sum_by (λ (frame : List ℕ). buffers_for (length frame)) frames
+
+-- how many pieces those of queues have
+abbrev pub count_queued_pieces : List Received → ℕ
+count_queued_pieces list = sum_by (λ (received : Received). buffers_for received.length) list
+
+-- how many pieces all frames that a host holds have
+abbrev pub count_held : HostState → World → ℕ
+count_held host world = count_pieces (frames_held host.driver.oldest_receive world) + count_queued_pieces (all_of host.queues)
+
+-- how many pieces of these frames are still to be moved, if this many bytes of the first have been moved
+abbrev pub pieces_left : (moved : ℕ) → List (List ℕ) → ℕ
+pieces_left moved [] = 0
+pieces_left moved (frame ∷ later) = buffers_for (length frame - moved) + count_pieces later
+
+-- so many of those in the packet buffer
+abbrev pub count_left : World → ℕ
+count_left world = pieces_left world.adapter.receiver.moved world.adapter.receiver.buffer
+
+-- how many adapter steps a host needs: two for each piece that is still to be moved, and one for a piece whose descriptor isn't written
+-- back yet
 abbrev pub count_adapter_steps : World → ℕ
-count_adapter_steps world = 2 * length world.adapter.receiver.buffer + length (in_work world)
+count_adapter_steps world = 2 * count_left world + length (in_work world)
 
 -- It holds none.
 pub record HoldsNothing (host : HostState) (world : World) : Type 0 where
@@ -59,8 +88,8 @@ pub record KeepsMisses (h : HostState) (a : World) (h' : HostState) (b : World) 
       IsTrue h.driver.exact → a.adapter.missed_packets < greatest_count → h.driver.missed + a.adapter.missed_packets < 2 ^ 64
       → IsTrue h'.driver.exact × (b.adapter.missed_packets < greatest_count)
 
--- How many steps the drain took: at most four for each frame that the host held, and one; at least those that its adapter needs, and one
--- for each frame given.
+-- How many steps the drain took: at most four for each piece of the frames that the host held, and one; at least those that its adapter
+-- needs, and one for each frame given.
 pub record AreStepsOf (steps place given : ℕ) (old : ConnectedHost) : Type 0 where
   pub at_most : steps ≤ 4 * count_held old.host (world_at old.stations place) + 1
   pub at_least : count_adapter_steps (world_at old.stations place) + given ≤ steps

@@ -24,8 +24,8 @@ pub record ReadsIcrFirst (caller : ℕ) (steps early : List AtomicStep) (causes 
   pub split : steps ≡ early ++ At caller (Accesses (Reads ICR causes)) ∷ later
   pub ticks : All IsTick early
 
--- Whether the piece in progress at an adapter is the last of its frame (`ends`), after an event with this outcome: Moved is of a last piece,
--- Part of another, and after Done no piece is in progress.
+-- Whether the piece in progress at an adapter is the last of its frame (`ends`), after an event with this outcome: Moved is of a last
+-- piece, Part of another, and after Done no piece is in progress.
 abbrev pub ends_after : (ends : Bool) → FrameOutcome → Bool
 ends_after ends Moved = true
 ends_after ends Part = false

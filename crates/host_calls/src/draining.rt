@@ -5,7 +5,7 @@ ghost use Rattle.registers.specs.Bits.{Meet};
 ghost use Rattle.adapter.specs.State.{IsAdapter};
 ghost use Rattle.packet_socket.specs.HostState.{HostState, all_of, queue_at};
 ghost use Rattle.stations.specs.Stations.{world_at};
-ghost use Rattle.host_calls.specs.DrainedHosts.{CanBeDrained, DrainsInto, HoldsNothing, count_held};
+ghost use Rattle.host_calls.specs.DrainedHosts.{CanBeDrained, DrainsInto, HoldsNothing, count_frames};
 ghost use Rattle.host_calls.specs.ConnectedHosts.{connected};
 ghost use Rattle.host_calls.specs.DrainSteps.{StepsInto, StepsOn, outlet, steps_of};
 
@@ -18,9 +18,10 @@ use stations::{Outcomes, Station, line_at, step_at};
 /// the host's number. No outcome is noted, since no tick is played in its calls. `sink` keeps the room that it doesn't
 /// need.
 ///
-/// Each step is the first of these that applies. If a frame is in progress, the host's adapter writes back its
-/// descriptor. If the interrupt line is asserted, the host handles an interrupt. If a frame waits for a socket, the
-/// first such socket gives its oldest. If the receive packet buffer has a frame, the adapter moves it to the ring.
+/// Each step is the first of these that applies. If a piece of a frame is in progress, the host's adapter writes back
+/// its descriptor. If the interrupt line is asserted, the host handles an interrupt. If a frame waits for a socket,
+/// the first such socket gives its oldest. If the receive packet buffer has a frame, the adapter moves the next piece
+/// of its oldest to the ring.
 pub fn drain<S: Outlet>(
     host: &mut Host,
     stations: &mut [Station],
@@ -53,7 +54,7 @@ fn step<S: Outlet>(
     requires there { place < length stations.old }
     requires stands { CanBeDrained host.old (world_at stations.old place) }
     requires room { IsAdapter (world_at stations.old place).adapter
-        → count_held host.old (world_at stations.old place) ≤ S.places sink.old }
+        → count_frames host.old (world_at stations.old place) ≤ S.places sink.old }
     ensures adapter { IsAdapter (world_at stations.old place).adapter }
     ensures steps { StepsInto (steps_of result) place (outlet (S.frames sink.old) (S.places sink.old))
         (outlet (S.frames sink.new) (S.places sink.new))
@@ -71,10 +72,10 @@ fn step<S: Outlet>(
         give(host, stations, place, socket, outcomes, sink);
         return true;
     }
-    move_frame(host, stations, place)
+    move_piece(host, stations, place)
 }
 
-/// The adapter writes back the descriptor of the frame in progress, if there is one.
+/// The adapter writes back the descriptor of the piece in progress, if there is one.
 fn finish(stations: &mut [Station], place: usize) -> bool
     requires there { place < length stations.old }
     ensures adapter { IsAdapter (world_at stations.old place).adapter }
@@ -135,8 +136,8 @@ fn give<S: Outlet>(
     }
 }
 
-/// The adapter moves a frame out of the packet buffer, if there is one.
-fn move_frame(host: &Host, stations: &mut [Station], place: usize) -> bool
+/// The adapter moves the next piece of the oldest frame out of the packet buffer, if there is one.
+fn move_piece(host: &Host, stations: &mut [Station], place: usize) -> bool
     requires there { place < length stations.old }
     requires stands { CanBeDrained host.now (world_at stations.old place) }
     requires free { (world_at stations.old place).adapter.receiver.work ≡ None }
@@ -147,8 +148,11 @@ fn move_frame(host: &Host, stations: &mut [Station], place: usize) -> bool
         (connected host.now stations.new) }
     ensures ends { result ≡ false → HoldsNothing host.now (world_at stations.new place) }
 {
-    // Calls of the layout, so that the clauses may rest on its sizes: a slot at least is offered.
+    // Calls of the layout, so that the clauses may rest on its sizes: at least one slot is offered.
     let layout = host.layout();
     let _sizes = (layout.rx(), layout.buffers());
-    matches!(step_at(stations, place, StepKind::RxData), Outcome::Moved)
+    matches!(
+        step_at(stations, place, StepKind::RxData),
+        Outcome::Part | Outcome::Moved
+    )
 }

@@ -1,7 +1,7 @@
 // Draining a host of a network.
 
 ghost use Rattle.std.specs.Prelude.{◌≡◌, ◌≤◌, ◌+◌, length};
-ghost use Rattle.host_calls.specs.DrainedHosts.{count_held};
+ghost use Rattle.host_calls.specs.DrainedHosts.{count_frames};
 ghost use Rattle.packet_socket.specs.HostState.{HostState};
 ghost use Rattle.stations.specs.Stations.{world_at};
 ghost use Rattle.wire.specs.DrainedNetworks.{NetworkDrains};
@@ -22,7 +22,7 @@ impl Lan {
     pub fn drain_room(&self, host: usize) -> usize
         ensures there { (state : HostState) → IsHost self.now host state → result ≡ state.driver.layout.buffers + 24 }
         ensures enough { (state : HostState) → IsHost self.now host state
-            → count_held state (world_at self.now.stations host) ≤ result }
+            → count_frames state (world_at self.now.stations host) ≤ result }
         ensures none { length self.now.hosts ≤ host → result ≡ 0 }
     {
         let hosts = self.hosts.as_slice();
@@ -36,9 +36,10 @@ impl Lan {
     /// the number of steps. A host that isn't there takes none. No memory is allocated. `sink` must have the room that
     /// [`drain_room`](Lan::drain_room) returns; it keeps the room that it doesn't need.
     ///
-    /// Each step is the first of these that applies. If a frame is in progress, the host's adapter writes back its
-    /// descriptor. If the interrupt line is asserted, the host handles an interrupt. If a frame waits for a socket, the
-    /// first such socket gives its oldest. If the receive packet buffer has a frame, the adapter moves it to the ring.
+    /// Each step is the first of these that applies. If a piece of a frame is in progress, the host's adapter writes
+    /// back its descriptor. If the interrupt line is asserted, the host handles an interrupt. If a frame waits for a
+    /// socket, the first such socket returns its oldest. If the receive packet buffer has a frame, the adapter moves
+    /// its next piece to the ring.
     pub fn drain<S: Outlet>(&mut self, host: usize, sink: &mut S) -> u64
         requires room { (state : HostState) → IsHost self.old host state
             → state.driver.layout.buffers + 24 ≤ S.places sink.old }

@@ -36,15 +36,15 @@ returns-in-Some-clause-steps g c = record {
       c.give.new.host c.give.ensures.given c.if-finish.false (c.finish.ensures.steps c.args.host.now c.requires.stands) c.give.ensures.on;
 }
 
-pub move_frame-requires-clause-stands : goal.move_frame-requires-clause-stands
-move_frame-requires-clause-stands g c =
+pub move_piece-requires-clause-stands : goal.move_piece-requires-clause-stands
+move_piece-requires-clause-stands g c =
     still-stands c.finish.result c.args.place c.args.stations.now c.finish.new.stations c.args.host.now c.if-finish.false
     (c.finish.ensures.steps c.args.host.now c.requires.stands) c.requires.stands
 
 pub returns-clause-steps : goal.returns-clause-steps
 returns-clause-steps g c =
-    into-none c.args.place c.args.stations.now c.move_frame.new.stations c.args.host.now c.args.host.now
-    (g.S.Outlet.frames c.args.sink.now) (g.S.Outlet.places c.args.sink.now) (steps_of c.move_frame.result)
-    (steps-after c.finish.result (steps_of c.move_frame.result) c.args.place c.args.stations.now c.finish.new.stations
-    c.move_frame.new.stations c.args.host.now c.args.host.now [] c.if-finish.false
-    (c.finish.ensures.steps c.args.host.now c.requires.stands) c.move_frame.ensures.steps)
+    into-none c.args.place c.args.stations.now c.move_piece.new.stations c.args.host.now c.args.host.now
+    (g.S.Outlet.frames c.args.sink.now) (g.S.Outlet.places c.args.sink.now) (steps_of c.move_piece.result)
+    (steps-after c.finish.result (steps_of c.move_piece.result) c.args.place c.args.stations.now c.finish.new.stations
+    c.move_piece.new.stations c.args.host.now c.args.host.now [] c.if-finish.false
+    (c.finish.ensures.steps c.args.host.now c.requires.stands) c.move_piece.ensures.steps)

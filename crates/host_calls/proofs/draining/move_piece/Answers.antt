@@ -1,18 +1,18 @@
 use Rattle.std.proofs.Common.{ap, arith}
 use Rattle.dma_memory.specs.Layout.{Counts}
-use Rattle.host_calls.proofs.AdapterSteps.{moves-frame, moves-none}
+use Rattle.host_calls.proofs.AdapterSteps.{moves-none, moves-piece}
 use Rattle.host_calls.proofs.Endings.{nothing-left}
-use Rattle.host_calls.proofs.draining.move_frame.Goals as goal
+use Rattle.host_calls.proofs.draining.move_piece.Goals as goal
 
-pub returns-in-Moved-clause-steps : goal.returns-in-Moved-clause-steps
-returns-in-Moved-clause-steps c =
-    moves-frame c.args.place c.args.stations.now c.step_at.new.stations c.args.host.now c.step_at.result c.requires.there
-    c.step_at.ensures.occurs c.step_at.ensures.state c.in-Moved.is c.requires.stands c.requires.free
+pub returns-in-Part-clause-steps : goal.returns-in-Part-clause-steps
+returns-in-Part-clause-steps c =
+    moves-piece c.args.place c.args.stations.now c.step_at.new.stations c.args.host.now c.step_at.result c.requires.there
+    c.step_at.ensures.occurs c.step_at.ensures.state c.in-Part.is c.requires.stands c.requires.free
 
 pub returns-in_default : goal.returns-in_default
 returns-in_default c =
     let moves = moves-none c.args.place c.args.stations.now c.step_at.new.stations c.args.host.now c.step_at.result c.requires.there
-    c.step_at.ensures.occurs c.step_at.ensures.state c.in_default.not-Moved c.requires.stands in
+    c.step_at.ensures.occurs c.step_at.ensures.state c.in_default.not-Part c.in_default.not-Moved c.requires.stands in
     let rx = ap (λ (counts : Counts). counts.rx) c.layout-layout.ensures in
     let buffers = ap (λ (counts : Counts). counts.buffers) c.layout-layout.ensures in
     let ring = c.rx.ensures.allowed.least in
