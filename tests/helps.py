@@ -7,8 +7,8 @@ Usage: nicbench <COMMAND>
 Commands:
   pass   Send the frames of a trace through a receive filter and a ring
   run    Run a scenario: hosts on wires, step by step
-  show   List the frames of a trace, one a line
-  serve  Serve an adapter and its memory to a driver, a request a line
+  show   List the frames of a trace, one per line
+  serve  Serve an adapter and its memory to a driver, one request per line
   help   Print this message or the help of the given subcommand(s)
 
 Options:
@@ -136,7 +136,7 @@ Then come the events, numbered from 0:
   interrupt HOST          a call: its driver handles an interrupt
   tick TICK               not a call, but a tick: txtake:HOST, txput:HOST, rxdata:HOST or rxdone:HOST is
                           a step of its adapter, deliver:HOST delivers the next frame of its wire,
-                          eeprom:HOST and phy:HOST are ticks of these, and go does nothing
+                          eeprom:HOST and phy:HOST are steps of its EEPROM and PHY, go does nothing
   CALL / TICK TICK ..     ticks inside a call: those before the first go are played before its first
                           access to memory or a register, those up to the next go before its second,
                           and so on
@@ -185,7 +185,7 @@ invalid. If existing files in OUTDIR are unchanged, a second line says so:
 A run can also end with E57 and E60 to E68. What each code means, and what to do: nicbench --help
 """
 
-SHOW_HELP = b"""List the frames of a trace, one a line
+SHOW_HELP = b"""List the frames of a trace, one per line
 
 Usage: nicbench show <TRACE>
 
@@ -214,7 +214,7 @@ If show fails, it prints 'nicbench: CODE NAME' on standard error:
 What each code means, and what to do: nicbench --help
 """
 
-SERVE_HELP = b"""Serve an adapter and its memory to a driver, a request a line
+SERVE_HELP = b"""Serve an adapter and its memory to a driver, one request per line
 
 Usage: nicbench serve [OPTIONS]
 

@@ -78,7 +78,7 @@ Then come the events, numbered from 0:
   interrupt HOST          a call: its driver handles an interrupt
   tick TICK               not a call, but a tick: txtake:HOST, txput:HOST, rxdata:HOST or rxdone:HOST is
                           a step of its adapter, deliver:HOST delivers the next frame of its wire,
-                          eeprom:HOST and phy:HOST are ticks of these, and go does nothing
+                          eeprom:HOST and phy:HOST are steps of its EEPROM and PHY, go does nothing
   CALL / TICK TICK ..     ticks inside a call: those before the first go are played before its first
                           access to memory or a register, those up to the next go before its second,
                           and so on
@@ -126,7 +126,7 @@ invalid. If existing files in OUTDIR are unchanged, a second line says so:
 
 A run can also end with E57 and E60 to E68. What each code means, and what to do: nicbench --help";
 
-pub(crate) const SHOW_ABOUT: &str = "List the frames of a trace, one a line";
+pub(crate) const SHOW_ABOUT: &str = "List the frames of a trace, one per line";
 
 pub(crate) const SHOW_NOTE: &str =
     "Each line is a frame: its number, from 0, its length in bytes, its destination, its source, and its
@@ -148,7 +148,7 @@ If show fails, it prints 'nicbench: CODE NAME' on standard error:
 What each code means, and what to do: nicbench --help";
 
 pub(crate) const SERVE_ABOUT: &str =
-    "Serve an adapter and its memory to a driver, a request a line";
+    "Serve an adapter and its memory to a driver, one request per line";
 
 pub(crate) const MEMORY_HELP: &str = "Bytes of memory, from address 0, such as 0x100000 [1048576]";
 
