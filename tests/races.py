@@ -89,7 +89,7 @@ def receiving(bench):
             taken.gives(two).does(INTERRUPT, RECV, INTERRUPT, RECV)
         else:
             taken.does(RECV, INTERRUPT).gives(two).does(INTERRUPT, RECV)
-        row(bench, f"a frame is finished after {accesses} accesses of the handler", taken, *counts(2))
+        row(bench, f"a frame is finished after {accesses} accesses by the handler", taken, *counts(2))
     row(bench, "a slot that the head has passed is in progress",
         Schedule().does(bring(one, two), FINISH, FINISH[:1], INTERRUPT).gives(one).does(RECV, FINISH[1:], RECV, INTERRUPT).gives(two), *counts(2))
     row(bench, "an interrupt before and after the write-back of each frame",
@@ -110,7 +110,7 @@ def misses(bench, one, two):
     waits = bring(one, two) + send(three) + BRING[:2]
     for accesses in range(3):
         late = ["interrupt b / " + "go " * accesses + "deliver:b"]
-        row(bench, f"one more is missed after {accesses} accesses of the handler", Schedule().does(waits, late, INTERRUPT, INTERRUPT, FINISH, INTERRUPT)
+        row(bench, f"one more is missed after {accesses} accesses by the handler", Schedule().does(waits, late, INTERRUPT, INTERRUPT, FINISH, INTERRUPT)
             .gives(one), a, {"reached": 3, "stored": 1, "missed": 2, "given": 1}, "rxa 2")
 
 
