@@ -1,5 +1,5 @@
-/* Measures only the copies: COUNT times, it copies a frame of LENGTH bytes into a packet buffer and from there into memory, and reads,
-   writes back and offers a descriptor. It has no registers, no filter and no rules.
+/* Measures only the copies: COUNT times, it copies a frame of LENGTH bytes into a packet buffer, and from there into memory, in pieces of at
+   most 256 bytes. For each piece it reads, writes back and offers a descriptor. It has no registers, no filter and no rules.
 
    usage: engines LENGTH COUNT */
 #include <stdint.h>
@@ -10,7 +10,7 @@
 #define FRAMES 24
 #define PLACE 1518
 #define SLOTS 8
-#define BUFFER 2048
+#define BUFFER 256
 
 static unsigned char buffered[FRAMES * PLACE];
 static unsigned char memory[SLOTS * 16 + SLOTS * BUFFER];
@@ -27,19 +27,22 @@ int main(int count_of_words, char **words)
         uint64_t address = SLOTS * 16 + slot * BUFFER;
         memcpy(memory + 16 * slot, &address, 8);
     }
-    for (unsigned long long n = 0; n < count; n++) {
+    for (unsigned long long n = 0, slot = 0; n < count; n++) {
         unsigned char *volatile place = buffered + n % FRAMES * PLACE;
-        unsigned char *volatile descriptor = memory + n % SLOTS * 16;
-        uint64_t address, report = length | (uint64_t)3 << 32, offered = 0;
-        uint16_t named;
         memcpy(place, frame, length);
-        memcpy(&address, descriptor, 8);
-        memcpy(memory + address, place, length);
-        memcpy(descriptor + 8, &report, 8);
-        memcpy(&named, descriptor + 8, 2);
-        found += memory[address] == 0xFF;
-        bytes += named;
-        memcpy(descriptor + 8, &offered, 8);
+        for (size_t moved = 0; moved < length; moved += BUFFER, slot++) {
+            unsigned char *volatile descriptor = memory + slot % SLOTS * 16;
+            size_t left = length - moved, piece = left < BUFFER ? left : BUFFER;
+            uint64_t address, report = piece | (uint64_t)(left <= BUFFER ? 3 : 1) << 32, offered = 0;
+            uint16_t named;
+            memcpy(&address, descriptor, 8);
+            memcpy(memory + address, place + moved, piece);
+            memcpy(descriptor + 8, &report, 8);
+            memcpy(&named, descriptor + 8, 2);
+            found += memory[address] == 0xFF && left <= BUFFER;
+            bytes += named;
+            memcpy(descriptor + 8, &offered, 8);
+        }
     }
     printf("frames %llu bytes %llu\n", found, bytes);
     return 0;

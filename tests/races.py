@@ -29,9 +29,14 @@ def bring(*frames):
     return [line for data in frames for line in send(data) + BRING]
 
 
+def finish(data):
+    """Moves and finishes the pieces of a frame: one for each receive buffer of 256 bytes."""
+    return FINISH * -(-max(len(data), 60) // 256)
+
+
 def receive(*frames):
     """Delivers each frame to b, and finishes it in b's memory."""
-    return [line for data in frames for line in bring(data) + FINISH]
+    return [line for data in frames for line in bring(data) + finish(data)]
 
 
 class Schedule:
@@ -187,15 +192,17 @@ def sending(bench):
 
 def lengths(bench):
     """The shortest and the longest frame, and frames that are rejected."""
-    for length in (14, 15, 59, 60, 61, 1517, 1518):
+    for length in (14, 15, 59, 60, 61, 255, 256, 257, 511, 512, 513, 1280, 1281, 1517, 1518):
         data = frame(7, length=length)
         row(bench, f"a frame of {length} bytes", Schedule().does(receive(data), INTERRUPT).gives(data).does(RECV, ["recv b 1"]), *counts(1))
     refused = send(frame(1, length=13)) + send(frame(1, length=1519))
     row(bench, "frames of 13 and 1,519 bytes", Schedule().does(refused, BRING, FINISH, INTERRUPT, RECV), {}, {})
-    short, long = frame(0xEE, length=1518), frame(1, length=14)
-    row(bench, "padding is zeros in a buffer that had a longer frame",
-        Schedule().does(*[receive(short), INTERRUPT] * 8).gives(short).gives(short).gives(short).gives(short).gives(short).gives(short).gives(short)
-        .gives(short).does(receive(long), INTERRUPT).gives(long), *counts(9))
+    # Three frames of six pieces occupy each of the 16 receive buffers once.
+    long, short = frame(0xEE, length=1518), frame(1, length=14)
+    padded = Schedule()
+    for _ in range(3):
+        padded.does(receive(long), INTERRUPT).gives(long)
+    row(bench, "padding is zeros in a buffer that had a longer frame", padded.does(receive(short), INTERRUPT).gives(short), *counts(4))
 
 
 def filters(bench):

@@ -134,7 +134,7 @@ def feeds(bench):
     bench.put("lengths.pcap", trace(packet(EXAMPLE_FRAME[:13]), packet(EXAMPLE_FRAME), packet(bytes(1519)), packet(EXAMPLE_FRAME.ljust(1518, b"\1"))))
     plays(bench, "feed: frames that send refuses", TO_SOCKET + b"feed a lengths.pcap\n",
           told("a", accepted=2, put=2) + told("b", reached=2, stored=2, given=2),
-          {"b.0.pcap": written([(15, EXAMPLE_FRAME), (31, EXAMPLE_FRAME.ljust(1518, b"\1"))])})
+          {"b.0.pcap": written([(15, EXAMPLE_FRAME), (41, EXAMPLE_FRAME.ljust(1518, b"\1"))])})
     three = (b"host a 02:00:00:00:00:01 w\nhost c 02:00:00:00:00:03 other\nhost b 02:00:00:00:00:02 w\nhost d 02:00:00:00:00:04 other\n"
              b"host e 02:00:00:00:00:05 w promiscuous\nsocket b 0806\nsocket b all\nsocket e 0800\nfeed a twenty.pcap\n")
     # Each frame is 14 events: three of the sender, six for b's two sockets and five for e's one.

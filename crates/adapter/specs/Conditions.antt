@@ -5,7 +5,7 @@ use Rattle.dma_memory.specs.Areas.{AreSeparate}
 use Rattle.registers.specs.Bits.{HasBit}
 use Rattle.descriptors.specs.declared.rx_desc.RxDesc.{RxDesc}
 use Rattle.descriptors.specs.RxStatus.{status_bits, eop}
-use Rattle.registers.specs.Places.{tctl_psp}
+use Rattle.registers.specs.Places.{rctl_en, tctl_psp}
 use Rattle.rx_engine.specs.Descriptors.{descriptor_at}
 use Rattle.rx_engine.specs.Held.{HasBegun}
 use Rattle.rx_engine.specs.Pieces.{IsCut, begun_of, frames_of}
@@ -39,16 +39,20 @@ pub record IsWhole (descriptor : RxDesc) : Type 0 where
   pub least : shortest_frame ≤ descriptor.length
   pub most : descriptor.length ≤ longest_frame
 
--- The finished slots, and the one in progress, contain frames as this adapter cuts them into buffers of one size.
-pub record AreCut (oldest_receive : ℕ) (world : World) : Type 0 where
+-- The finished slots, and the one in progress, contain frames as this adapter cuts them into receive buffers of so many bytes.
+pub record AreCut (size oldest_receive : ℕ) (world : World) : Type 0 where
+  -- While RCTL.EN is set, RCTL.BSIZE names this size. Without EN no piece is moved, so another size may stand there.
+  pub sized : HasBit world.adapter.filter.rctl rctl_en → buffer_size world ≡ size
   pub have_no_errors : All (λ slot. (descriptor_at world.memory slot).errors ≡ 0) (finished oldest_receive world)
-  -- Each piece fills its buffer, by RCTL.BSIZE, unless it is the last of its frame.
-  pub cut : All (IsCut (buffer_size world)) (pieces_in_slots oldest_receive world)
+  -- Each piece fills its buffer, unless it is the last of its frame.
+  pub cut : All (IsCut size) (pieces_in_slots oldest_receive world)
   -- Each frame that ends in them is legal, and the one that doesn't end yet is shorter than the longest frame.
   pub legal : All IsLegal (frames_of (pieces_in_slots oldest_receive world))
   pub short : length (begun_of (pieces_in_slots oldest_receive world)) < longest_frame
 
--- Each finished piece, and the one in progress, has at most as many bytes as a receive buffer, by RCTL.BSIZE.
-pub record FitBuffers (oldest_receive : ℕ) (world : World) : Type 0 where
-  pub finished_fit : All (λ slot. (named world.memory slot).size ≤ buffer_size world) (finished oldest_receive world)
-  pub work_fits : All (λ area. area.size ≤ buffer_size world) (work_areas world.memory world.adapter.receiver.work)
+-- Receive buffers of so many bytes have room for each finished piece, and for the one in progress.
+pub record FitBuffers (size oldest_receive : ℕ) (world : World) : Type 0 where
+  -- So they have for each piece to come: while RCTL.EN is set, RCTL.BSIZE names no larger size.
+  pub large : HasBit world.adapter.filter.rctl rctl_en → buffer_size world ≤ size
+  pub finished_fit : All (λ slot. (named world.memory slot).size ≤ size) (finished oldest_receive world)
+  pub work_fits : All (λ area. area.size ≤ size) (work_areas world.memory world.adapter.receiver.work)

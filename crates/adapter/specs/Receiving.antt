@@ -1,6 +1,7 @@
 -- The ways of a frame from the wire into memory ("3.2 Packet Reception"): it arrives, data steps move it to memory piece by piece, and a
 -- done step after each writes the descriptor back.
-use Rattle.std.specs.Prelude.{◌≡◌, ◌≤◌, ◌<◌, ◌+◌, ◌/◌, ◌==◌, ℕ, Bool, true, false, List, IfSome, Option, None, Some, length, if◌then◌else◌}
+use Rattle.std.specs.Prelude.{◌≡◌, ◌≤◌, ◌<◌, ◌+◌, ◌/◌, ◌==◌}
+use Rattle.std.specs.Prelude.{ℕ, Bool, true, false, List, IfSome, Option, None, Some, length, if◌then◌else◌}
 use Rattle.dma_memory.specs.Areas.{ChangesOnly, area_at}
 use Rattle.registers.specs.Bits.{HasBit}
 use Rattle.descriptors.specs.Frames.{IsLegal}

@@ -1,5 +1,6 @@
 -- Which bytes are in memory, and that they stay there.
-use Rattle.std.proofs.Common.{◌≡◌, ◌∙◌, ◌+◌, ◌≤◌, ℕ, Bool, Option, Some, None, true, false, ap, arith, if◌then◌else◌, length, nat_le}
+use Rattle.std.proofs.Common.{◌≡◌, ◌∙◌, ◌+◌, ◌≤◌}
+use Rattle.std.proofs.Common.{ℕ, Bool, Option, Some, None, true, false, ap, arith, if◌then◌else◌, length, nat_le}
 use Rattle.std.proofs.Common.{refl, sym}
 use Rattle.std.proofs.lemmas.Bool.Decides.{nat_tests}
 use Rattle.bus.proofs.Trails.{event_happens}

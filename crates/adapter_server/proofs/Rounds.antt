@@ -1,5 +1,6 @@
 -- Rounds of steps.
-use Rattle.std.proofs.Common.{◌≡◌, ◌+◌, ◌<◌, ◌≤◌, ◌++◌, ℕ, Bool, true, List, [], ◌∷◌, Option, ap, arith, length, length-append, nat_lt}
+use Rattle.std.proofs.Common.{◌≡◌, ◌+◌, ◌<◌, ◌≤◌, ◌++◌, [], ◌∷◌}
+use Rattle.std.proofs.Common.{ℕ, Bool, true, List, Option, ap, arith, length, length-append, nat_lt}
 use Rattle.std.proofs.Common.{cond, refl, subst, sym}
 use Rattle.std.specs.Prelude.{All, sum}
 use Rattle.std.proofs.lemmas.Bool.Decides.{nat_tests}

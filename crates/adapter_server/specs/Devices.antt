@@ -1,5 +1,6 @@
 -- What happens to the served adapter and its memory, and what is printed (our choice).
-use Rattle.std.specs.Prelude.{◌≡◌, ◌+◌, ◌++◌, ◌<◌, ◌≤◌, ℕ, List, [], ◌∷◌, All, flat_map, if◌then◌else◌, length, map, nat_lt, sum, take}
+use Rattle.std.specs.Prelude.{◌≡◌, ◌+◌, ◌++◌, ◌<◌, ◌≤◌, [], ◌∷◌}
+use Rattle.std.specs.Prelude.{ℕ, List, All, flat_map, if◌then◌else◌, length, map, nat_lt, sum, take}
 use Rattle.std.specs.Prelude.{true}
 use Rattle.adapter.specs.Outcomes.{framed}
 use Rattle.adapter.specs.State.{AdapterState}

@@ -1,5 +1,6 @@
 -- The state of a server, and the steps before an access (our choice).
-use Rattle.std.specs.Prelude.{◌≡◌, ◌==◌, ◌+◌, ◌-◌, ◌%◌, ◌&&◌, ℕ, Option, Some, None, false, Bool, if◌then◌else◌, length, nat_le, nat_lt}
+use Rattle.std.specs.Prelude.{◌≡◌, ◌==◌, ◌+◌, ◌-◌, ◌%◌, ◌&&◌}
+use Rattle.std.specs.Prelude.{ℕ, Option, Some, None, false, Bool, if◌then◌else◌, length, nat_le, nat_lt}
 use Rattle.std.specs.Prelude.{replicate}
 use Rattle.rand_core.specs.Pcg32Seed.{pcg32_seed}
 use Rattle.rand_pcg.specs.Lcg.{Lcg}

@@ -12,8 +12,8 @@ fn same(rt: &impl Abort, shown: &str, wanted: &str) {
 /// A refused allocation is the one failure that is allowed here, so that each can be made to fail in turn.
 #[test]
 fn a_new_memory_is_zeros(rt: HostRuntime) {
-    if let Ok(memory) = HostMemory::new(rt.alloc(), 51_200) {
-        assert!(rt; memory.size() == 51_200);
+    if let Ok(memory) = HostMemory::new(rt.alloc(), 22_528) {
+        assert!(rt; memory.size() == 22_528);
         assert!(rt; memory.view(51_196, 4) == Ok([0; 4].as_slice()));
     }
 }

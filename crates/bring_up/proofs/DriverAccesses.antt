@@ -1,9 +1,11 @@
 -- Writes of registers as stretches of a driver's run, if it is known in which world each begins.
-use Rattle.std.proofs.Common.{Bool, true, false, ◌≡◌, ◌<◌, ◌+◌, ◌*◌, ◌⊎◌, ⊎_elim, ◌++◌, ◌∷◌, [], ℕ, List, length, Option, bit_and, inl}
+use Rattle.std.proofs.Common.{◌≡◌, ◌<◌, ◌+◌, ◌*◌, ◌⊎◌, ⊎_elim, ◌++◌, ◌∷◌, []}
+use Rattle.std.proofs.Common.{Bool, true, false, ℕ, List, length, Option, bit_and, inl}
 use Rattle.std.proofs.Common.{inr, refl, sym, ap, subst, ◌∙◌, arith}
 use Rattle.std.proofs.lemmas.List.{append-nil, nil_from_length}
 use Rattle.registers.specs.Bits.{HasBit}
 use Rattle.registers.specs.Laws.{HasBit-union}
+use Rattle.dma_memory.specs.Layout.{receive_buffer_bytes}
 use Rattle.descriptors.specs.Ring.{count_of}
 use Rattle.rx_engine.specs.Pieces.{frames_of}
 use Rattle.adapter.specs.HostAreas.{buffer_size}
@@ -79,19 +81,19 @@ receive_control-written promiscuous by_vlan world =
     { adapter = left_by_write register (receive_control promiscuous by_vlan) world.adapter } in after) (register_at-there Rctl tt)
     ∙ ap (λ (control : ℕ). with_receive_control control world) (control-kept promiscuous by_vlan)
 
--- BSEX is 0, and buffers have 2,048 bytes.
+-- BSEX is 0, and buffers have 256 bytes.
 not-extended : (promiscuous by_vlan : Bool) → ¬ (HasBit (receive_control promiscuous by_vlan) 25)
 not-extended true true = λ has. omega arith
 not-extended true false = λ has. omega arith
 not-extended false true = λ has. omega arith
 not-extended false false = λ has. omega arith
 
-big-buffers : (promiscuous by_vlan : Bool) (world : World)
-    → buffer_size (with_receive_control (receive_control promiscuous by_vlan) world) ≡ 2048
-big-buffers true true world = refl
-big-buffers true false world = refl
-big-buffers false true world = refl
-big-buffers false false world = refl
+small-buffers : (promiscuous by_vlan : Bool) (world : World)
+    → buffer_size (with_receive_control (receive_control promiscuous by_vlan) world) ≡ receive_buffer_bytes
+small-buffers true true world = refl
+small-buffers true false world = refl
+small-buffers false true world = refl
+small-buffers false false world = refl
 
 pub lets-frames-in : {B : Type 0} (bus : Ghosts B) (old new : B) (promiscuous by_vlan : Bool) (value : ℕ) (d : DriverState)
     → value ≡ receive_control promiscuous by_vlan → WriteActs bus old new 0x0100 value → ReadyWith false d (bus.world old)
@@ -104,8 +106,8 @@ lets-frames-in bus old new promiscuous by_vlan value d is written ready none off
     let acts = subst (WriteActs bus old new 0x0100) is written in
     let middle = acts.middle in
     let within : o < count_of (receive_ring (bus.world old)) = omega (arith, ready.driver_is.oldest_slot, ready.receive.slots) in
-    let waits = offers_wait o d.oldest_transmit (bus.world old) middle acts.past ready.law.sound within off ready.law.whole none acts.before
-    in
+    let waits = offers_wait receive_buffer_bytes o d.oldest_transmit (bus.world old) middle acts.past ready.law.sound within off
+    (omega arith) ready.law.whole none acts.before in
     let arrives = acts.before.steady.off off in
     let between = acts.before.between o d.oldest_transmit ready.law.sound in
     let empty : frames_held o middle ≡ [] = between.holds ∙ ap (λ (frames : List (List ℕ)). frames ++ acts.past.stored) none ∙ arrives.0 in
@@ -114,14 +116,15 @@ lets-frames-in bus old new promiscuous by_vlan value d is written ready none off
     let goes : GoesTo false (driver_in d middle) (driver_in d (bus.world new)) (driver_did [] []) nothing =
     subst (λ (w : World). GoesTo false (driver_in d middle) (driver_in d w) (driver_did [] []) nothing) (sym done)
     (receiver_is_enabled d control middle ready_there waits.none_finished waits.no_work (not-extended promiscuous by_vlan)
-    (big-buffers promiscuous by_vlan middle)) in
+    (small-buffers promiscuous by_vlan middle)) in
     let none_held : frames_held o (bus.world new) ≡ [] = goes.flows.holds ∙ append-nil (frames_held o middle) ∙ empty in
     let law = goes.flows.ready.law in
     record {
       ran = ran_by-begins bus old new (Writes 0x0100 control) _ d acts (write-sets 0x0100 control (bus.world new)) ready
           (λ there. goes);
       none_held = none_held;
-      none_finished = (holds-none o d.oldest_transmit (bus.world new) law.sound law.whole none_held).none_finished;
+      none_finished =
+          (holds-none receive_buffer_bytes o d.oldest_transmit (bus.world new) law.sound (omega arith) law.whole none_held).none_finished;
       no_arrival = record { none_stored = arrives.0; none_missed = arrives.1 };
     }
 

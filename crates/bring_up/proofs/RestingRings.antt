@@ -5,9 +5,9 @@ use Rattle.std.specs.List.{take_while}
 use Rattle.std.proofs.lemmas.List.{append-nil}
 use Rattle.std.proofs.lemmas.List.Elements.{All-cons}
 use Rattle.std.proofs.lemmas.List.Kept.{AllPairs-cons}
-use Rattle.registers.specs.Bits.{HasBit, field}
+use Rattle.registers.specs.Places.{rctl_en}
+use Rattle.registers.specs.Bits.{HasBit}
 use Rattle.registers.specs.Laws.{HasBit-zero}
-use Rattle.registers.specs.ReceiveControl.{buffer_size_of}
 use Rattle.dma_memory.specs.Areas.{AreApart, AreSeparate, Area}
 use Rattle.dma_memory.specs.HostMemory.{LiesIn}
 use Rattle.dma_memory.specs.Layout.{IsRingSize, size_of}
@@ -180,6 +180,8 @@ drivers_begin_at_rest counts pool world allowed owner lies has =
     let small : size_of counts < 2 ^ 64 = omega (arith, behind.first, allowed.rx.most, allowed.tx.most, allowed.buffers.most) in
     let buffer = ap (λ (transmitter : Transmitter). transmitter.buffer) rest.transmitter in
     let transmits = has.transmits in
+    let off : ¬ (HasBit world.adapter.filter.rctl rctl_en) = subst (λ (control : ℕ). ¬ (HasBit control 1)) (sym rest.control)
+    (HasBit-zero 1) in
     let begun : HasBegun false counts pool world = record {
       driver_is = record {
         oldest_slot = omega (arith, allowed.rx.least);
@@ -190,7 +192,7 @@ drivers_begin_at_rest counts pool world allowed owner lies has =
       idle = idle.0;
       runs = idle.1;
       lies = lies;
-      size = ap (λ (control : ℕ). buffer_size_of (field control 16 2)) rest.control;
+      sized = λ enabled. absurd (off enabled);
       receive = has.knows;
       transmit = record {
         ends = subst (λ (ring : RingRegisters). (ring_of ring).base + 16 * count_of (ring_of ring) ≤ 16 * counts.rx + 16 * counts.tx)
@@ -205,7 +207,7 @@ drivers_begin_at_rest counts pool world allowed owner lies has =
       begun = begun;
       ready = drivers_begin false counts pool world begun;
       quiet = record {
-        off = subst (λ (control : ℕ). ¬ (HasBit control 1)) (sym rest.control) (HasBit-zero 1);
+        off = off;
         none_held = held-none world rest has.knows.last;
         none_to_send = none-to_send world.memory (transmit_ring world) world.adapter.transmitter.buffer buffer rest.rings.transmit;
       };

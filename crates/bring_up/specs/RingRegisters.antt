@@ -5,8 +5,8 @@ use Rattle.adapter.specs.Rings.{ring_distance}
 use Rattle.adapter.specs.declared.register.RingRegister.TheVariants.{BaseHigh, Length, Head, Tail}
 use Rattle.bus.specs.Settings.{Write}
 use Rattle.bring_up.specs.WrittenRegisters.{write_at}
-use Rattle.registers.specs.Places.{alone, rctl_bam, rctl_en, rctl_mpe, rctl_secrc, rctl_upe, rctl_vfe, tctl_cold, tctl_ct, tctl_en}
-use Rattle.registers.specs.Places.{tctl_psp}
+use Rattle.registers.specs.Places.{alone, rctl_bam, rctl_bsize, rctl_en, rctl_mpe, rctl_secrc, rctl_upe, rctl_vfe}
+use Rattle.registers.specs.Places.{tctl_cold, tctl_ct, tctl_en, tctl_psp}
 
 -- a ring's base, its length in bytes, and head and tail 0; the first offset is that of the base's low word
 abbrev pub ring_writes : (offset base bytes : ℕ) → List Write
@@ -18,10 +18,10 @@ ring_writes offset base bytes =
     ∷ write_at (offset + ring_distance Tail) 0
     ∷ []
 
--- RCTL: EN, BAM and SECRC; UPE and MPE if every frame is to pass; VFE if VLANs are named
+-- RCTL: EN, BAM, BSIZE 11b (buffers of 256 bytes) and SECRC; UPE and MPE if every frame is to pass; VFE if VLANs are named
 abbrev pub receive_control : (promiscuous by_vlan : Bool) → ℕ
 receive_control promiscuous by_vlan =
-    alone rctl_en + alone rctl_bam + alone rctl_secrc
+    alone rctl_en + alone rctl_bam + 3 * alone rctl_bsize + alone rctl_secrc
     + (if promiscuous then alone rctl_upe + alone rctl_mpe else 0)
     + (if by_vlan then alone rctl_vfe else 0)
 

@@ -71,7 +71,7 @@ pub fn set_transmit_ring<B: Bus>(bus: &mut B, ring: RingPlace)
     bus.write(TDT, 0);
 }
 
-/// Enables the receiver, with broadcast frames and buffers of 2,048 bytes. Every frame passes the filter if
+/// Enables the receiver, with broadcast frames and buffers of 256 bytes. Every frame passes the filter if
 /// `promiscuous`. Of tagged frames only those of the VLAN table pass if `by_vlan`. A driver that is ready, with
 /// RCTL.EN 0 and no frame held, stays so, and no frame is held afterwards.
 pub fn enable_receiver<B: Bus>(bus: &mut B, promiscuous: bool, by_vlan: bool)
@@ -88,7 +88,10 @@ pub fn enable_receiver<B: Bus>(bus: &mut B, promiscuous: bool, by_vlan: bool)
 fn receive_control(promiscuous: bool, by_vlan: bool) -> u32
     ensures { result ≡ receive_control promiscuous by_vlan }
 {
-    let mut control = Rctl::EN.union(Rctl::BAM).union(Rctl::SECRC);
+    let mut control = Rctl::EN
+        .union(Rctl::BAM)
+        .union(Rctl::BSIZE)
+        .union(Rctl::SECRC);
     if promiscuous {
         control = control.union(Rctl::UPE).union(Rctl::MPE);
     }

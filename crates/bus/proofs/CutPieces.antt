@@ -13,6 +13,8 @@ use Rattle.rx_engine.specs.Pieces.{IsCut, Piece, begun_of, frames_of}
 use Rattle.adapter.specs.Conditions.{AreCut}
 use Rattle.adapter.specs.HostAreas.{buffer_size}
 use Rattle.adapter.specs.HostFrames.{pieces_in_slots}
+use Rattle.registers.specs.Bits.{HasBit}
+use Rattle.registers.specs.Places.{rctl_en}
 use Rattle.adapter.specs.Slots.{finished}
 use Rattle.adapter.specs.World.{World}
 use Rattle.bus.proofs.KeptPieces.{SameDescriptors}
@@ -79,6 +81,7 @@ pub errors-kept : (memory memory' slots : List ℕ) → SameDescriptors memory m
 errors-kept memory memory' slots same none = λ k d below. ap (λ (desc : RxDesc). desc.errors) (same k d below) ∙ none k d below
 
 -- Pieces in slots that are cut so, without errors.
-pub are-cut : (o : ℕ) (world : World) → HaveNoErrors world.memory (finished o world)
-    → CutPieces (buffer_size world) (pieces_in_slots o world) → AreCut o world
-are-cut o world errors pieces = record { have_no_errors = errors; cut = pieces.cut; legal = pieces.legal; short = pieces.short }
+pub are-cut : (size o : ℕ) (world : World) → (HasBit world.adapter.filter.rctl rctl_en → buffer_size world ≡ size)
+    → HaveNoErrors world.memory (finished o world) → CutPieces size (pieces_in_slots o world) → AreCut size o world
+are-cut size o world sized errors pieces = record
+    { sized = sized; have_no_errors = errors; cut = pieces.cut; legal = pieces.legal; short = pieces.short }

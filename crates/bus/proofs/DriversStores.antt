@@ -78,8 +78,8 @@ drivers_stores_leave_frames o p a address bytes sound lies own =
         finished_same = receiving.done;
         written_same = transmitting.done;
         pieces_same = receiving.pieces;
-        whole = λ equal. receiving.whole;
-        fits = λ larger fit. receiving.fits fit;
+        whole = λ size sized. receiving.whole size;
+        fits = λ size large. receiving.fits size;
       };
       runs = λ can. record {
         receiver_runs = can.receiver_runs;

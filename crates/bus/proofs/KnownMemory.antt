@@ -1,15 +1,12 @@
 -- What a driver rests on stays, whatever happens: where its rings stand, and memory that no outstanding slot uses.
-use Rattle.std.proofs.Common.{◌≡◌, ℕ, List, sym, ap, subst, ◌∙◌}
+use Rattle.std.proofs.Common.{◌≡◌, ℕ, List, sym, ap, subst}
 use Rattle.std.specs.List.{All}
-use Rattle.dma_memory.specs.Areas.{AreApart, Area}
-use Rattle.registers.specs.Bits.{field}
-use Rattle.registers.specs.ReceiveControl.{buffer_size_of}
-use Rattle.rx_engine.specs.Registers.{FilterRegisters}
+use Rattle.dma_memory.specs.Areas.{AreApart, Area, area_at}
 use Rattle.descriptors.specs.declared.tx_desc.TxDesc.{TxDesc}
 use Rattle.adapter.specs.Rings.{ring_of}
 use Rattle.adapter.specs.declared.ring.RingRegisters.{RingRegisters}
 use Rattle.rx_engine.specs.Descriptors.{named_address}
-use Rattle.adapter.specs.HostAreas.{buffer_of, data_of, ring_area}
+use Rattle.adapter.specs.HostAreas.{data_of, ring_area}
 use Rattle.adapter.specs.Conditions.{Sound}
 use Rattle.bus.specs.Law.{Happens}
 use Rattle.bus.specs.PastOfStretch.{Past}
@@ -26,8 +23,9 @@ same_ring_area a b same = ap (λ (registers : RingRegisters). ring_area (ring_of
 
 -- Spare memory.
 
-spare-stays : (o p : ℕ) (a b : World) (past : Past) (area : Area) → Sound o p a → Happens a b past → IsSpare o p a area → IsSpare o p b area
-spare-stays o p a b past area sound happens spare =
+spare-stays : (size o p : ℕ) (a b : World) (past : Past) (area : Area) → Sound o p a → Happens a b past → IsSpare size o p a area
+    → IsSpare size o p b area
+spare-stays size o p a b past area sound happens spare =
     let Away : Area → Type 0 = λ other. AreApart other area in
     let steady = happens.steady in
     let own = drivers_side_stays o p a b past sound happens in
@@ -43,27 +41,22 @@ spare-stays o p a b past area sound happens spare =
       transmit_slots = subst Away (sym (same_ring_area a.adapter.transmit_ring b.adapter.transmit_ring steady.transmit_ring))
           spare.transmit_slots;
       buffers =
-          subst (λ (slots : List ℕ). All (λ d. AreApart (buffer_of b d) area) slots) (sym own.same_received)
-          (λ k d below. subst Away (sym (buffer-same _ (addresses k d below))) (spare.buffers k d below));
+          subst (λ (slots : List ℕ). All (λ d. AreApart (area_at (named_address b.memory d) size) area) slots) (sym own.same_received)
+          (λ k d below. subst (λ (address : ℕ). AreApart (area_at address size) area) (sym (addresses k d below))
+          (spare.buffers k d below));
       sources =
           subst (λ (slots : List ℕ). All (λ d. AreApart (data_of b.memory d) area) slots) (sym own.same_sent)
           (λ k d below. subst Away (sym (sources k d below)) (spare.sources k d below));
     }
-  where
-    buffer-same : (d : ℕ) → named_address b.memory d ≡ named_address a.memory d → buffer_of b d ≡ buffer_of a d
-    buffer-same d address =
-        ap (λ (n : ℕ). let place : Area = record { address = n; size = buffer_size_of (field b.adapter.filter.rctl 16 2) } in place) address
-        ∙ ap (λ (filter : FilterRegisters). let place : Area = record
-        { address = named_address a.memory d; size = buffer_size_of (field filter.rctl 16 2) } in place) happens.steady.filter
 
 pub areas_stay_apart : AreasStayApart
-areas_stay_apart o p a b past area sound fit spare happens =
+areas_stay_apart size o p a b past area sound fit spare happens =
     let between = happens.between o p sound in
-    let fit_b = between.fits fit in
-    let spare_b = spare-stays o p a b past area sound happens spare in
+    let fit_b = between.fits size fit in
+    let spare_b = spare-stays size o p a b past area sound happens spare in
     record {
       fit = fit_b;
       spare = spare_b;
-      apart = spare-apart o p b area between.sound fit_b spare_b;
-      foreign = spare-foreign o p b area between.sound fit_b spare_b;
+      apart = spare-apart size o p b area between.sound fit_b spare_b;
+      foreign = spare-foreign size o p b area between.sound fit_b spare_b;
     }

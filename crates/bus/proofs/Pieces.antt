@@ -7,7 +7,6 @@ use Rattle.rx_engine.specs.Held.{piece_of}
 use Rattle.rx_engine.specs.Pieces.{Piece, IsCut, IsLast, IsLastSize, begun_from, frames_from}
 use Rattle.rx_engine.specs.Pieces.Piece.{Last, Part}
 use Rattle.bus.specs.LargeBuffers.{LargeBuffersTakeFrames}
-use Rattle.adapter.specs.HostAreas.{buffer_size}
 use Rattle.adapter.specs.HostFrames.{pieces_in_slots}
 use Rattle.bus.proofs.Lists.{all-head, all-none, all-tail}
 
@@ -42,4 +41,4 @@ all-last size begun (Last bytes ∷ later) large cut legal short =
     (all-tail IsLegal (begun ++ bytes) (frames_from [] later) legal) short)
 
 pub large_buffers_take_frames : LargeBuffersTakeFrames
-large_buffers_take_frames o a large are = all-last (buffer_size a) [] (pieces_in_slots o a) large are.cut are.legal are.short
+large_buffers_take_frames size o a large are = all-last size [] (pieces_in_slots o a) large are.cut are.legal are.short

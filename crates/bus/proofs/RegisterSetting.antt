@@ -8,8 +8,11 @@ use Rattle.std.proofs.Math.Nat.{mod-add-mod, mod-eq_of_lt}
 use Rattle.descriptors.specs.Ring.{address_of, count_of, next_of, offered_places, slots_from}
 use Rattle.descriptors.specs.RingLaws.{next-below, places-none}
 use Rattle.mdic_phy.specs.declared.phy.Link.TheVariants.{Never}
-use Rattle.rx_engine.specs.Pieces.{IsCut}
+use Rattle.registers.specs.Bits.{HasBit, field}
+use Rattle.registers.specs.Places.{rctl_en}
+use Rattle.registers.specs.ReceiveControl.{buffer_size_of}
 use Rattle.rx_engine.specs.Receiver.{Receiver}
+use Rattle.rx_engine.specs.Registers.{FilterRegisters}
 use Rattle.tx_engine.specs.Fetching.{fetched, frame_at}
 use Rattle.tx_engine.specs.ToSend.{to_send}
 use Rattle.tx_engine.specs.Transmitter.{Queued, Transmitter}
@@ -20,10 +23,9 @@ use Rattle.adapter.specs.Registers.{after_reset, by_row, is_reset, left_by_read,
 use Rattle.adapter.specs.Rings.{ring_of}
 use Rattle.adapter.specs.Table.{register_at, row_of}
 use Rattle.adapter.specs.Slots.{finished, offered, outstanding, written_back}
-use Rattle.adapter.specs.HostAreas.{buffer_size}
-use Rattle.adapter.specs.HostFrames.{finished_pieces, frames_held, frames_to_send, pieces_in_slots}
+use Rattle.adapter.specs.HostFrames.{finished_pieces, frames_held, frames_to_send}
 use Rattle.bus.specs.RegisterSetting.{CanOfferMany, ManySlotsCanBeOffered, OfferedMany, OtherWritesLeaveFrames, ReadsLeaveFrames}
-use Rattle.bus.specs.RegisterSetting.{ReceiverCanBeSet, TransmitRingCanBeSet, TransmitterCanBeSet, with_receive_control, with_tail}
+use Rattle.bus.specs.RegisterSetting.{ReceiverCanBeSet, TransmitRingCanBeSet, TransmitterCanBeSet, with_tail}
 use Rattle.adapter.specs.Conditions.{AreCut, FitBuffers, Reports, Sound}
 use Rattle.bus.specs.SlotOffers.{offering}
 use Rattle.bus.specs.DriversStores.{LeavesFrames, SameFrames}
@@ -52,19 +54,9 @@ receiver_can_be_set o p control world sound separate = record {
     finished_same = refl;
     written_same = refl;
     pieces_same = refl;
-    whole = λ equal cut. record {
-      have_no_errors = cut.have_no_errors;
-      cut = subst (λ (n : ℕ). All (IsCut n) (pieces_in_slots o world)) (sym equal) cut.cut;
-      legal = cut.legal;
-      short = cut.short;
-    };
-    fits = λ larger fit.
-        let within : (n : ℕ) → n ≤ buffer_size world
-        → n ≤ buffer_size (with_receive_control control world) = λ n small. omega (arith, small, larger) in
-        record {
-          finished_fit = λ k d below. within _ (fit.finished_fit k d below);
-          work_fits = λ k place below. within _ (fit.work_fits k place below);
-        };
+    whole = λ size sized cut. record
+        { sized = sized; have_no_errors = cut.have_no_errors; cut = cut.cut; legal = cut.legal; short = cut.short };
+    fits = λ size large fit. record { large = large; finished_fit = fit.finished_fit; work_fits = fit.work_fits };
   };
   runs = λ not_extended can. record {
     receiver_runs = can.receiver_runs;
@@ -92,8 +84,9 @@ transmitter_can_be_set o p control world sound pads = record {
     finished_same = refl;
     written_same = refl;
     pieces_same = refl;
-    whole = λ equal cut. record { have_no_errors = cut.have_no_errors; cut = cut.cut; legal = cut.legal; short = cut.short };
-    fits = λ larger fit. record { finished_fit = fit.finished_fit; work_fits = fit.work_fits };
+    whole = λ size sized cut. record
+        { sized = sized; have_no_errors = cut.have_no_errors; cut = cut.cut; legal = cut.legal; short = cut.short };
+    fits = λ size large fit. record { large = large; finished_fit = fit.finished_fit; work_fits = fit.work_fits };
   };
   runs = λ can. record {
     receiver_runs = can.receiver_runs;
@@ -134,7 +127,7 @@ transmit_ring_can_be_set o p ring world sound none same separate =
       none_to_send = none-sent memory ring world.adapter.transmitter.buffer none same;
       held = refl;
       finished_same = refl;
-      fits = λ fit. record { finished_fit = fit.finished_fit; work_fits = fit.work_fits };
+      fits = λ size fit. record { large = fit.large; finished_fit = fit.finished_fit; work_fits = fit.work_fits };
       runs = λ can. record {
         receiver_runs = can.receiver_runs;
         transmitter_runs = can.transmitter_runs;
@@ -207,17 +200,19 @@ running_from_parts world can = record {
   transmittable = can.transmittable;
 }
 
-fit_to_parts : (o : ℕ) (world : World) → FitBuffers o world → FitBuffers o (parts world)
-fit_to_parts o world fit = record { finished_fit = fit.finished_fit; work_fits = fit.work_fits }
+fit_to_parts : (size o : ℕ) (world : World) → FitBuffers size o world → FitBuffers size o (parts world)
+fit_to_parts size o world fit = record { large = fit.large; finished_fit = fit.finished_fit; work_fits = fit.work_fits }
 
-fit_from_parts : (o : ℕ) (world : World) → FitBuffers o (parts world) → FitBuffers o world
-fit_from_parts o world fit = record { finished_fit = fit.finished_fit; work_fits = fit.work_fits }
+fit_from_parts : (size o : ℕ) (world : World) → FitBuffers size o (parts world) → FitBuffers size o world
+fit_from_parts size o world fit = record { large = fit.large; finished_fit = fit.finished_fit; work_fits = fit.work_fits }
 
-cut_to_parts : (o : ℕ) (world : World) → AreCut o world → AreCut o (parts world)
-cut_to_parts o world cut = record { have_no_errors = cut.have_no_errors; cut = cut.cut; legal = cut.legal; short = cut.short }
+cut_to_parts : (size o : ℕ) (world : World) → AreCut size o world → AreCut size o (parts world)
+cut_to_parts size o world cut = record
+    { sized = cut.sized; have_no_errors = cut.have_no_errors; cut = cut.cut; legal = cut.legal; short = cut.short }
 
-cut_from_parts : (o : ℕ) (world : World) → AreCut o (parts world) → AreCut o world
-cut_from_parts o world cut = record { have_no_errors = cut.have_no_errors; cut = cut.cut; legal = cut.legal; short = cut.short }
+cut_from_parts : (size o : ℕ) (world : World) → AreCut size o (parts world) → AreCut size o world
+cut_from_parts size o world cut = record
+    { sized = cut.sized; have_no_errors = cut.have_no_errors; cut = cut.cut; legal = cut.legal; short = cut.short }
 
 by-parts : (o p : ℕ) (a b : World) → parts b ≡ parts a → Sound o p a → LeavesFrames o p a b
 by-parts o p a b same sound = record {
@@ -228,8 +223,8 @@ by-parts o p a b same sound = record {
     finished_same = ap (finished o) same;
     written_same = ap (written_back p) same;
     pieces_same = ap (finished_pieces o) same;
-    whole = λ equal cut. cut_from_parts o b (subst (AreCut o) (sym same) (cut_to_parts o a cut));
-    fits = λ larger fit. fit_from_parts o b (subst (FitBuffers o) (sym same) (fit_to_parts o a fit));
+    whole = λ size sized cut. cut_from_parts size o b (subst (AreCut size o) (sym same) (cut_to_parts size o a cut));
+    fits = λ size large fit. fit_from_parts size o b (subst (FitBuffers size o) (sym same) (fit_to_parts size o a fit));
   };
   runs = λ can. running_from_parts b (subst CanRun (sym same) (running_to_parts a can));
 }
@@ -268,16 +263,20 @@ other_writes_leave_frames o p register value world sound other none = by_test (i
 
 -- Many slots.
 
-same_trans : (o p : ℕ) (a b d : World) → buffer_size b ≡ buffer_size a → SameFrames o p a b → SameFrames o p b d → SameFrames o p a d
-same_trans o p a b d size one two = record {
+same_trans : (o p : ℕ) (a b d : World) → b.adapter.filter ≡ a.adapter.filter → SameFrames o p a b → SameFrames o p b d → SameFrames o p a d
+same_trans o p a b d filter one two = record {
   sound = two.sound;
   held = two.held ∙ one.held;
   to_send = two.to_send ∙ one.to_send;
   finished_same = two.finished_same ∙ one.finished_same;
   written_same = two.written_same ∙ one.written_same;
   pieces_same = two.pieces_same ∙ one.pieces_same;
-  whole = λ equal cut. two.whole (equal ∙ sym size) (one.whole size cut);
-  fits = λ larger fit. two.fits (omega (arith, size, larger)) (one.fits (omega (arith, size)) fit);
+  whole = λ size sized cut. two.whole size sized (one.whole size
+      (subst (λ (registers : FilterRegisters). HasBit registers.rctl rctl_en → buffer_size_of (field registers.rctl 16 2) ≡ size)
+      (sym filter) cut.sized) cut);
+  fits = λ size large fit. two.fits size large (one.fits size
+      (subst (λ (registers : FilterRegisters). HasBit registers.rctl rctl_en → buffer_size_of (field registers.rctl 16 2) ≤ size)
+      (sym filter) fit.large) fit);
 }
 
 -- one by one

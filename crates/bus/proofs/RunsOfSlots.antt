@@ -1,5 +1,6 @@
 -- A driver counts the slot after a run of finished ones as its oldest.
-use Rattle.std.proofs.Common.{◌≡◌, ◌≢◌, ◌<◌, ◌++◌, ◌∷◌, [], Bool, true, false, ℕ, List, length, map, refl, sym, ap, subst, ◌∙◌}
+use Rattle.std.proofs.Common.{◌≡◌, ◌≢◌, ◌<◌, ◌++◌, ◌∷◌, [], ◌∙◌}
+use Rattle.std.proofs.Common.{Bool, true, false, ℕ, List, length, map, refl, sym, ap, subst}
 use Rattle.std.proofs.Common.{append_assoc}
 use Rattle.std.specs.List.{All}
 use Rattle.std.proofs.lemmas.List.{map-append}
@@ -18,7 +19,7 @@ use Rattle.rx_engine.specs.Pieces.{IsCut, Piece, begun_of, frames_from, frames_o
 use Rattle.rx_engine.specs.Pieces.Piece.{Last, Part}
 use Rattle.rx_engine.specs.PieceLaws.{begun-append, begun-parts, frames-append, frames-parts}
 use Rattle.adapter.specs.Conditions.{FitBuffers}
-use Rattle.adapter.specs.HostAreas.{IsForeign, areas, buffer_size}
+use Rattle.adapter.specs.HostAreas.{IsForeign, areas}
 use Rattle.adapter.specs.HostFrames.{finished_pieces, named, piece_in, pieces_in_slots}
 use Rattle.adapter.specs.Slots.{finished, in_work, IsDealt, outstanding}
 use Rattle.adapter.specs.World.{World, receive_ring}
@@ -89,7 +90,7 @@ pub record RunPassed (o : ℕ) (a : World) (run later : List ℕ) : Type 0 where
   pub own : All (IsDriversSlot (receive_ring a) (after_run o run a)) (places_of_run o run a)
   pub separate : AreSeparate a.memory (areas (after_run o run a) a)
   pub lie : All (λ slot. LiesIn a.memory (named a.memory slot).address (named a.memory slot).size) run
-  pub fits : FitBuffers o a → FitBuffers (after_run o run a) a
+  pub fits : (size : ℕ) → FitBuffers size o a → FitBuffers size (after_run o run a) a
 
 pub run-passed : (o : ℕ) (a : World) (run later : List ℕ) → IsDealt a.memory (receive_ring a) o (in_work a)
     → AreSeparate a.memory (areas o a) → finished o a ≡ run ++ later → RunPassed o a run later
@@ -101,7 +102,7 @@ run-passed o a [] later dealt separate done = record {
   own = all-none (IsDriversSlot (receive_ring a) o);
   separate = separate;
   lie = all-none (λ slot. LiesIn a.memory (named a.memory slot).address (named a.memory slot).size);
-  fits = λ fit. fit;
+  fits = λ size fit. fit;
 }
 run-passed o a (slot ∷ run) later dealt separate done =
     let ring = receive_ring a in
@@ -127,14 +128,13 @@ run-passed o a (slot ∷ run) later dealt separate done =
       separate = on.separate;
       lie =
           All-cons (λ (d : ℕ). LiesIn a.memory (named a.memory d).address (named a.memory d).size) slot run one.lies on.lie;
-      fits = λ fit. on.fits (one.fits fit);
+      fits = λ size fit. on.fits size (one.fits size fit);
     }
 
 pub runs_can_be_taken : RunsCanBeTaken
 runs_can_be_taken o p a run seen last later sound done is =
     let next = after_run o run a in
     let frame = concat seen ++ last in
-    let size = buffer_size a in
     let whole = run-passed o a run later sound.receive_slots sound.separate done in
     let bytes : map (frame_named a) run ≡ seen ++ last ∷ [] = sym (bytes-named a run) ∙ ap (map bytes_of) is ∙ bytes-parts seen last in
     let pieces : finished_pieces o a ≡ parts seen ++ Last last ∷ finished_pieces next a =
@@ -171,7 +171,7 @@ runs_can_be_taken o p a run seen last later sound done is =
           all-left (λ d. IsForeign a (named a.memory d)) run later
           (subst (λ (slots : List ℕ). All (λ d. IsForeign a (named a.memory d)) slots) done (foreign-named o p a sound));
       fits = whole.fits;
-      cut = λ are.
+      cut = λ size are.
           let NoErrors : ℕ → Type 0 = λ d. (descriptor_at a.memory d).errors ≡ 0 in
           let errors = subst (λ (slots : List ℕ). All NoErrors slots) done are.have_no_errors in
           let cut = subst (λ (list : List Piece). All (IsCut size) list) in_all are.cut in
@@ -183,6 +183,7 @@ runs_can_be_taken o p a run seen last later sound done is =
             last_size = all-head (IsCut size) (Last last) rest cut_last;
             have_no_errors = all-left NoErrors run later errors;
             others = record {
+              sized = are.sized;
               have_no_errors = subst (λ (slots : List ℕ). All NoErrors slots) (sym whole.behind) (all-right NoErrors run later errors);
               cut = all-tail (IsCut size) (Last last) rest cut_last;
               legal = all-tail IsLegal frame (frames_of rest) legal;

@@ -1,5 +1,6 @@
 -- A piece of a frame is moved from the receive packet buffer to memory.
-use Rattle.std.proofs.Common.{inr, ◌≡◌, ◌≢◌, ◌≤◌, ◌+◌, inl, ◌++◌, ◌∷◌, [], Bool, true, false, cond, ℕ, List, Option, Some, None}
+use Rattle.std.proofs.Common.{◌≡◌, ◌≢◌, ◌≤◌, ◌+◌, ◌++◌, ◌∷◌, []}
+use Rattle.std.proofs.Common.{inr, inl, Bool, true, false, cond, ℕ, List, Option, Some, None}
 use Rattle.std.proofs.Common.{length, map, drop, refl, sym, ap, subst, ◌∙◌, append_assoc, arith}
 use Rattle.std.specs.List.{All}
 use Rattle.std.proofs.lemmas.Bool.{eq-eqb}
@@ -13,7 +14,7 @@ use Rattle.descriptors.specs.Ring.{address_of, next_of}
 use Rattle.descriptors.specs.RxDesc.{rx_desc_of}
 use Rattle.rx_engine.specs.Descriptors as receive
 use Rattle.rx_engine.specs.Receiver.{IsReceiver, Receiver, oldest}
-use Rattle.rx_engine.specs.Pieces.{IsPart, Piece, begun_of}
+use Rattle.rx_engine.specs.Pieces.{IsCut, IsPart, Piece, begun_of}
 use Rattle.rx_engine.specs.Held.{HasBegun, Holds, MovesApart, held, in_work, piece_of}
 use Rattle.rx_engine.specs.Laws.{bytes_of_work-moved, held-after_data}
 use Rattle.rx_engine.specs.Moving.{is_half_free, next_piece, work_at}
@@ -83,19 +84,22 @@ oldest-legal [] some legal = absurd (some refl)
 oldest-legal (frame ∷ later) some legal = all-head IsLegal frame later legal
 
 -- The pieces in slots before the step, and then the next piece of the oldest frame.
-cut-moved : (ends : Bool) (o : ℕ) (a : World) → a.adapter.receiver.work ≡ None → a.adapter.receiver.buffer ≢ []
+cut-moved : (ends : Bool) (size o : ℕ) (a : World) → buffer_size a ≡ size → a.adapter.receiver.work ≡ None → a.adapter.receiver.buffer ≢ []
     → IsReceiver a.adapter.receiver → is_last_piece a.adapter ≡ ends
-    → HasBegun a.memory (finished_pieces o a) a.adapter.receiver → AreCut o a
-    → CutPieces (buffer_size a) (finished_pieces o a ++ piece_of ends (next_piece a.adapter.filter.rctl a.adapter.receiver) ∷ [])
-cut-moved ends o a free some is last begun are =
+    → HasBegun a.memory (finished_pieces o a) a.adapter.receiver → AreCut size o a
+    → CutPieces size (finished_pieces o a ++ piece_of ends (next_piece a.adapter.filter.rctl a.adapter.receiver) ∷ [])
+cut-moved ends size o a is_size free some is last begun are =
     let engine = a.adapter.receiver in
     let legal = oldest-legal engine.buffer some is.frames in
     let none : pieces_in_slots o a ≡ finished_pieces o a =
     ap (λ (work : Option Work). finished_pieces o a ++ in_work a.memory work) free ∙ append-nil (finished_pieces o a) in
-    let before : CutPieces (buffer_size a) (pieces_in_slots o a) = record { cut = are.cut; legal = are.legal; short = are.short } in
-    next-piece ends (buffer_size a) engine.moved (oldest engine.buffer) (finished_pieces o a) last legal
+    let before : CutPieces (buffer_size a) (pieces_in_slots o a) = record
+    { cut = subst (λ (n : ℕ). All (IsCut n) (pieces_in_slots o a)) (sym is_size) are.cut; legal = are.legal; short = are.short } in
+    let pieces = finished_pieces o a ++ piece_of ends (next_piece a.adapter.filter.rctl engine) ∷ [] in
+    subst (λ (n : ℕ). CutPieces n pieces) is_size
+    (next-piece ends (buffer_size a) engine.moved (oldest engine.buffer) (finished_pieces o a) last legal
     (omega (arith, is.begun, legal.least)) (ap begun_of (sym none) ∙ begun)
-    (subst (λ (pieces : List Piece). CutPieces (buffer_size a) pieces) none before)
+    (subst (λ (list : List Piece). CutPieces (buffer_size a) list) none before))
 
 pub between_moved : (ends : Bool) (buffer : List (List ℕ)) (moved : ℕ) (o p : ℕ) (a0 : World)
     → HasFrameAndDescriptor (with_work None a0).adapter → CanMovePiece a0.memory a0.adapter → is_last_piece a0.adapter ≡ ends
@@ -192,18 +196,21 @@ between_moved ends buffer moved o p a0 has can last_is is keeps_held sound =
       pieces = [];
       grown = same_pieces ∙ sym (append-nil (finished_pieces o a));
       told = inl (all-none IsPart);
-      fits = λ fit. record {
-        finished_fit = subst (λ (list : List ℕ). NamesFit memory' bsize list) (sym done)
-            (names_fit-kept memory memory' bsize (finished o a) same_done fit.finished_fit);
-        work_fits = subst (λ (places : List Area). All (λ there. there.size ≤ bsize) places) (sym working)
-            (All-cons (λ (there : Area). there.size ≤ bsize) area [] short (all-none (λ (there : Area). there.size ≤ bsize)));
-      };
-      whole = λ are.
+      fits = λ room fit.
+          let small : n ≤ room = omega (arith, short, fit.large has.enabled) in
+          record {
+            large = fit.large;
+            finished_fit = subst (λ (list : List ℕ). NamesFit memory' room list) (sym done)
+                (names_fit-kept memory memory' room (finished o a) same_done fit.finished_fit);
+            work_fits = subst (λ (places : List Area). All (λ there. there.size ≤ room) places) (sym working)
+                (All-cons (λ (there : Area). there.size ≤ room) area [] small (all-none (λ (there : Area). there.size ≤ room)));
+          };
+      whole = λ room are.
           let errors = errors-kept memory memory' (finished o a) (descriptors-kept memory memory' (finished o a) same_done)
           are.have_no_errors in
-          are-cut o b (subst (λ (list : List ℕ). HaveNoErrors memory' list) (sym done) errors)
-          (subst (λ (pieces : List Piece). CutPieces bsize pieces) (sym all_pieces)
-          (cut-moved ends o a refl has.ready.frames is last_is sound.begun are));
+          are-cut room o b are.sized (subst (λ (list : List ℕ). HaveNoErrors memory' list) (sym done) errors)
+          (subst (λ (pieces : List Piece). CutPieces room pieces) (sym all_pieces)
+          (cut-moved ends room o a (are.sized has.enabled) refl has.ready.frames is last_is sound.begun are));
       untouched = λ other foreign.
           let there = subst (λ (list : List Area). All (AreApart other) (map reported_half (offered ring) ++ (bytes ++ list))) buffers
           foreign in

@@ -1,5 +1,6 @@
 -- The descriptor of the piece in progress is written back.
-use Rattle.std.proofs.Common.{inl, ◌≡◌, ◌≤◌, ◌+◌, ◌⊎◌, inr, ◌++◌, ◌∷◌, [], Bool, true, false, cond, nat_le, ℕ, List, Option, Some, None}
+use Rattle.std.proofs.Common.{◌≡◌, ◌≤◌, ◌+◌, ◌⊎◌, ◌++◌, ◌∷◌, []}
+use Rattle.std.proofs.Common.{inl, inr, Bool, true, false, cond, nat_le, ℕ, List, Option, Some, None}
 use Rattle.std.proofs.Common.{length, map, refl, sym, ap, subst, ◌∙◌, append_assoc, arith, if◌then◌else◌}
 use Rattle.std.specs.List.{All}
 use Rattle.std.proofs.lemmas.Bool.{eq-eqb}
@@ -28,7 +29,7 @@ use Rattle.adapter.specs.State.{AdapterState}
 use Rattle.adapter.specs.declared.step.StepKind.TheVariants.{RxDone}
 use Rattle.adapter.specs.Outcomes.{FrameOutcome}
 use Rattle.adapter.specs.declared.outcome.Outcome.TheVariants.{Done, Nothing}
-use Rattle.adapter.specs.HostAreas.{areas, buffer_of, buffer_size, data_of, frame_areas, offered_buffers, receives, reported_half}
+use Rattle.adapter.specs.HostAreas.{areas, buffer_of, data_of, frame_areas, offered_buffers, receives, reported_half}
 use Rattle.adapter.specs.HostAreas.{ring_area, status_byte}
 use Rattle.adapter.specs.Slots.{buffered, done_slots, finished, in_work, is_done, offered, written_back}
 use Rattle.adapter.specs.HostFrames.{finished_pieces, frames_held, named, piece_in, pieces_in_slots}
@@ -190,25 +191,26 @@ between_done o p work a0 most sound =
       pieces = piece_of work.ends piece ∷ [];
       grown = pieces_after;
       told = told-of work.ends a.adapter.causes.recorded piece;
-      fits = λ fit.
-          let last : NamesFit memory' (buffer_size a) (d ∷ []) = All-cons (λ slot. (named memory' slot).size ≤ buffer_size a) d []
-          (subst (λ (there : Area). there.size ≤ buffer_size a) (sym named_done)
-          (all-head (λ (there : Area). there.size ≤ buffer_size a) place [] fit.work_fits))
-          (all-none (λ slot. (named memory' slot).size ≤ buffer_size a)) in
-          let all = All-append (λ slot. (named memory' slot).size ≤ buffer_size a) (finished o a) (d ∷ [])
-          (names_fit-kept memory memory' (buffer_size a) (finished o a) same_done fit.finished_fit) last in
+      fits = λ room fit.
+          let last : NamesFit memory' room (d ∷ []) = All-cons (λ slot. (named memory' slot).size ≤ room) d []
+          (subst (λ (there : Area). there.size ≤ room) (sym named_done)
+          (all-head (λ (there : Area). there.size ≤ room) place [] fit.work_fits))
+          (all-none (λ slot. (named memory' slot).size ≤ room)) in
+          let all = All-append (λ slot. (named memory' slot).size ≤ room) (finished o a) (d ∷ [])
+          (names_fit-kept memory memory' room (finished o a) same_done fit.finished_fit) last in
           record {
-            finished_fit = subst (λ (list : List ℕ). NamesFit memory' (buffer_size a) list) (sym receiving.grown) all;
-            work_fits = all-none (λ (there : Area). there.size ≤ buffer_size a);
+            large = fit.large;
+            finished_fit = subst (λ (list : List ℕ). NamesFit memory' room list) (sym receiving.grown) all;
+            work_fits = all-none (λ (there : Area). there.size ≤ room);
           };
-      whole = λ are.
+      whole = λ room are.
           let HasNoErrors : ℕ → Type 0 = λ slot. (receive.descriptor_at memory' slot).errors ≡ 0 in
           let errors = errors-kept memory memory' (finished o a) (descriptors-kept memory memory' (finished o a) same_done)
           are.have_no_errors in
           let all = All-append HasNoErrors (finished o a) (d ∷ []) errors
           (All-cons HasNoErrors d [] finishes.has_no_errors (all-none HasNoErrors)) in
-          are-cut o b (subst (λ (list : List ℕ). HaveNoErrors memory' list) (sym receiving.grown) all)
-          (subst (λ (pieces : List Piece). CutPieces (buffer_size a) pieces) (sym all_pieces)
+          are-cut room o b are.sized (subst (λ (list : List ℕ). HaveNoErrors memory' list) (sym receiving.grown) all)
+          (subst (λ (pieces : List Piece). CutPieces room pieces) (sym all_pieces)
           (record { cut = are.cut; legal = are.legal; short = are.short }));
       untouched = λ other foreign. keeps.others other
           (apart-sym other area (all-head (AreApart other) area (halves ++ (bytes ++ buffers)) foreign));

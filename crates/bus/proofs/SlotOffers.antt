@@ -5,14 +5,17 @@ use Rattle.std.specs.List.{All, AllPairs, take_while}
 use Rattle.std.proofs.lemmas.List.{map-append}
 use Rattle.std.proofs.lemmas.List.Elements.{All-append, All-cons, All-map}
 use Rattle.std.proofs.lemmas.List.Quantifiers.{all_pairs_push}
+use Rattle.std.proofs.lemmas.Bool.{eqb-true}
 use Rattle.std.proofs.lemmas.Nat.{mod_below}
+use Rattle.registers.specs.Bits.{HasBit}
+use Rattle.registers.specs.Places.{rctl_en}
 use Rattle.dma_memory.specs.HostMemory.{LiesIn}
 use Rattle.descriptors.specs.declared.ring.Ring.{Ring}
 use Rattle.descriptors.specs.Ring.{HasValidIndices, address_of, count_of, distance_of, next_of, offered_places}
 use Rattle.descriptors.specs.RingLaws.{distance-grows, length-places, next-below, places-tail}
 use Rattle.rx_engine.specs.Held.{HasBegun, held, in_slots}
 use Rattle.rx_engine.specs.Pieces.{Piece}
-use Rattle.adapter.specs.HostAreas.{areas, buffer_of, buffer_size, data_of, IsForeign, offered_buffers, receives, reported_half, ring_area}
+use Rattle.adapter.specs.HostAreas.{areas, buffer_of, data_of, IsForeign, offered_buffers, receives, reported_half, ring_area}
 use Rattle.adapter.specs.HostAreas.{status_byte, work_areas}
 use Rattle.adapter.specs.Slots.{buffered, done_slots, finished, in_work, is_done, IsDealt, offered, outstanding}
 use Rattle.adapter.specs.HostFrames.{finished_pieces, named, piece_in}
@@ -105,8 +108,8 @@ dealt-offered memory ring oldest taken dealt in_ring below room fresh =
 
 -- The offered buffers grow by one, or, where the adapter doesn't receive, there are none.
 buffers-grown : (on : Bool) (f : ℕ → Area) (xs ys : List ℕ) (x : ℕ) → ys ≡ xs ++ x ∷ []
-    → (cond on (map f ys) [] ≡ cond on (map f xs) [] ++ f x ∷ []) ⊎ (cond on (map f ys) [] ≡ cond on (map f xs) [])
-buffers-grown true f xs ys x grown = inl (ap (map f) grown ∙ map-append f xs (x ∷ []))
+    → ((on ≡ true) × (cond on (map f ys) [] ≡ cond on (map f xs) [] ++ f x ∷ [])) ⊎ (cond on (map f ys) [] ≡ cond on (map f xs) [])
+buffers-grown true f xs ys x grown = inl (refl, ap (map f) grown ∙ map-append f xs (x ∷ []))
 buffers-grown false f xs ys x grown = inr refl
 
 -- One area more, apart from the others.
@@ -146,7 +149,8 @@ all-grown P f taken xs ys x grown all new =
 foreign-offered : (a : World) (area : Area)
     → offered (receive_ring (offering a)) ≡ offered (receive_ring a) ++ address_of (receive_ring a) a.adapter.receive_ring.tail ∷ []
     → IsForeign a area → AreApart area (reported_half (address_of (receive_ring a) a.adapter.receive_ring.tail))
-    → AreApart area (buffer_of a (address_of (receive_ring a) a.adapter.receive_ring.tail)) → IsForeign (offering a) area
+    → (HasBit a.adapter.filter.rctl rctl_en → AreApart area (buffer_of a (address_of (receive_ring a) a.adapter.receive_ring.tail)))
+    → IsForeign (offering a) area
 foreign-offered a area grown foreign half buffer =
     let b = offering a in
     let P : Area → Type 0 = AreApart area in
@@ -158,9 +162,10 @@ foreign-offered a area grown foreign half buffer =
     let old : All P (offered_buffers a) = all-right P bytes (offered_buffers a) rest in
     let buffers : All P (offered_buffers b) =
     ⊎_elim
-    (λ (more : offered_buffers b ≡ offered_buffers a ++ buffer_of a last ∷ []).
-    subst (λ (list : List Area). All P list) (sym more)
-    (All-append P (offered_buffers a) (buffer_of a last ∷ []) old (All-cons P (buffer_of a last) [] buffer (all-none P))))
+    (λ (more : (receives a ≡ true) × (offered_buffers b ≡ offered_buffers a ++ buffer_of a last ∷ [])).
+    subst (λ (list : List Area). All P list) (sym more.1)
+    (All-append P (offered_buffers a) (buffer_of a last ∷ []) old
+    (All-cons P (buffer_of a last) [] (buffer (eqb-true _ _ more.0)) (all-none P))))
     (λ (none : offered_buffers b ≡ offered_buffers a). subst (λ (list : List Area). All P list) (sym none) old)
     (buffers-grown (receives a) (buffer_of a) (offered (receive_ring a)) (offered (receive_ring b)) last grown) in
     All-append P halves' (bytes ++ offered_buffers b)
@@ -184,11 +189,12 @@ slots_can_be_offered o p a sound can =
     let receiver = a.adapter.receiver in
     let separate : AreSeparate a.memory (areas o b) =
     ⊎_elim
-    (λ (more : offered_buffers b ≡ offered_buffers a ++ buffer_of a last ∷ []).
+    (λ (more : (receives a ≡ true) × (offered_buffers b ≡ offered_buffers a ++ buffer_of a last ∷ [])).
+    let enabled = eqb-true _ _ more.0 in
     subst (λ (list : List Area). AreSeparate a.memory list)
     (sym (areas-more r t payload (map (named a.memory) (finished o a)) (map (named a.memory) (finished o b)) work (offered_buffers a)
-    (offered_buffers b) (buffer_of a last) names more))
-    (separate-more a.memory (areas o a) (buffer_of a last) can.lies can.apart sound.separate))
+    (offered_buffers b) (buffer_of a last) names more.1))
+    (separate-more a.memory (areas o a) (buffer_of a last) (can.lies enabled) (can.apart enabled) sound.separate))
     (λ (none : offered_buffers b ≡ offered_buffers a).
     subst (λ (list : List Area). AreSeparate a.memory list)
     (sym (areas-still r t payload (map (named a.memory) (finished o a)) (map (named a.memory) (finished o b)) work (offered_buffers a)
@@ -210,10 +216,11 @@ slots_can_be_offered o p a sound can =
         finished_same = grown.done;
         written_same = refl;
         pieces_same = pieces;
-        whole = λ equal. cut-kept o a b equal grown.done (λ k d below. refl)
+        whole = λ size sized. cut-kept size o a b sized grown.done (λ k d below. refl)
             (ap (λ (list : List Piece). in_slots a.memory list receiver) pieces);
-        fits = λ larger fit. record {
-          finished_fit = subst (λ (slots : List ℕ). NamesFit a.memory (buffer_size a) slots) (sym grown.done) fit.finished_fit;
+        fits = λ size large fit. record {
+          large = large;
+          finished_fit = subst (λ (slots : List ℕ). NamesFit a.memory size slots) (sym grown.done) fit.finished_fit;
           work_fits = fit.work_fits;
         };
       };
@@ -315,8 +322,9 @@ frames_can_be_offered o p a sound can =
       finished_same = refl;
       written_same = grown.done;
       pieces_same = refl;
-      whole = λ cut. record { have_no_errors = cut.have_no_errors; cut = cut.cut; legal = cut.legal; short = cut.short };
-      fits = λ fit. record { finished_fit = fit.finished_fit; work_fits = fit.work_fits };
+      whole = λ size cut. record
+          { sized = cut.sized; have_no_errors = cut.have_no_errors; cut = cut.cut; legal = cut.legal; short = cut.short };
+      fits = λ size fit. record { large = fit.large; finished_fit = fit.finished_fit; work_fits = fit.work_fits };
       last = grown.outstanding_grown;
       runs = λ new run. record {
         receiver_runs = run.receiver_runs;

@@ -1,13 +1,16 @@
 -- Memory that no outstanding slot uses is apart from all that the conditions name, and stays so.
-use Rattle.std.proofs.Common.{◌≤◌, ◌++◌, [], Bool, true, false, cond, ℕ, List, Option, Some, None, map, arith}
+use Rattle.std.proofs.lemmas.Bool.{eqb-true}
+use Rattle.std.proofs.Common.{refl, ◌≡◌, ◌≤◌, ◌++◌, [], Bool, true, false, cond, ℕ, List, Option, Some, None, map, arith}
 use Rattle.std.specs.List.{All}
 use Rattle.std.proofs.lemmas.List.Elements.{All-append, All-cons, All-map}
-use Rattle.dma_memory.specs.Areas.{AreApart, Area, IsInside}
+use Rattle.dma_memory.specs.Areas.{AreApart, Area, IsInside, area_at}
 use Rattle.dma_memory.specs.AreaLaws.{apart-inside, apart-sym, inside-apart}
 use Rattle.rx_engine.specs.Descriptors as receive
 use Rattle.rx_engine.specs.declared.engine.Work.{Work}
 use Rattle.adapter.specs.HostAreas.{areas, buffer_of, buffer_size, data_of, IsForeign, offered_buffers, receives, reported_half, ring_area}
 use Rattle.adapter.specs.HostAreas.{status_byte, work_areas}
+use Rattle.registers.specs.Bits.{HasBit}
+use Rattle.registers.specs.Places.{rctl_en}
 use Rattle.adapter.specs.Slots.{buffered, in_work, offered, slot_of_work}
 use Rattle.adapter.specs.HostFrames.{named}
 use Rattle.adapter.specs.Conditions.{FitBuffers, Sound}
@@ -44,15 +47,27 @@ name-apart memory size d area fit apart =
     let inside : IsInside (named memory d) whole = record { from = omega arith; to = omega (arith, fit) } in
     apart-inside (named memory d) whole area inside apart
 
-buffers-apart : (on : Bool) (f : ℕ → Area) (slots : List ℕ) (area : Area) → All (λ d. AreApart (f d) area) slots
-    → All (λ other. AreApart other area) (cond on (map f slots) [])
-buffers-apart true f slots area apart = All-map (λ other. AreApart other area) f slots apart
-buffers-apart false f slots area apart = all-none (λ other. AreApart other area)
+-- The buffers of offered slots, which count while RCTL.EN is set.
+offered-apart : (a : World) (size : ℕ) (area : Area) → (HasBit a.adapter.filter.rctl rctl_en → buffer_size a ≤ size)
+    → All (λ d. AreApart (area_at (receive.named_address a.memory d) size) area) (offered (receive_ring a))
+    → All (λ other. AreApart other area) (offered_buffers a)
+offered-apart a size area large apart = by_case (receives a) refl
+  where
+    Away : Area → Type 0
+    Away other = AreApart other area
 
-pub spare-apart : (o p : ℕ) (a : World) (area : Area) → Sound o p a → FitBuffers o a → IsSpare o p a area
+    by_case : (on : Bool) → receives a ≡ on → All Away (cond on (map (buffer_of a) (offered (receive_ring a))) [])
+    by_case true is =
+        let small = large (eqb-true _ _ is) in
+        All-map Away (buffer_of a) (offered (receive_ring a)) (λ k d below.
+        apart-inside (buffer_of a _) (area_at (receive.named_address a.memory _) size) area
+        (record { from = omega arith; to = omega (arith, small) }) (apart k d below))
+    by_case false is = all-none Away
+
+pub spare-apart : (size o p : ℕ) (a : World) (area : Area) → Sound o p a → FitBuffers size o a → IsSpare size o p a area
     → All (λ other. AreApart other area) (areas o a)
-spare-apart o p a area sound fit spare =
-    let Away : ℕ → Type 0 = λ d. AreApart (buffer_of a d) area in
+spare-apart size o p a area sound fit spare =
+    let Away : ℕ → Type 0 = λ d. AreApart (area_at (receive.named_address a.memory d) size) area in
     let Near : ℕ → Type 0 = λ d. AreApart (data_of a.memory d) area in
     let work = a.adapter.receiver.work in
     let done = dealt-left a.memory (receive_ring a) o (in_work a) Away sound.receive_slots spare.buffers in
@@ -62,21 +77,21 @@ spare-apart o p a area sound fit spare =
       received = spare.receive_slots;
       sent = spare.transmit_slots;
       payload = all-right Near (buffered a) (offered (transmit_ring a)) sent;
-      names = λ k d below. name-apart a.memory (buffer_size a) _ area (fit.finished_fit k d below) (done k d below);
-      work = work-apart a.memory work (buffer_size a) area (all-left Away (in_work a) (offered (receive_ring a)) behind) fit.work_fits;
-      buffers = buffers-apart (receives a) (buffer_of a) (offered (receive_ring a)) area
-          (all-right Away (in_work a) (offered (receive_ring a)) behind);
+      names = λ k d below. name-apart a.memory size _ area (fit.finished_fit k d below) (done k d below);
+      work = work-apart a.memory work size area (all-left Away (in_work a) (offered (receive_ring a)) behind) fit.work_fits;
+      buffers = offered-apart a size area fit.large (all-right Away (in_work a) (offered (receive_ring a)) behind);
     })
 
 -- The adapter doesn't write it.
-pub spare-foreign : (o p : ℕ) (a : World) (area : Area) → Sound o p a → FitBuffers o a → IsSpare o p a area → IsForeign a area
-spare-foreign o p a area sound fit spare =
+pub spare-foreign : (size o p : ℕ) (a : World) (area : Area) → Sound o p a → FitBuffers size o a → IsSpare size o p a area
+    → IsForeign a area
+spare-foreign size o p a area sound fit spare =
     let parts = parts-of o p a sound in
     let r = ring_area (receive_ring a) in
     let t = ring_area (transmit_ring a) in
     let halves = map reported_half (in_work a ++ offered (receive_ring a)) in
     let bytes = map status_byte (buffered a ++ offered (transmit_ring a)) in
-    let buffers = (of-areas (λ other. AreApart other area) o a (spare-apart o p a area sound fit spare)).buffers in
+    let buffers = (of-areas (λ other. AreApart other area) o a (spare-apart size o p a area sound fit spare)).buffers in
     All-append (AreApart area) halves (bytes ++ offered_buffers a)
     (λ k d below. inside-apart area _ r (parts.halves k d below) (apart-sym r area spare.receive_slots))
     (All-append (AreApart area) bytes (offered_buffers a)

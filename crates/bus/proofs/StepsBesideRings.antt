@@ -110,8 +110,8 @@ between_quiet o p a c past no_put holds goes sound =
       pieces = [];
       grown = sym (append-nil (finished_pieces o a));
       told = inl (all-none IsPart);
-      fits = λ fit. record { finished_fit = fit.finished_fit; work_fits = fit.work_fits };
-      whole = λ are. cut-kept o a (record a { adapter = changed c a.adapter }) refl refl (λ k d below. refl) refl are;
+      fits = λ size fit. record { large = fit.large; finished_fit = fit.finished_fit; work_fits = fit.work_fits };
+      whole = λ size are. cut-kept size o a (record a { adapter = changed c a.adapter }) are.sized refl (λ k d below. refl) refl are;
       untouched = λ area apart. refl;
       foreign = λ area apart. apart;
       runs = λ can.

@@ -1,5 +1,6 @@
 -- A driver counts the slot after its oldest as its oldest.
-use Rattle.std.proofs.Common.{◌≡◌, ◌≢◌, ◌≤◌, ◌<◌, ◌+◌, ◌-◌, ◌%◌, inl, inr, ⊎_elim, ◌++◌, ◌∷◌, [], Bool, true, ℕ, zero, suc, List}
+use Rattle.std.proofs.Common.{◌≡◌, ◌≢◌, ◌≤◌, ◌<◌, ◌+◌, ◌-◌, ◌%◌, ⊎_elim, ◌++◌, ◌∷◌, []}
+use Rattle.std.proofs.Common.{inl, inr, Bool, true, ℕ, zero, suc, List}
 use Rattle.std.proofs.Common.{length, map, refl, sym, ap, subst, ◌∙◌, arith}
 use Rattle.std.specs.List.{All, AllPairs, take_while}
 use Rattle.std.proofs.lemmas.Bool.{cases_eq, eqb-true}
@@ -20,7 +21,7 @@ use Rattle.rx_engine.specs.Held.{held, in_slots, piece_of}
 use Rattle.rx_engine.specs.Pieces.{IsCut, Piece, begun_of, frames_of}
 use Rattle.rx_engine.specs.Pieces.Piece.{Last}
 use Rattle.adapter.specs.Slots.{buffered, done_slots, finished, in_work, is_done, IsDealt, offered, outstanding}
-use Rattle.adapter.specs.HostAreas.{areas, buffer_size, data_of, IsForeign, offered_buffers, ring_area, work_areas}
+use Rattle.adapter.specs.HostAreas.{areas, data_of, IsForeign, offered_buffers, ring_area, work_areas}
 use Rattle.adapter.specs.HostFrames.{finished_pieces, named, piece_in, pieces_in_slots}
 use Rattle.adapter.specs.Conditions.{FitBuffers}
 use Rattle.bus.specs.DriversSlots.{IsDriversSlot, frame_named}
@@ -161,7 +162,7 @@ pub record Passed (o : ℕ) (a : World) (slot : ℕ) (later : List ℕ) : Type 0
   pub separate : AreSeparate a.memory (areas (behind_oldest_receive o a) a)
   -- the bytes that the slot names
   pub lies : LiesIn a.memory (named a.memory slot).address (named a.memory slot).size
-  pub fits : FitBuffers o a → FitBuffers (behind_oldest_receive o a) a
+  pub fits : (size : ℕ) → FitBuffers size o a → FitBuffers size (behind_oldest_receive o a) a
 
 pub passed : (o : ℕ) (a : World) (slot : ℕ) (later : List ℕ) → IsDealt a.memory (receive_ring a) o (in_work a)
     → AreSeparate a.memory (areas o a) → finished o a ≡ slot ∷ later → Passed o a slot later
@@ -170,7 +171,6 @@ passed o a slot later dealt separate done =
     let front = ring_area (receive_ring a) ∷ ring_area (transmit_ring a) ∷ map (data_of a.memory) (offered (transmit_ring a)) in
     let rest = work_areas a.memory a.adapter.receiver.work ++ offered_buffers a in
     let Lies : Area → Type 0 = λ area. LiesIn a.memory area.address area.size in
-    let Fits : ℕ → Type 0 = λ d. (named a.memory d).size ≤ buffer_size a in
     let all : AreSeparate a.memory (front ++ (named a.memory slot ∷ (map (named a.memory) later ++ rest))) =
     subst (λ (slots : List ℕ). AreSeparate a.memory (front ++ (map (named a.memory) slots ++ rest))) done separate in
     let fewer : AreSeparate a.memory (front ++ (map (named a.memory) later ++ rest)) = separate-without a.memory front (named a.memory slot)
@@ -182,11 +182,14 @@ passed o a slot later dealt separate done =
       lies =
           all-head Lies (named a.memory slot) (map (named a.memory) later ++ rest)
           (all-right Lies front (named a.memory slot ∷ (map (named a.memory) later ++ rest)) all.lie);
-      fits = λ fit. record {
-        finished_fit = subst (λ (slots : List ℕ). All Fits slots) (sym ahead.behind)
-            (all-tail Fits slot later (subst (λ (slots : List ℕ). All Fits slots) done fit.finished_fit));
-        work_fits = fit.work_fits;
-      };
+      fits = λ size fit.
+          let Fits : ℕ → Type 0 = λ d. (named a.memory d).size ≤ size in
+          record {
+            large = fit.large;
+            finished_fit = subst (λ (slots : List ℕ). All Fits slots) (sym ahead.behind)
+                (all-tail Fits slot later (subst (λ (slots : List ℕ). All Fits slots) done fit.finished_fit));
+            work_fits = fit.work_fits;
+          };
     }
 
 pub finished_slots_can_be_taken : FinishedSlotsCanBeTaken
@@ -222,10 +225,10 @@ finished_slots_can_be_taken o p a slot later sound done last =
           all-head (λ d. IsForeign a (named a.memory d)) slot later
           (subst (λ (slots : List ℕ). All (λ d. IsForeign a (named a.memory d)) slots) done (foreign-named o p a sound));
       fits = one.fits;
-      whole = λ are.
+      whole = λ bytes are.
           let NoErrors : ℕ → Type 0 = λ d. (descriptor_at a.memory d).errors ≡ 0 in
           let errors = subst (λ (slots : List ℕ). All NoErrors slots) done are.have_no_errors in
-          let cut = subst (λ (list : List Piece). All (IsCut (buffer_size a)) list) in_all are.cut in
+          let cut = subst (λ (list : List Piece). All (IsCut bytes) list) in_all are.cut in
           let legal = subst (λ (list : List Piece). All IsLegal (frames_of list)) in_all are.legal in
           let one_legal = all-head IsLegal frame (frames_of (pieces_in_slots next a)) legal in (
             record {
@@ -235,8 +238,9 @@ finished_slots_can_be_taken o p a slot later sound done last =
               most = omega (arith, one_legal.most, size);
             },
             record {
+              sized = are.sized;
               have_no_errors = subst (λ (slots : List ℕ). All NoErrors slots) (sym ahead.behind) (all-tail NoErrors slot later errors);
-              cut = all-tail (IsCut (buffer_size a)) (Last frame) (pieces_in_slots next a) cut;
+              cut = all-tail (IsCut bytes) (Last frame) (pieces_in_slots next a) cut;
               legal = all-tail IsLegal frame (frames_of (pieces_in_slots next a)) legal;
               short = subst (λ (list : List Piece). length (begun_of list) < longest_frame) in_all are.short;
             },

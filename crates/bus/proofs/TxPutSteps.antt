@@ -162,8 +162,10 @@ between_put o p queued later a0 sound =
       pieces = [];
       grown = receiving.pieces ∙ sym (append-nil (finished_pieces o a));
       told = inl (all-none IsPart);
-      fits = λ fit. let kept = receiving.fits fit in record { finished_fit = kept.finished_fit; work_fits = kept.work_fits };
-      whole = λ are. cut-kept o a b refl receiving.done receiving.descriptors receiving.all_pieces are;
+      fits = λ size fit.
+          let kept = receiving.fits size fit in
+          record { large = kept.large; finished_fit = kept.finished_fit; work_fits = kept.work_fits };
+      whole = λ size are. cut-kept size o a b are.sized receiving.done receiving.descriptors receiving.all_pieces are;
       untouched = λ other foreign.
           let reports = all-left (AreApart other) (status_byte d ∷ bytes) (offered_buffers a)
           (all-right (AreApart other) halves ((status_byte d ∷ bytes) ++ offered_buffers a) foreign) in

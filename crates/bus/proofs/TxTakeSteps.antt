@@ -83,8 +83,8 @@ between_padded o p a in_ring differ sound =
       pieces = [];
       grown = sym (append-nil (finished_pieces o a));
       told = inl (all-none IsPart);
-      fits = λ fit. record { finished_fit = fit.finished_fit; work_fits = fit.work_fits };
-      whole = λ are. cut-kept o a b refl refl (λ k d below. refl) refl are;
+      fits = λ size fit. record { large = fit.large; finished_fit = fit.finished_fit; work_fits = fit.work_fits };
+      whole = λ size are. cut-kept size o a b are.sized refl (λ k d below. refl) refl are;
       untouched = λ area apart. refl;
       foreign = λ area apart.
           subst (λ (slots : List ℕ). All (AreApart area)

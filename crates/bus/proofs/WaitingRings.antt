@@ -1,11 +1,9 @@
 -- What waits while initialisation goes on.
-use Rattle.std.proofs.Common.{◌≡◌, ◌≤◌, ◌<◌, ◌/◌, ◌^◌, ◌++◌, ◌∷◌, [], inl, ℕ, List, Option, None, Some, length, length-append}
-use Rattle.std.proofs.Common.{refl, sym, ap, subst, ◌∙◌, take, arith, zero, suc}
-use Rattle.std.proofs.lemmas.Nat.{mod_below}
+use Rattle.std.proofs.Common.{◌≡◌, ◌≤◌, ◌++◌, ◌∷◌, []}
+use Rattle.std.proofs.Common.{inl, ℕ, List, Option, None, Some, length, length-append}
+use Rattle.std.proofs.Common.{refl, sym, ap, subst, ◌∙◌, take, arith}
 use Rattle.std.specs.List.{All}
 use Rattle.std.proofs.Math.Seq.{take-nil}
-use Rattle.registers.specs.Bits.{field}
-use Rattle.registers.specs.ReceiveControl.{buffer_size_of}
 use Rattle.rx_engine.specs.Descriptors.{named_address}
 use Rattle.rx_engine.specs.Held as engine
 use Rattle.rx_engine.specs.Pieces.{IsCut, Piece, begun_from, begun_of, frames_from, frames_of}
@@ -19,7 +17,6 @@ use Rattle.adapter.specs.Slots.{buffered, finished, in_work, offered, outstandin
 use Rattle.adapter.specs.HostFrames.{finished_pieces, frames_held, piece_in, pieces_in_slots}
 use Rattle.bus.specs.RegisterSetting.{OffersWait, TransmitStaysIdle}
 use Rattle.adapter.specs.Conditions.{AreCut, Sound}
-use Rattle.adapter.specs.HostAreas.{buffer_size}
 use Rattle.adapter.specs.World.{receive_ring, transmit_ring, World}
 use Rattle.bus.proofs.IdleRings.{none-dealt, still-idle}
 use Rattle.bus.proofs.Lists.{all-head, append-empty, map-empty}
@@ -66,25 +63,15 @@ no-pieces-cut size (Part bytes ∷ later) some cut none nothing =
     absurd (omega (arith, some, full, grows, empty))
 no-pieces-cut size (Last bytes ∷ later) some cut none nothing = absurd (cc)
 
--- A receive buffer isn't empty.
-some-sized : (code : ℕ) → code < 4 → 1 ≤ buffer_size_of code
-some-sized zero small = omega arith
-some-sized (suc zero) small = omega arith
-some-sized (suc (suc zero)) small = omega arith
-some-sized (suc (suc (suc zero))) small = omega arith
-some-sized (suc (suc (suc (suc code)))) small = absurd (omega (arith, small))
-
-some-bytes : (world : World) → 1 ≤ buffer_size world
-some-bytes world = some-sized (field world.adapter.filter.rctl 16 2) (mod_below (world.adapter.filter.rctl / 2 ^ 16) 4 (omega arith))
-
 -- If no frame is held, so it is.
-pub holds-none : (o p : ℕ) (world : World) → Sound o p world → AreCut o world → frames_held o world ≡ [] → HoldsNone o world
-holds-none o p world sound cut none =
+pub holds-none : (size o p : ℕ) (world : World) → Sound o p world → 1 ≤ size → AreCut size o world
+    → frames_held o world ≡ [] → HoldsNone o world
+holds-none size o p world sound some cut none =
     let receiver = world.adapter.receiver in
     let both = append-empty (frames_of (pieces_in_slots o world)) receiver.buffer none in
     let begun : begun_of (pieces_in_slots o world) ≡ [] =
     sound.begun ∙ ap (λ (frames : List (List ℕ)). take receiver.moved (oldest frames)) both.1 ∙ take-nil receiver.moved in
-    let empty = no-pieces-cut (buffer_size world) (pieces_in_slots o world) (some-bytes world) cut.cut both.0 begun in
+    let empty = no-pieces-cut size (pieces_in_slots o world) some cut.cut both.0 begun in
     let parts = append-empty (finished_pieces o world) (engine.in_work world.memory receiver.work) empty in
     record {
       none_finished = map-empty (piece_in world.memory) (finished o world) parts.0;
@@ -100,11 +87,11 @@ all-offered o p world sound none =
     ∙ ap (λ (work : Option Work). slot_of_work work ++ slots) none.no_work
 
 pub offers_wait : OffersWait
-offers_wait o p a b past sound within off cut none happens =
+offers_wait size o p a b past sound within off some cut none happens =
     let between = happens.between o p sound in
     let steady = happens.steady in
-    let before = holds-none o p a sound cut none in
-    let after = holds-none o p b between.sound (between.whole cut)
+    let before = holds-none size o p a sound some cut none in
+    let after = holds-none size o p b between.sound some (between.whole size cut)
     (between.holds ∙ ap (λ (frames : List (List ℕ)). frames ++ past.stored) none ∙ (steady.off off).0) in
     let same : outstanding (receive_ring b) o
     ≡ outstanding (receive_ring a) o = ap (λ (ring : RingRegisters). outstanding (ring_of ring) o) steady.receive_ring in

@@ -23,7 +23,7 @@ use Rattle.tx_engine.specs.Fetching.{as_sent, fetched, frame_at}
 use Rattle.tx_engine.specs.ToSend.{to_send}
 use Rattle.tx_engine.specs.Transmitter.{Queued}
 use Rattle.adapter.specs.Slots.{buffered, done_slots, finished, in_work, is_done, IsDealt, offered, outstanding, slot_of_work, written_back}
-use Rattle.adapter.specs.HostAreas.{buffer_size, data_of, ring_area, work_areas}
+use Rattle.adapter.specs.HostAreas.{data_of, ring_area, work_areas}
 use Rattle.adapter.specs.HostFrames.{finished_pieces, frames_held, frames_to_send, named, piece_in, pieces_in_slots}
 use Rattle.adapter.specs.Conditions.{AreCut, FitBuffers}
 use Rattle.adapter.specs.World.{receive_ring, transmit_ring, World}
@@ -218,8 +218,8 @@ pub record ReceiveKept (world : World) (memory' : List ℕ) (oldest : ℕ) : Typ
   pub held : frames_held oldest (record world { memory = memory' }) ≡ frames_held oldest world
   pub begun : HasBegun world.memory (finished_pieces oldest world) world.adapter.receiver
       → HasBegun memory' (finished_pieces oldest (record world { memory = memory' })) world.adapter.receiver
-  pub whole : AreCut oldest world → AreCut oldest (record world { memory = memory' })
-  pub fits : FitBuffers oldest world → FitBuffers oldest (record world { memory = memory' })
+  pub whole : (size : ℕ) → AreCut size oldest world → AreCut size oldest (record world { memory = memory' })
+  pub fits : (size : ℕ) → FitBuffers size oldest world → FitBuffers size oldest (record world { memory = memory' })
   pub areas_of_work : work_areas memory' world.adapter.receiver.work ≡ work_areas world.memory world.adapter.receiver.work
 
 pub receive_kept_by_slots : (world : World) (memory' : List ℕ) (oldest : ℕ) (area : Area) → ChangesOnly world.memory memory' area
@@ -255,11 +255,12 @@ receive_kept_by_slots world memory' oldest area keeps dealt same named_apart wor
       all_pieces = all_pieces;
       held = ap (λ (list : List Piece). frames_of list ++ world.adapter.receiver.buffer) all_pieces;
       begun = λ begun. ap begun_of all_pieces ∙ begun;
-      whole = λ cut. cut-kept oldest world (record world { memory = memory' }) refl done descriptors all_pieces cut;
-      fits = λ fit. record {
-        finished_fit = subst (λ (slots : List ℕ). NamesFit memory' (buffer_size world) slots) (sym done)
-            (names_fit-kept memory memory' (buffer_size world) (finished oldest world) same_done fit.finished_fit);
-        work_fits = subst (λ (places : List Area). All (λ place. place.size ≤ buffer_size world) places) (sym areas_of_work) fit.work_fits;
+      whole = λ size cut. cut-kept size oldest world (record world { memory = memory' }) cut.sized done descriptors all_pieces cut;
+      fits = λ size fit. record {
+        large = fit.large;
+        finished_fit = subst (λ (slots : List ℕ). NamesFit memory' size slots) (sym done)
+            (names_fit-kept memory memory' size (finished oldest world) same_done fit.finished_fit);
+        work_fits = subst (λ (places : List Area). All (λ place. place.size ≤ size) places) (sym areas_of_work) fit.work_fits;
       };
       areas_of_work = areas_of_work;
     }

@@ -2,6 +2,8 @@
 use Rattle.std.specs.Prelude.{◌≡◌, ◌≤◌, ℕ, List, All, length}
 use Rattle.dma_memory.specs.Areas.{AreApart, Area, descriptor_area}
 use Rattle.dma_memory.specs.HostMemory.{LiesIn}
+use Rattle.registers.specs.Bits.{HasBit}
+use Rattle.registers.specs.Places.{rctl_en}
 use Rattle.adapter.specs.Slots.{finished, outstanding, written_back}
 use Rattle.adapter.specs.HostAreas.{buffer_size, frame_areas, IsForeign}
 use Rattle.adapter.specs.HostFrames.{finished_pieces, frames_held, frames_to_send}
@@ -23,10 +25,12 @@ pub record SameFrames (oldest_receive oldest_transmit : ℕ) (a b : World) : Typ
   pub finished_same : finished oldest_receive b ≡ finished oldest_receive a
   pub written_same : written_back oldest_transmit b ≡ written_back oldest_transmit a
   pub pieces_same : finished_pieces oldest_receive b ≡ finished_pieces oldest_receive a
-  -- Frames that are cut into buffers of one size still are if the buffers have the same size, and pieces that fit into their buffers still do
-  -- if these are no smaller.
-  pub whole : buffer_size b ≡ buffer_size a → AreCut oldest_receive a → AreCut oldest_receive b
-  pub fits : buffer_size a ≤ buffer_size b → FitBuffers oldest_receive a → FitBuffers oldest_receive b
+  -- Frames that are cut into buffers of some size still are, and pieces that fit into such buffers still do, if RCTL then names this size,
+  -- or no larger one, while RCTL.EN is set.
+  pub whole : (size : ℕ) → (HasBit b.adapter.filter.rctl rctl_en → buffer_size b ≡ size)
+      → AreCut size oldest_receive a → AreCut size oldest_receive b
+  pub fits : (size : ℕ) → (HasBit b.adapter.filter.rctl rctl_en → buffer_size b ≤ size)
+      → FitBuffers size oldest_receive a → FitBuffers size oldest_receive b
 
 -- And engines that could run still can.
 pub record LeavesFrames (oldest_receive oldest_transmit : ℕ) (a b : World) : Type 0 where

@@ -3,12 +3,11 @@ use Rattle.std.specs.Prelude.{◌≤◌, ℕ, All}
 use Rattle.descriptors.specs.Frames.{longest_frame}
 use Rattle.rx_engine.specs.Pieces.{IsLast}
 use Rattle.adapter.specs.Conditions.{AreCut}
-use Rattle.adapter.specs.HostAreas.{buffer_size}
 use Rattle.adapter.specs.HostFrames.{pieces_in_slots}
 use Rattle.adapter.specs.World.{World}
 
 -- Then each finished slot, and the one in progress, contains the last piece of its frame, which is the whole frame.
 abbrev pub LargeBuffersTakeFrames : Type 0
 LargeBuffersTakeFrames =
-    (oldest_receive : ℕ) (world : World) → longest_frame ≤ buffer_size world → AreCut oldest_receive world
+    (size oldest_receive : ℕ) (world : World) → longest_frame ≤ size → AreCut size oldest_receive world
     → All IsLast (pieces_in_slots oldest_receive world)

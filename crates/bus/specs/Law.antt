@@ -82,10 +82,10 @@ pub record Between (oldest_receive oldest_transmit : ℕ) (a b : World) (past : 
   pub grown : finished_pieces oldest_receive b ≡ finished_pieces oldest_receive a ++ pieces
   -- If a frame ends in a new one, RXT0, bit 7, is recorded.
   pub told : All IsPart pieces ⊎ HasBit b.adapter.causes.recorded rxt0
-  -- Pieces that fit into their buffers still do, and new ones do.
-  pub fits : FitBuffers oldest_receive a → FitBuffers oldest_receive b
-  -- If frames are cut into buffers of one size, by RCTL.BSIZE, new ones are, too.
-  pub whole : AreCut oldest_receive a → AreCut oldest_receive b
+  -- Pieces that fit into buffers of some size still do, and new ones do.
+  pub fits : (size : ℕ) → FitBuffers size oldest_receive a → FitBuffers size oldest_receive b
+  -- If frames are cut into buffers of some size, new ones are, too.
+  pub whole : (size : ℕ) → AreCut size oldest_receive a → AreCut size oldest_receive b
   -- What isn't the adapter's stays as it is, and stays not the adapter's.
   pub untouched : (area : Area) → IsForeign a area → bytes_in b.memory area ≡ bytes_in a.memory area
   pub foreign : (area : Area) → IsForeign a area → IsForeign b area

@@ -1,6 +1,6 @@
 -- What a driver does while the conditions of the law hold, besides offering slots one by one and storing to memory of its own: it writes
 -- and reads registers, as in initialisation behind the first slot offered (our choice).
-use Rattle.std.specs.Prelude.{⊤, ◌≡◌, ◌<◌, ◌+◌, ◌%◌, ◌++◌, ℕ, zero, suc, [], false, All, None, map}
+use Rattle.std.specs.Prelude.{⊤, ◌≡◌, ◌≤◌, ◌<◌, ◌+◌, ◌%◌, ◌++◌, ℕ, zero, suc, [], false, All, None, map}
 use Rattle.dma_memory.specs.Areas.{AreSeparate}
 use Rattle.registers.specs.Bits.{HasBit}
 use Rattle.descriptors.specs.Ring.{address_of, count_of, slots_from}
@@ -93,7 +93,7 @@ pub record TransmitRingSet (oldest_receive : ℕ) (a b : World) : Type 0 where
   pub none_to_send : frames_to_send b ≡ []
   pub held : frames_held oldest_receive b ≡ frames_held oldest_receive a
   pub finished_same : finished oldest_receive b ≡ finished oldest_receive a
-  pub fits : FitBuffers oldest_receive a → FitBuffers oldest_receive b
+  pub fits : (size : ℕ) → FitBuffers size oldest_receive a → FitBuffers size oldest_receive b
   pub runs : GoOn a b
 
 -- While no frame is in the transmit packet buffer the transmit ring may be set up, with TDH equal to TDT, where it is apart from all else.
@@ -148,10 +148,11 @@ pub record OffersStay (oldest_receive : ℕ) (a b : World) : Type 0 where
   pub addresses : All (λ slot. named_address b.memory slot ≡ named_address a.memory slot) (offered (receive_ring a))
 
 -- While RCTL.EN is 0 and no frame is held, the receive slots that are offered wait. No slot contains a part of a frame then, if frames are
--- cut into buffers of one size.
+-- cut into buffers of one size, which have at least one byte.
 abbrev pub OffersWait : Type 0
 OffersWait =
-    (oldest_receive oldest_transmit : ℕ) (a b : World) (past : Past) → Sound oldest_receive oldest_transmit a
+    (size oldest_receive oldest_transmit : ℕ) (a b : World) (past : Past) → Sound oldest_receive oldest_transmit a
     → oldest_receive < count_of (receive_ring a)
-    → ¬ (HasBit a.adapter.filter.rctl rctl_en) → AreCut oldest_receive a → frames_held oldest_receive a ≡ [] → Happens a b past
+    → ¬ (HasBit a.adapter.filter.rctl rctl_en) → 1 ≤ size → AreCut size oldest_receive a
+    → frames_held oldest_receive a ≡ [] → Happens a b past
     → OffersStay oldest_receive a b

@@ -8,7 +8,7 @@ use Rattle.rx_engine.specs.Descriptors.{descriptor_at}
 use Rattle.rx_engine.specs.Pieces.{IsLastSize, frames_of, parts}
 use Rattle.rx_engine.specs.Pieces.Piece.{Last}
 use Rattle.adapter.specs.Conditions.{AreCut, FitBuffers, Sound}
-use Rattle.adapter.specs.HostAreas.{IsForeign, buffer_size}
+use Rattle.adapter.specs.HostAreas.{IsForeign}
 use Rattle.adapter.specs.HostFrames.{finished_pieces, frames_held, named, piece_in}
 use Rattle.adapter.specs.Slots.{finished, outstanding}
 use Rattle.adapter.specs.World.{World, receive_ring}
@@ -22,14 +22,14 @@ places_of_run oldest run world = slots_from (count_of (receive_ring world)) olde
 abbrev pub after_run : ℕ → List ℕ → World → ℕ
 after_run oldest run world = place (count_of (receive_ring world)) oldest (length run)
 
--- If frames are cut into buffers of one size: the frame is legal, its parts fill their buffers, no slot has an error, and the frames of the
+-- If frames are cut into buffers of one size, the frame is legal, its parts fill their buffers, no slot has an error, and the frames of the
 -- other slots are cut so, too.
-pub record IsCutRun (oldest_receive : ℕ) (world : World) (run : List ℕ) (seen : List (List ℕ)) (last : List ℕ) : Type 0 where
+pub record IsCutRun (size oldest_receive : ℕ) (world : World) (run : List ℕ) (seen : List (List ℕ)) (last : List ℕ) : Type 0 where
   pub legal : IsLegal (concat seen ++ last)
-  pub full : All (λ bytes. length bytes ≡ buffer_size world) seen
-  pub last_size : IsLastSize (buffer_size world) (length last)
+  pub full : All (λ bytes. length bytes ≡ size) seen
+  pub last_size : IsLastSize size (length last)
   pub have_no_errors : All (λ slot. (descriptor_at world.memory slot).errors ≡ 0) run
-  pub others : AreCut (after_run oldest_receive run world) world
+  pub others : AreCut size (after_run oldest_receive run world) world
 
 -- The slots contain parts, and then the last piece of their frame. With the place after them as the oldest the conditions hold, the slots
 -- are no longer outstanding but the driver's, and their frame leaves the front of the frames held. Its bytes aren't the adapter's to write.
@@ -49,8 +49,8 @@ pub record RunTaken (oldest_receive oldest_transmit : ℕ) (world : World) (run 
       ≡ run ++ outstanding (receive_ring world) (after_run oldest_receive run world)
   pub own : All (IsDriversSlot (receive_ring world) (after_run oldest_receive run world)) (places_of_run oldest_receive run world)
   pub foreign : All (λ slot. IsForeign world (named world.memory slot)) run
-  pub fits : FitBuffers oldest_receive world → FitBuffers (after_run oldest_receive run world) world
-  pub cut : AreCut oldest_receive world → IsCutRun oldest_receive world run seen last
+  pub fits : (size : ℕ) → FitBuffers size oldest_receive world → FitBuffers size (after_run oldest_receive run world) world
+  pub cut : (size : ℕ) → AreCut size oldest_receive world → IsCutRun size oldest_receive world run seen last
 
 abbrev pub RunsCanBeTaken : Type 0
 RunsCanBeTaken =

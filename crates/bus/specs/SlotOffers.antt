@@ -4,7 +4,7 @@ use Rattle.dma_memory.specs.Areas.{AreApart, Area}
 use Rattle.dma_memory.specs.HostMemory.{LiesIn}
 use Rattle.registers.specs.Bits.{HasBit}
 use Rattle.descriptors.specs.Ring.{address_of, count_of, next_of}
-use Rattle.registers.specs.Places.{tctl_psp}
+use Rattle.registers.specs.Places.{rctl_en, tctl_psp}
 use Rattle.tx_engine.specs.Fetching.{fetched, frame_at}
 use Rattle.adapter.specs.HostAreas.{areas, buffer_of, data_of, IsForeign, reported_half, status_byte}
 use Rattle.adapter.specs.Slots.{finished, is_done, outstanding, written_back}
@@ -24,21 +24,23 @@ offering world = record world {
   };
 }
 
--- The slot at RDT can be offered: it isn't the last one before the oldest, its descriptor isn't done, and its buffer lies in memory, apart
--- from all that the conditions name.
+-- The slot at RDT can be offered: it isn't the last one before the oldest, and its descriptor isn't done. While RCTL.EN is set, its buffer,
+-- of the size that RCTL.BSIZE names, lies in memory, apart from all that the conditions name.
 pub record CanOffer (oldest : ℕ) (world : World) : Type 0 where
   pub oldest_slot : oldest < count_of (receive_ring world)
   pub head_slot : world.adapter.receive_ring.head < count_of (receive_ring world)
   pub tail_slot : world.adapter.receive_ring.tail < count_of (receive_ring world)
   pub room : next_of (receive_ring world) world.adapter.receive_ring.tail ≢ oldest
   pub fresh : is_done world.memory (address_of (receive_ring world) world.adapter.receive_ring.tail) ≡ false
-  pub lies : LiesIn world.memory (buffer_of world (address_of (receive_ring world) world.adapter.receive_ring.tail)).address
+  pub lies : HasBit world.adapter.filter.rctl rctl_en
+      → LiesIn world.memory (buffer_of world (address_of (receive_ring world) world.adapter.receive_ring.tail)).address
       (buffer_of world 0).size
-  pub apart : All (λ area. AreApart area (buffer_of world (address_of (receive_ring world) world.adapter.receive_ring.tail)))
+  pub apart : HasBit world.adapter.filter.rctl rctl_en
+      → All (λ area. AreApart area (buffer_of world (address_of (receive_ring world) world.adapter.receive_ring.tail)))
       (areas oldest world)
 
 -- Then the conditions hold again, the slot is the last that is outstanding, frames are the same, and engines that could run still can. What
--- isn't the adapter's stays so, apart from where it may report the slot and from the slot's buffer.
+-- isn't the adapter's stays so, apart from where it may report the slot and, while RCTL.EN is set, from the slot's buffer.
 pub record Offered (oldest_receive oldest_transmit : ℕ) (a b : World) : Type 0 where
   pub same : SameFrames oldest_receive oldest_transmit a b
   pub runs : GoOn a b
@@ -46,7 +48,8 @@ pub record Offered (oldest_receive oldest_transmit : ℕ) (a b : World) : Type 0
       ≡ outstanding (receive_ring a) oldest_receive ++ address_of (receive_ring a) a.adapter.receive_ring.tail ∷ []
   pub foreign :
       (area : Area) → IsForeign a area → AreApart area (reported_half (address_of (receive_ring a) a.adapter.receive_ring.tail))
-      → AreApart area (buffer_of a (address_of (receive_ring a) a.adapter.receive_ring.tail)) → IsForeign b area
+      → (HasBit a.adapter.filter.rctl rctl_en → AreApart area (buffer_of a (address_of (receive_ring a) a.adapter.receive_ring.tail)))
+      → IsForeign b area
 
 abbrev pub SlotsCanBeOffered : Type 0
 SlotsCanBeOffered =
@@ -89,8 +92,8 @@ pub record OfferedFrame (oldest_receive oldest_transmit : ℕ) (a b : World) : T
   pub finished_same : finished oldest_receive b ≡ finished oldest_receive a
   pub written_same : written_back oldest_transmit b ≡ written_back oldest_transmit a
   pub pieces_same : finished_pieces oldest_receive b ≡ finished_pieces oldest_receive a
-  pub whole : AreCut oldest_receive a → AreCut oldest_receive b
-  pub fits : FitBuffers oldest_receive a → FitBuffers oldest_receive b
+  pub whole : (size : ℕ) → AreCut size oldest_receive a → AreCut size oldest_receive b
+  pub fits : (size : ℕ) → FitBuffers size oldest_receive a → FitBuffers size oldest_receive b
   pub last : outstanding (transmit_ring b) oldest_transmit ≡ outstanding (transmit_ring a) oldest_transmit
       ++ address_of (transmit_ring a) a.adapter.transmit_ring.tail ∷ []
   pub runs : CanTransmit a.memory (address_of (transmit_ring a) a.adapter.transmit_ring.tail) → GoOn a b

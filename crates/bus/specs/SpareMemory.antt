@@ -1,31 +1,33 @@
 -- Memory that no outstanding slot uses (our choice).
 use Rattle.std.specs.Prelude.{ℕ, All}
-use Rattle.dma_memory.specs.Areas.{AreApart, Area}
-use Rattle.adapter.specs.HostAreas.{areas, buffer_of, data_of, IsForeign, ring_area}
+use Rattle.dma_memory.specs.Areas.{AreApart, Area, area_at}
+use Rattle.rx_engine.specs.Descriptors.{named_address}
+use Rattle.adapter.specs.HostAreas.{areas, data_of, IsForeign, ring_area}
 use Rattle.adapter.specs.Conditions.{FitBuffers, Sound}
 use Rattle.bus.specs.Law.{Happens}
 use Rattle.bus.specs.PastOfStretch.{Past}
 use Rattle.adapter.specs.Slots.{outstanding}
 use Rattle.adapter.specs.World.{receive_ring, transmit_ring, World}
 
--- An area is apart from both rings, and from the buffers and the data that outstanding slots name.
-pub record IsSpare (oldest_receive oldest_transmit : ℕ) (world : World) (area : Area) : Type 0 where
+-- An area is apart from both rings, from the receive buffers of so many bytes that outstanding slots name, and from their data to send.
+pub record IsSpare (size oldest_receive oldest_transmit : ℕ) (world : World) (area : Area) : Type 0 where
   pub receive_slots : AreApart (ring_area (receive_ring world)) area
   pub transmit_slots : AreApart (ring_area (transmit_ring world)) area
-  pub buffers : All (λ slot. AreApart (buffer_of world slot) area) (outstanding (receive_ring world) oldest_receive)
+  pub buffers : All (λ slot. AreApart (area_at (named_address world.memory slot) size) area)
+      (outstanding (receive_ring world) oldest_receive)
   pub sources : All (λ slot. AreApart (data_of world.memory slot) area) (outstanding (transmit_ring world) oldest_transmit)
 
 -- Then it is apart from all that the conditions of the law name, and not the adapter's to write.
-pub record StaysApart (oldest_receive oldest_transmit : ℕ) (world : World) (area : Area) : Type 0 where
-  pub fit : FitBuffers oldest_receive world
-  pub spare : IsSpare oldest_receive oldest_transmit world area
+pub record StaysApart (size oldest_receive oldest_transmit : ℕ) (world : World) (area : Area) : Type 0 where
+  pub fit : FitBuffers size oldest_receive world
+  pub spare : IsSpare size oldest_receive oldest_transmit world area
   pub apart : All (λ other. AreApart other area) (areas oldest_receive world)
   pub foreign : IsForeign world area
 
--- It stays so, whatever happens between two accesses, where frames fit into their buffers; and these still fit.
+-- It stays so, whatever happens between two accesses, where pieces of frames fit into such buffers; and they still fit.
 abbrev pub AreasStayApart : Type 0
 AreasStayApart =
-    (oldest_receive oldest_transmit : ℕ) (a b : World) (past : Past) (area : Area)
-    → Sound oldest_receive oldest_transmit a → FitBuffers oldest_receive a → IsSpare oldest_receive oldest_transmit a area
+    (size oldest_receive oldest_transmit : ℕ) (a b : World) (past : Past) (area : Area)
+    → Sound oldest_receive oldest_transmit a → FitBuffers size oldest_receive a → IsSpare size oldest_receive oldest_transmit a area
     → Happens a b past
-    → StaysApart oldest_receive oldest_transmit b area
+    → StaysApart size oldest_receive oldest_transmit b area

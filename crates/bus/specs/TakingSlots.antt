@@ -28,9 +28,9 @@ pub record Taken (oldest_receive oldest_transmit : ℕ) (world : World) (slot : 
       ≡ slot ∷ outstanding (receive_ring world) (behind_oldest_receive oldest_receive world)
   pub own : IsDriversSlot (receive_ring world) (behind_oldest_receive oldest_receive world) oldest_receive
   pub foreign : IsForeign world (named world.memory slot)
-  pub fits : FitBuffers oldest_receive world → FitBuffers (behind_oldest_receive oldest_receive world) world
-  pub whole : AreCut oldest_receive world → IsWhole (descriptor_at world.memory slot)
-      × AreCut (behind_oldest_receive oldest_receive world) world
+  pub fits : (size : ℕ) → FitBuffers size oldest_receive world → FitBuffers size (behind_oldest_receive oldest_receive world) world
+  pub whole : (size : ℕ) → AreCut size oldest_receive world → IsWhole (descriptor_at world.memory slot)
+      × AreCut size (behind_oldest_receive oldest_receive world) world
 
 abbrev pub FinishedSlotsCanBeTaken : Type 0
 FinishedSlotsCanBeTaken =

@@ -1,5 +1,6 @@
 -- What a step answers, by what is counted of the adapter.
-use Rattle.std.proofs.Common.{◌≡◌, ◌≢◌, ◌==◌, ◌||◌, ◌⊎◌, ◌-◌, ℕ, suc, Bool, true, false, not, Option, Some, None, List, [], ◌∷◌, length}
+use Rattle.std.proofs.Common.{◌≡◌, ◌≢◌, ◌==◌, ◌||◌, ◌⊎◌, ◌-◌, [], ◌∷◌}
+use Rattle.std.proofs.Common.{ℕ, suc, Bool, true, false, not, Option, Some, None, List, length}
 use Rattle.std.proofs.Common.{if◌then◌else◌, inl}
 use Rattle.std.proofs.Common.{inr, refl}
 use Rattle.std.proofs.Common.{sym, ap, ◌∙◌, arith}

@@ -27,17 +27,21 @@ pub record IsAllowed (counts : Counts) : Type 0 where
   pub tx : IsRingSize counts.tx
   pub buffers : IsBufferCount counts.rx counts.buffers
 
--- How many bytes a descriptor has ("3.2.3 Receive Descriptor Format", "3.3.3 Legacy Transmit Descriptor Format"), and a buffer ("13.4.22
--- Receive Control", BSIZE 00b).
+-- How many bytes a descriptor has ("3.2.3 Receive Descriptor Format", "3.3.3 Legacy Transmit Descriptor Format").
 abbrev pub descriptor_bytes : ℕ
 descriptor_bytes = 16
 
-abbrev pub buffer_bytes : ℕ
-buffer_bytes = 2048
+-- How many bytes a transmit buffer has: it has room for the longest frame (our choice).
+abbrev pub transmit_buffer_bytes : ℕ
+transmit_buffer_bytes = 2048
 
--- The least multiple of a buffer's size at which both rings have ended (our choice).
+-- How many bytes a receive buffer has ("13.4.22 Receive Control", BSIZE 11b).
+abbrev pub receive_buffer_bytes : ℕ
+receive_buffer_bytes = 256
+
+-- The least multiple of a transmit buffer's size at which both rings have ended (our choice).
 abbrev pub buffers_start : Counts → ℕ
-buffers_start counts = next_multiple_of (descriptor_bytes * counts.rx + descriptor_bytes * counts.tx) buffer_bytes
+buffers_start counts = next_multiple_of (descriptor_bytes * counts.rx + descriptor_bytes * counts.tx) transmit_buffer_bytes
 
 -- What has its place in a layout (our choice).
 pub data Place : Type 0 where
@@ -57,15 +61,15 @@ HasPlace counts (ReceiveBuffer number) = number < counts.buffers
 abbrev pub start_of : Counts → Place → ℕ
 start_of counts ReceiveRing = 0
 start_of counts TransmitRing = descriptor_bytes * counts.rx
-start_of counts (TransmitBuffer slot) = buffers_start counts + buffer_bytes * slot
-start_of counts (ReceiveBuffer number) = buffers_start counts + buffer_bytes * counts.tx + buffer_bytes * number
+start_of counts (TransmitBuffer slot) = buffers_start counts + transmit_buffer_bytes * slot
+start_of counts (ReceiveBuffer number) = buffers_start counts + transmit_buffer_bytes * counts.tx + receive_buffer_bytes * number
 
 -- How many bytes stand at a place.
 abbrev pub bytes_of : Counts → Place → ℕ
 bytes_of counts ReceiveRing = descriptor_bytes * counts.rx
 bytes_of counts TransmitRing = descriptor_bytes * counts.tx
-bytes_of counts (TransmitBuffer slot) = buffer_bytes
-bytes_of counts (ReceiveBuffer number) = buffer_bytes
+bytes_of counts (TransmitBuffer slot) = transmit_buffer_bytes
+bytes_of counts (ReceiveBuffer number) = receive_buffer_bytes
 
 -- The memory that a layout needs ends where the last receive buffer ends.
 abbrev pub size_of : Counts → ℕ
@@ -85,8 +89,8 @@ abbrev pub PlacesLieBelowSize : Type 0
 PlacesLieBelowSize = (counts : Counts) (place : Place) → HasPlace counts place
     → start_of counts place + bytes_of counts place ≤ size_of counts
 
--- The buffers begin at the first multiple of a buffer's size at which both rings have ended.
+-- The buffers begin at the first multiple of a transmit buffer's size at which both rings have ended.
 pub record BeginsAtNextMultiple (counts : Counts) : Type 0 where
-  pub multiple : buffers_start counts % buffer_bytes ≡ 0
+  pub multiple : buffers_start counts % transmit_buffer_bytes ≡ 0
   pub behind_rings : descriptor_bytes * counts.rx + descriptor_bytes * counts.tx ≤ buffers_start counts
-  pub first : buffers_start counts < descriptor_bytes * counts.rx + descriptor_bytes * counts.tx + buffer_bytes
+  pub first : buffers_start counts < descriptor_bytes * counts.rx + descriptor_bytes * counts.tx + transmit_buffer_bytes

@@ -16,13 +16,19 @@ place-below_size counts TransmitRing has = let b = (begins counts).behind_rings 
 place-below_size counts (TransmitBuffer slot) has = omega arith
 place-below_size counts (ReceiveBuffer number) has = omega arith
 
--- Two buffers of different numbers are apart.
-buffers_apart : (from i j : ℕ) → i ≢ j → AreApart (area_at (from + 2048 * i) 2048) (area_at (from + 2048 * j) 2048)
-buffers_apart from i j differ = elim (cases_lt i j) as
+-- Two transmit buffers of different numbers are apart, and so are two receive buffers.
+transmit_apart : (from i j : ℕ) → i ≢ j → AreApart (area_at (from + 2048 * i) 2048) (area_at (from + 2048 * j) 2048)
+transmit_apart from i j differ = elim (cases_lt i j) as
     (λ _. AreApart (area_at (from + 2048 * i) 2048) (area_at (from + 2048 * j) 2048)) [
       | inl below ↦ inl (omega arith)
-      | inr above ↦ inr
-          (omega arith)
+      | inr above ↦ inr (omega arith)
+    ]
+
+receive_apart : (from i j : ℕ) → i ≢ j → AreApart (area_at (from + 256 * i) 256) (area_at (from + 256 * j) 256)
+receive_apart from i j differ = elim (cases_lt i j) as
+    (λ _. AreApart (area_at (from + 256 * i) 256) (area_at (from + 256 * j) 256)) [
+      | inl below ↦ inl (omega arith)
+      | inr above ↦ inr (omega arith)
     ]
 
 -- Two places are apart.
@@ -37,11 +43,11 @@ places-apart counts TransmitRing (TransmitBuffer slot) has_a has_b differ = let 
 places-apart counts TransmitRing (ReceiveBuffer number) has_a has_b differ = let b = (begins counts).behind_rings in inl (omega arith)
 places-apart counts (TransmitBuffer slot) ReceiveRing has_a has_b differ = let b = (begins counts).behind_rings in inr (omega arith)
 places-apart counts (TransmitBuffer slot) TransmitRing has_a has_b differ = let b = (begins counts).behind_rings in inr (omega arith)
-places-apart counts (TransmitBuffer slot) (TransmitBuffer other) has_a has_b differ = buffers_apart (buffers_start counts) slot other
+places-apart counts (TransmitBuffer slot) (TransmitBuffer other) has_a has_b differ = transmit_apart (buffers_start counts) slot other
     (λ same. differ (ap TransmitBuffer same))
 places-apart counts (TransmitBuffer slot) (ReceiveBuffer number) has_a has_b differ = inl (omega arith)
 places-apart counts (ReceiveBuffer number) ReceiveRing has_a has_b differ = let b = (begins counts).behind_rings in inr (omega arith)
 places-apart counts (ReceiveBuffer number) TransmitRing has_a has_b differ = let b = (begins counts).behind_rings in inr (omega arith)
 places-apart counts (ReceiveBuffer number) (TransmitBuffer slot) has_a has_b differ = inr (omega arith)
-places-apart counts (ReceiveBuffer number) (ReceiveBuffer other) has_a has_b differ = buffers_apart
+places-apart counts (ReceiveBuffer number) (ReceiveBuffer other) has_a has_b differ = receive_apart
     (buffers_start counts + 2048 * counts.tx) number other (λ same. differ (ap ReceiveBuffer same))

@@ -19,7 +19,7 @@ pub fn stores_are_loaded()
 {}
 
 /// Laws of layouts: any two of a layout's rings and buffers are apart, each lies below the size that it needs,
-/// and the buffers begin at the first multiple of 2,048 behind the rings.
+/// and the buffers begin at the first multiple of 2,048 at or after the end of the rings.
 ///
 /// It does nothing: its contract is the laws.
 pub fn places_are_apart()

@@ -15,6 +15,7 @@ mod pool;
 pub use host_memory::{HostMemory, OutOfRange};
 pub use laws::{numbers_have_one_owner, places_are_apart, stores_are_loaded};
 pub use memory_layout::{
-    BUFFER_BYTES, DESCRIPTOR_BYTES, Layout, LayoutError, MOST_BUFFERS, MOST_DESCRIPTORS, RING_STEP,
+    DESCRIPTOR_BYTES, Layout, LayoutError, MOST_BUFFERS, MOST_DESCRIPTORS, RECEIVE_BUFFER_BYTES,
+    RING_STEP, TRANSMIT_BUFFER_BYTES,
 };
 pub use pool::{BufId, Pool};

@@ -1,6 +1,7 @@
 ghost use Rattle.std.specs.Prelude.{◌≡◌, ◌+◌, ◌<◌, ◌≤◌, ◌↔◌, Ok, Err, IfOk, IsOk, IsTrue};
 ghost use Rattle.dma_memory.specs.Layout.{Counts, IsRingSize, IsBufferCount, IsAllowed, start_of, size_of};
 ghost use Rattle.dma_memory.specs.Layout.{ReceiveRing, TransmitRing, TransmitBuffer, ReceiveBuffer};
+ghost use Rattle.dma_memory.specs.Layout.{receive_buffer_bytes, transmit_buffer_bytes};
 
 use std::marker::Model;
 use thiserror::Error;
@@ -8,8 +9,12 @@ use thiserror::Error;
 /// The bytes of a descriptor (Intel's manual, "3.2.3 Receive Descriptor Format").
 pub const DESCRIPTOR_BYTES: u64 = 16;
 
-/// The bytes of a transmit or receive buffer (Intel's manual, "13.4.22 Receive Control", BSIZE 00b).
-pub const BUFFER_BYTES: u64 = 2048;
+/// The bytes of a transmit buffer, which has room for the longest frame (our choice).
+pub const TRANSMIT_BUFFER_BYTES: u64 = 2048;
+
+/// The bytes of a receive buffer (Intel's manual, "13.4.22 Receive Control", BSIZE 11b). So the longest frame, of
+/// 1,518 bytes, needs six receive buffers.
+pub const RECEIVE_BUFFER_BYTES: u64 = 256;
 
 /// A ring has a multiple of so many descriptors, and at least so many (Intel's manual, "13.4.27 Receive
 /// Descriptor Length": 128 bytes).
@@ -37,8 +42,9 @@ pub enum LayoutError {
 
 /// Where the rings and buffers of one driver stand in its host's memory, by byte addresses.
 ///
-/// The receive ring stands at 0, the transmit ring right behind it, 16 bytes a descriptor; then, from the next
-/// multiple of 2,048 on, a transmit buffer for each transmit descriptor, and the receive buffers, 2,048 bytes each.
+/// The receive ring stands at 0, the transmit ring right after it, 16 bytes for each descriptor. Then, from the next
+/// multiple of 2,048 on, follow a transmit buffer of 2,048 bytes for each transmit descriptor, and the receive buffers
+/// of 256 bytes each.
 #[derive(Clone, Copy, Debug, PartialEq, Eq)]
 pub struct Layout {
     rx: u16,
@@ -136,18 +142,18 @@ impl Layout {
     pub fn transmit_buffer(&self, slot: u16) -> u64
         requires { slot < self.now.tx }
         ensures start { result ≡ start_of self.now (TransmitBuffer slot) }
-        ensures below_size { result + 2048 ≤ size_of self.now }
+        ensures below_size { result + transmit_buffer_bytes ≤ size_of self.now }
     {
-        self.first_transmit_buffer() + BUFFER_BYTES * u64::from(slot)
+        self.first_transmit_buffer() + TRANSMIT_BUFFER_BYTES * u64::from(slot)
     }
 
     /// The address of the receive buffer `number`.
     pub fn receive_buffer(&self, number: u16) -> u64
         requires { number < self.now.buffers }
         ensures start { result ≡ start_of self.now (ReceiveBuffer number) }
-        ensures below_size { result + 2048 ≤ size_of self.now }
+        ensures below_size { result + receive_buffer_bytes ≤ size_of self.now }
     {
-        self.first_receive_buffer() + BUFFER_BYTES * u64::from(number)
+        self.first_receive_buffer() + RECEIVE_BUFFER_BYTES * u64::from(number)
     }
 
     /// How many bytes of memory the layout needs: from address 0 to the end of the last receive buffer.
@@ -155,9 +161,9 @@ impl Layout {
         ensures end { result ≡ size_of self.now }
 
         // Rings of 256 and 4,096 receive buffers need the most.
-        ensures most { result ≤ 8921088 }
+        ensures most { result ≤ 1581056 }
     {
-        self.first_receive_buffer() + BUFFER_BYTES * u64::from(self.buffers)
+        self.first_receive_buffer() + RECEIVE_BUFFER_BYTES * u64::from(self.buffers)
     }
 
     /// The address of the first transmit buffer.
@@ -166,7 +172,7 @@ impl Layout {
         ensures most { result ≤ 8192 }
     {
         let rings_end = self.transmit_ring() + DESCRIPTOR_BYTES * u64::from(self.tx);
-        rings_end.next_multiple_of(BUFFER_BYTES)
+        rings_end.next_multiple_of(TRANSMIT_BUFFER_BYTES)
     }
 
     /// The address of the first receive buffer.
@@ -174,6 +180,6 @@ impl Layout {
         ensures start { result ≡ start_of self.now (ReceiveBuffer 0) }
         ensures most { result ≤ 532480 }
     {
-        self.first_transmit_buffer() + BUFFER_BYTES * u64::from(self.tx)
+        self.first_transmit_buffer() + TRANSMIT_BUFFER_BYTES * u64::from(self.tx)
     }
 }

@@ -2,7 +2,7 @@
 use Rattle.std.proofs.Common.{false, ◌≡◌, ◌≤◌, ◌<◌, ◌+◌, ◌-◌, ◌%◌, ◌++◌, ◌∷◌, [], ℕ, List, length, ◌⊎◌, ⊎_elim, refl, sym, ap, subst, ◌∙◌}
 use Rattle.std.proofs.Common.{length-append, arith}
 use Rattle.std.proofs.lemmas.List.{length-map}
-use Rattle.dma_memory.specs.Layout.{Counts}
+use Rattle.dma_memory.specs.Layout.{Counts, receive_buffer_bytes}
 use Rattle.dma_memory.specs.Owners.{HasOneOwner, HaveSameNumbers, copies}
 use Rattle.dma_memory.specs.OwnersLaws.{copies-append, length-one_owner, one_owner-same}
 use Rattle.descriptors.specs.declared.ring.Ring.{Ring}
@@ -45,7 +45,7 @@ head-first d world ready first full none =
     let n = d.layout.rx in
     let knows = ready.receive in
     let same = all-offered d.oldest_receive d.oldest_transmit world ready.law.sound
-    (holds-none d.oldest_receive d.oldest_transmit world ready.law.sound ready.law.whole none) in
+    (holds-none receive_buffer_bytes d.oldest_receive d.oldest_transmit world ready.law.sound (omega arith) ready.law.whole none) in
     let from : Ring = record ring { head = d.oldest_receive } in
     let long : distance_of from d.oldest_receive ring.tail ≡ distance_of ring ring.head ring.tail =
     sym (length-places from) ∙ sym (length-map (offered_places from) (address_of from)) ∙ ap length same

@@ -1,12 +1,13 @@
 -- A driver handles an interrupt: it reads MPC, takes frames, and refills.
-use Rattle.std.proofs.Common.{Bool, inl, ◌≡◌, ◌≤◌, ◌+◌, ◌*◌, ◌++◌, ◌∷◌, [], ◌<◌, ◌^◌, ℕ, suc, List, length, map, refl, sym, ap, subst, ◌∙◌}
+use Rattle.std.proofs.Common.{◌≡◌, ◌≤◌, ◌+◌, ◌*◌, ◌++◌, ◌∷◌, [], ◌<◌, ◌^◌, ◌∙◌}
+use Rattle.std.proofs.Common.{Bool, inl, ℕ, suc, List, length, map, refl, sym, ap, subst}
 use Rattle.std.proofs.Common.{length-append, arith}
 use Rattle.std.specs.List.{concat}
 use Rattle.std.specs.Prelude.{min}
 use Rattle.std.proofs.lemmas.List.{append-nil, length-map}
 use Rattle.registers.specs.Bits.{HasBit, Meet}
 use Rattle.registers.specs.Laws.{Meet-places}
-use Rattle.dma_memory.specs.Layout.{buffer_bytes}
+use Rattle.dma_memory.specs.Layout.{receive_buffer_bytes}
 use Rattle.descriptors.specs.Frames.{longest_frame}
 use Rattle.descriptors.specs.RingLaws.{place}
 use Rattle.rx_engine.specs.Pieces.{parts}
@@ -92,7 +93,7 @@ last-look {up} d world loads ready none is =
     let few = parts_are_few up d seen.0 [] world ready (seen.1 ∙ sym (append-nil (parts seen.0))) in
     record {
       parts = length pieces;
-      short = subst (λ (n : ℕ). buffer_bytes * n ≤ longest_frame) (sym (ap length seen.1 ∙ length-parts seen.0)) few;
+      short = subst (λ (n : ℕ). receive_buffer_bytes * n ≤ longest_frame) (sym (ap length seen.1 ∙ length-parts seen.0)) few;
       loads_are = is;
     }
 

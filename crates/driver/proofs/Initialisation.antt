@@ -6,7 +6,7 @@ use Rattle.std.proofs.lemmas.List.{append-nil}
 use Rattle.std.proofs.lemmas.List.Elements.{All-cons}
 use Rattle.arrayvec.specs.declared.array_vec.ArrayVec.{ArrayVec}
 use Rattle.registers.specs.Counting.{greatest_count}
-use Rattle.dma_memory.specs.Layout.{Counts}
+use Rattle.dma_memory.specs.Layout.{Counts, receive_buffer_bytes}
 use Rattle.descriptors.specs.RingLaws.{place}
 use Rattle.rx_engine.specs.Addresses.{IsAddress}
 use Rattle.eeprom.specs.Image.{HasRightSum, address_bytes}
@@ -287,7 +287,8 @@ counts-from d a b c first later one two none_to_send none_held none_missed =
 none-finished : (d : DriverState) (world : World) → ReadyWith true d world → frames_held d.oldest_receive world ≡ []
     → finished d.oldest_receive world ≡ []
 none-finished d world ready none =
-    (holds-none d.oldest_receive d.oldest_transmit world ready.law.sound ready.law.whole none).none_finished
+    (holds-none receive_buffer_bytes d.oldest_receive d.oldest_transmit world ready.law.sound (omega arith)
+    ready.law.whole none).none_finished
 
 -- The link stays up.
 link-up : (config : Config) (address groups vlans : List ℕ) → length groups ≡ 128 → length vlans ≡ 128
@@ -381,7 +382,8 @@ initialises bus joins b0 b1 b2 b3 b4 b5 config size pool numbers d past had told
       };
       started = record {
         ready = masks.ready;
-        work = masks.work (asked-still d (bus.world b3) (bus.world b4) sends.past sends.goes (inl (ap (λ (slots : List ℕ). frames_of (map (piece_in (bus.world b3).memory) slots))
+        work = masks.work (asked-still d (bus.world b3) (bus.world b4) sends.past sends.goes
+            (inl (ap (λ (slots : List ℕ). frames_of (map (piece_in (bus.world b3).memory) slots))
             lets.none_finished)));
         frames = record {
           held = held;

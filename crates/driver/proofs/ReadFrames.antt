@@ -1,5 +1,6 @@
 -- A frame is read piece by piece.
-use Rattle.std.proofs.Common.{Bool, ◌≡◌, ◌≤◌, ◌<◌, ◌+◌, ◌-◌, ◌++◌, ◌∷◌, [], ℕ, List, length, take, drop, get_or, sym, ap, subst, ◌∙◌}
+use Rattle.std.proofs.Common.{◌≡◌, ◌≤◌, ◌<◌, ◌+◌, ◌-◌, ◌++◌, ◌∷◌, [], ◌∙◌}
+use Rattle.std.proofs.Common.{Bool, ℕ, List, length, map, take, drop, get_or, sym, ap, subst}
 use Rattle.std.proofs.Common.{append_assoc, length-append, length-drop, arith, sum}
 use Rattle.std.specs.List.{All}
 use Rattle.std.proofs.lemmas.List.{append-nil, drop-drop, drop_more, get_or-map, length-map, length-take-le, map-append, take-append-drop}
@@ -18,7 +19,7 @@ use Rattle.driver_law.proofs.ReceiveAccesses.{frame-read, ran_by-reads}
 use Rattle.driver_law.specs.Calls.{Ran, at, only}
 use Rattle.driver_law.specs.DriverState.{DriverState, HandedOut, buffer_at, frame_of}
 use Rattle.driver_law.specs.ReadyDrivers.{ReadyWith}
-use Rattle.driver.specs.Parts.{IsWholeFrame, buffers_in, lengths_in, part_loads, part_of, parts_of}
+use Rattle.driver.specs.Parts.{IsWholeFrame, lengths_in, part_loads, part_of, parts_of}
 use Rattle.driver.specs.declared.parts.Part.{Part}
 use Rattle.driver.specs.declared.receiver.Received.{Received}
 
@@ -36,22 +37,14 @@ is-next parts i part below is = record {
   more = take_more parts i part below ∙ ap (λ (one : Part). take i parts ++ one ∷ []) (sym is);
 }
 
--- What holds for each piece's number or size holds for it.
-pub all-numbers : (P : ℕ → Type 0) (parts : List Part) (i : ℕ) (part : Part) → IsNext parts i part → All P (buffers_in parts)
-    → P part.buffer
-all-numbers P parts i part next all =
-    let number : Part → ℕ = λ one. one.buffer in
-    let numbers = ap buffers_in next.split ∙ map-append number (take i parts) (part ∷ drop (i + 1) parts) in
-    all-head P part.buffer (buffers_in (drop (i + 1) parts))
-    (all-right P (buffers_in (take i parts)) (part.buffer ∷ buffers_in (drop (i + 1) parts)) (subst (All P) numbers all))
-
-pub all-sizes : (P : ℕ → Type 0) (parts : List Part) (i : ℕ) (part : Part) → IsNext parts i part → All P (lengths_in parts)
-    → P part.length
-all-sizes P parts i part next all =
-    let size : Part → ℕ = λ one. one.length in
-    let sizes = ap lengths_in next.split ∙ map-append size (take i parts) (part ∷ drop (i + 1) parts) in
-    all-head P part.length (lengths_in (drop (i + 1) parts))
-    (all-right P (lengths_in (take i parts)) (part.length ∷ lengths_in (drop (i + 1) parts)) (subst (All P) sizes all))
+-- What holds for such a value of each piece, its buffer's number or its length, holds for that of this one.
+pub all-values : (P : ℕ → Type 0) (value : Part → ℕ) (parts : List Part) (i : ℕ) (part : Part) → IsNext parts i part
+    → All P (map value parts) → P (value part)
+all-values P value parts i part next all =
+    let later = drop (i + 1) parts in
+    let values = ap (map value) next.split ∙ map-append value (take i parts) (part ∷ later) in
+    all-head P (value part) (map value later)
+    (all-right P (map value (take i parts)) (value part ∷ map value later) (subst (All P) values all))
 
 -- the bytes of the first pieces
 abbrev pub bytes_before : List Part → ℕ → ℕ

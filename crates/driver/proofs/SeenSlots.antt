@@ -9,7 +9,7 @@ use Rattle.std.proofs.lemmas.List.Elements.{All-append, All-cons}
 use Rattle.std.proofs.lemmas.List.Sums.{sum_by_push}
 use Rattle.std.proofs.Math.Nat.{mod-add-mod, mod-eq_of_lt}
 use Rattle.registers.specs.Bits.{is_set}
-use Rattle.dma_memory.specs.Layout.{buffer_bytes}
+use Rattle.dma_memory.specs.Layout.{receive_buffer_bytes}
 use Rattle.descriptors.specs.Frames.{IsLegal}
 use Rattle.descriptors.specs.Ring.{slots_from}
 use Rattle.descriptors.specs.RingLaws.{length-slots_from, next-below, place}
@@ -110,11 +110,11 @@ pub record NextSeen (pieces : List Piece) (seen : List (List ℕ)) (desc : RxDes
   pub size : desc.length ≡ length bytes
   pub sound : IsSoundPart desc
 
-part-size : (last : Bool) (n : ℕ) (bytes : List ℕ) → n ≡ length bytes → IsCut buffer_bytes (piece_of last bytes) → IsPartSize last n
-part-size true n bytes is cut = subst (IsLastSize buffer_bytes) (sym is) cut
+part-size : (last : Bool) (n : ℕ) (bytes : List ℕ) → n ≡ length bytes → IsCut receive_buffer_bytes (piece_of last bytes) → IsPartSize last n
+part-size true n bytes is cut = subst (IsLastSize receive_buffer_bytes) (sym is) cut
 part-size false n bytes is cut = is ∙ cut
 
-pub next-seen : (pieces : List Piece) (run : Run) (desc : RxDesc) → All (IsCut buffer_bytes) pieces → (sees : Sees pieces run)
+pub next-seen : (pieces : List Piece) (run : Run) (desc : RxDesc) → All (IsCut receive_buffer_bytes) pieces → (sees : Sees pieces run)
     → IsSeen run.count pieces desc → NextSeen pieces sees.seen desc
 next-seen pieces run desc cut sees shown =
     let front = parts sees.seen in
@@ -123,8 +123,9 @@ next-seen pieces run desc cut sees shown =
     sym (drop_at front sees.later run.count (omega (arith, length-parts sees.seen, sees.count)))
     ∙ ap (drop run.count) (sym sees.is ∙ shown.is) ∙ drop_at shown.before (next ∷ shown.after) run.count shown.count in
     let is : pieces ≡ front ++ next ∷ shown.after = sees.is ∙ ap (λ (list : List Piece). front ++ list) later in
-    let own = all-head (IsCut buffer_bytes) next shown.after
-    (all-right (IsCut buffer_bytes) front (next ∷ shown.after) (subst (λ (list : List Piece). All (IsCut buffer_bytes) list) is cut)) in
+    let own = all-head (IsCut receive_buffer_bytes) next shown.after
+    (all-right (IsCut receive_buffer_bytes) front (next ∷ shown.after)
+    (subst (λ (list : List Piece). All (IsCut receive_buffer_bytes) list) is cut)) in
     record {
       bytes = shown.bytes;
       later = shown.after;
@@ -156,17 +157,18 @@ sum-added run run' desc added is =
     ∙ sym (ap sum added.lengths ∙ sum_by_push (λ (n : ℕ). n) (take run.count run.lengths) desc.length)
 
 -- A size that a piece of a whole frame may have is at most that of a buffer.
-part-fits : (last : Bool) (n : ℕ) → IsPartSize last n → n ≤ buffer_bytes
+part-fits : (last : Bool) (n : ℕ) → IsPartSize last n → n ≤ receive_buffer_bytes
 part-fits true n size = size.most
 part-fits false n size = omega (arith, size)
 
 pub fits-none : (run : Run) → run.count ≡ 0 → FitIntoBuffers (take run.count run.lengths)
-fits-none run none = subst (λ (n : ℕ). FitIntoBuffers (take n run.lengths)) (sym none) (all-none (λ (size : ℕ). size ≤ buffer_bytes))
+fits-none run none = subst (λ (n : ℕ). FitIntoBuffers (take n run.lengths)) (sym none)
+    (all-none (λ (size : ℕ). size ≤ receive_buffer_bytes))
 
 pub fits-added : (run run' : Run) (desc : RxDesc) → IsAdded run run' desc → IsSoundPart desc
     → FitIntoBuffers (take run.count run.lengths) → FitIntoBuffers (take run'.count run'.lengths)
 fits-added run run' desc added sound fits =
-    let Fits : ℕ → Type 0 = λ size. size ≤ buffer_bytes in
+    let Fits : ℕ → Type 0 = λ size. size ≤ receive_buffer_bytes in
     subst FitIntoBuffers (sym added.lengths)
     (All-append Fits (take run.count run.lengths) (desc.length ∷ []) fits
     (All-cons Fits desc.length [] (part-fits (ends desc) desc.length sound.size) (all-none Fits)))
@@ -230,11 +232,10 @@ sees-frame pieces run run' desc sees next added last =
 
 -- Finished pieces are cut to the size of the buffers.
 pub finished-cut : {up : Bool} (d : DriverState) (world : World) → ReadyWith up d world
-    → All (IsCut buffer_bytes) (finished_pieces d.oldest_receive world)
+    → All (IsCut receive_buffer_bytes) (finished_pieces d.oldest_receive world)
 finished-cut d world ready =
     let pieces = finished_pieces d.oldest_receive world in
-    all-left (IsCut buffer_bytes) pieces (in_work world.memory world.adapter.receiver.work)
-    (subst (λ (size : ℕ). All (IsCut size) (pieces_in_slots d.oldest_receive world)) ready.size ready.law.whole.cut)
+    all-left (IsCut receive_buffer_bytes) pieces (in_work world.memory world.adapter.receiver.work) ready.law.whole.cut
 
 -- No more slots are finished than are outstanding.
 pub finished-most : {up : Bool} (d : DriverState) (world : World) → ReadyWith up d world

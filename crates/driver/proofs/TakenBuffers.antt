@@ -1,5 +1,6 @@
 -- The oldest buffers of a driver's queue leave it, as parts of a run.
-use Rattle.std.proofs.Common.{◌≡◌, ◌≤◌, ◌<◌, ◌+◌, ◌-◌, ◌%◌, ◌++◌, ◌∷◌, [], Some, None, ℕ, List, length, take, drop, get_or, slice_get}
+use Rattle.std.proofs.Common.{◌≡◌, ◌≤◌, ◌<◌, ◌+◌, ◌-◌, ◌%◌, ◌++◌, ◌∷◌, []}
+use Rattle.std.proofs.Common.{Some, None, ℕ, List, length, take, drop, get_or, slice_get}
 use Rattle.std.proofs.Common.{length-drop, sym, ap, ◌∙◌, arith}
 use Rattle.std.proofs.Math.Seq.{take-add}
 use Rattle.std.proofs.lemmas.List.{drop-drop, drop_more, map-append, take-append-drop, take_more}

@@ -1,5 +1,6 @@
 -- Frames are taken one after the other.
-use Rattle.std.proofs.Common.{Bool, true, false, not, ◌≡◌, ◌≤◌, ◌+◌, ◌*◌, ◌++◌, ◌∷◌, [], ℕ, List, length, map, refl, sym, ap, subst, ◌∙◌}
+use Rattle.std.proofs.Common.{◌≡◌, ◌≤◌, ◌+◌, ◌*◌, ◌++◌, ◌∷◌, [], ◌∙◌}
+use Rattle.std.proofs.Common.{Bool, true, false, not, ℕ, List, length, map, refl, sym, ap, subst}
 use Rattle.std.proofs.Common.{append_assoc, length-append, length-take, arith}
 use Rattle.std.specs.List.{concat}
 use Rattle.std.proofs.lemmas.Grind.{flat_map-append}

@@ -1,11 +1,12 @@
 -- A run of slots that contains a frame is taken: others hold its pieces then.
-use Rattle.std.proofs.Common.{Bool, ⊎_elim, ◌≡◌, ◌≤◌, ◌<◌, ◌*◌, ◌⊎◌, ◌++◌, ◌∷◌, [], ℕ, suc, List, length, map, take, drop, refl, sym, ap, subst, ◌∙◌}
+use Rattle.std.proofs.Common.{⊎_elim, ◌≡◌, ◌≤◌, ◌<◌, ◌*◌, ◌⊎◌, ◌++◌, ◌∷◌, [], ◌∙◌}
+use Rattle.std.proofs.Common.{Bool, ℕ, suc, List, length, map, take, drop, refl, sym, ap, subst}
 use Rattle.std.proofs.Common.{length-append, arith, slice_index, sum}
 use Rattle.std.specs.List.{All, concat}
 use Rattle.std.proofs.Math.Seq.{drop-append_seam, take-append_seam}
 use Rattle.std.proofs.lemmas.List.{append-nil, get_or_append_left, map-append}
 use Rattle.std.proofs.lemmas.List.Sums.{sum_by-cons}
-use Rattle.dma_memory.specs.Layout.{buffer_bytes}
+use Rattle.dma_memory.specs.Layout.{receive_buffer_bytes}
 use Rattle.rx_engine.specs.Addresses.{ether_type}
 use Rattle.rx_engine.specs.Pieces.{Piece, frames_from, parts}
 use Rattle.rx_engine.specs.Pieces.Piece.{Last, Part}
@@ -95,7 +96,7 @@ first-type (one ∷ later) [] last is frame =
     omega (arith, ap length same, frame.legal.least)
 first-type (one ∷ later) (bytes ∷ seen) last is frame =
     let same : one.bytes ≡ bytes = cc in
-    omega (arith, ap length same, all-head (λ (xs : List ℕ). length xs ≡ buffer_bytes) bytes seen frame.full)
+    omega (arith, ap length same, all-head (λ (xs : List ℕ). length xs ≡ receive_buffer_bytes) bytes seen frame.full)
 
 -- Lists of pieces.
 
@@ -110,7 +111,7 @@ only-parts begun (Last bytes ∷ later) none = absurd (omega (arith, ap length n
 -- The run leaves the ring.
 
 -- It has these buffers, and others have the remaining slots.
-one-frame : (seen : ℕ) (numbers : List ℕ) → length numbers ≡ suc seen → buffer_bytes * seen ≤ longest_frame → AreOfOneFrame numbers
+one-frame : (seen : ℕ) (numbers : List ℕ) → length numbers ≡ suc seen → receive_buffer_bytes * seen ≤ longest_frame → AreOfOneFrame numbers
 one-frame seen numbers many few = record { least = omega (arith, many); most = omega (arith, many, few) }
 
 pub record TakesRun {B : Type 0} (bus : Ghosts B) (up : Bool) (run : Run) (list : List parts.Part) (others : List ℕ) (b : B) (d : DriverState)

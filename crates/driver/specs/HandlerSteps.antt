@@ -1,8 +1,9 @@
 -- What a driver takes off its receive ring, who holds it then, and what its interrupt handler does.
-use Rattle.std.specs.Prelude.{⊤, ◌≡◌, ◌≤◌, ◌<◌, ◌⊎◌, ◌+◌, ◌-◌, ◌*◌, ◌^◌, ◌++◌, ◌∷◌, ℕ, suc, Bool, true, false, not, All, List, [], length, map}
+use Rattle.std.specs.Prelude.{⊤, ◌≡◌, ◌≤◌, ◌<◌, ◌⊎◌, ◌+◌, ◌-◌, ◌*◌, ◌^◌, ◌++◌, ◌∷◌, []}
+use Rattle.std.specs.Prelude.{ℕ, suc, Bool, true, false, not, All, List, length, map}
 use Rattle.std.specs.Prelude.{IsTrue, min, take}
 use Rattle.std.specs.List.{concat}
-use Rattle.dma_memory.specs.Layout.{buffer_bytes}
+use Rattle.dma_memory.specs.Layout.{receive_buffer_bytes}
 use Rattle.dma_memory.specs.Owners.{HaveSameNumbers}
 use Rattle.descriptors.specs.Frames.{longest_frame}
 use Rattle.rx_engine.specs.Addresses.{ether_type}
@@ -135,7 +136,7 @@ pub record HandsOver {B R : Type 0} (bus : Ghosts B) (receivers : OfReceiver R) 
 -- These are the buffers of one frame: at least one, and those before the last are full, and no longer together than the longest frame.
 pub record AreOfOneFrame (numbers : List ℕ) : Type 0 where
   pub least : 1 ≤ length numbers
-  pub most : buffer_bytes * (length numbers - 1) ≤ longest_frame
+  pub most : receive_buffer_bytes * (length numbers - 1) ≤ longest_frame
 
 -- n frames were taken off the ring, the oldest first, each with its pieces, and shown to the receiver, which keeps those in `kept`. The
 -- accesses `later` follow.
@@ -211,7 +212,7 @@ handled_accesses d misses taken loads offered tail =
 -- longest frame. So if a buffer has room for such a frame, there is no such slot.
 pub record IsLook (loads : ℕ) (rest : List ℕ) : Type 0 where
   pub parts : ℕ
-  pub short : buffer_bytes * parts ≤ longest_frame
+  pub short : receive_buffer_bytes * parts ≤ longest_frame
   pub loads_are : loads ≡ min (suc parts) (length rest)
 
 -- The value `misses` was added to the driver's sum of missed frames. The accesses of `Works` say that it was read from MPC.

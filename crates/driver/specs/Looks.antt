@@ -1,8 +1,9 @@
 -- What a driver finds in its oldest receive slots, by loads of their descriptors.
-use Rattle.std.specs.Prelude.{◌≡◌, ◌+◌, ◌++◌, ◌∷◌, [], ℕ, Bool, true, false, IsTrue, List, None, Option, Some, length, map, min, replicate}
+use Rattle.std.specs.Prelude.{◌≡◌, ◌+◌, ◌++◌, ◌∷◌, []}
+use Rattle.std.specs.Prelude.{ℕ, Bool, true, false, IsTrue, List, None, Option, Some, length, map, min, replicate}
 use Rattle.std.specs.Prelude.{suc, take}
 use Rattle.std.specs.List.{concat}
-use Rattle.dma_memory.specs.Layout.{buffer_bytes}
+use Rattle.dma_memory.specs.Layout.{receive_buffer_bytes}
 use Rattle.registers.specs.Bits.{is_set}
 use Rattle.descriptors.specs.RxStatus.{eop, status_bits}
 use Rattle.descriptors.specs.declared.rx_desc.RxDesc.{RxDesc}
@@ -20,8 +21,8 @@ new_run = record { lengths = replicate 6 0; count = 0; length = 0; whole = true 
 
 -- a piece of a whole frame may have this size, if its frame ends in it or not
 abbrev pub IsPartSize : (ends : Bool) → ℕ → Type 0
-IsPartSize true n = IsLastSize buffer_bytes n
-IsPartSize false n = n ≡ buffer_bytes
+IsPartSize true n = IsLastSize receive_buffer_bytes n
+IsPartSize false n = n ≡ receive_buffer_bytes
 
 -- whether a frame ends in a slot with this descriptor: EOP
 abbrev pub ends : RxDesc → Bool

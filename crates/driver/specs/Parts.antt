@@ -2,7 +2,7 @@
 use Rattle.std.specs.Prelude.{◌≡◌, ◌-◌, ◌≤◌, ◌++◌, ◌∷◌, [], ℕ, All, List, Option, Some, None, flat_map, length, map, replicate, sum}
 use Rattle.descriptors.specs.Frames.{longest_frame, shortest_frame}
 use Rattle.rx_engine.specs.Addresses.{ether_type}
-use Rattle.dma_memory.specs.Layout.{Counts, buffer_bytes}
+use Rattle.dma_memory.specs.Layout.{Counts, receive_buffer_bytes}
 use Rattle.bus.specs.declared.event.Access.{Access}
 use Rattle.bus.specs.declared.event.Access.TheVariants.{Loads}
 use Rattle.driver_law.specs.DriverState.{HandedOut, buffer_at, frame_of}
@@ -52,7 +52,7 @@ pub record IsFrameSize (size : ℕ) : Type 0 where
 
 -- Each of these sizes is at most that of a receive buffer.
 abbrev pub FitIntoBuffers : List ℕ → Type 0
-FitIntoBuffers sizes = All (λ size. size ≤ buffer_bytes) sizes
+FitIntoBuffers sizes = All (λ size. size ≤ receive_buffer_bytes) sizes
 
 -- It is as large as its pieces together, and may have this size. Each piece fits into its buffer.
 pub record IsWholeFrame (received : Received) : Type 0 where

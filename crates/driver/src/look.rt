@@ -16,7 +16,7 @@ use crate::refill::receive_slot;
 use bitflags::Flags;
 use bus::Bus;
 use descriptors::{RX_DESC_BYTES, RxDesc, RxStatus};
-use dma_memory::BUFFER_BYTES;
+use dma_memory::RECEIVE_BUFFER_BYTES;
 
 /// The size of the shortest frame that an adapter receives, in bytes, without its check sequence.
 const SHORTEST_RECEIVED: u32 = 60;
@@ -61,9 +61,9 @@ fn is_sound(descriptor: &RxDesc) -> bool
         return false;
     }
     if is_ended(descriptor) {
-        1 <= descriptor.length && u64::from(descriptor.length) <= BUFFER_BYTES
+        1 <= descriptor.length && u64::from(descriptor.length) <= RECEIVE_BUFFER_BYTES
     } else {
-        u64::from(descriptor.length) == BUFFER_BYTES
+        u64::from(descriptor.length) == RECEIVE_BUFFER_BYTES
     }
 }
 

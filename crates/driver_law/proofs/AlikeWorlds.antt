@@ -1,13 +1,13 @@
 -- Worlds that differ in nothing that a driver knows.
-use Rattle.std.proofs.Common.{Bool, ◌≡◌, ◌≤◌, ℕ, List, length, map, sym, ap, subst, ◌∙◌, arith}
+use Rattle.std.proofs.Common.{Bool, ◌≡◌, ◌≤◌, ℕ, List, length, map, sym, ap, subst, ◌∙◌}
+use Rattle.registers.specs.Places.{rctl_en}
 use Rattle.std.specs.List.{All}
-use Rattle.registers.specs.Bits.{field}
+use Rattle.registers.specs.Bits.{field, HasBit}
 use Rattle.registers.specs.ReceiveControl.{buffer_size_of}
-use Rattle.dma_memory.specs.Layout.{size_of}
+use Rattle.dma_memory.specs.Layout.{size_of, receive_buffer_bytes}
 use Rattle.rx_engine.specs.Descriptors.{named_address}
 use Rattle.tx_engine.specs.Transmitter.{Queued}
 use Rattle.adapter.specs.Rings.{ring_of}
-use Rattle.adapter.specs.HostAreas.{buffer_size}
 use Rattle.adapter.specs.Slots.{outstanding}
 use Rattle.adapter.specs.World.{World, receive_ring, transmit_ring}
 use Rattle.adapter.specs.declared.ring.RingRegisters.{RingRegisters}
@@ -43,17 +43,22 @@ pub ready-left : {up : Bool} (driver : DriverState) (a b : World) → ReadyWith 
     → LeavesFrames driver.oldest_receive driver.oldest_transmit a b → SameParts a b → ReadyWith up driver b
 ready-left {up} driver a b ready leaves same =
     let counts = driver.layout in
-    let size : buffer_size b ≡ buffer_size a = ap (λ (rctl : ℕ). buffer_size_of (field rctl 16 2)) same.receive_control in
+    let control = sym same.receive_control in
     record {
       driver_is = ready.driver_is;
       law = record {
         sound = leaves.same.sound;
         runs = leaves.runs ready.law.runs;
-        fit = leaves.same.fits (omega (arith, size)) ready.law.fit;
-        whole = leaves.same.whole size ready.law.whole;
+        fit = leaves.same.fits receive_buffer_bytes
+            (subst (λ (rctl : ℕ). HasBit rctl rctl_en → buffer_size_of (field rctl 16 2) ≤ receive_buffer_bytes)
+            control ready.law.fit.large)
+            ready.law.fit;
+        whole = leaves.same.whole receive_buffer_bytes
+            (subst (λ (rctl : ℕ). HasBit rctl rctl_en → buffer_size_of (field rctl 16 2) ≡ receive_buffer_bytes)
+            control ready.law.whole.sized)
+            ready.law.whole;
       };
       lies = subst (λ (memory : List ℕ). size_of counts ≤ length memory) (sym same.memory) ready.lies;
-      size = size ∙ ready.size;
       receive = subst (λ (ring : RingRegisters). KnowsRing (ring_of ring) 0 counts.rx (receive_tail driver))
           (sym same.receives) ready.receive;
       transmit = transmit-left up driver a b same ready.transmit;

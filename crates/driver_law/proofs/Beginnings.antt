@@ -1,7 +1,9 @@
 -- A driver begins ready.
-use Rattle.std.proofs.Common.{Bool, true, false, ◌≡◌, ◌≤◌, [], ℕ, List, Option, None, map, sym, ap, subst}
+use Rattle.std.proofs.Common.{Bool, true, false, ◌≡◌, ◌≤◌, [], ℕ, List, Option, None, map, sym, ap, subst, arith}
+use Rattle.registers.specs.Places.{rctl_en}
+use Rattle.registers.specs.Bits.{HasBit}
 use Rattle.std.specs.List.{All, take_while}
-use Rattle.dma_memory.specs.Layout.{Counts}
+use Rattle.dma_memory.specs.Layout.{Counts, receive_buffer_bytes}
 use Rattle.rx_engine.specs.Descriptors.{named_address}
 use Rattle.rx_engine.specs.declared.engine.Work.{Work}
 use Rattle.adapter.specs.Conditions.{FitBuffers, Sound}
@@ -22,10 +24,12 @@ tail-known true counts world known = known.knows.last
 tail-known false counts world off = off.last
 
 -- Nothing is finished or in progress.
-begun-fits : (world : World) → finished 0 world ≡ [] → world.adapter.receiver.work ≡ None → FitBuffers 0 world
-begun-fits world none idle = record {
-  finished_fit = subst (λ (slots : List ℕ). All (λ slot. (named world.memory slot).size ≤ buffer_size world) slots) (sym none) (all-none _);
-  work_fits = subst (λ (work : Option Work). All (λ area. area.size ≤ buffer_size world) (work_areas world.memory work)) (sym idle)
+begun-fits : (size : ℕ) (world : World) → (HasBit world.adapter.filter.rctl rctl_en → buffer_size world ≡ size)
+    → finished 0 world ≡ [] → world.adapter.receiver.work ≡ None → FitBuffers size 0 world
+begun-fits size world sized none idle = record {
+  large = λ enabled. omega (arith, sized enabled);
+  finished_fit = subst (λ (slots : List ℕ). All (λ slot. (named world.memory slot).size ≤ size) slots) (sym none) (all-none _);
+  work_fits = subst (λ (work : Option Work). All (λ area. area.size ≤ size) (work_areas world.memory work)) (sym idle)
       (all-none _);
 }
 
@@ -43,11 +47,10 @@ drivers_begin up counts pool world begun =
       law = record {
         sound = subst (λ (oldest : ℕ). Sound 0 oldest world) last own;
         runs = begun.runs;
-        fit = begun-fits world none begun.idle.work;
-        whole = none-cut 0 world none begun.idle.work;
+        fit = begun-fits receive_buffer_bytes world begun.sized none begun.idle.work;
+        whole = none-cut receive_buffer_bytes 0 world begun.sized none begun.idle.work;
       };
       lies = begun.lies;
-      size = begun.size;
       receive = begun.receive;
       transmit = begun.transmit;
       slots = record {

@@ -6,14 +6,14 @@ use Rattle.std.proofs.lemmas.List.Elements.{All-cons, All-map}
 use Rattle.dma_memory.specs.Areas.{AreApart, Area, area_at, bytes_in}
 use Rattle.dma_memory.specs.AreaLaws.{apart-inside}
 use Rattle.dma_memory.specs.HostMemory.{LiesIn, bytes_at}
-use Rattle.dma_memory.specs.Layout.{Counts, ReceiveBuffer, ReceiveRing, TransmitBuffer, TransmitRing, area_of, buffer_bytes}
+use Rattle.dma_memory.specs.Layout.{Counts, ReceiveBuffer, ReceiveRing, TransmitBuffer, TransmitRing, area_of, receive_buffer_bytes}
 use Rattle.dma_memory.specs.LayoutLaws.{begins, place-below_size, places-apart}
 use Rattle.dma_memory.specs.Owners.{copies}
 use Rattle.dma_memory.specs.OwnersLaws.{copies-cons, copies-itself}
 use Rattle.descriptors.specs.declared.ring.Ring.{Ring}
 use Rattle.descriptors.specs.Ring.{count_of, slots_from}
 use Rattle.rx_engine.specs.Descriptors.{named_address}
-use Rattle.adapter.specs.HostAreas.{IsForeign, areas, buffer_size, data_of, ring_area}
+use Rattle.adapter.specs.HostAreas.{IsForeign, areas, data_of, ring_area}
 use Rattle.adapter.specs.Slots.{outstanding}
 use Rattle.adapter.specs.World.{World, receive_ring, transmit_ring}
 use Rattle.adapter.specs.KnownRing.{KnowsRing}
@@ -67,16 +67,15 @@ transmit-away false counts p sending world number known side =
 
 buffer-spare : {up : Bool} (d : DriverState) (world : World) (number : ℕ) → ReadyWith up d world → number < d.layout.buffers
     → copies number d.buffers ≡ 0
-    → IsSpare d.oldest_receive d.oldest_transmit world (area_of d.layout (ReceiveBuffer number))
+    → IsSpare receive_buffer_bytes d.oldest_receive d.oldest_transmit world (area_of d.layout (ReceiveBuffer number))
 buffer-spare {up} d world number ready known free =
     let area = area_of d.layout (ReceiveBuffer number) in
-    let Away : ℕ → Type 0 = λ address. AreApart (area_at address (buffer_size world)) area in
+    let Away : ℕ → Type 0 = λ address. AreApart (area_at address receive_buffer_bytes) area in
     let each : All Away (map (buffer_at d.layout) d.buffers) = All-map Away (buffer_at d.layout) d.buffers
     (all-copies (λ m. Away (buffer_at d.layout m)) d.buffers (λ m some.
     let differ : m ≢ number = λ same. absurd (omega (arith, some, free, ap (λ (k : ℕ). copies k d.buffers) same)) in
-    subst (λ (size : ℕ). AreApart (area_at (buffer_at d.layout m) size) area) (sym ready.size)
-    (places-apart d.layout (ReceiveBuffer m) (ReceiveBuffer number) (outstanding-number d m ready.driver_is some) known
-    (λ same. differ (cc))))) in
+    places-apart d.layout (ReceiveBuffer m) (ReceiveBuffer number) (outstanding-number d m ready.driver_is some) known
+    (λ same. differ (cc)))) in
     let away = transmit-away up d.layout d.oldest_transmit d.sending world number known ready.transmit in
     record {
       receive_slots = subst (λ (other : Area). AreApart other area) (sym (known-area _ _ _ _ ready.receive))
@@ -89,7 +88,7 @@ buffer-spare {up} d world number ready known free =
 
 -- Each buffer lies in memory.
 pub buffer-lies : {up : Bool} (d : DriverState) (world : World) (number : ℕ) → ReadyWith up d world → number < d.layout.buffers
-    → LiesIn world.memory (buffer_at d.layout number) buffer_bytes
+    → LiesIn world.memory (buffer_at d.layout number) receive_buffer_bytes
 buffer-lies {up} d world number ready known = let ends = place-below_size d.layout (ReceiveBuffer number) known in omega
     (arith, ends, ready.lies)
 
@@ -97,7 +96,7 @@ buffer-lies {up} d world number ready known = let ends = place-below_size d.layo
 -- from
 -- here on numbers are counted.
 pub record IsAside (d : DriverState) (world : World) (number : ℕ) : Type 0 where
-  pub lies : LiesIn world.memory (buffer_at d.layout number) buffer_bytes
+  pub lies : LiesIn world.memory (buffer_at d.layout number) receive_buffer_bytes
   pub apart : All (λ other. AreApart other (area_of d.layout (ReceiveBuffer number))) (areas d.oldest_receive world)
   pub foreign : IsForeign world (area_of d.layout (ReceiveBuffer number))
 
@@ -109,8 +108,8 @@ buffer-aside {up} d world number ready known free =
     let spare = buffer-spare d world number ready known free in
     record {
       lies = buffer-lies d world number ready known;
-      apart = spare-apart o p world _ ready.law.sound ready.law.fit spare;
-      foreign = spare-foreign o p world _ ready.law.sound ready.law.fit spare;
+      apart = spare-apart receive_buffer_bytes o p world _ ready.law.sound ready.law.fit spare;
+      foreign = spare-foreign receive_buffer_bytes o p world _ ready.law.sound ready.law.fit spare;
     }
 
 -- The first bytes of an area are the same if all its bytes are.
@@ -147,7 +146,7 @@ stand-kept {up} d a b ready same = each d.handed_out (λ k. omega arith) ready.s
         let stands = all-head Before one list stand in
         All-cons Behind one list
         (record {
-          bytes = front-same a.memory b.memory (buffer_at d.layout one.number) (length one.bytes) buffer_bytes stands.short
+          bytes = front-same a.memory b.memory (buffer_at d.layout one.number) (length one.bytes) receive_buffer_bytes stands.short
               (same one.number elsewhere.known elsewhere.free) ∙ stands.bytes;
           short = stands.short;
         })

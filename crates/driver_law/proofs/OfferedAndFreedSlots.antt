@@ -10,7 +10,7 @@ use Rattle.registers.specs.Bits.{is_set}
 use Rattle.dma_memory.specs.Areas.{AreApart, Area, IsInside, area_at}
 use Rattle.dma_memory.specs.AreaLaws.{inside-apart}
 use Rattle.dma_memory.specs.HostMemory.{LiesIn, bytes_at}
-use Rattle.dma_memory.specs.Layout.{TransmitBuffer, area_of}
+use Rattle.dma_memory.specs.Layout.{TransmitBuffer, area_of, receive_buffer_bytes}
 use Rattle.dma_memory.specs.LayoutLaws.{place-below_size}
 use Rattle.descriptors.specs.Frames.{padded}
 use Rattle.descriptors.specs.Laws.{length-tx_desc_bytes, tx_desc_of-tx_desc_bytes}
@@ -156,11 +156,10 @@ frame_is_offered driver frame world ready room least short stands =
           law = record {
             sound = done.sound;
             runs = done.runs (says.transmittable least lies) ready.law.runs;
-            fit = done.fits ready.law.fit;
-            whole = done.whole ready.law.whole;
+            fit = done.fits receive_buffer_bytes ready.law.fit;
+            whole = done.whole receive_buffer_bytes ready.law.whole;
           };
           lies = ready.lies;
-          size = ready.size;
           receive = ready.receive;
           transmit = record {
             oldest_slot = up.oldest_slot;
@@ -268,7 +267,6 @@ slot_is_freed driver world ready some done =
         whole = ready.law.whole;
       };
       lies = ready.lies;
-      size = ready.size;
       receive = ready.receive;
       transmit = record {
         oldest_slot = next-below n p up.oldest_slot;

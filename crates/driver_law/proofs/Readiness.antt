@@ -2,12 +2,10 @@
 use Rattle.std.proofs.Common.{true, ◌⊎◌, false, Bool, ◌≡◌, ◌≤◌, ◌<◌, ◌+◌, ◌*◌, ◌%◌, ◌++◌, ◌∷◌, [], ℕ, suc, List, length, get_or, map, sym}
 use Rattle.std.proofs.Common.{ap, subst, ◌∙◌, arith}
 use Rattle.std.specs.List.{All}
-use Rattle.registers.specs.Bits.{HasBit, field}
-use Rattle.registers.specs.ReceiveControl.{buffer_size_of}
-use Rattle.rx_engine.specs.Registers.{FilterRegisters}
+use Rattle.registers.specs.Bits.{HasBit}
 use Rattle.dma_memory.specs.Areas.{Area, IsInside, area_at}
 use Rattle.dma_memory.specs.HostMemory.{bytes_at}
-use Rattle.dma_memory.specs.Layout.{Counts, TransmitBuffer, area_of, size_of}
+use Rattle.dma_memory.specs.Layout.{Counts, TransmitBuffer, area_of, size_of, receive_buffer_bytes}
 use Rattle.descriptors.specs.declared.ring.Ring.{Ring}
 use Rattle.descriptors.specs.declared.tx_desc.TxDesc.{TxDesc}
 use Rattle.descriptors.specs.Ring.{HasValidIndices, address_of, offered_places, slots_from}
@@ -133,7 +131,6 @@ ready-kept {up} d staged pool a b ready keeps driver stored stand =
       driver_is = driver;
       law = keeps.law;
       lies = subst (λ (n : ℕ). size_of d.layout ≤ n) (sym keeps.size) ready.lies;
-      size = ap (λ (filter : FilterRegisters). buffer_size_of (field filter.rctl 16 2)) keeps.filter ∙ ready.size;
       receive = knows-carried before behind 0 d.layout.rx (receive_tail d) keeps.receives keeps.receive_head ready.receive;
       transmit = transmit-kept up d.oldest_receive d.layout d.oldest_transmit d.sending a b keeps ready.transmit;
       slots = record {
@@ -159,8 +156,8 @@ keeps-happening {up} d a b past ready happens =
       law = record {
         sound = between.sound;
         runs = between.runs ready.law.runs;
-        fit = between.fits ready.law.fit;
-        whole = between.whole ready.law.whole;
+        fit = between.fits receive_buffer_bytes ready.law.fit;
+        whole = between.whole receive_buffer_bytes ready.law.whole;
       };
       size = steady.size;
       filter = steady.filter;

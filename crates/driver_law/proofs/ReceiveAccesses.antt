@@ -1,12 +1,13 @@
 -- What a driver does with its receive slots over a bus.
-use Rattle.std.proofs.Common.{Bool, ◌≡◌, ◌≤◌, ◌<◌, ◌+◌, ◌*◌, ◌-◌, ◌%◌, ◌++◌, ◌∷◌, [], ℕ, suc, List, length, map, take, drop}
+use Rattle.std.proofs.Common.{◌≡◌, ◌≤◌, ◌<◌, ◌+◌, ◌*◌, ◌-◌, ◌%◌, ◌++◌, ◌∷◌, []}
+use Rattle.std.proofs.Common.{Bool, ℕ, suc, List, length, map, take, drop}
 use Rattle.std.proofs.Common.{refl, sym, ap, subst, ◌∙◌, append_assoc, length-append, arith}
 use Rattle.std.specs.List.{All, concat}
 use Rattle.std.proofs.lemmas.List.{append-nil, drop-drop, drop-take, map-append, take-take}
 use Rattle.std.proofs.lemmas.List.Folds.{concat-append}
 use Rattle.registers.specs.Bits.{is_set}
 use Rattle.dma_memory.specs.HostMemory.{bytes_at}
-use Rattle.dma_memory.specs.Layout.{Counts, buffer_bytes}
+use Rattle.dma_memory.specs.Layout.{Counts, receive_buffer_bytes}
 use Rattle.descriptors.specs.Frames.{longest_frame}
 use Rattle.dma_memory.specs.Owners.{HaveSameNumbers}
 use Rattle.descriptors.specs.Ring.{slots_from}
@@ -186,7 +187,7 @@ pub record TakesFrame {B : Type 0} (bus : Ghosts B) (up : Bool) (seen : List (Li
   pub bytes : map (λ (one : HandedOut). one.bytes) pieces ≡ seen ++ last ∷ []
   pub frame : frame_of pieces ≡ concat seen ++ last
   pub is : AreOfFrame seen last
-  pub few : buffer_bytes * length seen ≤ longest_frame
+  pub few : receive_buffer_bytes * length seen ≤ longest_frame
   pub size : length (take (suc (length seen)) d.buffers) ≡ suc (length seen)
   pub ran : Ran bus up (call_did [] ((concat seen ++ last) ∷ []) []) (at b d)
       (at b (after_slots d (suc (length seen)) (drop (suc (length seen)) d.buffers) (d.handed_out ++ pieces)))

@@ -7,7 +7,7 @@ use Rattle.std.proofs.lemmas.List.Elements.{All-cons, All-map}
 use Rattle.std.proofs.lemmas.List.Kept.{AllPairs-cons}
 use Rattle.dma_memory.specs.Areas.{AreApart, AreSeparate, Area, area_at}
 use Rattle.dma_memory.specs.HostMemory.{LiesIn}
-use Rattle.dma_memory.specs.Layout.{Counts, ReceiveBuffer, ReceiveRing, area_of, buffer_bytes}
+use Rattle.dma_memory.specs.Layout.{Counts, ReceiveBuffer, ReceiveRing, area_of, receive_buffer_bytes}
 use Rattle.dma_memory.specs.LayoutLaws.{begins, places-apart}
 use Rattle.dma_memory.specs.Owners.{copies}
 use Rattle.dma_memory.specs.OwnersLaws.{copies-cons, copies-itself, no_second_from_one, once_from_no_second}
@@ -92,7 +92,7 @@ rings-and-buffers driver world ready true =
     }
 
 -- What the slots name, as the driver's buffers.
-named-buffers : (counts : Counts) (memory : List ℕ) (size : ℕ) (slots numbers : List ℕ) → size ≡ buffer_bytes
+named-buffers : (counts : Counts) (memory : List ℕ) (size : ℕ) (slots numbers : List ℕ) → size ≡ receive_buffer_bytes
     → map (named_address memory) slots ≡ map (buffer_at counts) numbers
     → map (λ slot. area_at (named_address memory slot) size) slots ≡ buffers_of counts numbers
 named-buffers counts memory size slots numbers big same =
@@ -133,11 +133,10 @@ receiver_is_enabled driver control world ready none idle plain big =
       law = record {
         sound = set.same.sound;
         runs = set.runs plain ready.law.runs;
-        fit = set.same.fits (omega (arith, ready.size, big)) ready.law.fit;
-        whole = none-cut o b none idle;
+        fit = set.same.fits receive_buffer_bytes (λ enabled. omega (arith, big)) ready.law.fit;
+        whole = none-cut receive_buffer_bytes o b (λ enabled. big) none idle;
       };
       lies = ready.lies;
-      size = big;
       receive = ready.receive;
       transmit = ready.transmit;
       slots = record { names = ready.slots.names; stored = ready.slots.stored };

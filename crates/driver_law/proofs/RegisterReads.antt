@@ -1,5 +1,6 @@
 -- A register is read.
-use Rattle.std.proofs.Common.{Bool, IsTrue, nat_lt, ◌&&◌, ◌≡◌, ◌≢◌, ◌<◌, ◌+◌, ◌-◌, ◌^◌, [], ℕ, Option, None, Some, length, min, inl}
+use Rattle.std.proofs.Common.{◌&&◌, ◌≡◌, ◌≢◌, ◌<◌, ◌+◌, ◌-◌, ◌^◌, []}
+use Rattle.std.proofs.Common.{Bool, IsTrue, nat_lt, ℕ, Option, None, Some, length, min, inl}
 use Rattle.std.proofs.Common.{refl, sym, ap, subst, ◌∙◌, arith}
 use Rattle.std.proofs.lemmas.Bool.{and_parts, lt-ltb, ltb-true}
 use Rattle.std.proofs.lemmas.List.{append-nil}
@@ -71,7 +72,6 @@ resummed driver missed exact world ready = record {
   };
   law = ready.law;
   lies = ready.lies;
-  size = ready.size;
   receive = ready.receive;
   transmit = ready.transmit;
   slots = record { names = ready.slots.names; stored = ready.slots.stored };

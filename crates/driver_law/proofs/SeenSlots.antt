@@ -1,5 +1,6 @@
 -- What a driver sees of an outstanding receive slot: whether it is finished, and the piece in it.
-use Rattle.std.proofs.Common.{◌≡◌, ◌≤◌, ◌<◌, ◌+◌, ◌-◌, ◌*◌, ◌%◌, ◌++◌, ◌∷◌, [], Bool, true, false, cond, ℕ, zero, suc, List, length, map}
+use Rattle.std.proofs.Common.{◌≡◌, ◌≤◌, ◌<◌, ◌+◌, ◌-◌, ◌*◌, ◌%◌, ◌++◌, ◌∷◌, []}
+use Rattle.std.proofs.Common.{Bool, true, false, cond, ℕ, zero, suc, List, length, map}
 use Rattle.std.proofs.Common.{refl}
 use Rattle.std.proofs.Common.{sym, ap, subst, ◌∙◌, arith}
 use Rattle.std.specs.List.{All, take_while}

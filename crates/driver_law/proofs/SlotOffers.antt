@@ -1,11 +1,13 @@
 -- Staged slots are offered, all by one write of RDT.
 use Rattle.std.proofs.Common.{Bool, ◌≡◌, ◌<◌, ◌+◌, ◌%◌, ◌++◌, ◌∷◌, [], ℕ, List, length, map, refl, sym, ap, subst, ◌∙◌, append_assoc}
+use Rattle.registers.specs.Places.{rctl_en}
+use Rattle.registers.specs.Bits.{HasBit}
 use Rattle.std.proofs.Common.{length-append, arith}
 use Rattle.std.specs.List.{All}
 use Rattle.std.proofs.lemmas.List.{append-nil, map-append}
 use Rattle.dma_memory.specs.Areas.{AreApart, Area, area_at}
 use Rattle.dma_memory.specs.HostMemory.{LiesIn, bytes_at}
-use Rattle.dma_memory.specs.Layout.{ReceiveBuffer, area_of}
+use Rattle.dma_memory.specs.Layout.{ReceiveBuffer, area_of, receive_buffer_bytes}
 use Rattle.dma_memory.specs.LayoutLaws.{place-below_size}
 use Rattle.dma_memory.specs.Owners.{copies}
 use Rattle.dma_memory.specs.OwnersLaws.{copies-cons, copies-itself, copies-push}
@@ -57,7 +59,8 @@ next-offer {up} d m rest a staged ready =
     let is : slot ≡ receive_slot (receive_tail d) = omega (arith, ready.receive.begins, ready.receive.last) in
     let empty = empty-stored a.memory slot at (omega (arith, ends, ready.driver_is.addresses))
     (ap (λ (address : ℕ). bytes_at a.memory address 16) is ∙ here.0) in
-    let stands : buffer_of a slot ≡ area = ap (λ (address : ℕ). area_at address (buffer_size a)) empty.names ∙ ap (area_at at) ready.size in
+    let stands : HasBit a.adapter.filter.rctl rctl_en → buffer_of a slot ≡ area = λ enabled.
+    ap (λ (address : ℕ). area_at address (buffer_size a)) empty.names ∙ ap (area_at at) (ready.law.whole.sized enabled) in
     let moved : next_of ring ring.tail ≡ place n o (i + 1) = ap (λ (count : ℕ). (ring.tail + 1) % count) ready.receive.slots
     ∙ ap (λ (tail : ℕ). (tail + 1) % n) ready.receive.last ∙ sym (place-next n o i) in
     let room : i + 1 < n = omega (arith, ready.driver_is.room, ap length staged) in
@@ -71,9 +74,8 @@ next-offer {up} d m rest a staged ready =
         tail_slot = omega (arith, ready.receive.slots, ready.receive.last, place-below n o i ready.driver_is.oldest_slot);
         room = λ same. places-differ n o 0 (i + 1) ready.driver_is.oldest_slot (omega arith) room (sym (sym moved ∙ same));
         fresh = empty.clear;
-        lies = subst (λ (there : Area). LiesIn a.memory there.address (buffer_of a 0).size) (sym stands)
-            (subst (λ (size : ℕ). LiesIn a.memory at size) (sym ready.size) aside.lies);
-        apart = subst (λ (there : Area). All (λ other. AreApart other there) (areas o a)) (sym stands) aside.apart;
+        lies = λ enabled. subst (λ (there : Area). LiesIn a.memory there.address there.size) (sym (stands enabled)) aside.lies;
+        apart = λ enabled. subst (λ (there : Area). All (λ other. AreApart other there) (areas o a)) (sym (stands enabled)) aside.apart;
       };
     }
 
@@ -101,11 +103,10 @@ goes-offers_one {up} d m rest a staged ready =
       law = record {
         sound = done.same.sound;
         runs = done.runs ready.law.runs;
-        fit = done.same.fits (omega arith) ready.law.fit;
-        whole = done.same.whole refl ready.law.whole;
+        fit = done.same.fits receive_buffer_bytes ready.law.fit.large ready.law.fit;
+        whole = done.same.whole receive_buffer_bytes ready.law.whole.sized ready.law.whole;
       };
       lies = ready.lies;
-      size = ready.size;
       receive = record {
         begins = ready.receive.begins;
         slots = ready.receive.slots;

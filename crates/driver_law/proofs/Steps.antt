@@ -102,9 +102,8 @@ goes-stays {up} d a ready =
       finished_same = refl;
       written_same = refl;
       pieces_same = refl;
-      whole = λ size whole. whole;
-      fits =
-          λ size fits. fits;
+      whole = λ size sized whole. whole;
+      fits = λ size large fits. fits;
     }) refl refl)
     ready
 

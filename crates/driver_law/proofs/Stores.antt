@@ -6,7 +6,7 @@ use Rattle.dma_memory.specs.Areas.{AreApart, area_at}
 use Rattle.dma_memory.specs.AreaLaws.{apart-inside, changes_only_stored}
 use Rattle.dma_memory.specs.HostMemory.{LiesIn, bytes_at, with_bytes}
 use Rattle.dma_memory.specs.Laws.{bytes_at-elsewhere, bytes_at-stored, length-with_bytes}
-use Rattle.dma_memory.specs.Layout.{Counts, ReceiveBuffer, ReceiveRing, area_of}
+use Rattle.dma_memory.specs.Layout.{Counts, ReceiveBuffer, ReceiveRing, area_of, receive_buffer_bytes}
 use Rattle.dma_memory.specs.LayoutLaws.{places-apart}
 use Rattle.dma_memory.specs.OwnersLaws.{copies-cons, copies-push}
 use Rattle.descriptors.specs.declared.rx_desc.RxDesc.{RxDesc}
@@ -54,8 +54,8 @@ keeps-store {up} d a address bytes ready lies own =
       law = record {
         sound = leaves.same.sound;
         runs = leaves.runs ready.law.runs;
-        fit = leaves.same.fits (omega arith) ready.law.fit;
-        whole = leaves.same.whole refl ready.law.whole;
+        fit = leaves.same.fits receive_buffer_bytes ready.law.fit.large ready.law.fit;
+        whole = leaves.same.whole receive_buffer_bytes ready.law.whole.sized ready.law.whole;
       };
       size = length-with_bytes a.memory bytes address lies;
       filter = refl;

@@ -1,5 +1,6 @@
 -- Two intervals of a driver's run join, and no work is forgotten in one.
-use Rattle.std.proofs.Common.{Bool, IsTrue, ◌≡◌, ◌≤◌, ◌<◌, ◌^◌, ◌+◌, ◌++◌, [], ℕ, List, length, refl, inl, inr, ⊎_elim, subst, sym, ap}
+use Rattle.std.proofs.Common.{◌≡◌, ◌≤◌, ◌<◌, ◌^◌, ◌+◌, ◌++◌, [], ⊎_elim}
+use Rattle.std.proofs.Common.{Bool, IsTrue, ℕ, List, length, refl, inl, inr, subst, sym, ap}
 use Rattle.std.proofs.Common.{◌∙◌, add-zero, append_assoc, length-append, arith}
 use Rattle.std.proofs.lemmas.Bool.{cases_lt}
 use Rattle.std.proofs.lemmas.List.{append-nil, nil_from_length}

@@ -1,5 +1,7 @@
 -- The oldest finished receive slots are taken if they contain a whole frame, and buffers come back.
-use Rattle.std.proofs.Common.{inl, Bool, ◌≡◌, ◌≤◌, ◌+◌, ◌++◌, ◌∷◌, [], ℕ, suc, List, length, map, take, drop, refl, sym, ap, subst, ◌∙◌}
+use Rattle.std.proofs.Common.{◌≡◌, ◌≤◌, ◌+◌, ◌++◌, ◌∷◌, [], ◌∙◌}
+use Rattle.dma_memory.specs.Layout.{receive_buffer_bytes}
+use Rattle.std.proofs.Common.{inl, Bool, ℕ, suc, List, length, map, take, drop, refl, sym, ap, subst}
 use Rattle.std.proofs.Common.{length-append, arith}
 use Rattle.std.specs.List.{All, concat, take-map}
 use Rattle.std.proofs.lemmas.List.{append-nil, length-map, length-take, map-append, take-append-drop}
@@ -11,10 +13,9 @@ use Rattle.dma_memory.specs.OwnersLaws.{copies-append}
 use Rattle.descriptors.specs.RingLaws.{length-slots_from, place}
 use Rattle.descriptors.specs.Ring.{slots_from}
 use Rattle.rx_engine.specs.Descriptors.{descriptor_at, named_address}
-use Rattle.rx_engine.specs.Pieces.{IsLastSize, Piece, frames_of, parts}
+use Rattle.rx_engine.specs.Pieces.{Piece, frames_of, parts}
 use Rattle.rx_engine.specs.Pieces.Piece.{Last, Part}
 use Rattle.adapter.specs.Conditions.{AreCut, FitBuffers, Sound}
-use Rattle.adapter.specs.HostAreas.{buffer_size}
 use Rattle.adapter.specs.HostFrames.{finished_pieces, frames_held, frames_to_send, named, piece_in}
 use Rattle.adapter.specs.Slots.{finished, in_work, offered, outstanding}
 use Rattle.adapter.specs.World.{World, receive_ring}
@@ -65,7 +66,7 @@ abbrev Lies : World → ℕ → Type 0
 Lies world slot = LiesIn world.memory (named world.memory slot).address (named world.memory slot).size
 
 abbrev Fits : World → ℕ → Type 0
-Fits world slot = (named world.memory slot).size ≤ buffer_size world
+Fits world slot = (named world.memory slot).size ≤ receive_buffer_bytes
 
 pieces-stand : {up : Bool} (d : DriverState) (world : World) → ReadyWith up d world → (run numbers : List ℕ)
     → map (named_address world.memory) run ≡ map (buffer_at d.layout) numbers
@@ -83,7 +84,7 @@ pieces-stand d world ready (slot ∷ run) (number ∷ numbers) names lie fit =
     All-cons (Stands d.layout world.memory) (record { number = number; bytes = frame_named world slot }) (pieces_in world run numbers)
     (record {
       bytes = ap (bytes_at world.memory (buffer_at d.layout number)) size ∙ sym stands;
-      short = omega (arith, size, all-head (Fits world) slot run fit, ready.size);
+      short = omega (arith, size, all-head (Fits world) slot run fit);
     })
     (pieces-stand d world ready run numbers same.1 (all-tail (Lies world) slot run lie) (all-tail (Fits world) slot run fit))
 
@@ -93,8 +94,8 @@ record IsNextOldest (d : DriverState) (world : World) (run later : List ℕ) (fr
   held : frames_held d.oldest_receive world ≡ frame ∷ frames_held next world
   ended : frames_of (finished_pieces d.oldest_receive world) ≡ frame ∷ frames_of (finished_pieces next world)
   first : outstanding (receive_ring world) d.oldest_receive ≡ run ++ outstanding (receive_ring world) next
-  fits : FitBuffers next world
-  whole : AreCut next world
+  fits : FitBuffers receive_buffer_bytes next world
+  whole : AreCut receive_buffer_bytes next world
 
 run-taken : {up : Bool} (d : DriverState) (numbers run : List ℕ) (seen : List (List ℕ)) (last : List ℕ) (world : World)
     → ReadyWith up d world
@@ -119,8 +120,8 @@ run_can_be_taken up d numbers run seen last a ready contain =
       held = taken.held;
       ended = taken.ended;
       first = taken.first;
-      fits = taken.fits ready.law.fit;
-      whole = (taken.cut ready.law.whole).others;
+      fits = taken.fits receive_buffer_bytes ready.law.fit;
+      whole = (taken.cut receive_buffer_bytes ready.law.whole).others;
     } in
     let at : IsNextOldest d a run contain.later frame next = subst (IsNextOldest d a run contain.later frame)
     (ap (λ (count : ℕ). place count o (length run)) ready.receive.slots ∙ ap (place n o) (sym contain.count)) here in
@@ -165,7 +166,6 @@ run_can_be_taken up d numbers run seen last a ready contain =
             whole = at.whole;
           };
           lies = ready.lies;
-          size = ready.size;
           receive = record {
             begins = ready.receive.begins;
             slots = ready.receive.slots;
@@ -194,17 +194,17 @@ run_can_be_taken up d numbers run seen last a ready contain =
 pub run_is_of_frame : RunIsOfFrame
 run_is_of_frame up d numbers run seen last a ready contain =
     let taken = run-taken d numbers run seen last a ready contain in
-    let cut = taken.cut ready.law.whole in (
+    let cut = taken.cut receive_buffer_bytes ready.law.whole in (
       record {
         legal = cut.legal;
-        full = subst (λ (size : ℕ). All (λ bytes. length bytes ≡ size) seen) ready.size cut.full;
-        last_size = subst (λ (size : ℕ). IsLastSize size (length last)) ready.size cut.last_size;
+        full = cut.full;
+        last_size = cut.last_size;
       },
       bytes-in a run numbers contain.count ∙ taken.bytes,
     )
 
 pub parts_are_few : PartsAreFew
-parts_are_few up d seen later world ready is = parts-few d.oldest_receive world seen later ready.size ready.law.whole is
+parts_are_few up d seen later world ready is = parts-few d.oldest_receive world seen later ready.law.whole is
 
 -- The pieces show which slots contain the frame: the first ones, with the first buffers.
 
@@ -267,9 +267,8 @@ buffers_can_come_back up d pool handed_out a ready moves stand =
       finished_same = refl;
       written_same = refl;
       pieces_same = refl;
-      whole = λ size whole. whole;
-      fits =
-          λ size fits. fits;
+      whole = λ size sized whole. whole;
+      fits = λ size large fits. fits;
     }) refl refl)
     (record {
       driver_is = record {
@@ -281,7 +280,6 @@ buffers_can_come_back up d pool handed_out a ready moves stand =
       };
       law = ready.law;
       lies = ready.lies;
-      size = ready.size;
       receive = ready.receive;
       transmit = ready.transmit;
       slots = record { names = ready.slots.names; stored = ready.slots.stored };

@@ -5,7 +5,7 @@ use Rattle.registers.specs.Bits.{HasBit}
 use Rattle.registers.specs.Kept.{causes_of}
 use Rattle.registers.specs.Laws.{HasBit-union}
 use Rattle.dma_memory.specs.Areas.{IsInside}
-use Rattle.dma_memory.specs.Layout.{TransmitBuffer, area_of}
+use Rattle.dma_memory.specs.Layout.{TransmitBuffer, area_of, receive_buffer_bytes}
 use Rattle.descriptors.specs.Ring.{slots_from}
 use Rattle.rx_engine.specs.Pieces.{frames_of}
 use Rattle.adapter.specs.HostAreas.{data_of}
@@ -34,11 +34,10 @@ transmitter_is_enabled driver control world ready below knows pads =
       law = record {
         sound = leaves.same.sound;
         runs = leaves.runs ready.law.runs;
-        fit = leaves.same.fits (omega arith) ready.law.fit;
-        whole = leaves.same.whole refl ready.law.whole;
+        fit = leaves.same.fits receive_buffer_bytes ready.law.fit.large ready.law.fit;
+        whole = leaves.same.whole receive_buffer_bytes ready.law.whole.sized ready.law.whole;
       };
       lies = ready.lies;
-      size = ready.size;
       receive = ready.receive;
       transmit = record {
         oldest_slot = below;

@@ -6,10 +6,10 @@ use Rattle.std.proofs.lemmas.List.Kept.{AllPairs-cons}
 use Rattle.dma_memory.specs.Areas.{AreApart, AreSeparate, Area, area_at}
 use Rattle.dma_memory.specs.AreaLaws.{apart-inside, apart-sym, inside-apart, lies-inside}
 use Rattle.dma_memory.specs.HostMemory.{LiesIn}
-use Rattle.dma_memory.specs.Layout.{ReceiveBuffer, ReceiveRing, TransmitRing, area_of}
+use Rattle.dma_memory.specs.Layout.{ReceiveBuffer, ReceiveRing, TransmitRing, area_of, receive_buffer_bytes}
 use Rattle.dma_memory.specs.LayoutLaws.{place-below_size, places-apart}
 use Rattle.rx_engine.specs.Descriptors.{named_address}
-use Rattle.adapter.specs.HostAreas.{buffer_of, buffer_size, data_of, frame_areas, offered_buffers, ring_area, work_areas}
+use Rattle.adapter.specs.HostAreas.{data_of, frame_areas, offered_buffers, ring_area, work_areas}
 use Rattle.adapter.specs.HostFrames.{named, piece_in}
 use Rattle.adapter.specs.Rings.{new_ring, ring_of}
 use Rattle.adapter.specs.Slots.{finished, is_done, outstanding}
@@ -53,14 +53,14 @@ separate-replaced memory first old area rest separate lies apart away =
 -- The receive buffers that outstanding slots name are apart from an area if the layout keeps them apart from it.
 pub outstanding-buffers : {up : Bool} (driver : DriverState) (world : World) (area : Area) → ReadyWith up driver world
     → ((number : ℕ) → number < driver.layout.buffers → AreApart (area_of driver.layout (ReceiveBuffer number)) area)
-    → All (λ slot. AreApart (buffer_of world slot) area) (outstanding (receive_ring world) driver.oldest_receive)
+    → All (λ slot. AreApart (area_at (named_address world.memory slot) receive_buffer_bytes) area)
+    (outstanding (receive_ring world) driver.oldest_receive)
 outstanding-buffers driver world area ready away =
     let counts = driver.layout in
-    let Away : ℕ → Type 0 = λ address. AreApart (area_at address (buffer_size world)) area in
+    let Away : ℕ → Type 0 = λ address. AreApart (area_at address receive_buffer_bytes) area in
     let each : All Away (map (buffer_at counts) driver.buffers) = All-map Away (buffer_at counts) driver.buffers
     (all-copies (λ number. Away (buffer_at counts number)) driver.buffers (λ number some.
-    subst (λ (size : ℕ). AreApart (area_at (buffer_at counts number) size) area) (sym ready.size)
-    (away number (outstanding-number driver number ready.driver_is some)))) in
+    away number (outstanding-number driver number ready.driver_is some))) in
     all-unmapped Away (named_address world.memory) (outstanding (receive_ring world) driver.oldest_receive)
     (subst (λ (list : List ℕ). All Away list) (sym ready.slots.names) each)
 
@@ -108,7 +108,7 @@ place-away driver world ready =
     let bare = with_transmit_ring new_ring world in
     let set = ring-set driver new_ring world ready refl (omega arith) (inr (omega arith)) (λ k d below. inl (omega arith)) in
     let Apart : Area → Type 0 = λ other. AreApart other area in
-    let spare : IsSpare o 0 bare area = record {
+    let spare : IsSpare receive_buffer_bytes o 0 bare area = record {
       receive_slots = subst Apart (sym (known-area _ _ _ _ ready.receive))
           (places-apart driver.layout ReceiveRing TransmitRing tt tt (λ same. absurd (cc)));
       transmit_slots = inl (omega arith);
@@ -117,7 +117,7 @@ place-away driver world ready =
       sources = subst (λ (slots : List ℕ). All (λ slot. AreApart (data_of world.memory slot) area) slots) (sym set.none_outstanding)
           (all-none _);
     } in
-    let all = spare-apart o 0 bare area set.sound (set.fits ready.law.fit) spare in
+    let all = spare-apart receive_buffer_bytes o 0 bare area set.sound (set.fits receive_buffer_bytes ready.law.fit) spare in
     let behind = all-tail Apart (ring_area (transmit_ring bare)) (frame_areas o bare)
     (all-tail Apart (ring_area (receive_ring bare)) (ring_area (transmit_ring bare) ∷ frame_areas o bare) all) in
     subst (λ (list : List Area). All Apart list) (areas-idle o bare refl) behind
@@ -147,11 +147,10 @@ transmit_ring_is_written driver ring world ready idle inside =
       law = record {
         sound = set.sound;
         runs = set.runs ready.law.runs;
-        fit = set.fits ready.law.fit;
-        whole = cut-kept o world b refl set.finished_same (λ k d below. refl) refl ready.law.whole;
+        fit = set.fits receive_buffer_bytes ready.law.fit;
+        whole = cut-kept receive_buffer_bytes o world b ready.law.whole.sized set.finished_same (λ k d below. refl) refl ready.law.whole;
       };
       lies = ready.lies;
-      size = ready.size;
       receive = ready.receive;
       transmit = record {
         ends = omega (arith, inside.to);

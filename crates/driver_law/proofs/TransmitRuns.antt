@@ -7,7 +7,7 @@ use Rattle.dma_memory.specs.Areas.{IsInside, area_at}
 use Rattle.dma_memory.specs.AreaLaws.{apart-inside, inside-apart}
 use Rattle.dma_memory.specs.HostMemory.{LiesIn, bytes_at}
 use Rattle.dma_memory.specs.Laws.{bytes_at-elsewhere, bytes_at-stored}
-use Rattle.dma_memory.specs.Layout.{TransmitBuffer, TransmitRing, area_of}
+use Rattle.dma_memory.specs.Layout.{TransmitBuffer, TransmitRing, area_of, transmit_buffer_bytes}
 use Rattle.dma_memory.specs.LayoutLaws.{places-apart}
 use Rattle.descriptors.specs.Frames.{padded}
 use Rattle.descriptors.specs.Ring.{next_of, slots_from}
@@ -43,7 +43,8 @@ bytes-stay : (d : DriverState) (frame : List ℕ) → length frame ≤ 1518 → 
     → HasBytes d frame a → HasBytes d frame b
 bytes-stay d frame short a b past ready happens has =
     let same = slots_keep_bytes d (transmit_tail d) a b past ready (next_slot_belongs_to_driver d a ready) happens in
-    front-same a.memory b.memory (transmit_buffer d.layout (transmit_tail d)) (length frame) 2048 (omega (arith, short)) same.data_same
+    front-same a.memory b.memory (transmit_buffer d.layout (transmit_tail d)) (length frame) transmit_buffer_bytes
+    (omega (arith, short)) same.data_same
     ∙ has
 
 stands-stay : (d : DriverState) (frame : List ℕ) → length frame ≤ 1518 → (a b : World) (past : Past) → Ready d a → Happens a b past

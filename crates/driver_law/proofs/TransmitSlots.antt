@@ -7,6 +7,7 @@ use Rattle.dma_memory.specs.AreaLaws.{apart-inside, apart-sym, inside-apart}
 use Rattle.dma_memory.specs.HostMemory.{LiesIn, with_bytes}
 use Rattle.dma_memory.specs.Laws.{bytes_at-elsewhere}
 use Rattle.dma_memory.specs.Layout.{ReceiveBuffer, ReceiveRing, TransmitBuffer, TransmitRing, area_of}
+use Rattle.dma_memory.specs.Layout.{receive_buffer_bytes, transmit_buffer_bytes}
 use Rattle.dma_memory.specs.LayoutLaws.{place-below_size, places-apart}
 use Rattle.descriptors.specs.Ring.{address_of, slots_from}
 use Rattle.descriptors.specs.RingLaws.{place}
@@ -85,7 +86,7 @@ sources-apart driver slot world ready own =
 -- so no outstanding slot uses it.
 buffer-spare : (driver : DriverState) (slot : ℕ) (world : World) → Ready driver world
     → IsDriversSlot (transmit_ring world) driver.oldest_transmit slot
-    → IsSpare driver.oldest_receive driver.oldest_transmit world (area_of driver.layout (TransmitBuffer slot))
+    → IsSpare receive_buffer_bytes driver.oldest_receive driver.oldest_transmit world (area_of driver.layout (TransmitBuffer slot))
 buffer-spare driver slot world ready own =
     let counts = driver.layout in
     let area = area_of counts (TransmitBuffer slot) in
@@ -104,7 +105,7 @@ buffer-spare driver slot world ready own =
 -- It lies in memory, a store to its first bytes leaves what the law speaks of, and the adapter doesn't write it.
 pub record DriversBuffer (driver : DriverState) (slot : ℕ) (world : World) : Type 0 where
   pub below : slot < driver.layout.tx
-  pub lies : LiesIn world.memory (transmit_buffer driver.layout slot) 2048
+  pub lies : LiesIn world.memory (transmit_buffer driver.layout slot) transmit_buffer_bytes
   pub apart : All (λ other. AreApart other (area_of driver.layout (TransmitBuffer slot))) (areas driver.oldest_receive world)
   pub foreign : IsForeign world (area_of driver.layout (TransmitBuffer slot))
 
@@ -120,11 +121,12 @@ drivers-buffer driver slot world ready own =
     record {
       below = below;
       lies = omega (arith, ends, ready.lies);
-      apart = spare-apart o p world area ready.law.sound ready.law.fit spare;
-      foreign = spare-foreign o p world area ready.law.sound ready.law.fit spare;
+      apart = spare-apart receive_buffer_bytes o p world area ready.law.sound ready.law.fit spare;
+      foreign = spare-foreign receive_buffer_bytes o p world area ready.law.sound ready.law.fit spare;
     }
 
-buffer-own : (driver : DriverState) (slot size : ℕ) (world : World) → Ready driver world → DriversBuffer driver slot world → size ≤ 2048
+buffer-own : (driver : DriverState) (slot size : ℕ) (world : World) → Ready driver world → DriversBuffer driver slot world
+    → size ≤ transmit_buffer_bytes
     → IsDriversArea driver.oldest_receive driver.oldest_transmit world (area_at (transmit_buffer driver.layout slot) size)
 buffer-own driver slot size world ready buffer short =
     let o = driver.oldest_receive in

@@ -1,6 +1,7 @@
 -- Whatever happens in initialization, no frame arrives while RCTL.EN is 0, and the registers of a transmit ring that is off are the same.
-use Rattle.std.proofs.Common.{◌≡◌, ◌++◌, ℕ, List, sym, ap, subst, ◌∙◌}
+use Rattle.std.proofs.Common.{◌≡◌, ◌++◌, ℕ, List, sym, ap, subst, ◌∙◌, arith}
 use Rattle.std.proofs.lemmas.List.{append-nil}
+use Rattle.dma_memory.specs.Layout.{receive_buffer_bytes}
 use Rattle.registers.specs.Bits.{HasBit}
 use Rattle.rx_engine.specs.Registers.{FilterRegisters}
 use Rattle.adapter.specs.HostFrames.{frames_held}
@@ -21,7 +22,8 @@ no_frame_comes up driver a b past ready happens waits =
 
 pub nothing_is_held : NothingIsHeld
 nothing_is_held up driver world ready waits =
-    let none = holds-none driver.oldest_receive driver.oldest_transmit world ready.law.sound ready.law.whole waits.none in
+    let none = holds-none receive_buffer_bytes driver.oldest_receive driver.oldest_transmit world ready.law.sound (omega arith)
+    ready.law.whole waits.none in
     (none.none_finished, none.no_work)
 
 pub rings_that_are_off_stay : RingsThatAreOffStay

@@ -4,7 +4,7 @@ use Rattle.adapter.specs.declared.offsets.TheConstants.{IMS}
 use Rattle.registers.specs.Bits.{HasBit, union}
 use Rattle.registers.specs.Kept.{causes_of}
 use Rattle.dma_memory.specs.Areas.{IsInside, area_at}
-use Rattle.dma_memory.specs.Layout.{Counts, TransmitRing, area_of, buffer_bytes, size_of}
+use Rattle.dma_memory.specs.Layout.{Counts, TransmitRing, area_of, receive_buffer_bytes, size_of}
 use Rattle.adapter.specs.HostAreas.{buffer_size, ring_area}
 use Rattle.adapter.specs.HostFrames.{finished_pieces, frames_held, frames_to_send}
 use Rattle.adapter.specs.Rings.{ring_of}
@@ -46,7 +46,8 @@ pub record HasBegun (up : Bool) (counts : Counts) (pool : List ℕ) (world : Wor
   pub idle : IsIdle world
   pub runs : CanRun world
   pub lies : size_of counts ≤ length world.memory
-  pub size : buffer_size world ≡ buffer_bytes
+  -- RCTL.BSIZE names the size of the layout's receive buffers while RCTL.EN is set.
+  pub sized : HasBit world.adapter.filter.rctl rctl_en → buffer_size world ≡ receive_buffer_bytes
   pub receive : KnowsRing (receive_ring world) 0 counts.rx 0
   pub transmit : TransmitIs up counts 0 0 world.memory (transmit_ring world) world.adapter.transmit_control world.adapter.transmitter.buffer
 
@@ -75,12 +76,12 @@ TransmitterIsEnabled =
     → Goes (driver_in driver world) (driver_in driver (with_transmit_control control world)) (driver_did [] []) nothing
 
 -- RCTL is written, with EN or without it, while no receive slot is finished or in progress and the transmit side is off. BSEX is 0, and
--- buffers have 2,048 bytes.
+-- BSIZE names the size of the layout's receive buffers.
 abbrev pub ReceiverIsEnabled : Type 0
 ReceiverIsEnabled =
     (driver : DriverState) (control : ℕ) (world : World) → ReadyWith false driver world
     → finished driver.oldest_receive world ≡ [] → world.adapter.receiver.work ≡ None → ¬ (HasBit control rctl_bsex)
-    → buffer_size (with_receive_control control world) ≡ buffer_bytes
+    → buffer_size (with_receive_control control world) ≡ receive_buffer_bytes
     → GoesTo false (driver_in driver world) (driver_in driver (with_receive_control control world)) (driver_did [] []) nothing
 
 -- Causes were enabled, and nothing else happened.

@@ -1,6 +1,7 @@
 -- A driver's calls: a driver in its world, what it did in an interval, and what changed. `Ran` and `WhereReady` state this over any bus
 -- that obeys the law. The order of the accesses is our choice.
-use Rattle.std.specs.Prelude.{◌≡◌, ◌≤◌, ◌<◌, ◌⊎◌, ◌^◌, ◌+◌, ◌-◌, ◌%◌, ◌++◌, ◌∷◌, ◌&&◌, ℕ, Bool, true, List, [], IsTrue, length, map}
+use Rattle.std.specs.Prelude.{◌≡◌, ◌≤◌, ◌<◌, ◌⊎◌, ◌^◌, ◌+◌, ◌-◌, ◌%◌, ◌++◌, ◌∷◌, ◌&&◌, []}
+use Rattle.std.specs.Prelude.{ℕ, Bool, true, List, IsTrue, length, map}
 use Rattle.std.specs.Prelude.{min, nat_lt}
 use Rattle.registers.specs.Bits.{HasBit, union}
 use Rattle.registers.specs.Counting.{greatest_count}

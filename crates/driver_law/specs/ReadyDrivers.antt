@@ -3,7 +3,7 @@ use Rattle.std.specs.Prelude.{⊤, ◌≡◌, ◌≤◌, ◌<◌, ◌+◌, ◌*�
 use Rattle.registers.specs.Bits.{HasBit}
 use Rattle.dma_memory.specs.Areas.{IsInside}
 use Rattle.dma_memory.specs.HostMemory.{bytes_at}
-use Rattle.dma_memory.specs.Layout.{Counts, TransmitBuffer, area_of, buffer_bytes, size_of}
+use Rattle.dma_memory.specs.Layout.{Counts, TransmitBuffer, area_of, receive_buffer_bytes, size_of}
 use Rattle.dma_memory.specs.Owners.{HasOneOwner}
 use Rattle.descriptors.specs.declared.ring.Ring.{Ring}
 use Rattle.descriptors.specs.Ring.{count_of, slots_from}
@@ -14,7 +14,7 @@ use Rattle.registers.specs.Places.{tctl_psp}
 use Rattle.rx_engine.specs.Descriptors.{named_address}
 use Rattle.tx_engine.specs.Transmitter.{Queued}
 use Rattle.adapter.specs.Conditions.{AreCut, FitBuffers, Sound}
-use Rattle.adapter.specs.HostAreas.{buffer_size, data_of}
+use Rattle.adapter.specs.HostAreas.{data_of}
 use Rattle.adapter.specs.KnownRing.{KnowsRing}
 use Rattle.adapter.specs.Running.{CanRun}
 use Rattle.adapter.specs.Slots.{outstanding}
@@ -48,7 +48,7 @@ AreStored memory counts slot (number ∷ later) =
 -- A piece of a frame that others hold is in its buffer.
 pub record Stands (counts : Counts) (memory : List ℕ) (one : HandedOut) : Type 0 where
   pub bytes : bytes_at memory (buffer_at counts one.number) (length one.bytes) ≡ one.bytes
-  pub short : length one.bytes ≤ buffer_bytes
+  pub short : length one.bytes ≤ receive_buffer_bytes
 
 -- The transmit side is set up: the driver knows its ring, and the data of each outstanding slot is in that slot's own buffer.
 pub record TransmitIsUp (counts : Counts) (oldest sending : ℕ) (memory : List ℕ) (ring : Ring) (control : ℕ) : Type 0 where
@@ -79,9 +79,9 @@ pub record MeetsLaw (oldest_receive oldest_transmit : ℕ) (world : World) : Typ
   pub sound : Sound oldest_receive oldest_transmit world
   pub runs : CanRun world
   -- A receive buffer is large enough for each finished piece of a frame, and for the one that is being stored.
-  pub fit : FitBuffers oldest_receive world
-  -- Frames are cut into buffers of one size, and finished descriptors have no errors.
-  pub whole : AreCut oldest_receive world
+  pub fit : FitBuffers receive_buffer_bytes oldest_receive world
+  -- Frames are cut into receive buffers, whose size RCTL.BSIZE names while RCTL.EN is set, and finished descriptors have no errors.
+  pub whole : AreCut receive_buffer_bytes oldest_receive world
 
 -- The descriptors of receive slots in memory agree with the driver's state.
 pub record SlotsAreStored (driver : DriverState) (world : World) : Type 0 where
@@ -97,8 +97,6 @@ pub record ReadyWith (up : Bool) (driver : DriverState) (world : World) : Type 0
   pub law : MeetsLaw driver.oldest_receive driver.oldest_transmit world
   -- Memory contains the whole layout.
   pub lies : size_of driver.layout ≤ length world.memory
-  -- RCTL.BSIZE is the size of the layout's receive buffers.
-  pub size : buffer_size world ≡ buffer_bytes
   pub receive : KnowsRing (receive_ring world) 0 driver.layout.rx (receive_tail driver)
   pub transmit : TransmitIs up driver.layout driver.oldest_transmit driver.sending world.memory
       (transmit_ring world) world.adapter.transmit_control world.adapter.transmitter.buffer

@@ -1,7 +1,7 @@
 -- What a driver does with its receive slots. Each step is an interval of its run.
 use Rattle.std.specs.Prelude.{◌≡◌, ◌≤◌, ◌<◌, ◌+◌, ◌*◌, ◌++◌, ◌∷◌, ℕ, Bool, List, [], All, length, map}
 use Rattle.dma_memory.specs.Owners.{HaveSameNumbers, copies}
-use Rattle.dma_memory.specs.Layout.{buffer_bytes}
+use Rattle.dma_memory.specs.Layout.{receive_buffer_bytes}
 use Rattle.descriptors.specs.Frames.{IsLegal, longest_frame}
 use Rattle.descriptors.specs.RingLaws.{place}
 use Rattle.std.specs.List.{concat}
@@ -67,8 +67,8 @@ RunCanBeTaken =
 -- The pieces of a legal frame are joined in the buffers: each fills its buffer but the last, which has at least one byte.
 pub record AreOfFrame (seen : List (List ℕ)) (last : List ℕ) : Type 0 where
   pub legal : IsLegal (concat seen ++ last)
-  pub full : All (λ bytes. length bytes ≡ buffer_bytes) seen
-  pub last_size : IsLastSize buffer_bytes (length last)
+  pub full : All (λ bytes. length bytes ≡ receive_buffer_bytes) seen
+  pub last_size : IsLastSize receive_buffer_bytes (length last)
 
 abbrev pub RunIsOfFrame : Type 0
 RunIsOfFrame =
@@ -81,7 +81,7 @@ RunIsOfFrame =
 abbrev pub PartsAreFew : Type 0
 PartsAreFew =
     (up : Bool) (d : DriverState) (seen : List (List ℕ)) (later : List Piece) (world : World) → ReadyWith up d world
-    → finished_pieces d.oldest_receive world ≡ parts seen ++ later → buffer_bytes * length seen ≤ longest_frame
+    → finished_pieces d.oldest_receive world ≡ parts seen ++ later → receive_buffer_bytes * length seen ≤ longest_frame
 
 -- Buffers whose pieces others held come back into the pool.
 abbrev pub BuffersCanComeBack : Type 0

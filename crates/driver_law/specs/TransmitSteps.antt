@@ -3,7 +3,7 @@ use Rattle.std.specs.Prelude.{⊤, ◌≡◌, ◌≤◌, ◌<◌, ◌+◌, ◌-�
 use Rattle.adapter.specs.declared.offsets.TheConstants.{TDT}
 use Rattle.dma_memory.specs.Areas.{bytes_in}
 use Rattle.dma_memory.specs.HostMemory.{bytes_at}
-use Rattle.dma_memory.specs.Layout.{Counts, TransmitBuffer, area_of, buffer_bytes, descriptor_bytes}
+use Rattle.dma_memory.specs.Layout.{Counts, TransmitBuffer, area_of, transmit_buffer_bytes, descriptor_bytes}
 use Rattle.descriptors.specs.Frames.{longest_frame, padded, shortest_sent}
 use Rattle.adapter.specs.HostFrames.{frames_to_send}
 use Rattle.adapter.specs.Slots.{is_done, written_back}
@@ -37,7 +37,7 @@ NextSlotBelongsToDriver =
 abbrev pub DataIsStored : Type 0
 DataIsStored =
     (driver : DriverState) (slot : ℕ) (bytes : List ℕ) (world : World) → Ready driver world → IsDriversTransmitSlot driver slot world
-    → length bytes ≤ buffer_bytes
+    → length bytes ≤ transmit_buffer_bytes
     → Goes (driver_in driver world) (driver_in driver (world_after_store (transmit_buffer driver.layout slot) bytes world))
     (driver_did [] []) nothing
 

@@ -11,7 +11,7 @@ use solo_bus::SoloBus;
 use std::alloc::{AllocError, Global};
 
 /// The bytes that rings of 8 slots and 16 receive buffers need.
-pub(crate) const NEEDED: u64 = 51_200;
+pub(crate) const NEEDED: u64 = 22_528;
 
 /// The adapter's Ethernet address.
 pub(crate) const ADDRESS: [u8; 6] = [0x02, 0, 0, 0, 0, 0x01];
@@ -73,7 +73,7 @@ impl Bus for FakeBus {
     ghost use Rattle.adapter.specs.Registers.{new_adapter};
     ghost use Rattle.mdic_phy.specs.declared.phy.Link.TheVariants.{Never};
 
-    ghost extent = { λ bus. 51200 };
+    ghost extent = { λ bus. 22528 };
 
     ghost honest = { λ bus. ⊥ };
 

@@ -30,7 +30,7 @@ const BROUGHT_UP: [(u32, u32); 20] = [
     (RDT, 7),
     (TDH, 0),
     (TDT, 0),
-    (RCTL, 0x0400_8002),
+    (RCTL, 0x0403_8002),
     (TCTL, 0x0004_00FA),
     (CTRL, 0x0000_0060),
     (STATUS, 0x0000_0083),
@@ -216,7 +216,7 @@ fn an_adapter_is_brought_up(rt: HostRuntime) -> Result<(), Fail> {
     let alloc = rt.alloc();
     let image = Image::with_address([0x02, 0, 0, 0, 0, 0x01]);
     let adapter = Adapter::new(alloc, &image, Link::After(3))?;
-    let memory = HostMemory::new(alloc, 51_200)?;
+    let memory = HostMemory::new(alloc, 22_528)?;
     let mut bus = SoloBus::new(alloc, adapter, memory, true)?; // a lively one
     let config = Config {
         rx: 8,

@@ -16,7 +16,7 @@ use std::test::Fail;
 fn the_code_of_the_readme_of_driver(rt: HostRuntime) -> Result<(), Fail> {
     let image = Image::with_address([0x02, 0, 0, 0, 0, 0x01]);
     let adapter = Adapter::new(rt.alloc(), &image, Link::After(3))?;
-    let memory = HostMemory::new(rt.alloc(), 51_200)?;
+    let memory = HostMemory::new(rt.alloc(), 22_528)?;
     let mut bus = SoloBus::new(rt.alloc(), adapter, memory, true)?; // a lively one
     let config = Config {
         rx: 8, // receive slots

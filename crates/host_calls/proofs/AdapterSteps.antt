@@ -8,7 +8,7 @@ use Rattle.std.proofs.lemmas.Bool.Decides.{eqb_tells}
 use Rattle.std.proofs.lemmas.List.{length-drop, length-take}
 use Rattle.std.proofs.lemmas.List.Elements.{All-cons}
 use Rattle.circular_buffer.proofs.Places.{slice_get-some}
-use Rattle.dma_memory.specs.Layout.{buffer_bytes}
+use Rattle.dma_memory.specs.Layout.{receive_buffer_bytes}
 use Rattle.rx_engine.specs.Moving.{left_bytes}
 use Rattle.rx_engine.specs.Receiver.{oldest}
 use Rattle.rx_engine.specs.declared.engine.Work.{Work}
@@ -251,7 +251,7 @@ moved-steps place a b h stands free takes =
     let ends : count_ends (world_at b place) ≡ 1 = ap (λ (w : World). count_ends w) takes.world in
     let short = leb-true (left_bytes engine) (buffer_size world) takes.answers.2 in
     let one = left-last engine.moved engine.buffer some takes.adapter.receiver.frames takes.adapter.receiver.begun
-    (omega (arith, short, stands.ready.ready.size)) in
+    (omega (arith, short, stands.ready.ready.law.whole.sized stands.enabled)) in
     let pending = before.1 (count_line world.adapter.causes) in
     let pending' = behind.1 (count_line (world_at b place).adapter.causes) in
     step-on 1 1 place RxData outcome.Moved a b h (inl refl) stands takes refl (omega (arith, long, fewer))
@@ -272,17 +272,18 @@ part-steps place a b h stands free takes =
     (λ none. let e = sym (ap (λ (w : World). w.adapter.receiver.work) takes.world) ∙ none in absurd (cc e)) in
     let same : count_buffered (world_at b place) ≡ count_buffered world = ap (λ (w : World). count_buffered w) takes.world in
     let more = leb-false (left_bytes engine) (buffer_size world) takes.answers.2 in
-    let size : piece_size world.adapter ≡ buffer_bytes =
+    let sized : buffer_size world ≡ receive_buffer_bytes = stands.ready.ready.law.whole.sized stands.enabled in
+    let size : piece_size world.adapter ≡ receive_buffer_bytes =
     omega (
       arith,
       length-take (buffer_size world) (drop engine.moved (oldest engine.buffer)),
       length-drop engine.moved (oldest engine.buffer),
       more,
-      stands.ready.ready.size,
+      sized,
     ) in
-    let left : count_left (world_at b place) ≡ pieces_left (engine.moved + buffer_bytes) engine.buffer =
+    let left : count_left (world_at b place) ≡ pieces_left (engine.moved + receive_buffer_bytes) engine.buffer =
     ap (λ (w : World). count_left w) takes.world ∙ ap (λ (n : ℕ). pieces_left (engine.moved + n) engine.buffer) size in
-    let one = left-part engine.moved engine.buffer (omega (arith, more, stands.ready.ready.size)) in
+    let one = left-part engine.moved engine.buffer (omega (arith, more, sized)) in
     let pending = before.1 (count_line world.adapter.causes) in
     let pending' = behind.1 (count_line (world_at b place).adapter.causes) in
     step-on 1 0 place RxData outcome.Part a b h (inl refl) stands takes refl (omega (arith, same))

@@ -1,5 +1,6 @@
 -- When a drain ends, and what it did.
-use Rattle.std.proofs.Common.{◌≡◌, ◌≢◌, ◌≤◌, ◌<◌, ◌+◌, ◌*◌, ◌^◌, ◌++◌, ◌∷◌, [], ℕ, zero, suc, None, Some, List, Option, bit_and}
+use Rattle.std.proofs.Common.{◌≡◌, ◌≢◌, ◌≤◌, ◌<◌, ◌+◌, ◌*◌, ◌^◌, ◌++◌, ◌∷◌, []}
+use Rattle.std.proofs.Common.{ℕ, zero, suc, None, Some, List, Option, bit_and}
 use Rattle.std.proofs.Common.{length, map}
 use Rattle.std.proofs.Common.{refl, sym, ap, subst, ◌∙◌, arith, replicate, length-append, ⊎_elim}
 use Rattle.std.proofs.lemmas.List.{append-nil, length-map}

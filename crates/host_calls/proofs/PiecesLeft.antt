@@ -1,18 +1,18 @@
 -- The pieces of frames, counted.
-use Rattle.std.proofs.Common.{◌≡◌, ◌≢◌, ◌≤◌, ◌<◌, ◌+◌, ◌-◌, ◌*◌, ◌++◌, ◌∷◌, [], ℕ, suc, Bool, true, false, if◌then◌else◌}
+use Rattle.std.proofs.Common.{◌≡◌, ◌≢◌, ◌≤◌, ◌<◌, ◌+◌, ◌-◌, ◌*◌, ◌++◌, ◌∷◌, []}
+use Rattle.std.proofs.Common.{ℕ, suc, Bool, true, false, if◌then◌else◌}
 use Rattle.std.proofs.Common.{List, Option, Some, None, drop, length, length-append, take, refl, sym, ap, ◌∙◌, arith}
 use Rattle.std.specs.List.{All}
 use Rattle.std.proofs.lemmas.List.{length-take}
 use Rattle.std.proofs.lemmas.List.Sums.{sum_by-append, sum_by-cons}
 use Rattle.descriptors.specs.Frames.{IsLegal}
-use Rattle.dma_memory.specs.Layout.{buffer_bytes}
+use Rattle.dma_memory.specs.Layout.{receive_buffer_bytes}
 use Rattle.rx_engine.specs.Held.{bytes_of_work, in_work as pieces_in_work, piece_of}
 use Rattle.rx_engine.specs.PieceLaws.{begun-append, frames-append}
 use Rattle.rx_engine.specs.Pieces.{IsCut, Piece, begun_of, frames_from, frames_of, parts}
 use Rattle.rx_engine.specs.Pieces.Piece.{Last, Part}
 use Rattle.rx_engine.specs.Receiver.{oldest}
 use Rattle.rx_engine.specs.declared.engine.Work.{Work}
-use Rattle.adapter.specs.HostAreas.{buffer_size}
 use Rattle.adapter.specs.HostFrames.{finished_pieces, frames_held}
 use Rattle.adapter.specs.Receiving.{is_ending}
 use Rattle.adapter.specs.Slots.{slot_of_work}
@@ -71,20 +71,20 @@ left-most moved [] = omega arith
 left-most moved (frame ∷ later) = omega (arith, pieces-cons frame later)
 
 -- If a full buffer of the oldest frame has been moved, one less is.
-pub left-begun : (moved : ℕ) (buffer : List (List ℕ)) → buffer_bytes ≤ length (take moved (oldest buffer))
+pub left-begun : (moved : ℕ) (buffer : List (List ℕ)) → receive_buffer_bytes ≤ length (take moved (oldest buffer))
     → pieces_left moved buffer + 1 ≤ count_pieces buffer
 left-begun moved [] full = absurd (omega (arith, full, length-take moved (oldest [])))
 left-begun moved (frame ∷ later) full = omega (arith, full, length-take moved frame, pieces-cons frame later)
 
 -- A piece is moved that isn't the last of its frame,
-pub left-part : (moved : ℕ) (buffer : List (List ℕ)) → buffer_bytes < length (oldest buffer) - moved
-    → pieces_left moved buffer ≡ 1 + pieces_left (moved + buffer_bytes) buffer
+pub left-part : (moved : ℕ) (buffer : List (List ℕ)) → receive_buffer_bytes < length (oldest buffer) - moved
+    → pieces_left moved buffer ≡ 1 + pieces_left (moved + receive_buffer_bytes) buffer
 left-part moved [] more = absurd (omega (arith, more))
 left-part moved (frame ∷ later) more = omega (arith, more)
 
 -- or the last one.
 pub left-last : (moved : ℕ) (buffer : List (List ℕ)) → buffer ≢ [] → All IsLegal buffer → moved ≤ length (oldest buffer) - 1
-    → length (oldest buffer) - moved ≤ buffer_bytes
+    → length (oldest buffer) - moved ≤ receive_buffer_bytes
     → pieces_left moved buffer ≡ 1 + pieces_left 0 (drop 1 buffer)
 left-last moved [] some legal begun short = absurd (some refl)
 left-last moved (frame ∷ later) some legal begun short =
@@ -134,31 +134,32 @@ held-counted o world =
     works begun memory (Some work) = piece begun work.ends (bytes_of_work memory work)
 
 -- A piece in progress is one of a frame that ends in it, or a full buffer of the packet buffer's oldest frame.
-asked-by : (size : ℕ) (memory : List ℕ) (finished : List Piece) (work : Option Work) (moved : ℕ) (buffer : List (List ℕ)) (line : ℕ)
-    → line ≤ 1 → size ≡ buffer_bytes → All (IsCut size) (finished ++ pieces_in_work memory work)
+asked-by : (memory : List ℕ) (finished : List Piece) (work : Option Work) (moved : ℕ) (buffer : List (List ℕ)) (line : ℕ)
+    → line ≤ 1 → All (IsCut receive_buffer_bytes) (finished ++ pieces_in_work memory work)
     → begun_of (finished ++ pieces_in_work memory work) ≡ take moved (oldest buffer)
     → 4 * pieces_left moved buffer + count_pending work line ≤ 4 * (count_ending work + count_pieces buffer) + 1
-asked-by size memory finished None moved buffer line few is cut begun = omega (arith, few, left-most moved buffer)
-asked-by size memory finished (Some work) moved buffer line few is cut begun =
+asked-by memory finished None moved buffer line few cut begun = omega (arith, few, left-most moved buffer)
+asked-by memory finished (Some work) moved buffer line few cut begun =
     by work.ends (bytes_of_work memory work) cut begun
   where
-    by : (ends : Bool) (bytes : List ℕ) → All (IsCut size) (finished ++ piece_of ends bytes ∷ [])
+    by : (ends : Bool) (bytes : List ℕ) → All (IsCut receive_buffer_bytes) (finished ++ piece_of ends bytes ∷ [])
         → begun_of (finished ++ piece_of ends bytes ∷ []) ≡ take moved (oldest buffer)
         → 4 * pieces_left moved buffer + 3 ≤ 4 * ((if ends then 1 else 0) + count_pieces buffer) + 1
     by true bytes cut begun = omega (arith, left-most moved buffer)
     by false bytes cut begun =
-        let full : length bytes ≡ size =
-        all-head (IsCut size) (Part bytes) [] (all-right (IsCut size) finished (Part bytes ∷ []) cut) in
+        let full : length bytes ≡ receive_buffer_bytes =
+        all-head (IsCut receive_buffer_bytes) (Part bytes) []
+        (all-right (IsCut receive_buffer_bytes) finished (Part bytes ∷ []) cut) in
         let long : length (begun_of finished) + length bytes ≡ length (take moved (oldest buffer)) =
         sym (length-append (begun_of finished) bytes) ∙ ap length (sym (begun-append [] finished (Part bytes ∷ [])) ∙ begun) in
-        omega (arith, left-begun moved buffer (omega (arith, full, is, long)))
+        omega (arith, left-begun moved buffer (omega (arith, full, long)))
 
 pub asked-most : (d : DriverState) (world : World) (line : ℕ) → Ready d world → line ≤ 1
     → 4 * count_left world + count_pending world.adapter.receiver.work line
     ≤ 4 * (count_ending world.adapter.receiver.work + count_pieces world.adapter.receiver.buffer) + 1
 asked-most d world line ready few =
-    asked-by (buffer_size world) world.memory (finished_pieces d.oldest_receive world) world.adapter.receiver.work
-    world.adapter.receiver.moved world.adapter.receiver.buffer line few ready.size ready.law.whole.cut ready.law.sound.begun
+    asked-by world.memory (finished_pieces d.oldest_receive world) world.adapter.receiver.work
+    world.adapter.receiver.moved world.adapter.receiver.buffer line few ready.law.whole.cut ready.law.sound.begun
 
 -- Slots in which no frame ends.
 

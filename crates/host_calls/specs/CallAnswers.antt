@@ -1,5 +1,6 @@
 -- What a call of a host answers, and which accesses it makes (our choice).
-use Rattle.std.specs.Prelude.{⊤, ◌≡◌, ◌↔◌, ◌≤◌, ◌<◌, ◌+◌, ◌-◌, ◌++◌, ◌∷◌, [], ℕ, All, List, Result, Ok, Err, length, take}
+use Rattle.std.specs.Prelude.{⊤, ◌≡◌, ◌↔◌, ◌≤◌, ◌<◌, ◌+◌, ◌-◌, ◌++◌, ◌∷◌, []}
+use Rattle.std.specs.Prelude.{ℕ, All, List, Result, Ok, Err, length, take}
 use Rattle.descriptors.specs.Frames.{longest_frame, shortest_sent}
 use Rattle.adapter.specs.HostFrames.{frames_to_send}
 use Rattle.std.specs.List.{concat}

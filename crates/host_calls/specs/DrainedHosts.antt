@@ -1,10 +1,12 @@
 -- A drained host: its sockets gave all frames that it held for them (our choice).
-use Rattle.std.specs.Prelude.{◌≡◌, ◌≢◌, ◌≤◌, ◌+◌, ◌-◌, ◌*◌, ◌/◌, ◌^◌, ◌<◌, ◌⊎◌, ◌++◌, ◌∷◌, [], ℕ, All, IsTrue, List, length, replicate}
+use Rattle.std.specs.Prelude.{◌≡◌, ◌≢◌, ◌≤◌, ◌+◌, ◌-◌, ◌*◌, ◌/◌, ◌^◌, ◌<◌, ◌⊎◌, ◌++◌, ◌∷◌}
+use Rattle.std.specs.Prelude.{[]}
+use Rattle.std.specs.Prelude.{ℕ, All, IsTrue, List, length, replicate}
 use Rattle.std.specs.Prelude.{sum_by}
 use Rattle.registers.specs.Bits.{HasBit}
 use Rattle.registers.specs.Counting.{greatest_count}
 use Rattle.registers.specs.Places.{rctl_en}
-use Rattle.dma_memory.specs.Layout.{buffer_bytes}
+use Rattle.dma_memory.specs.Layout.{receive_buffer_bytes}
 use Rattle.adapter.specs.HostFrames.{frames_held, frames_to_send}
 use Rattle.adapter.specs.Slots.{in_work}
 use Rattle.adapter.specs.World.{World}
@@ -38,7 +40,7 @@ count_frames host world = length (frames_held host.driver.oldest_receive world) 
 
 -- how many receive buffers a frame of this size needs: so many pieces it has
 abbrev pub buffers_for : (size : ℕ) → ℕ
-buffers_for size = (size + (buffer_bytes - 1)) / buffer_bytes
+buffers_for size = (size + (receive_buffer_bytes - 1)) / receive_buffer_bytes
 
 -- how many pieces these frames have
 abbrev pub count_pieces : List (List ℕ) → ℕ

@@ -4,7 +4,7 @@ use Rattle.std.specs.List.{All, flat_map, slice_index_or}
 use Rattle.std.proofs.lemmas.List.Elements.{All-cons, All-map}
 use Rattle.dma_memory.specs.HostMemory.{bytes_at}
 use Rattle.dma_memory.specs.Laws.{length-bytes_at}
-use Rattle.dma_memory.specs.Layout.{Counts, buffer_bytes}
+use Rattle.dma_memory.specs.Layout.{Counts, receive_buffer_bytes}
 use Rattle.adapter.specs.World.{World}
 use Rattle.bus.proofs.Lists.{all-head, all-left, all-none, all-right, all-tail, all-unmapped, map-same}
 use Rattle.driver_law.proofs.Buffers.{buffer-lies}
@@ -31,7 +31,7 @@ IsLong counts memory part = length (bytes_at memory (buffer_at counts part.buffe
 
 -- A piece fits into a buffer.
 abbrev Fits : ℕ → Type 0
-Fits size = size ≤ buffer_bytes
+Fits size = size ≤ receive_buffer_bytes
 
 abbrev pub AreLong : Counts → List ℕ → List Received → Type 0
 AreLong counts memory list = All (λ (received : Received). All (IsLong counts memory) received.parts) list
@@ -43,7 +43,7 @@ all-long h a host =
     let list = all_of h.queues in
     let number : HandedOut → ℕ = λ one. one.number in
     let Known : ℕ → Type 0 = λ m. m < counts.buffers in
-    let Fits : ℕ → Type 0 = λ n. n ≤ buffer_bytes in
+    let Fits : ℕ → Type 0 = λ n. n ≤ receive_buffer_bytes in
     let numbers : All Known (numbers_of d.handed_out) = all-copies Known (numbers_of d.handed_out)
     (λ m some. (elsewhere-number d m host.ready.driver_is (omega (arith, some))).known) in
     let known = all-pieces (λ (one : HandedOut). Known one.number) (waiting_pieces counts a.memory) list
@@ -142,7 +142,7 @@ read-long counts memory pieces stand =
 pub read-stands : (counts : Counts) (memory : List ℕ) (received : Received) → All (IsLong counts memory) received.parts
     → IsWholeFrame received → All (Stands counts memory) (waiting_pieces counts memory received)
 read-stands counts memory received long whole =
-    let fits = all-unmapped (λ (n : ℕ). n ≤ buffer_bytes) (λ (part : Part). part.length) received.parts whole.fits in
+    let fits = all-unmapped (λ (n : ℕ). n ≤ receive_buffer_bytes) (λ (part : Part). part.length) received.parts whole.fits in
     All-map (Stands counts memory) (waiting_piece counts memory) received.parts (λ k part below.
     let p = slice_index_or received.parts k part in
     record {

@@ -1,5 +1,6 @@
 -- What a host holds for its sockets, and what it does in its calls (our choice).
-use Rattle.std.specs.Prelude.{⊤, ◌≡◌, ◌==◌, ◌≤◌, ◌<◌, ◌+◌, ◌-◌, ◌*◌, ◌^◌, ◌++◌, ◌∷◌, ℕ, Bool, true, List, [], Result, Ok, Err, count_by}
+use Rattle.std.specs.Prelude.{⊤, ◌≡◌, ◌==◌, ◌≤◌, ◌<◌, ◌+◌, ◌-◌, ◌*◌, ◌^◌, ◌++◌, ◌∷◌, []}
+use Rattle.std.specs.Prelude.{ℕ, Bool, true, List, Result, Ok, Err, count_by}
 use Rattle.std.specs.Prelude.{All, drop, filter, flat_map, length, map, slice_set, take}
 use Rattle.std.specs.List.Sorted.{IsPermutation}
 use Rattle.registers.specs.Bits.{HasBit, Meet}

@@ -1,5 +1,6 @@
 -- What a frame, and the offer of its buffer, make of a lane.
-use Rattle.std.proofs.Common.{◌≡◌, ◌≤◌, ◌<◌, ◌+◌, ◌*◌, ◌^◌, ◌⊎◌, inl, inr, ℕ, true, List, length, sym, ap, subst, ◌∙◌, arith}
+use Rattle.std.proofs.Common.{◌≡◌, ◌≤◌, ◌<◌, ◌+◌, ◌*◌, ◌^◌, ◌⊎◌, ◌∙◌}
+use Rattle.std.proofs.Common.{inl, inr, ℕ, true, List, length, sym, ap, subst, arith}
 use Rattle.std.proofs.lemmas.Bool.{cases_lt}
 use Rattle.dma_memory.specs.Areas.{AreApart, area_at, descriptor_area}
 use Rattle.dma_memory.specs.HostMemory.{bytes_at, with_bytes, LiesIn}

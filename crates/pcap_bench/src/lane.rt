@@ -13,7 +13,7 @@ ghost use Rattle.pcap_bench.specs.Lane.{ring_at, slot_bytes, slot_desc, HasFrame
 ghost use Rattle.pcap_bench.specs.Options.{filter_for, HasVlanNumber};
 
 use crate::choosing::{mode_of, write_filter};
-use crate::slots::{SLOTS, load_desc, offer, offer_all};
+use crate::slots::{BUFFERS, SLOTS, load_desc, offer, offer_all};
 use adapter::offsets::{RCTL, RDBAH, RDBAL, RDH, RDLEN, RDT};
 use adapter::{Adapter, Fate, StepKind};
 use bitflags::Flags;
@@ -90,7 +90,7 @@ impl ReceiveLane {
         ensures filter { IfOk result (λ lane. SameSets (filter_of lane.adapter.filter) (filter_for options.now)) }
         ensures waiting { IfOk result IsWaiting }
     {
-        let layout = Layout::of(SLOTS, SLOTS, SLOTS).unwrap();
+        let layout = Layout::of(SLOTS, SLOTS, BUFFERS).unwrap();
         let mut memory = HostMemory::new(alloc, layout.size())?;
         offer_all(&mut memory, &layout);
         let image = Image::with_address(OWN_ADDRESS);

@@ -12,6 +12,12 @@ use dma_memory::{HostMemory, Layout};
 /// Descriptors of the ring.
 pub const SLOTS: u16 = 8;
 
+/// So many receive buffers of a layout, 256 bytes each, are the buffer of 2,048 bytes of one slot.
+const BUFFERS_OF_SLOT: u16 = 8;
+
+/// Receive buffers of the layout.
+pub const BUFFERS: u16 = SLOTS * BUFFERS_OF_SLOT;
+
 /// The address of the descriptor of a slot.
 fn address_of(slot: u16) -> u64
     ensures { result ≡ 16 * slot }
@@ -46,14 +52,14 @@ pub fn offer(memory: &mut HostMemory, slot: u16, buffer: u64)
     memory.store(address_of(slot), &desc.to_bytes()).unwrap();
 }
 
-/// Offers the buffers of a layout, each in the descriptor of its slot.
+/// Offers the buffers of a layout, eight of them in the descriptor of each slot.
 pub fn offer_all(memory: &mut HostMemory, layout: &Layout)
-    requires layout { layout.now ≡ record { rx = 8; tx = 8; buffers = 8 } }
+    requires layout { layout.now ≡ record { rx = 8; tx = 8; buffers = 64 } }
     requires size { length memory.old ≡ 34816 }
     ensures size { length memory.new ≡ 34816 }
     ensures buffers { NameBuffers memory.new }
 {
     for slot in 0..SLOTS {
-        offer(memory, slot, layout.receive_buffer(slot));
+        offer(memory, slot, layout.receive_buffer(slot * BUFFERS_OF_SLOT));
     }
 }

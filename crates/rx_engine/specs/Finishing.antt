@@ -1,5 +1,6 @@
 -- The done step of the receive engine ("3.2.3 Receive Descriptor Format").
-use Rattle.std.specs.Prelude.{◌≡◌, ◌+◌, ◌++◌, ℕ, List, [], ◌∷◌, length, nat_le, Option, None, Some, Bool, true, false, if◌then◌else◌}
+use Rattle.std.specs.Prelude.{◌≡◌, ◌+◌, ◌++◌, [], ◌∷◌}
+use Rattle.std.specs.Prelude.{ℕ, List, length, nat_le, Option, None, Some, Bool, true, false, if◌then◌else◌}
 use Rattle.byteorder.specs.Endian.{little_bytes}
 use Rattle.registers.specs.Bits.{HasBit, is_set, union}
 use Rattle.registers.specs.Places.{alone}

@@ -1,5 +1,6 @@
 -- What the engine's steps do to the frames that it holds, and to descriptors.
-use Rattle.std.proofs.Common.{◌≡◌, ◌≤◌, ◌<◌, ◌+◌, ◌/◌, ◌%◌, ◌^◌, inl, inr, Option, None, Some, ◌++◌, ◌∷◌, [], ℕ, List, length, take, drop}
+use Rattle.std.proofs.Common.{◌≡◌, ◌≤◌, ◌<◌, ◌+◌, ◌/◌, ◌%◌, ◌^◌, ◌++◌, ◌∷◌, []}
+use Rattle.std.proofs.Common.{inl, inr, Option, None, Some, ℕ, List, length, take, drop}
 use Rattle.std.proofs.Common.{◌-◌, true, false, append_assoc, length-take, length-drop}
 use Rattle.std.proofs.Common.{slice_index, refl, sym, ap, ◌∙◌, Bool, if◌then◌else◌, arith}
 use Rattle.std.proofs.lemmas.Bool.{le-leb, leb-false, leb-true}

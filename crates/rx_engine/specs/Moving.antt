@@ -1,5 +1,6 @@
 -- The data step of the receive engine ("3.2.6 Receive Descriptor Queue Structure"; that it can fault is our choice).
-use Rattle.std.specs.Prelude.{◌≢◌, ◌==◌, ◌+◌, ◌-◌, ◌*◌, ⊤, ℕ, List, length, take, drop, nat_le, Bool, true, false, Some, if◌then◌else◌}
+use Rattle.std.specs.Prelude.{◌≢◌, ◌==◌, ◌+◌, ◌-◌, ◌*◌, ⊤}
+use Rattle.std.specs.Prelude.{ℕ, List, length, take, drop, nat_le, Bool, true, false, Some, if◌then◌else◌}
 use Rattle.registers.specs.Bits.{HasBit, field}
 use Rattle.registers.specs.Places.{rctl_bsex, rctl_bsize, rctl_en}
 use Rattle.registers.specs.ReceiveControl.{buffer_size_of}

@@ -1,5 +1,7 @@
 -- The events of a scenario's commands, in order.
-use Rattle.std.proofs.Common.{◌≡◌, ◌<◌, ◌+◌, ◌/◌, ◌%◌, ℕ, List, [], ◌∷◌, ◌++◌, Option, length, get_or, sym, ap, ◌∙◌, append_assoc, arith}
+use Rattle.std.proofs.Common.{◌≡◌, ◌<◌, ◌+◌, ◌/◌, ◌%◌, [], ◌∷◌, ◌++◌, ◌∙◌}
+use Rattle.std.proofs.Common.{ℕ, zero, suc, List, Option, length, get_or, refl, sym, ap, append_assoc, arith}
+use Rattle.std.specs.List.{range_with_len}
 use Rattle.std.specs.Prelude.{map, option_map, unwrap_or}
 use Rattle.std.proofs.lemmas.List.{length-map, map-append}
 use Rattle.std.proofs.lemmas.List.FromFn.{map-range_with_len_more}
@@ -10,23 +12,49 @@ use Rattle.network_plan.specs.declared.event.Event.{Event}
 use Rattle.network_plan.specs.declared.plan.HostPlan.{HostPlan}
 use Rattle.stations.specs.declared.tick.Tick.TheVariants.{Deliver, Step}
 use Rattle.scenario.specs.SoFar.{Host, Said, Interrupts, Receives, Ticks, event_of, host_of, hosts_of}
-use Rattle.scenario_bench.specs.EventLists.{address_of, arrival_at, event_drawn, event_of_kind}
+use Rattle.scenario_bench.specs.EventLists.{address_of, arrival_at, event_drawn, event_of_kind, moves_at}
 
-arrival_at-more : (host socket : ℕ) → arrival_at host (socket + 1) ≡ arrival_at host socket ++ Receives host socket [] ∷ []
-arrival_at-more host socket =
-    ap (λ (asked : List Said). Ticks (Deliver host) ∷ Ticks (Step host RxData) ∷ Ticks (Step host RxDone) ∷ Interrupts host [] ∷ asked)
+-- one piece more is moved
+moves-more : (host piece : ℕ) → moves_at host (piece + 1)
+    ≡ moves_at host piece ++ Ticks (Step host RxData) ∷ Ticks (Step host RxDone) ∷ []
+moves-more host zero = refl
+moves-more host (suc piece) =
+    let next : suc piece + 1 ≡ suc (piece + 1) = omega arith in
+    ap (moves_at host) next
+    ∙ ap (λ (later : List Said). Ticks (Step host RxData) ∷ Ticks (Step host RxDone) ∷ later) (moves-more host piece)
+
+pub moved-more : (before : List Said) (events : List Event) (moved ended : Event) (host piece : ℕ)
+    → map event_of events ≡ before ++ moves_at host piece → event_of moved ≡ Ticks (Step host RxData)
+    → event_of ended ≡ Ticks (Step host RxDone)
+    → map event_of ((events ++ moved ∷ []) ++ ended ∷ []) ≡ before ++ moves_at host (piece + 1)
+moved-more before events moved ended host piece so_far moved_is ended_is =
+    let both : List Said = Ticks (Step host RxData) ∷ Ticks (Step host RxDone) ∷ [] in
+    ap (map event_of) (append_assoc events (moved ∷ []) (ended ∷ []))
+    ∙ map-append event_of events (moved ∷ ended ∷ [])
+    ∙ ap (λ (said : List Said). said ++ event_of moved ∷ event_of ended ∷ []) so_far
+    ∙ ap (λ (said : Said). (before ++ moves_at host piece) ++ said ∷ event_of ended ∷ []) moved_is
+    ∙ ap (λ (said : Said). (before ++ moves_at host piece) ++ Ticks (Step host RxData) ∷ said ∷ []) ended_is
+    ∙ append_assoc before (moves_at host piece) both
+    ∙ ap (λ (more : List Said). before ++ more) (sym (moves-more host piece))
+
+arrival_at-more : (pieces host socket : ℕ)
+    → arrival_at pieces host (socket + 1) ≡ arrival_at pieces host socket ++ Receives host socket [] ∷ []
+arrival_at-more pieces host socket =
+    let asked : ℕ → List Said = λ sockets. Interrupts host [] ∷ map (λ n. Receives host n []) (range_with_len 0 sockets) in
+    ap (λ (later : List Said). Ticks (Deliver host) ∷ moves_at host pieces ++ Interrupts host [] ∷ later)
     (map-range_with_len_more (λ (n : ℕ). Receives host n []) 0 socket socket (omega arith))
+    ∙ sym (append_assoc (Ticks (Deliver host) ∷ moves_at host pieces) (asked socket) (Receives host socket [] ∷ []))
 
 -- one more socket is asked
-pub arrives-more : (before : List Said) (events : List Event) (one : Event) (host socket : ℕ)
-    → map event_of events ≡ before ++ arrival_at host socket → event_of one ≡ Receives host socket []
-    → map event_of (events ++ one ∷ []) ≡ before ++ arrival_at host (socket + 1)
-arrives-more before events one host socket so_far is =
+pub arrives-more : (before : List Said) (events : List Event) (one : Event) (pieces host socket : ℕ)
+    → map event_of events ≡ before ++ arrival_at pieces host socket → event_of one ≡ Receives host socket []
+    → map event_of (events ++ one ∷ []) ≡ before ++ arrival_at pieces host (socket + 1)
+arrives-more before events one pieces host socket so_far is =
     map-append event_of events (one ∷ [])
     ∙ ap (λ (said : List Said). said ++ event_of one ∷ []) so_far
-    ∙ ap (λ (said : Said). (before ++ arrival_at host socket) ++ said ∷ []) is
-    ∙ append_assoc before (arrival_at host socket) (Receives host socket [] ∷ [])
-    ∙ ap (λ (more : List Said). before ++ more) (sym (arrival_at-more host socket))
+    ∙ ap (λ (said : Said). (before ++ arrival_at pieces host socket) ++ said ∷ []) is
+    ∙ append_assoc before (arrival_at pieces host socket) (Receives host socket [] ∷ [])
+    ∙ ap (λ (more : List Said). before ++ more) (sym (arrival_at-more pieces host socket))
 
 -- a host's address is the one of its EEPROM
 address_of-there : (plans : List HostPlan) (host : ℕ) (plan : HostPlan) → host < length plans

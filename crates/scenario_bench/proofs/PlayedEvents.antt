@@ -13,7 +13,7 @@ use Rattle.pcap_trace.specs.declared.trace.Trace.{Trace}
 use Rattle.network_plan.specs.declared.event.Event.TheVariants as event
 use Rattle.scenario.specs.declared.command.Command.{Command}
 use Rattle.scenario.specs.declared.command.Command.TheVariants as command
-use Rattle.scenario_bench.specs.EventLists.{all_events, behind_send, event_drawn, events_of, fed, words_drawn, words_from}
+use Rattle.scenario_bench.specs.EventLists.{all_events, behind_send, event_drawn, events_of, fed, pieces_of, words_drawn, words_from}
 use Rattle.network_plan.specs.declared.event.Event.{Event}
 use Rattle.network_plan.specs.declared.reply.Reply.{Reply}
 use Rattle.stations.specs.Stations.{world_at}
@@ -143,7 +143,8 @@ all_drawn event words left generator a b has none =
 pub one_sent : (hosts : List Host) (sender : ℕ) (frame : List ℕ) (event : Event) (behind played : List Event)
     (all rest later : List (List ℕ)) (a b m c : Play)
     → HasFed (List ℕ) (fed hosts sender) all rest a b → rest ≡ frame ∷ later → event_of event ≡ Sends sender frame []
-    → HasPlayed (map event_of (event ∷ [])) b m → map event_of behind ≡ behind_send hosts sender → played ≡ behind
+    → HasPlayed (map event_of (event ∷ [])) b m → map event_of behind ≡ behind_send hosts sender (pieces_of (length frame))
+    → played ≡ behind
     → HasPlayed (map event_of played) m c → HasFed (List ℕ) (fed hosts sender) all later a c
 one_sent hosts sender frame event behind played all rest later a b m c has is sent first follows same second =
     let said : map event_of (event ∷ []) ++ map event_of played ≡ fed hosts sender frame =

@@ -1,42 +1,56 @@
 -- The events and drains of a scenario's commands, in order (our choice). Hosts are numbered from 0, as in the plan.
-use Rattle.std.specs.Prelude.{◌==◌, ◌&&◌, ◌%◌, ◌/◌, ◌+◌, ◌++◌, ℕ, zero, suc, not, List, [], ◌∷◌, if◌then◌else◌, length, map}
+use Rattle.std.specs.Prelude.{◌==◌, ◌&&◌, ◌%◌, ◌/◌, ◌+◌, ◌++◌, ◌∷◌, []}
+use Rattle.std.specs.Prelude.{ℕ, zero, suc, not, nat_le, max, List, if◌then◌else◌, length, map}
 use Rattle.std.specs.Prelude.{slice_get, option_map, unwrap_or}
 use Rattle.std.specs.List.{flat_map, range_with_len}
+use Rattle.std.specs.Int.{div_ceil}
 use Rattle.std.specs.Str.{bytes_eq}
 use Rattle.rand_core.specs.Pcg32Seed.{pcg32_seed}
 use Rattle.rand_pcg.specs.Lcg.{Lcg}
 use Rattle.rand_pcg.specs.Pcg.{pcg32, pcg32_of_seed}
+use Rattle.dma_memory.specs.Layout.{receive_buffer_bytes}
+use Rattle.descriptors.specs.Frames.{longest_frame, shortest_frame}
 use Rattle.eeprom.specs.Image.{address_bytes}
 use Rattle.adapter.specs.declared.step.StepKind.TheVariants.{RxData, RxDone, TxPut, TxTake}
 use Rattle.stations.specs.declared.tick.Tick.{Tick}
 use Rattle.stations.specs.declared.tick.Tick.TheVariants.{Deliver, Go, Step}
 use Rattle.scenario.specs.SoFar.{Host, Said, Draws, Feeds, Interrupts, Receives, Sends, Ticks}
 
--- A frame at a host's end of the wire is delivered and received, its interrupt is handled, and each socket is asked once, in order.
-abbrev pub arrival_at : (host sockets : ℕ) → List Said
-arrival_at host sockets =
-    Ticks (Deliver host) ∷ Ticks (Step host RxData) ∷ Ticks (Step host RxDone) ∷ Interrupts host []
-    ∷ map (λ socket. Receives host socket []) (range_with_len 0 sockets)
+-- how many receive buffers a frame of this size needs after it is padded; one if `send` refuses the frame
+abbrev pub pieces_of : (size : ℕ) → ℕ
+pieces_of size = if nat_le size longest_frame then div_ceil (max size shortest_frame) receive_buffer_bytes else 1
+
+-- so many pieces of a frame are moved to a host's memory
+abbrev pub moves_at : (host pieces : ℕ) → List Said
+moves_at host zero = []
+moves_at host (suc pieces) = Ticks (Step host RxData) ∷ Ticks (Step host RxDone) ∷ moves_at host pieces
+
+-- A frame at a host's end of the wire is delivered and received in so many pieces, its interrupt is handled, and each socket is asked once,
+-- in order.
+abbrev pub arrival_at : (pieces host sockets : ℕ) → List Said
+arrival_at pieces host sockets =
+    Ticks (Deliver host) ∷ moves_at host pieces
+    ++ Interrupts host [] ∷ map (λ socket. Receives host socket []) (range_with_len 0 sockets)
 
 -- The same at each other host on this wire. The first of these hosts has this number.
-abbrev pub arrivals_from : (number sender : ℕ) (wire : List ℕ) → List Host → List Said
-arrivals_from number sender wire [] = []
-arrivals_from number sender wire (host ∷ hosts) =
-    (if not (number == sender) && bytes_eq host.wire wire then arrival_at number (length host.sockets) else [])
-    ++ arrivals_from (number + 1) sender wire hosts
+abbrev pub arrivals_from : (pieces number sender : ℕ) (wire : List ℕ) → List Host → List Said
+arrivals_from pieces number sender wire [] = []
+arrivals_from pieces number sender wire (host ∷ hosts) =
+    (if not (number == sender) && bytes_eq host.wire wire then arrival_at pieces number (length host.sockets) else [])
+    ++ arrivals_from pieces (number + 1) sender wire hosts
 
 -- the name of a host's wire
 abbrev pub wire_of : List Host → ℕ → List ℕ
 wire_of hosts host = unwrap_or (option_map (λ (one : Host). one.wire) (slice_get hosts host)) []
 
 -- After a send, the frame is put onto the wire, and arrives at each other host on it, in order.
-abbrev pub behind_send : List Host → (sender : ℕ) → List Said
-behind_send hosts sender =
-    Ticks (Step sender TxTake) ∷ Ticks (Step sender TxPut) ∷ arrivals_from 0 sender (wire_of hosts sender) hosts
+abbrev pub behind_send : List Host → (sender pieces : ℕ) → List Said
+behind_send hosts sender pieces =
+    Ticks (Step sender TxTake) ∷ Ticks (Step sender TxPut) ∷ arrivals_from pieces 0 sender (wire_of hosts sender) hosts
 
 -- a frame is fed: sent, put and received
 abbrev pub fed : List Host → (sender : ℕ) (frame : List ℕ) → List Said
-fed hosts sender frame = Sends sender frame [] ∷ behind_send hosts sender
+fed hosts sender frame = Sends sender frame [] ∷ behind_send hosts sender (pieces_of (length frame))
 
 -- Drawn events: each by a 32-bit word of PCG32 (XSH RR 64/32), seeded with the start of the line.
 abbrev pub words_from : (count : ℕ) → Lcg → List ℕ

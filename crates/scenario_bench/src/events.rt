@@ -6,6 +6,8 @@ ghost use Rattle.scenario_bench.specs.EventLists as lists;
 ghost use Rattle.stations.specs.declared.tick.Tick.TheVariants as ticks;
 
 use adapter::StepKind;
+use descriptors::{LONGEST_LEGAL, SHORTEST_LEGAL};
+use dma_memory::RECEIVE_BUFFER_BYTES;
 use eeprom::Image;
 use network_plan::{Event, HostPlan};
 use stations::Tick;
@@ -45,19 +47,42 @@ fn step(host: usize, kind: StepKind) -> Event
     Event::Tick(Tick::Step(host, kind))
 }
 
-/// Appends the events that bring a frame from a host's end of the wire to its sockets.
+/// How many receive buffers a frame of this size needs after it is padded; one if `send` refuses the frame.
+pub(crate) fn pieces_of(size: usize) -> usize
+    ensures { result ≡ lists.pieces_of size }
+{
+    if size > LONGEST_LEGAL {
+        return 1;
+    }
+    size.max(SHORTEST_LEGAL)
+        .div_ceil(RECEIVE_BUFFER_BYTES as usize)
+}
+
+/// Appends the steps that move the pieces of a frame to a host's memory.
+fn push_moves(host: usize, pieces: usize, events: &mut Vec<Event>) -> Result<(), AllocError>
+    ensures { OnOk result
+        (map event_of events.new.items ≡ map event_of events.old.items ++ lists.moves_at host pieces) }
+{
+    for _piece in 0..pieces {
+        events.push(step(host, StepKind::RxData))?;
+        events.push(step(host, StepKind::RxDone))?;
+    }
+    Ok(())
+}
+
+/// Appends the events that bring a frame from a host's end of the wire to its sockets, in so many pieces.
 fn push_arrival(
     alloc: Global,
+    pieces: usize,
     host: usize,
     sockets: usize,
     events: &mut Vec<Event>,
 ) -> Result<(), AllocError>
     ensures { OnOk result
-        (map event_of events.new.items ≡ map event_of events.old.items ++ lists.arrival_at host sockets) }
+        (map event_of events.new.items ≡ map event_of events.old.items ++ lists.arrival_at pieces host sockets) }
 {
     events.push(Event::Tick(Tick::Deliver(host)))?;
-    events.push(step(host, StepKind::RxData))?;
-    events.push(step(host, StepKind::RxDone))?;
+    push_moves(host, pieces, events)?;
     events.push(Event::Interrupt {
         host,
         ticks: Vec::new(alloc),
@@ -78,39 +103,42 @@ fn wire_of(plans: &[HostPlan], host: usize) -> &str
     }
 }
 
-/// Appends the arrivals at each other host on a host's wire, in order.
+/// Appends the arrivals of a frame in so many pieces, at each other host on a host's wire, in order.
 fn push_arrivals(
     alloc: Global,
     plans: &[HostPlan],
+    pieces: usize,
     sender: usize,
     events: &mut Vec<Event>,
 ) -> Result<(), AllocError>
     ensures { OnOk result (map event_of events.new.items ≡ map event_of events.old.items
-        ++ lists.arrivals_from 0 sender (lists.wire_of (hosts_of plans.now) sender) (hosts_of plans.now)) }
+        ++ lists.arrivals_from pieces 0 sender (lists.wire_of (hosts_of plans.now) sender) (hosts_of plans.now)) }
 {
     let wire = wire_of(plans, sender);
     for (number, plan) in plans.iter().enumerate() {
         if number != sender && plan.wire.as_str() == wire {
-            push_arrival(alloc, number, plan.sockets.len(), events)?;
+            push_arrival(alloc, pieces, number, plan.sockets.len(), events)?;
         }
     }
     Ok(())
 }
 
-/// The events after the send of a fed frame: it is put onto the wire, and arrives at each other host.
-pub(crate) fn behind_send(
+/// Replaces the events by those after the send of a fed frame: it is put onto the wire, and arrives in so many pieces
+/// at each other host.
+pub(crate) fn set_behind_send(
     alloc: Global,
     plans: &[HostPlan],
     sender: usize,
-) -> Result<Vec<Event>, AllocError>
-    ensures { IfOk result
-        (λ events. map event_of events.items ≡ lists.behind_send (hosts_of plans.now) sender) }
+    pieces: usize,
+    events: &mut Vec<Event>,
+) -> Result<(), AllocError>
+    ensures { OnOk result
+        (map event_of events.new.items ≡ lists.behind_send (hosts_of plans.now) sender pieces) }
 {
-    let mut events = Vec::new(alloc);
+    events.clear();
     events.push(step(sender, StepKind::TxTake))?;
     events.push(step(sender, StepKind::TxPut))?;
-    push_arrivals(alloc, plans, sender, &mut events)?;
-    Ok(events)
+    push_arrivals(alloc, plans, pieces, sender, events)
 }
 
 /// A broadcast from this EEPROM's address, without data, of the type for experiments (IEEE 802).

@@ -16,7 +16,7 @@ ghost use Rattle.wire.specs.Networks.{IsHost};
 
 use crate::bench_error::BenchError;
 use crate::drained::DrainedFrames;
-use crate::events::{behind_send, drawn, send};
+use crate::events::{drawn, pieces_of, send, set_behind_send};
 use crate::record::Record;
 use crate::summary::{HostSummary, Summary};
 use network_plan::{Event, HostPlan, Plan, Reply};
@@ -88,10 +88,11 @@ impl Play {
             (HasPlayed (flat_map (lists.fed (hosts_of plans.now) host) trace.now.frames) self.old self.new) }
         ensures err { IfErr result IsWanting }
     {
-        let behind = behind_send(alloc, plans, host)?;
+        let mut behind = Vec::new(alloc);
         for frame in trace.frames.iter() {
             let events = [send(alloc, host, frame)?];
             self.run(alloc, &events)?;
+            set_behind_send(alloc, plans, host, pieces_of(frame.len()), &mut behind)?;
             self.run(alloc, behind.as_slice())?;
         }
         Ok(())

@@ -114,8 +114,8 @@ resting-can_offer size words fits =
       tail_slot = omega arith;
       room = λ same. absurd (omega (arith, same));
       fresh = zeros-open size 2048 (omega (arith, fits));
-      lies = subst (λ (address : ℕ). LiesIn memory address 2048) (sym named_zero) (omega (arith, long, fits));
-      apart =
+      lies = λ enabled. subst (λ (address : ℕ). LiesIn memory address 2048) (sym named_zero) (omega (arith, long, fits));
+      apart = λ enabled.
           subst (λ (list : List Area). All (λ area. AreApart area (buffer_of w 2048)) list)
           (sym (idle-areas w (resting-idle size words fits)))
           (subst (λ (address : ℕ). let there : Area = record { address = address; size = 2048 } in All (λ area. AreApart area there)

@@ -16,7 +16,6 @@ use Rattle.rx_engine.specs.declared.engine.Work.{Work}
 use Rattle.tx_engine.specs.Fetching.{fetched}
 use Rattle.tx_engine.specs.Transmitter.{Queued}
 use Rattle.solo_bus.specs.SoundWorlds.{HasFinished, HasFramesInBuffer, HasFramesInRing, HasRings, HasWork, HasWrittenBack, SomeSound}
-use Rattle.adapter.specs.HostAreas.{buffer_size}
 use Rattle.adapter.specs.HostFrames.{finished_pieces, named}
 use Rattle.adapter.specs.Rings.{ring_of}
 use Rattle.adapter.specs.Transmitting.{moved_on}
@@ -52,19 +51,20 @@ resting-runs size words memory = record {
       (all-none (CanTransmit memory));
 }
 
-resting-fits : (size : ℕ) (words memory : List ℕ) → FitBuffers 0 (record (resting size words) { memory = memory })
+resting-fits : (size : ℕ) (words memory : List ℕ) → FitBuffers 2048 0 (record (resting size words) { memory = memory })
 resting-fits size words memory =
-    let Fits : ℕ → Type 0 = λ slot. (named memory slot).size ≤ buffer_size (resting size words) in
+    let Fits : ℕ → Type 0 = λ slot. (named memory slot).size ≤ 2048 in
     record {
+      large = λ enabled. omega arith;
       finished_fit = subst (λ (slots : List ℕ). All Fits (take_while (is_done memory) slots))
           (sym (outstanding-none (receive_ring (resting size words)))) (all-none Fits);
-      work_fits = all-none (λ (area : Area). area.size ≤ buffer_size (resting size words));
+      work_fits = all-none (λ (area : Area). area.size ≤ 2048);
     }
 
-ready-fits : (size : ℕ) (words : List ℕ) → 4096 ≤ size → FitBuffers 0 (ready size words)
+ready-fits : (size : ℕ) (words : List ℕ) → 4096 ≤ size → FitBuffers 2048 0 (ready size words)
 ready-fits size words fits =
     (slots_can_be_offered 0 0 (resting size words) (resting-sound size words fits) (resting-can_offer size words fits)).same.fits
-    (omega arith) (resting-fits size words (replicate size 0))
+    2048 (λ enabled. omega arith) (resting-fits size words (replicate size 0))
 
 ready-runs : (size : ℕ) (words : List ℕ) → 4096 ≤ size → CanRun (ready size words)
 ready-runs size words fits =
@@ -77,11 +77,11 @@ sending-runs size words fits =
     (frames_can_be_offered 0 0 w (idle_rings_are_sound w (requested-idle size words fits)) (requested-can_send size words fits)).runs
     (sending-fields size words fits) (resting-runs size words w.memory)
 
-sending-fits : (size : ℕ) (words : List ℕ) → 4096 ≤ size → FitBuffers 0 (sending size words)
+sending-fits : (size : ℕ) (words : List ℕ) → 4096 ≤ size → FitBuffers 2048 0 (sending size words)
 sending-fits size words fits =
     let w = requested size words in
     (frames_can_be_offered 0 0 w (idle_rings_are_sound w (requested-idle size words fits)) (requested-can_send size words fits)).fits
-    (resting-fits size words w.memory)
+    2048 (resting-fits size words w.memory)
 
 -- A frame has arrived.
 
@@ -97,8 +97,9 @@ called-sound size words fits =
       pads = sound.pads;
     }
 
-called-fits : (size : ℕ) (words : List ℕ) → 4096 ≤ size → FitBuffers 0 (called size words)
-called-fits size words fits = let fit = ready-fits size words fits in record { finished_fit = fit.finished_fit; work_fits = fit.work_fits }
+called-fits : (size : ℕ) (words : List ℕ) → 4096 ≤ size → FitBuffers 2048 0 (called size words)
+called-fits size words fits = let fit = ready-fits size words fits in record
+    { large = fit.large; finished_fit = fit.finished_fit; work_fits = fit.work_fits }
 
 called-runs : (size : ℕ) (words : List ℕ) → 4096 ≤ size → CanRun (called size words)
 called-runs size words fits =
@@ -207,7 +208,7 @@ work_can =
     let between = working-between 4096 words fits in (
       working 4096 words,
       between.sound,
-      between.fits (called-fits 4096 words fits),
+      between.fits 2048 (called-fits 4096 words fits),
       working-runs 4096 words fits,
       working-has_work 4096
           words,
@@ -217,7 +218,7 @@ pub finished_can : SomeSound HasFinished
 finished_can =
     let fits : 4096 ≤ 4096 = omega arith in
     let between = done-between 4096 words fits in
-    let fit = between.fits ((working-between 4096 words fits).fits (called-fits 4096 words fits)) in (
+    let fit = between.fits 2048 ((working-between 4096 words fits).fits 2048 (called-fits 4096 words fits)) in (
       done_with 4096 words,
       between.sound,
       fit,
@@ -240,13 +241,13 @@ pub buffered_can : SomeSound HasFramesInBuffer
 buffered_can =
     let fits : 4096 ≤ 4096 = omega arith in
     let between = took-between 4096 words fits in
-    (took 4096 words, between.sound, between.fits (sending-fits 4096 words fits), took-runs 4096 words fits, λ none. absurd (cc))
+    (took 4096 words, between.sound, between.fits 2048 (sending-fits 4096 words fits), took-runs 4096 words fits, λ none. absurd (cc))
 
 pub written_can : SomeSound HasWrittenBack
 written_can =
     let fits : 4096 ≤ 4096 = omega arith in
     let between = put-between 4096 words fits in
-    let fit = between.fits ((took-between 4096 words fits).fits (sending-fits 4096 words fits)) in (
+    let fit = between.fits 2048 ((took-between 4096 words fits).fits 2048 (sending-fits 4096 words fits)) in (
       put_with 4096 words,
       between.sound,
       fit,

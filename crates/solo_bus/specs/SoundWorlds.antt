@@ -2,15 +2,16 @@
 use Rattle.std.specs.Prelude.{◌≢◌, ◌<◌, []}
 use Rattle.descriptors.specs.Ring.{count_of}
 use Rattle.adapter.specs.Slots.{buffered, finished, in_work, offered, written_back}
+use Rattle.adapter.specs.HostAreas.{buffer_size}
 use Rattle.adapter.specs.HostFrames.{frames_to_send}
 use Rattle.adapter.specs.Conditions.{FitBuffers, Sound}
 use Rattle.adapter.specs.Running.{CanRun}
 use Rattle.adapter.specs.World.{receive_ring, transmit_ring, World}
 
--- A world of which the conditions hold, with the first slot of each ring as the oldest, whose frames fit their buffers and whose engines
--- can run, has this.
+-- A world of which the conditions hold, with the first slot of each ring as the oldest, whose frames fit into buffers of the size that
+-- RCTL.BSIZE names and whose engines can run, has this.
 abbrev pub SomeSound : (World → Type 0) → Type 0
-SomeSound Has = (world : World) × Sound 0 0 world × FitBuffers 0 world × CanRun world × Has world
+SomeSound Has = (world : World) × Sound 0 0 world × FitBuffers (buffer_size world) 0 world × CanRun world × Has world
 
 -- both rings have slots, and some of the receive ring are offered
 pub record HasRings (world : World) : Type 0 where

@@ -1,5 +1,6 @@
 -- A tick is played.
-use Rattle.std.proofs.Common.{◌≡◌, ◌≢◌, ◌<◌, ◌↔◌, IsNone, IsTrue, ℕ, Bool, true, false, List, [], ◌∷◌, Option, Some, length, slice_get}
+use Rattle.std.proofs.Common.{◌≡◌, ◌≢◌, ◌<◌, ◌↔◌, [], ◌∷◌}
+use Rattle.std.proofs.Common.{IsNone, IsTrue, ℕ, Bool, true, false, List, Option, Some, length, slice_get}
 use Rattle.std.proofs.Common.{slice_set}
 use Rattle.std.proofs.Common.{option_map, refl, sym, ap, subst, ◌∙◌}
 use Rattle.circular_buffer.proofs.Places.{slice_get-set_other}

@@ -1,5 +1,6 @@
 -- An adapter stays an adapter: what holds of every adapter before an event holds after it, too.
-use Rattle.std.proofs.Common.{◌≡◌, ◌≢◌, ◌≤◌, ◌<◌, ◌-◌, ◌/◌, ◌^◌, ◌∷◌, ◌++◌, [], Bool, true, false, ℕ, zero, suc, List, Option}
+use Rattle.std.proofs.Common.{◌≡◌, ◌≢◌, ◌≤◌, ◌<◌, ◌-◌, ◌/◌, ◌^◌, ◌∷◌, ◌++◌, []}
+use Rattle.std.proofs.Common.{Bool, true, false, ℕ, zero, suc, List, Option}
 use Rattle.std.proofs.Common.{Some, None, All}
 use Rattle.std.proofs.Common.{if◌then◌else◌, ap, arith, drop, length, length-append, length-drop, length-take, refl, subst, sym, ◌∙◌}
 use Rattle.std.specs.Option.{ForSome}

@@ -1,5 +1,6 @@
 -- A host is brought up over a bus of its own.
-use Rattle.std.proofs.Common.{◌≡◌, ◌≢◌, ◌<◌, ◌+◌, ◌-◌, [], true, false, ℕ, List, length, replicate, refl, sym, ap, subst, ◌∙◌, arith}
+use Rattle.std.proofs.Common.{◌≡◌, ◌≢◌, ◌<◌, ◌+◌, ◌-◌, [], ◌∙◌}
+use Rattle.std.proofs.Common.{true, false, ℕ, List, length, replicate, refl, sym, ap, subst, arith}
 use Rattle.std.proofs.Common.{length-append}
 use Rattle.std.specs.Bool.{⊤}
 use Rattle.dma_memory.specs.Layout.{Counts, size_of}

@@ -1,9 +1,11 @@
 // A host is brought up by its plan.
 
-ghost use Rattle.std.specs.Prelude.{◌≡◌, ◌≤◌, IfErr, IfOk, length};
+ghost use Rattle.std.specs.Prelude.{◌≡◌, ◌≤◌, [], ℕ, IfErr, IfOk, length};
 ghost use Rattle.adapter.specs.Registers.{new_adapter};
 ghost use Rattle.eeprom.specs.Image.{address_bytes};
 ghost use Rattle.rx_engine.specs.Addresses.{IsAddress};
+ghost use Rattle.bring_up.specs.Configuration.{counts_of};
+ghost use Rattle.dma_memory.specs.Layout.{size_of};
 ghost use Rattle.network_plan.specs.Plans.{HasConfig};
 ghost use Rattle.wire.specs.HostsUp.{ComesUp, IsReason};
 
@@ -16,7 +18,7 @@ use eeprom::Image;
 use network_plan::{HostPlan, MOST_SOCKETS};
 use packet_socket::{Host, SocketKind};
 use stations::Station;
-use std::alloc::{AllocError, Global};
+use std::alloc::Global;
 
 /// Makes a host's adapter, and its memory of the layout's size, and initializes the adapter. Before each access of this
 /// its EEPROM and its PHY take a step, and no frame arrives. Then the host is on its wire.
@@ -35,31 +37,52 @@ pub fn bring_up_host(
     ensures wire { IfOk result (λ made. made.1.wire ≡ wire) }
     ensures why { IfErr result (IsReason plan.now) }
 {
-    // The address has six bytes, so that `comes_up` may say what the filter does with it.
-    let _address = address_of(&plan.image);
-    let layout = plan.config.layout(u64::MAX)?;
-    let mut machine = machine_of(alloc, plan, layout.size())?;
-    let mut bus = LivelyBus {
-        machine: &mut machine,
-        accesses: 0,
-    };
-    let table = table_of(plan.sockets.as_slice());
-    let host = Host::new(alloc, &mut bus, &plan.config, table)?;
+    let mut machine = machine_of(alloc, plan)?;
+    let host = host_over(alloc, plan, &mut machine)?;
     let station = Station::new(alloc, machine, wire)?;
     Ok((host, station))
 }
 
-/// A new adapter with the plan's EEPROM and link, and a memory of `size` bytes.
+/// Initializes the adapter of a new machine. Before each access of this its EEPROM and its PHY take a step, and no
+/// frame arrives.
 ///
 /// # Errors
 ///
-/// Want of memory alone.
-fn machine_of(alloc: Global, plan: &HostPlan, size: u64) -> Result<Machine, AllocError>
-    ensures adapter { IfOk result (λ machine. machine.world.adapter ≡ new_adapter plan.now.image plan.now.link) }
-    ensures memory { IfOk result (λ machine. length machine.world.memory ≡ size) }
+/// As [`bring_up_host`].
+fn host_over(alloc: Global, plan: &HostPlan, machine: &mut Machine) -> Result<Host, InitError>
+    requires config { HasConfig plan.now }
+    requires adapter { machine.old.world.adapter ≡ new_adapter plan.now.image plan.now.link }
+    requires memory { length machine.old.world.memory ≡ size_of (counts_of plan.now.config) }
+    ensures comes_up { IfOk result (λ host. (wire : ℕ)
+        → ComesUp plan.now host (record { world = machine.new.world; wire = wire; backlog = [] })) }
+    ensures why { IfErr result (IsReason plan.now) }
 {
+    // The address has six bytes, so that `comes_up` may say what the filter does with it.
+    let _address = address_of(&plan.image);
+    let table = table_of(plan.sockets.as_slice());
+    let mut bus = LivelyBus {
+        machine,
+        accesses: 0,
+    };
+    let host = Host::new(alloc, &mut bus, &plan.config, table)?;
+    Ok(host)
+}
+
+/// A new adapter with the plan's EEPROM and link, and a memory of the size of the plan's layout.
+///
+/// # Errors
+///
+/// [`Memory`](InitError::Memory) alone.
+fn machine_of(alloc: Global, plan: &HostPlan) -> Result<Machine, InitError>
+    requires { HasConfig plan.now }
+    ensures adapter { IfOk result (λ machine. machine.world.adapter ≡ new_adapter plan.now.image plan.now.link) }
+    ensures memory { IfOk result
+        (λ machine. length machine.world.memory ≡ size_of (counts_of plan.now.config)) }
+    ensures error { IfErr result (λ error. error ≡ InitError.Memory) }
+{
+    let layout = plan.config.layout(u64::MAX)?;
     let adapter = Adapter::new(alloc, &plan.image, plan.link)?;
-    let memory = HostMemory::new(alloc, size)?;
+    let memory = HostMemory::new(alloc, layout.size())?;
     Ok(Machine::new(adapter, memory))
 }
 

@@ -11,7 +11,7 @@ loop-slot-preserved c =
     let memory = c.loop-slot.memory in
     let buffer = c.receive_buffer.result in
     let is : buffer ≡ buffer_at slot = c.receive_buffer.ensures.start
-    ∙ ap (λ (counts : Counts). start_of counts (ReceiveBuffer slot)) c.requires.layout in
+    ∙ ap (λ (counts : Counts). start_of counts (ReceiveBuffer (slot * 8))) c.requires.layout ∙ omega arith in
     let named = NameBelow-offered memory slot (slot + 1) buffer c.loop-slot-test.true c.loop-slot.invariant.size is
     (λ k below other. c.loop-slot.invariant.named k (elim other [ inl before ↦ before | inr after ↦ absurd (omega arith) ])) in
     record {

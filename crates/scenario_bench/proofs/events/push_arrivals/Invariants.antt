@@ -7,5 +7,5 @@ use Rattle.scenario_bench.proofs.events.push_arrivals.Given as goal
 -- what is appended so far, and what the hosts that are left add
 abbrev pub invariant-loop-number : goal.invariant-loop-number
 invariant-loop-number l = map event_of l.events.items
-    ++ arrivals_from l.number l.sender (wire_of (hosts_of l.plans) l.sender) (hosts_of (drop l.number l.plans))
-    ≡ map event_of l.fn.events.items ++ arrivals_from 0 l.sender (wire_of (hosts_of l.plans) l.sender) (hosts_of l.plans)
+    ++ arrivals_from l.pieces l.number l.sender (wire_of (hosts_of l.plans) l.sender) (hosts_of (drop l.number l.plans))
+    ≡ map event_of l.fn.events.items ++ arrivals_from l.pieces 0 l.sender (wire_of (hosts_of l.plans) l.sender) (hosts_of l.plans)

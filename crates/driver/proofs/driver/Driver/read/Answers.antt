@@ -1,14 +1,15 @@
-use Rattle.std.proofs.Common.{rules, ◌≡◌, ◌<◌, ◌≤◌, ◌+◌, ◌-◌, ◌++◌, ℕ, List, length, take, drop, refl, ap, subst, ◌∙◌, arith}
+use Rattle.std.proofs.Common.{◌≡◌, ◌<◌, ◌≤◌, ◌+◌, ◌-◌, ◌++◌, ◌∙◌}
+use Rattle.std.proofs.Common.{rules, ℕ, List, length, take, drop, refl, ap, subst, arith}
 use Rattle.std.proofs.lemmas.List.{length-map, take_all}
 use Rattle.std.proofs.lemmas.Slice.{drop-put_mid, take-put_mid}
 use Rattle.bus.proofs.Keeping.{keeps-here, keeps-on}
-use Rattle.dma_memory.specs.Layout.{buffer_bytes}
+use Rattle.dma_memory.specs.Layout.{receive_buffer_bytes}
 use Rattle.driver_law.proofs.Accesses.{ran_by-stays}
 use Rattle.driver_law.specs.Calls.{Ran, at, only}
 use Rattle.driver_law.specs.DriverState.{buffer_at, frame_of, holding}
 use Rattle.driver.specs.Parts.{part_loads, part_of}
 use Rattle.driver.specs.declared.parts.Part.{Part}
-use Rattle.driver.proofs.ReadFrames.{all-numbers, all-sizes, bytes-next, copied-long, frame-next}
+use Rattle.driver.proofs.ReadFrames.{all-values, bytes-next, copied-long, frame-next}
 use Rattle.driver.proofs.ReadFrames.{is-next, part-long, read-fits, reads-next, rest-next}
 use Rattle.driver.proofs.driver.Driver.read.Goals as goal
 
@@ -37,8 +38,8 @@ pub receive_buffer-buffer-requires : goal.receive_buffer-buffer-requires
 receive_buffer-buffer-requires g c =
     let next = is-next c.args.received.now.parts c.loop-part.index c.in-Some.part.now c.in-Some.ensures.some c.in-Some.ensures.part in
     let known = rw (← c.self.view_is) at c.requires.known in
-    let below = all-numbers (λ (number : ℕ). number < c.self.inside.layout.buffers) c.args.received.now.parts c.loop-part.index
-    c.in-Some.part.now next known in
+    let below = all-values (λ (number : ℕ). number < c.self.inside.layout.buffers) (λ (part : Part). part.buffer)
+    c.args.received.now.parts c.loop-part.index c.in-Some.part.now next known in
     omega (arith, c.number.ensures, below)
 
 pub slice_bounds-load-end : goal.slice_bounds-load-end
@@ -57,7 +58,8 @@ load-requires g c =
     let fits = read-fits c.args.received.now c.loop-part.index c.loop-part.read c.from.result c.in-Some.part.now c.requires.whole next
     i.read_is c.from.ensures in
     let long = part-long c.loop-part.into c.loop-part.read c.from.result (omega (arith, fits, i.room)) in
-    let short = all-sizes (λ (size : ℕ). size ≤ buffer_bytes) parts c.loop-part.index c.in-Some.part.now next c.requires.whole.fits in
+    let short = all-values (λ (size : ℕ). size ≤ receive_buffer_bytes) (λ (part : Part). part.length) parts c.loop-part.index
+    c.in-Some.part.now next c.requires.whole.fits in
     let memory = rw (← c.self.view_is) at c.requires.memory in
     omega (arith, long, short, c.from.ensures, c.receive_buffer-buffer.ensures.below_size, memory, i.keeps.extent)
 

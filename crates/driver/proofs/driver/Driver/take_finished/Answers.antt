@@ -21,7 +21,8 @@ loop-run-preserved-then-hand_on g c =
     let l = c.loop-run.invariant in
     let look = c.in-Some.ensures in
     let h = c.hand_on.ensures in
-    let same : c.loop-run.taken + count_if c.hand_on.result ≡ c.loop-run.taken + 1 = ap (λ (b : Bool). c.loop-run.taken + count_if b) c.if-hand_on.true ∙ omega arith in
+    let same : c.loop-run.taken + count_if c.hand_on.result ≡ c.loop-run.taken + 1 =
+    ap (λ (b : Bool). c.loop-run.taken + count_if b) c.if-hand_on.true ∙ omega arith in
     record {
       keeps = keeps-on g.B.Bus g.met.B.Bus.composes.lent_stays_on _ _ _ l.keeps
           (keeps-on g.B.Bus g.met.B.Bus.composes.lent_stays_on _ _ _ look.keeps h.keeps);
@@ -37,7 +38,8 @@ loop-run-preserved g c =
     let l = c.loop-run.invariant in
     let look = c.in-Some.ensures in
     let h = c.hand_on.ensures in
-    let same : c.loop-run.taken + count_if c.hand_on.result ≡ c.loop-run.taken = ap (λ (b : Bool). c.loop-run.taken + count_if b) c.if-hand_on.false ∙ omega arith in
+    let same : c.loop-run.taken + count_if c.hand_on.result ≡ c.loop-run.taken =
+    ap (λ (b : Bool). c.loop-run.taken + count_if b) c.if-hand_on.false ∙ omega arith in
     record {
       keeps = keeps-on g.B.Bus g.met.B.Bus.composes.lent_stays_on _ _ _ l.keeps
           (keeps-on g.B.Bus g.met.B.Bus.composes.lent_stays_on _ _ _ look.keeps h.keeps);

@@ -14,4 +14,5 @@ returns-clause-none c = pop-none c.self.inside (c.self.inside.count - 1) c.args.
 
 pub returns-clause-last : goal.returns-clause-last
 returns-clause-last c =
-    pop-last c.self.inside (c.self.inside.count - 1) c.args.self.now c.take.result c.take.new.self c.index-self-self.result c.self.invariant (some c) c.self.view_is c.take.ensures.value c.take.ensures.after
+    pop-last c.self.inside (c.self.inside.count - 1) c.args.self.now c.take.result c.take.new.self
+    c.index-self-self.result c.self.invariant (some c) c.self.view_is c.take.ensures.value c.take.ensures.after

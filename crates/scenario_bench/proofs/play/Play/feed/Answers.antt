@@ -1,6 +1,6 @@
-use Rattle.std.proofs.Common.{◌≡◌, ℕ, List, rules, subst, sym}
+use Rattle.std.proofs.Common.{◌≡◌, ◌∙◌, ℕ, List, ap, rules, subst, sym}
 use Rattle.scenario.specs.SoFar.{hosts_of}
-use Rattle.scenario_bench.specs.EventLists.{fed}
+use Rattle.scenario_bench.specs.EventLists.{behind_send, fed}
 use Rattle.scenario_bench.proofs.PlayedEvents.{HasFed, none_fed, one_sent}
 use Rattle.scenario_bench.proofs.play.Play.feed.Goals as goal
 
@@ -14,7 +14,8 @@ loop-frame-init c =
 
 pub loop-frame-preserved : goal.loop-frame-preserved
 loop-frame-preserved c = one_sent (hosts_of c.args.plans.now) c.args.host c.in-Some.frame.now c.in_ok-send.field-0
-    c.in_ok-behind.behind.items c.as_slice.result.now c.args.trace.now.frames c.loop-frame.frame-iterator
+    c.set_behind_send.new.events.items c.as_slice.result.now c.args.trace.now.frames c.loop-frame.frame-iterator
     c.next.new.self c.args.self.now c.loop-frame.self
     c.run.new.self c.run-in-loop-frame.new.self c.loop-frame.invariant c.in-Some.ensures.steps c.in_ok-send.ensures c.in_ok-run.ensures.ok
-    c.in_ok-behind.ensures c.as_slice.ensures.value c.in_ok-run-2.ensures.ok
+    (c.in_ok-set_behind_send.ensures ∙ ap (behind_send (hosts_of c.args.plans.now) c.args.host) c.pieces_of.ensures)
+    c.as_slice.ensures.value c.in_ok-run-2.ensures.ok
